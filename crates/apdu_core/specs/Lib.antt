@@ -1,0 +1,4 @@
+pub mod HeaderBytes
+pub mod StatusWord
+pub mod CommandBytes
+pub mod Chaining

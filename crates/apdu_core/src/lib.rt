@@ -1,0 +1,8 @@
+//! Commands, status words and command chaining (ISO/IEC 7816-4, clause 5).
+#![tactic(auto)]
+
+mod header;
+mod status;
+
+pub use header::Header;
+pub use status::Status;

@@ -1,0 +1,16 @@
+-- Lengths of values (EMV Book 3, Annex B).
+use Rattle.std.specs.Prelude.{◌≡◌, ℕ, ◌+◌, ◌-◌, ◌*◌, ◌/◌, ◌%◌, ◌<◌, List, [], ◌∷◌, length, nat_lt, if◌then◌else◌}
+
+-- the spellings of a length
+abbrev pub SpellsLength : List ℕ → ℕ → Type 0
+SpellsLength (a ∷ []) n = (a < 0x80) × (n ≡ a)
+SpellsLength (a ∷ b ∷ []) n = (a ≡ 0x81) × (b < 256) × (n ≡ b)
+SpellsLength (a ∷ b ∷ c ∷ []) n = (a ≡ 0x82) × (b < 256) × (c < 256) × (n ≡ 256 * b + c)
+SpellsLength _ n = ⊥
+
+-- the shortest of them
+abbrev pub shortest : ℕ → List ℕ
+shortest n =
+    if nat_lt n 0x80 then n ∷ []
+    else if nat_lt n 0x100 then 0x81 ∷ n ∷ []
+    else 0x82 ∷ n / 256 ∷ n % 256 ∷ []

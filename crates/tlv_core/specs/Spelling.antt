@@ -1,0 +1,40 @@
+-- Lists of objects and what spells them (EMV Book 3, Annex B).
+use Rattle.std.specs.Prelude.{◌≡◌, ℕ, suc, ◌+◌, ◌-◌, ◌≤◌, List, [], ◌++◌, length, All, true, false}
+use Rattle.tlv_core.specs.TagForm.{IsTag, is_constructed}
+use Rattle.tlv_core.specs.Length.{SpellsLength, shortest}
+
+-- objects one after another: what follows an object is its `rest`
+pub data Forest : Type 0 where
+  Empty : Forest
+  Primitive : (tag value : List ℕ) (rest : Forest) → Forest
+  Template : (tag : List ℕ) (children rest : Forest) → Forest
+
+abbrev pub deepest : ℕ
+deepest = 16
+
+-- what stands before an object: padding, the object's tag and a spelling of its size
+pub record Begins (bytes padding tag size value rest : List ℕ) (level : ℕ) : Type 0 where
+  pub spelled : bytes ≡ padding ++ tag ++ size ++ value ++ rest
+  pub is_padding : All (λ b. b ≡ 0) padding
+  pub is_tag : IsTag tag
+  pub is_size : SpellsLength size (length value)
+  pub in_depth : level ≤ deepest
+
+-- the bytes are the objects of the forest at this level, with any padding round them
+abbrev pub Spells : Forest → List ℕ → ℕ → Type 0
+Spells Empty bytes level = All (λ b. b ≡ 0) bytes
+Spells (Primitive tag value rest) bytes level =
+    (padding size more : List ℕ) × Begins bytes padding tag size value more level × (is_constructed tag ≡ false) × Spells rest more level
+Spells (Template tag children rest) bytes level =
+    (padding size value more : List ℕ) × Begins bytes padding tag size value more level × (is_constructed tag ≡ true)
+    × Spells children value (suc level) × Spells rest more level
+
+-- one object, with the shortest length
+abbrev pub object_bytes : List ℕ → List ℕ → List ℕ
+object_bytes tag value = tag ++ shortest (length value) ++ value
+
+-- a forest with no padding and the shortest lengths
+abbrev pub encoding : Forest → List ℕ
+encoding Empty = []
+encoding (Primitive tag value rest) = object_bytes tag value ++ encoding rest
+encoding (Template tag children rest) = object_bytes tag (encoding children) ++ encoding rest

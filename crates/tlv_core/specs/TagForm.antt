@@ -1,0 +1,14 @@
+-- Tags (EMV Book 3, Annex B).
+use Rattle.std.specs.Prelude.{◌≡◌, ◌≢◌, ℕ, ◌-◌, ◌/◌, ◌%◌, ◌<◌, List, [], ◌∷◌, Bool, false, ◌==◌}
+
+-- A tag has one to three bytes. Bits 5 to 1 of its first byte, all ones, say that a second byte follows.
+abbrev pub IsTag : List ℕ → Type 0
+IsTag (a ∷ []) = (0 < a) × (a < 256) × (a % 32 ≢ 31)
+IsTag (a ∷ b ∷ []) = (a < 256) × (a % 32 ≡ 31) × (0 < b) × (b < 128)
+IsTag (a ∷ b ∷ c ∷ []) = (a < 256) × (a % 32 ≡ 31) × (128 < b) × (b < 256) × (c < 128)
+IsTag _ = ⊥
+
+-- bit 6 of the first byte: the value is a list of objects
+abbrev pub is_constructed : List ℕ → Bool
+is_constructed [] = false
+is_constructed (a ∷ _) = a / 32 % 2 == 1

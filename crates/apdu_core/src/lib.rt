@@ -5,4 +5,4 @@ mod header;
 mod status;
 
 pub use header::Header;
-pub use status::Status;
+pub use status::{Status, count};

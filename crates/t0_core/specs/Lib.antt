@@ -1,0 +1,11 @@
+pub mod Character
+pub mod Dialogue
+pub mod Plan
+pub mod Meaning
+pub mod Front
+pub mod Watch
+pub mod Room
+pub mod CardSide
+pub mod CardContract
+pub mod HostSide
+pub mod CardView

@@ -1,1 +1,22 @@
+//! Both ends of a command TPDU at T=0 (ISO/IEC 7816-3, clause 10).
 #![tactic(auto)]
+
+mod end;
+mod card_end;
+mod gather;
+mod host_end;
+mod line_fault;
+mod plan;
+mod recorder;
+mod tpdu_card;
+mod watch;
+
+pub use card_end::{CardEnd, NotListening, Turn};
+pub use end::End;
+pub use gather::Gather;
+pub use host_end::{HostEnd, HostTurn};
+pub use line_fault::LineFault;
+pub use plan::{Plan, Plans, Step};
+pub use recorder::Recorder;
+pub use tpdu_card::{TpduCard, Verdict};
+pub use watch::{Silent, Watch};

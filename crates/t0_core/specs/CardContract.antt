@@ -1,0 +1,24 @@
+-- What the line asks of a card: its verdict on a header, and what may be called then.
+use Rattle.std.specs.Prelude.{◌≡◌, ℕ, ◌<◌, List, length}
+use Rattle.apdu_core.specs.declared.header.Header.{Header}
+use Rattle.apdu_core.specs.StatusWord.{StatusWord, count}
+use Rattle.t0_core.specs.declared.tpdu_card.Verdict.{Verdict}
+use Rattle.t0_core.specs.declared.tpdu_card.Verdict.TheVariants.{Refuse, Send}
+use Rattle.t0_core.specs.Meaning.{Tpdu, Ask, Prepared, Nothing, Receiving, Sending, Decided, IsSending, Decides, refused}
+
+-- the header is refused
+abbrev pub IsRefusal : Verdict → Type 0
+IsRefusal (Refuse status) = Unit {0}
+IsRefusal Send = ⊥
+
+-- there is an answer whose second status character is due
+abbrev pub IsDecided : {State : Type 0} → Prepared State → Type 0
+IsDecided Nothing = ⊥
+IsDecided (Receiving ask) = ⊥
+IsDecided (Sending ask bytes) = ⊥
+IsDecided (Decided next) = Unit {0}
+
+-- A refusal is an answer by the card's meaning. To send there are as many bytes as P3 counts.
+abbrev pub Judges : {State : Type 0} → (State → ℕ → Tpdu → State → Type 0) → State → Ask → Verdict → Prepared State → Type 0
+Judges Does standing ask (Refuse status) prepared = Decides Does standing ask.cut (refused ask status) prepared
+Judges Does standing ask Send prepared = IsSending prepared (λ asked bytes. (asked ≡ ask) × (length bytes ≡ count ask.p3))

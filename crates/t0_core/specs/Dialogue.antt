@@ -1,0 +1,79 @@
+-- The characters of one command TPDU at T=0 (ISO/IEC 7816-3, clause 10.3).
+use Rattle.std.specs.Prelude.{◌≡◌, ℕ, zero, suc, ◌+◌, ◌-◌, List, [], ◌∷◌, ◌++◌, length, take, drop, false, bit_xor}
+use Rattle.std.specs.List.{AllByRecursion}
+use Rattle.apdu_core.specs.declared.header.Header.{Header}
+use Rattle.apdu_core.specs.HeaderBytes.{header_bytes, ins_is_valid}
+use Rattle.apdu_core.specs.StatusWord.{StatusWord, IsStatusWord, count}
+use Rattle.t0_core.specs.declared.end.End.{End}
+use Rattle.t0_core.specs.declared.end.End.TheVariants.{Terminal, Card}
+use Rattle.t0_core.specs.declared.plan.Step.{Step}
+use Rattle.t0_core.specs.declared.plan.Step.TheVariants.{Null, One, All}
+use Rattle.t0_core.specs.Character.{Character, sent_by}
+
+-- where the data of a TPDU go
+pub data Direction : Type 0 where
+  ToCard : Direction
+  FromCard : Direction
+
+abbrev pub data_sender : Direction → End
+data_sender ToCard = Terminal
+data_sender FromCard = Card
+
+-- how many data characters P3 foresees (10.3.2): 00 stands for 256 from the card, and for none to the card
+abbrev pub foreseen : Direction → ℕ → ℕ
+foreseen ToCard p3 = p3
+foreseen FromCard p3 = count p3
+
+-- A segment is a procedure byte and the data characters that it starts (10.3.3): 60, a NULL, starts none;
+-- INS xor FF the next one; INS all that are left.
+abbrev pub procedure_byte : ℕ → Step → ℕ
+procedure_byte ins Null = 0x60
+procedure_byte ins One = bit_xor ins 0xFF
+procedure_byte ins All = ins
+
+-- how many data characters it moves, where so many remain
+abbrev pub moves : Step → ℕ → ℕ
+moves Null remain = 0
+moves One zero = 0
+moves One (suc remain) = 1
+moves All remain = remain
+
+abbrev pub all_moves : List Step → ℕ → ℕ
+all_moves [] remain = 0
+all_moves (s ∷ segments) remain = moves s remain + all_moves segments (remain - moves s remain)
+
+-- the characters of the segments, which move these data
+abbrev pub segment_characters : ℕ → Direction → List Step → ℕ → List ℕ → List Character
+segment_characters ins direction [] remain moved = []
+segment_characters ins direction (s ∷ segments) remain moved =
+    (Card, procedure_byte ins s) ∷ (sent_by (data_sender direction) (take (moves s remain) moved)
+      ++ segment_characters ins direction segments (remain - moves s remain) (drop (moves s remain) moved))
+
+-- what goes over the line before the status: the header, and the segments with their data
+pub record Body : Type 0 where
+  pub header : Header
+  pub p3 : ℕ
+  pub direction : Direction
+  pub segments : List Step
+  pub moved : List ℕ
+
+abbrev pub body_characters : Body → List Character
+body_characters b = sent_by Terminal (header_bytes b.header ++ b.p3 ∷ [])
+    ++ segment_characters b.header.ins b.direction b.segments (foreseen b.direction b.p3) b.moved
+
+-- the number of data characters that the segments move
+abbrev pub to_move : Body → ℕ
+to_move b = all_moves b.segments (foreseen b.direction b.p3)
+
+pub record Dialogue : Type 0 where
+  pub body : Body
+  pub status : StatusWord
+
+abbrev pub characters : Dialogue → List Character
+characters d = body_characters d.body ++ sent_by Card (d.status.0 ∷ d.status.1 ∷ [])
+
+-- The segments move the data. Where INS is no instruction, each segment is a NULL: 6X and 9X are read as status.
+pub record IsDialogue (d : Dialogue) : Type 0 where
+  pub moved_by_segments : length d.body.moved ≡ to_move d.body
+  pub is_status : IsStatusWord d.status
+  pub only_nulls : ins_is_valid d.body.header.ins ≡ false → AllByRecursion (λ s. s ≡ Null) d.body.segments

@@ -1,0 +1,84 @@
+-- How far a dialogue has come over the line, and how it goes on with the next character.
+use Rattle.std.specs.Prelude.{◌≡◌, ◌≢◌, ℕ, ◌<◌, ◌≤◌, List, [], ◌∷◌, ◌++◌, length, false, true, ◌⊎◌}
+use Rattle.std.specs.List.{AllByRecursion}
+use Rattle.apdu_core.specs.declared.header.Header.{Header}
+use Rattle.apdu_core.specs.HeaderBytes.{header_bytes, ins_is_valid}
+use Rattle.apdu_core.specs.StatusWord.{IsStatusWord}
+use Rattle.t0_core.specs.declared.end.End.{End}
+use Rattle.t0_core.specs.declared.end.End.TheVariants.{Terminal, Card}
+use Rattle.t0_core.specs.declared.plan.Step.{Step}
+use Rattle.t0_core.specs.declared.plan.Step.TheVariants.{Null, All}
+use Rattle.t0_core.specs.Character.{Character, sent_by}
+use Rattle.t0_core.specs.Dialogue.{Dialogue, Body, Direction, FromCard, data_sender, procedure_byte, to_move, body_characters}
+
+-- What has gone: fewer than five characters of the header; the header, segments, and data that may lack
+-- the end of the last segment; all that and SW1.
+pub data Front : Type 0 where
+  In_header : (bytes : List ℕ) → Front
+  In_body : (body : Body) → Front
+  After_first : (body : Body) (sw1 : ℕ) → Front
+
+-- nothing has gone
+abbrev pub fresh : Front
+fresh = In_header []
+
+abbrev pub front_characters : Front → List Character
+front_characters (In_header bytes) = sent_by Terminal bytes
+front_characters (In_body b) = body_characters b
+front_characters (After_first b sw1) = body_characters b ++ (Card, sw1) ∷ []
+
+abbrev pub with_segment : Body → Step → Body
+with_segment b s = record { header = b.header; p3 = b.p3; direction = b.direction; segments = b.segments ++ s ∷ []; moved = b.moved }
+
+abbrev pub with_moved : Body → ℕ → Body
+with_moved b byte = record { header = b.header; p3 = b.p3; direction = b.direction; segments = b.segments; moved = b.moved ++ byte ∷ [] }
+
+abbrev pub header_only : Header → ℕ → Direction → Body
+header_only h p3 direction = record { header = h; p3 = p3; direction = direction; segments = []; moved = [] }
+
+-- the segments begun have moved all their data
+abbrev pub IsBetween : Body → Type 0
+IsBetween b = length b.moved ≡ to_move b
+
+-- the header goes on, and after five characters it is clear which way data are to move
+abbrev pub GoesOnInHeader : List ℕ → Character → Front → Type 0
+GoesOnInHeader bytes c new = (c.0 ≡ Terminal)
+    × (((length bytes < 4) × (new ≡ In_header (bytes ++ c.1 ∷ [])))
+      ⊎ ((h : Header) × (direction : Direction) × (bytes ≡ header_bytes h) × (new ≡ In_body (header_only h c.1 direction))))
+
+-- the segment under way moves its next data character
+abbrev pub MovesData : Body → Character → Front → Type 0
+MovesData b c new = (length b.moved < to_move b) × (c.0 ≡ data_sender b.direction) × (new ≡ In_body (with_moved b c.1))
+
+-- between segments the card begins the next, where INS is no instruction a NULL
+abbrev pub BeginsSegment : Body → Character → Front → Type 0
+BeginsSegment b c new = IsBetween b × (c.0 ≡ Card)
+    × ((s : Step) × (ins_is_valid b.header.ins ≡ false → s ≡ Null) × (c.1 ≡ procedure_byte b.header.ins s) × (new ≡ In_body (with_segment b s)))
+
+-- or it begins its status
+abbrev pub BeginsStatus : Body → Character → Front → Type 0
+BeginsStatus b c new = IsBetween b × (c.0 ≡ Card) × IsStatusWord (c.1, 0) × (new ≡ After_first b c.1)
+
+-- a dialogue goes on with one character
+abbrev pub GoesOn : Front → Character → Front → Type 0
+GoesOn (In_header bytes) c new = GoesOnInHeader bytes c new
+GoesOn (In_body b) c new = MovesData b c new ⊎ BeginsSegment b c new ⊎ BeginsStatus b c new
+GoesOn (After_first b sw1) c new = ⊥
+
+-- a dialogue ends with SW2
+abbrev pub Ends : Front → Character → Dialogue → Type 0
+Ends (In_header bytes) c d = ⊥
+Ends (In_body b) c d = ⊥
+Ends (After_first b sw1) c d = (c.0 ≡ Card) × (c.1 < 256) × (d ≡ record { body = b; status = (sw1, c.1) })
+
+-- each segment begun is an "all": what both ends know so far of procedure bytes
+abbrev pub IsPlain : Front → Type 0
+IsPlain (In_header bytes) = Unit {0}
+IsPlain (In_body b) = AllByRecursion (λ s. s ≡ All) b.segments
+IsPlain (After_first b sw1) = AllByRecursion (λ s. s ≡ All) b.segments
+
+-- data, if any, come from the card
+abbrev pub IsFromCard : Front → Type 0
+IsFromCard (In_header bytes) = Unit {0}
+IsFromCard (In_body b) = b.direction ≡ FromCard
+IsFromCard (After_first b sw1) = b.direction ≡ FromCard

@@ -1,0 +1,68 @@
+-- What a command TPDU means to a card, apart from the line (ISO/IEC 7816-3, clause 10.3.1).
+use Rattle.std.specs.Prelude.{◌≡◌, ℕ, ◌<◌, List, [], ◌∷◌, length}
+use Rattle.apdu_core.specs.declared.header.Header.{Header}
+use Rattle.apdu_core.specs.StatusWord.{StatusWord, IsStatusWord, count}
+use Rattle.t0_core.specs.Dialogue.{Dialogue, Direction, ToCard, FromCard}
+use Rattle.t0_core.specs.Plan.{Course, plain}
+
+-- a command TPDU and its answer
+pub record Tpdu : Type 0 where
+  pub header : Header
+  pub p3 : ℕ
+  pub sent : List ℕ      -- data to the card
+  pub received : List ℕ  -- data from the card
+  pub status : StatusWord
+
+-- the data from the card
+abbrev pub received : Dialogue → List ℕ
+received d = Received d.body.direction where
+  Received : Direction → List ℕ
+  Received ToCard = []
+  Received FromCard = d.body.moved
+
+abbrev pub sent : Dialogue → List ℕ
+sent d = Sent d.body.direction where
+  Sent : Direction → List ℕ
+  Sent ToCard = d.body.moved
+  Sent FromCard = []
+
+abbrev pub tpdu_of : Dialogue → Tpdu
+tpdu_of d = record { header = d.body.header; p3 = d.body.p3; sent = sent d; received = received d; status = d.status }
+
+-- the card goes from state to state, a dialogue at a time, under the plans' cuts
+abbrev pub Runs : {State : Type 0} → (State → ℕ → Tpdu → State → Type 0) → State → List Dialogue → List Course → State → Type 0
+Runs Does old [] plans new = new ≡ old
+Runs {State = State} Does old (d ∷ ds) [] new = (mid : State) × Does old 256 (tpdu_of d) mid × Runs Does mid ds [] new
+Runs {State = State} Does old (d ∷ ds) (p ∷ plans) new = (mid : State) × Does old p.cut (tpdu_of d) mid × Runs Does mid ds plans new
+
+-- what a card was asked for
+pub record Ask : Type 0 where
+  pub header : Header
+  pub p3 : ℕ
+  pub cut : ℕ
+
+-- What a card has made ready, and has not yet done: nothing; P3 characters to take; bytes to send;
+-- an answer, whose state stands from its second status character on.
+pub data Prepared (State : Type 0) : Type 0 where
+  Nothing : Prepared State
+  Receiving : (ask : Ask) → Prepared State
+  Sending : (ask : Ask) (bytes : List ℕ) → Prepared State
+  Decided : (next : State) → Prepared State
+
+-- it has bytes to send, as many as P3 counts
+abbrev pub IsSending : {State : Type 0} → Prepared State → (Ask → List ℕ → Type 0) → Type 0
+IsSending Nothing P = ⊥
+IsSending (Receiving ask) P = ⊥
+IsSending (Sending ask bytes) P = P ask bytes
+IsSending (Decided next) P = ⊥
+
+-- the answer to a TPDU is decided
+abbrev pub Decides : {State : Type 0} → (State → ℕ → Tpdu → State → Type 0) → State → ℕ → Tpdu → Prepared State → Type 0
+Decides {State = State} Does old cut tpdu prepared = (next : State) × (prepared ≡ Decided next) × Does old cut tpdu next
+
+-- what a refused header and a sent response are answered
+abbrev pub refused : Ask → StatusWord → Tpdu
+refused ask status = record { header = ask.header; p3 = ask.p3; sent = []; received = []; status = status }
+
+abbrev pub answered_with : Ask → List ℕ → StatusWord → Tpdu
+answered_with ask bytes status = record { header = ask.header; p3 = ask.p3; sent = []; received = bytes; status = status }

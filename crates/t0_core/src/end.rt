@@ -1,0 +1,8 @@
+/// An end of the line.
+#[derive(Clone, Copy, Debug, PartialEq, Eq, Hash)]
+pub enum End {
+    /// The interface device, which sends commands.
+    Terminal,
+    /// The card, which answers them.
+    Card,
+}

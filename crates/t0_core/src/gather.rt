@@ -1,0 +1,64 @@
+ghost use Rattle.std.specs.Prelude.{◌≡◌, ℕ, ◌<◌, ◌≤◌, [], ◌∷◌, ◌++◌, length, IfOk, ◌==◌, false};
+
+use std::alloc::{AllocError, Global};
+use std::marker::Model;
+
+/// A buffer for the data characters from the card, whose room is taken once.
+#[derive(Drop)]
+pub struct Gather {
+    bytes: Vec<u8>,
+    limit: usize,
+}
+
+impl Model for Gather {
+    ghost use Rattle.std.specs.Prelude.{◌≤◌, length, vec_len, vec_capacity};
+    ghost use Rattle.t0_core.specs.Room.{Room};
+
+    ghost Value = { Room };
+
+    ghost view = { λ g. record { bytes = g.bytes.items; limit = g.limit } };
+
+    ghost invariant = { λ g. (vec_len g.bytes ≤ g.limit) × (g.limit ≤ vec_capacity g.bytes) };
+}
+
+impl Gather {
+    ghost use Rattle.t0_core.specs.Room.{Room};
+
+    /// An empty buffer with room for `limit` bytes. Its error is want of memory.
+    pub fn with_room(alloc: Global, limit: usize) -> Result<Gather, AllocError>
+        ensures { IfOk result (λ g. g ≡ record { bytes = []; limit = limit }) }
+    {
+        let bytes = Vec::with_capacity(alloc, limit)?;
+        Ok(Gather { bytes, limit })
+    }
+
+    /// The bytes gathered.
+    pub fn bytes(&self) -> &[u8]
+        ensures value { result.now ≡ self.now.bytes }
+        ensures fits { length result.now ≤ self.now.limit }
+    {
+        self.bytes.as_slice()
+    }
+
+    /// Drops the bytes, and keeps the room.
+    pub fn clear(&mut self)
+        ensures { self.new ≡ record { bytes = []; limit = self.old.limit } }
+    {
+        self.bytes.clear();
+    }
+
+    /// Whether there is no room for one more byte.
+    pub(crate) fn is_full(&self) -> bool
+        ensures { result ≡ (length self.now.bytes == self.now.limit) }
+    {
+        self.bytes.len() == self.limit
+    }
+
+    /// Adds a byte, for which there is room.
+    pub(crate) fn push(&mut self, byte: u8)
+        requires { (length self.old.bytes == self.old.limit) ≡ false }
+        ensures { self.new ≡ record { bytes = self.old.bytes ++ byte ∷ []; limit = self.old.limit } }
+    {
+        self.bytes.push(byte).unwrap();
+    }
+}

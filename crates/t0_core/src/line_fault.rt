@@ -1,0 +1,14 @@
+/// Why a terminal does not take a character (this project's profile).
+///
+/// After `BadProcedure` and `TooLong` the end has failed for good. The other faults change nothing.
+#[derive(Clone, Copy, Debug, PartialEq, Eq)]
+pub enum LineFault {
+    /// A procedure byte is due, and this byte is of no kind that the terminal knows.
+    BadProcedure(u8),
+    /// The TPDU has ended, or the end has failed.
+    AfterEnd,
+    /// A data character came, and there is no room for it.
+    TooLong,
+    /// The end has characters to send.
+    NotListening,
+}

@@ -34,6 +34,12 @@ takes_plan (Taking_header bytes) = length bytes == 5
 takes_plan (Sending_data header p3 moved) = false
 takes_plan (Ending status) = false
 
+-- the header with one more character
+abbrev pub with_character : Stage → ℕ → Stage
+with_character (Taking_header bytes) byte = Taking_header (bytes ++ byte ∷ [])
+with_character (Sending_data header p3 moved) byte = Sending_data header p3 moved
+with_character (Ending status) byte = Ending status
+
 -- a number that falls with each character of a TPDU after its header
 abbrev pub still_to_go : Stage → ℕ
 still_to_go (Taking_header bytes) = 300

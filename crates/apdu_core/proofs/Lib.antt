@@ -1,1 +1,2 @@
 mod CommandForms
+mod PieceLemmas

@@ -8,6 +8,7 @@ ghost use Rattle.apdu_core.specs.CommandBytes.{IsCommand, HasSizes, HasForm, Has
 use crate::header::Header;
 use crate::status::count;
 use std::alloc::AllocError;
+use std::error::Error;
 use std::fmt;
 use std::marker::Model;
 
@@ -31,6 +32,8 @@ impl fmt::Display for ApduFault {
         })
     }
 }
+
+impl Error for ApduFault {}
 
 /// A command of one of the four cases (ISO/IEC 7816-4, 5.1). Extended lengths are left out.
 #[derive(Debug, Drop)]

@@ -1,5 +1,5 @@
 -- A value in pieces, and the commands of a chain (ISO/IEC 7816-4, 5.1.1.1).
-use Rattle.std.specs.Prelude.{◌≡◌, ℕ, ◌≤◌, List, [], ◌∷◌, length, Option, None, IfNone, IfSome, bit_and, bit_or}
+use Rattle.std.specs.Prelude.{◌≡◌, ℕ, ◌≤◌, List, [], ◌∷◌, ◌++◌, length, Option, Some, None, IfNone, IfSome, bit_and, bit_or}
 use Rattle.std.specs.List.{concat}
 use Rattle.apdu_core.specs.declared.header.Header.{Header}
 use Rattle.apdu_core.specs.CommandBytes.{Command}
@@ -49,3 +49,7 @@ pub record IsChain (chain : ChainState) : Type 0 where
 -- nothing is pending, or INS, P1, P2 and CLA but for bit 5 are the chain's
 abbrev pub Accepts : ChainState → Header → Type 0
 Accepts chain header = IfSome chain.pending (λ first. as_last header ≡ first)
+
+-- the chain with the data of a command added
+abbrev pub added : ChainState → Header → List ℕ → ChainState
+added chain header content = record { bytes = chain.bytes ++ content; limit = chain.limit; pending = Some (as_last header) }

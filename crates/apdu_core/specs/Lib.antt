@@ -4,3 +4,4 @@ pub mod CommandBytes
 pub mod Chaining
 pub mod PieceList
 pub mod PiecesLeft
+pub mod Laws

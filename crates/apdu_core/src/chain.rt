@@ -1,7 +1,7 @@
 //! The bytes of a chain of commands, as they come together at the card.
-ghost use Rattle.std.specs.Prelude.{◌≡◌, ◌+◌, ◌<◌, ◌≤◌, ◌++◌, ◌↔◌, [], length, take, Some, None, IsTrue, IsSome, IsErr, IfOk, OnOk, OnErr};
+ghost use Rattle.std.specs.Prelude.{◌≡◌, ◌+◌, ◌<◌, ◌≤◌, ◌↔◌, [], length, take, None, IsTrue, IsSome, IsErr, IfOk, OnOk, OnErr};
 ghost use Rattle.apdu_core.specs.Chaining as spec;
-ghost use Rattle.apdu_core.specs.Chaining.{Accepts, IsChain, as_last};
+ghost use Rattle.apdu_core.specs.Chaining.{Accepts, IsChain, added};
 
 use crate::header::Header;
 use std::alloc::{AllocError, Global};
@@ -91,7 +91,7 @@ impl Chain {
         requires { Accepts self.old header }
         ensures too_long { IsErr result ↔ (self.old.limit < length self.old.bytes + length content.now) }
         ensures err { OnErr result (self.new ≡ self.old) }
-        ensures ok { OnOk result (self.new ≡ record { bytes = self.old.bytes ++ content.now; limit = self.old.limit; pending = Some (as_last header) }) }
+        ensures ok { OnOk result (self.new ≡ added self.old header content.now) }
     {
         if content.len() > self.limit - self.bytes.len() {
             return Err(TooLong);

@@ -5,6 +5,7 @@ mod chain;
 mod command;
 mod cut;
 mod header;
+pub mod laws;
 mod status;
 
 pub use chain::{Chain, TooLong};

@@ -1,21 +1,55 @@
 -- A value in pieces, and the commands of a chain (ISO/IEC 7816-4, 5.1.1.1).
-use Rattle.std.specs.Prelude.{◌≡◌, ◌≢◌, ℕ, ◌+◌, ◌≤◌, List, [], ◌∷◌, ◌++◌, length, None}
+use Rattle.std.specs.Prelude.{◌≡◌, ℕ, ◌≤◌, List, [], ◌∷◌, ◌++◌, length, Option, Some, None, IfNone, IfSome, bit_and, bit_or}
+use Rattle.std.specs.List.{concat}
 use Rattle.apdu_core.specs.declared.header.Header.{Header}
 use Rattle.apdu_core.specs.CommandBytes.{Command}
 
--- a value cut into pieces: each but the last has 255 bytes, and the last is empty only where the value is
+-- each piece but the last has 255 bytes, the last 1 to 255 (this project's profile)
+abbrev pub HavePieceSizes : List (List ℕ) → Type 0
+HavePieceSizes [] = ⊥
+HavePieceSizes (last ∷ []) = (1 ≤ length last) × (length last ≤ 255)
+HavePieceSizes (piece ∷ next ∷ others) = (length piece ≡ 255) × HavePieceSizes (next ∷ others)
+
+-- The pieces of a value, which concatenated are the value. The empty value is one empty piece.
 abbrev pub IsPieces : List ℕ → List (List ℕ) → Type 0
-IsPieces value [] = ⊥
-IsPieces value (last ∷ []) = (last ≡ value) × (length last ≤ 255)
-IsPieces value (piece ∷ next ∷ others) =
-    (length piece ≡ 255) × ((rest : List ℕ) × (value ≡ piece ++ rest) × (rest ≢ []) × IsPieces rest (next ∷ others))
+IsPieces [] pieces = pieces ≡ [] ∷ []
+IsPieces (b ∷ bs) pieces = (concat pieces ≡ b ∷ bs) × HavePieceSizes pieces
 
--- bit 5 of CLA: more of the chain follows
+-- bit 5 of CLA is clear: the command is the last of its chain, or stands alone
+abbrev pub IsLast : Header → Type 0
+IsLast header = bit_and header.cla 0x10 ≡ 0
+
+-- the header with bit 5 of CLA set: more of the chain follows
 abbrev pub with_more : Header → Header
-with_more h = record { cla = h.cla + 0x10; ins = h.ins; p1 = h.p1; p2 = h.p2 }
+with_more header = record header { cla = bit_or header.cla 0x10 }
 
+-- the header with bit 5 of CLA clear
+abbrev pub as_last : Header → Header
+as_last header = record header { cla = bit_and header.cla 0xEF }
+
+-- one command for each piece, without Le, bit 5 of CLA set in all but the last
 abbrev pub chain_commands : Header → List (List ℕ) → List Command
 chain_commands header [] = []
 chain_commands header (last ∷ []) = record { header = header; content = last; le = None } ∷ []
 chain_commands header (piece ∷ next ∷ others) =
     record { header = with_more header; content = piece; le = None } ∷ chain_commands header (next ∷ others)
+
+-- A chain at its receiver: its bytes, how many it may have, and, while it is pending, the header
+-- that it goes on with, as the last command has it.
+pub record ChainState : Type 0 where
+  pub bytes : List ℕ
+  pub limit : ℕ
+  pub pending : Option Header
+
+-- the bytes keep to the limit, and there are none where nothing is pending
+pub record IsChain (chain : ChainState) : Type 0 where
+  pub within : length chain.bytes ≤ chain.limit
+  pub empty : IfNone chain.pending (chain.bytes ≡ [])
+
+-- nothing is pending, or INS, P1, P2 and CLA but for bit 5 are the chain's
+abbrev pub Accepts : ChainState → Header → Type 0
+Accepts chain header = IfSome chain.pending (λ first. as_last header ≡ first)
+
+-- the chain with the data of a command added
+abbrev pub added : ChainState → Header → List ℕ → ChainState
+added chain header content = record { bytes = chain.bytes ++ content; limit = chain.limit; pending = Some (as_last header) }

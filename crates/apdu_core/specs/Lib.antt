@@ -2,3 +2,6 @@ pub mod HeaderBytes
 pub mod StatusWord
 pub mod CommandBytes
 pub mod Chaining
+pub mod PieceList
+pub mod PiecesLeft
+pub mod Laws

@@ -1,0 +1,6 @@
+mod ByteFacts
+mod CommandForms
+mod CommandLaws
+mod ListFacts
+mod PieceLemmas
+mod PieceLaws

@@ -1,0 +1,21 @@
+-- What the laws say of the commands of a chain.
+use Rattle.std.specs.Prelude.{◌≡◌, List, [], ◌∷◌, ◌++◌, All, IsBitSet, None}
+use Rattle.apdu_core.specs.declared.header.Header.{Header}
+use Rattle.apdu_core.specs.CommandBytes.{Command, IsCommand}
+use Rattle.apdu_core.specs.Chaining.{IsLast, as_last, ChainState, Accepts, added}
+
+-- bit 5 of CLA, whose number is 4 where bits count from 0, is set in every command but the last
+abbrev pub MoreInAllButLast : List Command → Type 0
+MoreInAllButLast commands =
+    (before : List Command) × (last : Command) × (commands ≡ before ++ last ∷ []) × All (λ c. IsBitSet c.header.cla 4) before × IsLast last.header
+
+-- a command without Le whose header is this one but for bit 5 of CLA
+pub record IsLink (header : Header) (c : Command) : Type 0 where
+  pub command : IsCommand c
+  pub same : as_last c.header ≡ header
+  pub no_le : c.le ≡ None
+
+-- each command is accepted in its turn, and the chain is at the end as the last of them leaves it
+abbrev pub Gathers : ChainState → List Command → ChainState → Type 0
+Gathers chain [] after = after ≡ chain
+Gathers chain (c ∷ others) after = Accepts chain c.header × Gathers (added chain c.header c.content) others after

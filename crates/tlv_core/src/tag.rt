@@ -55,7 +55,8 @@ impl Tag {
 
     /// The bytes of the tag, one to three.
     pub fn bytes(&self) -> &[u8]
-        ensures { result.now ≡ self.now }
+        ensures bytes { result.now ≡ self.now }
+        ensures tag { IsTag self.now }
     {
         &self.bytes[..self.len]
     }

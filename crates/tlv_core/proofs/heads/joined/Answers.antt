@@ -15,4 +15,4 @@ pub returns : goal.returns
 returns c =
     let first : length c.copy_from_slice.new.self ≡ length c.bytes-front.result.now = ap length c.copy_from_slice.ensures.after in
     let second : length c.copy_from_slice-2.new.self ≡ length c.args.size.now = ap length c.copy_from_slice-2.ensures.after in
-    both_copied _ _ _ _ _ _ _ (c.copy_from_slice.ensures.after ∙ c.bytes-front.ensures) c.copy_from_slice-2.ensures.after first (omega arith)
+    both_copied _ _ _ _ _ _ _ (c.copy_from_slice.ensures.after ∙ c.bytes-front.ensures.bytes) c.copy_from_slice-2.ensures.after first (omega arith)

@@ -1,0 +1,9 @@
+pub mod Addresses
+pub mod Agree
+pub mod Faults
+pub mod Lengths
+pub mod Starts
+pub mod Places
+pub mod Spelled
+pub mod Tags
+pub mod Vectors

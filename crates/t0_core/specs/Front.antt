@@ -1,5 +1,5 @@
 -- How far a dialogue has come over the line, and how it goes on with the next character.
-use Rattle.std.specs.Prelude.{◌≡◌, ◌≢◌, ℕ, ◌<◌, ◌≤◌, List, [], ◌∷◌, ◌++◌, length, false, true, ◌⊎◌}
+use Rattle.std.specs.Prelude.{◌≡◌, ◌≢◌, ℕ, ◌-◌, ◌<◌, ◌≤◌, List, [], ◌∷◌, ◌++◌, length, false, true, ◌⊎◌}
 use Rattle.std.specs.List.{AllByRecursion}
 use Rattle.apdu_core.specs.declared.header.Header.{Header}
 use Rattle.apdu_core.specs.HeaderBytes.{header_bytes, ins_is_valid}
@@ -9,7 +9,7 @@ use Rattle.t0_core.specs.declared.end.End.TheVariants.{Terminal, Card}
 use Rattle.t0_core.specs.declared.plan.Step.{Step}
 use Rattle.t0_core.specs.declared.plan.Step.TheVariants.{Null, All}
 use Rattle.t0_core.specs.Character.{Character, sent_by}
-use Rattle.t0_core.specs.Dialogue.{Dialogue, Body, Direction, FromCard, data_sender, procedure_byte, to_move, body_characters}
+use Rattle.t0_core.specs.Dialogue.{Dialogue, Body, Direction, FromCard, data_sender, foreseen, moves, procedure_byte, to_move, body_characters}
 
 -- What has gone: fewer than five characters of the header; the header, segments, and data that may lack
 -- the end of the last segment; all that and SW1.
@@ -82,3 +82,20 @@ abbrev pub IsFromCard : Front → Type 0
 IsFromCard (In_header bytes) = Unit {0}
 IsFromCard (In_body b) = b.direction ≡ FromCard
 IsFromCard (After_first b sw1) = b.direction ≡ FromCard
+
+-- so many data characters end inside the last of the segments
+abbrev pub EndInLast : List Step → ℕ → ℕ → Type 0
+EndInLast [] n k = k ≡ 0
+EndInLast (s ∷ []) n k = k ≤ moves s n
+EndInLast (s ∷ t ∷ segments) n k = (moves s n ≤ k) × EndInLast (t ∷ segments) (n - moves s n) (k - moves s n)
+
+-- a header, segments and data with which a dialogue begins
+pub record IsBegun (b : Body) : Type 0 where
+  pub in_last : EndInLast b.segments (foreseen b.direction b.p3) (length b.moved)
+  pub only_nulls : ins_is_valid b.header.ins ≡ false → AllByRecursion (λ s. s ≡ Null) b.segments
+
+-- what a dialogue begins with
+abbrev pub IsFront : Front → Type 0
+IsFront (In_header bytes) = length bytes < 5
+IsFront (In_body b) = IsBegun b
+IsFront (After_first b sw1) = IsBegun b × IsBetween b × IsStatusWord (sw1, 0)

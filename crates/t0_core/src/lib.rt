@@ -5,6 +5,7 @@ mod end;
 mod card_end;
 mod gather;
 mod host_end;
+pub mod laws;
 mod line_fault;
 mod plan;
 mod recorder;

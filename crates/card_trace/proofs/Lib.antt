@@ -1,0 +1,2 @@
+pub mod FirstCardLemmas
+pub mod ExchangeLemmas

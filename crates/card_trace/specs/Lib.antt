@@ -1,0 +1,6 @@
+pub mod FirstCard
+pub mod CardView
+pub mod Gathered
+pub mod Talk
+pub mod OneStep
+pub mod ExchangeSide

@@ -1,0 +1,44 @@
+ghost use Rattle.std.specs.Prelude.{◌≡◌};
+
+use std::marker::Model;
+
+use apdu_core::Status;
+use t0_core::Gather;
+
+/// What a card answers to a command: the data gathered, and the status.
+#[derive(Drop)]
+pub struct Answer {
+    status: Status,
+    gather: Gather,
+}
+
+impl Model for Answer {
+    ghost use Rattle.card_trace.specs.Talk.{Reply};
+
+    ghost Value = { Reply };
+
+    ghost view = { λ a. record { status = a.status; content = a.gather.bytes } };
+}
+
+impl Answer {
+    /// An answer of these data.
+    pub fn new(status: Status, gather: Gather) -> Answer
+        ensures { result ≡ record { status = status; content = gather.bytes } }
+    {
+        Answer { status, gather }
+    }
+
+    /// The status word.
+    pub fn status(&self) -> Status
+        ensures { result ≡ self.now.status }
+    {
+        self.status
+    }
+
+    /// The data from the card.
+    pub fn data(&self) -> &[u8]
+        ensures { result.now ≡ self.now.content }
+    {
+        self.gather.bytes()
+    }
+}

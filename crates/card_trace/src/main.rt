@@ -1,0 +1,8 @@
+//! A terminal and a card in dialogue, and the trace of it.
+#![tactic(auto)]
+
+mod answer;
+mod exchange;
+mod first_card;
+
+fn main() {}

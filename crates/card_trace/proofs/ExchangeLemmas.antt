@@ -104,7 +104,7 @@ card_moves host (Ended status) front new byte stands goes = absurd stands
 card_moves host Broken front new byte stands goes = absurd stands
 
 -- past the header an end that has not ended listens
-past_header : (front new : Front) (byte : ℕ) (bytes : List ℕ) → GoesOn front (Card, byte) new → new ≡ In_header bytes → ⊥
+pub past_header : (front new : Front) (byte : ℕ) (bytes : List ℕ) → GoesOn front (Card, byte) new → new ≡ In_header bytes → ⊥
 past_header (In_header front) new byte bytes goes is = terminal_is_no_card (sym goes.0)
 past_header (In_body b) new byte bytes (inl (lt, sender, new_is)) is = let e = sym new_is ∙ is in absurd (cc)
 past_header (In_body b) new byte bytes (inr (inl (between, sender, (s, nulls, byte_is, new_is)))) is = let e = sym new_is ∙ is in absurd (cc)

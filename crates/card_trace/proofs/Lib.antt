@@ -1,2 +1,4 @@
 pub mod FirstCardLemmas
 pub mod ExchangeLemmas
+pub mod ConversingLemmas
+pub mod GetLemmas

@@ -4,3 +4,4 @@ pub mod Gathered
 pub mod Talk
 pub mod OneStep
 pub mod ExchangeSide
+pub mod Conversing

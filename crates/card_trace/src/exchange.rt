@@ -73,6 +73,7 @@ impl Exchange {
     /// count. The faults are those of the terminal's end, and leave the data as they were.
     pub fn take(&mut self, byte: u8) -> Result<(), LineFault>
         ensures fault { result_err result ≡ fault_of self.old.host self.old.gather byte }
+        ensures header { self.new.header ≡ self.old.header }
         ensures refused { OnErr result (self.new ≡ with_host self.old (at_stage self.old.host (after_fault self.old.host.stage))) }
         ensures goes_on { (whole : List Dialogue) (front new : Front) → UnderWay self.old whole front → GoesOn front (Card, byte) new → IsPlain new →
             length self.old.gather.bytes < self.old.gather.limit →

@@ -4,5 +4,6 @@
 mod answer;
 mod exchange;
 mod first_card;
+mod session;
 
 fn main() {}

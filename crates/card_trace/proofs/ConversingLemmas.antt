@@ -1,0 +1,341 @@
+-- A character that passes from one end to the other takes both to the same front.
+use Rattle.std.proofs.Common.{◌≡◌, ◌≢◌, ℕ, zero, suc, ◌+◌, ◌-◌, ◌<◌, ◌≤◌, List, [], ◌∷◌, ◌++◌, length, take, refl, sym, subst, ◌∙◌, ap, arith, inl, inr, ◌⊎◌, lit<, lit≤, true, false, Bool, Option, Some, None, Result, Ok, Err, append-nil, append_assoc, length-append, if◌then◌else◌}
+use Rattle.std.specs.Result.{IsOk, OnOk}
+use Rattle.std.specs.List.{AllByRecursion, flat_map}
+use Rattle.std.proofs.lemmas.Bool.{ltb-true}
+use Rattle.std.proofs.lemmas.Bool.Decides.{eqb_tells}
+use Rattle.apdu_core.specs.declared.header.Header.{Header}
+use Rattle.apdu_core.specs.StatusWord.{StatusWord, count}
+use Rattle.t0_core.specs.declared.end.End.TheVariants.{Terminal, Card}
+use Rattle.t0_core.specs.declared.host_end.HostStage.{HostStage}
+use Rattle.t0_core.specs.declared.host_end.HostStage.TheVariants.{SendingHeader, Awaiting, TakingData, AwaitingSecond, Ended, Broken}
+use Rattle.t0_core.specs.declared.host_end.HostTurn.{HostTurn}
+use Rattle.t0_core.specs.declared.host_end.HostTurn.TheVariants.{Sends, Listens, Done, Failed}
+use Rattle.t0_core.specs.declared.plan.Step.{Step}
+use Rattle.t0_core.specs.Character.{Character}
+use Rattle.t0_core.specs.Dialogue.{Body, Dialogue, Direction, ToCard, FromCard, foreseen, moves, all_moves, to_move, body_characters, characters, IsDialogue}
+use Rattle.t0_core.specs.Plan.{Course, Cursor, plain, advanced, plan_kept, Follows, FollowInTurn}
+use Rattle.t0_core.specs.Meaning.{Tpdu, tpdu_of, Prepared, Runs, received}
+use Rattle.t0_core.specs.Front.{Front, In_header, In_body, After_first, GoesOn, Ends, IsFront, IsPlain, IsFromCard, EndInLast, IsBegun, front_characters, fresh}
+use Rattle.t0_core.specs.Room.{Room}
+use Rattle.t0_core.specs.Watch.{Hearing, Hears}
+use Rattle.t0_core.specs.HostSide.{Asking, HostStandsAt, at_stage, turn_of, after_turn}
+use Rattle.t0_core.specs.CardSide.{Stage, EndOf, Taking_header, Sending_data, Ending, StandsAt, listens, with_character, still_to_go}
+use Rattle.t0_core.proofs.FrontLaws.{goes_on, moves-within}
+use Rattle.card_trace.specs.Gathered.{Asks}
+use Rattle.card_trace.specs.ExchangeSide.{ExchangeOf, UnderWay, IsDone, IsAttempt, moved_in, from_card}
+use Rattle.card_trace.specs.Conversing.{AreOver, IsUnderWay, IsFinished, is_over, for_repetition, stage_number, characters_left}
+use Rattle.card_trace.proofs.ExchangeLemmas.{flat_map_last, past_header}
+
+-- a front of a front, and a front that goes past one
+front_of_front : (n : ℕ) (xs ys : List Character) → (m : ℕ) × (take m (xs ++ ys) ≡ take n xs)
+front_of_front zero xs ys = (0, refl)
+front_of_front (suc n) [] ys = (0, refl)
+front_of_front (suc n) (x ∷ xs) ys = let shorter = front_of_front n xs ys in (suc shorter.0, ap (λ cs. x ∷ cs) shorter.1)
+
+front_past : (xs ys : List Character) (m : ℕ) → (n : ℕ) × (take n (xs ++ ys) ≡ xs ++ take m ys)
+front_past [] ys m = (m, refl)
+front_past (x ∷ xs) ys m = let shorter = front_past xs ys m in (suc shorter.0, ap (λ cs. x ∷ cs) shorter.1)
+
+-- what a watch hears of one part and then of another
+heard_front : (a b c : Hearing) (xs ys : List Character) → Hears a xs b → Hears b ys c → (lost : Bool) → b.lost ≡ lost → (n : ℕ) × (c.heard ≡ a.heard ++ take n (xs ++ ys))
+heard_front a b c xs ys one two true lost =
+    let shorter = front_of_front one.front.0 xs ys in
+    (shorter.0, (two.deaf lost).1 ∙ one.front.1 ∙ ap (λ cs. a.heard ++ cs) (sym shorter.1))
+heard_front a b c xs ys one two false kept =
+    let past = front_past xs ys two.front.0 in
+    (past.0, two.front.1 ∙ ap (λ hs. hs ++ take two.front.0 ys) (one.all kept).1 ∙ append_assoc a.heard xs (take two.front.0 ys) ∙ ap (λ cs. a.heard ++ cs) (sym past.1))
+
+pub hears_more : (a b c : Hearing) (xs ys : List Character) → Hears a xs b → Hears b ys c → Hears a (xs ++ ys) c
+hears_more a b c xs ys one two = record {
+  all = λ kept. let later = two.all kept in let before = one.all later.0 in
+      (before.0, later.1 ∙ ap (λ hs. hs ++ ys) before.1 ∙ append_assoc a.heard xs ys);
+  front = heard_front a b c xs ys one two b.lost refl;
+  deaf = λ lost. let before = one.deaf lost in let later = two.deaf before.0 in (later.0, later.1 ∙ before.1);
+}
+
+pub hears_nothing : (a : Hearing) → Hears a [] a
+hears_nothing a = record { all = λ kept. (kept, sym (append-nil a.heard)); front = (0, sym (append-nil a.heard)); deaf = λ lost. (lost, refl) }
+
+-- a cursor past its list
+pub past_the_list : (old new : Cursor) (takes : Bool) → old.rest ≡ [] → new ≡ (if takes then advanced old else old) → new.rest ≡ []
+past_the_list old new true empty is = ap (λ (c : Cursor). c.rest) is ∙ rw empty refl
+past_the_list old new false empty is = ap (λ (c : Cursor). c.rest) is ∙ empty
+
+pub plain_past : (old new : Cursor) (takes : Bool) → old.rest ≡ [] → new ≡ (if takes then advanced old else old) → takes ≡ true → plain ≡ plan_kept new
+plain_past old new true empty is yes_takes = rw (is, empty) refl
+plain_past old new false empty is yes_takes = absurd (cc)
+
+-- an end that listens stays as it is
+pub listening_stays : (stage : HostStage) (host : Asking) → turn_of (at_stage host stage) ≡ Listens → after_turn stage ≡ stage
+listening_stays (SendingHeader sent) host listens = absurd (cc)
+listening_stays (Awaiting moved) host listens = refl
+listening_stays (TakingData moved) host listens = refl
+listening_stays (AwaitingSecond sw1) host listens = refl
+listening_stays (Ended status) host listens = refl
+listening_stays Broken host listens = refl
+
+-- a TPDU moves at most 256 bytes
+all_moves-within : (segments : List Step) (n : ℕ) → all_moves segments n ≤ n
+all_moves-within [] n = omega arith
+all_moves-within (s ∷ segments) n = omega (arith, moves-within s n, all_moves-within segments (n - moves s n))
+
+count_within : (p3 : ℕ) → p3 < 256 → count p3 ≤ 256
+count_within p3 lt = elim (eqb_tells p3 0) [ inl p ↦ rw p.0 (lit≤ tt) | inr p ↦ rw p.0 (omega (arith, lt)) ]
+
+from_card_within : (direction : Direction) (p3 : ℕ) → direction ≡ FromCard → p3 < 256 → foreseen direction p3 ≤ 256
+from_card_within direction p3 from byte = rw from (count_within p3 byte)
+
+few_received : (d : Dialogue) → IsDialogue d → d.body.direction ≡ FromCard → d.body.p3 < 256 → length (received d) ≤ 256
+few_received d is from byte =
+    let few : length d.body.moved ≤ 256 =
+        omega (arith, is.moved_by_segments, all_moves-within d.body.segments (foreseen d.body.direction d.body.p3), from_card_within d.body.direction d.body.p3 from byte) in
+    rw from few
+
+in_last_within : (segments : List Step) (n k : ℕ) → EndInLast segments n k → k ≤ n
+in_last_within [] n k is = omega (arith, is)
+in_last_within (s ∷ []) n k is = omega (arith, is, moves-within s n)
+in_last_within (s ∷ t ∷ segments) n k is =
+    omega (arith, is.0, moves-within s n, in_last_within (t ∷ segments) (n - moves s n) (k - moves s n) is.1)
+
+few_begun : (b : Body) → IsBegun b → b.direction ≡ FromCard → b.p3 < 256 → length (from_card b.direction b.moved) ≤ 256
+few_begun b is from byte =
+    let few : length b.moved ≤ 256 =
+        omega (arith, in_last_within b.segments (foreseen b.direction b.p3) (length b.moved) is.in_last, from_card_within b.direction b.p3 from byte) in
+    rw from few
+
+few_moved : (host : Asking) (stage : HostStage) (front : Front) → HostStandsAt (at_stage host stage) front → IsFront front → host.p3 < 256 → length (moved_in front) ≤ 256
+few_moved host stage (In_header bytes) stands is byte = lit≤ tt
+few_moved host (Awaiting moved) (In_body b) stands is byte = few_begun b is stands.0.2 (omega (arith, byte, stands.0.1))
+few_moved host (TakingData moved) (In_body b) stands is byte = few_begun b is stands.0.2 (omega (arith, byte, stands.0.1))
+few_moved host (AwaitingSecond sw1) (After_first b first) stands is byte = few_begun b is.0 stands.0.2 (omega (arith, byte, stands.0.1))
+few_moved host (SendingHeader sent) (In_body b) stands is byte = absurd stands
+few_moved host (SendingHeader sent) (After_first b first) stands is byte = absurd stands
+few_moved host (Awaiting moved) (After_first b first) stands is byte = absurd stands
+few_moved host (TakingData moved) (After_first b first) stands is byte = absurd stands
+few_moved host (AwaitingSecond sw1) (In_body b) stands is byte = absurd stands
+few_moved host (Ended status) (In_body b) stands is byte = absurd stands
+few_moved host (Ended status) (After_first b first) stands is byte = absurd stands
+few_moved host Broken (In_body b) stands is byte = absurd stands
+few_moved host Broken (After_first b first) stands is byte = absurd stands
+
+few_over : (h : Header) (repeated : Bool) (whole : List Dialogue) (n : ℕ) → IsAttempt h repeated whole n → AllByRecursion IsDialogue whole → length (flat_map received whole) ≤ 256
+few_over h false [] n attempt are = lit≤ tt
+few_over h false (d ∷ ds) n attempt are = absurd attempt
+few_over h true [] n attempt are = absurd attempt
+few_over h true (d ∷ []) n attempt are =
+    omega (arith, length-append (received d) nothing_more, few_received d are.0 attempt.0.from_card attempt.0.is_byte)
+  where
+    nothing_more : List ℕ
+    nothing_more = []
+few_over h true (d ∷ e ∷ ds) n attempt are = absurd attempt
+
+-- there is room for each data character
+pub room_left : (ex : ExchangeOf) (whole : List Dialogue) (front : Front) → UnderWay ex whole front → AllByRecursion IsDialogue whole → IsFront front
+    → length ex.gather.bytes < ex.gather.limit
+room_left ex whole front under are is =
+    let bytes : length ex.gather.bytes ≡ length (flat_map received whole) + length (moved_in front) =
+        ap length under.gathered ∙ length-append (flat_map received whole) (moved_in front) in
+    omega (arith, bytes, under.room, few_over ex.header ex.repeated whole (count ex.host.p3) under.attempt are,
+      few_moved ex.host ex.host.stage front under.stands is under.is_byte)
+
+-- one more dialogue is over
+follow_more : (whole : List Dialogue) (d : Dialogue) → FollowInTurn whole [] → Follows d plain → FollowInTurn (whole ++ d ∷ []) []
+follow_more [] d follow follows = (follows, tt)
+follow_more (e ∷ whole) d follow follows = (follow.0, follow_more whole d follow.1 follows)
+
+all_more : (P : Dialogue → Type 0) (whole : List Dialogue) (d : Dialogue) → AllByRecursion P whole → P d → AllByRecursion P (whole ++ d ∷ [])
+all_more P [] d all this = (this, tt)
+all_more P (e ∷ whole) d all this = (all.0, all_more P whole d all.1 this)
+
+runs_more : {State : Type 0} (Does : State → ℕ → Tpdu → State → Type 0) (first old new : State) (whole : List Dialogue) (d : Dialogue)
+    → Runs Does first whole [] old → Does old 256 (tpdu_of d) new → Runs Does first (whole ++ d ∷ []) [] new
+runs_more {State = State} Does first old new [] d runs does =
+    let P : State → Type 0 = λ s. Does s 256 (tpdu_of d) new in (new, subst P runs does, refl)
+runs_more Does first old new (e ∷ whole) d runs does = (runs.0, runs.1, runs_more Does runs.0 old new whole d runs.2 does)
+
+pub over_more : {State : Type 0} (Does : State → ℕ → Tpdu → State → Type 0) (first old new : State) (whole : List Dialogue) (d : Dialogue)
+    → AreOver Does first whole old → IsDialogue d → Follows d plain → Does old 256 (tpdu_of d) new → AreOver Does first (whole ++ d ∷ []) new
+over_more Does first old new whole d over is follows does = record {
+  are_dialogues = all_more IsDialogue whole d over.are_dialogues is; follow = follow_more whole d over.follow follows;
+  runs = runs_more Does first old new whole d over.runs does }
+
+-- what was heard goes on with the front, or to the end of a dialogue
+hears_front : (since now later : Hearing) (whole : List Dialogue) (front new : Front) (c : Character) → Hears since (flat_map characters whole ++ front_characters front) now
+    → Hears now (c ∷ []) later → front_characters new ≡ front_characters front ++ c ∷ [] → Hears since (flat_map characters whole ++ front_characters new) later
+hears_front since now later whole front new c before this is =
+    let P : List Character → Type 0 = λ cs. Hears since cs later in
+    subst P (append_assoc (flat_map characters whole) (front_characters front) (c ∷ []) ∙ ap (λ cs. flat_map characters whole ++ cs) (sym is))
+      (hears_more since now later _ (c ∷ []) before this)
+
+hears_end : (since now later : Hearing) (whole : List Dialogue) (front : Front) (d : Dialogue) (c : Character) → Hears since (flat_map characters whole ++ front_characters front) now
+    → Hears now (c ∷ []) later → characters d ≡ front_characters front ++ c ∷ [] → Hears since (flat_map characters (whole ++ d ∷ [])) later
+hears_end since now later whole front d c before this is =
+    let P : List Character → Type 0 = λ cs. Hears since cs later in
+    subst P (append_assoc (flat_map characters whole) (front_characters front) (c ∷ []) ∙ ap (λ cs. flat_map characters whole ++ cs) (sym is) ∙ sym (flat_map_last characters whole d))
+      (hears_more since now later _ (c ∷ []) before this)
+
+-- a character of the terminal has passed
+pub terminal_passed : {C State : Type 0} (Does : State → ℕ → Tpdu → State → Type 0) (standing : C → State) (prepared : C → Prepared State) (first : State) (since now later : Hearing)
+    (old new : EndOf C) (ex after : ExchangeOf) (cursor : Cursor) (front : Front) (byte : ℕ)
+    (under : IsUnderWay Does first since (standing old.card) (prepared old.card) old.stage ex cursor now) → GoesOn under.front (Terminal, byte) front → UnderWay after under.whole front
+    → StandsAt Does (standing new.card) (prepared new.card) new.stage plain front → new.card ≡ old.card → Hears now ((Terminal, byte) ∷ []) later
+    → IsUnderWay Does first since (standing new.card) (prepared new.card) new.stage after cursor later
+terminal_passed {C = C} Does standing prepared first since now later old new ex after cursor front byte under goes terminal card same hears =
+    let grown = goes_on under.front front (Terminal, byte) under.is_front goes in
+    let Over : C → Type 0 = λ c. AreOver Does first under.whole (standing c) in
+    record {
+      whole = under.whole; front = front; over = subst Over (sym same) under.over; terminal = terminal; card = card; is_front = grown.0;
+      hears = hears_front since now later under.whole under.front front (Terminal, byte) under.hears hears grown.1; no_plans = under.no_plans;
+    }
+
+-- a character of the card has passed, and the dialogue goes on
+pub card_passed : {State : Type 0} (Does : State → ℕ → Tpdu → State → Type 0) (first old new : State) (before prepared : Prepared State) (at stage : Stage) (since now later : Hearing)
+    (ex after : ExchangeOf) (was cursor : Cursor) (front : Front) (byte : ℕ) (under : IsUnderWay Does first since old before at ex was now)
+    → GoesOn under.front (Card, byte) front → UnderWay after under.whole front → StandsAt Does new prepared stage plain front → new ≡ old → cursor.rest ≡ []
+    → Hears now ((Card, byte) ∷ []) later → IsUnderWay Does first since new prepared stage after cursor later
+card_passed {State = State} Does first old new before prepared at stage since now later ex after was cursor front byte under goes terminal card same empty hears =
+    let grown = goes_on under.front front (Card, byte) under.is_front goes in
+    let Over : State → Type 0 = λ s. AreOver Does first under.whole s in
+    record {
+      whole = under.whole; front = front; over = subst Over (sym same) under.over; terminal = terminal; card = card; is_front = grown.0;
+      hears = hears_front since now later under.whole under.front front (Card, byte) under.hears hears grown.1; no_plans = empty;
+    }
+
+-- the characters of a dialogue that ends
+ends_with : (front : Front) (byte : ℕ) (d : Dialogue) → Ends front (Card, byte) d → characters d ≡ front_characters front ++ (Card, byte) ∷ []
+ends_with (In_header bytes) byte d ends = absurd ends
+ends_with (In_body b) byte d ends = absurd ends
+ends_with (After_first b sw1) byte d ends = ap characters ends.2 ∙ sym (append_assoc (body_characters b) ((Card, sw1) ∷ []) ((Card, byte) ∷ []))
+
+-- it has passed, and a repetition begins
+pub repetition_begins : {State : Type 0} (Does : State → ℕ → Tpdu → State → Type 0) (first old new : State) (before prepared : Prepared State) (at stage : Stage) (since now later : Hearing)
+    (ex after : ExchangeOf) (was cursor : Cursor) (d : Dialogue) (byte : ℕ) (under : IsUnderWay Does first since old before at ex was now)
+    → Ends under.front (Card, byte) d → IsDialogue d → Follows d plain → Does old 256 (tpdu_of d) new → stage ≡ Taking_header [] → UnderWay after (under.whole ++ d ∷ []) fresh
+    → cursor.rest ≡ [] → Hears now ((Card, byte) ∷ []) later → IsUnderWay Does first since new prepared stage after cursor later
+repetition_begins Does first old new before prepared at stage since now later ex after was cursor d byte under ends is follows does rests terminal empty hears =
+    let Stands : Stage → Type 0 = λ s. StandsAt Does new prepared s plain fresh in
+    let Heard : List Character → Type 0 = λ cs. Hears since cs later in
+    record {
+      whole = under.whole ++ d ∷ []; front = fresh; over = over_more Does first old new under.whole d under.over is follows does; terminal = terminal;
+      card = subst Stands (sym rests) (refl, lit< tt); is_front = lit< tt;
+      hears = subst Heard (sym (append-nil (flat_map characters (under.whole ++ d ∷ []))))
+          (hears_end since now later under.whole under.front d (Card, byte) under.hears hears (ends_with under.front byte d ends));
+      no_plans = empty;
+    }
+
+-- it has passed, and the exchange is over
+pub exchange_ends : {State : Type 0} (Does : State → ℕ → Tpdu → State → Type 0) (first old new : State) (before prepared : Prepared State) (at stage : Stage) (since now later : Hearing)
+    (ex after : ExchangeOf) (was : Cursor) (d : Dialogue) (byte : ℕ) (under : IsUnderWay Does first since old before at ex was now)
+    → Ends under.front (Card, byte) d → IsDialogue d → Follows d plain → Does old 256 (tpdu_of d) new → stage ≡ Taking_header [] → IsDone after (under.whole ++ d ∷ [])
+    → Hears now ((Card, byte) ∷ []) later → IsFinished Does first since new stage after later
+exchange_ends Does first old new before prepared at stage since now later ex after was d byte under ends is follows does rests terminal hears = record {
+  whole = under.whole ++ d ∷ []; over = over_more Does first old new under.whole d under.over is follows does; terminal = terminal; at_rest = rests;
+  hears = hears_end since now later under.whole under.front d (Card, byte) under.hears hears (ends_with under.front byte d ends);
+}
+
+-- an exchange whose terminal's end is at this stage
+abbrev at_host : ExchangeOf → HostStage → ExchangeOf
+at_host ex stage = record { header = ex.header; host = at_stage ex.host stage; gather = ex.gather; repeated = ex.repeated }
+
+-- characters are left where the end is not over
+left_going : (ex : ExchangeOf) (stage : Stage) → is_over ex.host.stage ≡ false → characters_left ex stage ≡ 1 + for_repetition ex.repeated + stage_number stage
+left_going ex stage going = rw going refl
+
+not_over : (host : Asking) (stage : HostStage) (front : Front) → HostStandsAt (at_stage host stage) front → is_over stage ≡ false
+not_over host (SendingHeader sent) front stands = refl
+not_over host (Awaiting moved) front stands = refl
+not_over host (TakingData moved) front stands = refl
+not_over host (AwaitingSecond sw1) front stands = refl
+not_over host (Ended status) front stands = absurd stands
+not_over host Broken front stands = absurd stands
+
+left_under : (ex : ExchangeOf) (stage : Stage) (whole : List Dialogue) (front : Front) → UnderWay ex whole front
+    → characters_left ex stage ≡ 1 + for_repetition ex.repeated + stage_number stage
+left_under ex stage whole front under = left_going ex stage (not_over ex.host ex.host.stage front under.stands)
+
+-- the header goes on
+header_number : (stage : Stage) (byte : ℕ) → listens stage ≡ true → stage_number (with_character stage byte) < stage_number stage
+header_number (Taking_header bytes) byte listens =
+    omega (arith, length-append bytes (byte ∷ []), ltb-true (length bytes) 5 listens)
+header_number (Sending_data header p3 moved) byte listens = absurd (cc)
+header_number (Ending status) byte listens = absurd (cc)
+
+pub header_falls : (ex after : ExchangeOf) (whole : List Dialogue) (front new : Front) (stage : Stage) (byte : ℕ) → UnderWay ex whole front → UnderWay after whole new
+    → after.repeated ≡ ex.repeated → listens stage ≡ true → characters_left after (with_character stage byte) < characters_left ex stage
+header_falls ex after whole front new stage byte under later same listens =
+    omega (arith, left_under ex stage whole front under, left_under after (with_character stage byte) whole new later,
+      ap for_repetition same, header_number stage byte listens)
+
+-- the card's characters fall
+number_falls : (old new : Stage) → still_to_go new < still_to_go old → stage_number new < stage_number old
+number_falls (Taking_header bytes) (Taking_header others) falls = absurd (omega (arith, falls))
+number_falls (Sending_data header p3 moved) (Taking_header others) falls = absurd (omega (arith, falls))
+number_falls (Ending status) (Taking_header others) falls = absurd (omega (arith, falls))
+number_falls (Taking_header bytes) (Sending_data header p3 moved) falls = omega (arith, falls)
+number_falls (Sending_data h q m) (Sending_data header p3 moved) falls = falls
+number_falls (Ending status) (Sending_data header p3 moved) falls = falls
+number_falls (Taking_header bytes) (Ending status) falls = omega (arith, falls)
+number_falls (Sending_data header p3 moved) (Ending status) falls = falls
+number_falls (Ending before) (Ending status) falls = falls
+
+-- the card's end is past the header of a dialogue that goes on with a character of the card
+at_header : {State : Type 0} (Does : State → ℕ → Tpdu → State → Type 0) (standing : State) (prepared : Prepared State) (front new : Front) (byte : ℕ)
+    → GoesOn front (Card, byte) new → StandsAt Does standing prepared (Taking_header []) plain new → ⊥
+at_header Does standing prepared front (In_header bytes) byte goes stands = past_header front (In_header bytes) byte bytes goes refl
+at_header Does standing prepared front (In_body b) byte goes stands = let e = stands.0 in absurd (cc)
+at_header Does standing prepared front (After_first b sw1) byte goes stands = stands
+
+pub card_falls : {State : Type 0} (Does : State → ℕ → Tpdu → State → Type 0) (standing : State) (prepared : Prepared State) (ex after : ExchangeOf) (whole : List Dialogue) (front new : Front)
+    (old stage : Stage) (byte : ℕ) → UnderWay ex whole front → UnderWay after whole new → after.repeated ≡ ex.repeated
+    → (stage ≡ Taking_header []) ⊎ (still_to_go stage < still_to_go old) → GoesOn front (Card, byte) new → StandsAt Does standing prepared stage plain new
+    → characters_left after stage < characters_left ex old
+card_falls Does standing prepared ex after whole front new old stage byte under later same (inl rests) goes stands =
+    let P : Stage → Type 0 = λ s. StandsAt Does standing prepared s plain new in absurd (at_header Does standing prepared front new byte goes (subst P rests stands))
+card_falls Does standing prepared ex after whole front new old stage byte under later same (inr falls) goes stands =
+    omega (arith, left_under ex old whole front under, left_under after stage whole new later, ap for_repetition same, number_falls old stage falls)
+
+pub repetition_falls : (ex after : ExchangeOf) (whole more : List Dialogue) (front : Front) (old stage : Stage) → UnderWay ex whole front → UnderWay after more fresh
+    → after.repeated ≡ true → ex.repeated ≡ false → stage ≡ Taking_header [] → characters_left after stage < characters_left ex old
+repetition_falls ex after whole more front old stage under later again once rests =
+    omega (arith, left_under ex old whole front under, left_under after stage more fresh later, ap for_repetition again, ap for_repetition once, ap stage_number rests)
+
+pub end_falls : (ex after : ExchangeOf) (whole more : List Dialogue) (front : Front) (old stage : Stage) → UnderWay ex whole front → IsDone after more
+    → characters_left after stage < characters_left ex old
+end_falls ex after whole more front old stage under done =
+    let over : is_over after.host.stage ≡ true = ap is_over done.ended in
+    let none : characters_left after stage ≡ 0 = rw over refl in
+    omega (arith, left_under ex old whole front under, none)
+
+-- what is known of a result that is Ok
+pub on_ok : {A E : Type 0} (r : Result A E) (P : Type 0) (x : A) → r ≡ Ok x → OnOk r P → P
+on_ok {A = A} {E = E} r P x is on = let Q : Result A E → Type 0 = λ s. OnOk s P in subst Q is on
+
+-- a terminal that listens stays as it is
+pub next_stays : (old new : ExchangeOf) → new ≡ at_host old (after_turn old.host.stage) → turn_of old.host ≡ Listens → new ≡ old
+next_stays old new is listens = is ∙ ap (at_host old) (listening_stays old.host.stage old.host listens)
+
+pub under_way_too : (old new : ExchangeOf) (whole : List Dialogue) (front : Front) → new ≡ old → UnderWay old whole front → UnderWay new whole front
+under_way_too old new whole front is under = let P : ExchangeOf → Type 0 = λ e. UnderWay e whole front in subst P (sym is) under
+
+-- an exchange that is over does not listen
+pub done_is_silent : (ex : ExchangeOf) (whole : List Dialogue) → IsDone ex whole → turn_of ex.host ≡ Listens → ⊥
+done_is_silent ex whole done listens = silent ex.host ex.host.stage _ done.ended listens
+  where
+    silent : (host : Asking) (stage : HostStage) (status : StatusWord) → stage ≡ Ended status → turn_of (at_stage host stage) ≡ Listens → ⊥
+    silent host stage status is listens =
+        let P : HostStage → Type 0 = λ s. turn_of (at_stage host s) ≡ Listens in let e : Done status ≡ Listens = subst P is listens in absurd (cc)
+
+-- an exchange that is over has no characters left
+over_has_none : (ex : ExchangeOf) (whole : List Dialogue) (stage : Stage) → IsDone ex whole → characters_left ex stage ≡ 0
+over_has_none ex whole stage done = let over : is_over ex.host.stage ≡ true = ap is_over done.ended in rw over refl
+
+-- a step of the loop: what goes on falls, and what is over stops
+pub smaller : (old new : ExchangeOf) (before after : Stage) (going : Bool) (A B : Type 0) → A ⊎ B
+    → (A → (going ≡ true) × (characters_left new after < characters_left old before)) → (B → (going ≡ false) × ((whole : List Dialogue) × IsDone old whole) × ((whole : List Dialogue) × IsDone new whole))
+    → characters_left new after + (if going then 1 else 0) < characters_left old before + 1
+smaller old new before after going A B (inl goes) on off =
+    let step = on goes in rw step.0 (omega (arith, step.1))
+smaller old new before after going A B (inr over) on off =
+    let step = off over in
+    rw step.0 (omega (arith, over_has_none old step.1.0 before step.1.1, over_has_none new step.2.0 after step.2.1))

@@ -1,0 +1,23 @@
+use Rattle.std.proofs.Common.{◌≡◌, ◌+◌, ◌⊎◌, true, false, if◌then◌else◌}
+use Rattle.t0_core.specs.Watch.{Hearing}
+use Rattle.card_trace.specs.Conversing.{IsUnderWay, IsFinished, characters_left}
+use Rattle.card_trace.proofs.session.converse.Given as goal
+
+-- A TPDU is under way or the exchange is over, since whatever led to the beginning.
+abbrev pub invariant-talk : goal.invariant-talk
+invariant-talk g l =
+    let card = g.C.TpduCard in
+    let hearing = g.W.Watch.hearing in
+    record {
+      header : l.exchange.header ≡ l.fn.exchange.header;
+      some : (first : card.State) × (since : Hearing) ×
+          (IsUnderWay card.Does first since (card.standing l.end.card) (card.prepared l.end.card) l.end.stage l.exchange l.plans (hearing l.watch)
+          ⊎ IsFinished card.Does first since (card.standing l.end.card) l.end.stage l.exchange (hearing l.watch));
+      each : (first : card.State) (since : Hearing) →
+          IsUnderWay card.Does first since (card.standing l.fn.end.card) (card.prepared l.fn.end.card) l.fn.end.stage l.fn.exchange l.fn.plans (hearing l.fn.watch) →
+          ((l.going ≡ true) × IsUnderWay card.Does first since (card.standing l.end.card) (card.prepared l.end.card) l.end.stage l.exchange l.plans (hearing l.watch))
+          ⊎ IsFinished card.Does first since (card.standing l.end.card) l.end.stage l.exchange (hearing l.watch);
+    }
+
+abbrev pub decreases-talk : goal.decreases-talk
+decreases-talk g l = characters_left l.exchange l.end.stage + (if l.going then 1 else 0)

@@ -339,3 +339,13 @@ smaller old new before after going A B (inl goes) on off =
 smaller old new before after going A B (inr over) on off =
     let step = off over in
     rw step.0 (omega (arith, over_has_none old step.1.0 before step.1.1, over_has_none new step.2.0 after step.2.1))
+
+-- a conversation begins
+pub begins : {State : Type 0} (Does : State → ℕ → Tpdu → State → Type 0) (standing : State) (prepared : Prepared State) (stage : Stage) (ex : ExchangeOf) (cursor : Cursor) (now : Hearing)
+    → stage ≡ Taking_header [] → UnderWay ex [] fresh → cursor.rest ≡ [] → IsUnderWay Does standing now standing prepared stage ex cursor now
+begins Does standing prepared stage ex cursor now rests terminal empty =
+    let Stands : Stage → Type 0 = λ s. StandsAt Does standing prepared s plain fresh in
+    record {
+      whole = []; front = fresh; over = record { are_dialogues = tt; follow = tt; runs = refl }; terminal = terminal;
+      card = subst Stands (sym rests) (refl, lit< tt); is_front = lit< tt; hears = hears_nothing now; no_plans = empty;
+    }

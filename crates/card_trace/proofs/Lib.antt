@@ -2,3 +2,4 @@ pub mod FirstCardLemmas
 pub mod ExchangeLemmas
 pub mod ConversingLemmas
 pub mod GetLemmas
+pub mod TraceLemmas

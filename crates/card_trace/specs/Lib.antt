@@ -5,3 +5,5 @@ pub mod Talk
 pub mod OneStep
 pub mod ExchangeSide
 pub mod Conversing
+pub mod TraceText
+pub mod LineBreaks

@@ -2,9 +2,77 @@ ghost use Rattle.std.specs.Prelude.{◌≡◌, ℕ, ◌<◌, [], ◌⊎◌, true
 ghost use Rattle.t0_core.specs.Watch.{Hearing};
 ghost use Rattle.card_trace.specs.Conversing.{IsUnderWay, IsFinished, characters_left};
 
+use std::alloc::{AllocError, Global};
+use std::marker::Model;
+
+use apdu_core::Command;
 use t0_core::{CardEnd, End, HostTurn, Plans, TpduCard, Turn, Watch};
 
+use crate::answer::Answer;
 use crate::exchange::Exchange;
+use crate::first_card::FirstCard;
+
+/// A terminal and the first card, joined by a line that delivers every character.
+#[derive(Drop)]
+pub struct Session<'a> {
+    end: CardEnd<FirstCard<'a>>,
+}
+
+impl<'a> Model for Session<'a> {
+    ghost use Rattle.std.specs.Prelude.{◌≡◌, ◌≤◌, [], length};
+    ghost use Rattle.tlv_core.specs.Address.{IsAddressable};
+    ghost use Rattle.t0_core.specs.CardSide.{Taking_header};
+    ghost use Rattle.card_trace.specs.FirstCard.{Pair};
+
+    ghost Value = { Pair };
+
+    ghost view = { λ s. s.end.card.pair };
+
+    ghost invariant = { λ s. (s.end.stage ≡ Taking_header []) × (length s.end.card.pair.value ≤ 127) × IsAddressable s.end.card.pair.tag };
+}
+
+impl<'a> Session<'a> {
+    ghost use Rattle.std.specs.Prelude.{◌≤◌, List, ◌∷◌, length, IfOk, OnErr};
+    ghost use Rattle.tlv_core.specs.Address.{IsAddressable};
+    ghost use Rattle.t0_core.specs.Character.{Character};
+    ghost use Rattle.t0_core.specs.Watch.{Hears};
+    ghost use Rattle.card_trace.specs.FirstCard.{Does};
+    ghost use Rattle.card_trace.specs.Talk.{Get, IsCommandsOf, IsTalk};
+    ghost use Rattle.card_trace.specs.OneStep.{Answers};
+
+    /// A session with a card, which it resets.
+    pub fn new(mut end: CardEnd<FirstCard<'a>>) -> Session<'a>
+        requires fits { length end.card.pair.value ≤ 127 }
+        requires addressable { IsAddressable end.card.pair.tag }
+        ensures { result ≡ end.entry.card.pair }
+    {
+        end.reset();
+        Session { end }
+    }
+
+    /// Carries out a GET DATA with Le = `00`. Its error is want of memory, before the first character.
+    pub fn transmit<W: Watch>(
+        &mut self,
+        alloc: Global,
+        command: &Command,
+        plans: &mut Plans,
+        watch: &mut W,
+    ) -> Result<Answer, AllocError>
+        requires get { (tag : List ℕ) × IsCommandsOf (Get tag) (command.now ∷ []) }
+        requires no_plans { plans.old.rest ≡ [] }
+        ensures answers { (tag : List ℕ) → IsCommandsOf (Get tag) (command.now ∷ []) →
+            IfOk result (λ reply. Answers self.old (Get tag) reply self.new) }
+        ensures talk { (tag : List ℕ) → IsCommandsOf (Get tag) (command.now ∷ []) → IfOk result (λ reply.
+            (heard : List Character) × IsTalk Does [] (Get tag ∷ []) self.old (reply ∷ []) self.new heard
+            × Hears (W.hearing watch.old) heard (W.hearing watch.new)) }
+        ensures stays { self.new ≡ self.old }
+        ensures unheard { OnErr result (W.hearing watch.new ≡ W.hearing watch.old) }
+    {
+        let mut exchange = Exchange::start(alloc, command)?;
+        converse(&mut exchange, &mut self.end, plans, watch);
+        Ok(exchange.into_answer().unwrap())
+    }
+}
 
 /// Passes one character from the end whose turn it is to the other, and tells the watch.
 fn pass_character<C: TpduCard, W: Watch>(

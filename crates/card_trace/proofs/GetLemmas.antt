@@ -1,5 +1,5 @@
 -- A GET DATA to the first card is answered as its one-step definition says.
-use Rattle.std.proofs.Common.{◌≡◌, ◌≢◌, ℕ, zero, suc, ◌+◌, ◌-◌, ◌<◌, ◌≤◌, ◌%◌, min, List, [], ◌∷◌, ◌++◌, length, take, drop, refl, sym, subst, ◌∙◌, ap, arith, inl, inr, ◌⊎◌, true, false, Bool, Option, Some, None, append-nil, length-append, lit≤, nat_lt}
+use Rattle.std.proofs.Common.{◌≡◌, ◌≢◌, ℕ, zero, suc, ◌+◌, ◌-◌, ◌<◌, ◌≤◌, ◌%◌, min, List, [], ◌∷◌, ◌++◌, length, take, drop, refl, sym, subst, ◌∙◌, ap, arith, inl, inr, ◌⊎◌, true, false, Bool, Option, Some, None, append-nil, length-append, lit≤, nat_lt, Result}
 use Rattle.std.specs.List.{flat_map, AllByRecursion}
 use Rattle.std.proofs.lemmas.List.{take_all, drop_all}
 use Rattle.std.proofs.lemmas.Bool.{lt-ltb}
@@ -19,7 +19,10 @@ use Rattle.t0_core.specs.Meaning.{Tpdu, tpdu_of, Runs, received}
 use Rattle.card_trace.specs.FirstCard.{Pair, object_of, announcing, IsClassKnown, IsNamed, Refuses, class_not_supported, instruction_not_supported, chaining_not_supported, wrong_parameters, not_found, wrong_length, Accepts, Does, refuses, sends}
 use Rattle.card_trace.specs.Gathered.{Wanted, Everything, Asks, UnitOf, Single, Repeated, first_of, last_of, dialogues_of, unit_data, repeats_with, IsUnit, Gathers}
 use Rattle.card_trace.specs.Talk.{Operation, Get, Reply, IsTalk}
-use Rattle.std.specs.Option.{IfSome}
+use Rattle.std.specs.Option.{IfSome, SomeIff}
+use Rattle.std.specs.Result.{OnOk}
+use Rattle.std.specs.Io.KnownBytes.{Appends}
+use Rattle.card_trace.specs.TraceText.{trace_text, WritesTalk}
 use Rattle.card_trace.specs.ExchangeSide.{ExchangeOf, IsDone, IsEnded}
 use Rattle.card_trace.specs.Conversing.{AreOver}
 use Rattle.card_trace.specs.OneStep.{Answers, gives, finds_no_object}
@@ -301,3 +304,31 @@ if_some {A = A} o P x is holds = let Q : Option A → Type 0 = λ v. IfSome v P 
 -- what a session needs to go on
 pub kept : (old new : Pair) → new ≡ old → length old.value ≤ 127 → IsAddressable old.tag → (length new.value ≤ 127) × IsAddressable new.tag
 kept old new same short addressable = let P : Pair → Type 0 = λ p. (length p.value ≤ 127) × IsAddressable p.tag in subst P (sym same) (short, addressable)
+
+pub some_iff_is : {A : Type 0} (o : Option A) (P : Type 0) (v x : A) → o ≡ Some x → SomeIff o P v → x ≡ v
+some_iff_is {A = A} o P v x is iff = let Q : Option A → Type 0 = λ u. SomeIff u P v in let on : P × (x ≡ v) = subst Q is iff in on.1
+
+-- a talk that was recorded whole and written
+pub writes : (pair before after : Pair) (tag : List ℕ) (reply : Reply) (old new : Option (List ℕ)) (fresh_recorder recorder : Hearing) (heard recorded : List Character) (text slice : List ℕ)
+    → before ≡ pair → after ≡ before → Answers before (Get tag) reply after → IsTalk Does [] (Get tag ∷ []) before (reply ∷ []) after heard
+    → fresh_recorder ≡ record { heard = []; lost = false } → Hears fresh_recorder heard recorder → recorder.lost ≡ false → recorded ≡ recorder.heard
+    → text ≡ trace_text recorded reply → slice ≡ text → Appends old new slice → WritesTalk pair tag old new
+writes pair before after tag reply old new fresh_recorder recorder heard recorded text slice start stays answers talk empty hears kept is_recorded is_text is_slice appends =
+    let Before : Pair → Type 0 = λ p. Answers p (Get tag) reply p in
+    let After : Pair → Type 0 = λ p. Answers before (Get tag) reply p in
+    let TalkBefore : Pair → Type 0 = λ p. IsTalk Does [] (Get tag ∷ []) p (reply ∷ []) p heard in
+    let TalkAfter : Pair → Type 0 = λ p. IsTalk Does [] (Get tag ∷ []) before (reply ∷ []) p heard in
+    let Written : List ℕ → Type 0 = λ bytes. Appends old new bytes in
+    let all : recorded ≡ heard = is_recorded ∙ (hears.all kept).1 ∙ ap (λ (r : Hearing). r.heard ++ heard) empty in
+    record {
+      heard = heard; reply = reply; answers = subst Before start (subst After stays answers); talk = subst TalkBefore start (subst TalkAfter stays talk);
+      written = subst Written (is_slice ∙ is_text ∙ ap (λ cs. trace_text cs reply) all) appends;
+    }
+
+-- the first object, under its tag
+pub of_name : {A E : Type 0} (r : Result A E) (pair : Pair) (name tag value : List ℕ) (old new : Option (List ℕ)) → pair ≡ record { tag = name; value = value } → name ≡ tag
+    → OnOk r (WritesTalk pair name old new) → OnOk r (WritesTalk (record { tag = tag; value = value }) tag old new)
+of_name r pair name tag value old new is named writes =
+    let OfPair : Pair → Type 0 = λ p. OnOk r (WritesTalk p name old new) in
+    let OfTag : List ℕ → Type 0 = λ t. OnOk r (WritesTalk (record { tag = t; value = value }) t old new) in
+    subst OfTag named (subst OfPair is writes)

@@ -1,5 +1,5 @@
 -- The lines of the characters, written one character after another.
-use Rattle.std.proofs.Common.{◌≡◌, ℕ, ◌+◌, ◌<◌, List, [], ◌∷◌, ◌++◌, length, drop, refl, sym, ◌∙◌, ap, true, false, Bool, Option, Some, None, append-nil, append_assoc, if◌then◌else◌}
+use Rattle.std.proofs.Common.{◌≡◌, ℕ, ◌+◌, ◌<◌, List, [], ◌∷◌, ◌++◌, length, drop, get_or, refl, sym, subst, ◌∙◌, ap, add-one, drop-cons, true, false, Bool, Option, Some, None, append-nil, append_assoc, if◌then◌else◌}
 use Rattle.std.specs.List.{flat_map}
 use Rattle.hex.specs.Hex.{encode_upper, encode_with}
 use Rattle.t0_core.specs.declared.end.End.{End}
@@ -86,3 +86,18 @@ one_written text whole previous c cs so_far =
 pub all_written : (previous : Option End) → rest_text previous [] ≡ break_after previous
 all_written None = refl
 all_written (Some from) = refl
+
+-- the next of the characters
+abbrev pub at_index : List Character → ℕ → Character
+at_index heard i = get_or heard i (Terminal, 0)
+
+drop_next : (heard : List Character) (i : ℕ) → i < length heard → drop i heard ≡ at_index heard i ∷ drop (i + 1) heard
+drop_next heard i lt = drop-cons heard i (Terminal, 0) lt ∙ ap (λ n. at_index heard i ∷ drop n heard) (sym (add-one i))
+
+-- a step of the loop
+pub step_written : (before middle after broken whole : List ℕ) (previous : Option End) (heard : List Character) (i : ℕ) → i < length heard → middle ≡ before ++ broken
+    → broken ≡ break_before previous (at_index heard i).0 → after ≡ middle ++ encode_upper ((at_index heard i).1 ∷ []) → before ++ rest_text previous (drop i heard) ≡ whole
+    → after ++ rest_text (Some (at_index heard i).0) (drop (i + 1) heard) ≡ whole
+step_written before middle after broken whole previous heard i lt middle_is broken_is after_is so_far =
+    let Rest : List Character → Type 0 = λ cs. before ++ rest_text previous cs ≡ whole in
+    rw (after_is, middle_is, broken_is) (one_written before whole previous (at_index heard i) (drop (i + 1) heard) (subst Rest (drop_next heard i lt) so_far))

@@ -51,7 +51,8 @@ pub fn get_lines<W: Write>(
         return Err(PlayFault::OutOfMemory);
     }
     let text = trace(alloc, recorder.heard(), &answer)?;
-    writer
-        .write_all(text.as_slice())
-        .map_err(|_| PlayFault::Write)
+    match writer.write_all(text.as_slice()) {
+        Ok(()) => Ok(()),
+        Err(_) => Err(PlayFault::Write),
+    }
 }

@@ -14,6 +14,10 @@ use std::marker::Model;
 pub struct TooLong;
 
 impl fmt::Display for TooLong {
+    ghost use Rattle.std.specs.Prelude.{Some, codes};
+
+    ghost output = { λ _. Some (codes "chain too long") };
+
     fn fmt<W: fmt::Write>(&self, f: &mut fmt::Formatter<W>) -> fmt::Result {
         f.write_str("chain too long")
     }

@@ -24,12 +24,17 @@ pub enum ApduFault {
 }
 
 impl fmt::Display for ApduFault {
+    ghost use Rattle.std.specs.Prelude.{Some};
+    ghost use Rattle.apdu_core.specs.FaultText.{fault_text};
+
+    ghost output = { λ fault. Some (fault_text fault) };
+
     fn fmt<W: fmt::Write>(&self, f: &mut fmt::Formatter<W>) -> fmt::Result {
-        f.write_str(match self {
-            ApduFault::TooShort => "command too short",
-            ApduFault::BadLength => "bad command length",
-            ApduFault::InvalidIns => "invalid INS",
-        })
+        match self {
+            ApduFault::TooShort => f.write_str("command too short"),
+            ApduFault::BadLength => f.write_str("bad command length"),
+            ApduFault::InvalidIns => f.write_str("invalid INS"),
+        }
     }
 }
 

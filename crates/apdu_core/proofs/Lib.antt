@@ -4,3 +4,4 @@ mod CommandLaws
 mod ListFacts
 mod PieceLemmas
 mod PieceLaws
+mod Vectors

@@ -46,10 +46,15 @@ pub record IsChain (chain : ChainState) : Type 0 where
   pub within : length chain.bytes ≤ chain.limit
   pub empty : IfNone chain.pending (chain.bytes ≡ [])
 
+-- nothing is pending
+abbrev pub idle : ℕ → ChainState
+idle limit = record { bytes = []; limit = limit; pending = None }
+
 -- nothing is pending, or INS, P1, P2 and CLA but for bit 5 are the chain's
 abbrev pub Accepts : ChainState → Header → Type 0
 Accepts chain header = IfSome chain.pending (λ first. as_last header ≡ first)
 
 -- the chain with the data of a command added
 abbrev pub added : ChainState → Header → List ℕ → ChainState
-added chain header content = record { bytes = chain.bytes ++ content; limit = chain.limit; pending = Some (as_last header) }
+added chain header content =
+    record { bytes = chain.bytes ++ content; limit = chain.limit; pending = Some (as_last header) }

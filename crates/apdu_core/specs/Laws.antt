@@ -7,7 +7,8 @@ use Rattle.apdu_core.specs.Chaining.{IsLast, as_last, ChainState, Accepts, added
 -- bit 5 of CLA, whose number is 4 where bits count from 0, is set in every command but the last
 abbrev pub MoreInAllButLast : List Command → Type 0
 MoreInAllButLast commands =
-    (before : List Command) × (last : Command) × (commands ≡ before ++ last ∷ []) × All (λ c. IsBitSet c.header.cla 4) before × IsLast last.header
+    (before : List Command) × (last : Command) × (commands ≡ before ++ last ∷ [])
+    × All (λ c. IsBitSet c.header.cla 4) before × IsLast last.header
 
 -- a command without Le whose header is this one but for bit 5 of CLA
 pub record IsLink (header : Header) (c : Command) : Type 0 where

@@ -4,4 +4,5 @@ pub mod CommandBytes
 pub mod Chaining
 pub mod PieceList
 pub mod PiecesLeft
+pub mod FaultText
 pub mod Laws

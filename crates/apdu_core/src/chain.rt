@@ -1,7 +1,7 @@
 //! The bytes of a chain of commands, as they come together at the card.
 ghost use Rattle.std.specs.Prelude.{◌≡◌, ◌+◌, ◌<◌, ◌≤◌, ◌↔◌, [], length, take, None, IsTrue, IsSome, IsErr, IfOk, OnOk, OnErr};
 ghost use Rattle.apdu_core.specs.Chaining as spec;
-ghost use Rattle.apdu_core.specs.Chaining.{Accepts, IsChain, added};
+ghost use Rattle.apdu_core.specs.Chaining.{Accepts, IsChain, added, idle};
 
 use crate::header::Header;
 use std::alloc::{AllocError, Global};
@@ -14,6 +14,10 @@ use std::marker::Model;
 pub struct TooLong;
 
 impl fmt::Display for TooLong {
+    ghost use Rattle.std.specs.Prelude.{Some, codes};
+
+    ghost output = { λ _. Some (codes "chain too long") };
+
     fn fmt<W: fmt::Write>(&self, f: &mut fmt::Formatter<W>) -> fmt::Result {
         f.write_str("chain too long")
     }
@@ -38,13 +42,14 @@ impl Model for Chain {
 
     ghost view = { λ c. record { bytes = c.bytes.items; limit = c.limit; pending = c.pending } };
 
-    ghost invariant = { λ c. IsChain (record { bytes = c.bytes.items; limit = c.limit; pending = c.pending }) × (c.limit ≤ vec_capacity c.bytes) };
+    ghost invariant = { λ c. IsChain (record { bytes = c.bytes.items; limit = c.limit; pending = c.pending })
+        × (c.limit ≤ vec_capacity c.bytes) };
 }
 
 impl Chain {
     /// Nothing pending, with room for `limit` bytes. An `Err` is want of memory.
     pub fn with_room(alloc: Global, limit: usize) -> Result<Chain, AllocError>
-        ensures { IfOk result (λ chain. chain ≡ record { bytes = []; limit = limit; pending = None }) }
+        ensures { IfOk result (λ chain. chain ≡ idle limit) }
     {
         Ok(Chain {
             bytes: Vec::with_capacity(alloc, limit)?,
@@ -111,7 +116,7 @@ impl Chain {
 
     /// Drops the chain with its bytes, and keeps the room.
     pub fn drop_all(&mut self)
-        ensures { self.new ≡ record { bytes = []; limit = self.old.limit; pending = None } }
+        ensures { self.new ≡ idle self.old.limit }
     {
         self.bytes.clear();
         self.pending = None;

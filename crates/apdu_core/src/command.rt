@@ -24,12 +24,17 @@ pub enum ApduFault {
 }
 
 impl fmt::Display for ApduFault {
+    ghost use Rattle.std.specs.Prelude.{Some};
+    ghost use Rattle.apdu_core.specs.FaultText.{fault_text};
+
+    ghost output = { λ fault. Some (fault_text fault) };
+
     fn fmt<W: fmt::Write>(&self, f: &mut fmt::Formatter<W>) -> fmt::Result {
-        f.write_str(match self {
-            ApduFault::TooShort => "command too short",
-            ApduFault::BadLength => "bad command length",
-            ApduFault::InvalidIns => "invalid INS",
-        })
+        match self {
+            ApduFault::TooShort => f.write_str("command too short"),
+            ApduFault::BadLength => f.write_str("bad command length"),
+            ApduFault::InvalidIns => f.write_str("invalid INS"),
+        }
     }
 }
 
@@ -76,7 +81,8 @@ impl<'a> Command<'a> {
         ensures each { (c : spec.Command) → IsCommand c → bytes.now ≡ command_bytes c → result ≡ Ok c }
         ensures too_short { (result ≡ Err TooShort) ↔ (length bytes.now < 4) }
         ensures bad_length { (result ≡ Err BadLength) ↔ ((4 ≤ length bytes.now) × ¬ HasForm bytes.now) }
-        ensures invalid_ins { (result ≡ Err InvalidIns) ↔ ((c : spec.Command) × HasInvalidIns c × (bytes.now ≡ command_bytes c)) }
+        ensures invalid_ins { (result ≡ Err InvalidIns) ↔
+            ((c : spec.Command) × HasInvalidIns c × (bytes.now ≡ command_bytes c)) }
     {
         let [cla, ins, p1, p2, rest @ ..] = bytes else {
             return Err(ApduFault::TooShort);
@@ -103,7 +109,8 @@ impl<'a> Command<'a> {
     /// The command with these parts; `None` for an invalid INS, more than 255 bytes of data, or a
     /// `le` outside 1 to 256.
     pub fn new(header: Header, content: &'a [u8], le: Option<u16>) -> Option<Command<'a>>
-        ensures { let parts : spec.Command = record { header = header; content = content.now; le = le } in SomeIff result (IsCommand parts) parts }
+        ensures { let parts : spec.Command = record { header = header; content = content.now; le = le } in
+            SomeIff result (IsCommand parts) parts }
     {
         if !header.ins_is_valid() || content.len() > 255 || le.is_some_and(|n| n == 0 || n > 256) {
             return None;
@@ -163,7 +170,8 @@ impl<'a> Command<'a> {
 
 /// The data and the Le that the bytes after a header stand for, in one of the four cases' forms.
 fn fields(bytes: &[u8]) -> Option<(&[u8], Option<u16>)>
-    ensures none { IfNone result ((content : List ℕ) (le : Option ℕ) → HasSizes content le → bytes.now ≢ lc_field content ++ le_field le) }
+    ensures none { IfNone result ((content : List ℕ) (le : Option ℕ) →
+        HasSizes content le → bytes.now ≢ lc_field content ++ le_field le) }
     ensures some { IfSome result (λ f. HasSizes f.0.now f.1 × (bytes.now ≡ lc_field f.0.now ++ le_field f.1)) }
 {
     match bytes {

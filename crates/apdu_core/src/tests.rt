@@ -1,0 +1,168 @@
+use super::*;
+use std::test::Fail;
+
+const PUT: Header = Header {
+    cla: 0x00,
+    ins: 0xDA,
+    p1: 0x5F,
+    p2: 0x20,
+};
+
+/// SELECT by an application identifier, with Le 256.
+const SELECT: [u8; 13] = [
+    0x00, 0xA4, 0x04, 0x00, 0x07, 0xA0, 0x00, 0x00, 0x00, 0x03, 0x10, 0x10, 0x00,
+];
+
+#[test]
+fn commands_are_read_and_written_back(rt: HostRuntime) -> Result<(), Fail> {
+    let aid = &SELECT[5..12];
+    let cases: [(&[u8], &[u8], Option<u16>); 4] = [
+        (&[0x00, 0xA4, 0x04, 0x00], &[], None),
+        (&[0x00, 0xCA, 0x5F, 0x20, 0x00], &[], Some(256)),
+        (&[0x00, 0xDA, 0x5F, 0x20, 0x01, 0x41], &[0x41], None),
+        (&SELECT, aid, Some(256)),
+    ];
+    for (bytes, content, le) in cases {
+        let command = Command::read(bytes)?;
+        assert_eq!(rt; command.data(), content);
+        assert_eq!(rt; command.le(), le);
+
+        let again = Command::new(command.header(), content, le).ok_or("a command")?;
+        for written in [command, again] {
+            let mut out = vec![in rt.alloc(); 7]?;
+            written.write(&mut out)?;
+            assert_eq!(rt; out.first(), Some(&7));
+            assert_eq!(rt; &out[1..], bytes);
+        }
+    }
+    Ok(())
+}
+
+#[test]
+fn no_commands(rt: HostRuntime) {
+    let cases: [(&[u8], ApduFault); 6] = [
+        (&[], ApduFault::TooShort),
+        (&[0x00, 0xA4, 0x04], ApduFault::TooShort),
+        (&[0x00, 0xA4, 0x04, 0x00, 0x00, 0x00], ApduFault::BadLength),
+        (&[0x00, 0xDA, 0x5F, 0x20, 0x02, 0x41], ApduFault::BadLength),
+        (&[0x00, 0x60, 0x00, 0x00, 0x00], ApduFault::InvalidIns),
+        (&[0x00, 0x60, 0x00, 0x00, 0x02, 0x41], ApduFault::BadLength),
+    ];
+    for (bytes, fault) in cases {
+        assert_eq!(rt; Command::read(bytes).err(), Some(fault), "{bytes:?}");
+    }
+    let too_many = [0x41; 256];
+    assert!(rt; Command::new(PUT, &too_many, None).is_none());
+    assert!(rt; Command::new(PUT, &too_many[1..], None).is_some());
+    assert!(rt; Command::new(PUT, &[], Some(0)).is_none());
+    assert!(rt; Command::new(PUT, &[], Some(257)).is_none());
+}
+
+#[test]
+fn texts_of_faults(rt: HostRuntime) -> Result<(), Fail> {
+    for (fault, text) in [
+        (ApduFault::TooShort, "command too short"),
+        (ApduFault::BadLength, "bad command length"),
+        (ApduFault::InvalidIns, "invalid INS"),
+    ] {
+        assert_eq!(rt; format!(in rt.alloc(); "{fault}")?.as_str(), text);
+    }
+    assert_eq!(rt;
+        format!(in rt.alloc(); "{TooLong}")?.as_str(),
+        "chain too long"
+    );
+    Ok(())
+}
+
+#[test]
+fn status_words(rt: HostRuntime) -> Result<(), Fail> {
+    assert_eq!(rt; Status::new(0x60, 0x00), None);
+    assert_eq!(rt; Status::new(0xA0, 0x00), None);
+    let full = Status::new(0x61, 0x00).ok_or("6100")?;
+    assert_eq!(rt; full.announces(), Some(256));
+    let wrong_le = Status::new(0x6C, 0x06).ok_or("6C06")?;
+    assert_eq!(rt; wrong_le.corrects(), Some(6));
+    assert_eq!(rt; wrong_le.announces(), None);
+    let done = Status::new(0x90, 0x00).ok_or("9000")?;
+    assert!(rt; done.is_ok());
+    assert_eq!(rt; (done.sw1(), done.sw2()), (0x90, 0x00));
+    Ok(())
+}
+
+#[test]
+fn sizes_of_pieces(rt: HostRuntime) {
+    let value = [0x42; 4080];
+    for (size, commands, last) in [
+        (0, 1, 0),
+        (255, 1, 255),
+        (256, 2, 1),
+        (510, 2, 255),
+        (2048, 9, 8),
+        (4080, 16, 255),
+    ] {
+        let mut seen = 0;
+        for (number, command) in (1..=20).zip(pieces(PUT, &value[..size])) {
+            seen = number;
+            let is_last = number == commands;
+            let cla = if is_last { 0x00 } else { 0x10 };
+            assert_eq!(rt; command.header(), Header { cla, ..PUT });
+            assert_eq!(rt; command.data().len(), if is_last { last } else { 255 });
+            assert_eq!(rt; command.le(), None);
+        }
+        assert_eq!(rt; seen, commands, "{size} bytes");
+    }
+}
+
+#[test]
+fn a_chain_within_its_limit(rt: HostRuntime) -> Result<(), Fail> {
+    let first = Header { cla: 0x10, ..PUT };
+    let mut chain = Chain::with_room(rt.alloc(), 4)?;
+    assert!(rt; !chain.is_pending() && chain.accepts(first));
+    assert_eq!(rt; chain.add(first, &[1, 2, 3]), Ok(()));
+    for (header, accepted) in [
+        (PUT, true),
+        (first, true),
+        (Header { p2: 0x21, ..first }, false),
+        (Header { cla: 0x80, ..PUT }, false),
+    ] {
+        assert_eq!(rt; chain.accepts(header), accepted, "{header:?}");
+    }
+    assert!(rt; chain.accepts(PUT));
+    assert_eq!(rt; chain.add(PUT, &[4, 5]), Err(TooLong));
+    assert_eq!(rt; chain.bytes(), [1, 2, 3].as_slice());
+    assert!(rt; chain.len() == 3);
+    chain.keep_first(1);
+    assert_eq!(rt; chain.bytes(), [1].as_slice());
+    assert!(rt; chain.is_pending());
+    chain.drop_all();
+    assert!(rt; !chain.is_pending() && chain.len() == 0);
+    Ok(())
+}
+
+#[test]
+fn an_empty_chain_is_pending(rt: HostRuntime) -> Result<(), Fail> {
+    let mut chain = Chain::with_room(rt.alloc(), 0)?;
+    assert!(rt; chain.accepts(PUT));
+    assert_eq!(rt; chain.add(PUT, &[]), Ok(()));
+    assert!(rt; chain.is_pending() && chain.len() == 0);
+    Ok(())
+}
+
+/// Holds also where any allocation is refused.
+#[test]
+fn writing_is_all_or_nothing(rt: HostRuntime) -> Result<(), Fail> {
+    let command = Command::read(&SELECT)?;
+    let Ok(mut out) = vec![in rt.alloc(); 7] else {
+        return Ok(());
+    };
+    let written = command.write(&mut out).is_ok();
+    assert_eq!(rt; out.first(), Some(&7));
+    let rest: &[u8] = if written { &SELECT } else { &[] };
+    assert_eq!(rt; &out[1..], rest);
+    Ok(())
+}
+
+#[test]
+fn no_room_for_a_chain(rt: HostRuntime) {
+    assert!(rt; Chain::with_room(rt.alloc(), usize::MAX).is_err());
+}

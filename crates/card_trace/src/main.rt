@@ -7,6 +7,8 @@ mod first_card;
 mod first_lines;
 mod play_fault;
 mod session;
+#[cfg(test)]
+mod tests;
 mod trace;
 
 use std::io;

@@ -21,3 +21,6 @@ pub use plan::{Plan, Plans, Step};
 pub use recorder::Recorder;
 pub use tpdu_card::{TpduCard, Verdict};
 pub use watch::{Silent, Watch};
+
+#[cfg(test)]
+mod tests;

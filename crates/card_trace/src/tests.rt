@@ -1,0 +1,108 @@
+ghost use Rattle.std.specs.Prelude.{◌≤◌, length};
+
+use std::alloc::Global;
+use std::io;
+use std::io::Write;
+use std::test::Fail;
+
+use apdu_core::Command;
+use t0_core::{HostTurn, LineFault};
+use tlv_core::ObjectTag;
+
+use crate::exchange::Exchange;
+use crate::first_card::FirstCard;
+use crate::first_lines::{first_lines, get_lines};
+use crate::play_fault::PlayFault;
+
+/// The trace of a GET DATA from a card of one object.
+fn traced(
+    alloc: Global,
+    held: (u8, u8),
+    value: &[u8],
+    asked: (u8, u8),
+) -> Result<Vec<u8>, Fail>
+    requires { length value.now ≤ 127 }
+{
+    let tag = ObjectTag::from_p1p2(held.0, held.1).ok_or("the tag held")?;
+    let asked = ObjectTag::from_p1p2(asked.0, asked.1).ok_or("the tag asked for")?;
+    let _ = tag.tag();
+    let mut text = Vec::new(alloc);
+    get_lines(alloc, FirstCard::new(tag, value), asked, &mut text)?;
+    Ok(text)
+}
+
+#[test]
+fn name_is_brought_after_a_correction(rt: HostRuntime) -> Result<(), Fail> {
+    let mut text = Vec::new(rt.alloc());
+    first_lines(rt.alloc(), &mut text)?;
+    assert_eq!(rt; text.as_slice(),
+        b"> 00CA5F2000\n< 6C06\n> 00CA5F2006\n< CA5F20034A4F459000\n= 9000 5F20034A4F45\n".as_slice());
+    Ok(())
+}
+
+#[test]
+fn empty_value_and_unknown_tag(rt: HostRuntime) -> Result<(), Fail> {
+    let text = traced(rt.alloc(), (0x5F, 0x20), &[], (0x5F, 0x20))?;
+    assert_eq!(rt; text.as_slice(),
+        b"> 00CA5F2000\n< 6C03\n> 00CA5F2003\n< CA5F20009000\n= 9000 5F2000\n".as_slice());
+    let text = traced(rt.alloc(), (0x5F, 0x20), &[0x4A, 0x4F, 0x45], (0x9F, 0x36))?;
+    assert_eq!(rt; text.as_slice(), b"> 00CA9F3600\n< 6A88\n= 6A88\n".as_slice());
+    Ok(())
+}
+
+#[test]
+fn longest_value(rt: HostRuntime) -> Result<(), Fail> {
+    let text = traced(rt.alloc(), (0x00, 0x50), &[0x41; 127], (0x00, 0x50))?;
+    let mut wanted = Vec::from_slice(rt.alloc(), b"> 00CA005000\n< 6C81\n> 00CA005081\n< CA507F")?;
+    for _ in 0..127 {
+        wanted.extend_from_slice(b"41")?;
+    }
+    wanted.extend_from_slice(b"9000\n= 9000 507F")?;
+    for _ in 0..127 {
+        wanted.extend_from_slice(b"41")?;
+    }
+    wanted.extend_from_slice(b"\n")?;
+    assert_eq!(rt; text.as_slice(), wanted.as_slice());
+    Ok(())
+}
+
+#[test]
+fn faults_of_an_exchange(rt: HostRuntime) -> Result<(), Fail> {
+    let Ok(command) = Command::read(&[0x00, 0xCA, 0x5F, 0x20, 0x00]) else {
+        return Err("the command".into());
+    };
+    let le = command.le();
+    assert!(rt; le == Some(256));
+    assert!(rt; command.data().is_empty());
+    let mut exchange = Exchange::start(rt.alloc(), &command)?;
+    assert_eq!(rt; exchange.take(0x90), Err(LineFault::NotListening));
+    for byte in [0x00, 0xCA, 0x5F, 0x20, 0x00] {
+        assert_eq!(rt; exchange.next(), HostTurn::Sends(byte));
+    }
+    assert_eq!(rt; exchange.take(0x41), Err(LineFault::BadProcedure(0x41)));
+    for byte in [0x41, 0x90, 0xCA] {
+        assert_eq!(rt; exchange.take(byte), Err(LineFault::AfterEnd));
+    }
+    assert!(rt; exchange.into_answer().is_none());
+    Ok(())
+}
+
+/// A writer that fails.
+#[derive(Drop)]
+struct Broken;
+
+impl Write for Broken {
+    fn write(&mut self, _buf: &[u8]) -> io::Result<usize> {
+        Err(io::Error::from(io::ErrorKind::Other))
+    }
+
+    fn flush(&mut self) -> io::Result<()> {
+        Ok(())
+    }
+}
+
+#[test]
+fn failing_writer_is_a_write_fault(rt: HostRuntime) {
+    let result = first_lines(rt.alloc(), &mut Broken);
+    assert!(rt; matches!(result, Err(PlayFault::Write)));
+}

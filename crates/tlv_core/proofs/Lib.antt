@@ -1,0 +1,4 @@
+pub mod Fronts
+pub mod OneForest
+pub mod Shortest
+pub mod Written

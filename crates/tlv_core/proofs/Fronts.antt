@@ -1,29 +1,16 @@
 -- Bytes begin with one padding, one tag, one spelling of a length and one value.
-use Rattle.std.proofs.Common.{◌≡◌, ℕ, ◌<◌, List, [], ◌∷◌, ◌++◌, length, refl, arith}
+use Rattle.std.proofs.Common.{◌≡◌, ℕ, ◌+◌, ◌*◌, ◌%◌, ◌<◌, List, [], ◌∷◌, ◌++◌, length, refl, sym, ap, ◌∙◌, arith}
 use Rattle.std.specs.List.{All}
 use Rattle.std.proofs.lemmas.List.Elements.{All-head, All-tail}
+use Rattle.std.proofs.lemmas.List.{append_cancel_left}
+use Rattle.tlv_core.proofs.Tags.{tags_agree}
 use Rattle.tlv_core.specs.TagForm.{IsTag}
 use Rattle.tlv_core.specs.Length.{SpellsLength}
 
 -- bytes that start with a tag and with another start with one tag
 pub one_tag : (t u r s : List ℕ) → IsTag t → IsTag u → t ++ r ≡ u ++ s → (t ≡ u) × (r ≡ s)
-one_tag [] u r s h k e = absurd h
-one_tag (a ∷ b ∷ c ∷ d ∷ t) u r s h k e = absurd h
-one_tag (a ∷ []) [] r s h k e = absurd k
-one_tag (a ∷ []) (b ∷ []) r s h k e = (cc, cc)
-one_tag (a ∷ []) (b ∷ d ∷ []) r s h k e = let p : a ≡ b = cc in absurd (h.2 (rw p k.1))
-one_tag (a ∷ []) (b ∷ d ∷ f ∷ []) r s h k e = let p : a ≡ b = cc in absurd (h.2 (rw p k.1))
-one_tag (a ∷ []) (b ∷ d ∷ f ∷ g ∷ u) r s h k e = absurd k
-one_tag (a ∷ c ∷ []) [] r s h k e = absurd k
-one_tag (a ∷ c ∷ []) (b ∷ []) r s h k e = let p : b ≡ a = cc in absurd (k.2 (rw p h.1))
-one_tag (a ∷ c ∷ []) (b ∷ d ∷ []) r s h k e = (cc, cc)
-one_tag (a ∷ c ∷ []) (b ∷ d ∷ f ∷ []) r s h k e = let p : c ≡ d = cc in absurd (omega arith)
-one_tag (a ∷ c ∷ []) (b ∷ d ∷ f ∷ g ∷ u) r s h k e = absurd k
-one_tag (a ∷ c ∷ i ∷ []) [] r s h k e = absurd k
-one_tag (a ∷ c ∷ i ∷ []) (b ∷ []) r s h k e = let p : b ≡ a = cc in absurd (k.2 (rw p h.1))
-one_tag (a ∷ c ∷ i ∷ []) (b ∷ d ∷ []) r s h k e = let p : c ≡ d = cc in absurd (omega arith)
-one_tag (a ∷ c ∷ i ∷ []) (b ∷ d ∷ f ∷ []) r s h k e = (cc, cc)
-one_tag (a ∷ c ∷ i ∷ []) (b ∷ d ∷ f ∷ g ∷ u) r s h k e = absurd k
+one_tag t u r s h k e =
+    let same = tags_agree t u r s h k e in (same, append_cancel_left u r s (ap (λ x. x ++ r) (sym same) ∙ e))
 
 -- bytes that start with a spelling of a length and with another start with one, of one length
 pub one_length : (x y r s : List ℕ) (m n : ℕ) → SpellsLength x m → SpellsLength y n → x ++ r ≡ y ++ s → (m ≡ n) × (r ≡ s)

@@ -1,4 +1,7 @@
+pub mod Addresses
 pub mod Fronts
 pub mod OneForest
 pub mod Shortest
+pub mod Tags
+pub mod Vectors
 pub mod Written

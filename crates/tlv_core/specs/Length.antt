@@ -1,5 +1,6 @@
 -- Lengths of values (EMV Book 3, Annex B).
-use Rattle.std.specs.Prelude.{◌≡◌, ℕ, ◌+◌, ◌-◌, ◌*◌, ◌/◌, ◌%◌, ◌<◌, List, [], ◌∷◌, length, nat_lt, if◌then◌else◌}
+use Rattle.std.specs.Prelude.{◌≡◌, ℕ, ◌+◌, ◌-◌, ◌*◌, ◌/◌, ◌%◌, ◌<◌, List, [], ◌∷◌, ◌++◌, length, nat_lt, if◌then◌else◌}
+use Rattle.tlv_core.specs.TagForm.{IsProperPrefix}
 
 -- the spellings of a length
 abbrev pub SpellsLength : List ℕ → ℕ → Type 0
@@ -14,3 +15,11 @@ shortest n =
     if nat_lt n 0x80 then n ∷ []
     else if nat_lt n 0x100 then 0x81 ∷ n ∷ []
     else 0x82 ∷ n / 256 ∷ n % 256 ∷ []
+
+-- the bytes start with the spelling of some length
+abbrev pub StartsWithLength : List ℕ → Type 0
+StartsWithLength bytes = (size rest : List ℕ) × (n : ℕ) × SpellsLength size n × (bytes ≡ size ++ rest)
+
+-- the bytes end inside the spelling of a length, or before it
+abbrev pub EndsInsideLength : List ℕ → Type 0
+EndsInsideLength bytes = (size : List ℕ) × (n : ℕ) × SpellsLength size n × IsProperPrefix bytes size

@@ -1,5 +1,9 @@
 pub mod TagForm
+pub mod Tag
+pub mod Front
 pub mod Length
 pub mod Spelling
+pub mod Place
 pub mod FirstFault
+pub mod Path
 pub mod Address

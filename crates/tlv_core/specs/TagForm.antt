@@ -1,7 +1,8 @@
 -- Tags (EMV Book 3, Annex B).
-use Rattle.std.specs.Prelude.{◌≡◌, ◌≢◌, ℕ, ◌-◌, ◌/◌, ◌%◌, ◌<◌, List, [], ◌∷◌, Bool, false, ◌==◌}
+use Rattle.std.specs.Prelude.{◌≡◌, ◌≢◌, ℕ, ◌-◌, ◌/◌, ◌%◌, ◌<◌, List, [], ◌∷◌, ◌++◌, Bool, false, ◌==◌}
 
--- A tag has one to three bytes. Bits 5 to 1 of its first byte, all ones, say that a second byte follows.
+-- A tag has one to three bytes (three at most: this project's profile). Bits 5 to 1 of its first
+-- byte, all ones, say that a second byte follows; bit 8 of the second, that a third one does.
 abbrev pub IsTag : List ℕ → Type 0
 IsTag (a ∷ []) = (0 < a) × (a < 256) × (a % 32 ≢ 31)
 IsTag (a ∷ b ∷ []) = (a < 256) × (a % 32 ≡ 31) × (0 < b) × (b < 128)
@@ -12,3 +13,14 @@ IsTag _ = ⊥
 abbrev pub is_constructed : List ℕ → Bool
 is_constructed [] = false
 is_constructed (a ∷ _) = a / 32 % 2 == 1
+
+abbrev pub IsProperPrefix : List ℕ → List ℕ → Type 0
+IsProperPrefix front whole = (rest : List ℕ) × (front ++ rest ≡ whole) × (rest ≢ [])
+
+-- the bytes start with a tag
+abbrev pub StartsWithTag : List ℕ → Type 0
+StartsWithTag bytes = (tag rest : List ℕ) × IsTag tag × (bytes ≡ tag ++ rest)
+
+-- the bytes end inside a tag, or before it
+abbrev pub EndsInsideTag : List ℕ → Type 0
+EndsInsideTag bytes = (tag : List ℕ) × IsTag tag × IsProperPrefix bytes tag

@@ -1,3 +1,16 @@
 #![tactic(auto)]
 
+//! Data objects of smart cards: tag, length and value by EMV Book 3, Annex B.
+
+pub mod fault;
 pub mod forest_laws;
+pub mod heads;
+pub mod object_tag;
+pub mod short_head;
+pub mod tag;
+
+pub use fault::{Reason, TlvFault};
+pub use heads::head;
+pub use object_tag::ObjectTag;
+pub use short_head::Head;
+pub use tag::Tag;

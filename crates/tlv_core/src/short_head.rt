@@ -1,0 +1,29 @@
+ghost use Rattle.std.specs.Prelude.{◌≡◌};
+
+use std::marker::Model;
+
+/// A tag and a length in its shortest spelling: at most 6 bytes. Contracts see it as these bytes.
+#[derive(Drop)]
+pub struct Head {
+    pub(crate) bytes: [u8; 6],
+    pub(crate) len: usize,
+}
+
+impl Model for Head {
+    ghost use Rattle.std.specs.Prelude.{List, ℕ, take, ◌≤◌};
+
+    ghost Value = { List ℕ };
+
+    ghost view = { λ h. take h.len h.bytes };
+
+    ghost invariant = { λ h. h.len ≤ 6 };
+}
+
+impl Head {
+    /// The bytes: a tag and a length, two to six of them.
+    pub fn bytes(&self) -> &[u8]
+        ensures { result.now ≡ self.now }
+    {
+        &self.bytes[..self.len]
+    }
+}

@@ -1,5 +1,6 @@
 pub mod Addresses
 pub mod Fronts
+pub mod ItemLists
 pub mod OneForest
 pub mod Shortest
 pub mod Tags

@@ -3,6 +3,9 @@ pub mod Tag
 pub mod Front
 pub mod Length
 pub mod Spelling
+pub mod Items
+pub mod Nodes
+pub mod NodesFall
 pub mod Place
 pub mod FirstFault
 pub mod Path

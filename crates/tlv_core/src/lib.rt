@@ -2,15 +2,21 @@
 
 //! Data objects of smart cards: tag, length and value by EMV Book 3, Annex B.
 
+pub mod build_fault;
 pub mod fault;
+pub mod forest;
 pub mod forest_laws;
 pub mod heads;
+pub mod node;
 pub mod object_tag;
 pub mod short_head;
 pub mod tag;
 
+pub use build_fault::BuildFault;
 pub use fault::{Reason, TlvFault};
+pub use forest::Forest;
 pub use heads::head;
+pub use node::Node;
 pub use object_tag::ObjectTag;
 pub use short_head::Head;
 pub use tag::Tag;

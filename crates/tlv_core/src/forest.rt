@@ -99,12 +99,10 @@ impl Forest {
         if tag.is_constructed() {
             return Err(BuildFault::WrongKind);
         }
-        let Ok(len) = u16::try_from(value.len()) else {
+        if value.len() >= TOO_LONG {
             return Err(BuildFault::TooLong);
-        };
-        let size = object_size(tag, len);
-        let content = Content::Primitive(value);
-        self.add(Node { tag, content }, size, 1)?;
+        }
+        self.add_primitive(tag, value)?;
         Ok(())
     }
 
@@ -121,22 +119,47 @@ impl Forest {
         ensures wrong_kind { IsErrOf result BuildFault.WrongKind ↔ (is_constructed tag ≡ false) }
         ensures too_long { IsErrOf result BuildFault.TooLong ↔ (is_constructed tag ≡ true) × (longest < length (encoding children)) }
         ensures too_deep { IsErrOf result BuildFault.TooDeep
-            ↔ (is_constructed tag ≡ true) × (length (encoding children) ≤ longest) × (deepest < levels children + 1) }
+            ↔ (is_constructed tag ≡ true) × (length (encoding children) ≤ longest) × (deepest ≤ levels children) }
     {
         if !tag.is_constructed() {
             return Err(BuildFault::WrongKind);
         }
-        let Ok(len) = u16::try_from(children.written) else {
+        if children.written >= TOO_LONG {
             return Err(BuildFault::TooLong);
-        };
-        let levels = children.levels + 1;
-        if levels > DEEPEST {
+        }
+        if children.levels >= DEEPEST {
             return Err(BuildFault::TooDeep);
         }
-        let size = object_size(tag, len);
-        let content = Content::Template(children);
-        self.add(Node { tag, content }, size, levels)?;
+        self.add_template(tag, children)?;
         Ok(())
+    }
+
+    /// Adds a primitive that can be written.
+    pub(crate) fn add_primitive(&mut self, tag: Tag, value: Vec<u8>) -> Result<(), AllocError>
+        requires tag { IsTag tag }
+        requires kind { is_constructed tag ≡ false }
+        requires fits { length value.items ≤ longest }
+        ensures ok { OnOk result (self.new ≡ with_last self.old (PrimitiveItem tag value.items)) }
+        ensures err { OnErr result (self.new ≡ self.old) }
+    {
+        let size = object_size(tag, value.len());
+        let content = Content::Primitive(value);
+        self.add(Node { tag, content }, size, 1)
+    }
+
+    /// Adds a template that can be written.
+    pub(crate) fn add_template(&mut self, tag: Tag, children: Forest) -> Result<(), AllocError>
+        requires tag { IsTag tag }
+        requires kind { is_constructed tag ≡ true }
+        requires fits { length (encoding children) ≤ longest }
+        requires in_depth { levels children < deepest }
+        ensures ok { OnOk result (self.new ≡ with_last self.old (TemplateItem tag children)) }
+        ensures err { OnErr result (self.new ≡ self.old) }
+    {
+        let size = object_size(tag, children.written);
+        let depth = children.levels + 1;
+        let content = Content::Template(children);
+        self.add(Node { tag, content }, size, depth)
     }
 
     /// Adds an object of `size` bytes, with so many levels.
@@ -181,11 +204,12 @@ impl Forest {
 }
 
 /// The bytes of an object with this tag and a value of `len` bytes.
-fn object_size(tag: Tag, len: u16) -> usize
-    requires { IsTag tag }
+fn object_size(tag: Tag, len: usize) -> usize
+    requires tag { IsTag tag }
+    requires fits { len ≤ longest }
     ensures { result ≡ length tag + length (shortest len) + len }
 {
-    head(tag, len).bytes().len() + usize::from(len)
+    head(tag, len as u16).bytes().len() + len
 }
 
 /// Appends a tag, and a length in its shortest spelling.

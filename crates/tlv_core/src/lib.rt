@@ -20,3 +20,6 @@ pub use node::Node;
 pub use object_tag::ObjectTag;
 pub use short_head::Head;
 pub use tag::Tag;
+
+#[cfg(test)]
+mod forest_tests;

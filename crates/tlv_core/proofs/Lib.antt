@@ -7,3 +7,4 @@ pub mod Places
 pub mod Spelled
 pub mod Tags
 pub mod Vectors
+pub mod Walk

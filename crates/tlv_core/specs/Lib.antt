@@ -3,6 +3,7 @@ pub mod Tag
 pub mod Front
 pub mod Length
 pub mod Spelling
+pub mod Object
 pub mod Place
 pub mod FirstFault
 pub mod Path

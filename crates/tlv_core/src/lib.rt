@@ -2,14 +2,18 @@
 
 //! Data objects of smart cards: tag, length and value by EMV Book 3, Annex B.
 
+mod check;
 pub mod fault;
+mod front;
 pub mod heads;
 pub mod object_tag;
+pub mod objects;
 pub mod short_head;
 pub mod tag;
 
 pub use fault::{Reason, TlvFault};
 pub use heads::head;
 pub use object_tag::ObjectTag;
+pub use objects::{Obj, Objects};
 pub use short_head::Head;
 pub use tag::Tag;

@@ -1,6 +1,7 @@
 pub mod Addresses
 pub mod Agree
 pub mod Faults
+pub mod Found
 pub mod Lengths
 pub mod Starts
 pub mod Places

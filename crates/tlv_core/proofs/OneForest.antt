@@ -3,7 +3,10 @@ use Rattle.std.proofs.Common.{◌≡◌, ℕ, suc, ◌<◌, List, ◌∷◌, ◌
 use Rattle.std.specs.List.{All}
 use Rattle.tlv_core.specs.TagForm.{is_constructed}
 use Rattle.tlv_core.specs.Spelling.{Forest, Empty, Primitive, Template, Begins, Spells}
-use Rattle.tlv_core.proofs.Fronts.{one_tag, one_length, one_front, tag_front, one_padding, not_in_padding}
+use Rattle.tlv_core.proofs.Paddings.{tag_front, one_padding, not_in_padding}
+use Rattle.tlv_core.proofs.Lengths.{sizes_agree}
+use Rattle.tlv_core.proofs.Starts.{after_tags_agree, fronts_agree}
+use Rattle.std.proofs.lemmas.List.{append_cancel_left}
 
 -- what follows the padding starts with a byte that is none
 pub record IsAfterPadding (bytes padding tail : List ℕ) : Type 0 where
@@ -38,9 +41,10 @@ one_object bytes p t s v r q u x w z level h k =
     let a = after_padding bytes p t s v r level h in
     let b = after_padding bytes q u x w z level k in
     let starts = one_padding p q a.more b.more a.first b.first h.is_padding k.is_padding a.is_none b.is_none (sym a.bytes_are ∙ b.bytes_are) in
-    let tags = one_tag t u (s ++ (v ++ r)) (x ++ (w ++ z)) h.is_tag k.is_tag (sym a.tail_is ∙ starts.1 ∙ b.tail_is) in
-    let lengths = one_length s x (v ++ r) (w ++ z) (length v) (length w) h.is_size k.is_size tags.1 in
-    let values = one_front v w r z lengths.0 lengths.1 in
+    let tags = after_tags_agree t u (s ++ (v ++ r)) (x ++ (w ++ z)) h.is_tag k.is_tag (sym a.tail_is ∙ starts.1 ∙ b.tail_is) in
+    let sizes = sizes_agree s x (v ++ r) (w ++ z) (length v) (length w) h.is_size k.is_size tags.1 in
+    let after = append_cancel_left s (v ++ r) (w ++ z) (tags.1 ∙ ap (λ y. y ++ (w ++ z)) (sym sizes.0)) in
+    let values = fronts_agree v w r z sizes.1 after in
     (tags.0, values.0, values.1)
 
 -- padding alone has no object

@@ -6,6 +6,7 @@ pub mod Spelling
 pub mod Items
 pub mod Nodes
 pub mod NodesFall
+pub mod Object
 pub mod Place
 pub mod FirstFault
 pub mod Path

@@ -31,6 +31,10 @@ Spells (Template tag children rest) bytes level =
     (padding size value more : List ℕ) × Begins bytes padding tag size value more level × (is_constructed tag ≡ true)
     × Spells children value (suc level) × Spells rest more level
 
+-- the bytes are a list of objects at this level
+abbrev pub AreObjects : List ℕ → ℕ → Type 0
+AreObjects bytes level = (forest : Forest) × Spells forest bytes level
+
 -- one object, with the shortest length
 abbrev pub object_bytes : List ℕ → List ℕ → List ℕ
 object_bytes tag value = tag ++ shortest (length value) ++ value

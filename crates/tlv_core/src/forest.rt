@@ -6,6 +6,7 @@ ghost use Rattle.tlv_core.specs.Spelling.{Empty, HasSoundObjects, object_bytes, 
 ghost use Rattle.tlv_core.specs.Items.{PrimitiveItem, TemplateItem, items, with_first, with_last};
 
 use crate::build_fault::BuildFault;
+use crate::front::DEEPEST;
 use crate::heads::head;
 use crate::node::{Content, Node};
 use crate::tag::Tag;
@@ -14,9 +15,6 @@ use std::marker::Model;
 
 /// The least number of bytes that no value has.
 const TOO_LONG: usize = 65_536;
-
-/// The deepest level that an object may lie at.
-const DEEPEST: u8 = 16;
 
 /// A list of objects. Contracts see it as the forest that it stands for.
 #[cycle(forest)]
@@ -96,7 +94,7 @@ impl Forest {
         ensures too_long { IsErrOf result BuildFault.TooLong ↔ (is_constructed tag ≡ false) × (longest < length value.items) }
         ensures never_too_deep { result ≢ Err BuildFault.TooDeep }
     {
-        if tag.is_constructed() {
+        if !tag.is_primitive() {
             return Err(BuildFault::WrongKind);
         }
         if value.len() >= TOO_LONG {
@@ -121,7 +119,7 @@ impl Forest {
         ensures too_deep { IsErrOf result BuildFault.TooDeep
             ↔ (is_constructed tag ≡ true) × (length (encoding children) ≤ longest) × (deepest ≤ levels children) }
     {
-        if !tag.is_constructed() {
+        if tag.is_primitive() {
             return Err(BuildFault::WrongKind);
         }
         if children.written >= TOO_LONG {

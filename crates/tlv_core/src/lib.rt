@@ -3,14 +3,19 @@
 //! Data objects of smart cards: tag, length and value by EMV Book 3, Annex B.
 
 pub mod build_fault;
+mod check;
 pub mod fault;
 pub mod forest;
 pub mod forest_laws;
+mod front;
 pub mod heads;
 pub mod node;
 pub mod object_tag;
+pub mod objects;
+pub mod read_fault;
 pub mod short_head;
 pub mod tag;
+pub mod tree;
 
 pub use build_fault::BuildFault;
 pub use fault::{Reason, TlvFault};
@@ -18,8 +23,11 @@ pub use forest::Forest;
 pub use heads::head;
 pub use node::Node;
 pub use object_tag::ObjectTag;
+pub use objects::{Obj, Objects};
+pub use read_fault::ReadFault;
 pub use short_head::Head;
 pub use tag::Tag;
+pub use tree::Tree;
 
 #[cfg(test)]
 mod forest_tests;

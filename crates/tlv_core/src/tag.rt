@@ -1,4 +1,4 @@
-ghost use Rattle.std.specs.Prelude.{◌≡◌, ◌↔◌, ◌++◌, ℕ, List, length, IfOk, IsErrOf, IsOk};
+ghost use Rattle.std.specs.Prelude.{◌≡◌, ◌↔◌, ◌++◌, ℕ, List, length, false, IfOk, IsErrOf, IsOk, IsTrue};
 ghost use Rattle.tlv_core.specs.TagForm.{IsTag, StartsWithTag, EndsInsideTag, is_constructed};
 ghost use Rattle.tlv_core.specs.Front.{IsFrontTag};
 
@@ -48,10 +48,17 @@ impl Tag {
 
     /// Whether the value is a list of objects: bit 6 of the first byte.
     pub fn is_constructed(&self) -> bool
-        ensures kind { result ≡ is_constructed self.now }
-        ensures tag { IsTag self.now }
+        ensures { result ≡ is_constructed self.now }
     {
         self.bytes[0] / 32 % 2 == 1
+    }
+
+    /// Whether the value is any bytes.
+    pub(crate) fn is_primitive(&self) -> bool
+        ensures kind { IsTrue result ↔ (is_constructed self.now ≡ false) }
+        ensures tag { IsTag self.now }
+    {
+        self.bytes[0] / 32 % 2 == 0
     }
 
     /// The bytes of the tag, one to three.

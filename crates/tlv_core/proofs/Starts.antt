@@ -1,0 +1,170 @@
+-- An object at the front of bytes.
+use Rattle.std.proofs.Common.{◌≡◌, ◌≢◌, ℕ, suc, ◌+◌, ◌-◌, ◌<◌, ◌≤◌, List, [], ◌∷◌, ◌++◌, length, take, drop, refl, sym, ap, arith, append_assoc, length-append, append-nil, ◌∙◌, ◌⊎◌, inl, inr, Err, true}
+use Rattle.std.proofs.lemmas.List.{append_cancel_left, take_at, drop_at, take-append-drop, length-take-le, take_all}
+use Rattle.std.proofs.lemmas.Bool.{cases_lt}
+use Rattle.tlv_core.specs.TagForm.{IsTag, StartsWithTag, EndsInsideTag, is_constructed}
+use Rattle.tlv_core.specs.Length.{SpellsLength, StartsWithLength, EndsInsideLength}
+use Rattle.tlv_core.specs.Spelling.{deepest}
+use Rattle.tlv_core.specs.Place.{StartsWith}
+use Rattle.tlv_core.specs.FirstFault.{FailsFor, IsAtObject}
+use Rattle.tlv_core.specs.Front.{IsFrontSpelling, HasNoFrontLength}
+use Rattle.tlv_core.specs.declared.fault.Reason.{Reason}
+use Rattle.tlv_core.specs.declared.fault.Reason.TheVariants.{TagCut, TagForm, LengthCut, LengthForm, ValueCut, TooDeep}
+use Rattle.tlv_core.proofs.Tags.{tags_agree, start_is_not_inside, tag_cases}
+use Rattle.tlv_core.proofs.Lengths.{sizes_agree, length_start_is_not_inside, length_cases}
+
+-- Lists of one length that start one list are equal, and so is what follows them.
+pub fronts_agree : (s t x y : List ℕ) → length s ≡ length t → s ++ x ≡ t ++ y → (s ≡ t) × (x ≡ y)
+fronts_agree s t x y same e = (
+  sym (take_at s x (length s) refl) ∙ ap (take (length s)) e ∙ take_at t y (length s) (sym same),
+  sym (drop_at s x (length s) refl) ∙ ap (drop (length s)) e ∙ drop_at t y (length s) (sym same),
+)
+
+-- What follows the tag that bytes start with.
+pub after_tags_agree : (s t x y : List ℕ) → IsTag s → IsTag t → s ++ x ≡ t ++ y → (s ≡ t) × (x ≡ y)
+after_tags_agree s t x y hs ht e = fronts_agree s t x y (ap length (tags_agree s t x y hs ht e)) e
+
+regroup : (t s v r : List ℕ) → t ++ s ++ v ++ r ≡ t ++ (s ++ (v ++ r))
+regroup t s v r = simp append_assoc
+
+-- Bytes start with at most one object.
+pub record SameObject (t s v r t' s' v' r' : List ℕ) : Type 0 where
+  pub tag : t ≡ t'
+  pub size : s ≡ s'
+  pub value : v ≡ v'
+  pub rest : r ≡ r'
+
+pub starts_agree : (bytes t s v r t' s' v' r' : List ℕ) → StartsWith bytes t s v r → StartsWith bytes t' s' v' r' → SameObject t s v r t' s' v' r'
+starts_agree bytes t s v r t' s' v' r' h k =
+    let e = after_tags_agree t t' (s ++ (v ++ r)) (s' ++ (v' ++ r')) h.is_tag k.is_tag
+    (sym (regroup t s v r) ∙ sym h.spelled ∙ k.spelled ∙ regroup t' s' v' r') in
+    let z = sizes_agree s s' (v ++ r) (v' ++ r') (length v) (length v') h.is_size k.is_size e.1 in
+    let w = fronts_agree s s' (v ++ r) (v' ++ r') (ap length z.0) e.1 in
+    let u = fronts_agree v v' r r' z.1 w.1 in
+    record { tag = e.0; size = z.0; value = u.0; rest = u.1 }
+
+-- A tag has at least one byte, and does not start with 00.
+pub tag_is_some : (t : List ℕ) → IsTag t → 0 < length t
+tag_is_some [] h = absurd h
+tag_is_some (a ∷ t) h = omega arith
+
+pub tag_at_object : (t x : List ℕ) → IsTag t → IsAtObject (t ++ x)
+tag_at_object [] x h = absurd h
+tag_at_object (a ∷ []) x h = λ e. omega arith
+tag_at_object (a ∷ b ∷ []) x h = λ e. omega arith
+tag_at_object (a ∷ b ∷ c ∷ []) x h = λ e. omega arith
+tag_at_object (a ∷ b ∷ c ∷ d ∷ t) x h = absurd h
+
+pub starts_at_object : (bytes t s v r : List ℕ) → StartsWith bytes t s v r → IsAtObject bytes
+starts_at_object bytes t s v r h = rw (h.spelled, regroup t s v r) (tag_at_object t (s ++ (v ++ r)) h.is_tag)
+
+pub zero_starts_none : (rest t s v r : List ℕ) → StartsWith (0 ∷ rest) t s v r → ⊥
+zero_starts_none rest t s v r h = starts_at_object (0 ∷ rest) t s v r h refl
+
+-- Bytes that start with an object of this level fail for no reason.
+pub starts_fails_not : (bytes t s v r : List ℕ) (level : ℕ) (reason : Reason) → StartsWith bytes t s v r → level ≤ deepest
+    → FailsFor bytes level reason → ⊥
+starts_fails_not bytes t s v r level TooDeep h low f = omega arith
+starts_fails_not bytes t s v r level TagCut h low f =
+    start_is_not_inside bytes (t, s ++ (v ++ r), h.is_tag, h.spelled ∙ regroup t s v r) f.1
+starts_fails_not bytes t s v r level TagForm h low f = f.2 (t, s ++ (v ++ r), h.is_tag, h.spelled ∙ regroup t s v r)
+starts_fails_not bytes t s v r level LengthCut h low (level_ok, (tag, rest, is_tag, e, inside)) =
+    let same = after_tags_agree t tag (s ++ (v ++ r)) rest h.is_tag is_tag (sym (regroup t s v r) ∙ sym h.spelled ∙ e) in
+    length_start_is_not_inside rest (s, v ++ r, length v, h.is_size, sym same.1) inside
+starts_fails_not bytes t s v r level LengthForm h low (level_ok, (tag, rest, is_tag, e, inside, starts)) =
+    let same = after_tags_agree t tag (s ++ (v ++ r)) rest h.is_tag is_tag (sym (regroup t s v r) ∙ sym h.spelled ∙ e) in
+    starts (s, v ++ r, length v, h.is_size, sym same.1)
+starts_fails_not bytes t s v r level ValueCut h low (level_ok, (tag, size, rest, n, is_tag, is_size, e, short)) =
+    let same = after_tags_agree t tag (s ++ (v ++ r)) (size ++ rest) h.is_tag is_tag
+    (sym (regroup t s v r) ∙ sym h.spelled ∙ e ∙ append_assoc tag size rest) in
+    let z = sizes_agree s size (v ++ r) rest (length v) n h.is_size is_size same.1 in
+    let w = fronts_agree s size (v ++ r) rest (ap length z.0) same.1 in
+    omega (arith, length-append v r, ap length w.1, z.1)
+
+-- Bytes that are neither empty nor padding start with an object, or fail for a reason.
+pub record Whole (bytes : List ℕ) (level : ℕ) : Type 0 where
+  pub tag : List ℕ
+  pub size : List ℕ
+  pub value : List ℕ
+  pub rest : List ℕ
+  pub starts : StartsWith bytes tag size value rest
+  pub in_depth : level ≤ deepest
+
+Answer : List ℕ → ℕ → Type 0
+Answer bytes level = Whole bytes level ⊎ ((reason : Reason) × FailsFor bytes level reason)
+
+value_cases : (bytes tag size rest : List ℕ) (n level : ℕ) → level ≤ deepest → IsTag tag → SpellsLength size n
+    → bytes ≡ tag ++ size ++ rest → Answer bytes level
+unfolding Answer
+value_cases bytes tag size rest n level low is_tag is_size e = elim (cases_lt (length rest) n) [
+  | inl short ↦ inr (ValueCut, (low, (tag, size, rest, n, is_tag, is_size, e, short)))
+  | inr enough ↦ inl (record {
+    tag = tag;
+    size = size;
+    value = take n rest;
+    rest = drop n rest;
+    starts = record {
+      spelled = e ∙ ap (λ x. tag ++ size ++ x) (sym (take-append-drop n rest)) ∙ sym (append_assoc (tag ++ size) (take n rest) (drop n rest));
+      is_tag = is_tag;
+      is_size = rw (length-take-le n rest enough) is_size;
+    };
+    in_depth = low;
+  })
+]
+
+length_answer : (bytes tag rest : List ℕ) (level : ℕ) → level ≤ deepest → IsTag tag → bytes ≡ tag ++ rest → Answer bytes level
+unfolding Answer
+length_answer bytes tag rest level low is_tag e = elim (length_cases rest) [
+  | inl (size, more, n, is_size, f) ↦ value_cases bytes tag size more n level low is_tag is_size
+      (e ∙ ap (λ x. tag ++ x) f ∙ sym (append_assoc tag size more))
+  | inr (inl inside) ↦ inr (LengthCut, (low, (tag, rest, is_tag, e, inside)))
+  | inr (inr form) ↦ inr (LengthForm, (low, (tag, rest, is_tag, e, form.0, form.1)))
+]
+
+pub front_answer : (bytes : List ℕ) (level : ℕ) → Whole bytes level ⊎ ((reason : Reason) × FailsFor bytes level reason)
+unfolding Answer
+front_answer bytes level = elim (cases_lt deepest level) [
+  | inl deep ↦ inr (TooDeep, deep)
+  | inr low ↦ elim (tag_cases bytes) [
+    | inl (tag, rest, is_tag, e) ↦ length_answer bytes tag rest level low is_tag e
+    | inr (inl inside) ↦ inr (TagCut, (low, inside))
+    | inr (inr form) ↦ inr (TagForm, (low, form.0, form.1))
+  ]
+]
+
+-- The parts that a reader cuts: what follows the tag, the spelled length, the value, and the rest.
+pub after_tag : (bytes tag : List ℕ) (n : ℕ) → (rest : List ℕ) × (bytes ≡ tag ++ rest) → n ≡ length tag
+    → bytes ≡ tag ++ take (length bytes - n) (drop n bytes)
+after_tag bytes tag n (rest, e) same =
+    let cut : drop n bytes ≡ rest = ap (drop n) e ∙ drop_at tag rest n (sym same) in
+    let all : take (length bytes - n) rest ≡ rest = take_all (length bytes - n) rest (omega (arith, ap length e, length-append tag rest)) in
+    e ∙ ap (λ x. tag ++ x) (sym all ∙ ap (take (length bytes - n)) (sym cut))
+
+pub fails_for_length : (bytes tag rest : List ℕ) (level : ℕ) (reason : Reason) → level ≤ deepest → IsTag tag → bytes ≡ tag ++ rest
+    → HasNoFrontLength rest reason → FailsFor bytes level reason
+fails_for_length bytes tag rest level LengthCut low is_tag e h = (low, (tag, rest, is_tag, e, h))
+fails_for_length bytes tag rest level LengthForm low is_tag e h = (low, (tag, rest, is_tag, e, h.0, h.1))
+fails_for_length bytes tag rest level TagCut low is_tag e h = absurd h
+fails_for_length bytes tag rest level TagForm low is_tag e h = absurd h
+fails_for_length bytes tag rest level ValueCut low is_tag e h = absurd h
+fails_for_length bytes tag rest level TooDeep low is_tag e h = absurd h
+
+pub whole_object : (bytes tag rest size after value last : List ℕ) (n m : ℕ) → IsTag tag → bytes ≡ tag ++ rest
+    → IsFrontSpelling rest n m → size ≡ take n rest → after ≡ drop n rest → m ≤ length after → value ≡ take m after → last ≡ drop m after
+    → StartsWith bytes tag size value last
+whole_object bytes tag rest size after value last n m is_tag e (s, more, f, len, is_size) cut_size cut_after enough cut_value cut_last =
+    let same_size : size ≡ s = cut_size ∙ ap (take n) f ∙ take_at s more n len in
+    let same_after : after ≡ more = cut_after ∙ ap (drop n) f ∙ drop_at s more n len in
+    let parts : value ++ last ≡ after = ap (λ x. x ++ last) cut_value ∙ ap (λ x. take m after ++ x) cut_last ∙ take-append-drop m after in
+    let value_len : length value ≡ m = ap length cut_value ∙ length-take-le m after enough in
+    record {
+      spelled = e ∙ ap (λ x. tag ++ x) (f ∙ ap (λ x. x ++ more) (sym same_size) ∙ ap (λ x. size ++ x) (sym same_after ∙ sym parts)) ∙ sym (regroup tag size value last);
+      is_tag = is_tag;
+      is_size = rw (same_size, value_len) is_size;
+    }
+
+pub value_is_cut : (bytes tag rest after : List ℕ) (n m level : ℕ) → level ≤ deepest → IsTag tag → bytes ≡ tag ++ rest
+    → IsFrontSpelling rest n m → after ≡ drop n rest → length after < m → FailsFor bytes level ValueCut
+value_is_cut bytes tag rest after n m level low is_tag e (s, more, f, len, is_size) cut_after short =
+    let same_after : after ≡ more = cut_after ∙ ap (drop n) f ∙ drop_at s more n len in
+    (low, (tag, s, more, m, is_tag, is_size, e ∙ ap (λ x. tag ++ x) f ∙ sym (append_assoc tag s more), rw (← same_after) short))

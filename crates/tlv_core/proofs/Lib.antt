@@ -5,6 +5,7 @@ pub mod Found
 pub mod Lengths
 pub mod Starts
 pub mod Places
+pub mod SameTag
 pub mod Spelled
 pub mod Tags
 pub mod Vectors

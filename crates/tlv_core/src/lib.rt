@@ -9,6 +9,7 @@ pub mod heads;
 pub mod object_tag;
 pub mod objects;
 pub mod path;
+pub mod reader_laws;
 pub mod short_head;
 pub mod tag;
 

@@ -9,6 +9,7 @@ pub mod OneForest
 pub mod Paddings
 pub mod Places
 pub mod ReadFaults
+pub mod SameTag
 pub mod Shortest
 pub mod Spelled
 pub mod Starts

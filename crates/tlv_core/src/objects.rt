@@ -132,7 +132,8 @@ impl<'a> Obj<'a> {
     pub fn size(&self) -> usize
         ensures { result ≡ length (self.now.tag ++ self.now.size ++ self.now.value) }
     {
-        self.tag.bytes().len() + self.size.len() + self.value.len()
+        let head = self.tag.bytes().len() + self.size.len();
+        head + self.value.len()
     }
 
     /// The objects in the value, which is checked again; None for a primitive object.

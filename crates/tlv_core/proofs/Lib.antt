@@ -1,6 +1,7 @@
 pub mod Addresses
 pub mod Agree
 pub mod Faults
+pub mod ForestVectors
 pub mod Found
 pub mod Grown
 pub mod ItemLists

@@ -4,6 +4,7 @@ pub mod Front
 pub mod Length
 pub mod Spelling
 pub mod Items
+pub mod ItemCodes
 pub mod Nodes
 pub mod NodesFall
 pub mod Object

@@ -2,7 +2,7 @@ ghost use Rattle.std.specs.Prelude.{◌≡◌, ◌≢◌, ℕ, ◌+◌, ◌<◌,
 ghost use Rattle.std.specs.Option.{option_copied};
 ghost use Rattle.tlv_core.specs.TagForm.{IsTag, is_constructed};
 ghost use Rattle.tlv_core.specs.Length.{shortest};
-ghost use Rattle.tlv_core.specs.Spelling.{Empty, HasSoundObjects, object_bytes, encoding, levels, longest, deepest};
+ghost use Rattle.tlv_core.specs.Spelling.{Empty, HasSoundObjects, IsWritable, object_bytes, encoding, levels, longest, deepest};
 ghost use Rattle.tlv_core.specs.Items.{PrimitiveItem, TemplateItem, items, with_first, with_last};
 
 use crate::build_fault::BuildFault;
@@ -28,7 +28,8 @@ pub struct Forest {
 
 impl Model for Forest {
     ghost use Rattle.tlv_core.specs.Spelling as spelling;
-    ghost use Rattle.tlv_core.specs.Items.{forest_of, forest_code};
+    ghost use Rattle.tlv_core.specs.Items.{forest_of};
+    ghost use Rattle.tlv_core.specs.ItemCodes.{forest_code};
 
     ghost Value = { spelling.Forest };
 
@@ -175,9 +176,11 @@ impl Forest {
         Ok(())
     }
 
-    /// The bytes of the objects, each with the shortest length and no padding.
+    /// The bytes of the objects, each with the shortest length and no padding. They spell the
+    /// objects, as any forest can be written.
     pub fn write(&self) -> Result<Vec<u8>, AllocError>
-        ensures { IfOk result (λ bytes. bytes.items ≡ encoding self.now) }
+        ensures bytes { IfOk result (λ bytes. bytes.items ≡ encoding self.now) }
+        ensures writable { IsWritable self.now }
     {
         let mut bytes = Vec::new(*self.nodes.allocator());
         self.append_to(&mut bytes)?;

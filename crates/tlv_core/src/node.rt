@@ -22,7 +22,8 @@ pub(crate) enum Content {
 }
 
 impl Model for Node {
-    ghost use Rattle.tlv_core.specs.Items.{Item, item_code};
+    ghost use Rattle.tlv_core.specs.Items.{Item};
+    ghost use Rattle.tlv_core.specs.ItemCodes.{item_code};
 
     ghost Value = { Item };
 

@@ -10,7 +10,7 @@ abbrev pub item_of : List ℕ → Content → Item
 item_of tag (content.Primitive value) = PrimitiveItem tag value.items
 item_of tag (content.Template children) = TemplateItem tag children
 
--- how many types lie inside one another
+-- how far forests and their objects lie inside one another
 abbrev pub forest_size : Forest → ℕ
 forest_size Empty = 0
 forest_size (Primitive tag value rest) = max 1 (forest_size rest)

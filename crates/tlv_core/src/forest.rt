@@ -16,13 +16,16 @@ use std::marker::Model;
 /// The least number of bytes that no value has.
 const TOO_LONG: usize = 65_536;
 
-/// A list of objects. Contracts see it as the forest that it stands for.
+/// A list of objects that can be written: each tag is of its object's kind, each value has at most
+/// 65,535 bytes when written, and no object lies at level 17. Contracts see it as the forest that
+/// it stands for.
 #[cycle(forest)]
 #[derive(Drop)]
 pub struct Forest {
     nodes: Vec<Node>,
     /// How many bytes the objects are when written, up to `TOO_LONG`.
     written: usize,
+    /// How many levels of objects there are.
     levels: u8,
 }
 

@@ -12,6 +12,8 @@ pub mod path;
 pub mod reader_laws;
 pub mod short_head;
 pub mod tag;
+#[cfg(test)]
+mod tests;
 
 pub use check::value_fault;
 pub use fault::{Reason, TlvFault};

@@ -90,6 +90,3 @@ fault_within bytes at t s v r level reason inner place c h low kind within e =
 
 pub object_left : (rest : List ℕ) → false ≡ (length rest == 0) → (rest ≢ [] → IsAtObject rest) → IsAtObject rest
 object_left rest e h = h (λ nil. let clash : false ≡ true = e ∙ ap (λ x. length x == 0) nil in cc)
-
-pub past_is_shorter : (at rest : List ℕ) → IsPastPadding at rest → length rest ≤ length at
-past_is_shorter at rest p = omega (arith, ap length p.split, length-append p.padding rest)

@@ -190,7 +190,7 @@ found_within bytes at t s v r level path below o b kind e more h c = c.first o (
   ];
 })
 
--- Nothing stands in what is left at the end, and nothing under the empty path.
+-- Nothing stands in what is left at the end.
 none_in_nil : (level : ℕ) (path : List (List ℕ)) → NoneStandsAt [] level path
 none_in_nil level path place o h = omega (arith, stands_inside [] level place path o h)
 
@@ -199,12 +199,7 @@ pub none_in_padding : (bytes at : List ℕ) (level : ℕ) (path : List (List ℕ
 none_in_padding bytes at level path zeros c =
     (seeks_past_padding bytes at [] level path at zeros (sym (append-nil at)) c).none (none_in_nil level path)
 
-not_empty : (above : List (List ℕ)) (t : List ℕ) → [] ≡ above ++ t ∷ [] → ⊥
-not_empty [] t e = cc
-not_empty (a ∷ above) t e = cc
 
-pub none_at_empty_path : (bytes : List ℕ) (level : ℕ) → NoneStandsAt bytes level []
-none_at_empty_path bytes level place o h = not_empty h.above o.tag h.is_path
 
 regroup : (p t s v r : List ℕ) → p ++ t ++ s ++ v ++ r ≡ p ++ (t ++ s ++ v ++ r)
 regroup p t s v r = simp append_assoc

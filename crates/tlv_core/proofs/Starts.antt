@@ -162,9 +162,3 @@ whole_object bytes tag rest size after value last n m is_tag e (s, more, f, len,
       is_tag = is_tag;
       is_size = rw (same_size, value_len) is_size;
     }
-
-pub value_is_cut : (bytes tag rest after : List ℕ) (n m level : ℕ) → level ≤ deepest → IsTag tag → bytes ≡ tag ++ rest
-    → IsFrontSpelling rest n m → after ≡ drop n rest → length after < m → FailsFor bytes level ValueCut
-value_is_cut bytes tag rest after n m level low is_tag e (s, more, f, len, is_size) cut_after short =
-    let same_after : after ≡ more = cut_after ∙ ap (drop n) f ∙ drop_at s more n len in
-    (low, (tag, s, more, m, is_tag, is_size, e ∙ ap (λ x. tag ++ x) f ∙ sym (append_assoc tag s more), rw (← same_after) short))

@@ -1,9 +1,11 @@
 -- A reader goes through a list of objects: what is left decides about the whole.
-use Rattle.std.proofs.Common.{◌≡◌, ◌≢◌, ℕ, suc, ◌+◌, ◌-◌, ◌<◌, ◌≤◌, List, [], ◌∷◌, ◌++◌, length, get_or, refl, sym, ap, arith, add-one, length-append, ◌∙◌, ◌⊎◌, inl, inr, true, false}
+use Rattle.std.proofs.Common.{◌≡◌, ◌≢◌, ℕ, suc, ◌+◌, ◌-◌, ◌<◌, ◌≤◌, List, [], ◌∷◌, ◌++◌, length, get_or, refl, sym, ap, arith, add-one, length-append, ◌∙◌, ◌⊎◌, inl, inr, true, false, All, ◌==◌}
 use Rattle.std.proofs.lemmas.Bool.{cases_Bool}
+use Rattle.std.proofs.lemmas.List.Elements.{All-tail}
 use Rattle.tlv_core.specs.TagForm.{is_constructed}
 use Rattle.tlv_core.specs.Spelling.{Forest, Empty, Primitive, Template, Spells, AreObjects, deepest}
 use Rattle.tlv_core.specs.Place.{StartsWith}
+use Rattle.tlv_core.specs.Front.{IsPastPadding}
 use Rattle.tlv_core.specs.FirstFault.{FailsFor, IsAtObject, IsFirstFault}
 use Rattle.tlv_core.specs.declared.fault.Reason.{Reason}
 use Rattle.tlv_core.proofs.Spelled.{spells_more, spells_primitive, spells_template, All_nil}
@@ -26,8 +28,8 @@ continues_at_start bytes level = record {
   faulty = λ place reason first. let e : 0 + place ≡ place = omega arith in rw e first;
 }
 
-pub continues_past_padding : (bytes at rest : List ℕ) (level : ℕ) → at ≡ 0 ∷ rest → Continues bytes level at → Continues bytes level rest
-continues_past_padding bytes at rest level e h = record {
+continues_past_zero : (bytes at rest : List ℕ) (level : ℕ) → at ≡ 0 ∷ rest → Continues bytes level at → Continues bytes level rest
+continues_past_zero bytes at rest level e h = record {
   passed = h.passed + 1;
   is_passed = omega (arith, ap length e, h.is_passed);
   spelled = λ (forest, spells). h.spelled (forest, rw e (spells_more forest rest level spells));
@@ -36,6 +38,17 @@ continues_past_padding bytes at rest level e h = record {
       let g : h.passed + 1 + place ≡ h.passed + (1 + place) = omega arith in
       rw g (h.faulty (1 + place) reason f);
 }
+
+continues_past_zeros : (bytes at rest : List ℕ) (level : ℕ) (padding : List ℕ) → All (λ b. b ≡ 0) padding → at ≡ padding ++ rest
+    → Continues bytes level at → Continues bytes level rest
+continues_past_zeros bytes at rest level [] zeros e h = rw (← e) h
+continues_past_zeros bytes at rest level (a ∷ padding) zeros e h =
+    let first : a ≡ 0 = zeros 0 0 (omega arith) in
+    continues_past_zeros bytes (padding ++ rest) rest level padding (All-tail (λ b. b ≡ 0) a padding zeros) refl
+    (continues_past_zero bytes at (padding ++ rest) level (e ∙ ap (λ x. x ∷ (padding ++ rest)) first) h)
+
+pub continues_past_padding : (bytes at rest : List ℕ) (level : ℕ) → IsPastPadding at rest → Continues bytes level at → Continues bytes level rest
+continues_past_padding bytes at rest level p h = continues_past_zeros bytes at rest level p.padding p.is_padding p.split h
 
 spelled_past : (at t s v r : List ℕ) (level : ℕ) → StartsWith at t s v r → level ≤ deepest
     → (is_constructed t ≡ true → AreObjects v (suc level)) → AreObjects r level → AreObjects at level
@@ -75,5 +88,5 @@ fault_within bytes at t s v r level reason inner place c h low kind within e =
     let g : place ≡ c.passed + (length (t ++ s) + inner) = omega (arith, starts_length at t s v r h, c.is_passed) in
     rw g (c.faulty (length (t ++ s) + inner) reason (first_in_template at t s v r level inner reason h low kind first))
 
-pub object_after : (at after : List ℕ) (a : ℕ) → at ≡ a ∷ after → a ≢ 0 → IsAtObject at
-object_after at after a e h = rw e h
+pub object_left : (rest : List ℕ) → false ≡ (length rest == 0) → (rest ≢ [] → IsAtObject rest) → IsAtObject rest
+object_left rest e h = h (λ nil. let clash : false ≡ true = e ∙ ap (λ x. length x == 0) nil in cc)

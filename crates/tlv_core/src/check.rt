@@ -4,7 +4,7 @@ ghost use Rattle.tlv_core.specs.Spelling.{AreObjects, deepest};
 ghost use Rattle.tlv_core.specs.TagForm.{is_constructed};
 
 use crate::fault::TlvFault;
-use crate::front::front_object;
+use crate::front::{front_object, past_padding};
 use crate::tag::Tag;
 
 /// The first fault of the value as that of an object at level 1 with this tag, its place counted in
@@ -25,12 +25,8 @@ pub(crate) fn first_fault(bytes: &[u8], level: u8) -> Option<TlvFault>
     requires { level ≤ deepest + 1 }
     ensures { MatchOption result (AreObjects bytes.now level) (λ fault. IsFirstFault bytes.now level fault.place fault.reason) }
 {
-    let mut rest = bytes;
-    while let Some((first, after)) = rest.split_first() {
-        if *first == 0 {
-            rest = after;
-            continue;
-        }
+    let mut rest = past_padding(bytes);
+    while !rest.is_empty() {
         let object = match front_object(rest, level) {
             Ok(object) => object,
             Err(reason) => {
@@ -45,7 +41,7 @@ pub(crate) fn first_fault(bytes: &[u8], level: u8) -> Option<TlvFault>
                 return Some(TlvFault { place, reason });
             }
         }
-        rest = object.rest;
+        rest = past_padding(object.rest);
     }
     None
 }

@@ -1,5 +1,5 @@
 ghost use Rattle.std.specs.Prelude.{◌≡◌, ◌≤◌, ◌<◌, MatchResult};
-ghost use Rattle.tlv_core.specs.Front.{IsFrontSpelling, HasNoFrontLength};
+ghost use Rattle.tlv_core.specs.Front.{IsFrontSpelling, HasNoFrontLength, IsPastPadding};
 ghost use Rattle.tlv_core.specs.FirstFault.{FailsFor};
 ghost use Rattle.tlv_core.specs.Place.{StartsWith};
 ghost use Rattle.tlv_core.specs.Spelling.{deepest};
@@ -24,6 +24,17 @@ pub(crate) struct Front<'a> {
     pub(crate) size: &'a [u8],
     pub(crate) value: &'a [u8],
     pub(crate) rest: &'a [u8],
+}
+
+/// The bytes from the first one that is not 00.
+pub(crate) fn past_padding(bytes: &[u8]) -> &[u8]
+    ensures { IsPastPadding bytes.now result.now }
+{
+    let mut rest = bytes;
+    while let [0, after @ ..] = rest {
+        rest = after;
+    }
+    rest
 }
 
 #[tactic(auto, using(crate::proofs::Lengths::front_none, crate::proofs::Lengths::front_short, crate::proofs::Lengths::front_81, crate::proofs::Lengths::front_82, crate::proofs::Lengths::front_cut_first, crate::proofs::Lengths::front_cut_second))]

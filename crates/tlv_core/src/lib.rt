@@ -35,3 +35,5 @@ pub use tree::Tree;
 
 #[cfg(test)]
 mod forest_tests;
+#[cfg(test)]
+mod tests;

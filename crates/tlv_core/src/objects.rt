@@ -1,14 +1,13 @@
 ghost use Rattle.std.specs.Prelude.{◌≡◌, ◌↔◌, ◌≤◌, ◌+◌, ◌++◌, length, true, false, IsOk, IfOk, IfErr, IsNone, IfSome};
 ghost use Rattle.std.specs.Iterator.{at_most};
 ghost use Rattle.tlv_core.specs.FirstFault.{IsFirstFault};
-ghost use Rattle.tlv_core.specs.Front.{IsPastPadding};
 ghost use Rattle.tlv_core.specs.Object.{IsObjectList, GivesNext};
 ghost use Rattle.tlv_core.specs.Spelling.{AreObjects, deepest};
 ghost use Rattle.tlv_core.specs.TagForm.{is_constructed};
 
 use crate::check::first_fault;
 use crate::fault::TlvFault;
-use crate::front::front_object;
+use crate::front::{front_object, past_padding};
 use crate::tag::Tag;
 use std::marker::Model;
 
@@ -100,17 +99,6 @@ impl<'a> Iterator for Objects<'a> {
             level,
         })
     }
-}
-
-/// The bytes from the first one that is not 00.
-fn past_padding(bytes: &[u8]) -> &[u8]
-    ensures { IsPastPadding bytes.now result.now }
-{
-    let mut rest = bytes;
-    while let [0, after @ ..] = rest {
-        rest = after;
-    }
-    rest
 }
 
 impl<'a> Obj<'a> {

@@ -1,4 +1,5 @@
-use Rattle.std.proofs.Common.{length, ◌+◌, ◌-◌}
+use Rattle.std.proofs.Common.{length, [], ◌+◌, ◌-◌, ◌≢◌}
+use Rattle.tlv_core.specs.FirstFault.{IsAtObject}
 use Rattle.tlv_core.specs.Spelling.{deepest}
 use Rattle.tlv_core.proofs.Walk.{Continues}
 use Rattle.tlv_core.proofs.check.+first_fault.Given as goal
@@ -7,8 +8,8 @@ use Rattle.tlv_core.proofs.check.+first_fault.Given as goal
 abbrev pub decreases-first_fault : goal.decreases-first_fault
 decreases-first_fault l = deepest + 1 - l.level
 
-abbrev pub invariant-loop-first : goal.invariant-loop-first
-invariant-loop-first l = Continues l.bytes l.level l.rest
+abbrev pub invariant-loop-rest : goal.invariant-loop-rest
+invariant-loop-rest l = record { walk : Continues l.bytes l.level l.rest; at_object : l.rest ≢ [] → IsAtObject l.rest }
 
-abbrev pub decreases-loop-first : goal.decreases-loop-first
-decreases-loop-first l = length l.rest
+abbrev pub decreases-loop-rest : goal.decreases-loop-rest
+decreases-loop-rest l = length l.rest

@@ -1,9 +1,11 @@
-use Rattle.std.proofs.Common.{length, ◌≡◌}
+use Rattle.std.proofs.Common.{◌≡◌, ◌+◌, ◌-◌}
+use Rattle.tlv_core.specs.Spelling.{deepest}
 use Rattle.tlv_core.proofs.Found.{Seeks}
 use Rattle.tlv_core.proofs.path.+find_in.Given as goal
 
+-- one level deeper at each call
 abbrev pub decreases-find_in : goal.decreases-find_in
-decreases-find_in l = length l.path.now
+decreases-find_in l = deepest + 1 - l.objects.level
 
 abbrev pub invariant-loop-object : goal.invariant-loop-object
 invariant-loop-object l = record {

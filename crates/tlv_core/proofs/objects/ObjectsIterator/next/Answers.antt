@@ -1,16 +1,12 @@
 -- What is left of a list of objects is one, so its next object does not fail.
-use Rattle.std.proofs.Common.{◌≡◌, ◌≢◌, ℕ, ◌∙◌, List, [], length, ◌==◌, true, false, ap}
-use Rattle.tlv_core.specs.FirstFault.{IsAtObject}
 use Rattle.tlv_core.proofs.Spelled.{objects_past_padding, spelled_fails_not, spelled_is_object, after_is_spelled}
+use Rattle.tlv_core.proofs.Walk.{object_left}
 use Rattle.tlv_core.proofs.objects.ObjectsIterator.next.Goals as goal
-
-some_left : (rest : List ℕ) → false ≡ (length rest == 0) → (rest ≢ [] → IsAtObject rest) → IsAtObject rest
-some_left rest e h = h (λ nil. let clash : false ≡ true = e ∙ ap (λ x. length x == 0) nil in cc)
 
 pub unreachable-requires : goal.unreachable-requires
 unreachable-requires c =
     let rest = objects_past_padding _ _ _ _ c.past_padding-bytes.ensures.is_padding c.past_padding-bytes.ensures.split c.self.invariant in
-    spelled_fails_not _ _ _ rest (some_left _ c.if-is_empty.ensures c.past_padding-bytes.ensures.at_object) c.in_default.ensures
+    spelled_fails_not _ _ _ rest (object_left _ c.if-is_empty.ensures c.past_padding-bytes.ensures.at_object) c.in_default.ensures
 
 pub invariant_of-result : goal.invariant_of-result
 invariant_of-result c =

@@ -1,5 +1,5 @@
 use Rattle.std.proofs.Common.{◌≡◌, ℕ, List, ◌++◌, length, All}
-use Rattle.tlv_core.proofs.objects.past_padding.Given as goal
+use Rattle.tlv_core.proofs.front.past_padding.Given as goal
 
 -- what was passed is padding
 abbrev pub invariant-loop-rest : goal.invariant-loop-rest

@@ -2,7 +2,7 @@
 use Rattle.std.proofs.Common.{◌≡◌, ℕ, ◌<◌, ◌≤◌, ◌-◌, ◌∙◌, List, [], ◌∷◌, ◌++◌, length, take, drop, get_or, All, refl, sym, ap, arith, append_assoc}
 use Rattle.std.proofs.lemmas.List.{take_all}
 use Rattle.std.proofs.lemmas.List.Elements.{All-push}
-use Rattle.tlv_core.proofs.objects.past_padding.Goals as goal
+use Rattle.tlv_core.proofs.front.past_padding.Goals as goal
 
 padding_grows : (bytes rest : List ℕ) → (padding : List ℕ) × (All (λ b. b ≡ 0) padding) × (bytes ≡ padding ++ rest) → 1 ≤ length rest
     → get_or rest 0 0 ≡ 0 → (padding : List ℕ) × (All (λ b. b ≡ 0) padding) × (bytes ≡ padding ++ take (length rest - 1) (drop 1 rest))

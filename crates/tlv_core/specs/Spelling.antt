@@ -1,5 +1,5 @@
 -- Lists of objects and what spells them (EMV Book 3, Annex B).
-use Rattle.std.specs.Prelude.{◌≡◌, ℕ, suc, ◌≤◌, List, [], ◌++◌, length, All, true, false}
+use Rattle.std.specs.Prelude.{◌≡◌, ℕ, suc, ◌+◌, ◌-◌, ◌≤◌, List, [], ◌++◌, length, All, true, false}
 use Rattle.tlv_core.specs.TagForm.{IsTag, is_constructed}
 use Rattle.tlv_core.specs.Length.{SpellsLength, shortest}
 

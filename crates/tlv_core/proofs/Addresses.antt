@@ -1,6 +1,6 @@
 -- The tags that P1-P2 name.
-use Rattle.std.proofs.Common.{◌≡◌, ℕ, ◌+◌, ◌%◌, ◌<◌, ◌≤◌, List, [], ◌∷◌, ◌++◌, length, get_or, refl, sym, ap, arith, ◌∙◌}
-use Rattle.tlv_core.specs.TagForm.{IsTag, StartsWithTag}
+use Rattle.std.proofs.Common.{◌≡◌, ℕ, ◌<◌, ◌≤◌, List, [], ◌∷◌, length, get_or, refl, sym, ap, arith, ◌∙◌}
+use Rattle.tlv_core.specs.TagForm.{IsTag}
 use Rattle.tlv_core.specs.Address.{NamesTag, IsAddressable}
 
 pub named_by_one : (tag : List ℕ) → IsTag tag → length tag < 2 → 64 ≤ get_or tag 0 0 → IsAddressable tag

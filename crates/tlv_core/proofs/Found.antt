@@ -1,14 +1,13 @@
 -- Objects found by their tags, step by step.
-use Rattle.std.proofs.Common.{◌≡◌, ◌≢◌, ℕ, suc, ◌+◌, ◌<◌, ◌≤◌, List, [], ◌∷◌, ◌++◌, length, refl, sym, ap, subst, arith, add-one, append-nil, append_assoc, length-append, ◌∙◌, ◌⊎◌, inl, inr, true, false, All, Some, None}
+use Rattle.std.proofs.Common.{◌≡◌, ◌≢◌, ℕ, suc, ◌+◌, ◌<◌, List, [], ◌∷◌, ◌++◌, length, refl, sym, ap, subst, arith, add-one, append-nil, append_assoc, length-append, ◌∙◌, ◌⊎◌, inl, inr, true, All, Some, None}
 use Rattle.std.proofs.lemmas.List.Elements.{All-tail}
 use Rattle.tlv_core.specs.TagForm.{is_constructed}
 use Rattle.tlv_core.specs.Object.{Object, ObjectList, GivesNext}
 use Rattle.tlv_core.specs.Spelling.{Begins}
 use Rattle.tlv_core.specs.Path.{StandsAt, IsFirstAt, NoneStandsAt}
-use Rattle.tlv_core.specs.Place.{StartsWith, Reached, at_front, past_padding, past_object, into_template}
-use Rattle.tlv_core.specs.FirstFault.{IsAtObject}
-use Rattle.tlv_core.proofs.Starts.{starts_at_object, starts_agree, SameObject}
-use Rattle.tlv_core.proofs.Places.{starts_length, object_is_some, object_is_long, padded_place, object_place, IsFront, IsPast, IsWithin, reached_inside}
+use Rattle.tlv_core.specs.Place.{StartsWith, at_front, past_padding, past_object, into_template}
+use Rattle.tlv_core.proofs.Starts.{starts_at_object, starts_agree}
+use Rattle.tlv_core.proofs.Places.{object_is_long, padded_place, object_place, reached_inside}
 
 -- Objects of padded bytes, and of bytes that start with an object.
 stands_past_padding : (rest : List ℕ) (level place : ℕ) (path : List (List ℕ)) (o : Object) → StandsAt rest level path place o
@@ -198,8 +197,6 @@ pub none_in_padding : (bytes at : List ℕ) (level : ℕ) (path : List (List ℕ
     → NoneStandsAt bytes level path
 none_in_padding bytes at level path zeros c =
     (seeks_past_padding bytes at [] level path at zeros (sym (append-nil at)) c).none (none_in_nil level path)
-
-
 
 regroup : (p t s v r : List ℕ) → p ++ t ++ s ++ v ++ r ≡ p ++ (t ++ s ++ v ++ r)
 regroup p t s v r = simp append_assoc

@@ -4,8 +4,7 @@ use Rattle.std.proofs.lemmas.List.{nil_from_length, append_cancel_left}
 use Rattle.std.proofs.lemmas.Bool.{cases_lt, cases_eq}
 use Rattle.tlv_core.specs.Length.{SpellsLength, StartsWithLength, EndsInsideLength}
 use Rattle.tlv_core.specs.Front.{IsFrontSpelling, HasNoFrontLength}
-use Rattle.tlv_core.specs.declared.fault.Reason.{Reason}
-use Rattle.tlv_core.specs.declared.fault.Reason.TheVariants.{LengthCut, LengthForm}
+use Rattle.tlv_core.specs.declared.fault.Reason.TheVariants.{LengthForm}
 
 -- No spelling of a length is a prefix of another.
 pub sizes_agree : (s t x y : List ℕ) (n m : ℕ) → SpellsLength s n → SpellsLength t m → s ++ x ≡ t ++ y → (s ≡ t) × (n ≡ m)

@@ -1,14 +1,13 @@
 -- Bytes that a forest spells, object by object.
-use Rattle.std.proofs.Common.{◌≡◌, ◌≢◌, ℕ, zero, suc, ◌+◌, ◌<◌, ◌≤◌, List, [], ◌∷◌, ◌++◌, length, get_or, refl, sym, ap, arith, add-one, append_assoc, ◌∙◌, ◌⊎◌, inl, inr, true, false, All}
+use Rattle.std.proofs.Common.{◌≡◌, ℕ, suc, ◌≤◌, List, [], ◌∷◌, ◌++◌, refl, sym, ap, arith, add-one, append_assoc, ◌∙◌, true, false, All}
 use Rattle.std.proofs.lemmas.List.Elements.{All-cons, All-tail}
-use Rattle.tlv_core.specs.TagForm.{IsTag, is_constructed}
-use Rattle.tlv_core.specs.Length.{SpellsLength}
+use Rattle.tlv_core.specs.TagForm.{is_constructed}
 use Rattle.tlv_core.specs.Spelling.{Forest, Empty, Primitive, Template, Begins, Spells, AreObjects, deepest}
 use Rattle.tlv_core.specs.Place.{StartsWith}
 use Rattle.tlv_core.specs.FirstFault.{IsAtObject, FailsFor}
-use Rattle.tlv_core.specs.Object.{Object, IsObject}
+use Rattle.tlv_core.specs.Object.{IsObject}
 use Rattle.tlv_core.specs.declared.fault.Reason.{Reason}
-use Rattle.tlv_core.proofs.Starts.{tag_at_object, starts_at_object, starts_agree, SameObject, starts_fails_not}
+use Rattle.tlv_core.proofs.Starts.{starts_at_object, starts_agree, starts_fails_not}
 
 pub All_nil : All (λ (b : ℕ). b ≡ 0) []
 All_nil k d low = absurd (omega arith)

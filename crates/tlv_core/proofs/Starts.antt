@@ -1,9 +1,9 @@
 -- An object at the front of bytes.
-use Rattle.std.proofs.Common.{◌≡◌, ◌≢◌, ℕ, suc, ◌+◌, ◌-◌, ◌<◌, ◌≤◌, List, [], ◌∷◌, ◌++◌, length, take, drop, refl, sym, ap, arith, append_assoc, length-append, append-nil, ◌∙◌, ◌⊎◌, inl, inr, Err, true}
-use Rattle.std.proofs.lemmas.List.{append_cancel_left, take_at, drop_at, take-append-drop, length-take-le, take_all}
+use Rattle.std.proofs.Common.{◌≡◌, ℕ, ◌-◌, ◌<◌, ◌≤◌, List, [], ◌∷◌, ◌++◌, length, take, drop, refl, sym, ap, arith, append_assoc, length-append, ◌∙◌, ◌⊎◌, inl, inr}
+use Rattle.std.proofs.lemmas.List.{take_at, drop_at, take-append-drop, length-take-le, take_all}
 use Rattle.std.proofs.lemmas.Bool.{cases_lt}
-use Rattle.tlv_core.specs.TagForm.{IsTag, StartsWithTag, EndsInsideTag, is_constructed}
-use Rattle.tlv_core.specs.Length.{SpellsLength, StartsWithLength, EndsInsideLength}
+use Rattle.tlv_core.specs.TagForm.{IsTag}
+use Rattle.tlv_core.specs.Length.{SpellsLength}
 use Rattle.tlv_core.specs.Spelling.{deepest}
 use Rattle.tlv_core.specs.Place.{StartsWith}
 use Rattle.tlv_core.specs.FirstFault.{FailsFor, IsAtObject}

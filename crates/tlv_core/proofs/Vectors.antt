@@ -1,14 +1,12 @@
 -- Rows that the definitions give, and near misses.
-use Rattle.std.proofs.Common.{◌≡◌, ℕ, List, [], ◌∷◌, ◌++◌, refl, true, false, arith, inr}
-use Rattle.tlv_core.specs.TagForm.{IsTag, is_constructed, StartsWithTag, EndsInsideTag}
-use Rattle.tlv_core.specs.Length.{SpellsLength, shortest, EndsInsideLength}
+use Rattle.std.proofs.Common.{◌≡◌, ℕ, [], ◌∷◌, refl, true, false, arith, inr}
+use Rattle.tlv_core.specs.TagForm.{IsTag, is_constructed}
+use Rattle.tlv_core.specs.Length.{SpellsLength, shortest}
 use Rattle.tlv_core.specs.Address.{NamesTag}
-use Rattle.tlv_core.specs.Spelling.{Forest, Empty, Primitive, Template, Spells}
-use Rattle.tlv_core.specs.Place.{StartsWith}
-use Rattle.tlv_core.specs.FirstFault.{FailsFor, IsFirstFault}
-use Rattle.tlv_core.specs.declared.fault.Reason.{Reason}
-use Rattle.tlv_core.specs.declared.fault.Reason.TheVariants.{TagCut, TagForm, LengthCut, LengthForm, ValueCut, TooDeep}
-use Rattle.tlv_core.proofs.Spelled.{spells_more, spells_primitive, spells_template, All_nil}
+use Rattle.tlv_core.specs.Spelling.{Empty, Primitive, Spells}
+use Rattle.tlv_core.specs.FirstFault.{IsFirstFault}
+use Rattle.tlv_core.specs.declared.fault.Reason.TheVariants.{TagCut, TagForm, ValueCut, TooDeep}
+use Rattle.tlv_core.proofs.Spelled.{spells_more, spells_primitive, All_nil}
 use Rattle.tlv_core.proofs.Faults.{first_here, first_past_padding, first_past_object, first_in_template}
 use Rattle.tlv_core.proofs.Agree.{first_faults_agree}
 use Rattle.tlv_core.proofs.Tags.{front_second, front_cut_first}

@@ -1,15 +1,15 @@
 -- A reader goes through a list of objects: what is left decides about the whole.
-use Rattle.std.proofs.Common.{◌≡◌, ◌≢◌, ℕ, suc, ◌+◌, ◌-◌, ◌<◌, ◌≤◌, List, [], ◌∷◌, ◌++◌, length, get_or, refl, sym, ap, arith, add-one, length-append, ◌∙◌, ◌⊎◌, inl, inr, true, false, All, ◌==◌}
+use Rattle.std.proofs.Common.{◌≡◌, ◌≢◌, ℕ, suc, ◌+◌, ◌-◌, ◌<◌, ◌≤◌, List, [], ◌∷◌, ◌++◌, length, refl, ap, arith, add-one, length-append, ◌∙◌, inl, inr, true, false, All, ◌==◌}
 use Rattle.std.proofs.lemmas.Bool.{cases_Bool}
 use Rattle.std.proofs.lemmas.List.Elements.{All-tail}
 use Rattle.tlv_core.specs.TagForm.{is_constructed}
-use Rattle.tlv_core.specs.Spelling.{Forest, Empty, Primitive, Template, Spells, AreObjects, deepest}
+use Rattle.tlv_core.specs.Spelling.{Empty, Primitive, Template, AreObjects, deepest}
 use Rattle.tlv_core.specs.Place.{StartsWith}
 use Rattle.tlv_core.specs.Front.{IsPastPadding}
 use Rattle.tlv_core.specs.FirstFault.{FailsFor, IsAtObject, IsFirstFault}
 use Rattle.tlv_core.specs.declared.fault.Reason.{Reason}
 use Rattle.tlv_core.proofs.Spelled.{spells_more, spells_primitive, spells_template, All_nil}
-use Rattle.tlv_core.proofs.Places.{starts_length, fault_inside}
+use Rattle.tlv_core.proofs.Places.{starts_length}
 use Rattle.tlv_core.proofs.Faults.{first_here, first_past_padding, first_past_object, first_in_template}
 
 -- So many bytes are passed, and the rest is left. The bytes are objects where the rest is, and the

@@ -4,7 +4,7 @@ use Rattle.tlv_core.specs.TagForm.{IsTag, StartsWithTag, EndsInsideTag}
 use Rattle.tlv_core.specs.Length.{SpellsLength, StartsWithLength, EndsInsideLength}
 use Rattle.tlv_core.specs.FirstFault.{IsAtObject}
 use Rattle.tlv_core.specs.declared.fault.Reason.{Reason}
-use Rattle.tlv_core.specs.declared.fault.Reason.TheVariants.{TagCut, TagForm, LengthCut, LengthForm, ValueCut, TooDeep}
+use Rattle.tlv_core.specs.declared.fault.Reason.TheVariants.{TagCut, TagForm, LengthCut, LengthForm}
 
 -- the tag at the front, or why there is none
 abbrev pub IsFrontTag : List ℕ → Result (List ℕ) Reason → Type 0

@@ -1,5 +1,5 @@
 -- Objects found by the tags that lead to them (this project's profile).
-use Rattle.std.specs.Prelude.{◌≡◌, ℕ, ◌+◌, ◌≤◌, List, [], ◌∷◌, ◌++◌, length}
+use Rattle.std.specs.Prelude.{◌≡◌, ℕ, ◌≤◌, List, [], ◌∷◌, ◌++◌}
 use Rattle.tlv_core.specs.Object.{Object}
 use Rattle.tlv_core.specs.Place.{Reached, StartsWith}
 

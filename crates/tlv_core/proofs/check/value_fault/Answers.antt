@@ -1,5 +1,5 @@
 -- No fault is found exactly where the value is a list of objects.
-use Rattle.std.proofs.Common.{◌≡◌, ◌↔◌, List, ℕ, true, false, Bool, Option, Some, None, IsNone, MatchOption, refl, sym}
+use Rattle.std.proofs.Common.{◌≡◌, ◌↔◌, List, ℕ, true, Bool, Option, Some, None, IsNone, MatchOption, refl, sym}
 use Rattle.tlv_core.specs.FirstFault.{IsFirstFault}
 use Rattle.tlv_core.specs.Spelling.{AreObjects}
 use Rattle.tlv_core.specs.declared.fault.TlvFault.{TlvFault}

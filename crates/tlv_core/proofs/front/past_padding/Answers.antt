@@ -1,5 +1,5 @@
 -- One more 00 is passed.
-use Rattle.std.proofs.Common.{◌≡◌, ℕ, ◌<◌, ◌≤◌, ◌-◌, ◌∙◌, List, [], ◌∷◌, ◌++◌, length, take, drop, get_or, All, refl, sym, ap, arith, append_assoc}
+use Rattle.std.proofs.Common.{◌≡◌, ℕ, ◌≤◌, ◌-◌, ◌∙◌, List, [], ◌∷◌, ◌++◌, length, take, drop, get_or, All, sym, ap, arith, append_assoc}
 use Rattle.std.proofs.lemmas.List.{take_all}
 use Rattle.std.proofs.lemmas.List.Elements.{All-push}
 use Rattle.tlv_core.proofs.front.past_padding.Goals as goal

@@ -1,4 +1,4 @@
-use Rattle.std.proofs.Common.{List, ℕ, inl, inr}
+use Rattle.std.proofs.Common.{inl, inr}
 use Rattle.tlv_core.proofs.Places.{spelled_has_no_fault}
 use Rattle.tlv_core.proofs.Faults.{judged}
 use Rattle.tlv_core.proofs.reader_laws.a_fault_where_no_objects.Goals as goal

@@ -1,6 +1,5 @@
 -- Bytes with a fault are no list of objects.
 use Rattle.tlv_core.proofs.Places.{spelled_has_no_fault}
-use Rattle.std.proofs.Common.{true, false, ◌≡◌}
 use Rattle.tlv_core.proofs.objects.Objects.at_level.Goals as goal
 
 pub returns-in-Some-clause-objects : goal.returns-in-Some-clause-objects

@@ -1,16 +1,15 @@
 -- There is one first fault: a place is reached in one way, and bytes fail for one reason.
-use Rattle.std.proofs.Common.{◌≡◌, ◌≢◌, ℕ, zero, suc, ◌+◌, ◌<◌, ◌≤◌, List, [], ◌∷◌, ◌++◌, length, refl, sym, ap, arith, append_assoc, length-append, ◌∙◌, ◌⊎◌, inl, inr}
-use Rattle.tlv_core.specs.TagForm.{IsTag, is_constructed, StartsWithTag, EndsInsideTag}
-use Rattle.tlv_core.specs.Length.{SpellsLength, StartsWithLength, EndsInsideLength}
-use Rattle.tlv_core.specs.Spelling.{deepest}
-use Rattle.tlv_core.specs.Place.{StartsWith, Reached, at_front, past_padding, past_object, into_template}
-use Rattle.tlv_core.specs.FirstFault.{FailsFor, IsAtObject, IsFault, IsFirstFault}
+use Rattle.std.proofs.Common.{◌≡◌, ℕ, suc, List, ◌∷◌, ◌++◌, refl, sym, ap, arith, append_assoc, length-append, ◌∙◌, inl, inr}
+use Rattle.tlv_core.specs.TagForm.{IsTag, StartsWithTag}
+use Rattle.tlv_core.specs.Length.{StartsWithLength, EndsInsideLength}
+use Rattle.tlv_core.specs.Place.{Reached, at_front, past_padding, past_object, into_template}
+use Rattle.tlv_core.specs.FirstFault.{FailsFor, IsAtObject, IsFirstFault}
 use Rattle.tlv_core.specs.declared.fault.Reason.{Reason}
 use Rattle.tlv_core.specs.declared.fault.Reason.TheVariants.{TagCut, TagForm, LengthCut, LengthForm, ValueCut, TooDeep}
 use Rattle.tlv_core.proofs.Tags.{start_is_not_inside}
-use Rattle.tlv_core.proofs.Lengths.{sizes_agree, length_start_is_not_inside}
-use Rattle.tlv_core.proofs.Starts.{after_tags_agree, starts_agree, zero_starts_none}
-use Rattle.tlv_core.proofs.Places.{padded_place, object_place, IsFront, IsPast, IsWithin, reached_inside, object_is_long, zero_not_object, starts_length, object_is_some}
+use Rattle.tlv_core.proofs.Lengths.{length_start_is_not_inside}
+use Rattle.tlv_core.proofs.Starts.{after_tags_agree}
+use Rattle.tlv_core.proofs.Places.{padded_place, object_place, reached_inside, object_is_long, object_is_some}
 
 -- What follows the tag, for the three reasons that speak of it.
 TagThen : List ℕ → (List ℕ → Type 0) → Type 0

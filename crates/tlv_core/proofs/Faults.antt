@@ -1,18 +1,14 @@
 -- Faults, and the first of them.
-use Rattle.std.proofs.Common.{◌≡◌, ◌≢◌, ℕ, zero, suc, ◌+◌, ◌<◌, ◌≤◌, List, [], ◌∷◌, ◌++◌, length, refl, sym, ap, arith, append_assoc, length-append, ◌∙◌, ◌⊎◌, inl, inr, true, false}
+use Rattle.std.proofs.Common.{◌≡◌, ℕ, zero, suc, ◌+◌, ◌≤◌, List, [], ◌∷◌, ◌++◌, length, refl, sym, arith, length-append, ◌∙◌, ◌⊎◌, inl, inr, true, false}
 use Rattle.std.proofs.lemmas.Bool.{cases_eq, cases_Bool}
-use Rattle.tlv_core.specs.TagForm.{IsTag, is_constructed, StartsWithTag, EndsInsideTag}
-use Rattle.tlv_core.specs.Length.{SpellsLength, StartsWithLength, EndsInsideLength}
+use Rattle.tlv_core.specs.TagForm.{is_constructed}
 use Rattle.tlv_core.specs.Spelling.{Forest, Empty, Primitive, Template, Spells, deepest}
-use Rattle.tlv_core.specs.Place.{StartsWith, Reached, at_front, past_padding, past_object, into_template}
+use Rattle.tlv_core.specs.Place.{StartsWith, at_front, past_padding, past_object, into_template}
 use Rattle.tlv_core.specs.FirstFault.{FailsFor, IsAtObject, IsFault, IsFirstFault}
 use Rattle.tlv_core.specs.declared.fault.Reason.{Reason}
-use Rattle.tlv_core.specs.declared.fault.Reason.TheVariants.{TagCut, TagForm, LengthCut, LengthForm, ValueCut, TooDeep}
-use Rattle.tlv_core.proofs.Tags.{start_is_not_inside}
-use Rattle.tlv_core.proofs.Lengths.{sizes_agree, length_start_is_not_inside}
-use Rattle.tlv_core.proofs.Starts.{starts_at_object, starts_fails_not, after_tags_agree, front_answer, Whole, fronts_agree}
+use Rattle.tlv_core.proofs.Starts.{starts_fails_not, front_answer}
 use Rattle.tlv_core.proofs.Spelled.{spells_more, spells_primitive, spells_template, All_nil}
-use Rattle.tlv_core.proofs.Places.{starts_length, object_is_some, fault_inside, spelled_has_no_fault, padded_place, object_place, IsFront, IsPast, IsWithin, reached_inside, object_is_long}
+use Rattle.tlv_core.proofs.Places.{starts_length, object_is_some, fault_inside, spelled_has_no_fault, padded_place, object_place}
 
 -- Faults of padded bytes, and of bytes that start with an object.
 fault_past_padding : (rest : List ℕ) (level place : ℕ) (reason : Reason) → IsFault rest level place reason

@@ -4,8 +4,7 @@ use Rattle.std.proofs.lemmas.List.{nil_from_length, append_cancel_left}
 use Rattle.std.proofs.lemmas.Bool.{cases_lt, cases_eq}
 use Rattle.tlv_core.specs.Length.{SpellsLength, StartsWithLength, EndsInsideLength}
 use Rattle.tlv_core.specs.Front.{IsFrontSpelling, HasNoFrontLength}
-use Rattle.tlv_core.specs.declared.fault.Reason.{Reason}
-use Rattle.tlv_core.specs.declared.fault.Reason.TheVariants.{LengthCut, LengthForm}
+use Rattle.tlv_core.specs.declared.fault.Reason.TheVariants.{LengthForm}
 
 -- No spelling of a length is a prefix of another.
 pub sizes_agree : (s t x y : List ℕ) (n m : ℕ) → SpellsLength s n → SpellsLength t m → s ++ x ≡ t ++ y → (s ≡ t) × (n ≡ m)
@@ -119,3 +118,36 @@ length_cases (a ∷ rest) = elim (cases_lt a 128) [
     ]
   ]
 ]
+
+-- The cases of a reader, by the bytes that it looks at.
+pub front_none : (bytes : List ℕ) → length bytes < 1 → EndsInsideLength bytes
+front_none [] short = inside_nil
+front_none (a ∷ rest) short = absurd (omega arith)
+
+pub front_short : (bytes : List ℕ) → 0 < length bytes → get_or bytes 0 0 < 128 → IsFrontSpelling bytes 1 (get_or bytes 0 0)
+front_short [] some low = absurd (omega arith)
+front_short (a ∷ rest) some low = (a ∷ [], rest, refl, refl, (low, refl))
+
+pub front_81 : (bytes : List ℕ) → 1 < length bytes → get_or bytes 0 0 ≡ 129 → get_or bytes 1 0 < 256
+    → IsFrontSpelling bytes 2 (get_or bytes 1 0)
+front_81 [] some first second = absurd (omega arith)
+front_81 (a ∷ []) some first second = absurd (omega arith)
+front_81 (a ∷ b ∷ rest) some first second = (a ∷ b ∷ [], rest, refl, refl, (first, second, refl))
+
+pub front_82 : (bytes : List ℕ) → 2 < length bytes → get_or bytes 0 0 ≡ 130 → get_or bytes 1 0 < 256 → get_or bytes 2 0 < 256
+    → IsFrontSpelling bytes 3 (256 * get_or bytes 1 0 + get_or bytes 2 0)
+front_82 [] some first second third = absurd (omega arith)
+front_82 (a ∷ []) some first second third = absurd (omega arith)
+front_82 (a ∷ b ∷ []) some first second third = absurd (omega arith)
+front_82 (a ∷ b ∷ c ∷ rest) some first second third = (a ∷ b ∷ c ∷ [], rest, refl, refl, (first, second, third, refl))
+
+pub front_cut_first : (bytes : List ℕ) → length bytes ≡ 1 → (get_or bytes 0 0 ≡ 129) ⊎ (get_or bytes 0 0 ≡ 130) → EndsInsideLength bytes
+front_cut_first [] one first = absurd (omega arith)
+front_cut_first (a ∷ []) one first = elim first [ inl e ↦ rw e inside_81 | inr e ↦ rw e inside_82 ]
+front_cut_first (a ∷ b ∷ rest) one first = absurd (omega arith)
+
+pub front_cut_second : (bytes : List ℕ) → length bytes ≡ 2 → get_or bytes 0 0 ≡ 130 → get_or bytes 1 0 < 256 → EndsInsideLength bytes
+front_cut_second [] two first second = absurd (omega arith)
+front_cut_second (a ∷ []) two first second = absurd (omega arith)
+front_cut_second (a ∷ b ∷ []) two first second = rw first (inside_82_of_two b second)
+front_cut_second (a ∷ b ∷ c ∷ rest) two first second = absurd (omega arith)

@@ -1,11 +1,11 @@
 -- The places that a reader reaches, step by step, and the first fault among them.
-use Rattle.std.proofs.Common.{◌≡◌, ◌≢◌, ℕ, zero, suc, ◌+◌, ◌<◌, ◌≤◌, List, [], ◌∷◌, ◌++◌, length, refl, sym, ap, arith, append_assoc, length-append, ◌∙◌, ◌⊎◌, inl, inr, true, false}
-use Rattle.tlv_core.specs.TagForm.{IsTag, is_constructed}
-use Rattle.tlv_core.specs.Spelling.{Forest, Empty, Primitive, Template, Spells, deepest}
+use Rattle.std.proofs.Common.{◌≡◌, ℕ, suc, ◌+◌, ◌<◌, ◌≤◌, List, [], ◌∷◌, ◌++◌, length, ap, arith, length-append, ◌∙◌, ◌⊎◌, inl, inr, true}
+use Rattle.tlv_core.specs.TagForm.{is_constructed}
+use Rattle.tlv_core.specs.Spelling.{Forest, Spells}
 use Rattle.tlv_core.specs.Place.{StartsWith, Reached, at_front, past_padding, past_object, into_template}
-use Rattle.tlv_core.specs.FirstFault.{FailsFor, IsAtObject, IsFault, IsFirstFault}
+use Rattle.tlv_core.specs.FirstFault.{IsAtObject, IsFault}
 use Rattle.tlv_core.specs.declared.fault.Reason.{Reason}
-use Rattle.tlv_core.proofs.Starts.{starts_agree, SameObject, starts_at_object, zero_starts_none, starts_fails_not, tag_is_some}
+use Rattle.tlv_core.proofs.Starts.{starts_agree, zero_starts_none, starts_fails_not, tag_is_some}
 use Rattle.tlv_core.proofs.Spelled.{spells_less, spelled_object, after_is_spelled, inside_is_spelled}
 
 pub starts_length : (bytes t s v r : List ℕ) → StartsWith bytes t s v r → length bytes ≡ length (t ++ s) + length v + length r

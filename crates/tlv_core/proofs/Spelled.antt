@@ -1,12 +1,13 @@
 -- Bytes that a forest spells, object by object.
-use Rattle.std.proofs.Common.{◌≡◌, ◌≢◌, ℕ, zero, suc, ◌+◌, ◌<◌, ◌≤◌, List, [], ◌∷◌, ◌++◌, length, get_or, refl, sym, ap, arith, append_assoc, ◌∙◌, ◌⊎◌, inl, inr, true, false, All}
+use Rattle.std.proofs.Common.{◌≡◌, ℕ, suc, ◌≤◌, List, [], ◌∷◌, ◌++◌, refl, sym, ap, arith, add-one, append_assoc, ◌∙◌, true, false, All}
 use Rattle.std.proofs.lemmas.List.Elements.{All-cons, All-tail}
-use Rattle.tlv_core.specs.TagForm.{IsTag, is_constructed}
-use Rattle.tlv_core.specs.Length.{SpellsLength}
-use Rattle.tlv_core.specs.Spelling.{Forest, Empty, Primitive, Template, Begins, Spells, deepest}
+use Rattle.tlv_core.specs.TagForm.{is_constructed}
+use Rattle.tlv_core.specs.Spelling.{Forest, Empty, Primitive, Template, Begins, Spells, AreObjects, deepest}
 use Rattle.tlv_core.specs.Place.{StartsWith}
-use Rattle.tlv_core.specs.FirstFault.{IsAtObject}
-use Rattle.tlv_core.proofs.Starts.{tag_at_object, starts_at_object, starts_agree, SameObject}
+use Rattle.tlv_core.specs.FirstFault.{IsAtObject, FailsFor}
+use Rattle.tlv_core.specs.Object.{IsObject}
+use Rattle.tlv_core.specs.declared.fault.Reason.{Reason}
+use Rattle.tlv_core.proofs.Starts.{starts_at_object, starts_agree, starts_fails_not}
 
 pub All_nil : All (λ (b : ℕ). b ≡ 0) []
 All_nil k d low = absurd (omega arith)
@@ -116,3 +117,29 @@ spells_primitive bytes t s v r level next h low kind more = ([], s, r, starts_be
 pub spells_template : (bytes t s v r : List ℕ) (level : ℕ) (children next : Forest) → StartsWith bytes t s v r → level ≤ deepest
     → is_constructed t ≡ true → Spells children v (suc level) → Spells next r level → Spells (Template t children next) bytes level
 spells_template bytes t s v r level children next h low kind inner more = ([], s, v, r, starts_begins bytes t s v r level h low, kind, inner, more)
+
+-- Padding in front of what is spelled, passed.
+pub objects_past_padding : (bytes rest : List ℕ) (level : ℕ) (padding : List ℕ) → All (λ b. b ≡ 0) padding → bytes ≡ padding ++ rest
+    → AreObjects bytes level → AreObjects rest level
+objects_past_padding bytes rest level [] zeros e (forest, h) = (forest, rw (← e) h)
+objects_past_padding bytes rest level (a ∷ padding) zeros e (forest, h) =
+    let first : a ≡ 0 = zeros 0 0 (omega arith) in
+    let f : bytes ≡ 0 ∷ (padding ++ rest) = e ∙ ap (λ x. x ∷ (padding ++ rest)) first in
+    let k : Spells forest (0 ∷ (padding ++ rest)) level = rw (← f) h in
+    objects_past_padding (padding ++ rest) rest level padding (All-tail (λ b. b ≡ 0) a padding zeros) refl
+    (forest, spells_less forest (padding ++ rest) level k)
+
+-- Where objects are spelled, the next one does not fail.
+pub spelled_fails_not : (bytes : List ℕ) (level : ℕ) (reason : Reason) → AreObjects bytes level → IsAtObject bytes → FailsFor bytes level reason → ⊥
+spelled_fails_not bytes level reason (forest, spells) at fails =
+    let o = spelled_object forest bytes level at spells in
+    starts_fails_not bytes o.tag o.size o.value o.rest level reason o.starts o.in_depth fails
+
+pub spelled_is_object : (bytes t s v r : List ℕ) (level : ℕ) → AreObjects bytes level → level ≤ deepest → StartsWith bytes t s v r
+    → IsObject (record { tag = t; size = s; value = v; level = level })
+spelled_is_object bytes t s v r level objects low h = record {
+  is_tag = h.is_tag;
+  is_size = h.is_size;
+  in_depth = low;
+  inside = λ kind. rw add-one (inside_is_spelled bytes t s v r level h kind objects);
+}

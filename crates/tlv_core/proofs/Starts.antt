@@ -1,12 +1,13 @@
 -- An object at the front of bytes.
-use Rattle.std.proofs.Common.{◌≡◌, ◌≢◌, ℕ, suc, ◌+◌, ◌<◌, ◌≤◌, List, [], ◌∷◌, ◌++◌, length, take, drop, refl, sym, ap, arith, append_assoc, length-append, append-nil, ◌∙◌, ◌⊎◌, inl, inr, Err, true}
-use Rattle.std.proofs.lemmas.List.{append_cancel_left, take_at, drop_at, take-append-drop, length-take-le}
+use Rattle.std.proofs.Common.{◌≡◌, ℕ, ◌-◌, ◌<◌, ◌≤◌, List, [], ◌∷◌, ◌++◌, length, take, drop, refl, sym, ap, arith, append_assoc, length-append, ◌∙◌, ◌⊎◌, inl, inr}
+use Rattle.std.proofs.lemmas.List.{take_at, drop_at, take-append-drop, length-take-le, take_all}
 use Rattle.std.proofs.lemmas.Bool.{cases_lt}
-use Rattle.tlv_core.specs.TagForm.{IsTag, StartsWithTag, EndsInsideTag, is_constructed}
-use Rattle.tlv_core.specs.Length.{SpellsLength, StartsWithLength, EndsInsideLength}
+use Rattle.tlv_core.specs.TagForm.{IsTag}
+use Rattle.tlv_core.specs.Length.{SpellsLength}
 use Rattle.tlv_core.specs.Spelling.{deepest}
 use Rattle.tlv_core.specs.Place.{StartsWith}
 use Rattle.tlv_core.specs.FirstFault.{FailsFor, IsAtObject}
+use Rattle.tlv_core.specs.Front.{IsFrontSpelling, HasNoFrontLength}
 use Rattle.tlv_core.specs.declared.fault.Reason.{Reason}
 use Rattle.tlv_core.specs.declared.fault.Reason.TheVariants.{TagCut, TagForm, LengthCut, LengthForm, ValueCut, TooDeep}
 use Rattle.tlv_core.proofs.Tags.{tags_agree, start_is_not_inside, tag_cases}
@@ -130,3 +131,34 @@ front_answer bytes level = elim (cases_lt deepest level) [
     | inr (inr form) ↦ inr (TagForm, (low, form.0, form.1))
   ]
 ]
+
+-- The parts that a reader cuts: what follows the tag, the spelled length, the value, and the rest.
+pub after_tag : (bytes tag : List ℕ) (n : ℕ) → (rest : List ℕ) × (bytes ≡ tag ++ rest) → n ≡ length tag
+    → bytes ≡ tag ++ take (length bytes - n) (drop n bytes)
+after_tag bytes tag n (rest, e) same =
+    let cut : drop n bytes ≡ rest = ap (drop n) e ∙ drop_at tag rest n (sym same) in
+    let all : take (length bytes - n) rest ≡ rest = take_all (length bytes - n) rest (omega (arith, ap length e, length-append tag rest)) in
+    e ∙ ap (λ x. tag ++ x) (sym all ∙ ap (take (length bytes - n)) (sym cut))
+
+pub fails_for_length : (bytes tag rest : List ℕ) (level : ℕ) (reason : Reason) → level ≤ deepest → IsTag tag → bytes ≡ tag ++ rest
+    → HasNoFrontLength rest reason → FailsFor bytes level reason
+fails_for_length bytes tag rest level LengthCut low is_tag e h = (low, (tag, rest, is_tag, e, h))
+fails_for_length bytes tag rest level LengthForm low is_tag e h = (low, (tag, rest, is_tag, e, h.0, h.1))
+fails_for_length bytes tag rest level TagCut low is_tag e h = absurd h
+fails_for_length bytes tag rest level TagForm low is_tag e h = absurd h
+fails_for_length bytes tag rest level ValueCut low is_tag e h = absurd h
+fails_for_length bytes tag rest level TooDeep low is_tag e h = absurd h
+
+pub whole_object : (bytes tag rest size after value last : List ℕ) (n m : ℕ) → IsTag tag → bytes ≡ tag ++ rest
+    → IsFrontSpelling rest n m → size ≡ take n rest → after ≡ drop n rest → m ≤ length after → value ≡ take m after → last ≡ drop m after
+    → StartsWith bytes tag size value last
+whole_object bytes tag rest size after value last n m is_tag e (s, more, f, len, is_size) cut_size cut_after enough cut_value cut_last =
+    let same_size : size ≡ s = cut_size ∙ ap (take n) f ∙ take_at s more n len in
+    let same_after : after ≡ more = cut_after ∙ ap (drop n) f ∙ drop_at s more n len in
+    let parts : value ++ last ≡ after = ap (λ x. x ++ last) cut_value ∙ ap (λ x. take m after ++ x) cut_last ∙ take-append-drop m after in
+    let value_len : length value ≡ m = ap length cut_value ∙ length-take-le m after enough in
+    record {
+      spelled = e ∙ ap (λ x. tag ++ x) (f ∙ ap (λ x. x ++ more) (sym same_size) ∙ ap (λ x. size ++ x) (sym same_after ∙ sym parts)) ∙ sym (regroup tag size value last);
+      is_tag = is_tag;
+      is_size = rw (same_size, value_len) is_size;
+    }

@@ -1,11 +1,10 @@
 -- Tags at the front of bytes: a tag, a part of one, or neither.
-use Rattle.std.proofs.Common.{◌≡◌, ◌≢◌, ℕ, ◌+◌, ◌%◌, ◌<◌, ◌≤◌, List, [], ◌∷◌, ◌++◌, length, get_or, take, refl, sym, ap, arith, append_assoc, length-append, append-nil, ◌∙◌, Result, Ok, Err, ◌⊎◌, inl, inr}
+use Rattle.std.proofs.Common.{◌≡◌, ◌≢◌, ℕ, ◌%◌, ◌<◌, ◌≤◌, List, [], ◌∷◌, ◌++◌, length, get_or, refl, sym, ap, arith, append_assoc, length-append, append-nil, ◌∙◌, Ok, Err, ◌⊎◌, inl, inr}
 use Rattle.std.proofs.lemmas.List.{nil_from_length, append_cancel_left}
 use Rattle.std.proofs.lemmas.Bool.{cases_lt, cases_eq, cases_order}
-use Rattle.tlv_core.specs.TagForm.{IsTag, StartsWithTag, EndsInsideTag, IsProperPrefix}
+use Rattle.tlv_core.specs.TagForm.{IsTag, StartsWithTag, EndsInsideTag}
 use Rattle.tlv_core.specs.Front.{IsFrontTag}
-use Rattle.tlv_core.specs.declared.fault.Reason.{Reason}
-use Rattle.tlv_core.specs.declared.fault.Reason.TheVariants.{TagCut, TagForm}
+use Rattle.tlv_core.specs.declared.fault.Reason.TheVariants.{TagForm}
 
 -- No tag is a prefix of another.
 pub tags_agree : (s t x y : List ℕ) → IsTag s → IsTag t → s ++ x ≡ t ++ y → s ≡ t

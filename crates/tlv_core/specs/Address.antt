@@ -1,5 +1,5 @@
 -- Addresses of tags (ISO/IEC 7816-4, GET DATA and PUT DATA).
-use Rattle.std.specs.Prelude.{◌≡◌, ◌≢◌, ℕ, ◌-◌, ◌%◌, ◌<◌, ◌≤◌, List, [], ◌∷◌}
+use Rattle.std.specs.Prelude.{◌≡◌, ◌≢◌, ℕ, ◌%◌, ◌<◌, ◌≤◌, List, [], ◌∷◌}
 
 -- The tags that a command can name, and the P1-P2 that name them (which tags: this project's
 -- profile). A tag of one byte stands in P2, one of two bytes in P1-P2.

@@ -1,5 +1,5 @@
 -- The first fault of bytes that are no list of objects (this project's profile).
-use Rattle.std.specs.Prelude.{◌≡◌, ◌≢◌, ℕ, ◌+◌, ◌<◌, ◌≤◌, List, [], ◌∷◌, ◌++◌, length}
+use Rattle.std.specs.Prelude.{◌≡◌, ◌≢◌, ℕ, ◌<◌, ◌≤◌, List, [], ◌∷◌, ◌++◌, length}
 use Rattle.tlv_core.specs.TagForm.{IsTag, StartsWithTag, EndsInsideTag}
 use Rattle.tlv_core.specs.Length.{SpellsLength, StartsWithLength, EndsInsideLength}
 use Rattle.tlv_core.specs.Spelling.{deepest}

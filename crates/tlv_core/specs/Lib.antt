@@ -3,6 +3,11 @@ pub mod Tag
 pub mod Front
 pub mod Length
 pub mod Spelling
+pub mod Items
+pub mod ItemCodes
+pub mod Nodes
+pub mod NodesFall
+pub mod Object
 pub mod Place
 pub mod FirstFault
 pub mod Path

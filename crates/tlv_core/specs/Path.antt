@@ -1,25 +1,23 @@
 -- Objects found by the tags that lead to them (this project's profile).
-use Rattle.std.specs.Prelude.{◌≡◌, ℕ, ◌+◌, ◌≤◌, List, [], ◌∷◌, ◌++◌, length}
+use Rattle.std.specs.Prelude.{◌≡◌, ℕ, ◌≤◌, List, [], ◌∷◌, ◌++◌}
+use Rattle.tlv_core.specs.Object.{Object}
 use Rattle.tlv_core.specs.Place.{Reached, StartsWith}
 
--- an object as it stands in bytes: its tag, its length as spelled, its value, and its level
-pub record Object : Type 0 where
-  pub tag : List ℕ
-  pub size : List ℕ
-  pub value : List ℕ
-  pub level : ℕ
-
--- At this place of the bytes stands the object, and the tags from level 1 down to its own are the path.
-pub record StandsAt (bytes : List ℕ) (path : List (List ℕ)) (place : ℕ) (object : Object) : Type 0 where
+-- At this place of the bytes, which are objects of a level, stands the object, and the tags from
+-- that level down to its own are the path.
+pub record StandsAt (bytes : List ℕ) (level : ℕ) (path : List (List ℕ)) (place : ℕ) (object : Object) : Type 0 where
   pub left : List ℕ
   pub above : List (List ℕ)
   pub rest : List ℕ
-  pub reached : Reached bytes 1 place left object.level above
+  pub reached : Reached bytes level place left object.level above
   pub stands : StartsWith left object.tag object.size object.value rest
   pub is_path : path ≡ above ++ object.tag ∷ []
 
 -- the first of them in the order of the bytes
-pub record IsFirstAt (bytes : List ℕ) (path : List (List ℕ)) (object : Object) : Type 0 where
+pub record IsFirstAt (bytes : List ℕ) (level : ℕ) (path : List (List ℕ)) (object : Object) : Type 0 where
   pub place : ℕ
-  pub here : StandsAt bytes path place object
-  pub none_before : (p : ℕ) (other : Object) → StandsAt bytes path p other → place ≤ p
+  pub here : StandsAt bytes level path place object
+  pub none_before : (p : ℕ) (other : Object) → StandsAt bytes level path p other → place ≤ p
+
+abbrev pub NoneStandsAt : List ℕ → ℕ → List (List ℕ) → Type 0
+NoneStandsAt bytes level path = (place : ℕ) (object : Object) → StandsAt bytes level path place object → ⊥

@@ -1,5 +1,5 @@
 -- Tags (EMV Book 3, Annex B).
-use Rattle.std.specs.Prelude.{◌≡◌, ◌≢◌, ℕ, ◌-◌, ◌/◌, ◌%◌, ◌<◌, List, [], ◌∷◌, ◌++◌, Bool, false, ◌==◌}
+use Rattle.std.specs.Prelude.{◌≡◌, ◌≢◌, ℕ, ◌/◌, ◌%◌, ◌<◌, List, [], ◌∷◌, ◌++◌, Bool, false, ◌==◌}
 
 -- A tag has one to three bytes (three at most: this project's profile). Bits 5 to 1 of its first
 -- byte, all ones, say that a second byte follows; bit 8 of the second, that a third one does.

@@ -2,14 +2,38 @@
 
 //! Data objects of smart cards: tag, length and value by EMV Book 3, Annex B.
 
+pub mod build_fault;
+pub mod check;
 pub mod fault;
+pub mod forest;
+pub mod forest_laws;
+mod front;
 pub mod heads;
+pub mod node;
 pub mod object_tag;
+pub mod objects;
+pub mod path;
+pub mod read_fault;
+pub mod reader_laws;
 pub mod short_head;
 pub mod tag;
+pub mod tree;
 
+pub use build_fault::BuildFault;
+pub use check::value_fault;
 pub use fault::{Reason, TlvFault};
+pub use forest::Forest;
 pub use heads::head;
+pub use node::Node;
 pub use object_tag::ObjectTag;
+pub use objects::{Obj, Objects};
+pub use path::find;
+pub use read_fault::ReadFault;
 pub use short_head::Head;
 pub use tag::Tag;
+pub use tree::Tree;
+
+#[cfg(test)]
+mod forest_tests;
+#[cfg(test)]
+mod tests;

@@ -1,4 +1,4 @@
-ghost use Rattle.std.specs.Prelude.{◌≡◌, ◌↔◌, ◌++◌, ℕ, List, length, IfOk, IsErrOf, IsOk};
+ghost use Rattle.std.specs.Prelude.{◌≡◌, ◌↔◌, ◌++◌, ℕ, List, length, false, IfOk, IsErrOf, IsOk, IsTrue};
 ghost use Rattle.tlv_core.specs.TagForm.{IsTag, StartsWithTag, EndsInsideTag, is_constructed};
 ghost use Rattle.tlv_core.specs.Front.{IsFrontTag};
 
@@ -51,6 +51,14 @@ impl Tag {
         ensures { result ≡ is_constructed self.now }
     {
         self.bytes[0] / 32 % 2 == 1
+    }
+
+    /// Whether the value is any bytes.
+    pub(crate) fn is_primitive(&self) -> bool
+        ensures kind { IsTrue result ↔ (is_constructed self.now ≡ false) }
+        ensures tag { IsTag self.now }
+    {
+        self.bytes[0] / 32 % 2 == 0
     }
 
     /// The bytes of the tag, one to three.

@@ -1,5 +1,5 @@
 -- The first `len` cells are what the two copies wrote, one after the other.
-use Rattle.std.proofs.Common.{ℕ, List, ◌≡◌, ◌++◌, ◌∙◌, ◌+◌, ◌-◌, ap, sym, take, length, drop, arith, length-append}
+use Rattle.std.proofs.Common.{ℕ, List, ◌≡◌, ◌++◌, ◌∙◌, ◌+◌, ◌-◌, ap, take, length, drop, arith, length-append}
 use Rattle.std.proofs.lemmas.Slice.{take-put_mid}
 use Rattle.std.proofs.lemmas.List.{take_at}
 use borrow.Rule.Slice.PartMut.{put_mid}

@@ -1,0 +1,255 @@
+-- Objects found by their tags, step by step.
+use Rattle.std.proofs.Common.{◌≡◌, ◌≢◌, ℕ, suc, ◌+◌, ◌<◌, List, [], ◌∷◌, ◌++◌, length, refl, sym, ap, subst, arith, add-one, append-nil, append_assoc, length-append, ◌∙◌, ◌⊎◌, inl, inr, true, All, Some, None}
+use Rattle.std.proofs.lemmas.List.Elements.{All-tail}
+use Rattle.tlv_core.specs.TagForm.{is_constructed}
+use Rattle.tlv_core.specs.Object.{Object, ObjectList, GivesNext}
+use Rattle.tlv_core.specs.Spelling.{Begins}
+use Rattle.tlv_core.specs.Path.{StandsAt, IsFirstAt, NoneStandsAt}
+use Rattle.tlv_core.specs.Place.{StartsWith, at_front, past_padding, past_object, into_template}
+use Rattle.tlv_core.proofs.Starts.{starts_at_object, starts_agree}
+use Rattle.tlv_core.proofs.Places.{object_is_long, padded_place, object_place, reached_inside}
+
+-- Objects of padded bytes, and of bytes that start with an object.
+stands_past_padding : (rest : List ℕ) (level place : ℕ) (path : List (List ℕ)) (o : Object) → StandsAt rest level path place o
+    → StandsAt (0 ∷ rest) level path (1 + place) o
+stands_past_padding rest level place path o h = record {
+  left = h.left;
+  above = h.above;
+  rest = h.rest;
+  reached = past_padding rest place refl refl h.reached;
+  stands = h.stands;
+  is_path = h.is_path;
+}
+
+stands_in_padded : (rest : List ℕ) (level place : ℕ) (path : List (List ℕ)) (o : Object) → StandsAt (0 ∷ rest) level path place o
+    → (next : ℕ) × (place ≡ 1 + next) × StandsAt rest level path next o
+stands_in_padded rest level place path o h =
+    let (next, at, reached) = padded_place (0 ∷ rest) level place h.left o.level h.above h.reached rest refl
+    (starts_at_object h.left o.tag o.size o.value h.rest h.stands) in
+    (next, at, record { left = h.left; above = h.above; rest = h.rest; reached = reached; stands = h.stands; is_path = h.is_path })
+
+stands_past_object : (bytes t s v r : List ℕ) (level place : ℕ) (path : List (List ℕ)) (o : Object) → StartsWith bytes t s v r
+    → StandsAt r level path place o → StandsAt bytes level path (length (t ++ s ++ v) + place) o
+stands_past_object bytes t s v r level place path o b h = record {
+  left = h.left;
+  above = h.above;
+  rest = h.rest;
+  reached = past_object t s v r place b refl h.reached;
+  stands = h.stands;
+  is_path = h.is_path;
+}
+
+stands_in_template : (bytes t s v r : List ℕ) (level place : ℕ) (path : List (List ℕ)) (o : Object) → StartsWith bytes t s v r
+    → is_constructed t ≡ true → StandsAt v (suc level) path place o → StandsAt bytes level (t ∷ path) (length (t ++ s) + place) o
+stands_in_template bytes t s v r level place path o b kind h = record {
+  left = h.left;
+  above = t ∷ h.above;
+  rest = h.rest;
+  reached = into_template t s v r place h.above b kind refl refl h.reached;
+  stands = h.stands;
+  is_path = ap (λ x. t ∷ x) h.is_path;
+}
+
+stands_in_front : (bytes t s v r : List ℕ) (level : ℕ) → StartsWith bytes t s v r
+    → StandsAt bytes level (t ∷ []) 0 (record { tag = t; size = s; value = v; level = level })
+stands_in_front bytes t s v r level b = record {
+  left = bytes;
+  above = [];
+  rest = r;
+  reached = at_front refl refl refl refl;
+  stands = b;
+  is_path = refl;
+}
+
+pub record StandsPast (head value rest : List ℕ) (level place : ℕ) (path : List (List ℕ)) (o : Object) : Type 0 where
+  pub next : ℕ
+  pub at : place ≡ length (head ++ value) + next
+  pub stands : StandsAt rest level path next o
+
+pub record StandsWithin (tag head value : List ℕ) (level place : ℕ) (path : List (List ℕ)) (o : Object) : Type 0 where
+  pub inner : ℕ
+  pub below : List (List ℕ)
+  pub kind : is_constructed tag ≡ true
+  pub at : place ≡ length head + inner
+  pub through : path ≡ tag ∷ below
+  pub stands : StandsAt value (suc level) below inner o
+
+stands_in_object : (bytes t s v r : List ℕ) (level place : ℕ) (path : List (List ℕ)) (o : Object) → StartsWith bytes t s v r
+    → StandsAt bytes level path place o
+    → (path ≡ t ∷ []) ⊎ (StandsPast (t ++ s) v r level place path o ⊎ StandsWithin t (t ++ s) v level place path o)
+stands_in_object bytes t s v r level place path o b h =
+    elim (object_place bytes level place h.left o.level h.above h.reached t s v r b) [
+      | inl front ↦
+          let k : StartsWith bytes o.tag o.size o.value h.rest = rw (← front.whole) h.stands in
+          let same = starts_agree bytes o.tag o.size o.value h.rest t s v r k b in
+          inl (h.is_path ∙ ap (λ x. x ++ o.tag ∷ []) front.outside ∙ ap (λ x. x ∷ []) same.tag)
+      | inr (inl past) ↦ inr (inl (record {
+        next = past.next;
+        at = past.at;
+        stands = record {
+          left = h.left;
+          above = h.above;
+          rest = h.rest;
+          reached = past.reached;
+          stands = h.stands;
+          is_path = h.is_path;
+        };
+      }))
+      | inr (inr within) ↦ inr (inr (record {
+        inner = within.inner;
+        below = within.below ++ o.tag ∷ [];
+        kind = within.kind;
+        at = within.at;
+        through = h.is_path ∙ ap (λ x. x ++ o.tag ∷ []) within.through;
+        stands = record { left = h.left; above = within.below; rest = h.rest; reached = within.reached; stands = h.stands; is_path = refl };
+      }))
+    ]
+
+-- An object lies before the end.
+stands_inside : (bytes : List ℕ) (level place : ℕ) (path : List (List ℕ)) (o : Object) → StandsAt bytes level path place o → place < length bytes
+stands_inside bytes level place path o h =
+    omega (
+      arith,
+      reached_inside bytes level place h.left o.level h.above h.reached,
+      object_is_long h.left (starts_at_object h.left o.tag o.size o.value h.rest h.stands),
+    )
+
+-- What is left of a list, as a reader looks for a path: none stands before it.
+pub record Seeks (bytes : List ℕ) (level : ℕ) (path : List (List ℕ)) (rest : List ℕ) : Type 0 where
+  pub none : NoneStandsAt rest level path → NoneStandsAt bytes level path
+  pub first : (o : Object) → IsFirstAt rest level path o → IsFirstAt bytes level path o
+
+pub seeks_at_start : (bytes : List ℕ) (level : ℕ) (path : List (List ℕ)) → Seeks bytes level path bytes
+seeks_at_start bytes level path = record { none = λ h. h; first = λ o h. h }
+
+seeks_one_zero : (bytes rest : List ℕ) (level : ℕ) (path : List (List ℕ)) → Seeks bytes level path (0 ∷ rest) → Seeks bytes level path rest
+seeks_one_zero bytes rest level path c = record {
+  none = λ h. c.none (λ place o g. let (next, at, k) = stands_in_padded rest level place path o g in h next o k);
+  first = λ o h. c.first o (record {
+    place = 1 + h.place;
+    here = stands_past_padding rest level h.place path o h.here;
+    none_before = λ p q g. let (next, at, k) = stands_in_padded rest level p path q g in omega (arith, h.none_before next q k);
+  });
+}
+
+pub seeks_past_padding : (bytes at rest : List ℕ) (level : ℕ) (path : List (List ℕ)) (padding : List ℕ) → All (λ b. b ≡ 0) padding
+    → at ≡ padding ++ rest → Seeks bytes level path at → Seeks bytes level path rest
+seeks_past_padding bytes at rest level path [] zeros e c = rw (← e) c
+seeks_past_padding bytes at rest level path (a ∷ padding) zeros e c =
+    let zero_first : a ≡ 0 = zeros 0 0 (omega arith) in
+    let f : at ≡ 0 ∷ (padding ++ rest) = e ∙ ap (λ x. x ∷ (padding ++ rest)) zero_first in
+    let k : Seeks bytes level path (0 ∷ (padding ++ rest)) = rw (← f) c in
+    seeks_past_padding bytes (padding ++ rest) rest level path padding (All-tail (λ b. b ≡ 0) a padding zeros) refl
+    (seeks_one_zero bytes (padding ++ rest) level path k)
+
+-- An object is passed that is not the one sought, and does not hold it.
+pub seeks_past_object : (bytes at t s v r : List ℕ) (level : ℕ) (path : List (List ℕ)) → StartsWith at t s v r → (path ≡ t ∷ [] → ⊥)
+    → ((below : List (List ℕ)) → path ≡ t ∷ below → is_constructed t ≡ true → NoneStandsAt v (suc level) below)
+    → Seeks bytes level path at → Seeks bytes level path r
+seeks_past_object bytes at t s v r level path b here inside c = record {
+  none = λ h. c.none (λ place o g. elim (stands_in_object at t s v r level place path o b g) [
+    | inl is ↦ here is
+    | inr (inl past) ↦ h past.next o past.stands
+    | inr (inr within) ↦ inside within.below within.through within.kind within.inner o within.stands
+  ]);
+  first = λ o h. c.first o (record {
+    place = length (t ++ s ++ v) + h.place;
+    here = stands_past_object at t s v r level h.place path o b h.here;
+    none_before = λ p q g. elim (stands_in_object at t s v r level p path q b g) [
+      | inl is ↦ absurd (here is)
+      | inr (inl past) ↦ omega (arith, past.at, h.none_before past.next q past.stands)
+      | inr (inr within) ↦ absurd (inside within.below within.through within.kind within.inner q within.stands)
+    ];
+  });
+}
+
+-- The object in front is the one sought.
+pub found_here : (bytes at t s v r : List ℕ) (level : ℕ) (path : List (List ℕ)) → StartsWith at t s v r → path ≡ t ∷ []
+    → Seeks bytes level path at → IsFirstAt bytes level path (record { tag = t; size = s; value = v; level = level })
+found_here bytes at t s v r level path b e c = c.first (record { tag = t; size = s; value = v; level = level }) (record {
+  place = 0;
+  here = rw e (stands_in_front at t s v r level b);
+  none_before = λ p q g. omega arith;
+})
+
+-- The first one in the object in front, under a longer path, is the one sought.
+pub found_within : (bytes at t s v r : List ℕ) (level : ℕ) (path below : List (List ℕ)) (o : Object) → StartsWith at t s v r
+    → is_constructed t ≡ true → path ≡ t ∷ below → below ≢ [] → IsFirstAt v (suc level) below o
+    → Seeks bytes level path at → IsFirstAt bytes level path o
+found_within bytes at t s v r level path below o b kind e more h c = c.first o (record {
+  place = length (t ++ s) + h.place;
+  here = rw e (stands_in_template at t s v r level h.place below o b kind h.here);
+  none_before = λ p q g. elim (stands_in_object at t s v r level p path q b g) [
+    | inl is ↦ absurd (more (let f : t ∷ below ≡ t ∷ [] = sym e ∙ is in cc))
+    | inr (inl past) ↦ omega (arith, past.at, length-append (t ++ s) v, stands_inside v (suc level) h.place below o h.here)
+    | inr (inr within) ↦
+        let same : within.below ≡ below = (let f : t ∷ within.below ≡ t ∷ below = sym within.through ∙ e in cc) in
+        let k : StandsAt v (suc level) below within.inner q = rw (← same) within.stands in
+        omega (arith, within.at, h.none_before within.inner q k)
+  ];
+})
+
+-- Nothing stands in what is left at the end.
+none_in_nil : (level : ℕ) (path : List (List ℕ)) → NoneStandsAt [] level path
+none_in_nil level path place o h = omega (arith, stands_inside [] level place path o h)
+
+pub none_in_padding : (bytes at : List ℕ) (level : ℕ) (path : List (List ℕ)) → All (λ b. b ≡ 0) at → Seeks bytes level path at
+    → NoneStandsAt bytes level path
+none_in_padding bytes at level path zeros c =
+    (seeks_past_padding bytes at [] level path at zeros (sym (append-nil at)) c).none (none_in_nil level path)
+
+regroup : (p t s v r : List ℕ) → p ++ t ++ s ++ v ++ r ≡ p ++ (t ++ s ++ v ++ r)
+regroup p t s v r = simp append_assoc
+
+-- The next object of a list stands in front of what the reader is left with past the padding.
+pub seeks_next : (bytes : List ℕ) (level : ℕ) (path : List (List ℕ)) (before p t s v r : List ℕ) (depth : ℕ) → Begins before p t s v r depth
+    → Seeks bytes level path before → StartsWith (t ++ s ++ v ++ r) t s v r × Seeks bytes level path (t ++ s ++ v ++ r)
+seeks_next bytes level path before p t s v r depth b c =
+    let e : before ≡ p ++ (t ++ s ++ v ++ r) = b.spelled ∙ regroup p t s v r in (
+      record { spelled = refl; is_tag = b.is_tag; is_size = b.is_size },
+      seeks_past_padding bytes before (t ++ s ++ v ++ r) level path p b.is_padding e c,
+    )
+
+-- One object of a list, looked at by a reader with a path.
+pub seeks_elsewhere : (bytes : List ℕ) (level : ℕ) (path : List (List ℕ)) (before after : ObjectList) (o : Object) (first : List ℕ) (below : List (List ℕ))
+    → GivesNext before (Some o) after → Seeks bytes level path before.bytes → path ≡ first ∷ below → o.tag ≢ first
+    → Seeks bytes level path after.bytes
+seeks_elsewhere bytes level path before after o first below ((p, b), same, kept) c e other =
+    let n = seeks_next bytes level path before.bytes p o.tag o.size o.value after.bytes before.level b c in
+    seeks_past_object bytes (o.tag ++ o.size ++ o.value ++ after.bytes) o.tag o.size o.value after.bytes level path n.0
+    (λ is. other (let f : o.tag ∷ [] ≡ first ∷ below = sym is ∙ e in cc))
+    (λ deep is kind. absurd (other (let f : o.tag ∷ deep ≡ first ∷ below = sym is ∙ e in cc)))
+    n.1
+
+-- Nothing on the rest of the path stands in the object.
+pub seeks_past_children : (bytes : List ℕ) (level : ℕ) (path : List (List ℕ)) (before after : ObjectList) (o : Object) (below : List (List ℕ))
+    → GivesNext before (Some o) after → Seeks bytes level path before.bytes → path ≡ o.tag ∷ below → below ≢ []
+    → (is_constructed o.tag ≡ true → NoneStandsAt o.value (level + 1) below) → Seeks bytes level path after.bytes
+seeks_past_children bytes level path before after o below ((p, b), same, kept) c e more none =
+    let n = seeks_next bytes level path before.bytes p o.tag o.size o.value after.bytes before.level b c in
+    seeks_past_object bytes (o.tag ++ o.size ++ o.value ++ after.bytes) o.tag o.size o.value after.bytes level path n.0
+    (λ is. more (let f : o.tag ∷ below ≡ o.tag ∷ [] = sym e ∙ is in cc))
+    (λ deep is kind.
+    let f : deep ≡ below = (let g : o.tag ∷ deep ≡ o.tag ∷ below = sym is ∙ e in cc) in
+    let h : NoneStandsAt o.value (suc level) below = rw (← add-one) (none kind) in rw f h)
+    n.1
+
+pub found_as_object : (bytes : List ℕ) (level : ℕ) (path : List (List ℕ)) (before after : ObjectList) (o : Object)
+    → GivesNext before (Some o) after → before.level ≡ level → Seeks bytes level path before.bytes → path ≡ o.tag ∷ [] → IsFirstAt bytes level path o
+found_as_object bytes level path before after o ((p, b), same, kept) at c e =
+    let n = seeks_next bytes level path before.bytes p o.tag o.size o.value after.bytes before.level b c in
+    let h = found_here bytes (o.tag ++ o.size ++ o.value ++ after.bytes) o.tag o.size o.value after.bytes level path n.0 e n.1 in
+    let P : ℕ → Type 0 = λ x. IsFirstAt bytes level path (record { tag = o.tag; size = o.size; value = o.value; level = x }) in
+    subst P (sym (same ∙ at)) h
+
+pub found_in_children : (bytes : List ℕ) (level : ℕ) (path : List (List ℕ)) (before after : ObjectList) (o found : Object) (below : List (List ℕ))
+    → GivesNext before (Some o) after → Seeks bytes level path before.bytes → path ≡ o.tag ∷ below → below ≢ [] → is_constructed o.tag ≡ true
+    → IsFirstAt o.value (level + 1) below found → IsFirstAt bytes level path found
+found_in_children bytes level path before after o found below ((p, b), same, kept) c e more kind h =
+    let n = seeks_next bytes level path before.bytes p o.tag o.size o.value after.bytes before.level b c in
+    let g : IsFirstAt o.value (suc level) below found = rw (← add-one) h in
+    found_within bytes (o.tag ++ o.size ++ o.value ++ after.bytes) o.tag o.size o.value after.bytes level path below found n.0 kind e more g n.1
+
+pub none_at_end : (bytes : List ℕ) (level : ℕ) (path : List (List ℕ)) (before after : ObjectList) → GivesNext before None after
+    → Seeks bytes level path before.bytes → NoneStandsAt bytes level path
+none_at_end bytes level path before after (zeros, at, kept) c = none_in_padding bytes before.bytes level path zeros c

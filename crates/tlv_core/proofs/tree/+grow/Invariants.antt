@@ -1,0 +1,12 @@
+use Rattle.std.proofs.Common.{◌-◌}
+use Rattle.tlv_core.proofs.Grown.{Grows}
+use Rattle.tlv_core.proofs.tree.+grow.Given as goal
+
+abbrev pub decreases-grow : goal.decreases-grow
+decreases-grow l = 17 - l.objects.level
+
+abbrev pub invariant-loop-object : goal.invariant-loop-object
+invariant-loop-object l =
+    (goal.iterator-loop-object).can_next l.object-iterator ×
+    (goal.iterator-loop-object).is_finite l.object-iterator ×
+    Grows l.forest l.fn.objects l.object-iterator

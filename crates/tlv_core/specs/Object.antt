@@ -1,0 +1,36 @@
+-- Objects as they stand in bytes, one after another.
+use Rattle.std.specs.Prelude.{◌≡◌, ℕ, ◌+◌, ◌≤◌, List, [], length, All, Option, Some, None, true}
+use Rattle.tlv_core.specs.TagForm.{IsTag, is_constructed}
+use Rattle.tlv_core.specs.Length.{SpellsLength}
+use Rattle.tlv_core.specs.Spelling.{Begins, AreObjects, deepest}
+
+-- an object: its tag, its length as spelled, its value, and its level
+pub record Object : Type 0 where
+  pub tag : List ℕ
+  pub size : List ℕ
+  pub value : List ℕ
+  pub level : ℕ
+
+-- its length is that of its value, and the value of a constructed one is a list of objects
+pub record IsObject (object : Object) : Type 0 where
+  pub is_tag : IsTag object.tag
+  pub is_size : SpellsLength object.size (length object.value)
+  pub in_depth : object.level ≤ deepest
+  pub inside : is_constructed object.tag ≡ true → AreObjects object.value (object.level + 1)
+
+-- a list of objects, or what is left of one: its bytes, and the level of its objects
+pub record ObjectList : Type 0 where
+  pub bytes : List ℕ
+  pub level : ℕ
+
+-- the list is objects of its level
+abbrev pub IsObjectList : ObjectList → Type 0
+IsObjectList list = AreObjects list.bytes list.level
+
+-- Going on in a list gives its next object, past any padding, and leaves what follows it; at the
+-- end, past any padding, it gives none.
+abbrev pub GivesNext : ObjectList → Option Object → ObjectList → Type 0
+GivesNext before None after = All (λ b. b ≡ 0) before.bytes × (after.bytes ≡ []) × (after.level ≡ before.level)
+GivesNext before (Some object) after =
+    ((padding : List ℕ) × Begins before.bytes padding object.tag object.size object.value after.bytes before.level)
+    × (object.level ≡ before.level) × (after.level ≡ before.level)

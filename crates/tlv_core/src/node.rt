@@ -1,0 +1,70 @@
+ghost use Rattle.std.specs.Prelude.{◌≡◌};
+ghost use Rattle.std.specs.Option.{option_copied};
+ghost use Rattle.tlv_core.specs.Items.{PrimitiveItem, TemplateItem, item_tag, item_value, item_children};
+
+use crate::forest::Forest;
+use crate::tag::Tag;
+use std::marker::Model;
+
+/// One object of a forest. Contracts see it as its tag with its value or its children.
+#[cycle(forest)]
+#[derive(Drop)]
+pub struct Node {
+    pub(crate) tag: Tag,
+    pub(crate) content: Content,
+}
+
+#[cycle(forest)]
+#[derive(Drop)]
+pub(crate) enum Content {
+    Primitive(Vec<u8>),
+    Template(Forest),
+}
+
+impl Model for Node {
+    ghost use Rattle.tlv_core.specs.Items.{Item};
+    ghost use Rattle.tlv_core.specs.ItemCodes.{item_code};
+
+    ghost Value = { Item };
+
+    ghost coded = { item_code };
+
+    ghost use Rattle.tlv_core.specs.Nodes.{item_of, item_size};
+
+    ghost view = { λ n. item_of n.tag n.content };
+
+    ghost size = { item_size };
+
+    ghost use Rattle.tlv_core.specs.NodesFall.{depth_le-item_size};
+
+    ghost size_decreases = { λ a h. depth_le-item_size a.tag a.content };
+}
+
+impl Node {
+    /// The object's tag.
+    pub fn tag(&self) -> Tag
+        ensures { result ≡ item_tag self.now }
+    {
+        self.tag
+    }
+
+    /// The value of a primitive, and `None` for a template.
+    pub fn value(&self) -> Option<&[u8]>
+        ensures { option_copied result ≡ item_value self.now }
+    {
+        match &self.content {
+            Content::Primitive(value) => Some(value),
+            Content::Template(_) => None,
+        }
+    }
+
+    /// The objects in a template, and `None` for a primitive.
+    pub fn children(&self) -> Option<&Forest>
+        ensures { option_copied result ≡ item_children self.now }
+    {
+        match &self.content {
+            Content::Primitive(_) => None,
+            Content::Template(children) => Some(children),
+        }
+    }
+}

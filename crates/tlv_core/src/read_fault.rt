@@ -1,0 +1,45 @@
+use crate::fault::TlvFault;
+use std::alloc::AllocError;
+use std::fmt;
+
+/// Why no forest was read: the first fault of the bytes, or want of memory.
+#[derive(Clone, Copy, Debug, PartialEq, Eq, Hash)]
+pub enum ReadFault {
+    /// The bytes are no list of objects.
+    Tlv(TlvFault),
+    /// Memory was refused.
+    OutOfMemory,
+}
+
+impl fmt::Display for ReadFault {
+    fn fmt<W: fmt::Write>(&self, f: &mut fmt::Formatter<W>) -> fmt::Result {
+        match self {
+            ReadFault::Tlv(fault) => write!(f, "{fault}"),
+            ReadFault::OutOfMemory => write!(f, "out of memory"),
+        }
+    }
+}
+
+impl std::error::Error for ReadFault {}
+
+impl From<TlvFault> for ReadFault {
+    ghost use Rattle.std.specs.Prelude.{◌≡◌};
+    ghost use Rattle.tlv_core.specs.declared.read_fault.ReadFault.TheVariants.{Tlv};
+
+    ghost from_gives = { λ fault e. e ≡ Tlv fault };
+
+    fn from(fault: TlvFault) -> ReadFault {
+        ReadFault::Tlv(fault)
+    }
+}
+
+impl From<AllocError> for ReadFault {
+    ghost use Rattle.std.specs.Prelude.{◌≡◌};
+    ghost use Rattle.tlv_core.specs.declared.read_fault.ReadFault.TheVariants.{OutOfMemory};
+
+    ghost from_gives = { λ _ e. e ≡ OutOfMemory };
+
+    fn from(_: AllocError) -> ReadFault {
+        ReadFault::OutOfMemory
+    }
+}

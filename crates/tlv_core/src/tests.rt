@@ -1,0 +1,221 @@
+use crate::{Obj, ObjectTag, Objects, Reason, Tag, TlvFault, find, head, value_fault};
+use std::process::Abort;
+use std::test::Fail;
+
+const SIXTEEN_LEVELS: &[u8] =
+    b"\x70\x1E\x70\x1C\x70\x1A\x70\x18\x70\x16\x70\x14\x70\x12\x70\x10\x70\x0E\x70\x0C\x70\x0A\x70\x08\x70\x06\x70\x04\x70\x02\x70\x00";
+
+const SEVENTEEN_LEVELS: &[u8] =
+    b"\x70\x20\x70\x1E\x70\x1C\x70\x1A\x70\x18\x70\x16\x70\x14\x70\x12\x70\x10\x70\x0E\x70\x0C\x70\x0A\x70\x08\x70\x06\x70\x04\x70\x02\x70\x00";
+
+fn tag(rt: &impl Abort, bytes: &[u8]) -> Tag {
+    let (tag, size) = Tag::read(bytes).expect(rt, "a tag");
+    assert_eq!(rt; size, bytes.len(), "in {bytes:?}");
+    tag
+}
+
+fn is_object(rt: &impl Abort, object: Option<Obj<'_>>, tag: &[u8], value: &[u8]) {
+    let object = object.expect(rt, "an object");
+    assert_eq!(rt; object.tag().bytes(), tag);
+    assert_eq!(rt; object.value(), value);
+}
+
+fn is_one_object(rt: &impl Abort, bytes: &[u8], tag: &[u8], value: &[u8]) {
+    let mut objects = Objects::over(bytes).expect(rt, "objects");
+    is_object(rt, objects.next(), tag, value);
+    assert!(rt; objects.next().is_none(), "in {bytes:?}");
+}
+
+fn has_fault(rt: &impl Abort, bytes: &[u8], place: usize, reason: Reason) {
+    assert_eq!(rt;
+        Objects::over(bytes).err(),
+        Some(TlvFault { place, reason }),
+        "in {bytes:?}"
+    );
+}
+
+#[test]
+fn lists_objects(rt: HostRuntime) {
+    is_one_object(
+        &rt,
+        b"\x6F\x09\x84\x07\xA0\x00\x00\x00\x03\x10\x10",
+        b"\x6F",
+        b"\x84\x07\xA0\x00\x00\x00\x03\x10\x10",
+    );
+    is_one_object(&rt, b"\x50\x00", b"\x50", b"");
+    is_one_object(&rt, b"\x70\x00", b"\x70", b"");
+    is_one_object(&rt, b"\x70\x02\x00\x00", b"\x70", b"\x00\x00");
+    is_one_object(&rt, b"\x50\x02\x00\x00", b"\x50", b"\x00\x00");
+    is_one_object(&rt, b"\x50\x82\x00\x01\xAA", b"\x50", b"\xAA");
+    is_one_object(&rt, b"\xDF\x81\x01\x01\x42", b"\xDF\x81\x01", b"\x42");
+
+    let mut two = Objects::over(b"\x00\x00\x5A\x01\x12\x00\x9F\x02\x02\x00\xFF\x00\x00").expect(
+        &rt, "objects",
+    );
+    is_object(&rt, two.next(), b"\x5A", b"\x12");
+    is_object(&rt, two.next(), b"\x9F\x02", b"\x00\xFF");
+    assert!(rt; two.next().is_none());
+
+    let mut none = Objects::over(b"\x00").expect(&rt, "objects");
+    assert!(rt; none.next().is_none());
+}
+
+#[test]
+fn finds_the_first_fault(rt: HostRuntime) {
+    has_fault(&rt, b"\x50\x05\x41", 0, Reason::ValueCut);
+    has_fault(&rt, b"\x70\x04\x50\x02\xAA", 0, Reason::ValueCut);
+    has_fault(&rt, b"\x70\x03\x50\x02\xAA", 2, Reason::ValueCut);
+    has_fault(&rt, b"\x9F", 0, Reason::TagCut);
+    has_fault(&rt, b"\x9F\x81", 0, Reason::TagCut);
+    has_fault(&rt, b"\x9F\x00\x00", 0, Reason::TagForm);
+    has_fault(&rt, b"\x9F\x80\x00", 0, Reason::TagForm);
+    has_fault(&rt, b"\x9F\x81\x80\x00", 0, Reason::TagForm);
+    has_fault(&rt, b"\x50", 0, Reason::LengthCut);
+    has_fault(&rt, b"\x50\x82\x01", 0, Reason::LengthCut);
+    has_fault(&rt, b"\x50\x80", 0, Reason::LengthForm);
+    has_fault(&rt, b"\x50\x83\x00\x00\x01\xAA", 0, Reason::LengthForm);
+    has_fault(&rt, b"\x50\x01\x41\x00\x50\x02\x41", 4, Reason::ValueCut);
+    has_fault(&rt, SEVENTEEN_LEVELS, 32, Reason::TooDeep);
+}
+
+#[test]
+fn counts_levels_from_the_object(rt: HostRuntime) {
+    let mut levels = 0;
+    let mut objects = Objects::over(SIXTEEN_LEVELS).ok();
+    for level in 1..=17 {
+        objects = match objects.and_then(|mut objects| objects.next()) {
+            Some(object) => {
+                levels = level;
+                object.children()
+            }
+            None => None,
+        };
+    }
+    assert_eq!(rt; levels, 16);
+
+    let template = tag(&rt, b"\x70");
+    assert_eq!(rt;
+        value_fault(template, SIXTEEN_LEVELS),
+        Some(TlvFault {
+            place: 30,
+            reason: Reason::TooDeep
+        })
+    );
+    assert_eq!(rt;
+        value_fault(template, b"\x50\x05\x41"),
+        Some(TlvFault {
+            place: 0,
+            reason: Reason::ValueCut
+        })
+    );
+    assert_eq!(rt; value_fault(template, b"\x00\x50\x81\x01\x41\x00"), None);
+    assert_eq!(rt; value_fault(tag(&rt, b"\x50"), b"\x50\x05\x41"), None);
+}
+
+#[test]
+fn counts_the_bytes_of_an_object(rt: HostRuntime) {
+    let mut objects = Objects::over(b"\x00\x50\x81\x01\x41\x00\x00").expect(&rt, "objects");
+    let object = objects.next().expect(&rt, "an object");
+    assert_eq!(rt; object.size(), 4);
+    assert!(rt; object.children().is_none());
+}
+
+#[test]
+fn finds_by_path(rt: HostRuntime) {
+    let name = b"\x6F\x09\x84\x07\xA0\x00\x00\x00\x03\x10\x10";
+    let (control, file) = (tag(&rt, b"\x6F"), tag(&rt, b"\x84"));
+    is_object(
+        &rt,
+        find(name, &[control, file]).expect(&rt, "objects"),
+        b"\x84",
+        b"\xA0\x00\x00\x00\x03\x10\x10",
+    );
+    assert!(rt; find(name, &[file]).expect(&rt, "objects").is_none());
+    assert!(rt; find(name, &[]).expect(&rt, "objects").is_none());
+    assert_eq!(rt;
+        find(b"\x50\x05\x41", &[file]).err(),
+        Some(TlvFault {
+            place: 0,
+            reason: Reason::ValueCut
+        })
+    );
+
+    let templates = b"\x70\x03\x50\x01\x41\x70\x03\x51\x01\x42\x70\x03\x50\x01\x43";
+    let (template, first, second) = (tag(&rt, b"\x70"), tag(&rt, b"\x50"), tag(&rt, b"\x51"));
+    is_object(
+        &rt,
+        find(templates, &[template, second]).expect(&rt, "objects"),
+        b"\x51",
+        b"\x42",
+    );
+    is_object(
+        &rt,
+        find(templates, &[template, first]).expect(&rt, "objects"),
+        b"\x50",
+        b"\x41",
+    );
+}
+
+#[test]
+fn writes_heads(rt: HostRuntime) {
+    let name = tag(&rt, b"\x50");
+    assert_eq!(rt; head(name, 127).bytes(), b"\x50\x7F".as_slice());
+    assert_eq!(rt; head(name, 128).bytes(), b"\x50\x81\x80".as_slice());
+    assert_eq!(rt; head(name, 255).bytes(), b"\x50\x81\xFF".as_slice());
+    assert_eq!(rt; head(name, 256).bytes(), b"\x50\x82\x01\x00".as_slice());
+    assert_eq!(rt;
+        head(tag(&rt, b"\x5F\x20"), 2048).bytes(),
+        b"\x5F\x20\x82\x08\x00".as_slice()
+    );
+}
+
+#[test]
+fn names_tags_by_p1p2(rt: HostRuntime) {
+    for (p1, p2) in [
+        (0x00, 0x40),
+        (0x00, 0x50),
+        (0x5F, 0x20),
+        (0x9F, 0x36),
+        (0x00, 0xFE),
+        (0xFF, 0x7F),
+    ] {
+        let named = ObjectTag::from_p1p2(p1, p2).expect(&rt, "an address");
+        assert_eq!(rt; named.p1p2(), (p1, p2));
+        assert_eq!(rt; ObjectTag::new(named.tag()), Some(named));
+        if p1 == 0 {
+            assert_eq!(rt; named.tag().bytes(), [p2].as_slice());
+        } else {
+            assert_eq!(rt; named.tag().bytes(), [p1, p2].as_slice());
+        }
+    }
+    for (p1, p2) in [
+        (0x00, 0xFF),
+        (0x00, 0x5F),
+        (0x9F, 0x00),
+        (0x9F, 0x80),
+        (0x01, 0x40),
+    ] {
+        assert_eq!(rt; ObjectTag::from_p1p2(p1, p2), None, "at {p1} {p2}");
+    }
+    assert_eq!(rt; ObjectTag::new(tag(&rt, b"\x3E")), None);
+    assert_eq!(rt; ObjectTag::new(tag(&rt, b"\x1F\x20")), None);
+    assert_eq!(rt; ObjectTag::new(tag(&rt, b"\x3F\x20")), None);
+    assert_eq!(rt; ObjectTag::new(tag(&rt, b"\xDF\x81\x01")), None);
+}
+
+#[test]
+fn prints_faults(rt: HostRuntime) -> Result<(), Fail> {
+    let reasons = [
+        (Reason::TagCut, "TagCut at 7"),
+        (Reason::TagForm, "TagForm at 7"),
+        (Reason::LengthCut, "LengthCut at 7"),
+        (Reason::LengthForm, "LengthForm at 7"),
+        (Reason::ValueCut, "ValueCut at 7"),
+        (Reason::TooDeep, "TooDeep at 7"),
+    ];
+    for (reason, want) in reasons {
+        let text = format!(in rt.alloc(); "{}", TlvFault { place: 7, reason })?;
+        assert_eq!(rt; text.as_str(), want);
+    }
+    Ok(())
+}

@@ -1,0 +1,46 @@
+ghost use Rattle.std.specs.Prelude.{◌≡◌, ◌↔◌, ◌≤◌, ◌<◌, IfOk, IsErrOf};
+ghost use Rattle.tlv_core.specs.FirstFault.{IsFirstFault};
+ghost use Rattle.tlv_core.specs.Object.{IsObjectList};
+ghost use Rattle.tlv_core.specs.Spelling.{Spells};
+ghost use Rattle.tlv_core.specs.declared.fault.TlvFault.{TlvFault as Fault};
+
+use crate::forest::Forest;
+use crate::objects::Objects;
+use crate::read_fault::ReadFault;
+use std::alloc::{AllocError, Global};
+
+/// Reads bytes as a forest.
+pub struct Tree;
+
+impl Tree {
+    /// The forest that the bytes spell at level 1.
+    ///
+    /// # Errors
+    ///
+    /// `Tlv` with the first fault, exactly where the bytes are no list of objects, and
+    /// `OutOfMemory`.
+    pub fn read(alloc: Global, bytes: &[u8]) -> Result<Forest, ReadFault>
+        ensures forest { IfOk result (λ forest. Spells forest bytes.now 1) }
+        ensures fault { (fault : Fault) → IsErrOf result (ReadFault.Tlv fault) ↔ IsFirstFault bytes.now 1 fault.place fault.reason }
+    {
+        let objects = Objects::over(bytes)?;
+        Ok(grow(alloc, objects)?)
+    }
+}
+
+/// The forest of a list of objects.
+fn grow(alloc: Global, objects: Objects<'_>) -> Result<Forest, AllocError>
+    requires list { IsObjectList objects }
+    requires level { 0 < objects.level }
+    ensures { IfOk result (λ forest. Spells forest objects.entry.bytes objects.entry.level) }
+{
+    let mut forest = Forest::new(alloc);
+    for object in objects {
+        let tag = object.tag();
+        match object.children() {
+            None => forest.add_primitive(tag, Vec::from_slice(alloc, object.value())?)?,
+            Some(children) => forest.add_template(tag, grow(alloc, children)?)?,
+        }
+    }
+    Ok(forest)
+}

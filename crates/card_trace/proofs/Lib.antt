@@ -3,3 +3,4 @@ pub mod ExchangeLemmas
 pub mod ConversingLemmas
 pub mod GetLemmas
 pub mod TraceLemmas
+mod Vectors

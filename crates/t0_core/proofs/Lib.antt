@@ -1,3 +1,4 @@
 pub mod HostLemmas
 pub mod CardLemmas
 pub mod FrontLaws
+mod Vectors

@@ -1,25 +1,23 @@
 -- The card's end goes through dialogues that follow a plan without steps.
-use Rattle.std.proofs.Common.{◌≡◌, ◌≢◌, ℕ, zero, suc, ◌+◌, ◌-◌, ◌<◌, ◌≤◌, List, [], ◌∷◌, ◌++◌, length, take, refl, sym, subst, ◌∙◌, ap, arith, rules, inl, inr, ◌⊎◌, lit<, true, false, Bool, ◌==◌, nat_lt, if◌then◌else◌, Option, Some, None, eq-eqb, length-append, get_or, slice_index_or}
+use Rattle.std.proofs.Common.{◌≡◌, ℕ, zero, suc, ◌+◌, ◌<◌, ◌≤◌, List, [], ◌∷◌, ◌++◌, length, take, refl, sym, subst, ◌∙◌, ap, arith, inl, inr, ◌⊎◌, lit<, true, false, Bool, nat_lt, Some, eq-eqb, slice_index_or}
 use Rattle.std.specs.List.{AllByRecursion, slice_get}
-use Rattle.std.proofs.lemmas.Bool.{ltb-true, ltb-false}
+use Rattle.std.proofs.lemmas.Bool.{ltb-false}
 use Rattle.std.proofs.lemmas.Bool.Decides.{eqb_tells}
 use Rattle.std.proofs.lemmas.List.{take_more, take_all, length-take-le}
 use Rattle.std.proofs.lemmas.Option.{get_or_from_slice_get}
 use Rattle.apdu_core.specs.declared.header.Header.{Header}
 use Rattle.apdu_core.specs.HeaderBytes.{ins_is_valid}
 use Rattle.apdu_core.specs.StatusWord.{StatusWord, IsStatusWord, count}
-use Rattle.t0_core.specs.declared.end.End.TheVariants.{Card}
-use Rattle.t0_core.specs.declared.plan.Step.{Step}
-use Rattle.t0_core.specs.declared.plan.Step.TheVariants.{Null, All}
+use Rattle.t0_core.specs.declared.plan.Step.TheVariants.{All}
 use Rattle.t0_core.specs.declared.card_end.Phase.{Phase}
 use Rattle.t0_core.specs.declared.card_end.Phase.TheVariants.{Opening}
 use Rattle.t0_core.specs.CardView.{Fits, stage_of}
 use Rattle.t0_core.specs.declared.card_end.Turn.{Turn}
 use Rattle.t0_core.specs.declared.card_end.Turn.TheVariants.{Sends, Listens}
-use Rattle.t0_core.specs.Dialogue.{Body, Dialogue, Direction, FromCard, foreseen, all_moves, to_move, IsDialogue}
-use Rattle.t0_core.specs.Plan.{Course, Follows, segments_of, advanced}
+use Rattle.t0_core.specs.Dialogue.{Body, Dialogue, FromCard, IsDialogue}
+use Rattle.t0_core.specs.Plan.{Course, Follows, segments_of}
 use Rattle.t0_core.specs.Meaning.{Tpdu, tpdu_of, Ask, Prepared, Nothing, Receiving, Sending, Decided, IsSending, Decides, refused, answered_with}
-use Rattle.t0_core.specs.Front.{Front, In_header, In_body, After_first, GoesOn, Ends, IsBetween, IsPlain, IsFromCard, header_only, with_segment, with_moved}
+use Rattle.t0_core.specs.Front.{Front, In_header, In_body, After_first, IsBetween, IsFromCard, header_only, with_segment}
 use Rattle.t0_core.specs.CardSide.{Stage, EndOf, Taking_header, Sending_data, Ending, StandsAt, Advances, begins_with, takes_plan, listens}
 
 abbrev dialogue : Body → StatusWord → Dialogue
@@ -44,8 +42,13 @@ pub begins_status : {State : Type 0} (Does : State → ℕ → Tpdu → State �
     → IsBetween b → AllByRecursion (λ s. s ≡ All) b.segments → IsStatusWord status → Decides Does old plan.cut (tpdu_of (dialogue b status)) prepared
     → IsDialogue (dialogue b status) → Follows (dialogue b status) plan → Advances Does plan (In_body b) status.0 old old prepared (Ending status)
 begins_status Does old prepared plan b status between plain is_status decides is_dialogue follows =
-    inl (After_first b status.0, inr (inr (between, refl, (is_status.0, lit< tt), refl)), plain,
-      (refl, decides.0, decides.1, decides.2, is_dialogue, follows), refl)
+    inl (
+      After_first b status.0,
+      inr (inr (between, refl, (is_status.0, lit< tt), refl)),
+      plain,
+      (refl, decides.0, decides.1, decides.2, is_dialogue, follows),
+      refl,
+    )
 
 -- a refused header has no segments under a plan without steps
 pub refuses : {State : Type 0} (Does : State → ℕ → Tpdu → State → Type 0) (old : State) (prepared : Prepared State) (plan : Course) (h : Header) (p3 : ℕ) (status : StatusWord)
@@ -53,8 +56,8 @@ pub refuses : {State : Type 0} (Does : State → ℕ → Tpdu → State → Type
     → Advances Does plan (In_body (header_only h p3 FromCard)) status.0 old old prepared (Ending status)
 refuses Does old prepared plan h p3 status no_steps is_status decides =
     begins_status Does old prepared plan (header_only h p3 FromCard) status refl tt is_status decides
-      (record { moved_by_segments = refl; is_status = is_status; only_nulls = λ _. tt })
-      (record { all_or_nothing = inl refl; step_by_step = rw no_steps refl })
+    (record { moved_by_segments = refl; is_status = is_status; only_nulls = λ _. tt })
+    (record { all_or_nothing = inl refl; step_by_step = rw no_steps refl })
 
 -- the bytes that a card has ready
 pub sending_of : {State : Type 0} (prepared : Prepared State) (P Q : Ask → List ℕ → Type 0) → ((ask : Ask) (bytes : List ℕ) → P ask bytes → Q ask bytes)
@@ -71,8 +74,13 @@ pub begins_all : {State : Type 0} (Does : State → ℕ → Tpdu → State → T
     → ins_is_valid h.ins ≡ true → IsSending prepared (λ ask bytes. (ask ≡ record { header = h; p3 = p3; cut = plan.cut }) × (length bytes ≡ count p3))
     → Advances Does plan (In_body (header_only h p3 FromCard)) h.ins old old prepared (Sending_data h p3 0)
 begins_all Does old prepared plan h p3 valid sending =
-    inl (In_body (with_segment (header_only h p3 FromCard) All), inr (inl (refl, refl, (All, λ invalid. absurd (valid_is_not h.ins valid invalid), refl, refl))),
-      (refl, tt), (valid, omega arith, sending_of prepared _ _ (λ ask bytes s. (s.0, s.1, refl)) sending), refl)
+    inl (
+      In_body (with_segment (header_only h p3 FromCard) All),
+      inr (inl (refl, refl, (All, λ invalid. absurd (valid_is_not h.ins valid invalid), refl, refl))),
+      (refl, tt),
+      (valid, omega arith, sending_of prepared _ _ (λ ask bytes s. (s.0, s.1, refl)) sending),
+      refl,
+    )
 
 -- one more data character
 one_more : (bytes : List ℕ) (moved byte : ℕ) → moved < length bytes → slice_get bytes moved ≡ Some byte → take moved bytes ++ byte ∷ [] ≡ take (moved + 1) bytes
@@ -84,8 +92,13 @@ pub sends_next : {State : Type 0} (Does : State → ℕ → Tpdu → State → T
     → StandsAt Does old prepared (Sending_data h p3 moved) plan front → Advances Does plan front byte old old prepared (Sending_data h p3 (moved + 1))
 sends_next Does old (Sending ask bytes) plan h p3 moved byte (In_body b) lt is_byte (valid, le, (ask_is, len, is)) =
     let short : length (take moved bytes) < count p3 + 0 = omega (arith, lt, length-take-le moved bytes (omega (arith, lt, len))) in
-    rw is (inl (In_body (sending_body h p3 (take moved bytes ++ byte ∷ [])), inl (short, refl, refl), (refl, tt),
-      (valid, omega (arith, lt), (ask_is, len, ap (sending_body h p3) (one_more bytes moved byte (omega (arith, lt, len)) is_byte))), refl))
+    rw is (inl (
+      In_body (sending_body h p3 (take moved bytes ++ byte ∷ [])),
+      inl (short, refl, refl),
+      (refl, tt),
+      (valid, omega (arith, lt), (ask_is, len, ap (sending_body h p3) (one_more bytes moved byte (omega (arith, lt, len)) is_byte))),
+      refl,
+    ))
 sends_next Does old Nothing plan h p3 moved byte front lt is_byte stands = absurd is_byte
 sends_next Does old (Receiving ask) plan h p3 moved byte front lt is_byte stands = absurd is_byte
 sends_next Does old (Decided next) plan h p3 moved byte front lt is_byte stands = absurd is_byte
@@ -100,8 +113,8 @@ ends_all : {State : Type 0} (Does : State → ℕ → Tpdu → State → Type 0)
 ends_all Does old prepared plan h p3 bytes status no_steps valid len is_status decides =
     let between : length bytes ≡ count p3 + 0 = omega (arith, len) in
     begins_status Does old prepared plan (sending_body h p3 bytes) status between (refl, tt) is_status decides
-      (record { moved_by_segments = between; is_status = is_status; only_nulls = λ invalid. absurd (valid_is_not h.ins valid invalid) })
-      (record { all_or_nothing = inr len; step_by_step = rw no_steps (one_all (length bytes) (omega (arith, len, count_positive p3))) })
+    (record { moved_by_segments = between; is_status = is_status; only_nulls = λ invalid. absurd (valid_is_not h.ins valid invalid) })
+    (record { all_or_nothing = inr len; step_by_step = rw no_steps (one_all (length bytes) (omega (arith, len, count_positive p3))) })
 
 pub ends_sending : {State : Type 0} (Does : State → ℕ → Tpdu → State → Type 0) (old : State) (before prepared : Prepared State) (plan : Course) (h : Header) (p3 moved : ℕ) (status : StatusWord) (front : Front)
     → plan.steps ≡ [] → count p3 ≤ moved → IsStatusWord status → IsSending before (λ ask bytes. Decides Does old ask.cut (answered_with ask bytes status) prepared)
@@ -135,7 +148,9 @@ while_standing {State = State} Does plan front byte old new prepared stage stand
 abbrev pub asked_in : List ℕ → ℕ → Ask
 asked_in bytes cut = record {
   header = record { cla = slice_index_or bytes 0 0; ins = slice_index_or bytes 1 0; p1 = slice_index_or bytes 2 0; p2 = slice_index_or bytes 3 0 };
-  p3 = slice_index_or bytes 4 0; cut = cut }
+  p3 = slice_index_or bytes 4 0;
+  cut = cut;
+}
 
 pub asked_is : (P : Ask → Type 0) (bytes : List ℕ) (cut : ℕ) (plan : Course) (h : Header) (p3 : ℕ) → plan.cut ≡ cut → bytes ≡ begins_with h p3
     → P (asked_in bytes cut) → P (record { header = h; p3 = p3; cut = plan.cut })
@@ -163,14 +178,14 @@ valid_unless ins never = elim (bool_cases (ins_is_valid ins)) [ inl is_true ↦ 
 pub begins_sending : {State : Type 0} (Does : State → ℕ → Tpdu → State → Type 0) (old new : State) (prepared : Prepared State) (plan : Course) (h : Header) (p3 : ℕ) (bytes : List ℕ) (cut : ℕ)
     → plan.cut ≡ cut → bytes ≡ begins_with h p3 → new ≡ old → (ins_is_valid (slice_index_or bytes 1 0) ≡ false → ⊥) → Ready prepared (asked_in bytes cut)
     → Advances Does plan (In_body (header_only h p3 FromCard)) (slice_index_or bytes 1 0) old new prepared
-        (Sending_data (asked_in bytes cut).header (slice_index_or bytes 4 0) 0)
+    (Sending_data (asked_in bytes cut).header (slice_index_or bytes 4 0) 0)
 begins_sending {State = State} Does old new prepared plan h p3 bytes cut cut_is is stands valid ready =
     let Valid : List ℕ → Type 0 = λ bs. ins_is_valid (slice_index_or bs 1 0) ≡ false → ⊥ in
     let Claim : List ℕ → Type 0 = λ bs. Advances Does plan (In_body (header_only h p3 FromCard)) (slice_index_or bs 1 0) old new prepared
-          (Sending_data (asked_in bs cut).header (slice_index_or bs 4 0) 0) in
+    (Sending_data (asked_in bs cut).header (slice_index_or bs 4 0) 0) in
     let Asked : Ask → Type 0 = λ a. Ready prepared a in
     subst Claim (sym is) (while_standing Does plan (In_body (header_only h p3 FromCard)) h.ins _ _ _ _ stands
-      (begins_all Does old prepared plan h p3 (valid_unless h.ins (subst Valid is valid)) (asked_is Asked bytes cut plan h p3 cut_is is ready)))
+    (begins_all Does old prepared plan h p3 (valid_unless h.ins (subst Valid is valid)) (asked_is Asked bytes cut plan h p3 cut_is is ready)))
 
 -- the header is whole when the card's turn comes
 pub takes_a_plan : (bytes : List ℕ) (taken : ℕ) → length bytes ≡ 5 → taken ≤ 5 → nat_lt (length (take taken bytes)) 5 ≡ false
@@ -205,9 +220,9 @@ pub opening_advances : {State : Type 0} (Does : State → ℕ → Tpdu → State
 opening_advances Does plan kept front byte old new before prepared stage phase bytes taken is from begins =
     let Claim : Phase → Type 0 = λ p. PhaseAdvances Does plan kept front byte old new before prepared stage p in
     let cut : (takes_plan (Taking_header (take taken bytes)) ≡ true → plan ≡ kept) → length bytes ≡ 5 → taken ≤ 5 → nat_lt (length (take taken bytes)) 5 ≡ false → plan.cut ≡ kept.cut
-        = λ takes five le due. ap (λ (p : Course). p.cut) (takes (takes_a_plan bytes taken five le due)) in
+    = λ takes five le due. ap (λ (p : Course). p.cut) (takes (takes_a_plan bytes taken five le due)) in
     subst Claim (sym is) (λ fits due takes stands.
-      opens Does plan byte old new before prepared stage bytes taken front fits.0 fits.1 due from stands (begins (cut takes fits.0 fits.1 due)))
+    opens Does plan byte old new before prepared stage bytes taken front fits.0 fits.1 due from stands (begins (cut takes fits.0 fits.1 due)))
 
 byte_sent : Turn → ℕ
 byte_sent (Sends b) = b

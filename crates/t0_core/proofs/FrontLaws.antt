@@ -1,17 +1,15 @@
 -- A dialogue goes on by one character at a time, and ends as a dialogue.
-use Rattle.std.proofs.Common.{◌≡◌, ◌≢◌, ℕ, zero, suc, ◌+◌, ◌-◌, ◌<◌, ◌≤◌, List, [], ◌∷◌, ◌++◌, length, take, drop, map, refl, sym, subst, ◌∙◌, ap, arith, inl, inr, ◌⊎◌, true, false, Bool, append_assoc, length-append}
+use Rattle.std.proofs.Common.{◌≡◌, ℕ, zero, suc, ◌+◌, ◌-◌, ◌<◌, ◌≤◌, List, [], ◌∷◌, ◌++◌, length, take, drop, refl, sym, subst, ap, arith, inl, inr, false, append_assoc, length-append}
 use Rattle.std.specs.List.{AllByRecursion}
 use Rattle.std.proofs.lemmas.List.{take_all, take-append-le, append-nil, length-drop}
-use Rattle.apdu_core.specs.declared.header.Header.{Header}
-use Rattle.apdu_core.specs.HeaderBytes.{header_bytes, ins_is_valid}
-use Rattle.apdu_core.specs.StatusWord.{StatusWord, IsStatusWord, count}
+use Rattle.apdu_core.specs.HeaderBytes.{ins_is_valid}
 use Rattle.t0_core.specs.declared.end.End.{End}
 use Rattle.t0_core.specs.declared.end.End.TheVariants.{Terminal, Card}
 use Rattle.t0_core.specs.declared.plan.Step.{Step}
 use Rattle.t0_core.specs.declared.plan.Step.TheVariants.{Null, One, All}
 use Rattle.t0_core.specs.Character.{Character, sent_by}
-use Rattle.t0_core.specs.Dialogue.{Body, Dialogue, Direction, ToCard, FromCard, data_sender, foreseen, moves, all_moves, to_move, procedure_byte, segment_characters, body_characters, characters, IsDialogue}
-use Rattle.t0_core.specs.Front.{Front, In_header, In_body, After_first, front_characters, GoesOn, Ends, IsBetween, EndInLast, IsBegun, IsFront, header_only, with_segment, with_moved}
+use Rattle.t0_core.specs.Dialogue.{Body, Direction, data_sender, foreseen, moves, all_moves, to_move, procedure_byte, segment_characters}
+use Rattle.t0_core.specs.Front.{Front, In_header, In_body, After_first, front_characters, GoesOn, IsBetween, EndInLast, IsBegun, IsFront, with_segment, with_moved}
 
 pub moves-within : (s : Step) (n : ℕ) → moves s n ≤ n
 moves-within Null n = omega arith
@@ -44,17 +42,27 @@ moved_characters : (ins : ℕ) (direction : Direction) (segments : List Step) (n
 moved_characters ins direction [] n moved x in_last lt = absurd (omega (arith, lt))
 moved_characters ins direction (s ∷ []) n moved x in_last lt =
     let longer : length (moved ++ x ∷ []) ≤ moves s n = omega (arith, lt, length-append moved (x ∷ [])) in
-    rw (take_all (moves s n) (moved ++ x ∷ []) longer, take_all (moves s n) moved in_last, append-nil (sent_by (data_sender direction) (moved ++ x ∷ [])),
-      append-nil (sent_by (data_sender direction) moved), sent_append (data_sender direction) moved x) refl
+    rw (
+      take_all (moves s n) (moved ++ x ∷ []) longer,
+      take_all (moves s n) moved in_last,
+      append-nil (sent_by (data_sender direction) (moved ++ x ∷ [])),
+      append-nil (sent_by (data_sender direction) moved),
+      sent_append (data_sender direction) moved x,
+    ) refl
 moved_characters ins direction (s ∷ t ∷ segments) n moved x in_last lt =
-    rw (take-append-le (moves s n) moved (x ∷ []) in_last.0, drop-append (moves s n) moved x in_last.0,
-      moved_characters ins direction (t ∷ segments) (n - moves s n) (drop (moves s n) moved) x (in_rest in_last.1) (shorter lt))
+    rw (
+      take-append-le (moves s n) moved (x ∷ []) in_last.0,
+      drop-append (moves s n) moved x in_last.0,
+      moved_characters ins direction (t ∷ segments) (n - moves s n) (drop (moves s n) moved) x (in_rest in_last.1) (shorter lt),
+    )
     (ap (λ cs. (Card, procedure_byte ins s) ∷ cs) (sym (append_assoc (sent_by (data_sender direction) (take (moves s n) moved)) _ _)))
   where
     left : length (drop (moves s n) moved) ≡ length moved - moves s n
     left = length-drop (moves s n) moved
+
     in_rest : EndInLast (t ∷ segments) (n - moves s n) (length moved - moves s n) → EndInLast (t ∷ segments) (n - moves s n) (length (drop (moves s n) moved))
     in_rest h = let P : ℕ → Type 0 = λ k. EndInLast (t ∷ segments) (n - moves s n) k in subst P (sym left) h
+
     shorter : length moved < moves s n + all_moves (t ∷ segments) (n - moves s n) → length (drop (moves s n) moved) < all_moves (t ∷ segments) (n - moves s n)
     shorter h = omega (arith, h, left, in_last.0)
 
@@ -88,19 +96,23 @@ data_grow : (b : Body) (x : ℕ) → IsBegun b → length b.moved < to_move b �
 data_grow b x is lt =
     let n = foreseen b.direction b.p3 in
     let InLast : ℕ → Type 0 = λ k. EndInLast b.segments n k in
-    let longer : length b.moved + 1 ≡ length (b.moved ++ x ∷ []) = sym (length-append b.moved (x ∷ [])) in
-    (record { in_last = subst InLast longer (moved_in_last b.segments n (length b.moved) is.in_last lt); only_nulls = is.only_nulls },
-     rw (moved_characters b.header.ins b.direction b.segments n b.moved x is.in_last lt)
-       refl)
+    let longer : length b.moved + 1 ≡ length (b.moved ++ x ∷ []) = sym (length-append b.moved (x ∷ [])) in (
+      record { in_last = subst InLast longer (moved_in_last b.segments n (length b.moved) is.in_last lt); only_nulls = is.only_nulls },
+      rw (moved_characters b.header.ins b.direction b.segments n b.moved x is.in_last lt)
+          refl,
+    )
 
 segments_grow : (b : Body) (s : Step) → IsBegun b → IsBetween b → (ins_is_valid b.header.ins ≡ false → s ≡ Null)
     → Grows (In_body b) (Card, procedure_byte b.header.ins s) (In_body (with_segment b s))
 segments_grow b s is between nulls =
-    let n = foreseen b.direction b.p3 in
-    (record { in_last = begun_in_last b.segments s n (length b.moved) is.in_last between;
-       only_nulls = λ invalid. all_with (λ t. t ≡ Null) b.segments s (is.only_nulls invalid) (nulls invalid) },
-     rw (segment_append b.header.ins b.direction b.segments s n b.moved between)
-       refl)
+    let n = foreseen b.direction b.p3 in (
+      record {
+        in_last = begun_in_last b.segments s n (length b.moved) is.in_last between;
+        only_nulls = λ invalid. all_with (λ t. t ≡ Null) b.segments s (is.only_nulls invalid) (nulls invalid);
+      },
+      rw (segment_append b.header.ins b.direction b.segments s n b.moved between)
+          refl,
+    )
 
 pub goes_on : (front new : Front) (c : Character) → IsFront front → GoesOn front c new → Grows front c new
 goes_on (In_header bytes) new (e, x) is (from, inl (short, new_is)) =

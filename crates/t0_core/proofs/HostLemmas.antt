@@ -1,5 +1,5 @@
 -- The terminal's end goes through each dialogue that it opened.
-use Rattle.std.proofs.Common.{◌≡◌, ◌≢◌, ℕ, zero, suc, ◌+◌, ◌-◌, ◌<◌, ◌≤◌, List, [], ◌∷◌, ◌++◌, length, take, slice_index, refl, sym, subst, ◌∙◌, ap, arith, rules, inl, inr, lit<, true, false, Bool, ◌==◌, nat_lt, if◌then◌else◌, Option, Some, None, ◌/◌, eq-eqb, length-append}
+use Rattle.std.proofs.Common.{◌≡◌, ℕ, zero, suc, ◌+◌, ◌-◌, ◌<◌, ◌≤◌, List, [], ◌∷◌, ◌++◌, length, refl, sym, subst, ◌∙◌, ap, arith, inl, inr, lit<, true, false, Bool, ◌==◌, nat_lt, if◌then◌else◌, Option, Some, None, ◌/◌, eq-eqb, length-append}
 use Rattle.std.proofs.Math.Bool.{or-true}
 use Rattle.std.proofs.lemmas.Bool.{ltb-true, ltb-false, ne_eqb, le-leb}
 use Rattle.apdu_core.specs.declared.header.Header.{Header}
@@ -12,9 +12,9 @@ use Rattle.t0_core.specs.declared.plan.Step.{Step}
 use Rattle.t0_core.specs.declared.plan.Step.TheVariants.{Null, One, All}
 use Rattle.t0_core.specs.declared.line_fault.LineFault.{LineFault}
 use Rattle.t0_core.specs.declared.line_fault.LineFault.TheVariants.{TooLong}
-use Rattle.t0_core.specs.Dialogue.{Body, Direction, FromCard, foreseen, procedure_byte, moves, all_moves, to_move}
+use Rattle.t0_core.specs.Dialogue.{Body, FromCard, foreseen, procedure_byte, moves, all_moves, to_move}
 use Rattle.t0_core.specs.Front.{Front, In_header, In_body, After_first, GoesOn, IsPlain, header_only, with_segment, with_moved}
-use Rattle.t0_core.specs.HostSide.{Asking, HostStandsAt, IsOpenedBy, IsInRange, turn_of, after_turn, after_taking, fault_of, is_first_status, at_stage}
+use Rattle.t0_core.specs.HostSide.{Asking, HostStandsAt, IsOpenedBy, IsInRange, turn_of, after_turn, after_taking, fault_of, is_first_status}
 use Rattle.t0_core.specs.Room.{Room}
 use Rattle.apdu_core.specs.HeaderBytes.{ins_is_valid}
 use Rattle.apdu_core.specs.StatusWord.{IsStatusWord, count}
@@ -86,13 +86,15 @@ no_nine ins nine valid = let e : ins_is_valid ins ≡ false = rw nine refl in ab
 
 pub status_is_no_ins : (ins byte : ℕ) → ins_is_valid ins ≡ true → IsStatusWord (byte, 0) → (byte == ins) ≡ false
 status_is_no_ins ins byte valid status = ne_eqb byte ins (λ same. elim status.0 [
-    inl six ↦ no_six ins (omega (arith, same, six.0, six.1)) valid
-  | inr nine ↦ no_nine ins (omega (arith, same, nine.0, nine.1)) valid ])
+  | inl six ↦ no_six ins (omega (arith, same, six.0, six.1)) valid
+  | inr nine ↦ no_nine ins (omega (arith, same, nine.0, nine.1)) valid
+])
 
 pub status_is_first : (byte : ℕ) → IsStatusWord (byte, 0) → is_first_status byte ≡ true
 status_is_first byte status = elim status.0 [
-    inl six ↦ rw (le-leb _ _ six.0, le-leb _ _ six.1) refl
-  | inr nine ↦ rw (le-leb _ _ nine.0, le-leb _ _ nine.1) (or-true _) ]
+  | inl six ↦ rw (le-leb _ _ six.0, le-leb _ _ six.1) refl
+  | inr nine ↦ rw (le-leb _ _ nine.0, le-leb _ _ nine.1) (or-true _)
+]
 
 card_is_no_terminal : Card ≡ Terminal → ⊥
 card_is_no_terminal e = absurd (cc)

@@ -1,12 +1,11 @@
 -- Worked dialogues, computed from the definitions, and near misses.
-use Rattle.std.proofs.Common.{◌≡◌, ◌≢◌, ℕ, List, [], ◌∷◌, ◌++◌, length, refl, inl, inr, lit<, lit≤, true, false, Option, Some, None}
+use Rattle.std.proofs.Common.{◌≡◌, ℕ, List, [], ◌∷◌, ◌++◌, refl, inl, inr, lit<, lit≤, Some, None}
 use Rattle.apdu_core.specs.declared.header.Header.{Header}
 use Rattle.t0_core.specs.declared.end.End.TheVariants.{Terminal, Card}
-use Rattle.t0_core.specs.declared.plan.Step.{Step}
 use Rattle.t0_core.specs.declared.plan.Step.TheVariants.{Null, One, All}
 use Rattle.t0_core.specs.Character.{sent_by}
 use Rattle.t0_core.specs.Dialogue.{Dialogue, ToCard, FromCard, characters, IsDialogue}
-use Rattle.t0_core.specs.Plan.{Course, segments_of, Follows, plain, advanced, plan_kept}
+use Rattle.t0_core.specs.Plan.{segments_of, Follows, plain, advanced, plan_kept}
 
 abbrev get_data : Header
 get_data = record { cla = 0x00; ins = 0xCA; p1 = 0x5F; p2 = 0x20 }
@@ -14,9 +13,15 @@ get_data = record { cla = 0x00; ins = 0xCA; p1 = 0x5F; p2 = 0x20 }
 -- an object of six bytes, under the plan null, one, null, all
 abbrev under_a_plan : Dialogue
 under_a_plan = record {
-  body = record { header = get_data; p3 = 6; direction = FromCard; segments = segments_of (Null ∷ One ∷ Null ∷ All ∷ []) 6;
-    moved = 0x5F ∷ 0x20 ∷ 0x03 ∷ 0x4A ∷ 0x4F ∷ 0x45 ∷ [] };
-  status = (0x90, 0x00) }
+  body = record {
+    header = get_data;
+    p3 = 6;
+    direction = FromCard;
+    segments = segments_of (Null ∷ One ∷ Null ∷ All ∷ []) 6;
+    moved = 0x5F ∷ 0x20 ∷ 0x03 ∷ 0x4A ∷ 0x4F ∷ 0x45 ∷ [];
+  };
+  status = (0x90, 0x00);
+}
 
 with_nulls : characters under_a_plan ≡ sent_by Terminal (0x00 ∷ 0xCA ∷ 0x5F ∷ 0x20 ∷ 0x06 ∷ [])
     ++ sent_by Card (0x60 ∷ 0x35 ∷ 0x5F ∷ 0x60 ∷ 0xCA ∷ 0x20 ∷ 0x03 ∷ 0x4A ∷ 0x4F ∷ 0x45 ∷ 0x90 ∷ 0x00 ∷ [])
@@ -32,7 +37,8 @@ follows = record { all_or_nothing = inr refl; step_by_step = refl }
 abbrev put_two : Dialogue
 put_two = record {
   body = record { header = record { cla = 0x00; ins = 0xDA; p1 = 0x5F; p2 = 0x20 }; p3 = 2; direction = ToCard; segments = One ∷ Null ∷ All ∷ []; moved = 0x41 ∷ 0x42 ∷ [] };
-  status = (0x90, 0x00) }
+  status = (0x90, 0x00);
+}
 
 to_the_card : characters put_two ≡ sent_by Terminal (0x00 ∷ 0xDA ∷ 0x5F ∷ 0x20 ∷ 0x02 ∷ []) ++ sent_by Card (0x25 ∷ []) ++ sent_by Terminal (0x41 ∷ [])
     ++ sent_by Card (0x60 ∷ 0xDA ∷ []) ++ sent_by Terminal (0x42 ∷ []) ++ sent_by Card (0x90 ∷ 0x00 ∷ [])

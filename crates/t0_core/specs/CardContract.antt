@@ -1,7 +1,6 @@
 -- What the line asks of a card: its verdict on a header, and what may be called then.
-use Rattle.std.specs.Prelude.{◌≡◌, ℕ, ◌<◌, List, length}
-use Rattle.apdu_core.specs.declared.header.Header.{Header}
-use Rattle.apdu_core.specs.StatusWord.{StatusWord, count}
+use Rattle.std.specs.Prelude.{◌≡◌, ℕ, length}
+use Rattle.apdu_core.specs.StatusWord.{count}
 use Rattle.t0_core.specs.declared.tpdu_card.Verdict.{Verdict}
 use Rattle.t0_core.specs.declared.tpdu_card.Verdict.TheVariants.{Refuse, Send}
 use Rattle.t0_core.specs.Meaning.{Tpdu, Ask, Prepared, Nothing, Receiving, Sending, Decided, IsSending, Decides, refused}

@@ -3,20 +3,20 @@ use Rattle.std.specs.Prelude.{◌≡◌, ℕ, ◌+◌, ◌-◌, ◌<◌, ◌≤�
 use Rattle.std.specs.List.{AllByRecursion, flat_map}
 use Rattle.apdu_core.specs.declared.header.Header.{Header}
 use Rattle.apdu_core.specs.HeaderBytes.{header_bytes, ins_is_valid}
-use Rattle.apdu_core.specs.StatusWord.{StatusWord, IsStatusWord, count}
+use Rattle.apdu_core.specs.StatusWord.{StatusWord, count}
 use Rattle.t0_core.specs.declared.plan.Step.TheVariants.{All}
 use Rattle.t0_core.specs.declared.end.End.TheVariants.{Card}
 use Rattle.t0_core.specs.Character.{Character}
-use Rattle.t0_core.specs.Dialogue.{Dialogue, Direction, FromCard, characters, IsDialogue}
+use Rattle.t0_core.specs.Dialogue.{Dialogue, FromCard, characters, IsDialogue}
 use Rattle.t0_core.specs.Plan.{Course, Follows, FollowInTurn}
-use Rattle.t0_core.specs.Meaning.{Tpdu, tpdu_of, Runs, Ask, Prepared, Sending, Decided, IsSending}
+use Rattle.t0_core.specs.Meaning.{Tpdu, tpdu_of, Runs, Prepared, Decided, IsSending}
 use Rattle.t0_core.specs.Front.{Front, In_header, In_body, After_first, header_only, front_characters, GoesOn, Ends, IsPlain}
 
 -- what a card end itself keeps of a TPDU
 pub data Stage : Type 0 where
-  Taking_header : (bytes : List ℕ) → Stage                    -- characters of the header, at most five
-  Sending_data : (header : Header) (p3 moved : ℕ) → Stage     -- data characters handed out, of those that P3 counts
-  Ending : (status : StatusWord) → Stage                       -- SW1 is handed out
+  Taking_header : (bytes : List ℕ) → Stage  -- characters of the header, at most five
+  Sending_data : (header : Header) (p3 moved : ℕ) → Stage  -- data characters handed out, of those that P3 counts
+  Ending : (status : StatusWord) → Stage  -- SW1 is handed out
 
 pub record EndOf (C : Type 0) : Type 0 where
   pub card : C
@@ -58,14 +58,14 @@ StandsAt Does standing prepared (Taking_header bytes) plan (In_body b) =
 StandsAt Does standing prepared (Taking_header bytes) plan (After_first b sw1) = ⊥
 StandsAt Does standing prepared (Sending_data header p3 moved) plan (In_body b) =
     (ins_is_valid header.ins ≡ true) × (moved ≤ count p3)
-      × IsSending prepared (λ ask bytes. (ask ≡ record { header = header; p3 = p3; cut = plan.cut }) × (length bytes ≡ count p3)
-          × (b ≡ record { header = header; p3 = p3; direction = FromCard; segments = All ∷ []; moved = take moved bytes }))
+    × IsSending prepared (λ ask bytes. (ask ≡ record { header = header; p3 = p3; cut = plan.cut }) × (length bytes ≡ count p3)
+    × (b ≡ record { header = header; p3 = p3; direction = FromCard; segments = All ∷ []; moved = take moved bytes }))
 StandsAt Does standing prepared (Sending_data header p3 moved) plan (In_header front) = ⊥
 StandsAt Does standing prepared (Sending_data header p3 moved) plan (After_first b sw1) = ⊥
 StandsAt {State = State} Does standing prepared (Ending status) plan (After_first b sw1) =
     (status.0 ≡ sw1) × (next : State) × (prepared ≡ Decided next)
-      × Does standing plan.cut (tpdu_of (record { body = b; status = status })) next
-      × IsDialogue (record { body = b; status = status }) × Follows (record { body = b; status = status }) plan
+    × Does standing plan.cut (tpdu_of (record { body = b; status = status })) next
+    × IsDialogue (record { body = b; status = status }) × Follows (record { body = b; status = status }) plan
 StandsAt Does standing prepared (Ending status) plan (In_header front) = ⊥
 StandsAt Does standing prepared (Ending status) plan (In_body b) = ⊥
 
@@ -75,7 +75,7 @@ abbrev pub Advances : {State : Type 0} → (State → ℕ → Tpdu → State →
 Advances Does plan front byte old standing prepared stage =
     ((new : Front) × GoesOn front (Card, byte) new × IsPlain new × StandsAt Does standing prepared stage plan new × (standing ≡ old))
     ⊎ ((d : Dialogue) × Ends front (Card, byte) d × IsDialogue d × Follows d plan × Does old plan.cut (tpdu_of d) standing
-        × (stage ≡ Taking_header []))
+    × (stage ≡ Taking_header []))
 
 -- These characters lead to the end as it is: whole dialogues, which follow the plans in turn and are a run of
 -- the card's own meaning, and the front of one more.

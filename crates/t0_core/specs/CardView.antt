@@ -1,5 +1,5 @@
 -- How the fields of a card's end are seen.
-use Rattle.std.specs.Prelude.{◌≡◌, ℕ, ◌≤◌, length, take, true}
+use Rattle.std.specs.Prelude.{◌≡◌, ◌≤◌, length, take, true}
 use Rattle.apdu_core.specs.HeaderBytes.{ins_is_valid}
 use Rattle.apdu_core.specs.StatusWord.{count}
 use Rattle.t0_core.specs.declared.card_end.Phase.{Phase}

@@ -47,7 +47,7 @@ abbrev pub segment_characters : ℕ → Direction → List Step → ℕ → List
 segment_characters ins direction [] remain moved = []
 segment_characters ins direction (s ∷ segments) remain moved =
     (Card, procedure_byte ins s) ∷ (sent_by (data_sender direction) (take (moves s remain) moved)
-      ++ segment_characters ins direction segments (remain - moves s remain) (drop (moves s remain) moved))
+    ++ segment_characters ins direction segments (remain - moves s remain) (drop (moves s remain) moved))
 
 -- what goes over the line before the status: the header, and the segments with their data
 pub record Body : Type 0 where

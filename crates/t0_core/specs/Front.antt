@@ -1,10 +1,9 @@
 -- How far a dialogue has come over the line, and how it goes on with the next character.
-use Rattle.std.specs.Prelude.{◌≡◌, ◌≢◌, ℕ, ◌-◌, ◌<◌, ◌≤◌, List, [], ◌∷◌, ◌++◌, length, false, true, ◌⊎◌}
+use Rattle.std.specs.Prelude.{◌≡◌, ℕ, ◌-◌, ◌<◌, ◌≤◌, List, [], ◌∷◌, ◌++◌, length, false, ◌⊎◌}
 use Rattle.std.specs.List.{AllByRecursion}
 use Rattle.apdu_core.specs.declared.header.Header.{Header}
 use Rattle.apdu_core.specs.HeaderBytes.{header_bytes, ins_is_valid}
 use Rattle.apdu_core.specs.StatusWord.{IsStatusWord}
-use Rattle.t0_core.specs.declared.end.End.{End}
 use Rattle.t0_core.specs.declared.end.End.TheVariants.{Terminal, Card}
 use Rattle.t0_core.specs.declared.plan.Step.{Step}
 use Rattle.t0_core.specs.declared.plan.Step.TheVariants.{Null, All}
@@ -44,7 +43,7 @@ IsBetween b = length b.moved ≡ to_move b
 abbrev pub GoesOnInHeader : List ℕ → Character → Front → Type 0
 GoesOnInHeader bytes c new = (c.0 ≡ Terminal)
     × (((length bytes < 4) × (new ≡ In_header (bytes ++ c.1 ∷ [])))
-      ⊎ ((h : Header) × (direction : Direction) × (bytes ≡ header_bytes h) × (new ≡ In_body (header_only h c.1 direction))))
+    ⊎ ((h : Header) × (direction : Direction) × (bytes ≡ header_bytes h) × (new ≡ In_body (header_only h c.1 direction))))
 
 -- the segment under way moves its next data character
 abbrev pub MovesData : Body → Character → Front → Type 0

@@ -1,15 +1,15 @@
 -- What a command TPDU means to a card, apart from the line (ISO/IEC 7816-3, clause 10.3.1).
-use Rattle.std.specs.Prelude.{◌≡◌, ℕ, ◌<◌, List, [], ◌∷◌, length}
+use Rattle.std.specs.Prelude.{◌≡◌, ℕ, List, [], ◌∷◌}
 use Rattle.apdu_core.specs.declared.header.Header.{Header}
-use Rattle.apdu_core.specs.StatusWord.{StatusWord, IsStatusWord, count}
+use Rattle.apdu_core.specs.StatusWord.{StatusWord}
 use Rattle.t0_core.specs.Dialogue.{Dialogue, Direction, ToCard, FromCard}
-use Rattle.t0_core.specs.Plan.{Course, plain}
+use Rattle.t0_core.specs.Plan.{Course}
 
 -- a command TPDU and its answer
 pub record Tpdu : Type 0 where
   pub header : Header
   pub p3 : ℕ
-  pub sent : List ℕ      -- data to the card
+  pub sent : List ℕ  -- data to the card
   pub received : List ℕ  -- data from the card
   pub status : StatusWord
 

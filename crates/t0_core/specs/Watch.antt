@@ -1,5 +1,5 @@
 -- What a watch has heard of the characters of a line.
-use Rattle.std.specs.Prelude.{◌≡◌, ℕ, List, [], ◌∷◌, ◌++◌, take, Bool, true, false}
+use Rattle.std.specs.Prelude.{◌≡◌, ℕ, List, ◌++◌, take, Bool, true, false}
 use Rattle.t0_core.specs.Character.{Character}
 
 -- what was heard, and whether something was lost

@@ -8,15 +8,12 @@ ghost use Rattle.t0_core.specs.CardSide.{StandsAt, Advances, begins_with, listen
 ghost use Rattle.t0_core.specs.Dialogue.{FromCard};
 ghost use Rattle.t0_core.specs.Plan.{Course, advanced, plan_kept};
 ghost use Rattle.t0_core.specs.Front.{Front, In_body, header_only, IsFromCard};
-
 ghost use Rattle.t0_core.specs.declared.card_end.Phase.TheVariants.{Data};
-
-use std::marker::Model;
-
-use apdu_core::{Header, Status, count};
 
 use crate::plan::Plans;
 use crate::tpdu_card::{TpduCard, Verdict};
+use apdu_core::{Header, Status, count};
+use std::marker::Model;
 
 /// What a card's end does when it may.
 #[derive(Clone, Copy, Debug, PartialEq, Eq)]
@@ -193,7 +190,7 @@ fn begin<C: TpduCard>(card: &mut C, bytes: [u8; 5], cut: u16) -> (Phase, u8)
     ensures falls { still_to_go (stage_of result.0) < 300 }
     ensures advances { (plan : Course) (header : Header) (p3 : ℕ) → plan.steps ≡ [] → plan.cut ≡ cut → bytes ≡ begins_with header p3 →
         Advances C.Does plan (In_body (header_only header p3 FromCard)) result.1
-            (C.standing card.old) (C.standing card.new) (C.prepared card.new) (stage_of result.0) }
+        (C.standing card.old) (C.standing card.new) (C.prepared card.new) (stage_of result.0) }
 {
     let [cla, ins, p1, p2, p3] = bytes;
     let header = Header { cla, ins, p1, p2 };

@@ -7,12 +7,10 @@ ghost use Rattle.t0_core.specs.declared.host_end.HostStage.TheVariants.{Awaiting
 ghost use Rattle.t0_core.specs.Room.{Room};
 ghost use Rattle.t0_core.specs.HostSide.{IsInRange, turn_of, after_turn, fault_of, after_fault, after_taking, data_in, gathered};
 
-use std::marker::Model;
-
-use apdu_core::{Header, Status, count};
-
 use crate::gather::Gather;
 use crate::line_fault::LineFault;
+use apdu_core::{Header, Status, count};
+use std::marker::Model;
 
 /// What a terminal's end does when it is asked.
 #[derive(Clone, Copy, Debug, PartialEq, Eq)]
@@ -147,7 +145,9 @@ fn stage_after(stage: HostStage) -> HostStage
     ensures { result ≡ after_turn stage }
 {
     match stage {
-        HostStage::SendingHeader { sent } if sent < 4 => HostStage::SendingHeader { sent: sent + 1 },
+        HostStage::SendingHeader { sent } if sent < 4 => HostStage::SendingHeader {
+            sent: sent + 1,
+        },
         HostStage::SendingHeader { .. } => HostStage::Awaiting { moved: 0 },
         later => later,
     }

@@ -9,12 +9,10 @@ ghost use Rattle.t0_core.specs.Front.{Front, IsFront, GoesOn, Ends, front_charac
 pub fn goes_on_by_one()
     ensures { (front new : Front) (c : Character) → IsFront front → GoesOn front c new →
         IsFront new × (front_characters new ≡ front_characters front ++ c ∷ []) }
-{
-}
+{}
 
 /// What ends with SW2 is a dialogue, and these are its characters.
 pub fn ends_as_dialogue()
     ensures { (front : Front) (c : Character) (d : Dialogue) → IsFront front → Ends front c d →
         IsDialogue d × (characters d ≡ front_characters front ++ c ∷ []) }
-{
-}
+{}

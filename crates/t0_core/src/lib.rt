@@ -1,8 +1,8 @@
 //! Both ends of a command TPDU at T=0 (ISO/IEC 7816-3, clause 10).
 #![tactic(auto)]
 
-mod end;
 mod card_end;
+mod end;
 mod gather;
 mod host_end;
 pub mod laws;

@@ -34,6 +34,7 @@ impl Model for Plan {
 
 impl Plan {
     ghost use Rattle.std.specs.Prelude.{◌≤◌};
+
     fn cut(&self) -> u16
         ensures value { result ≡ self.now.cut }
         ensures range { (1 ≤ result) × (result ≤ 256) }

@@ -1,11 +1,10 @@
 ghost use Rattle.std.specs.Prelude.{◌≡◌, ℕ, List, [], ◌∷◌, true, false};
 ghost use Rattle.t0_core.specs.Watch.{Hearing};
 
-use std::alloc::Global;
-use std::marker::Model;
-
 use crate::end::End;
 use crate::watch::Watch;
+use std::alloc::Global;
+use std::marker::Model;
 
 /// A watch that notes the characters, with the ends that sent them, while there is memory for it.
 #[derive(Drop)]

@@ -1,8 +1,6 @@
-use std::test::Fail;
-
-use apdu_core::Header;
-
 use crate::{End, Gather, HostEnd, HostTurn, LineFault, Recorder, Silent, Watch};
+use apdu_core::Header;
+use std::test::Fail;
 
 /// GET DATA of `5F20`.
 const GET_NAME: Header = Header {
@@ -41,7 +39,10 @@ fn null_is_no_procedure_byte_yet(rt: HostRuntime) -> Result<(), Fail> {
         for sent in [0x00, 0xCA, 0x5F, 0x20, 0x00] {
             assert_eq!(rt; end.next(), HostTurn::Sends(sent));
         }
-        assert_eq!(rt; end.take(byte, &mut gather), Err(LineFault::BadProcedure(byte)));
+        assert_eq!(rt;
+            end.take(byte, &mut gather),
+            Err(LineFault::BadProcedure(byte))
+        );
         assert_eq!(rt; end.take(0x90, &mut gather), Err(LineFault::AfterEnd));
     }
     Ok(())

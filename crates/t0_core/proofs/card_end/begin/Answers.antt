@@ -9,8 +9,8 @@ returns-in-Refuse-clause-advances g c = λ plan h p3 no_steps cut is.
     let card = g.C.TpduCard in
     let Judged : Ask → Type 0 = λ a. Decides card.Does (card.standing c.args.card.now) a.cut (refused a c.in-Refuse.status) (card.prepared c.header.new.self) in
     rw c.sw1.ensures.value (while_standing card.Does plan (In_body (header_only h p3 FromCard)) c.in-Refuse.status.0 _ _ _ _ c.in-Refuse.ensures.stands
-      (refuses card.Does _ _ plan h p3 c.in-Refuse.status no_steps c.sw1.ensures.status
-        (asked_is Judged c.args.bytes c.args.cut plan h p3 cut is c.in-Refuse.ensures.judged)))
+    (refuses card.Does _ _ plan h p3 c.in-Refuse.status no_steps c.sw1.ensures.status
+    (asked_is Judged c.args.bytes c.args.cut plan h p3 cut is c.in-Refuse.ensures.judged)))
 
 pub returns-in-Send-clause-advances : goal.returns-in-Send-clause-advances
 returns-in-Send-clause-advances g c = λ plan h p3 no_steps cut is.

@@ -6,4 +6,4 @@ pub returns-clause-goes_on : goal.returns-clause-goes_on
 returns-clause-goes_on c = λ front byte stands sends.
     rw c.stage_after-self-inside.ensures
     (host_sends c.self.inside.header c.self.inside.p3 c.self.inside.stage front byte (seen_at _ _ front c.self.view_is stands)
-      (sym c.turn_at-turn.ensures ∙ sends))
+    (sym c.turn_at-turn.ensures ∙ sends))

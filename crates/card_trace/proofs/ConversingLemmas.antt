@@ -1,6 +1,6 @@
 -- A character that passes from one end to the other takes both to the same front.
-use Rattle.std.proofs.Common.{◌≡◌, ◌≢◌, ℕ, zero, suc, ◌+◌, ◌-◌, ◌<◌, ◌≤◌, List, [], ◌∷◌, ◌++◌, length, take, refl, sym, subst, ◌∙◌, ap, arith, inl, inr, ◌⊎◌, lit<, lit≤, true, false, Bool, Option, Some, None, Result, Ok, Err, append-nil, append_assoc, length-append, if◌then◌else◌}
-use Rattle.std.specs.Result.{IsOk, OnOk}
+use Rattle.std.proofs.Common.{◌≡◌, ℕ, zero, suc, ◌+◌, ◌-◌, ◌<◌, ◌≤◌, List, [], ◌∷◌, ◌++◌, length, take, refl, sym, subst, ◌∙◌, ap, arith, inl, inr, ◌⊎◌, lit<, lit≤, true, false, Bool, Result, Ok, append-nil, append_assoc, length-append, if◌then◌else◌}
+use Rattle.std.specs.Result.{OnOk}
 use Rattle.std.specs.List.{AllByRecursion, flat_map}
 use Rattle.std.proofs.lemmas.Bool.{ltb-true}
 use Rattle.std.proofs.lemmas.Bool.Decides.{eqb_tells}
@@ -9,20 +9,17 @@ use Rattle.apdu_core.specs.StatusWord.{StatusWord, count}
 use Rattle.t0_core.specs.declared.end.End.TheVariants.{Terminal, Card}
 use Rattle.t0_core.specs.declared.host_end.HostStage.{HostStage}
 use Rattle.t0_core.specs.declared.host_end.HostStage.TheVariants.{SendingHeader, Awaiting, TakingData, AwaitingSecond, Ended, Broken}
-use Rattle.t0_core.specs.declared.host_end.HostTurn.{HostTurn}
-use Rattle.t0_core.specs.declared.host_end.HostTurn.TheVariants.{Sends, Listens, Done, Failed}
+use Rattle.t0_core.specs.declared.host_end.HostTurn.TheVariants.{Listens, Done}
 use Rattle.t0_core.specs.declared.plan.Step.{Step}
 use Rattle.t0_core.specs.Character.{Character}
-use Rattle.t0_core.specs.Dialogue.{Body, Dialogue, Direction, ToCard, FromCard, foreseen, moves, all_moves, to_move, body_characters, characters, IsDialogue}
-use Rattle.t0_core.specs.Plan.{Course, Cursor, plain, advanced, plan_kept, Follows, FollowInTurn}
+use Rattle.t0_core.specs.Dialogue.{Body, Dialogue, Direction, FromCard, foreseen, moves, all_moves, body_characters, characters, IsDialogue}
+use Rattle.t0_core.specs.Plan.{Cursor, plain, advanced, plan_kept, Follows, FollowInTurn}
 use Rattle.t0_core.specs.Meaning.{Tpdu, tpdu_of, Prepared, Runs, received}
-use Rattle.t0_core.specs.Front.{Front, In_header, In_body, After_first, GoesOn, Ends, IsFront, IsPlain, IsFromCard, EndInLast, IsBegun, front_characters, fresh}
-use Rattle.t0_core.specs.Room.{Room}
+use Rattle.t0_core.specs.Front.{Front, In_header, In_body, After_first, GoesOn, Ends, IsFront, EndInLast, IsBegun, front_characters, fresh}
 use Rattle.t0_core.specs.Watch.{Hearing, Hears}
 use Rattle.t0_core.specs.HostSide.{Asking, HostStandsAt, at_stage, turn_of, after_turn}
 use Rattle.t0_core.specs.CardSide.{Stage, EndOf, Taking_header, Sending_data, Ending, StandsAt, listens, with_character, still_to_go}
 use Rattle.t0_core.proofs.FrontLaws.{goes_on, moves-within}
-use Rattle.card_trace.specs.Gathered.{Asks}
 use Rattle.card_trace.specs.ExchangeSide.{ExchangeOf, UnderWay, IsDone, IsAttempt, moved_in, from_card}
 use Rattle.card_trace.specs.Conversing.{AreOver, IsUnderWay, IsFinished, is_over, for_repetition, stage_number, characters_left}
 use Rattle.card_trace.proofs.ExchangeLemmas.{flat_map_last, past_header}
@@ -89,7 +86,7 @@ from_card_within direction p3 from byte = rw from (count_within p3 byte)
 few_received : (d : Dialogue) → IsDialogue d → d.body.direction ≡ FromCard → d.body.p3 < 256 → length (received d) ≤ 256
 few_received d is from byte =
     let few : length d.body.moved ≤ 256 =
-        omega (arith, is.moved_by_segments, all_moves-within d.body.segments (foreseen d.body.direction d.body.p3), from_card_within d.body.direction d.body.p3 from byte) in
+    omega (arith, is.moved_by_segments, all_moves-within d.body.segments (foreseen d.body.direction d.body.p3), from_card_within d.body.direction d.body.p3 from byte) in
     rw from few
 
 in_last_within : (segments : List Step) (n k : ℕ) → EndInLast segments n k → k ≤ n
@@ -101,7 +98,7 @@ in_last_within (s ∷ t ∷ segments) n k is =
 few_begun : (b : Body) → IsBegun b → b.direction ≡ FromCard → b.p3 < 256 → length (from_card b.direction b.moved) ≤ 256
 few_begun b is from byte =
     let few : length b.moved ≤ 256 =
-        omega (arith, in_last_within b.segments (foreseen b.direction b.p3) (length b.moved) is.in_last, from_card_within b.direction b.p3 from byte) in
+    omega (arith, in_last_within b.segments (foreseen b.direction b.p3) (length b.moved) is.in_last, from_card_within b.direction b.p3 from byte) in
     rw from few
 
 few_moved : (host : Asking) (stage : HostStage) (front : Front) → HostStandsAt (at_stage host stage) front → IsFront front → host.p3 < 256 → length (moved_in front) ≤ 256
@@ -135,9 +132,14 @@ pub room_left : (ex : ExchangeOf) (whole : List Dialogue) (front : Front) → Un
     → length ex.gather.bytes < ex.gather.limit
 room_left ex whole front under are is =
     let bytes : length ex.gather.bytes ≡ length (flat_map received whole) + length (moved_in front) =
-        ap length under.gathered ∙ length-append (flat_map received whole) (moved_in front) in
-    omega (arith, bytes, under.room, few_over ex.header ex.repeated whole (count ex.host.p3) under.attempt are,
-      few_moved ex.host ex.host.stage front under.stands is under.is_byte)
+    ap length under.gathered ∙ length-append (flat_map received whole) (moved_in front) in
+    omega (
+      arith,
+      bytes,
+      under.room,
+      few_over ex.header ex.repeated whole (count ex.host.p3) under.attempt are,
+      few_moved ex.host ex.host.stage front under.stands is under.is_byte,
+    )
 
 -- one more dialogue is over
 follow_more : (whole : List Dialogue) (d : Dialogue) → FollowInTurn whole [] → Follows d plain → FollowInTurn (whole ++ d ∷ []) []
@@ -157,8 +159,10 @@ runs_more Does first old new (e ∷ whole) d runs does = (runs.0, runs.1, runs_m
 pub over_more : {State : Type 0} (Does : State → ℕ → Tpdu → State → Type 0) (first old new : State) (whole : List Dialogue) (d : Dialogue)
     → AreOver Does first whole old → IsDialogue d → Follows d plain → Does old 256 (tpdu_of d) new → AreOver Does first (whole ++ d ∷ []) new
 over_more Does first old new whole d over is follows does = record {
-  are_dialogues = all_more IsDialogue whole d over.are_dialogues is; follow = follow_more whole d over.follow follows;
-  runs = runs_more Does first old new whole d over.runs does }
+  are_dialogues = all_more IsDialogue whole d over.are_dialogues is;
+  follow = follow_more whole d over.follow follows;
+  runs = runs_more Does first old new whole d over.runs does;
+}
 
 -- what was heard goes on with the front, or to the end of a dialogue
 hears_front : (since now later : Hearing) (whole : List Dialogue) (front new : Front) (c : Character) → Hears since (flat_map characters whole ++ front_characters front) now
@@ -166,14 +170,14 @@ hears_front : (since now later : Hearing) (whole : List Dialogue) (front new : F
 hears_front since now later whole front new c before this is =
     let P : List Character → Type 0 = λ cs. Hears since cs later in
     subst P (append_assoc (flat_map characters whole) (front_characters front) (c ∷ []) ∙ ap (λ cs. flat_map characters whole ++ cs) (sym is))
-      (hears_more since now later _ (c ∷ []) before this)
+    (hears_more since now later _ (c ∷ []) before this)
 
 hears_end : (since now later : Hearing) (whole : List Dialogue) (front : Front) (d : Dialogue) (c : Character) → Hears since (flat_map characters whole ++ front_characters front) now
     → Hears now (c ∷ []) later → characters d ≡ front_characters front ++ c ∷ [] → Hears since (flat_map characters (whole ++ d ∷ [])) later
 hears_end since now later whole front d c before this is =
     let P : List Character → Type 0 = λ cs. Hears since cs later in
     subst P (append_assoc (flat_map characters whole) (front_characters front) (c ∷ []) ∙ ap (λ cs. flat_map characters whole ++ cs) (sym is) ∙ sym (flat_map_last characters whole d))
-      (hears_more since now later _ (c ∷ []) before this)
+    (hears_more since now later _ (c ∷ []) before this)
 
 -- a character of the terminal has passed
 pub terminal_passed : {C State : Type 0} (Does : State → ℕ → Tpdu → State → Type 0) (standing : C → State) (prepared : C → Prepared State) (first : State) (since now later : Hearing)
@@ -185,8 +189,14 @@ terminal_passed {C = C} Does standing prepared first since now later old new ex 
     let grown = goes_on under.front front (Terminal, byte) under.is_front goes in
     let Over : C → Type 0 = λ c. AreOver Does first under.whole (standing c) in
     record {
-      whole = under.whole; front = front; over = subst Over (sym same) under.over; terminal = terminal; card = card; is_front = grown.0;
-      hears = hears_front since now later under.whole under.front front (Terminal, byte) under.hears hears grown.1; no_plans = under.no_plans;
+      whole = under.whole;
+      front = front;
+      over = subst Over (sym same) under.over;
+      terminal = terminal;
+      card = card;
+      is_front = grown.0;
+      hears = hears_front since now later under.whole under.front front (Terminal, byte) under.hears hears grown.1;
+      no_plans = under.no_plans;
     }
 
 -- a character of the card has passed, and the dialogue goes on
@@ -198,8 +208,14 @@ card_passed {State = State} Does first old new before prepared at stage since no
     let grown = goes_on under.front front (Card, byte) under.is_front goes in
     let Over : State → Type 0 = λ s. AreOver Does first under.whole s in
     record {
-      whole = under.whole; front = front; over = subst Over (sym same) under.over; terminal = terminal; card = card; is_front = grown.0;
-      hears = hears_front since now later under.whole under.front front (Card, byte) under.hears hears grown.1; no_plans = empty;
+      whole = under.whole;
+      front = front;
+      over = subst Over (sym same) under.over;
+      terminal = terminal;
+      card = card;
+      is_front = grown.0;
+      hears = hears_front since now later under.whole under.front front (Card, byte) under.hears hears grown.1;
+      no_plans = empty;
     }
 
 -- the characters of a dialogue that ends
@@ -217,8 +233,12 @@ repetition_begins Does first old new before prepared at stage since now later ex
     let Stands : Stage → Type 0 = λ s. StandsAt Does new prepared s plain fresh in
     let Heard : List Character → Type 0 = λ cs. Hears since cs later in
     record {
-      whole = under.whole ++ d ∷ []; front = fresh; over = over_more Does first old new under.whole d under.over is follows does; terminal = terminal;
-      card = subst Stands (sym rests) (refl, lit< tt); is_front = lit< tt;
+      whole = under.whole ++ d ∷ [];
+      front = fresh;
+      over = over_more Does first old new under.whole d under.over is follows does;
+      terminal = terminal;
+      card = subst Stands (sym rests) (refl, lit< tt);
+      is_front = lit< tt;
       hears = subst Heard (sym (append-nil (flat_map characters (under.whole ++ d ∷ []))))
           (hears_end since now later under.whole under.front d (Card, byte) under.hears hears (ends_with under.front byte d ends));
       no_plans = empty;
@@ -230,7 +250,10 @@ pub exchange_ends : {State : Type 0} (Does : State → ℕ → Tpdu → State �
     → Ends under.front (Card, byte) d → IsDialogue d → Follows d plain → Does old 256 (tpdu_of d) new → stage ≡ Taking_header [] → IsDone after (under.whole ++ d ∷ [])
     → Hears now ((Card, byte) ∷ []) later → IsFinished Does first since new stage after later
 exchange_ends Does first old new before prepared at stage since now later ex after was d byte under ends is follows does rests terminal hears = record {
-  whole = under.whole ++ d ∷ []; over = over_more Does first old new under.whole d under.over is follows does; terminal = terminal; at_rest = rests;
+  whole = under.whole ++ d ∷ [];
+  over = over_more Does first old new under.whole d under.over is follows does;
+  terminal = terminal;
+  at_rest = rests;
   hears = hears_end since now later under.whole under.front d (Card, byte) under.hears hears (ends_with under.front byte d ends);
 }
 
@@ -264,8 +287,13 @@ header_number (Ending status) byte listens = absurd (cc)
 pub header_falls : (ex after : ExchangeOf) (whole : List Dialogue) (front new : Front) (stage : Stage) (byte : ℕ) → UnderWay ex whole front → UnderWay after whole new
     → after.repeated ≡ ex.repeated → listens stage ≡ true → characters_left after (with_character stage byte) < characters_left ex stage
 header_falls ex after whole front new stage byte under later same listens =
-    omega (arith, left_under ex stage whole front under, left_under after (with_character stage byte) whole new later,
-      ap for_repetition same, header_number stage byte listens)
+    omega (
+      arith,
+      left_under ex stage whole front under,
+      left_under after (with_character stage byte) whole new later,
+      ap for_repetition same,
+      header_number stage byte listens,
+    )
 
 -- the card's characters fall
 number_falls : (old new : Stage) → still_to_go new < still_to_go old → stage_number new < stage_number old
@@ -346,6 +374,12 @@ pub begins : {State : Type 0} (Does : State → ℕ → Tpdu → State → Type 
 begins Does standing prepared stage ex cursor now rests terminal empty =
     let Stands : Stage → Type 0 = λ s. StandsAt Does standing prepared s plain fresh in
     record {
-      whole = []; front = fresh; over = record { are_dialogues = tt; follow = tt; runs = refl }; terminal = terminal;
-      card = subst Stands (sym rests) (refl, lit< tt); is_front = lit< tt; hears = hears_nothing now; no_plans = empty;
+      whole = [];
+      front = fresh;
+      over = record { are_dialogues = tt; follow = tt; runs = refl };
+      terminal = terminal;
+      card = subst Stands (sym rests) (refl, lit< tt);
+      is_front = lit< tt;
+      hears = hears_nothing now;
+      no_plans = empty;
     }

@@ -1,5 +1,5 @@
 -- An exchange goes through the dialogues of one unit.
-use Rattle.std.proofs.Common.{◌≡◌, ◌≢◌, ℕ, zero, suc, ◌+◌, ◌<◌, ◌≤◌, List, [], ◌∷◌, ◌++◌, length, refl, sym, subst, ◌∙◌, ap, arith, inl, inr, ◌⊎◌, lit<, true, false, Bool, Option, Some, None, append-nil, append_assoc}
+use Rattle.std.proofs.Common.{◌≡◌, ℕ, ◌<◌, List, [], ◌∷◌, ◌++◌, refl, sym, subst, ◌∙◌, ap, arith, inl, inr, lit<, true, false, Bool, Some, None, append-nil, append_assoc}
 use Rattle.std.specs.List.{flat_map}
 use Rattle.apdu_core.specs.declared.header.Header.{Header}
 use Rattle.apdu_core.specs.StatusWord.{StatusWord, count, corrects}
@@ -13,8 +13,8 @@ use Rattle.t0_core.specs.Meaning.{received}
 use Rattle.t0_core.specs.Front.{Front, In_header, In_body, After_first, GoesOn, Ends, IsFromCard, fresh}
 use Rattle.t0_core.specs.Room.{Room}
 use Rattle.t0_core.specs.HostSide.{Asking, HostStandsAt, at_stage, turn_of, after_turn, data_in, gathered}
-use Rattle.card_trace.specs.Gathered.{Everything, Asks, UnitOf, Single, Repeated, first_of, last_of, dialogues_of, unit_data, IsUnit, repeats_with}
-use Rattle.card_trace.specs.ExchangeSide.{ExchangeOf, UnderWay, IsDone, IsAttempt, moved_in, from_card, with_host, Continues, count_again}
+use Rattle.card_trace.specs.Gathered.{Everything, Asks, Single, Repeated, repeats_with}
+use Rattle.card_trace.specs.ExchangeSide.{ExchangeOf, UnderWay, IsDone, IsAttempt, moved_in, from_card, with_host, count_again}
 
 terminal_is_no_card : Terminal ≡ Card → ⊥
 terminal_is_no_card e = absurd (cc)
@@ -29,9 +29,12 @@ starts ex same counts byte stage gather first =
     let Stands : HostStage → Type 0 = λ s. HostStandsAt (with_stage ex.host s) fresh in
     let Attempt : Bool → Type 0 = λ r. IsAttempt ex.header r [] (count ex.host.p3) in
     record {
-      same_header = same; is_byte = byte; attempt = subst Attempt (sym first) counts;
+      same_header = same;
+      is_byte = byte;
+      attempt = subst Attempt (sym first) counts;
       stands = subst Stands (sym stage) (lit< tt, refl);
-      gathered = ap (λ (g : Room). g.bytes) gather; room = ap (λ (g : Room). g.limit) gather;
+      gathered = ap (λ (g : Room). g.bytes) gather;
+      room = ap (λ (g : Room). g.limit) gather;
     }
 
 -- a terminal's end that asks stands at dialogues from the card
@@ -72,7 +75,8 @@ next_goes_on ex host whole front new byte is under goes stands =
     let p3 : host.p3 ≡ ex.host.p3 = ap (λ (h : Asking). h.p3) is in
     record {
       same_header = ap (λ (h : Asking). h.header) is ∙ under.same_header;
-      is_byte = subst P3 (sym p3) under.is_byte; attempt = subst Attempt (sym p3) under.attempt;
+      is_byte = subst P3 (sym p3) under.is_byte;
+      attempt = subst Attempt (sym p3) under.attempt;
       stands = stands;
       gathered = under.gathered ∙ ap (λ ds. flat_map received whole ++ ds) (sym (terminal_moves_nothing front new byte (asks_from_card ex.host ex.host.stage front under.stands) goes));
       room = under.room;
@@ -136,7 +140,8 @@ take_goes_on ex taken host gather whole front new byte stage taken_is host_is ga
     let p3 : host.p3 ≡ ex.host.p3 = ap (λ (h : Asking). h.p3) (same ∙ taken_is) in
     record {
       same_header = ap (λ (h : Asking). h.header) (same ∙ taken_is) ∙ under.same_header;
-      is_byte = subst P3 (sym p3) under.is_byte; attempt = subst Attempt (sym p3) under.attempt;
+      is_byte = subst P3 (sym p3) under.is_byte;
+      attempt = subst Attempt (sym p3) under.attempt;
       stands = subst Stands (sym same) stands;
       gathered = ap (λ (g : Room). g.bytes) gather_is ∙ ap (λ bytes. bytes ++ data_in ex.host.stage byte) under.gathered
           ∙ append_assoc (flat_map received whole) (moved_in front) (data_in ex.host.stage byte)
@@ -198,8 +203,12 @@ over ex host gather whole b sw1 byte under gather_is end false [] attempt first 
     let all = all_gathered ex gather whole b sw1 byte under gather_is in
     let none : corrects (sw1, byte) ≡ None = sym (ap (λ r. count_again r (sw1, byte)) first) ∙ none_again in
     record {
-      unit = Single this; dialogues = ap (λ ds. ds ++ this ∷ []) is; opens = asked ex whole b sw1 byte 256 under attempt;
-      is_unit = repeats_not this due.2 none; ended = end; gathered = all ∙ ap (λ ds. flat_map received (ds ++ this ∷ [])) is;
+      unit = Single this;
+      dialogues = ap (λ ds. ds ++ this ∷ []) is;
+      opens = asked ex whole b sw1 byte 256 under attempt;
+      is_unit = repeats_not this due.2 none;
+      ended = end;
+      gathered = all ∙ ap (λ ds. flat_map received (ds ++ this ∷ [])) is;
     }
 over ex host gather whole b sw1 byte under gather_is end false (e ∷ ds) attempt first is none_again = absurd attempt
 over ex host gather whole b sw1 byte under gather_is end true [] attempt again is none_again = absurd attempt
@@ -209,9 +218,12 @@ over ex host gather whole b sw1 byte under gather_is end true (e ∷ []) attempt
     let n = count ex.host.p3 in
     let Header : Header → Type 0 = λ h. Asks h n this in
     record {
-      unit = Repeated e this; dialogues = ap (λ ds. ds ++ this ∷ []) is; opens = attempt.0;
+      unit = Repeated e this;
+      dialogues = ap (λ ds. ds ++ this ∷ []) is;
+      opens = attempt.0;
       is_unit = (n, repeats e n attempt.0.from_card attempt.1, subst Header (sym attempt.0.header_is) (asked ex whole b sw1 byte n under refl));
-      ended = end; gathered = all ∙ ap (λ ds. flat_map received (ds ++ this ∷ [])) is;
+      ended = end;
+      gathered = all ∙ ap (λ ds. flat_map received (ds ++ this ∷ [])) is;
     }
 over ex host gather whole b sw1 byte under gather_is end true (e ∷ f ∷ ds) attempt again is none_again = absurd attempt
 

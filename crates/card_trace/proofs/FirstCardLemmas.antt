@@ -1,16 +1,16 @@
 -- What the first card answers is what its definition says.
-use Rattle.std.proofs.Common.{◌≡◌, ◌≢◌, ℕ, zero, suc, ◌+◌, ◌-◌, ◌<◌, ◌≤◌, ◌%◌, min, List, [], ◌∷◌, ◌++◌, length, take, drop, refl, sym, subst, ◌∙◌, ap, arith, inl, inr, ◌⊎◌, true, false, Bool}
+use Rattle.std.proofs.Common.{◌≡◌, ◌≢◌, ℕ, ◌-◌, ◌%◌, min, List, [], ◌∷◌, length, drop, refl, sym, subst, ◌∙◌, arith, true, false, Bool}
 use Rattle.std.proofs.lemmas.List.{length-take-le, length-drop}
 use Rattle.apdu_core.specs.declared.header.Header.{Header}
 use Rattle.apdu_core.specs.StatusWord.{StatusWord, count}
 use Rattle.tlv_core.specs.Address.{NamesTag}
 use Rattle.t0_core.specs.declared.tpdu_card.Verdict.{Verdict}
 use Rattle.t0_core.specs.declared.tpdu_card.Verdict.TheVariants.{Refuse, Send}
-use Rattle.t0_core.specs.Meaning.{Prepared, Nothing, Sending, Decided, Ask, IsSending, Decides, answered_with}
+use Rattle.t0_core.specs.Meaning.{Decided, IsSending, Decides, answered_with}
 use Rattle.t0_core.specs.CardContract.{Judges}
 use Rattle.card_trace.specs.declared.first_card.Ready.{Ready}
-use Rattle.card_trace.specs.declared.first_card.Ready.TheVariants.{Idle, Sends, Answered}
-use Rattle.card_trace.specs.FirstCard.{Pair, object_of, announcing, Refuses, Accepts, Does, refuses, sends}
+use Rattle.card_trace.specs.declared.first_card.Ready.TheVariants.{Sends}
+use Rattle.card_trace.specs.FirstCard.{Pair, object_of, announcing, Does, refuses, sends}
 use Rattle.card_trace.specs.CardView.{Holding, prepared_of, IsReady, Judgement, ready_after}
 
 -- a tag has one address

@@ -1,5 +1,5 @@
 -- A GET DATA to the first card is answered as its one-step definition says.
-use Rattle.std.proofs.Common.{◌≡◌, ◌≢◌, ℕ, zero, suc, ◌+◌, ◌-◌, ◌<◌, ◌≤◌, ◌%◌, min, List, [], ◌∷◌, ◌++◌, length, take, drop, refl, sym, subst, ◌∙◌, ap, arith, inl, inr, ◌⊎◌, true, false, Bool, Option, Some, None, append-nil, length-append, lit≤, nat_lt, Result}
+use Rattle.std.proofs.Common.{◌≡◌, ◌≢◌, ℕ, ◌+◌, ◌<◌, ◌≤◌, List, [], ◌∷◌, ◌++◌, length, take, drop, refl, sym, subst, ◌∙◌, ap, arith, inl, inr, ◌⊎◌, true, false, Option, Some, None, append-nil, length-append, lit≤, nat_lt, Result}
 use Rattle.std.specs.List.{flat_map, AllByRecursion}
 use Rattle.std.proofs.lemmas.List.{take_all, drop_all}
 use Rattle.std.proofs.lemmas.Bool.{lt-ltb}
@@ -14,11 +14,11 @@ use Rattle.t0_core.specs.declared.host_end.HostStage.TheVariants.{SendingHeader,
 use Rattle.t0_core.specs.Character.{Character}
 use Rattle.t0_core.specs.Plan.{FollowInTurn}
 use Rattle.t0_core.specs.Watch.{Hearing, Hears}
-use Rattle.t0_core.specs.Dialogue.{Dialogue, Direction, ToCard, FromCard, characters, IsDialogue}
+use Rattle.t0_core.specs.Dialogue.{Dialogue, FromCard, characters, IsDialogue}
 use Rattle.t0_core.specs.Meaning.{Tpdu, tpdu_of, Runs, received}
-use Rattle.card_trace.specs.FirstCard.{Pair, object_of, announcing, IsClassKnown, IsNamed, Refuses, class_not_supported, instruction_not_supported, chaining_not_supported, wrong_parameters, not_found, wrong_length, Accepts, Does, refuses, sends}
-use Rattle.card_trace.specs.Gathered.{Wanted, Everything, Asks, UnitOf, Single, Repeated, first_of, last_of, dialogues_of, unit_data, repeats_with, IsUnit, Gathers}
-use Rattle.card_trace.specs.Talk.{Operation, Get, Reply, IsTalk}
+use Rattle.card_trace.specs.FirstCard.{Pair, object_of, announcing, IsNamed, Refuses, class_not_supported, instruction_not_supported, chaining_not_supported, wrong_parameters, not_found, wrong_length, Accepts, Does, refuses, sends}
+use Rattle.card_trace.specs.Gathered.{Everything, Asks, UnitOf, Single, Repeated, first_of, last_of, dialogues_of, unit_data, repeats_with, IsUnit, Gathers}
+use Rattle.card_trace.specs.Talk.{Get, Reply, IsTalk}
 use Rattle.std.specs.Option.{IfSome, SomeIff}
 use Rattle.std.specs.Result.{OnOk}
 use Rattle.std.specs.Io.KnownBytes.{Appends}
@@ -146,15 +146,18 @@ answered_once pair new h tag p1 p2 d few named is asks once runs =
     let head = cla_of h 256 p1 p2 d is asks in
     let none = not_repeated d asks.from_card once in
     elim done.1 [
-      inl refused ↦ elim (why pair d.body.header d.body.p3 d.status head.0 head.1 (tag, named_at tag p1 p2 _ _ head.2 head.3 named) refused.0) [
-          inl missing ↦
+      | inl refused ↦ elim (why pair d.body.header d.body.p3 d.status head.0 head.1 (tag, named_at tag p1 p2 _ _ head.2 head.3 named) refused.0) [
+        | inl missing ↦
             let Named : List ℕ → Type 0 = λ t. NamesTag t p1 p2 in
             record {
-              stays = runs.2 ∙ done.0; no_more = ap announces missing.0;
+              stays = runs.2 ∙ done.0;
+              no_more = ap announces missing.0;
               answers = answered_no_object pair tag d.status _ (λ same. missing.1 (named_at pair.tag p1 p2 _ _ head.2 head.3 (subst Named same named))) missing.0 (empty_received d refused.1);
             }
-        | inr long ↦ absurd (some_is_not_none (corrects d.status) (count (length (object_of pair))) (ap corrects long.0) none) ]
-    | inr sent ↦ absurd (omega (arith, sent.0.no_more, asks.counts, few.few)) ]
+        | inr long ↦ absurd (some_is_not_none (corrects d.status) (count (length (object_of pair))) (ap corrects long.0) none)
+      ]
+      | inr sent ↦ absurd (omega (arith, sent.0.no_more, asks.counts, few.few))
+    ]
 
 abbrev value_in : Option ℕ → ℕ
 value_in None = 0
@@ -179,17 +182,20 @@ second_time pair new h tag p1 p2 n d e few named is asks second size own nothing
     let head = cla_of d.body.header n p1 p2 e (asks.header_is ∙ is) second in
     let counts : count e.body.p3 ≡ length (object_of pair) = second.counts ∙ size in
     elim done.1 [
-      inl refused ↦ elim (why pair e.body.header e.body.p3 e.status head.0 head.1 (tag, named_at tag p1 p2 _ _ head.2 head.3 named) refused.0) [
-          inl missing ↦ absurd (missing.1 (named_at pair.tag p1 p2 _ _ head.2 head.3 own))
-        | inr long ↦ absurd (omega (arith, long.2, counts)) ]
-    | inr sent ↦
-        let status : e.status ≡ ok = sent.2 ∙ none_left pair e.body.p3 256 counts in
-        let content : received e ≡ object_of pair = sent.1 ∙ all_of pair e.body.p3 counts in
-        record {
-          stays = runs.2.2 ∙ done.0; no_more = ap announces status;
-          answers = answered_object pair tag e.status _ (one_tag tag pair.tag p1 p2 named own) status
-              (ap (λ bytes. bytes ++ flat_map received (e ∷ [])) nothing ∙ append-nil (received e) ∙ content);
-        } ]
+      | inl refused ↦ elim (why pair e.body.header e.body.p3 e.status head.0 head.1 (tag, named_at tag p1 p2 _ _ head.2 head.3 named) refused.0) [
+        | inl missing ↦ absurd (missing.1 (named_at pair.tag p1 p2 _ _ head.2 head.3 own))
+        | inr long ↦ absurd (omega (arith, long.2, counts))
+      ]
+      | inr sent ↦
+          let status : e.status ≡ ok = sent.2 ∙ none_left pair e.body.p3 256 counts in
+          let content : received e ≡ object_of pair = sent.1 ∙ all_of pair e.body.p3 counts in
+          record {
+            stays = runs.2.2 ∙ done.0;
+            no_more = ap announces status;
+            answers = answered_object pair tag e.status _ (one_tag tag pair.tag p1 p2 named own) status
+                (ap (λ bytes. bytes ++ flat_map received (e ∷ [])) nothing ∙ append-nil (received e) ∙ content);
+          }
+    ]
 
 pub answered_again : (pair new : Pair) (h : Header) (tag : List ℕ) (p1 p2 n : ℕ) (d e : Dialogue) → IsFew pair → NamesTag tag p1 p2 → h ≡ get_data p1 p2 → Asks h 256 d
     → repeats_with Everything d ≡ Some n → Asks d.body.header n e → Runs Does pair (d ∷ e ∷ []) [] new → IsAnswered pair tag new (Repeated d e)
@@ -198,13 +204,15 @@ answered_again pair new h tag p1 p2 n d e few named is asks again second runs =
     let head = cla_of h 256 p1 p2 d is asks in
     let corrected = repeated_with d n asks.from_card again in
     elim done.1 [
-      inl refused ↦ elim (why pair d.body.header d.body.p3 d.status head.0 head.1 (tag, named_at tag p1 p2 _ _ head.2 head.3 named) refused.0) [
-          inl missing ↦ absurd (some_is_not_none (corrects d.status) n corrected (ap corrects missing.0))
+      | inl refused ↦ elim (why pair d.body.header d.body.p3 d.status head.0 head.1 (tag, named_at tag p1 p2 _ _ head.2 head.3 named) refused.0) [
+        | inl missing ↦ absurd (some_is_not_none (corrects d.status) n corrected (ap corrects missing.0))
         | inr long ↦
             let size : n ≡ length (object_of pair) =
-                some_is n _ (sym corrected ∙ ap corrects long.0) ∙ count_of_some (length (object_of pair)) few.some in
-            second_time pair new h tag p1 p2 n d e few named is asks second size (named_back pair.tag p1 p2 _ _ head.2 head.3 long.1) refused.1 runs done.0 ]
-    | inr sent ↦ absurd (some_is_not_none (corrects d.status) n corrected (ap corrects sent.2 ∙ announced_or_ok _ 256)) ]
+            some_is n _ (sym corrected ∙ ap corrects long.0) ∙ count_of_some (length (object_of pair)) few.some in
+            second_time pair new h tag p1 p2 n d e few named is asks second size (named_back pair.tag p1 p2 _ _ head.2 head.3 long.1) refused.1 runs done.0
+      ]
+      | inr sent ↦ absurd (some_is_not_none (corrects d.status) n corrected (ap corrects sent.2 ∙ announced_or_ok _ 256))
+    ]
 
 pub answered : (pair new : Pair) (h : Header) (tag : List ℕ) (p1 p2 : ℕ) (unit : UnitOf) → IsFew pair → NamesTag tag p1 p2 → h ≡ get_data p1 p2 → Asks h 256 (first_of unit)
     → IsUnit Everything unit → Runs Does pair (dialogues_of unit) [] new → IsAnswered pair tag new unit
@@ -225,7 +233,7 @@ pub is_few : (pair : Pair) → length pair.value ≤ 127 → IsAddressable pair.
 is_few pair short addressable =
     let one : length (shortest (length pair.value)) ≡ 1 = one_byte (length pair.value) short in
     let size : length (object_of pair) ≡ length pair.tag + length (shortest (length pair.value)) + length pair.value =
-        length-append (pair.tag ++ shortest (length pair.value)) pair.value ∙ ap (λ n. n + length pair.value) (length-append pair.tag (shortest (length pair.value))) in
+    length-append (pair.tag ++ shortest (length pair.value)) pair.value ∙ ap (λ n. n + length pair.value) (length-append pair.tag (shortest (length pair.value))) in
     record { some = omega (arith, size, one); few = omega (arith, size, one, short, two_bytes pair.tag addressable.0 addressable.1 addressable.2) }
 
 abbrev first_or : List Command → Command → Command
@@ -256,7 +264,10 @@ gathers : (c : Command) (unit : UnitOf) (p1 p2 : ℕ) → c ≡ record { header 
 gathers c unit p1 p2 is asks is_unit none =
     let Claim : Command → Type 0 = λ command. Gathers command (unit ∷ []) (unit_data unit) (last_of unit).status in
     subst Claim (sym is) (record {
-      is_open = (asks, is_unit); all_data = sym (append-nil (unit_data unit)); ends = ([], unit, refl, none, refl) })
+      is_open = (asks, is_unit);
+      all_data = sym (append-nil (unit_data unit));
+      ends = ([], unit, refl, none, refl);
+    })
 
 status_is : (a b : StatusWord) → Ended a ≡ Ended b → a ≡ b
 status_is a b e = ap (λ s. ended_with s a) e
@@ -283,9 +294,19 @@ outcome c pair new tag p1 p2 ex reply since now whole named is same few over don
       answers = subst Stays (sym result.stays) (subst Replied (sym (reply_is reply _ _ status bytes)) result.answers);
       heard = flat_map characters whole;
       talk = record {
-        units = done.unit ∷ []; are_dialogues = subst Are all over.are_dialogues; follow = subst Follow all over.follow; runs = subst Ran all over.runs;
-        carries = (done.unit ∷ [], [], c ∷ [], refl, (p1, p2, named, ap (λ x. x ∷ []) is),
-          rw (status, bytes) (gathers c done.unit p1 p2 is (subst Asked header done.opens) done.is_unit result.no_more), refl);
+        units = done.unit ∷ [];
+        are_dialogues = subst Are all over.are_dialogues;
+        follow = subst Follow all over.follow;
+        runs = subst Ran all over.runs;
+        carries = (
+          done.unit ∷ [],
+          [],
+          c ∷ [],
+          refl,
+          (p1, p2, named, ap (λ x. x ∷ []) is),
+          rw (status, bytes) (gathers c done.unit p1 p2 is (subst Asked header done.opens) done.is_unit result.no_more),
+          refl,
+        );
         heard_is = ap (flat_map characters) all;
       };
       hears = hears;
@@ -321,7 +342,10 @@ writes pair before after tag reply old new fresh_recorder recorder heard recorde
     let Written : List ℕ → Type 0 = λ bytes. Appends old new bytes in
     let all : recorded ≡ heard = is_recorded ∙ (hears.all kept).1 ∙ ap (λ (r : Hearing). r.heard ++ heard) empty in
     record {
-      heard = heard; reply = reply; answers = subst Before start (subst After stays answers); talk = subst TalkBefore start (subst TalkAfter stays talk);
+      heard = heard;
+      reply = reply;
+      answers = subst Before start (subst After stays answers);
+      talk = subst TalkBefore start (subst TalkAfter stays talk);
       written = subst Written (is_slice ∙ is_text ∙ ap (λ cs. trace_text cs reply) all) appends;
     }
 

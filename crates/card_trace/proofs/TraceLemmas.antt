@@ -39,7 +39,7 @@ first_line from b (r ∷ runs) = split (is_same from r.from) refl
         ∙ append_assoc (sign from) (encode_upper (b ∷ r.bytes)) (newline ++ flat_map line_of runs)
         ∙ ap (λ d. sign from ++ (d ++ (newline ++ flat_map line_of runs))) (digits-cons b r.bytes)
         ∙ ap (λ d. sign from ++ d) (append_assoc (encode_upper (b ∷ [])) (encode_upper r.bytes) (newline ++ flat_map line_of runs)
-            ∙ ap (λ d. encode_upper (b ∷ []) ++ d) (sym (append_assoc (encode_upper r.bytes) newline (flat_map line_of runs)))))
+        ∙ ap (λ d. encode_upper (b ∷ []) ++ d) (sym (append_assoc (encode_upper r.bytes) newline (flat_map line_of runs)))))
     split false e = rw e (
         append_assoc (sign from ++ encode_upper (b ∷ [])) newline (flat_map line_of (r ∷ runs))
         ∙ append_assoc (sign from) (encode_upper (b ∷ [])) (newline ++ flat_map line_of (r ∷ runs)))

@@ -1,13 +1,13 @@
 -- A worked exchange, computed from the definitions, and near misses.
-use Rattle.std.proofs.Common.{◌≡◌, ◌≢◌, ℕ, List, [], ◌∷◌, ◌++◌, length, refl, inl, inr, lit<, lit≤, true, false, Option, Some, None}
+use Rattle.std.proofs.Common.{◌≡◌, ℕ, [], ◌∷◌, ◌++◌, refl, lit<, Some, None}
 use Rattle.std.specs.Prelude.{codes}
 use Rattle.hex.specs.Hex.{encode_with}
 use Rattle.apdu_core.specs.declared.header.Header.{Header}
 use Rattle.apdu_core.specs.CommandBytes.{Command}
 use Rattle.t0_core.specs.declared.plan.Step.TheVariants.{All}
 use Rattle.t0_core.specs.Dialogue.{Dialogue, FromCard, characters}
-use Rattle.card_trace.specs.Gathered.{Bytes, Everything, Asks, UnitOf, Single, Repeated, IsUnit, repeats_with, more_after, wanted_by, Gathers}
-use Rattle.card_trace.specs.TraceText.{characters_text, trace_text}
+use Rattle.card_trace.specs.Gathered.{Bytes, Everything, Asks, Single, Repeated, IsUnit, repeats_with, Gathers}
+use Rattle.card_trace.specs.TraceText.{trace_text}
 
 abbrev get_name : Header
 get_name = record { cla = 0x00; ins = 0xCA; p1 = 0x5F; p2 = 0x20 }
@@ -24,9 +24,13 @@ command = record { header = get_name; content = []; le = Some 256 }
 
 gathered : Gathers command (Repeated corrected (asked_for 6) ∷ []) (0x5F ∷ 0x20 ∷ 0x03 ∷ 0x4A ∷ 0x4F ∷ 0x45 ∷ []) (0x90, 0x00)
 gathered = record {
-  is_open = (record { header_is = refl; from_card = refl; counts = refl; is_byte = lit< tt },
-    (6, refl, record { header_is = refl; from_card = refl; counts = refl; is_byte = lit< tt }));
-  all_data = refl; ends = ([], Repeated corrected (asked_for 6), refl, refl, refl) }
+  is_open = (
+    record { header_is = refl; from_card = refl; counts = refl; is_byte = lit< tt },
+    (6, refl, record { header_is = refl; from_card = refl; counts = refl; is_byte = lit< tt }),
+  );
+  all_data = refl;
+  ends = ([], Repeated corrected (asked_for 6), refl, refl, refl);
+}
 
 -- near miss: a 6CXX that is not repeated
 not_repeated : IsUnit Everything (Single corrected) → ⊥

@@ -1,10 +1,10 @@
 -- How the fields of the first card are seen.
-use Rattle.std.specs.Prelude.{◌≡◌, ℕ, List, length, take}
+use Rattle.std.specs.Prelude.{ℕ, take}
 use Rattle.apdu_core.specs.StatusWord.{count}
 use Rattle.apdu_core.specs.declared.header.Header.{Header}
 use Rattle.t0_core.specs.declared.tpdu_card.Verdict.{Verdict}
 use Rattle.t0_core.specs.declared.tpdu_card.Verdict.TheVariants.{Refuse, Send}
-use Rattle.t0_core.specs.Meaning.{Prepared, Nothing, Sending, Decided, Ask}
+use Rattle.t0_core.specs.Meaning.{Prepared, Nothing, Sending, Decided}
 use Rattle.card_trace.specs.declared.first_card.Ready.{Ready}
 use Rattle.card_trace.specs.declared.first_card.Ready.TheVariants.{Idle, Sends, Answered}
 use Rattle.card_trace.specs.FirstCard.{Pair, object_of, Accepts, Refuses}

@@ -1,14 +1,14 @@
 -- A terminal and a card that exchange characters, over the empty list of plans.
-use Rattle.std.specs.Prelude.{◌≡◌, ℕ, ◌+◌, ◌-◌, ◌*◌, List, [], ◌∷◌, ◌++◌, length, Bool, true, false, if◌then◌else◌}
+use Rattle.std.specs.Prelude.{◌≡◌, ℕ, ◌+◌, ◌-◌, List, [], ◌++◌, length, Bool, true, false, if◌then◌else◌}
 use Rattle.std.specs.List.{AllByRecursion, flat_map}
 use Rattle.t0_core.specs.declared.host_end.HostStage.{HostStage}
 use Rattle.t0_core.specs.declared.host_end.HostStage.TheVariants.{SendingHeader, Awaiting, TakingData, AwaitingSecond, Ended, Broken}
 use Rattle.t0_core.specs.Dialogue.{Dialogue, characters, IsDialogue}
-use Rattle.t0_core.specs.Plan.{Course, Cursor, plain, FollowInTurn}
+use Rattle.t0_core.specs.Plan.{Cursor, plain, FollowInTurn}
 use Rattle.t0_core.specs.Meaning.{Tpdu, Prepared, Runs}
-use Rattle.t0_core.specs.Front.{Front, IsFront, IsFromCard, front_characters}
+use Rattle.t0_core.specs.Front.{Front, IsFront, front_characters}
 use Rattle.t0_core.specs.Watch.{Hearing, Hears}
-use Rattle.t0_core.specs.CardSide.{Stage, Taking_header, Sending_data, Ending, StandsAt, still_to_go}
+use Rattle.t0_core.specs.CardSide.{Stage, Taking_header, Sending_data, Ending, StandsAt}
 use Rattle.card_trace.specs.ExchangeSide.{ExchangeOf, UnderWay, IsDone}
 
 -- these dialogues are over: they follow the plans, and are a run of the card's meaning

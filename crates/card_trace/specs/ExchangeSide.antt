@@ -2,11 +2,10 @@
 use Rattle.std.specs.Prelude.{◌≡◌, ℕ, ◌<◌, List, [], ◌∷◌, ◌++◌, Some, None, Option, Bool, true, false, ◌⊎◌}
 use Rattle.std.specs.List.{flat_map}
 use Rattle.apdu_core.specs.declared.header.Header.{Header}
-use Rattle.apdu_core.specs.HeaderBytes.{ins_is_valid}
 use Rattle.apdu_core.specs.StatusWord.{StatusWord, count, corrects}
 use Rattle.t0_core.specs.declared.host_end.HostStage.{HostStage}
 use Rattle.t0_core.specs.declared.host_end.HostStage.TheVariants.{SendingHeader, Awaiting, TakingData, AwaitingSecond, Ended, Broken}
-use Rattle.t0_core.specs.Dialogue.{Dialogue, Body, Direction, ToCard, FromCard}
+use Rattle.t0_core.specs.Dialogue.{Dialogue, Direction, ToCard, FromCard}
 use Rattle.t0_core.specs.Meaning.{received}
 use Rattle.t0_core.specs.Front.{Front, In_header, In_body, After_first, fresh}
 use Rattle.t0_core.specs.Room.{Room}

@@ -4,7 +4,7 @@ use Rattle.std.specs.Prelude.{◌≡◌, ◌≢◌, ℕ, suc, ◌%◌, ◌<◌, 
 use Rattle.apdu_core.specs.declared.header.Header.{Header}
 use Rattle.apdu_core.specs.StatusWord.{StatusWord, ok, count}
 use Rattle.tlv_core.specs.Spelling.{object_bytes}
-use Rattle.tlv_core.specs.Address.{NamesTag, IsAddressable}
+use Rattle.tlv_core.specs.Address.{NamesTag}
 use Rattle.t0_core.specs.Meaning.{Tpdu}
 
 -- the object that it holds
@@ -30,11 +30,11 @@ pub data Refuses (pair : Pair) (h : Header) (p3 : ℕ) : StatusWord → Type 0 w
   instruction_not_supported : IsClassKnown h → h.ins ≢ 0xCA → Refuses pair h p3 (0x6D, 0x00)
   chaining_not_supported : h.cla ≡ 0x10 → h.ins ≡ 0xCA → Refuses pair h p3 (0x68, 0x84)
   wrong_parameters : IsClassKnown h → h.ins ≡ 0xCA → h.cla ≢ 0x10 → ((tag : List ℕ) → NamesTag tag h.p1 h.p2 → ⊥)
-    → Refuses pair h p3 (0x6A, 0x86)
+      → Refuses pair h p3 (0x6A, 0x86)
   not_found : IsClassKnown h → h.ins ≡ 0xCA → h.cla ≢ 0x10 → IsNamed h → (NamesTag pair.tag h.p1 h.p2 → ⊥)
-    → Refuses pair h p3 (0x6A, 0x88)
+      → Refuses pair h p3 (0x6A, 0x88)
   wrong_length : IsClassKnown h → h.ins ≡ 0xCA → h.cla ≢ 0x10 → NamesTag pair.tag h.p1 h.p2 → length (object_of pair) < count p3
-    → Refuses pair h p3 (0x6C, length (object_of pair))
+      → Refuses pair h p3 (0x6C, length (object_of pair))
 
 -- a header that is not refused: GET DATA of the tag held, for no more than there is
 pub record Accepts (pair : Pair) (h : Header) (p3 : ℕ) : Type 0 where
@@ -52,7 +52,12 @@ announcing (b ∷ left) cut = (0x61, min (suc (length left)) cut % 256)
 -- What a TPDU does: a header is refused, or as many bytes are sent as P3 counts. Nothing is pending afterwards.
 pub data Does : Pair → ℕ → Tpdu → Pair → Type 0 where
   refuses : {pair : Pair} {cut : ℕ} (h : Header) (p3 : ℕ) (status : StatusWord) → Refuses pair h p3 status
-    → Does pair cut (record { header = h; p3 = p3; sent = []; received = []; status = status }) pair
+      → Does pair cut (record { header = h; p3 = p3; sent = []; received = []; status = status }) pair
   sends : {pair : Pair} {cut : ℕ} (h : Header) (p3 : ℕ) → Accepts pair h p3
-    → Does pair cut (record { header = h; p3 = p3; sent = []; received = take (count p3) (object_of pair);
-        status = announcing (drop (count p3) (object_of pair)) cut }) pair
+      → Does pair cut (record {
+        header = h;
+        p3 = p3;
+        sent = [];
+        received = take (count p3) (object_of pair);
+        status = announcing (drop (count p3) (object_of pair)) cut;
+      }) pair

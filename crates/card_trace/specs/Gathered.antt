@@ -1,10 +1,10 @@
 -- How a command becomes TPDUs at T=0, and what they bring (ISO/IEC 7816-3, clause 12).
-use Rattle.std.specs.Prelude.{◌≡◌, ◌≢◌, ℕ, ◌+◌, ◌-◌, ◌<◌, min, List, [], ◌∷◌, ◌++◌, length, Option, Some, None, Bool, true, ◌==◌, nat_le, if◌then◌else◌}
+use Rattle.std.specs.Prelude.{◌≡◌, ◌≢◌, ℕ, ◌-◌, ◌<◌, min, List, [], ◌∷◌, ◌++◌, length, Option, Some, None, Bool, true, ◌==◌, nat_le, if◌then◌else◌}
 use Rattle.std.specs.List.{flat_map}
 use Rattle.apdu_core.specs.declared.header.Header.{Header}
 use Rattle.apdu_core.specs.StatusWord.{StatusWord, count, announces, corrects}
 use Rattle.apdu_core.specs.CommandBytes.{Command}
-use Rattle.t0_core.specs.Dialogue.{Dialogue, Direction, ToCard, FromCard, foreseen}
+use Rattle.t0_core.specs.Dialogue.{Dialogue, Direction, ToCard, FromCard}
 use Rattle.t0_core.specs.Meaning.{received}
 
 -- what is still wanted: so many bytes, or all that the card announces
@@ -104,7 +104,7 @@ Fetch wanted announced [] = ⊥
 Fetch wanted announced (u ∷ []) = Asks get_response (smaller announced wanted) (first_of u) × IsUnit wanted u
 Fetch wanted announced (u ∷ next ∷ units) =
     Asks get_response (smaller announced wanted) (first_of u) × IsUnit wanted u × (unit_data u ≢ [])
-      × ((more : ℕ) × (more_after wanted u ≡ Some more) × Fetch (after_unit wanted u) more (next ∷ units))
+    × ((more : ℕ) × (more_after wanted u ≡ Some more) × Fetch (after_unit wanted u) more (next ∷ units))
 
 -- The units of an exchange so far: its last unit may end in any status.
 abbrev pub IsOpenExchange : Command → List UnitOf → Type 0
@@ -112,7 +112,7 @@ IsOpenExchange c [] = ⊥
 IsOpenExchange c (u ∷ []) = Opens c (first_of u) × IsUnit (wanted_by c.le) u
 IsOpenExchange c (u ∷ next ∷ units) =
     Opens c (first_of u) × IsUnit (wanted_by c.le) u
-      × ((more : ℕ) × (more_after (wanted_by c.le) u ≡ Some more) × Fetch (after_unit (wanted_by c.le) u) more (next ∷ units))
+    × ((more : ℕ) × (more_after (wanted_by c.le) u ≡ Some more) × Fetch (after_unit (wanted_by c.le) u) more (next ∷ units))
 
 -- The units of a whole exchange: no more is fetched after the last, which gives the status.
 pub record Gathers (c : Command) (units : List UnitOf) (gathered : List ℕ) (status : StatusWord) : Type 0 where

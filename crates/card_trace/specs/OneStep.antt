@@ -1,5 +1,5 @@
 -- The first card as one that answers a whole GET DATA in one step.
-use Rattle.std.specs.Prelude.{◌≡◌, ◌≢◌, ℕ, List, []}
+use Rattle.std.specs.Prelude.{◌≢◌, ℕ, List, []}
 use Rattle.apdu_core.specs.StatusWord.{ok}
 use Rattle.card_trace.specs.FirstCard.{Pair, object_of}
 use Rattle.card_trace.specs.Talk.{Operation, Get, Reply}

@@ -1,5 +1,5 @@
 -- What a whole talk of operations is: dialogues that follow the plans, are a run of the card, and carry the operations.
-use Rattle.std.specs.Prelude.{◌≡◌, ◌≢◌, ℕ, List, [], ◌∷◌, ◌++◌, None, Some, ◌⊎◌}
+use Rattle.std.specs.Prelude.{◌≡◌, ◌≢◌, ℕ, List, [], ◌∷◌, ◌++◌, Some, ◌⊎◌}
 use Rattle.std.specs.List.{AllByRecursion, flat_map}
 use Rattle.apdu_core.specs.StatusWord.{StatusWord, ok}
 use Rattle.apdu_core.specs.CommandBytes.{Command}
@@ -29,7 +29,7 @@ IsCommandsOf (Get tag) commands =
     (p1 p2 : ℕ) × NamesTag tag p1 p2 × (commands ≡ record { header = record { cla = 0x00; ins = 0xCA; p1 = p1; p2 = p2 }; content = []; le = Some 256 } ∷ [])
 IsCommandsOf (Put tag value) commands =
     (p1 p2 : ℕ) × (pieces : List (List ℕ)) × NamesTag tag p1 p2 × IsPieces value pieces
-      × (commands ≡ chain_commands (record { cla = 0x00; ins = 0xDA; p1 = p1; p2 = p2 }) pieces)
+    × (commands ≡ chain_commands (record { cla = 0x00; ins = 0xDA; p1 = p1; p2 = p2 }) pieces)
 
 -- Commands are exchanged one after another, up to the first whose status is not 9000. Their units, and the last reply.
 abbrev pub Exchanged : List Command → List UnitOf → Reply → Type 0
@@ -38,7 +38,7 @@ Exchanged (c ∷ []) units reply = Gathers c units reply.content reply.status
 Exchanged (c ∷ next ∷ commands) units reply =
     (Gathers c units reply.content reply.status × (reply.status ≢ ok))
     ⊎ ((first others : List UnitOf) × (gathered : List ℕ) × (units ≡ first ++ others)
-        × Gathers c first gathered ok × Exchanged (next ∷ commands) others reply)
+    × Gathers c first gathered ok × Exchanged (next ∷ commands) others reply)
 
 -- the units of whole operations, one operation after another, with its reply
 abbrev pub Carries : List Operation → List UnitOf → List Reply → Type 0
@@ -47,7 +47,7 @@ Carries [] units (r ∷ replies) = ⊥
 Carries (o ∷ operations) units [] = ⊥
 Carries (o ∷ operations) units (r ∷ replies) =
     (first others : List UnitOf) × (commands : List Command) × (units ≡ first ++ others)
-      × IsCommandsOf o commands × Exchanged commands first r × Carries operations others replies
+    × IsCommandsOf o commands × Exchanged commands first r × Carries operations others replies
 
 -- A talk with a card of this meaning, under these plans.
 pub record IsTalk {State : Type 0} (Does : State → ℕ → Tpdu → State → Type 0) (plans : List Course) (operations : List Operation)

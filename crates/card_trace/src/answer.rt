@@ -1,8 +1,7 @@
 ghost use Rattle.std.specs.Prelude.{◌≡◌};
 
-use std::marker::Model;
-
 use apdu_core::Status;
+use std::marker::Model;
 use t0_core::Gather;
 
 /// What a card answers to a command: the data gathered, and the status.

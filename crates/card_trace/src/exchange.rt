@@ -6,13 +6,11 @@ ghost use Rattle.t0_core.specs.Front.{Front, GoesOn, Ends, IsPlain, fresh};
 ghost use Rattle.t0_core.specs.HostSide.{at_stage, turn_of, after_turn, fault_of, after_fault};
 ghost use Rattle.card_trace.specs.ExchangeSide.{UnderWay, Continues, IsEnded, with_host, count_again};
 
+use crate::answer::Answer;
+use apdu_core::{Command, Header, Status};
 use std::alloc::{AllocError, Global};
 use std::marker::Model;
-
-use apdu_core::{Command, Header, Status};
 use t0_core::{Gather, HostEnd, HostTurn, LineFault};
-
-use crate::answer::Answer;
 
 /// The most bytes of a response that a terminal gathers (this project's profile).
 pub const RESPONSE_LIMIT: usize = 4096;
@@ -61,8 +59,12 @@ impl Exchange {
     /// What the terminal does now. A character to send is handed out.
     pub fn next(&mut self) -> HostTurn
         ensures turn { result ≡ turn_of self.old.host }
-        ensures after { self.new ≡ record { header = self.old.header; host = at_stage self.old.host (after_turn self.old.host.stage);
-            gather = self.old.gather; repeated = self.old.repeated } }
+        ensures after { self.new ≡ record {
+          header = self.old.header;
+          host = at_stage self.old.host (after_turn self.old.host.stage);
+          gather = self.old.gather;
+          repeated = self.old.repeated;
+        } }
         ensures goes_on { (whole : List Dialogue) (front : Front) (byte : ℕ) → UnderWay self.old whole front → result ≡ HostTurn.Sends byte →
             (new : Front) × GoesOn front (Terminal, byte) new × IsPlain new × UnderWay self.new whole new }
     {
@@ -96,7 +98,11 @@ impl Exchange {
         ensures done { IsSome result ↔ IsEnded self.host.stage }
         ensures answer { IfSome result (λ a. (self.host.stage ≡ Ended a.status) × (a.content ≡ self.gather.bytes)) }
     {
-        let Exchange { mut end, gather, .. } = self;
+        let Exchange {
+            mut end,
+            gather,
+            ..
+        } = self;
         match end.next() {
             HostTurn::Done(status) => Some(Answer::new(status, gather)),
             _ => None,

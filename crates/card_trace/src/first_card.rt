@@ -4,9 +4,8 @@ ghost use Rattle.tlv_core.specs.Length.{shortest};
 ghost use Rattle.card_trace.specs.FirstCard.{Pair, Does, IsClassKnown, object_of, announcing};
 ghost use Rattle.card_trace.specs.CardView.{Judgement, ready_after};
 
-use std::marker::Model;
-
 use apdu_core::{Header, Status, count};
+use std::marker::Model;
 use t0_core::{TpduCard, Verdict};
 use tlv_core::{Head, ObjectTag, head};
 
@@ -37,8 +36,9 @@ impl<'a> Model for FirstCard<'a> {
     ghost Value = { Holding };
 
     ghost view = { λ c. record {
-        pair = record { tag = c.tag; value = c.value.now };
-        prepared = prepared_of (record { tag = c.tag; value = c.value.now }) c.ready } };
+      pair = record { tag = c.tag; value = c.value.now };
+      prepared = prepared_of (record { tag = c.tag; value = c.value.now }) c.ready;
+    } };
 
     ghost invariant = { λ c. (length c.value.now ≤ 127) × IsReady (record { tag = c.tag; value = c.value.now }) c.ready };
 }

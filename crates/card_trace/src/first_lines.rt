@@ -2,17 +2,15 @@ ghost use Rattle.std.specs.Prelude.{ℕ, ◌≤◌, [], ◌∷◌, length, OnOk}
 ghost use Rattle.tlv_core.specs.Address.{IsAddressable};
 ghost use Rattle.card_trace.specs.TraceText.{WritesTalk};
 
-use std::alloc::Global;
-use std::io::Write;
-
-use apdu_core::{Command, Header};
-use t0_core::{CardEnd, Plans, Recorder};
-use tlv_core::ObjectTag;
-
 use crate::first_card::FirstCard;
 use crate::play_fault::PlayFault;
 use crate::session::Session;
 use crate::trace::trace;
+use apdu_core::{Command, Header};
+use std::alloc::Global;
+use std::io::Write;
+use t0_core::{CardEnd, Plans, Recorder};
+use tlv_core::ObjectTag;
 
 /// Writes the trace of a GET DATA of `5F20` from a card that holds `5F20` with the value `4A4F45`.
 ///
@@ -22,7 +20,12 @@ pub fn first_lines<W: Write>(alloc: Global, writer: &mut W) -> Result<(), PlayFa
         (W.contents writer.old) (W.contents writer.new)) }
 {
     let name = ObjectTag::from_p1p2(0x5F, 0x20).unwrap();
-    get_lines(alloc, FirstCard::new(name, &[0x4A, 0x4F, 0x45]), name, writer)
+    get_lines(
+        alloc,
+        FirstCard::new(name, &[0x4A, 0x4F, 0x45]),
+        name,
+        writer,
+    )
 }
 
 /// Writes the trace of a GET DATA of a tag from a card.

@@ -11,10 +11,9 @@ mod session;
 mod tests;
 mod trace;
 
+use first_lines::first_lines;
 use std::io;
 use std::process::ExitCode;
-
-use first_lines::first_lines;
 
 /// Prints the trace of one GET DATA. A fault is printed on standard error, with status 1.
 fn main(rt: HostRuntime) -> ExitCode {

@@ -1,5 +1,4 @@
 use std::alloc::AllocError;
-
 use thiserror::Error;
 
 /// Why a trace was not written.

@@ -2,15 +2,13 @@ ghost use Rattle.std.specs.Prelude.{◌≡◌, ℕ, ◌<◌, [], ◌⊎◌, true
 ghost use Rattle.t0_core.specs.Watch.{Hearing};
 ghost use Rattle.card_trace.specs.Conversing.{IsUnderWay, IsFinished, characters_left};
 
-use std::alloc::{AllocError, Global};
-use std::marker::Model;
-
-use apdu_core::Command;
-use t0_core::{CardEnd, End, HostTurn, Plans, TpduCard, Turn, Watch};
-
 use crate::answer::Answer;
 use crate::exchange::Exchange;
 use crate::first_card::FirstCard;
+use apdu_core::Command;
+use std::alloc::{AllocError, Global};
+use std::marker::Model;
+use t0_core::{CardEnd, End, HostTurn, Plans, TpduCard, Turn, Watch};
 
 /// A terminal and the first card, joined by a line that delivers every character.
 #[derive(Drop)]

@@ -1,26 +1,19 @@
 ghost use Rattle.std.specs.Prelude.{◌≤◌, length};
 
-use std::alloc::Global;
-use std::io;
-use std::io::Write;
-use std::test::Fail;
-
-use apdu_core::Command;
-use t0_core::{HostTurn, LineFault};
-use tlv_core::ObjectTag;
-
 use crate::exchange::Exchange;
 use crate::first_card::FirstCard;
 use crate::first_lines::{first_lines, get_lines};
 use crate::play_fault::PlayFault;
+use apdu_core::Command;
+use std::alloc::Global;
+use std::io;
+use std::io::Write;
+use std::test::Fail;
+use t0_core::{HostTurn, LineFault};
+use tlv_core::ObjectTag;
 
 /// The trace of a GET DATA from a card of one object.
-fn traced(
-    alloc: Global,
-    held: (u8, u8),
-    value: &[u8],
-    asked: (u8, u8),
-) -> Result<Vec<u8>, Fail>
+fn traced(alloc: Global, held: (u8, u8), value: &[u8], asked: (u8, u8)) -> Result<Vec<u8>, Fail>
     requires { length value.now ≤ 127 }
 {
     let tag = ObjectTag::from_p1p2(held.0, held.1).ok_or("the tag held")?;
@@ -35,18 +28,25 @@ fn traced(
 fn name_is_brought_after_a_correction(rt: HostRuntime) -> Result<(), Fail> {
     let mut text = Vec::new(rt.alloc());
     first_lines(rt.alloc(), &mut text)?;
-    assert_eq!(rt; text.as_slice(),
-        b"> 00CA5F2000\n< 6C06\n> 00CA5F2006\n< CA5F20034A4F459000\n= 9000 5F20034A4F45\n".as_slice());
+    assert_eq!(rt;
+        text.as_slice(),
+        b"> 00CA5F2000\n< 6C06\n> 00CA5F2006\n< CA5F20034A4F459000\n= 9000 5F20034A4F45\n".as_slice()
+    );
     Ok(())
 }
 
 #[test]
 fn empty_value_and_unknown_tag(rt: HostRuntime) -> Result<(), Fail> {
     let text = traced(rt.alloc(), (0x5F, 0x20), &[], (0x5F, 0x20))?;
-    assert_eq!(rt; text.as_slice(),
-        b"> 00CA5F2000\n< 6C03\n> 00CA5F2003\n< CA5F20009000\n= 9000 5F2000\n".as_slice());
+    assert_eq!(rt;
+        text.as_slice(),
+        b"> 00CA5F2000\n< 6C03\n> 00CA5F2003\n< CA5F20009000\n= 9000 5F2000\n".as_slice()
+    );
     let text = traced(rt.alloc(), (0x5F, 0x20), &[0x4A, 0x4F, 0x45], (0x9F, 0x36))?;
-    assert_eq!(rt; text.as_slice(), b"> 00CA9F3600\n< 6A88\n= 6A88\n".as_slice());
+    assert_eq!(rt;
+        text.as_slice(),
+        b"> 00CA9F3600\n< 6A88\n= 6A88\n".as_slice()
+    );
     Ok(())
 }
 

@@ -3,19 +3,13 @@ ghost use Rattle.hex.specs.Hex.{encode_upper};
 ghost use Rattle.card_trace.specs.TraceText.{characters_text, answer_text, trace_text};
 ghost use Rattle.card_trace.specs.LineBreaks.{break_before, break_after};
 
-use std::alloc::{AllocError, Global};
-
-use t0_core::End;
-
 use crate::answer::Answer;
+use std::alloc::{AllocError, Global};
+use t0_core::End;
 
 /// The trace of these characters and this answer: a line for each longest run of characters from one
 /// end, `> ` and `< ` before its bytes, and a line `= ` for the answer.
-pub fn trace(
-    alloc: Global,
-    heard: &[(End, u8)],
-    answer: &Answer,
-) -> Result<Vec<u8>, AllocError>
+pub fn trace(alloc: Global, heard: &[(End, u8)], answer: &Answer) -> Result<Vec<u8>, AllocError>
     ensures { IfOk result (λ text. text.items ≡ trace_text heard.now answer.now) }
 {
     let mut text = Vec::new(alloc);
@@ -25,11 +19,7 @@ pub fn trace(
 }
 
 /// Adds the lines of the characters.
-fn push_characters(
-    alloc: Global,
-    text: &mut Vec<u8>,
-    heard: &[(End, u8)],
-) -> Result<(), AllocError>
+fn push_characters(alloc: Global, text: &mut Vec<u8>, heard: &[(End, u8)]) -> Result<(), AllocError>
     ensures { OnOk result (text.new.items ≡ text.old.items ++ characters_text heard.now) }
 {
     let mut previous = None;

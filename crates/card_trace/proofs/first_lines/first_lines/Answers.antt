@@ -10,4 +10,4 @@ pub returns : goal.returns
 returns g c =
     let named = if_some c.from_p1p2.result _ c.unwrap-name.result c.unwrap-name.ensures c.from_p1p2.ensures.tag in
     of_name c.get_lines.result c.new.result.pair c.unwrap-name.result (0x5F ∷ 0x20 ∷ []) (0x4A ∷ 0x4F ∷ 0x45 ∷ []) _ _ (ap (λ (h : Holding). h.pair) c.new.ensures)
-      (one_tag c.unwrap-name.result (0x5F ∷ 0x20 ∷ []) 0x5F 0x20 named (lit≤ tt, lit< tt, refl, lit< tt, lit< tt, refl, refl)) c.get_lines.ensures
+    (one_tag c.unwrap-name.result (0x5F ∷ 0x20 ∷ []) 0x5F 0x20 named (lit≤ tt, lit< tt, refl, lit< tt, lit< tt, refl, refl)) c.get_lines.ensures

@@ -1,4 +1,4 @@
-use Rattle.std.proofs.Common.{◌≡◌, ◌+◌, ◌⊎◌, true, false, if◌then◌else◌}
+use Rattle.std.proofs.Common.{◌≡◌, ◌+◌, ◌⊎◌, true, if◌then◌else◌}
 use Rattle.t0_core.specs.Watch.{Hearing}
 use Rattle.card_trace.specs.Conversing.{IsUnderWay, IsFinished, characters_left}
 use Rattle.card_trace.proofs.session.converse.Given as goal

@@ -1,4 +1,4 @@
-use Rattle.std.proofs.Common.{◌≡◌, ◌<◌, ◌++◌, ◌∷◌, [], ◌⊎◌, refl, ap, sym, subst, ◌∙◌, inl, inr, length}
+use Rattle.std.proofs.Common.{refl, ap, sym, ◌∙◌, inl, inr}
 use Rattle.t0_core.specs.Plan.{plain}
 use Rattle.t0_core.specs.CardSide.{EndOf}
 use Rattle.card_trace.specs.ExchangeSide.{ExchangeOf}
@@ -12,27 +12,30 @@ unwrap-requires-in-Listens g c =
     let listens = sym c.in-Listens.ensures.turn in
     let same = next_stays old c.next.new.self c.next.ensures.after listens in
     elim c.requires.2 [
-      inl under ↦
-        let terminal = under_way_too old c.next.new.self under.whole under.front same under.terminal in
-        elim (c.in-Sends-turn.ensures.advances c.in-Sends-turn.byte plain under.front refl refl (asks_from_card old.host old.host.stage under.front under.terminal.stands)
-            (λ takes. plain_past _ _ _ under.no_plans c.in-Sends-turn.ensures.plan takes) under.card) [
-          inl goes ↦ (c.take-in-Listens.ensures.goes_on under.whole under.front goes.0 terminal goes.1 goes.2
-              (room_left c.next.new.self under.whole under.front terminal under.over.are_dialogues under.is_front)).0
-        | inr ends ↦ (c.take-in-Listens.ensures.ends under.whole under.front ends.0 terminal ends.1).0 ]
-    | inr finished ↦ absurd (done_is_silent old finished.whole finished.terminal listens) ]
+      | inl under ↦
+          let terminal = under_way_too old c.next.new.self under.whole under.front same under.terminal in
+          elim (c.in-Sends-turn.ensures.advances c.in-Sends-turn.byte plain under.front refl refl (asks_from_card old.host old.host.stage under.front under.terminal.stands)
+          (λ takes. plain_past _ _ _ under.no_plans c.in-Sends-turn.ensures.plan takes) under.card) [
+            | inl goes ↦ (c.take-in-Listens.ensures.goes_on under.whole under.front goes.0 terminal goes.1 goes.2
+                (room_left c.next.new.self under.whole under.front terminal under.over.are_dialogues under.is_front)).0
+            | inr ends ↦ (c.take-in-Listens.ensures.ends under.whole under.front ends.0 terminal ends.1).0
+          ]
+      | inr finished ↦ absurd (done_is_silent old finished.whole finished.terminal listens)
+    ]
 
 pub returns-in-Sends-clause-goes_on : goal.returns-in-Sends-clause-goes_on
 returns-in-Sends-clause-goes_on g c = λ first since under.
     let card = g.C.TpduCard in
     let goes = c.in-Sends.ensures.goes_on under.whole under.front c.in-Sends.byte under.terminal refl in
     let taken = c.take.ensures.goes_on plain under.front goes.0 under.card goes.1 in
-    let same = on_ok c.take.result _ c.unwrap.result c.unwrap.ensures c.take.ensures.taken in
-    (refl,
-     rw (ap (λ (e : EndOf _). e.stage) same)
-       (header_falls _ c.next.new.self under.whole under.front goes.0 _ c.in-Sends.byte under.terminal goes.3
-         (ap (λ (e : ExchangeOf). e.repeated) c.next.ensures.after) (sym c.take.ensures.listening ∙ taken.0)),
-     inl (terminal_passed card.Does card.standing card.prepared first since _ _ c.args.end.now c.take.new.self c.args.exchange.now c.next.new.self _ goes.0 c.in-Sends.byte
-       under goes.1 goes.3 taken.1 (ap (λ (e : EndOf _). e.card) same) c.seen.ensures))
+    let same = on_ok c.take.result _ c.unwrap.result c.unwrap.ensures c.take.ensures.taken in (
+      refl,
+      rw (ap (λ (e : EndOf _). e.stage) same)
+          (header_falls _ c.next.new.self under.whole under.front goes.0 _ c.in-Sends.byte under.terminal goes.3
+          (ap (λ (e : ExchangeOf). e.repeated) c.next.ensures.after) (sym c.take.ensures.listening ∙ taken.0)),
+      inl (terminal_passed card.Does card.standing card.prepared first since _ _ c.args.end.now c.take.new.self c.args.exchange.now c.next.new.self _ goes.0 c.in-Sends.byte
+          under goes.1 goes.3 taken.1 (ap (λ (e : EndOf _). e.card) same) c.seen.ensures),
+    )
 
 pub returns-in-Sends-turn-clause-goes_on : goal.returns-in-Sends-turn-clause-goes_on
 returns-in-Sends-turn-clause-goes_on g c = λ first since under.
@@ -45,25 +48,30 @@ returns-in-Sends-turn-clause-goes_on g c = λ first since under.
     let empty = past_the_list _ _ _ under.no_plans c.in-Sends-turn.ensures.plan in
     let byte = c.in-Sends-turn.byte in
     elim (c.in-Sends-turn.ensures.advances byte plain under.front refl refl (asks_from_card old.host old.host.stage under.front under.terminal.stands)
-        (λ takes. plain_past _ _ _ under.no_plans c.in-Sends-turn.ensures.plan takes) under.card) [
-      inl goes ↦
-        let taken = c.take-in-Listens.ensures.goes_on under.whole under.front goes.0 terminal goes.1 goes.2
-            (room_left c.next.new.self under.whole under.front terminal under.over.are_dialogues under.is_front) in
-        (refl,
-         card_falls card.Does _ _ old c.take-in-Listens.new.self under.whole under.front goes.0 c.args.end.now.stage c.turn.new.self.stage byte under.terminal taken.1
-           (taken.2 ∙ repeated) (c.in-Sends-turn.ensures.falls byte refl) goes.1 goes.3,
-         inl (card_passed card.Does first _ _ _ _ _ _ since _ _ old c.take-in-Listens.new.self _ _ goes.0 byte under goes.1 taken.1 goes.3 goes.4 empty c.seen-in-Listens.ensures))
-    | inr ends ↦
-        let taken = c.take-in-Listens.ensures.ends under.whole under.front ends.0 terminal ends.1 in
-        elim taken.1 [
-          inl again ↦
-            (refl,
-             repetition_falls old c.take-in-Listens.new.self under.whole _ under.front c.args.end.now.stage c.turn.new.self.stage under.terminal again.0 again.1
-               (sym repeated ∙ again.2) ends.5,
-             inl (repetition_begins card.Does first _ _ _ _ _ _ since _ _ old c.take-in-Listens.new.self _ _ ends.0 byte under ends.1 ends.2 ends.3 ends.4 ends.5 again.0 empty
-               c.seen-in-Listens.ensures))
-        | inr done ↦
-            (refl,
-             end_falls old c.take-in-Listens.new.self under.whole _ under.front c.args.end.now.stage c.turn.new.self.stage under.terminal done,
-             inr (exchange_ends card.Does first _ _ _ (card.prepared c.turn.new.self.card) _ _ since _ _ old c.take-in-Listens.new.self _ ends.0 byte under ends.1 ends.2 ends.3 ends.4 ends.5 done
-               c.seen-in-Listens.ensures)) ] ]
+    (λ takes. plain_past _ _ _ under.no_plans c.in-Sends-turn.ensures.plan takes) under.card) [
+      | inl goes ↦
+          let taken = c.take-in-Listens.ensures.goes_on under.whole under.front goes.0 terminal goes.1 goes.2
+          (room_left c.next.new.self under.whole under.front terminal under.over.are_dialogues under.is_front) in (
+            refl,
+            card_falls card.Does _ _ old c.take-in-Listens.new.self under.whole under.front goes.0 c.args.end.now.stage c.turn.new.self.stage byte under.terminal taken.1
+                (taken.2 ∙ repeated) (c.in-Sends-turn.ensures.falls byte refl) goes.1 goes.3,
+            inl (card_passed card.Does first _ _ _ _ _ _ since _ _ old c.take-in-Listens.new.self _ _ goes.0 byte under goes.1 taken.1 goes.3 goes.4 empty c.seen-in-Listens.ensures),
+          )
+      | inr ends ↦
+          let taken = c.take-in-Listens.ensures.ends under.whole under.front ends.0 terminal ends.1 in
+          elim taken.1 [
+            | inl again ↦ (
+              refl,
+              repetition_falls old c.take-in-Listens.new.self under.whole _ under.front c.args.end.now.stage c.turn.new.self.stage under.terminal again.0 again.1
+                  (sym repeated ∙ again.2) ends.5,
+              inl (repetition_begins card.Does first _ _ _ _ _ _ since _ _ old c.take-in-Listens.new.self _ _ ends.0 byte under ends.1 ends.2 ends.3 ends.4 ends.5 again.0 empty
+                  c.seen-in-Listens.ensures),
+            )
+            | inr done ↦ (
+              refl,
+              end_falls old c.take-in-Listens.new.self under.whole _ under.front c.args.end.now.stage c.turn.new.self.stage under.terminal done,
+              inr (exchange_ends card.Does first _ _ _ (card.prepared c.turn.new.self.card) _ _ since _ _ old c.take-in-Listens.new.self _ ends.0 byte under ends.1 ends.2 ends.3 ends.4 ends.5 done
+                  c.seen-in-Listens.ensures),
+            )
+          ]
+    ]

@@ -4,4 +4,4 @@ use Rattle.card_trace.proofs.trace.push_characters.Goals as goal
 pub loop-character-preserved : goal.loop-character-preserved
 loop-character-preserved c =
     step_written c.loop-character.text.items c.extend_from_slice.new.self.items c.push_hex.new.text.items c.line_break.result.now _ c.loop-character.previous c.args.heard.now
-      c.loop-character.character-index c.loop-character-test.true c.in_ok-extend_from_slice.ensures.items c.line_break.ensures c.in_ok-push_hex.ensures c.loop-character.invariant
+    c.loop-character.character-index c.loop-character-test.true c.in_ok-extend_from_slice.ensures.items c.line_break.ensures c.in_ok-push_hex.ensures c.loop-character.invariant

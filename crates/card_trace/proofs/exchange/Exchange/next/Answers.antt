@@ -1,5 +1,3 @@
-use Rattle.std.proofs.Common.{subst}
-use Rattle.card_trace.specs.ExchangeSide.{ExchangeOf, UnderWay}
 use Rattle.card_trace.proofs.ExchangeLemmas.{next_goes_on, seen_under_way}
 use Rattle.card_trace.proofs.exchange.Exchange.next.Goals as goal
 

@@ -1,6 +1,4 @@
-use Rattle.std.proofs.Common.{◌≡◌, ◌∙◌, refl, sym, subst, ◌∷◌, [], List}
-use Rattle.t0_core.specs.Character.{Character}
-use Rattle.t0_core.specs.Watch.{Hears}
+use Rattle.std.proofs.Common.{◌∙◌, subst, ◌∷◌, []}
 use Rattle.card_trace.specs.FirstCard.{Pair, Does}
 use Rattle.card_trace.specs.Talk.{Get, IsTalk}
 use Rattle.card_trace.specs.OneStep.{Answers}
@@ -13,7 +11,7 @@ converse-requires g c =
     let pair = c.self.inside.end.card.pair in
     let hearing = g.W.Watch.hearing in
     let begun = begins Does pair c.self.inside.end.card.prepared c.self.inside.end.stage c.in_ok-exchange.exchange c.args.plans.now (hearing c.args.watch.now)
-        c.self.invariant.0 c.in_ok-exchange.ensures.2 c.requires.no_plans in
+    c.self.invariant.0 c.in_ok-exchange.ensures.2 c.requires.no_plans in
     (pair, hearing c.args.watch.now, begun)
 
 pub unwrap-requires : goal.unwrap-requires
@@ -21,7 +19,7 @@ unwrap-requires g c =
     let pair = c.self.inside.end.card.pair in
     let hearing = g.W.Watch.hearing in
     let begun = begins Does pair c.self.inside.end.card.prepared c.self.inside.end.stage c.in_ok-exchange.exchange c.args.plans.now (hearing c.args.watch.now)
-        c.self.invariant.0 c.in_ok-exchange.ensures.2 c.requires.no_plans in
+    c.self.invariant.0 c.in_ok-exchange.ensures.2 c.requires.no_plans in
     let over = c.converse.ensures.finished pair (hearing c.args.watch.now) begun in
     c.into_answer.ensures.done.1 (is_ended c.converse.new.exchange.host.stage _ over.terminal.ended)
 
@@ -32,11 +30,11 @@ invariant_of-self g c =
     let pair = c.self.inside.end.card.pair in
     let hearing = g.W.Watch.hearing in
     let begun = begins Does pair c.self.inside.end.card.prepared c.self.inside.end.stage c.in_ok-exchange.exchange c.args.plans.now (hearing c.args.watch.now)
-        c.self.invariant.0 c.in_ok-exchange.ensures.2 c.requires.no_plans in
+    c.self.invariant.0 c.in_ok-exchange.ensures.2 c.requires.no_plans in
     let over = c.converse.ensures.finished pair (hearing c.args.watch.now) begun in
     let answer = if_some c.into_answer.result _ c.unwrap.result c.unwrap.ensures c.into_answer.ensures.answer in
     let done = outcome c.args.command.now pair c.converse.new.end.card.pair tag get.0 get.1 c.converse.new.exchange c.unwrap.result _ _ over.whole get.2 (only_of _ _ get.3)
-        (c.converse.ensures.header ∙ c.in_ok-exchange.ensures.0) (is_few pair c.self.invariant.1 c.self.invariant.2) over.over over.terminal answer.0 answer.1 over.hears in
+    (c.converse.ensures.header ∙ c.in_ok-exchange.ensures.0) (is_few pair c.self.invariant.1 c.self.invariant.2) over.over over.terminal answer.0 answer.1 over.hears in
     let stays = kept pair _ done.stays c.self.invariant.1 c.self.invariant.2 in
     (over.at_rest, stays.0, stays.1)
 
@@ -47,11 +45,11 @@ returns-clause-stays g c =
     let pair = c.self.inside.end.card.pair in
     let hearing = g.W.Watch.hearing in
     let begun = begins Does pair c.self.inside.end.card.prepared c.self.inside.end.stage c.in_ok-exchange.exchange c.args.plans.now (hearing c.args.watch.now)
-        c.self.invariant.0 c.in_ok-exchange.ensures.2 c.requires.no_plans in
+    c.self.invariant.0 c.in_ok-exchange.ensures.2 c.requires.no_plans in
     let over = c.converse.ensures.finished pair (hearing c.args.watch.now) begun in
     let answer = if_some c.into_answer.result _ c.unwrap.result c.unwrap.ensures c.into_answer.ensures.answer in
     let done = outcome c.args.command.now pair c.converse.new.end.card.pair tag get.0 get.1 c.converse.new.exchange c.unwrap.result _ _ over.whole get.2 (only_of _ _ get.3)
-        (c.converse.ensures.header ∙ c.in_ok-exchange.ensures.0) (is_few pair c.self.invariant.1 c.self.invariant.2) over.over over.terminal answer.0 answer.1 over.hears in
+    (c.converse.ensures.header ∙ c.in_ok-exchange.ensures.0) (is_few pair c.self.invariant.1 c.self.invariant.2) over.over over.terminal answer.0 answer.1 over.hears in
     done.stays ∙ c.self.view_is
 
 pub returns-clause-answers : goal.returns-clause-answers
@@ -59,11 +57,11 @@ returns-clause-answers g c = λ tag get.
     let pair = c.self.inside.end.card.pair in
     let hearing = g.W.Watch.hearing in
     let begun = begins Does pair c.self.inside.end.card.prepared c.self.inside.end.stage c.in_ok-exchange.exchange c.args.plans.now (hearing c.args.watch.now)
-        c.self.invariant.0 c.in_ok-exchange.ensures.2 c.requires.no_plans in
+    c.self.invariant.0 c.in_ok-exchange.ensures.2 c.requires.no_plans in
     let over = c.converse.ensures.finished pair (hearing c.args.watch.now) begun in
     let answer = if_some c.into_answer.result _ c.unwrap.result c.unwrap.ensures c.into_answer.ensures.answer in
     let done = outcome c.args.command.now pair c.converse.new.end.card.pair tag get.0 get.1 c.converse.new.exchange c.unwrap.result _ _ over.whole get.2 (only_of _ _ get.3)
-        (c.converse.ensures.header ∙ c.in_ok-exchange.ensures.0) (is_few pair c.self.invariant.1 c.self.invariant.2) over.over over.terminal answer.0 answer.1 over.hears in
+    (c.converse.ensures.header ∙ c.in_ok-exchange.ensures.0) (is_few pair c.self.invariant.1 c.self.invariant.2) over.over over.terminal answer.0 answer.1 over.hears in
     let Seen : Pair → Type 0 = λ p. Answers p (Get tag) c.unwrap.result c.converse.new.end.card.pair in
     subst Seen c.self.view_is done.answers
 
@@ -72,10 +70,10 @@ returns-clause-talk g c = λ tag get.
     let pair = c.self.inside.end.card.pair in
     let hearing = g.W.Watch.hearing in
     let begun = begins Does pair c.self.inside.end.card.prepared c.self.inside.end.stage c.in_ok-exchange.exchange c.args.plans.now (hearing c.args.watch.now)
-        c.self.invariant.0 c.in_ok-exchange.ensures.2 c.requires.no_plans in
+    c.self.invariant.0 c.in_ok-exchange.ensures.2 c.requires.no_plans in
     let over = c.converse.ensures.finished pair (hearing c.args.watch.now) begun in
     let answer = if_some c.into_answer.result _ c.unwrap.result c.unwrap.ensures c.into_answer.ensures.answer in
     let done = outcome c.args.command.now pair c.converse.new.end.card.pair tag get.0 get.1 c.converse.new.exchange c.unwrap.result _ _ over.whole get.2 (only_of _ _ get.3)
-        (c.converse.ensures.header ∙ c.in_ok-exchange.ensures.0) (is_few pair c.self.invariant.1 c.self.invariant.2) over.over over.terminal answer.0 answer.1 over.hears in
+    (c.converse.ensures.header ∙ c.in_ok-exchange.ensures.0) (is_few pair c.self.invariant.1 c.self.invariant.2) over.over over.terminal answer.0 answer.1 over.hears in
     let Seen : Pair → Type 0 = λ p. IsTalk Does [] (Get tag ∷ []) p (c.unwrap.result ∷ []) c.converse.new.end.card.pair done.heard in
     (done.heard, subst Seen c.self.view_is done.talk, done.hears)

@@ -12,17 +12,18 @@ use Rattle.t0_core.specs.declared.host_end.HostStage.TheVariants.{SendingHeader,
 use Rattle.t0_core.specs.declared.host_end.HostTurn.TheVariants.{Listens, Done}
 use Rattle.t0_core.specs.declared.plan.Step.{Step}
 use Rattle.t0_core.specs.Character.{Character}
-use Rattle.t0_core.specs.Dialogue.{Body, Dialogue, Direction, FromCard, foreseen, moves, all_moves, body_characters, characters, IsDialogue}
-use Rattle.t0_core.specs.Plan.{Cursor, plain, advanced, plan_kept, Follows, FollowInTurn}
-use Rattle.t0_core.specs.Meaning.{Tpdu, tpdu_of, Prepared, Runs, received}
+use Rattle.t0_core.specs.Dialogue.{Body, Dialogue, Direction, FromCard, foreseen, moves, all_moves, characters, IsDialogue}
+use Rattle.t0_core.specs.Plan.{Cursor, plain, advanced, Follows}
+use Rattle.t0_core.specs.Meaning.{Tpdu, tpdu_of, Prepared, received}
 use Rattle.t0_core.specs.Front.{Front, In_header, In_body, After_first, GoesOn, Ends, IsFront, EndInLast, IsBegun, front_characters, fresh}
 use Rattle.t0_core.specs.Watch.{Hearing, Hears}
 use Rattle.t0_core.specs.HostSide.{Asking, HostStandsAt, at_stage, turn_of, after_turn}
 use Rattle.t0_core.specs.CardSide.{Stage, EndOf, Taking_header, Sending_data, Ending, StandsAt, listens, with_character, still_to_go}
+use Rattle.t0_core.proofs.HistoryLemmas.{flat_map_last, all_more, follow_more, runs_more, ends_with}
 use Rattle.t0_core.proofs.FrontLaws.{goes_on, moves-within}
 use Rattle.card_trace.specs.ExchangeSide.{ExchangeOf, UnderWay, IsDone, IsAttempt, moved_in, from_card}
 use Rattle.card_trace.specs.Conversing.{AreOver, IsUnderWay, IsFinished, is_over, for_repetition, stage_number, characters_left}
-use Rattle.card_trace.proofs.ExchangeLemmas.{flat_map_last, past_header}
+use Rattle.card_trace.proofs.ExchangeLemmas.{past_header}
 
 -- a front of a front, and a front that goes past one
 front_of_front : (n : ℕ) (xs ys : List Character) → (m : ℕ) × (take m (xs ++ ys) ≡ take n xs)
@@ -58,10 +59,6 @@ hears_nothing a = record { all = λ kept. (kept, sym (append-nil a.heard)); fron
 pub past_the_list : (old new : Cursor) (takes : Bool) → old.rest ≡ [] → new ≡ (if takes then advanced old else old) → new.rest ≡ []
 past_the_list old new true empty is = ap (λ (c : Cursor). c.rest) is ∙ rw empty refl
 past_the_list old new false empty is = ap (λ (c : Cursor). c.rest) is ∙ empty
-
-pub plain_past : (old new : Cursor) (takes : Bool) → old.rest ≡ [] → new ≡ (if takes then advanced old else old) → takes ≡ true → plain ≡ plan_kept new
-plain_past old new true empty is yes_takes = rw (is, empty) refl
-plain_past old new false empty is yes_takes = absurd (cc)
 
 -- an end that listens stays as it is
 pub listening_stays : (stage : HostStage) (host : Asking) → turn_of (at_stage host stage) ≡ Listens → after_turn stage ≡ stage
@@ -142,20 +139,6 @@ room_left ex whole front under are is =
     )
 
 -- one more dialogue is over
-follow_more : (whole : List Dialogue) (d : Dialogue) → FollowInTurn whole [] → Follows d plain → FollowInTurn (whole ++ d ∷ []) []
-follow_more [] d follow follows = (follows, tt)
-follow_more (e ∷ whole) d follow follows = (follow.0, follow_more whole d follow.1 follows)
-
-all_more : (P : Dialogue → Type 0) (whole : List Dialogue) (d : Dialogue) → AllByRecursion P whole → P d → AllByRecursion P (whole ++ d ∷ [])
-all_more P [] d all this = (this, tt)
-all_more P (e ∷ whole) d all this = (all.0, all_more P whole d all.1 this)
-
-runs_more : {State : Type 0} (Does : State → ℕ → Tpdu → State → Type 0) (first old new : State) (whole : List Dialogue) (d : Dialogue)
-    → Runs Does first whole [] old → Does old 256 (tpdu_of d) new → Runs Does first (whole ++ d ∷ []) [] new
-runs_more {State = State} Does first old new [] d runs does =
-    let P : State → Type 0 = λ s. Does s 256 (tpdu_of d) new in (new, subst P runs does, refl)
-runs_more Does first old new (e ∷ whole) d runs does = (runs.0, runs.1, runs_more Does runs.0 old new whole d runs.2 does)
-
 pub over_more : {State : Type 0} (Does : State → ℕ → Tpdu → State → Type 0) (first old new : State) (whole : List Dialogue) (d : Dialogue)
     → AreOver Does first whole old → IsDialogue d → Follows d plain → Does old 256 (tpdu_of d) new → AreOver Does first (whole ++ d ∷ []) new
 over_more Does first old new whole d over is follows does = record {
@@ -217,12 +200,6 @@ card_passed {State = State} Does first old new before prepared at stage since no
       hears = hears_front since now later under.whole under.front front (Card, byte) under.hears hears grown.1;
       no_plans = empty;
     }
-
--- the characters of a dialogue that ends
-ends_with : (front : Front) (byte : ℕ) (d : Dialogue) → Ends front (Card, byte) d → characters d ≡ front_characters front ++ (Card, byte) ∷ []
-ends_with (In_header bytes) byte d ends = absurd ends
-ends_with (In_body b) byte d ends = absurd ends
-ends_with (After_first b sw1) byte d ends = ap characters ends.2 ∙ sym (append_assoc (body_characters b) ((Card, sw1) ∷ []) ((Card, byte) ∷ []))
 
 -- it has passed, and a repetition begins
 pub repetition_begins : {State : Type 0} (Does : State → ℕ → Tpdu → State → Type 0) (first old new : State) (before prepared : Prepared State) (at stage : Stage) (since now later : Hearing)

@@ -13,6 +13,7 @@ use Rattle.t0_core.specs.Meaning.{received}
 use Rattle.t0_core.specs.Front.{Front, In_header, In_body, After_first, GoesOn, Ends, IsFromCard, fresh}
 use Rattle.t0_core.specs.Room.{Room}
 use Rattle.t0_core.specs.HostSide.{Asking, HostStandsAt, at_stage, turn_of, after_turn, data_in, gathered}
+use Rattle.t0_core.proofs.HistoryLemmas.{flat_map_last}
 use Rattle.card_trace.specs.Gathered.{Everything, Asks, Single, Repeated, repeats_with}
 use Rattle.card_trace.specs.ExchangeSide.{ExchangeOf, UnderWay, IsDone, IsAttempt, moved_in, from_card, with_host, count_again}
 
@@ -42,7 +43,7 @@ pub asks_from_card : (host : Asking) (stage : HostStage) (front : Front) → Hos
 asks_from_card host (SendingHeader sent) (In_header bytes) stands = tt
 asks_from_card host (Awaiting moved) (In_body b) stands = stands.0.2
 asks_from_card host (TakingData moved) (In_body b) stands = stands.0.2
-asks_from_card host (AwaitingSecond sw1) (After_first b first) stands = stands.0.2
+asks_from_card host (AwaitingSecond sw1) (After_first b first) stands = tt
 asks_from_card host (SendingHeader sent) (In_body b) stands = absurd stands
 asks_from_card host (SendingHeader sent) (After_first b first) stands = absurd stands
 asks_from_card host (Awaiting moved) (In_header bytes) stands = absurd stands
@@ -178,11 +179,6 @@ repeats d n from is = rw (from, is) refl
 
 repeats_not : (d : Dialogue) → d.body.direction ≡ FromCard → corrects d.status ≡ None → repeats_with Everything d ≡ None
 repeats_not d from is = rw (from, is) refl
-
--- one more list in a row of lists
-pub flat_map_last : {A B : Type 0} (f : A → List B) (xs : List A) (x : A) → flat_map f (xs ++ x ∷ []) ≡ flat_map f xs ++ f x
-flat_map_last f [] x = append-nil (f x)
-flat_map_last f (y ∷ xs) x = ap (λ bs. f y ++ bs) (flat_map_last f xs x) ∙ sym (append_assoc (f y) (flat_map f xs) (f x))
 
 all_gathered : (ex : ExchangeOf) (gather : Room) (whole : List Dialogue) (b : Body) (sw1 byte : ℕ) → UnderWay ex whole (After_first b sw1)
     → gather ≡ gathered ex.gather (data_in ex.host.stage byte) → gather.bytes ≡ flat_map received (whole ++ dialogue b sw1 byte ∷ [])

@@ -1,4 +1,5 @@
 pub mod HostLemmas
 pub mod CardLemmas
 pub mod FrontLaws
+pub mod HistoryLemmas
 mod Vectors

@@ -8,9 +8,9 @@ use Rattle.t0_core.specs.declared.plan.Step.TheVariants.{All}
 use Rattle.t0_core.specs.declared.end.End.TheVariants.{Card}
 use Rattle.t0_core.specs.Character.{Character}
 use Rattle.t0_core.specs.Dialogue.{Dialogue, FromCard, characters, IsDialogue}
-use Rattle.t0_core.specs.Plan.{Course, Follows, FollowInTurn}
+use Rattle.t0_core.specs.Plan.{Course, plain, Follows, FollowInTurn}
 use Rattle.t0_core.specs.Meaning.{Tpdu, tpdu_of, Runs, Prepared, Decided, IsSending}
-use Rattle.t0_core.specs.Front.{Front, In_header, In_body, After_first, header_only, front_characters, GoesOn, Ends, IsPlain}
+use Rattle.t0_core.specs.Front.{Front, In_header, In_body, After_first, header_only, front_characters, GoesOn, Ends, IsPlain, IsFront}
 
 -- what a card end itself keeps of a TPDU
 pub data Stage : Type 0 where
@@ -77,15 +77,15 @@ Advances Does plan front byte old standing prepared stage =
     ⊎ ((d : Dialogue) × Ends front (Card, byte) d × IsDialogue d × Follows d plan × Does old plan.cut (tpdu_of d) standing
     × (stage ≡ Taking_header []))
 
--- These characters lead to the end as it is: whole dialogues, which follow the plans in turn and are a run of
--- the card's own meaning, and the front of one more.
-pub record Leads {State : Type 0} (Does : State → ℕ → Tpdu → State → Type 0) (first : State) (plans : List Course) (came : List Character)
+-- These characters lead to the end as it is, over the empty list of plans: whole dialogues, which follow plans
+-- without steps and are a run of the card's own meaning, and a front of one more.
+pub record Leads {State : Type 0} (Does : State → ℕ → Tpdu → State → Type 0) (first : State) (came : List Character)
     (standing : State) (prepared : Prepared State) (stage : Stage) : Type 0 where
   pub whole : List Dialogue
   pub front : Front
-  pub plan : Course
   pub came_is : came ≡ flat_map characters whole ++ front_characters front
   pub are_dialogues : AllByRecursion IsDialogue whole
-  pub follow : FollowInTurn whole plans
-  pub runs : Runs Does first whole plans standing
-  pub stands : StandsAt Does standing prepared stage plan front
+  pub follow : FollowInTurn whole []
+  pub runs : Runs Does first whole [] standing
+  pub is_front : IsFront front
+  pub stands : StandsAt Does standing prepared stage plain front

@@ -76,11 +76,11 @@ IsPlain (In_header bytes) = Unit {0}
 IsPlain (In_body b) = AllByRecursion (λ s. s ≡ All) b.segments
 IsPlain (After_first b sw1) = AllByRecursion (λ s. s ≡ All) b.segments
 
--- data, if any, come from the card
+-- data that are still to move, if any, come from the card
 abbrev pub IsFromCard : Front → Type 0
 IsFromCard (In_header bytes) = Unit {0}
 IsFromCard (In_body b) = b.direction ≡ FromCard
-IsFromCard (After_first b sw1) = b.direction ≡ FromCard
+IsFromCard (After_first b sw1) = Unit {0}
 
 -- so many data characters end inside the last of the segments
 abbrev pub EndInLast : List Step → ℕ → ℕ → Type 0

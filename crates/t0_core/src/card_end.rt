@@ -4,7 +4,7 @@ ghost use Rattle.apdu_core.specs.HeaderBytes.{header_bytes, ins_is_valid};
 ghost use Rattle.apdu_core.specs.StatusWord.{count};
 ghost use Rattle.t0_core.specs.Meaning.{IsSending};
 ghost use Rattle.t0_core.specs.CardView.{Fits, IsHeld, IsOpening, stage_of};
-ghost use Rattle.t0_core.specs.CardSide.{StandsAt, Advances, begins_with, listens, with_character, Taking_header, Sending_data, takes_plan, still_to_go};
+ghost use Rattle.t0_core.specs.CardSide.{StandsAt, Advances, Leads, begins_with, listens, with_character, Taking_header, Sending_data, takes_plan, still_to_go};
 ghost use Rattle.t0_core.specs.Dialogue.{FromCard};
 ghost use Rattle.t0_core.specs.Plan.{Course, advanced, plan_kept};
 ghost use Rattle.t0_core.specs.Front.{Front, In_body, header_only, IsFromCard};
@@ -62,11 +62,13 @@ impl<C: TpduCard> Model for CardEnd<C> {
 
 impl<C: TpduCard> CardEnd<C> {
     ghost use Rattle.t0_core.specs.declared.end.End.TheVariants.{Terminal, Card};
+    ghost use Rattle.t0_core.specs.Character.{Character};
     ghost use Rattle.t0_core.specs.Front.{GoesOn};
 
     /// The end of a card that has heard nothing yet.
     pub fn new(card: C) -> CardEnd<C>
-        ensures { result ≡ record { card = card; stage = Taking_header [] } }
+        ensures fresh { result ≡ record { card = card; stage = Taking_header [] } }
+        ensures led { Leads C.Does (C.standing card) [] (C.standing result.card) (C.prepared result.card) result.stage }
     {
         CardEnd { card, phase: FRESH }
     }
@@ -82,6 +84,7 @@ impl<C: TpduCard> CardEnd<C> {
     pub fn reset(&mut self)
         ensures card { C.standing self.new.card ≡ C.after_reset (C.standing self.old.card) }
         ensures stage { self.new.stage ≡ Taking_header [] }
+        ensures led { Leads C.Does (C.standing self.new.card) [] (C.standing self.new.card) (C.prepared self.new.card) self.new.stage }
     {
         self.card.reset();
         self.phase = FRESH;
@@ -99,6 +102,11 @@ impl<C: TpduCard> CardEnd<C> {
             StandsAt C.Does (C.standing self.old.card) (C.prepared self.old.card) self.old.stage plan front →
             GoesOn front (Terminal, byte) new →
             IsOk result × StandsAt C.Does (C.standing self.new.card) (C.prepared self.new.card) self.new.stage plan new }
+
+        // Whatever led to the end leads to it with this character.
+        ensures led { (first : C.State) (came : List Character) →
+            Leads C.Does first came (C.standing self.old.card) (C.prepared self.old.card) self.old.stage →
+            OnOk result (Leads C.Does first (came ++ (Terminal, byte) ∷ []) (C.standing self.new.card) (C.prepared self.new.card) self.new.stage) }
     {
         self.phase = phase_with(self.phase, byte)?;
         Ok(())
@@ -120,6 +128,11 @@ impl<C: TpduCard> CardEnd<C> {
             (takes_plan self.old.stage ≡ true → plan ≡ plan_kept plans.new) →
             StandsAt C.Does (C.standing self.old.card) (C.prepared self.old.card) self.old.stage plan front →
             Advances C.Does plan front byte (C.standing self.old.card) (C.standing self.new.card) (C.prepared self.new.card) self.new.stage }
+
+        // Whatever led to the end leads to it with this character, over the empty list of plans.
+        ensures led { (first : C.State) (came : List Character) (byte : ℕ) → result ≡ Turn.Sends byte → plans.old.rest ≡ [] →
+            Leads C.Does first came (C.standing self.old.card) (C.prepared self.old.card) self.old.stage →
+            Leads C.Does first (came ++ (Card, byte) ∷ []) (C.standing self.new.card) (C.prepared self.new.card) self.new.stage }
     {
         if is_listening(self.phase) {
             return Turn::Listens;

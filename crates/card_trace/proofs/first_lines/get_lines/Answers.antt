@@ -11,5 +11,5 @@ returns-in-Ok g c =
     let talk = c.in_ok-answer.ensures.talk c.args.asked get in
     writes c.args.card.pair c.new-session.result c.transmit.new.self c.args.asked c.in_ok-answer.answer _ _ c.new-recorder.result c.transmit.new.watch talk.0 c.heard.result.now
     c.in_ok-text.text.items c.as_slice.result.now
-    (c.new-session.ensures ∙ ap (λ (e : EndOf _). e.card.pair) c.new-2.ensures) c.in_ok-answer.ensures.stays (c.in_ok-answer.ensures.answers c.args.asked get) talk.1
+    (c.new-session.ensures ∙ ap (λ (e : EndOf _). e.card.pair) c.new-2.ensures.fresh) c.in_ok-answer.ensures.stays (c.in_ok-answer.ensures.answers c.args.asked get) talk.1
     c.new-recorder.ensures talk.2 (sym c.lost.ensures ∙ c.if-lost.false) c.heard.ensures c.in_ok-text.ensures c.as_slice.ensures.value c.in-Ok.ensures.bytes

@@ -4,7 +4,7 @@ ghost use Rattle.apdu_core.specs.Chaining as spec;
 ghost use Rattle.apdu_core.specs.Chaining.{Accepts, IsChain, added, idle};
 
 use crate::header::Header;
-use std::alloc::{AllocError, Global};
+use std::alloc::{AllocError, Allocator};
 use std::error::Error;
 use std::fmt;
 use std::marker::Model;
@@ -27,13 +27,13 @@ impl Error for TooLong {}
 
 /// The bytes of the chain that is pending, if any, in room that was taken beforehand.
 #[derive(Debug, Drop)]
-pub struct Chain {
-    bytes: Vec<u8>,
+pub struct Chain<A: Allocator> {
+    bytes: Vec<u8, A>,
     limit: usize,
     pending: Option<Header>,
 }
 
-impl Model for Chain {
+impl<A: Allocator> Model for Chain<A> {
     ghost use Rattle.std.specs.Prelude.{◌≤◌, vec_capacity};
     ghost use Rattle.apdu_core.specs.Chaining as spec;
     ghost use Rattle.apdu_core.specs.Chaining.{IsChain};
@@ -46,9 +46,9 @@ impl Model for Chain {
         × (c.limit ≤ vec_capacity c.bytes) };
 }
 
-impl Chain {
+impl<A: Allocator> Chain<A> {
     /// Nothing pending, with room for `limit` bytes. An `Err` is want of memory.
-    pub fn with_room(alloc: Global, limit: usize) -> Result<Chain, AllocError>
+    pub fn with_room(alloc: A, limit: usize) -> Result<Chain<A>, AllocError>
         ensures { IfOk result (λ chain. chain ≡ idle limit) }
     {
         Ok(Chain {

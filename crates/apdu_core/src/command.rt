@@ -7,7 +7,7 @@ ghost use Rattle.apdu_core.specs.CommandBytes.{IsCommand, HasSizes, HasForm, Has
 
 use crate::header::Header;
 use crate::status::count;
-use std::alloc::AllocError;
+use std::alloc::{AllocError, Allocator};
 use std::error::Error;
 use std::fmt;
 use std::marker::Model;
@@ -147,7 +147,7 @@ impl<'a> Command<'a> {
     }
 
     /// Appends the command's bytes. An `Err`, want of memory, leaves `out` as it was.
-    pub fn write(&self, out: &mut Vec<u8>) -> Result<(), AllocError>
+    pub fn write<A: Allocator>(&self, out: &mut Vec<u8, A>) -> Result<(), AllocError>
         ensures ok { OnOk result (out.new.items ≡ out.old.items ++ command_bytes self.now) }
         ensures err { OnErr result (out.new.items ≡ out.old.items) }
     {

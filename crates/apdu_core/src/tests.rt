@@ -1,4 +1,5 @@
 use super::*;
+use linked_list_allocator::LocalHeap;
 use std::test::Fail;
 
 const PUT: Header = Header {
@@ -148,21 +149,26 @@ fn an_empty_chain_is_pending(rt: HostRuntime) -> Result<(), Fail> {
     Ok(())
 }
 
-/// Holds also where any allocation is refused.
+/// The one growth of `write` is refused, and then granted.
 #[test]
 fn writing_is_all_or_nothing(rt: HostRuntime) -> Result<(), Fail> {
     let command = Command::read(&SELECT)?;
-    let Ok(mut out) = vec![in rt.alloc(); 7] else {
-        return Ok(());
-    };
-    let written = command.write(&mut out).is_ok();
-    assert_eq!(rt; out.first(), Some(&7));
-    let rest: &[u8] = if written { &SELECT } else { &[] };
-    assert_eq!(rt; &out[1..], rest);
+    for (size, written) in [(16, &[] as &[u8]), (64, &SELECT)] {
+        let heap = LocalHeap::new(rt.alloc(), size)?;
+        let mut out = vec![in &heap; 7]?;
+        assert_eq!(rt; command.write(&mut out).is_ok(), !written.is_empty());
+        assert_eq!(rt; out.first(), Some(&7));
+        assert_eq!(rt; &out[1..], written);
+    }
     Ok(())
 }
 
+/// The one growth of `with_room` is refused, and then granted.
 #[test]
-fn no_room_for_a_chain(rt: HostRuntime) {
-    assert!(rt; Chain::with_room(rt.alloc(), usize::MAX).is_err());
+fn no_room_for_a_chain(rt: HostRuntime) -> Result<(), Fail> {
+    for (size, granted) in [(0, false), (48, false), (64, true)] {
+        let heap = LocalHeap::new(rt.alloc(), size)?;
+        assert_eq!(rt; Chain::with_room(&heap, 64).is_ok(), granted);
+    }
+    Ok(())
 }

@@ -19,7 +19,7 @@ use Rattle.t0_core.specs.Front.{Front, In_header, In_body, After_first, GoesOn, 
 use Rattle.t0_core.specs.Watch.{Hearing, Hears}
 use Rattle.t0_core.specs.HostSide.{Asking, HostStandsAt, at_stage, turn_of, after_turn}
 use Rattle.t0_core.specs.CardSide.{Stage, EndOf, Taking_header, Sending_data, Ending, StandsAt, listens, with_character, still_to_go}
-use Rattle.t0_core.proofs.HistoryLemmas.{flat_map_last, all_more, follow_more, runs_more, ends_with}
+use Rattle.t0_core.proofs.DialogueLists.{flat_map_last, all_more, follow_more, runs_more, ends_with}
 use Rattle.t0_core.proofs.FrontLaws.{goes_on, moves-within}
 use Rattle.card_trace.specs.ExchangeSide.{ExchangeOf, UnderWay, IsDone, IsAttempt, moved_in, from_card}
 use Rattle.card_trace.specs.Conversing.{AreOver, IsUnderWay, IsFinished, is_over, for_repetition, stage_number, characters_left}

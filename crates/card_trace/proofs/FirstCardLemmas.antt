@@ -13,13 +13,6 @@ use Rattle.card_trace.specs.declared.first_card.Ready.TheVariants.{Sends}
 use Rattle.card_trace.specs.FirstCard.{Pair, object_of, announcing, Does, refuses, sends}
 use Rattle.card_trace.specs.CardView.{Holding, prepared_of, IsReady, Judgement, ready_after}
 
--- a tag has one address
-pub one_address : (tag : List ℕ) (a b c d : ℕ) → NamesTag tag a b → NamesTag tag c d → (a ≡ c) × (b ≡ d)
-one_address [] a b c d ab cd = absurd ab
-one_address (x ∷ []) a b c d ab cd = (ab.3 ∙ sym cd.3, ab.4 ∙ sym cd.4)
-one_address (x ∷ y ∷ []) a b c d ab cd = (ab.5 ∙ sym cd.5, ab.6 ∙ sym cd.6)
-one_address (x ∷ y ∷ z ∷ rest) a b c d ab cd = absurd ab
-
 -- a verdict, and what is then ready
 judged : (pair : Pair) (h : Header) (p3 cut : ℕ) (verdict : Verdict) → Judgement pair h p3 verdict
     → Judges Does pair (record { header = h; p3 = p3; cut = cut }) verdict (prepared_of pair (ready_after verdict h p3 cut))

@@ -22,6 +22,7 @@ use Rattle.card_trace.specs.Talk.{Get, Reply, IsTalk}
 use Rattle.std.specs.Option.{IfSome, SomeIff}
 use Rattle.std.specs.Result.{OnOk}
 use Rattle.std.specs.Io.KnownBytes.{Appends}
+use Rattle.tlv_core.proofs.Addresses.{named_tags_agree}
 use Rattle.card_trace.specs.TraceText.{trace_text, WritesTalk}
 use Rattle.card_trace.specs.ExchangeSide.{ExchangeOf, IsDone, IsEnded}
 use Rattle.card_trace.specs.Conversing.{AreOver}
@@ -29,20 +30,6 @@ use Rattle.card_trace.specs.OneStep.{Answers, gives, finds_no_object}
 
 abbrev pub get_data : ℕ → ℕ → Header
 get_data p1 p2 = record { cla = 0x00; ins = 0xCA; p1 = p1; p2 = p2 }
-
--- an address names one tag
-pub one_tag : (a b : List ℕ) (p1 p2 : ℕ) → NamesTag a p1 p2 → NamesTag b p1 p2 → a ≡ b
-one_tag [] b p1 p2 na nb = absurd na
-one_tag (x ∷ []) [] p1 p2 na nb = absurd nb
-one_tag (x ∷ []) (y ∷ []) p1 p2 na nb = let e : x ≡ y = sym na.4 ∙ nb.4 in ap (λ n. n ∷ []) e
-one_tag (x ∷ []) (y ∷ z ∷ []) p1 p2 na nb = absurd (omega (arith, na.3, nb.5, nb.0))
-one_tag (x ∷ []) (y ∷ z ∷ w ∷ rest) p1 p2 na nb = absurd nb
-one_tag (x ∷ y ∷ []) [] p1 p2 na nb = absurd nb
-one_tag (x ∷ y ∷ []) (z ∷ []) p1 p2 na nb = absurd (omega (arith, na.5, nb.3, na.0))
-one_tag (x ∷ y ∷ []) (z ∷ w ∷ []) p1 p2 na nb =
-    let e : x ≡ z = sym na.5 ∙ nb.5 in let f : y ≡ w = sym na.6 ∙ nb.6 in rw (e, f) refl
-one_tag (x ∷ y ∷ []) (z ∷ w ∷ v ∷ rest) p1 p2 na nb = absurd nb
-one_tag (x ∷ y ∷ z ∷ rest) b p1 p2 na nb = absurd na
 
 -- what a TPDU of the first card did
 abbrev Refused : Pair → Tpdu → Type 0
@@ -192,7 +179,7 @@ second_time pair new h tag p1 p2 n d e few named is asks second size own nothing
           record {
             stays = runs.2.2 ∙ done.0;
             no_more = ap announces status;
-            answers = answered_object pair tag e.status _ (one_tag tag pair.tag p1 p2 named own) status
+            answers = answered_object pair tag e.status _ (named_tags_agree tag pair.tag p1 p2 named own) status
                 (ap (λ bytes. bytes ++ flat_map received (e ∷ [])) nothing ∙ append-nil (received e) ∙ content);
           }
     ]

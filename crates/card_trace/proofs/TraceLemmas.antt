@@ -1,6 +1,8 @@
 -- The lines of the characters, written one character after another.
-use Rattle.std.proofs.Common.{◌≡◌, ℕ, ◌+◌, ◌<◌, List, [], ◌∷◌, ◌++◌, length, drop, get_or, refl, sym, subst, ◌∙◌, ap, add-one, drop-cons, true, false, Bool, Option, Some, None, append-nil, append_assoc, if◌then◌else◌}
+use Rattle.std.proofs.Common.{◌≡◌, ℕ, ◌+◌, ◌<◌, ◌≤◌, List, [], ◌∷◌, ◌++◌, length, drop, get_or, refl, sym, subst, ◌∙◌, ap, add-one, drop-cons, true, false, Bool, Option, Some, None, append-nil, append_assoc, if◌then◌else◌}
 use Rattle.std.specs.List.{flat_map}
+use Rattle.std.specs.Option.{is_some}
+use Rattle.std.proofs.lemmas.List.{drop_all}
 use Rattle.hex.specs.Hex.{encode_upper, encode_with}
 use Rattle.t0_core.specs.declared.end.End.{End}
 use Rattle.t0_core.specs.declared.end.End.TheVariants.{Terminal, Card}
@@ -101,3 +103,11 @@ pub step_written : (before middle after broken whole : List ℕ) (previous : Opt
 step_written before middle after broken whole previous heard i lt middle_is broken_is after_is so_far =
     let Rest : List Character → Type 0 = λ cs. before ++ rest_text previous cs ≡ whole in
     rw (after_is, middle_is, broken_is) (one_written before whole previous (at_index heard i) (drop (i + 1) heard) (subst Rest (drop_next heard i lt) so_far))
+
+-- no character was to be written
+pub none_written : (text whole : List ℕ) (previous : Option End) (heard : List Character) (i : ℕ) → length heard ≤ i → is_some previous ≡ false
+    → text ++ rest_text previous (drop i heard) ≡ whole → text ≡ whole
+none_written text whole None heard i past none so_far =
+    let Rest : List Character → Type 0 = λ cs. text ++ characters_text cs ≡ whole in
+    sym (append-nil text) ∙ subst Rest (drop_all i heard past) so_far
+none_written text whole (Some from) heard i past none so_far = absurd (cc)

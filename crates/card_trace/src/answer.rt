@@ -1,17 +1,18 @@
 ghost use Rattle.std.specs.Prelude.{◌≡◌};
 
 use apdu_core::Status;
+use std::alloc::Allocator;
 use std::marker::Model;
 use t0_core::Gather;
 
 /// What a card answers to a command: the data gathered, and the status.
 #[derive(Drop)]
-pub struct Answer {
+pub struct Answer<A: Allocator> {
     status: Status,
-    gather: Gather,
+    gather: Gather<A>,
 }
 
-impl Model for Answer {
+impl<A: Allocator> Model for Answer<A> {
     ghost use Rattle.card_trace.specs.Talk.{Reply};
 
     ghost Value = { Reply };
@@ -19,9 +20,9 @@ impl Model for Answer {
     ghost view = { λ a. record { status = a.status; content = a.gather.bytes } };
 }
 
-impl Answer {
+impl<A: Allocator> Answer<A> {
     /// An answer of these data.
-    pub fn new(status: Status, gather: Gather) -> Answer
+    pub fn new(status: Status, gather: Gather<A>) -> Answer<A>
         ensures { result ≡ record { status = status; content = gather.bytes } }
     {
         Answer { status, gather }

@@ -8,7 +8,7 @@ ghost use Rattle.card_trace.specs.ExchangeSide.{UnderWay, Continues, IsEnded, wi
 
 use crate::answer::Answer;
 use apdu_core::{Command, Header, Status};
-use std::alloc::{AllocError, Global};
+use std::alloc::{AllocError, Allocator};
 use std::marker::Model;
 use t0_core::{Gather, HostEnd, HostTurn, LineFault};
 
@@ -18,14 +18,14 @@ pub const RESPONSE_LIMIT: usize = 4096;
 /// The terminal's side of a command that asks for all there is: its TPDU, and the repetition of it
 /// after `6CXX` (ISO/IEC 7816-3, clause 12). As yet a `61XX` ends it.
 #[derive(Drop)]
-pub struct Exchange {
+pub struct Exchange<A: Allocator> {
     header: Header,
     end: HostEnd,
-    gather: Gather,
+    gather: Gather<A>,
     repeated: bool,
 }
 
-impl Model for Exchange {
+impl<A: Allocator> Model for Exchange<A> {
     ghost use Rattle.std.specs.Prelude.{◌≡◌, true};
     ghost use Rattle.apdu_core.specs.HeaderBytes.{ins_is_valid};
     ghost use Rattle.card_trace.specs.ExchangeSide.{ExchangeOf};
@@ -37,12 +37,12 @@ impl Model for Exchange {
     ghost invariant = { λ e. ins_is_valid e.header.ins ≡ true };
 }
 
-impl Exchange {
+impl<A: Allocator> Exchange<A> {
     ghost use Rattle.t0_core.specs.declared.end.End.TheVariants.{Terminal, Card};
     ghost use Rattle.t0_core.specs.declared.host_end.HostStage.TheVariants.{Ended};
 
     /// Begins the exchange of a case 2 command with Le = `00`; the room for the response is taken here.
-    pub fn start(alloc: Global, command: &Command) -> Result<Exchange, AllocError>
+    pub fn start(alloc: A, command: &Command) -> Result<Exchange<A>, AllocError>
         requires { (command.now.content ≡ []) × (command.now.le ≡ Some 256) }
         ensures { IfOk result (λ ex. (ex.header ≡ command.now.header) × (ex.repeated ≡ false) × UnderWay ex [] fresh) }
     {
@@ -94,7 +94,7 @@ impl Exchange {
     }
 
     /// The answer, if the exchange is over.
-    pub fn into_answer(self) -> Option<Answer>
+    pub fn into_answer(self) -> Option<Answer<A>>
         ensures done { IsSome result ↔ IsEnded self.host.stage }
         ensures answer { IfSome result (λ a. (self.host.stage ≡ Ended a.status) × (a.content ≡ self.gather.bytes)) }
     {

@@ -6,7 +6,7 @@ use crate::answer::Answer;
 use crate::exchange::Exchange;
 use crate::first_card::FirstCard;
 use apdu_core::Command;
-use std::alloc::{AllocError, Global};
+use std::alloc::{AllocError, Allocator};
 use std::marker::Model;
 use t0_core::{CardEnd, End, HostTurn, Plans, TpduCard, Turn, Watch};
 
@@ -49,13 +49,13 @@ impl<'a> Session<'a> {
     }
 
     /// Carries out a GET DATA with Le = `00`. Its error is want of memory, before the first character.
-    pub fn transmit<W: Watch>(
+    pub fn transmit<A: Allocator, W: Watch>(
         &mut self,
-        alloc: Global,
+        alloc: A,
         command: &Command,
         plans: &mut Plans,
         watch: &mut W,
-    ) -> Result<Answer, AllocError>
+    ) -> Result<Answer<A>, AllocError>
         requires get { (tag : List ℕ) × IsCommandsOf (Get tag) (command.now ∷ []) }
         requires no_plans { plans.old.rest ≡ [] }
         ensures answers { (tag : List ℕ) → IsCommandsOf (Get tag) (command.now ∷ []) →
@@ -73,8 +73,8 @@ impl<'a> Session<'a> {
 }
 
 /// Passes one character from the end whose turn it is to the other, and tells the watch.
-fn pass_character<C: TpduCard, W: Watch>(
-    exchange: &mut Exchange,
+fn pass_character<A: Allocator, C: TpduCard, W: Watch>(
+    exchange: &mut Exchange<A>,
     end: &mut CardEnd<C>,
     plans: &mut Plans,
     watch: &mut W,
@@ -112,8 +112,8 @@ fn pass_character<C: TpduCard, W: Watch>(
 }
 
 /// Passes characters until the exchange is over.
-fn converse<C: TpduCard, W: Watch>(
-    exchange: &mut Exchange,
+fn converse<A: Allocator, C: TpduCard, W: Watch>(
+    exchange: &mut Exchange<A>,
     end: &mut CardEnd<C>,
     plans: &mut Plans,
     watch: &mut W,

@@ -4,13 +4,19 @@ use crate::exchange::Exchange;
 use crate::first_card::FirstCard;
 use crate::first_lines::{first_lines, get_lines};
 use crate::play_fault::PlayFault;
+use crate::session::Session;
 use apdu_core::Command;
+use linked_list_allocator::LocalHeap;
 use std::alloc::Global;
 use std::io;
 use std::io::Write;
 use std::test::Fail;
-use t0_core::{HostTurn, LineFault};
+use t0_core::{CardEnd, HostTurn, LineFault, Plans, Recorder};
 use tlv_core::ObjectTag;
+
+/// What the program prints.
+const NAME_LINES: &[u8] =
+    b"> 00CA5F2000\n< 6C06\n> 00CA5F2006\n< CA5F20034A4F459000\n= 9000 5F20034A4F45\n";
 
 /// The trace of a GET DATA from a card of one object.
 fn traced(alloc: Global, held: (u8, u8), value: &[u8], asked: (u8, u8)) -> Result<Vec<u8>, Fail>
@@ -28,10 +34,7 @@ fn traced(alloc: Global, held: (u8, u8), value: &[u8], asked: (u8, u8)) -> Resul
 fn name_is_brought_after_a_correction(rt: HostRuntime) -> Result<(), Fail> {
     let mut text = Vec::new(rt.alloc());
     first_lines(rt.alloc(), &mut text)?;
-    assert_eq!(rt;
-        text.as_slice(),
-        b"> 00CA5F2000\n< 6C06\n> 00CA5F2006\n< CA5F20034A4F459000\n= 9000 5F20034A4F45\n".as_slice()
-    );
+    assert_eq!(rt; text.as_slice(), NAME_LINES);
     Ok(())
 }
 
@@ -84,6 +87,68 @@ fn faults_of_an_exchange(rt: HostRuntime) -> Result<(), Fail> {
         assert_eq!(rt; exchange.take(byte), Err(LineFault::AfterEnd));
     }
     assert!(rt; exchange.into_answer().is_none());
+    Ok(())
+}
+
+/// The one growth of `start` is refused, and then granted.
+#[test]
+fn no_room_for_an_exchange(rt: HostRuntime) -> Result<(), Fail> {
+    let Ok(command) = Command::read(&[0x00, 0xCA, 0x5F, 0x20, 0x00]) else {
+        return Err("the command".into());
+    };
+    for (size, granted) in [(0, false), (4080, false), (4096, true)] {
+        let heap = LocalHeap::new(rt.alloc(), size)?;
+        assert_eq!(rt; Exchange::start(&heap, &command).is_ok(), granted);
+    }
+    Ok(())
+}
+
+/// Each growth is refused in turn, from the room of the exchange to the last line of the text:
+/// nothing is written then. With enough memory all is.
+#[test]
+fn refused_memory_writes_nothing(rt: HostRuntime) -> Result<(), Fail> {
+    let mut refused = 0;
+    for size in (4064..=8192).step_by(16) {
+        let heap = LocalHeap::new(rt.alloc(), size)?;
+        let mut text = Vec::new(rt.alloc());
+        match first_lines(&heap, &mut text) {
+            Ok(()) => {
+                assert_eq!(rt; text.as_slice(), NAME_LINES);
+                assert!(rt; refused > 5, "{refused} sizes were refused");
+                return Ok(());
+            }
+            Err(fault) => {
+                assert!(rt; matches!(fault, PlayFault::OutOfMemory));
+                assert!(rt; text.is_empty());
+                refused += 1;
+            }
+        }
+    }
+    Err("8,192 bytes are not enough".into())
+}
+
+/// A command that is refused memory is not begun, and what a watch is refused it has lost.
+#[test]
+fn session_without_memory(rt: HostRuntime) -> Result<(), Fail> {
+    let Ok(command) = Command::read(&[0x00, 0xCA, 0x5F, 0x20, 0x00]) else {
+        return Err("the command".into());
+    };
+    let tag = ObjectTag::from_p1p2(0x5F, 0x20).ok_or("the tag")?;
+    let mut session = Session::new(CardEnd::new(FirstCard::new(tag, &[0x4A, 0x4F, 0x45])));
+    let none = LocalHeap::new(rt.alloc(), 0)?;
+
+    let mut recorder = Recorder::new(rt.alloc());
+    let refused = session.transmit(&none, &command, &mut Plans::over(&[]), &mut recorder);
+    assert!(rt; refused.is_err() && recorder.heard().is_empty() && !recorder.lost());
+
+    let mut recorder = Recorder::new(&none);
+    let answer = session.transmit(rt.alloc(), &command, &mut Plans::over(&[]), &mut recorder)?;
+    assert!(rt; recorder.lost() && recorder.heard().len() < 21);
+    assert!(rt; answer.status().is_ok());
+    assert_eq!(rt;
+        answer.data(),
+        [0x5F, 0x20, 0x03, 0x4A, 0x4F, 0x45].as_slice()
+    );
     Ok(())
 }
 

@@ -4,12 +4,16 @@ ghost use Rattle.card_trace.specs.TraceText.{characters_text, answer_text, trace
 ghost use Rattle.card_trace.specs.LineBreaks.{break_before, break_after};
 
 use crate::answer::Answer;
-use std::alloc::{AllocError, Global};
+use std::alloc::{AllocError, Allocator};
 use t0_core::End;
 
 /// The trace of these characters and this answer: a line for each longest run of characters from one
 /// end, `> ` and `< ` before its bytes, and a line `= ` for the answer.
-pub fn trace(alloc: Global, heard: &[(End, u8)], answer: &Answer) -> Result<Vec<u8>, AllocError>
+pub fn trace<A: Allocator + Copy, B: Allocator>(
+    alloc: A,
+    heard: &[(End, u8)],
+    answer: &Answer<B>,
+) -> Result<Vec<u8, A>, AllocError>
     ensures { IfOk result (λ text. text.items ≡ trace_text heard.now answer.now) }
 {
     let mut text = Vec::new(alloc);
@@ -19,7 +23,11 @@ pub fn trace(alloc: Global, heard: &[(End, u8)], answer: &Answer) -> Result<Vec<
 }
 
 /// Adds the lines of the characters.
-fn push_characters(alloc: Global, text: &mut Vec<u8>, heard: &[(End, u8)]) -> Result<(), AllocError>
+fn push_characters<A: Allocator + Copy>(
+    alloc: A,
+    text: &mut Vec<u8, A>,
+    heard: &[(End, u8)],
+) -> Result<(), AllocError>
     ensures { OnOk result (text.new.items ≡ text.old.items ++ characters_text heard.now) }
 {
     let mut previous = None;
@@ -48,7 +56,11 @@ fn line_break(previous: Option<End>, from: End) -> &'static [u8]
 }
 
 /// Adds the line of the answer.
-fn push_answer(alloc: Global, text: &mut Vec<u8>, answer: &Answer) -> Result<(), AllocError>
+fn push_answer<A: Allocator + Copy, B: Allocator>(
+    alloc: A,
+    text: &mut Vec<u8, A>,
+    answer: &Answer<B>,
+) -> Result<(), AllocError>
     ensures { OnOk result (text.new.items ≡ text.old.items ++ answer_text answer.now) }
 {
     let status = answer.status();
@@ -63,7 +75,7 @@ fn push_answer(alloc: Global, text: &mut Vec<u8>, answer: &Answer) -> Result<(),
 }
 
 /// Adds bytes as hexadecimal digits in upper case.
-fn push_hex(alloc: Global, text: &mut Vec<u8>, bytes: &[u8]) -> Result<(), AllocError>
+fn push_hex<A: Allocator>(alloc: A, text: &mut Vec<u8, A>, bytes: &[u8]) -> Result<(), AllocError>
     ensures { OnOk result (text.new.items ≡ text.old.items ++ encode_upper bytes.now) }
 {
     let digits = hex::encode_upper(alloc, bytes)?;

@@ -1,5 +1,5 @@
 -- What led to an end leads on with the next character.
-use Rattle.std.proofs.Common.{◌≡◌, ℕ, ◌<◌, List, [], ◌∷◌, ◌++◌, length, refl, sym, subst, ◌∙◌, ap, arith, inl, inr, lit<, true, false, Bool, nat_lt, append-nil, append_assoc, if◌then◌else◌}
+use Rattle.std.proofs.Common.{◌≡◌, ℕ, ◌<◌, List, [], ◌∷◌, ◌++◌, length, refl, sym, subst, ◌∙◌, ap, arith, inl, inr, lit<, true, false, nat_lt, append-nil, append_assoc, if◌then◌else◌}
 use Rattle.std.specs.List.{AllByRecursion, flat_map}
 use Rattle.std.proofs.lemmas.Bool.{ltb-true, ltb-false}
 use Rattle.apdu_core.specs.declared.header.Header.{Header}
@@ -7,43 +7,13 @@ use Rattle.t0_core.specs.declared.end.End.TheVariants.{Terminal, Card}
 use Rattle.t0_core.specs.declared.card_end.Turn.TheVariants.{Sends}
 use Rattle.t0_core.specs.Character.{Character}
 use Rattle.t0_core.specs.Dialogue.{Body, Dialogue, FromCard, body_characters, characters, IsDialogue}
-use Rattle.t0_core.specs.Plan.{Cursor, plain, advanced, plan_kept, Follows, FollowInTurn}
-use Rattle.t0_core.specs.Meaning.{Tpdu, tpdu_of, Prepared, Nothing, Receiving, Sending, Decided, Runs}
-use Rattle.t0_core.specs.Front.{Front, In_header, In_body, After_first, front_characters, GoesOn, Ends, IsFront, IsFromCard, fresh, header_only}
+use Rattle.t0_core.specs.Plan.{Cursor, plain, advanced, plan_kept, FollowInTurn}
+use Rattle.t0_core.specs.Meaning.{Tpdu, Prepared, Nothing, Receiving, Sending, Decided, Runs}
+use Rattle.t0_core.specs.Front.{Front, In_header, In_body, After_first, front_characters, GoesOn, IsFront, IsFromCard, fresh, header_only}
 use Rattle.t0_core.specs.CardSide.{Stage, EndOf, Taking_header, Sending_data, Ending, StandsAt, Advances, Leads, listens, with_character, takes_plan}
+use Rattle.t0_core.proofs.DialogueLists.{flat_map_last, plain_past, follow_more, all_more, runs_more, ends_with}
 use Rattle.t0_core.proofs.FrontLaws.{goes_on}
 use Rattle.t0_core.proofs.CardLemmas.{HandsOut, sends_is}
-
--- one more list in a row of lists
-pub flat_map_last : {A B : Type 0} (f : A → List B) (xs : List A) (x : A) → flat_map f (xs ++ x ∷ []) ≡ flat_map f xs ++ f x
-flat_map_last f [] x = append-nil (f x)
-flat_map_last f (y ∷ xs) x = ap (λ bs. f y ++ bs) (flat_map_last f xs x) ∙ sym (append_assoc (f y) (flat_map f xs) (f x))
-
--- past the end of the list each TPDU has the plain plan
-pub plain_past : (old new : Cursor) (takes : Bool) → old.rest ≡ [] → new ≡ (if takes then advanced old else old) → takes ≡ true → plain ≡ plan_kept new
-plain_past old new true empty is yes_takes = rw (is, empty) refl
-plain_past old new false empty is yes_takes = absurd (cc)
-
--- one more dialogue is over
-pub follow_more : (whole : List Dialogue) (d : Dialogue) → FollowInTurn whole [] → Follows d plain → FollowInTurn (whole ++ d ∷ []) []
-follow_more [] d follow follows = (follows, tt)
-follow_more (e ∷ whole) d follow follows = (follow.0, follow_more whole d follow.1 follows)
-
-pub all_more : (P : Dialogue → Type 0) (whole : List Dialogue) (d : Dialogue) → AllByRecursion P whole → P d → AllByRecursion P (whole ++ d ∷ [])
-all_more P [] d all this = (this, tt)
-all_more P (e ∷ whole) d all this = (all.0, all_more P whole d all.1 this)
-
-pub runs_more : {State : Type 0} (Does : State → ℕ → Tpdu → State → Type 0) (first old new : State) (whole : List Dialogue) (d : Dialogue)
-    → Runs Does first whole [] old → Does old 256 (tpdu_of d) new → Runs Does first (whole ++ d ∷ []) [] new
-runs_more {State = State} Does first old new [] d runs does =
-    let P : State → Type 0 = λ s. Does s 256 (tpdu_of d) new in (new, subst P runs does, refl)
-runs_more Does first old new (e ∷ whole) d runs does = (runs.0, runs.1, runs_more Does runs.0 old new whole d runs.2 does)
-
--- the characters of a dialogue that ends
-pub ends_with : (front : Front) (byte : ℕ) (d : Dialogue) → Ends front (Card, byte) d → characters d ≡ front_characters front ++ (Card, byte) ∷ []
-ends_with (In_header bytes) byte d ends = absurd ends
-ends_with (In_body b) byte d ends = absurd ends
-ends_with (After_first b sw1) byte d ends = ap characters ends.2 ∙ sym (append_assoc (body_characters b) ((Card, sw1) ∷ []) ((Card, byte) ∷ []))
 
 -- nothing leads to a fresh end
 pub leads_fresh : {State : Type 0} (Does : State → ℕ → Tpdu → State → Type 0) (standing : State) (prepared : Prepared State) → Leads Does standing [] standing prepared (Taking_header [])

@@ -9,7 +9,7 @@ use Rattle.t0_core.specs.declared.host_end.HostStage.TheVariants.{SendingHeader,
 use Rattle.t0_core.specs.declared.host_end.HostTurn.{HostTurn}
 use Rattle.t0_core.specs.declared.host_end.HostTurn.TheVariants.{Sends, Listens, Done, Failed}
 use Rattle.t0_core.specs.declared.plan.Step.{Step}
-use Rattle.t0_core.specs.declared.plan.Step.TheVariants.{Null, One, All}
+use Rattle.t0_core.specs.declared.plan.Step.TheVariants.{All}
 use Rattle.t0_core.specs.declared.line_fault.LineFault.{LineFault}
 use Rattle.t0_core.specs.declared.line_fault.LineFault.TheVariants.{TooLong}
 use Rattle.t0_core.specs.Dialogue.{Body, FromCard, foreseen, procedure_byte, moves, all_moves, to_move}
@@ -19,6 +19,7 @@ use Rattle.t0_core.specs.Room.{Room}
 use Rattle.apdu_core.specs.HeaderBytes.{ins_is_valid}
 use Rattle.apdu_core.specs.StatusWord.{IsStatusWord, count}
 use Rattle.std.specs.List.{AllByRecursion}
+use Rattle.t0_core.proofs.FrontLaws.{moves-within}
 
 abbrev pub host_at : Header → ℕ → HostStage → Asking
 host_at h p3 stage = record { header = h; p3 = p3; stage = stage }
@@ -61,16 +62,9 @@ host_sends h p3 (AwaitingSecond sw1) front byte at e = absurd (cc)
 host_sends h p3 (Ended status) front byte at e = absurd (cc)
 host_sends h p3 Broken front byte at e = absurd (cc)
 
--- an "all" moves what is left
-moves-le : (s : Step) (n : ℕ) → moves s n ≤ n
-moves-le Null n = omega arith
-moves-le One zero = omega arith
-moves-le One (suc n) = omega arith
-moves-le All n = omega arith
-
 pub all_moves-all : (segments : List Step) (n : ℕ) → all_moves (segments ++ All ∷ []) n ≡ n
 all_moves-all [] n = omega arith
-all_moves-all (s ∷ segments) n = omega (arith, moves-le s n, all_moves-all segments (n - moves s n))
+all_moves-all (s ∷ segments) n = omega (arith, moves-within s n, all_moves-all segments (n - moves s n))
 
 -- the last of segments that are all "all"
 pub last_is_all : (segments : List Step) (s : Step) → AllByRecursion (λ t. t ≡ All) (segments ++ s ∷ []) → s ≡ All

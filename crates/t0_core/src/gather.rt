@@ -1,16 +1,16 @@
 ghost use Rattle.std.specs.Prelude.{◌≡◌, ℕ, ◌<◌, ◌≤◌, [], ◌∷◌, ◌++◌, length, IfOk, ◌==◌, false};
 
-use std::alloc::{AllocError, Global};
+use std::alloc::{AllocError, Allocator};
 use std::marker::Model;
 
 /// A buffer for the data characters from the card, whose room is taken once.
 #[derive(Drop)]
-pub struct Gather {
-    bytes: Vec<u8>,
+pub struct Gather<A: Allocator> {
+    bytes: Vec<u8, A>,
     limit: usize,
 }
 
-impl Model for Gather {
+impl<A: Allocator> Model for Gather<A> {
     ghost use Rattle.std.specs.Prelude.{◌≤◌, length, vec_len, vec_capacity};
     ghost use Rattle.t0_core.specs.Room.{Room};
 
@@ -21,11 +21,11 @@ impl Model for Gather {
     ghost invariant = { λ g. (vec_len g.bytes ≤ g.limit) × (g.limit ≤ vec_capacity g.bytes) };
 }
 
-impl Gather {
+impl<A: Allocator> Gather<A> {
     ghost use Rattle.t0_core.specs.Room.{Room};
 
     /// An empty buffer with room for `limit` bytes. Its error is want of memory.
-    pub fn with_room(alloc: Global, limit: usize) -> Result<Gather, AllocError>
+    pub fn with_room(alloc: A, limit: usize) -> Result<Gather<A>, AllocError>
         ensures { IfOk result (λ g. g ≡ record { bytes = []; limit = limit }) }
     {
         let bytes = Vec::with_capacity(alloc, limit)?;

@@ -10,6 +10,7 @@ ghost use Rattle.t0_core.specs.HostSide.{IsInRange, turn_of, after_turn, fault_o
 use crate::gather::Gather;
 use crate::line_fault::LineFault;
 use apdu_core::{Header, Status, count};
+use std::alloc::Allocator;
 use std::marker::Model;
 
 /// What a terminal's end does when it is asked.
@@ -100,7 +101,7 @@ impl HostEnd {
     /// byte, `TooLong` where a data character is due and the gather is full: then the end has failed.
     /// `AfterEnd` comes where the TPDU has ended or the end has failed, `NotListening` where it has
     /// characters to send: these change nothing. No fault changes the gather.
-    pub fn take(&mut self, byte: u8, gather: &mut Gather) -> Result<(), LineFault>
+    pub fn take<A: Allocator>(&mut self, byte: u8, gather: &mut Gather<A>) -> Result<(), LineFault>
         ensures fault { result_err result ≡ fault_of self.old gather.old byte }
         ensures refused { OnErr result ((self.new ≡ at_stage self.old (after_fault self.old.stage)) × (gather.new ≡ gather.old)) }
         ensures taken { OnOk result ((self.new ≡ at_stage self.old (after_taking self.old byte))
@@ -154,12 +155,12 @@ fn stage_after(stage: HostStage) -> HostStage
 }
 
 /// The stage after a character of the card, or the fault that it is.
-fn stage_with(
+fn stage_with<A: Allocator>(
     header: Header,
     p3: u8,
     stage: HostStage,
     byte: u8,
-    gather: &mut Gather,
+    gather: &mut Gather<A>,
 ) -> Result<HostStage, LineFault>
     requires { IsInRange (record { header = header; p3 = p3; stage = stage }) }
     ensures fault { result_err result ≡ fault_of (record { header = header; p3 = p3; stage = stage }) gather.old byte }

@@ -3,25 +3,25 @@ ghost use Rattle.t0_core.specs.Watch.{Hearing};
 
 use crate::end::End;
 use crate::watch::Watch;
-use std::alloc::Global;
+use std::alloc::Allocator;
 use std::marker::Model;
 
 /// A watch that notes the characters, with the ends that sent them, while there is memory for it.
 #[derive(Drop)]
-pub struct Recorder {
-    heard: Vec<(End, u8)>,
+pub struct Recorder<A: Allocator> {
+    heard: Vec<(End, u8), A>,
     lost: bool,
 }
 
-impl Model for Recorder {
+impl<A: Allocator> Model for Recorder<A> {
     ghost Value = { Hearing };
 
     ghost view = { λ r. record { heard = r.heard.items; lost = r.lost } };
 }
 
-impl Recorder {
+impl<A: Allocator> Recorder<A> {
     /// A recorder that has noted nothing. It takes no memory.
-    pub fn new(alloc: Global) -> Recorder
+    pub fn new(alloc: A) -> Recorder<A>
         ensures { result ≡ record { heard = []; lost = false } }
     {
         Recorder {
@@ -45,7 +45,7 @@ impl Recorder {
     }
 }
 
-impl Watch for Recorder {
+impl<A: Allocator> Watch for Recorder<A> {
     ghost hearing = { λ r. r };
 
     fn seen(&mut self, from: End, byte: u8) {

@@ -1,5 +1,6 @@
 use crate::{End, Gather, HostEnd, HostTurn, LineFault, Recorder, Silent, Watch};
 use apdu_core::Header;
+use linked_list_allocator::LocalHeap;
 use std::test::Fail;
 
 /// GET DATA of `5F20`.
@@ -60,7 +61,36 @@ fn recorder_notes_each_character(rt: HostRuntime) {
     Silent.seen(End::Card, 0x90);
 }
 
+/// The one growth of `with_room` is refused, and then granted.
 #[test]
-fn room_that_no_memory_has_is_refused(rt: HostRuntime) {
-    assert!(rt; Gather::with_room(rt.alloc(), usize::MAX).is_err());
+fn no_room_for_a_gather(rt: HostRuntime) -> Result<(), Fail> {
+    for (size, granted) in [(0, false), (240, false), (256, true)] {
+        let heap = LocalHeap::new(rt.alloc(), size)?;
+        assert_eq!(rt; Gather::with_room(&heap, 256).is_ok(), granted);
+    }
+    Ok(())
+}
+
+/// Each growth of the recorder is refused in turn: it keeps the front that it had noted until then.
+#[test]
+fn recorder_without_memory_has_lost_the_rest(rt: HostRuntime) -> Result<(), Fail> {
+    let mut fronts = 0;
+    let mut longest = 0;
+    for size in (0..=512).step_by(16) {
+        let heap = LocalHeap::new(rt.alloc(), size)?;
+        let mut recorder = Recorder::new(&heap);
+        for byte in 0..100 {
+            recorder.seen(End::Card, byte);
+        }
+        let heard = recorder.heard();
+        assert_eq!(rt; recorder.lost(), heard.len() < 100);
+        for (byte, character) in (0..100u8).zip(heard) {
+            assert!(rt; character.0 == End::Card && character.1 == byte);
+        }
+        fronts += usize::from(heard.len() > longest);
+        longest = longest.max(heard.len());
+    }
+    assert_eq!(rt; longest, 100);
+    assert!(rt; fronts > 3, "{fronts} fronts of different sizes");
+    Ok(())
 }

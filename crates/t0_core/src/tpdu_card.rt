@@ -1,7 +1,7 @@
 ghost use Rattle.std.specs.Prelude.{◌≡◌, ℕ, ◌<◌, List, length, slice_get, Some, false};
 ghost use Rattle.apdu_core.specs.HeaderBytes.{ins_is_valid};
 ghost use Rattle.apdu_core.specs.StatusWord.{count};
-ghost use Rattle.t0_core.specs.Meaning.{Tpdu, Ask, Prepared, Decided, IsSending, Decides, answered_with};
+ghost use Rattle.t0_core.specs.Meaning.{Tpdu, Ask, Prepared, Nothing, Decided, IsSending, Decides, answered_with};
 ghost use Rattle.t0_core.specs.CardContract.{IsRefusal, IsDecided, Judges};
 
 use apdu_core::{Header, Status};
@@ -57,9 +57,11 @@ pub trait TpduCard {
     /// The second status character is handed out: what was decided stands from now on.
     fn answered(&mut self)
         requires { IsDecided (prepared self.old) }
-        ensures { (next : State) → prepared self.old ≡ Decided next → standing self.new ≡ next };
+        ensures stands { (next : State) → prepared self.old ≡ Decided next → standing self.new ≡ next }
+        ensures done { prepared self.new ≡ Nothing };
 
-    /// Resets the card, at any time.
+    /// Resets the card, at any time, and drops what an unfinished TPDU had made ready.
     fn reset(&mut self)
-        ensures { standing self.new ≡ after_reset (standing self.old) };
+        ensures stands { standing self.new ≡ after_reset (standing self.old) }
+        ensures dropped { prepared self.new ≡ Nothing };
 }

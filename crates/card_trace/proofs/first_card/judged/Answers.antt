@@ -1,6 +1,7 @@
 use Rattle.std.proofs.Common.{◌≡◌, ◌∙◌, arith, ap, true, not, is_some}
 use Rattle.card_trace.specs.FirstCard.{class_not_supported, instruction_not_supported, chaining_not_supported, wrong_parameters, not_found, wrong_length}
-use Rattle.card_trace.proofs.FirstCardLemmas.{both_ways, one_address}
+use Rattle.tlv_core.proofs.Addresses.{addresses_agree}
+use Rattle.card_trace.proofs.FirstCardLemmas.{both_ways}
 use Rattle.card_trace.proofs.first_card.judged.Goals as goal
 use Rattle.card_trace.proofs.first_card.judged.Goals.{then-p1-header-via-then-p1-header, then-p1-header-via-else-p1-header+then-p2-header}
 
@@ -26,7 +27,7 @@ returns-then-p1-header c =
     rw c.status-then-p1-header.ensures
     (not_found (c.class_is_known-known.ensures.0 c.if-not-known.false) c.if-header-ne202.false c.if-header-eq16.false
     (c.from_p1p2.ensures.named.0 (c.is_none.ensures ∙ ap not c.if-is_none.false))
-    (λ named. let same = one_address c.args.tag _ _ _ _ own named in
+    (λ named. let same = addresses_agree c.args.tag _ _ _ _ own named in
     elim c.then-p1-header.branch [
       | then-p1-header-via-then-p1-header w ↦ w.if-p1-header.true same.0
       | then-p1-header-via-else-p1-header+then-p2-header w ↦ w.if-p2-header.true same.1

@@ -4,8 +4,8 @@ use Rattle.card_trace.specs.Talk.{Get, IsCommandsOf}
 use Rattle.card_trace.proofs.GetLemmas.{some_iff_is, writes}
 use Rattle.card_trace.proofs.first_lines.get_lines.Goals as goal
 
-pub returns-in-Ok : goal.returns-in-Ok
-returns-in-Ok g c =
+pub returns-in-Ok-clause-written : goal.returns-in-Ok-clause-written
+returns-in-Ok-clause-written g c =
     let command = some_iff_is c.new.result _ _ c.unwrap-command.result c.unwrap-command.ensures c.new.ensures in
     let get : IsCommandsOf (Get c.args.asked) (c.unwrap-command.result ∷ []) = (c.p1p2-p1.result.0, c.p1p2-p1.result.1, c.p1p2-p1.ensures, ap (λ x. x ∷ []) command) in
     let talk = c.in_ok-answer.ensures.talk c.args.asked get in

@@ -2,7 +2,7 @@ use Rattle.std.proofs.Common.{refl, ap, sym, ◌∙◌, inl, inr}
 use Rattle.t0_core.specs.Plan.{plain}
 use Rattle.t0_core.specs.CardSide.{EndOf}
 use Rattle.card_trace.specs.ExchangeSide.{ExchangeOf}
-use Rattle.t0_core.proofs.HistoryLemmas.{plain_past}
+use Rattle.t0_core.proofs.DialogueLists.{plain_past}
 use Rattle.card_trace.proofs.ExchangeLemmas.{asks_from_card}
 use Rattle.card_trace.proofs.ConversingLemmas.{on_ok, terminal_passed, header_falls, past_the_list, next_stays, under_way_too, done_is_silent, room_left, card_passed, card_falls, repetition_begins, repetition_falls, exchange_ends, end_falls}
 use Rattle.card_trace.proofs.session.pass_character.Goals as goal

@@ -5,7 +5,7 @@ use Rattle.card_trace.proofs.ExchangeLemmas.{take_goes_on, take_ends, seen_under
 use Rattle.card_trace.proofs.exchange.Exchange.take.Goals as goal
 
 pub returns-in_default-clause-goes_on : goal.returns-in_default-clause-goes_on
-returns-in_default-clause-goes_on c = λ whole front new seen goes plain fits.
+returns-in_default-clause-goes_on g c = λ whole front new seen goes plain fits.
     let under = seen_under_way _ _ whole front c.self.view_is seen in
     let stands = c.in_ok-take.ensures.goes_on front new under.stands goes plain in (
       refl,
@@ -15,13 +15,13 @@ returns-in_default-clause-goes_on c = λ whole front new seen goes plain fits.
     )
 
 pub returns-in_default-clause-ends : goal.returns-in_default-clause-ends
-returns-in_default-clause-ends c = λ whole front d seen ends.
+returns-in_default-clause-ends g c = λ whole front d seen ends.
     let under = seen_under_way _ _ whole front c.self.view_is seen in
     let ended = c.in_ok-take.ensures.ends front d under.stands ends in
     absurd (c.in_default.not-Done d.status (c.next.ensures.turn ∙ turn_done c.take.new.self d.status ended.1))
 
 pub returns-in_default-count_to_repeat-clause-ends : goal.returns-in_default-count_to_repeat-clause-ends
-returns-in_default-count_to_repeat-clause-ends c = λ whole front d seen ends.
+returns-in_default-count_to_repeat-clause-ends g c = λ whole front d seen ends.
     let under = seen_under_way _ _ whole front c.self.view_is seen in
     let ended = c.in_ok-take.ensures.ends front d under.stands ends in
     let status_is = done_is c.in-Done.status d.status (c.in-Done.ensures.turn ∙ turn_done c.take.new.self d.status ended.1) in (

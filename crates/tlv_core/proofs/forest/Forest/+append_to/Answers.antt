@@ -1,4 +1,4 @@
-use Rattle.std.proofs.Common.{◌≡◌, ◌≤◌, ◌++◌, length, sym, ap, ◌∙◌, append_assoc, rules, arith}
+use Rattle.std.proofs.Common.{◌≡◌, ◌≤◌, length, sym, ap, ◌∙◌, append_assoc, rules, arith}
 use Rattle.tlv_core.specs.Spelling.{encoding, longest, HasSoundObjects}
 use Rattle.tlv_core.specs.Items.{PrimitiveItem, TemplateItem, forest_of}
 use Rattle.tlv_core.specs.Nodes.{item_of}
@@ -42,6 +42,10 @@ loop-node-preserved g t c =
           let size = kept_size (forest_of w.children.inside.nodes.items) w.in-Template.children w.children.inside.written w.children.inside.levels w.children.invariant w.children.view_is fits in
           appended_object c.deref-node-items.result.now c.loop-node.node-index c.node-item.result c.args.bytes.now.items c.loop-node.bytes.items c.match-node.bytes.items
           (omega arith) c.node-item.is c.loop-node.invariant
-          (rw (w.bytes-is, ← template_written c.node-item.result c.node.inside.tag w.in-Template.children w.children.inside.written node size, ← append_assoc)
-          (w.in_ok-append_to-in-Template.ensures ∙ ap (λ x. x ++ encoding w.in-Template.children) w.in_ok-append_head-in-Template.ensures))
+          (rw (
+            w.bytes-is,
+            ← template_written c.node-item.result c.node.inside.tag w.in-Template.children w.children.inside.written node size,
+            ← append_assoc,
+            ← w.in_ok-append_head-in-Template.ensures,
+          ) w.in_ok-append_to-in-Template.ensures)
     ]

@@ -4,7 +4,7 @@ ghost use Rattle.apdu_core.specs.Chaining as spec;
 ghost use Rattle.apdu_core.specs.Chaining.{Accepts, IsChain, added, idle};
 
 use crate::header::Header;
-use std::alloc::{AllocError, Allocator};
+use std::alloc::{AllocError, Allocator, Global};
 use std::error::Error;
 use std::fmt;
 use std::marker::Model;
@@ -27,7 +27,7 @@ impl Error for TooLong {}
 
 /// The bytes of the chain that is pending, if any, in room that was taken beforehand.
 #[derive(Debug, Drop)]
-pub struct Chain<A: Allocator> {
+pub struct Chain<A: Allocator = Global> {
     bytes: Vec<u8, A>,
     limit: usize,
     pending: Option<Header>,

@@ -1,13 +1,13 @@
 ghost use Rattle.std.specs.Prelude.{◌≡◌};
 
 use apdu_core::Status;
-use std::alloc::Allocator;
+use std::alloc::{Allocator, Global};
 use std::marker::Model;
 use t0_core::Gather;
 
 /// What a card answers to a command: the data gathered, and the status.
 #[derive(Drop)]
-pub struct Answer<A: Allocator> {
+pub struct Answer<A: Allocator = Global> {
     status: Status,
     gather: Gather<A>,
 }

@@ -8,7 +8,7 @@ ghost use Rattle.card_trace.specs.ExchangeSide.{UnderWay, Continues, IsEnded, wi
 
 use crate::answer::Answer;
 use apdu_core::{Command, Header, Status};
-use std::alloc::{AllocError, Allocator};
+use std::alloc::{AllocError, Allocator, Global};
 use std::marker::Model;
 use t0_core::{Gather, HostEnd, HostTurn, LineFault};
 
@@ -18,7 +18,7 @@ pub const RESPONSE_LIMIT: usize = 4096;
 /// The terminal's side of a command that asks for all there is: its TPDU, and the repetition of it
 /// after `6CXX` (ISO/IEC 7816-3, clause 12). As yet a `61XX` ends it.
 #[derive(Drop)]
-pub struct Exchange<A: Allocator> {
+pub struct Exchange<A: Allocator = Global> {
     header: Header,
     end: HostEnd,
     gather: Gather<A>,

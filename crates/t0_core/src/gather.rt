@@ -1,11 +1,11 @@
 ghost use Rattle.std.specs.Prelude.{◌≡◌, ℕ, ◌<◌, ◌≤◌, [], ◌∷◌, ◌++◌, length, IfOk, ◌==◌, false};
 
-use std::alloc::{AllocError, Allocator};
+use std::alloc::{AllocError, Allocator, Global};
 use std::marker::Model;
 
 /// A buffer for the data characters from the card, whose room is taken once.
 #[derive(Drop)]
-pub struct Gather<A: Allocator> {
+pub struct Gather<A: Allocator = Global> {
     bytes: Vec<u8, A>,
     limit: usize,
 }

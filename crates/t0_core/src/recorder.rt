@@ -3,12 +3,12 @@ ghost use Rattle.t0_core.specs.Watch.{Hearing};
 
 use crate::end::End;
 use crate::watch::Watch;
-use std::alloc::Allocator;
+use std::alloc::{Allocator, Global};
 use std::marker::Model;
 
 /// A watch that notes the characters, with the ends that sent them, while there is memory for it.
 #[derive(Drop)]
-pub struct Recorder<A: Allocator> {
+pub struct Recorder<A: Allocator = Global> {
     heard: Vec<(End, u8), A>,
     lost: bool,
 }

@@ -2,6 +2,7 @@
 use Rattle.std.proofs.Common.{◌≡◌, ℕ, zero, suc, ◌+◌, ◌<◌, ◌≤◌, get_or, take, min, max, List, [], ◌∷◌, ◌++◌, length, refl, sym, ap, ◌∙◌, subst, append_assoc, length-append, arith}
 use Rattle.std.proofs.Common.{Option, Some, None, Bor, slice_get, option_copied}
 use Rattle.std.specs.Slice.{IsItemAt}
+use Rattle.std.specs.declared.alloc.Allocator.{Ghosts}
 use Rattle.std.proofs.lemmas.List.{take_more, append-nil}
 use Rattle.tlv_core.specs.Nodes.{IsKept, forest_size}
 use Rattle.std.proofs.lemmas.Option.{slice_get_past, slice_get_read}
@@ -58,9 +59,9 @@ forest_of_none [] e = refl
 forest_of_none (n ∷ ns) e = absurd (omega arith)
 
 -- one more object at the end is kept as the others are
-pub kept-push : (ns : List Item) (n : Item) (written depth size deep written' depth' : ℕ) → IsKept (forest_of ns) written depth
+pub kept-push : {A : Type 0} {allocator : Ghosts A} (ns : List Item) (n : Item) (written depth size deep written' depth' : ℕ) → IsKept allocator (forest_of ns) written depth
     → HasSoundObjects (with_first n Empty) → size ≡ length (encoding (with_first n Empty)) → deep ≡ levels (with_first n Empty) → deep ≤ deepest
-    → written' ≡ min (written + size) 65536 → depth' ≡ max depth deep → IsKept (forest_of (ns ++ n ∷ [])) written' depth'
+    → written' ≡ min (written + size) 65536 → depth' ≡ max depth deep → IsKept allocator (forest_of (ns ++ n ∷ [])) written' depth'
 kept-push ns n written depth size deep written' depth' h sound is_size is_deep in_depth is_written is_depth =
     let deeper = levels-with_last (forest_of ns) n in
     let more = written-with_last (forest_of ns) n 65536 in
@@ -122,6 +123,6 @@ pub template_written : (n : Item) (tag : List ℕ) (children : Forest) (len : �
 template_written n tag children len e size = rw (← e, size) (simp append-nil)
 
 -- the size that a forest keeps is that of what it writes, where this is the content of a template
-pub kept_size : (f g : Forest) (written depth : ℕ) → IsKept f written depth → f ≡ g → length (encoding g) ≤ longest → written ≡ length (encoding g)
+pub kept_size : {A : Type 0} {allocator : Ghosts A} (f g : Forest) (written depth : ℕ) → IsKept allocator f written depth → f ≡ g → length (encoding g) ≤ longest → written ≡ length (encoding g)
 kept_size f g written depth h e fits =
     let same : length (encoding f) ≡ length (encoding g) = ap (λ x. length (encoding x)) e in omega (arith, h.written_is)

@@ -1,12 +1,13 @@
 -- What a forest in memory keeps.
 use Rattle.std.specs.Prelude.{◌≡◌, ℕ, suc, min, max, List, length}
+use Rattle.std.specs.declared.alloc.Allocator.{Ghosts}
 use Rattle.tlv_core.specs.Spelling.{Forest, Empty, Primitive, Template, encoding, levels, longest, IsWritable}
 use Rattle.tlv_core.specs.Items.{Item, PrimitiveItem, TemplateItem}
 use Rattle.tlv_core.specs.declared.node.Content.{Content}
 use Rattle.tlv_core.specs.declared.node.Content.TheVariants as content
 
 -- the object with this tag and content
-abbrev pub item_of : List ℕ → Content → Item
+abbrev pub item_of : {A : Type 0} → List ℕ → Content A → Item
 item_of tag (content.Primitive value) = PrimitiveItem tag value.items
 item_of tag (content.Template children) = TemplateItem tag children
 
@@ -20,8 +21,9 @@ abbrev pub item_size : Item → ℕ
 item_size (PrimitiveItem tag value) = 0
 item_size (TemplateItem tag children) = suc (forest_size children)
 
--- the objects can be written, with the bytes that they need, up to one more than a value can have, and their levels
-pub record IsKept (forest : Forest) (written depth : ℕ) : Type 0 where
+-- the objects can be written, with the bytes that they need, up to one more than a value can have, and their levels; where
+-- a forest is dropped, the check finds its allocator by this fact alone, which says nothing else of it
+pub record IsKept {A : Type 0} (allocator : Ghosts A) (forest : Forest) (written depth : ℕ) : Type 0 where
   pub writable : IsWritable forest
   pub written_is : written ≡ min (length (encoding forest)) (suc longest)
   pub depth_is : depth ≡ levels forest

@@ -1,5 +1,6 @@
 -- Each part of a forest is smaller than the forest.
 use Rattle.std.specs.Prelude.{ℕ, ◌+◌, ◌≤◌, max, List, [], ◌∷◌}
+use Rattle.std.specs.declared.alloc.Allocator.{Ghosts}
 use Rattle.std.proofs.Common.{arith}
 use denote.Param.Weighed.{most}
 use Rattle.tlv_core.specs.Items.{Item, PrimitiveItem, TemplateItem, forest_of}
@@ -13,6 +14,6 @@ most_le-forest_size [] = omega arith
 most_le-forest_size (PrimitiveItem tag value ∷ items) = omega (arith, most_le-forest_size items)
 most_le-forest_size (TemplateItem tag children ∷ items) = omega (arith, most_le-forest_size items)
 
-pub depth_le-item_size : (tag : List ℕ) (c : Content) → max (deep-Content c) 0 ≤ item_size (item_of tag c)
-depth_le-item_size tag (content.Primitive value) = omega arith
-depth_le-item_size tag (content.Template children) = omega arith
+pub depth_le-item_size : {A : Type 0} (allocator : Ghosts A) (tag : List ℕ) (c : Content A) → max (deep-Content A allocator c) 0 ≤ item_size (item_of tag c)
+depth_le-item_size allocator tag (content.Primitive value) = omega arith
+depth_le-item_size allocator tag (content.Template children) = omega arith

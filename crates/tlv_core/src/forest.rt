@@ -10,26 +10,26 @@ use crate::front::DEEPEST;
 use crate::heads::head;
 use crate::node::{Content, Node};
 use crate::tag::Tag;
-use std::alloc::{AllocError, Global};
+use std::alloc::{AllocError, Allocator, Global};
 use std::marker::Model;
 
 /// The least number of bytes that no value has.
 const TOO_LONG: usize = 65_536;
 
 /// A list of objects that can be written: each tag is of its object's kind, each value has at most
-/// 65,535 bytes when written, and no object lies at level 17. Contracts see it as the forest that
-/// it stands for.
+/// 65,535 bytes when written, and no object lies at level 17. Objects and values stand in memory of
+/// the allocator `A`. Contracts see the list as the forest that it stands for.
 #[cycle(forest)]
 #[derive(Drop)]
-pub struct Forest {
-    nodes: Vec<Node>,
+pub struct Forest<A: Allocator = Global> {
+    nodes: Vec<Node<A>, A>,
     /// How many bytes the objects are when written, up to `TOO_LONG`.
     written: usize,
     /// How many levels of objects there are.
     levels: u8,
 }
 
-impl Model for Forest {
+impl<A: Allocator> Model for Forest<A> {
     ghost use Rattle.tlv_core.specs.Spelling as spelling;
     ghost use Rattle.tlv_core.specs.Items.{forest_of};
     ghost use Rattle.tlv_core.specs.ItemCodes.{forest_code};
@@ -42,7 +42,7 @@ impl Model for Forest {
 
     ghost view = { λ f. forest_of f.nodes.items };
 
-    ghost invariant = { λ f. IsKept (forest_of f.nodes.items) f.written f.levels };
+    ghost invariant = { λ f. IsKept A.Allocator (forest_of f.nodes.items) f.written f.levels };
 
     ghost size = { forest_size };
 
@@ -52,9 +52,9 @@ impl Model for Forest {
     ghost size_decreases = { λ a h. omega (arith, most_le-forest_size a.nodes.items) };
 }
 
-impl Forest {
+impl<A: Allocator> Forest<A> {
     /// No objects. This takes no memory.
-    pub fn new(alloc: Global) -> Forest
+    pub fn new(alloc: A) -> Forest<A>
         ensures { result ≡ Empty }
     {
         Forest {
@@ -79,7 +79,7 @@ impl Forest {
     }
 
     /// The object at this place among those at level 1, counted from 0.
-    pub fn get(&self, index: usize) -> Option<&Node>
+    pub fn get(&self, index: usize) -> Option<&Node<A>>
         ensures { option_copied result ≡ slice_get (items self.now) index }
     {
         self.nodes.get(index)
@@ -91,7 +91,7 @@ impl Forest {
     ///
     /// `WrongKind` for a tag of a constructed object, `TooLong` for more than 65,535 bytes,
     /// `OutOfMemory`; never `TooDeep`. A refusal leaves the forest as it was, and drops the value.
-    pub fn push_primitive(&mut self, tag: Tag, value: Vec<u8>) -> Result<(), BuildFault>
+    pub fn push_primitive(&mut self, tag: Tag, value: Vec<u8, A>) -> Result<(), BuildFault>
         ensures ok { OnOk result (self.new ≡ with_last self.old (PrimitiveItem tag value.items)) }
         ensures err { OnErr result (self.new ≡ self.old) }
         ensures wrong_kind { IsErrOf result BuildFault.WrongKind ↔ (is_constructed tag ≡ true) }
@@ -115,7 +115,7 @@ impl Forest {
     /// `WrongKind` for a tag of a primitive object, `TooLong` where the children are more than
     /// 65,535 bytes when written, `TooDeep` where an object would come to lie at level 17, and
     /// `OutOfMemory`, in this order. A refusal leaves the forest as it was, and drops the children.
-    pub fn push_template(&mut self, tag: Tag, children: Forest) -> Result<(), BuildFault>
+    pub fn push_template(&mut self, tag: Tag, children: Forest<A>) -> Result<(), BuildFault>
         ensures ok { OnOk result (self.new ≡ with_last self.old (TemplateItem tag children)) }
         ensures err { OnErr result (self.new ≡ self.old) }
         ensures wrong_kind { IsErrOf result BuildFault.WrongKind ↔ (is_constructed tag ≡ false) }
@@ -137,7 +137,7 @@ impl Forest {
     }
 
     /// Adds a primitive that can be written.
-    pub(crate) fn add_primitive(&mut self, tag: Tag, value: Vec<u8>) -> Result<(), AllocError>
+    pub(crate) fn add_primitive(&mut self, tag: Tag, value: Vec<u8, A>) -> Result<(), AllocError>
         requires tag { IsTag tag }
         requires kind { is_constructed tag ≡ false }
         requires fits { length value.items ≤ longest }
@@ -150,7 +150,7 @@ impl Forest {
     }
 
     /// Adds a template that can be written.
-    pub(crate) fn add_template(&mut self, tag: Tag, children: Forest) -> Result<(), AllocError>
+    pub(crate) fn add_template(&mut self, tag: Tag, children: Forest<A>) -> Result<(), AllocError>
         requires tag { IsTag tag }
         requires kind { is_constructed tag ≡ true }
         requires fits { length (encoding children) ≤ longest }
@@ -165,7 +165,7 @@ impl Forest {
     }
 
     /// Adds an object of `size` bytes, with so many levels.
-    fn add(&mut self, node: Node, size: usize, depth: u8) -> Result<(), AllocError>
+    fn add(&mut self, node: Node<A>, size: usize, depth: u8) -> Result<(), AllocError>
         requires sound { HasSoundObjects (with_first node Empty) }
         requires is_size { size ≡ length (encoding (with_first node Empty)) }
         requires is_depth { depth ≡ levels (with_first node Empty) }
@@ -179,19 +179,8 @@ impl Forest {
         Ok(())
     }
 
-    /// The bytes of the objects, each with the shortest length and no padding. They spell the
-    /// objects, as any forest can be written.
-    pub fn write(&self) -> Result<Vec<u8>, AllocError>
-        ensures bytes { IfOk result (λ bytes. bytes.items ≡ encoding self.now) }
-        ensures writable { IsWritable self.now }
-    {
-        let mut bytes = Vec::new(*self.nodes.allocator());
-        self.append_to(&mut bytes)?;
-        Ok(bytes)
-    }
-
     /// Appends the bytes of the objects.
-    fn append_to(&self, bytes: &mut Vec<u8>) -> Result<(), AllocError>
+    fn append_to(&self, bytes: &mut Vec<u8, A>) -> Result<(), AllocError>
         ensures { OnOk result (bytes.new.items ≡ bytes.old.items ++ encoding self.now) }
     {
         for node in &self.nodes {
@@ -207,6 +196,19 @@ impl Forest {
     }
 }
 
+impl<A: Allocator + Clone> Forest<A> {
+    /// The bytes of the objects, each with the shortest length and no padding. They spell the
+    /// objects, as any forest can be written. A clone of the allocator gives the memory.
+    pub fn write(&self) -> Result<Vec<u8, A>, AllocError>
+        ensures bytes { IfOk result (λ bytes. bytes.items ≡ encoding self.now) }
+        ensures writable { IsWritable self.now }
+    {
+        let mut bytes = Vec::new(self.nodes.allocator().clone()?);
+        self.append_to(&mut bytes)?;
+        Ok(bytes)
+    }
+}
+
 /// The bytes of an object with this tag and a value of `len` bytes.
 fn object_size(tag: Tag, len: usize) -> usize
     requires tag { IsTag tag }
@@ -217,14 +219,18 @@ fn object_size(tag: Tag, len: usize) -> usize
 }
 
 /// Appends a tag, and a length in its shortest spelling.
-fn append_head(bytes: &mut Vec<u8>, tag: Tag, len: u16) -> Result<(), AllocError>
+fn append_head<A: Allocator>(bytes: &mut Vec<u8, A>, tag: Tag, len: u16) -> Result<(), AllocError>
     ensures { OnOk result (bytes.new.items ≡ bytes.old.items ++ (tag ++ shortest len)) }
 {
     bytes.extend_from_slice(head(tag, len).bytes())
 }
 
 /// Appends a primitive object.
-fn append_primitive(bytes: &mut Vec<u8>, tag: Tag, value: &[u8]) -> Result<(), AllocError>
+fn append_primitive<A: Allocator>(
+    bytes: &mut Vec<u8, A>,
+    tag: Tag,
+    value: &[u8],
+) -> Result<(), AllocError>
     requires { length value.now ≤ longest }
     ensures { OnOk result (bytes.new.items ≡ bytes.old.items ++ object_bytes tag value.now) }
 {

@@ -35,14 +35,14 @@ fn tag(byte: u8) -> Result<Tag, TlvFault> {
 }
 
 /// A forest of one primitive.
-fn primitive(alloc: Global, name: u8, value: Vec<u8>) -> Result<Forest, Fail> {
+fn primitive(alloc: Global, name: u8, value: Vec<u8>) -> Result<Forest<Global>, Fail> {
     let mut forest = Forest::new(alloc);
     forest.push_primitive(tag(name)?, value)?;
     Ok(forest)
 }
 
 /// A forest of one template.
-fn template(alloc: Global, name: u8, children: Forest) -> Result<Forest, Fail> {
+fn template(alloc: Global, name: u8, children: Forest<Global>) -> Result<Forest<Global>, Fail> {
     let mut forest = Forest::new(alloc);
     forest.push_template(tag(name)?, children)?;
     Ok(forest)

@@ -36,4 +36,6 @@ pub use tree::Tree;
 #[cfg(test)]
 mod forest_tests;
 #[cfg(test)]
+mod memory_tests;
+#[cfg(test)]
 mod tests;

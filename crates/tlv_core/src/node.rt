@@ -4,24 +4,25 @@ ghost use Rattle.tlv_core.specs.Items.{PrimitiveItem, TemplateItem, item_tag, it
 
 use crate::forest::Forest;
 use crate::tag::Tag;
+use std::alloc::{Allocator, Global};
 use std::marker::Model;
 
 /// One object of a forest. Contracts see it as its tag with its value or its children.
 #[cycle(forest)]
 #[derive(Drop)]
-pub struct Node {
+pub struct Node<A: Allocator = Global> {
     pub(crate) tag: Tag,
-    pub(crate) content: Content,
+    pub(crate) content: Content<A>,
 }
 
 #[cycle(forest)]
 #[derive(Drop)]
-pub(crate) enum Content {
-    Primitive(Vec<u8>),
-    Template(Forest),
+pub(crate) enum Content<A: Allocator> {
+    Primitive(Vec<u8, A>),
+    Template(Forest<A>),
 }
 
-impl Model for Node {
+impl<A: Allocator> Model for Node<A> {
     ghost use Rattle.tlv_core.specs.Items.{Item};
     ghost use Rattle.tlv_core.specs.ItemCodes.{item_code};
 
@@ -37,10 +38,10 @@ impl Model for Node {
 
     ghost use Rattle.tlv_core.specs.NodesFall.{depth_le-item_size};
 
-    ghost size_decreases = { λ a h. depth_le-item_size a.tag a.content };
+    ghost size_decreases = { λ a h. depth_le-item_size A.Allocator a.tag a.content };
 }
 
-impl Node {
+impl<A: Allocator> Node<A> {
     /// The object's tag.
     pub fn tag(&self) -> Tag
         ensures { result ≡ item_tag self.now }
@@ -59,7 +60,7 @@ impl Node {
     }
 
     /// The objects in a template, and `None` for a primitive.
-    pub fn children(&self) -> Option<&Forest>
+    pub fn children(&self) -> Option<&Forest<A>>
         ensures { option_copied result ≡ item_children self.now }
     {
         match &self.content {

@@ -7,38 +7,38 @@ ghost use Rattle.tlv_core.specs.declared.fault.TlvFault.{TlvFault as Fault};
 use crate::forest::Forest;
 use crate::objects::Objects;
 use crate::read_fault::ReadFault;
-use std::alloc::{AllocError, Global};
+use std::alloc::{AllocError, Allocator};
 
 /// Reads bytes as a forest.
 pub struct Tree;
 
 impl Tree {
-    /// The forest that the bytes spell at level 1.
+    /// The forest that the bytes spell at level 1. Clones of `alloc` give its memory.
     ///
     /// # Errors
     ///
     /// `Tlv` with the first fault, exactly where the bytes are no list of objects, and
     /// `OutOfMemory`.
-    pub fn read(alloc: Global, bytes: &[u8]) -> Result<Forest, ReadFault>
+    pub fn read<A: Allocator + Clone>(alloc: A, bytes: &[u8]) -> Result<Forest<A>, ReadFault>
         ensures forest { IfOk result (λ forest. Spells forest bytes.now 1) }
         ensures fault { (fault : Fault) → IsErrOf result (ReadFault.Tlv fault) ↔ IsFirstFault bytes.now 1 fault.place fault.reason }
     {
         let objects = Objects::over(bytes)?;
-        Ok(grow(alloc, objects)?)
+        Ok(grow(&alloc, objects)?)
     }
 }
 
 /// The forest of a list of objects.
-fn grow(alloc: Global, objects: Objects<'_>) -> Result<Forest, AllocError>
+fn grow<A: Allocator + Clone>(alloc: &A, objects: Objects<'_>) -> Result<Forest<A>, AllocError>
     requires list { IsObjectList objects }
     requires level { 0 < objects.level }
     ensures { IfOk result (λ forest. Spells forest objects.entry.bytes objects.entry.level) }
 {
-    let mut forest = Forest::new(alloc);
+    let mut forest = Forest::new(alloc.clone()?);
     for object in objects {
         let tag = object.tag();
         match object.children() {
-            None => forest.add_primitive(tag, Vec::from_slice(alloc, object.value())?)?,
+            None => forest.add_primitive(tag, Vec::from_slice(alloc.clone()?, object.value())?)?,
             Some(children) => forest.add_template(tag, grow(alloc, children)?)?,
         }
     }

@@ -3,10 +3,10 @@ use Rattle.tlv_core.proofs.Grown.{Grows}
 use Rattle.tlv_core.proofs.tree.+grow.Given as goal
 
 abbrev pub decreases-grow : goal.decreases-grow
-decreases-grow l = 17 - l.objects.level
+decreases-grow g l = 17 - l.objects.level
 
 abbrev pub invariant-loop-object : goal.invariant-loop-object
-invariant-loop-object l =
-    (goal.iterator-loop-object).can_next l.object-iterator ×
-    (goal.iterator-loop-object).is_finite l.object-iterator ×
+invariant-loop-object g l =
+    (goal.iterator-loop-object g).can_next l.object-iterator ×
+    (goal.iterator-loop-object g).is_finite l.object-iterator ×
     Grows l.forest l.fn.objects l.object-iterator

@@ -3,4 +3,4 @@ use Rattle.tlv_core.proofs.ItemLists.{items-forest_of}
 use Rattle.tlv_core.proofs.forest.Forest.is_empty.Goals as goal
 
 pub returns : goal.returns
-returns c = rw (← c.self.view_is, items-forest_of) (search rules)
+returns g c = rw (← c.self.view_is, items-forest_of) (search rules)

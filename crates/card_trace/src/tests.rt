@@ -5,7 +5,7 @@ use crate::first_card::FirstCard;
 use crate::first_lines::{first_lines, get_lines};
 use crate::play_fault::PlayFault;
 use crate::session::Session;
-use apdu_core::Command;
+use apdu_core::{Command, Header};
 use linked_list_allocator::LocalHeap;
 use std::alloc::Global;
 use std::io;
@@ -107,7 +107,7 @@ fn no_room_for_an_exchange(rt: HostRuntime) -> Result<(), Fail> {
 /// nothing is written then. With enough memory all is.
 #[test]
 fn refused_memory_writes_nothing(rt: HostRuntime) -> Result<(), Fail> {
-    let mut refused = 0;
+    let mut refused: usize = 0;
     for size in (4064..=8192).step_by(16) {
         let heap = LocalHeap::new(rt.alloc(), size)?;
         let mut text = Vec::new(rt.alloc());
@@ -120,7 +120,7 @@ fn refused_memory_writes_nothing(rt: HostRuntime) -> Result<(), Fail> {
             Err(fault) => {
                 assert!(rt; matches!(fault, PlayFault::OutOfMemory));
                 assert!(rt; text.is_empty());
-                refused += 1;
+                refused = refused.saturating_add(1);
             }
         }
     }
@@ -130,10 +130,15 @@ fn refused_memory_writes_nothing(rt: HostRuntime) -> Result<(), Fail> {
 /// A command that is refused memory is not begun, and what a watch is refused it has lost.
 #[test]
 fn session_without_memory(rt: HostRuntime) -> Result<(), Fail> {
-    let Ok(command) = Command::read(&[0x00, 0xCA, 0x5F, 0x20, 0x00]) else {
-        return Err("the command".into());
-    };
     let tag = ObjectTag::from_p1p2(0x5F, 0x20).ok_or("the tag")?;
+    let (p1, p2) = tag.p1p2();
+    let header = Header {
+        cla: 0x00,
+        ins: 0xCA,
+        p1,
+        p2,
+    };
+    let command = Command::new(header, &[], Some(256)).unwrap();
     let mut session = Session::new(CardEnd::new(FirstCard::new(tag, &[0x4A, 0x4F, 0x45])));
     let none = LocalHeap::new(rt.alloc(), 0)?;
 

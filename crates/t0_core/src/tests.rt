@@ -74,7 +74,7 @@ fn no_room_for_a_gather(rt: HostRuntime) -> Result<(), Fail> {
 /// Each growth of the recorder is refused in turn: it keeps the front that it had noted until then.
 #[test]
 fn recorder_without_memory_has_lost_the_rest(rt: HostRuntime) -> Result<(), Fail> {
-    let mut fronts = 0;
+    let mut fronts: usize = 0;
     let mut longest = 0;
     for size in (0..=512).step_by(16) {
         let heap = LocalHeap::new(rt.alloc(), size)?;
@@ -87,8 +87,10 @@ fn recorder_without_memory_has_lost_the_rest(rt: HostRuntime) -> Result<(), Fail
         for (byte, character) in (0..100u8).zip(heard) {
             assert!(rt; character.0 == End::Card && character.1 == byte);
         }
-        fronts += usize::from(heard.len() > longest);
-        longest = longest.max(heard.len());
+        if heard.len() > longest {
+            fronts = fronts.saturating_add(1);
+            longest = heard.len();
+        }
     }
     assert_eq!(rt; longest, 100);
     assert!(rt; fronts > 3, "{fronts} fronts of different sizes");

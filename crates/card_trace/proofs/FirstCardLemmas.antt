@@ -3,13 +3,12 @@ use Rattle.std.proofs.Common.{◌≡◌, ◌≢◌, ℕ, ◌-◌, ◌%◌, min, 
 use Rattle.std.proofs.lemmas.List.{length-take-le, length-drop}
 use Rattle.apdu_core.specs.declared.header.Header.{Header}
 use Rattle.apdu_core.specs.StatusWord.{StatusWord, count}
-use Rattle.tlv_core.specs.Address.{NamesTag}
 use Rattle.t0_core.specs.declared.tpdu_card.Verdict.{Verdict}
-use Rattle.t0_core.specs.declared.tpdu_card.Verdict.TheVariants.{Refuse, Send}
-use Rattle.t0_core.specs.Meaning.{Decided, IsSending, Decides, answered_with}
+use Rattle.t0_core.specs.declared.tpdu_card.Verdict.TheVariants.{Refuse, Receive, Send}
+use Rattle.t0_core.specs.Meaning.{Ask, Decided, IsReceiving, IsSending, Decides, answered_with}
 use Rattle.t0_core.specs.CardContract.{Judges}
 use Rattle.card_trace.specs.declared.first_card.Ready.{Ready}
-use Rattle.card_trace.specs.declared.first_card.Ready.TheVariants.{Sends}
+use Rattle.card_trace.specs.declared.first_card.Ready.TheVariants.{Idle, Sends, Answered}
 use Rattle.card_trace.specs.FirstCard.{Pair, object_of, announcing, Does, refuses, sends}
 use Rattle.card_trace.specs.CardView.{Holding, prepared_of, IsReady, Judgement, ready_after}
 
@@ -17,6 +16,7 @@ use Rattle.card_trace.specs.CardView.{Holding, prepared_of, IsReady, Judgement, 
 judged : (pair : Pair) (h : Header) (p3 cut : ℕ) (verdict : Verdict) → Judgement pair h p3 verdict
     → Judges Does pair (record { header = h; p3 = p3; cut = cut }) verdict (prepared_of pair (ready_after verdict h p3 cut))
 judged pair h p3 cut (Refuse status) refused = (pair, refl, refuses h p3 status refused)
+judged pair h p3 cut Receive accepted = absurd accepted
 judged pair h p3 cut Send accepted = (refl, length-take-le (count p3) (object_of pair) accepted.no_more)
 
 abbrev JudgesAs : Pair → Header → ℕ → ℕ → Verdict → Ready → Holding → Type 0
@@ -60,3 +60,12 @@ announces_none object p3 cut none = empty (drop (count p3) object) (length-drop 
 -- a test that fails and passes
 pub both_ways : (b : Bool) → b ≡ false → b ≡ true → ⊥
 both_ways b fails passes = absurd (cc)
+
+-- no data are ever due
+no_data : (pair : Pair) (ready : Ready) (P : Ask → Type 0) → IsReceiving (prepared_of pair ready) P → ⊥
+no_data pair Idle P due = absurd due
+no_data pair (Sends header p3 cut) P due = absurd due
+no_data pair Answered P due = absurd due
+
+pub no_data_due : (pair : Pair) (ready : Ready) (seen : Holding) (P : Ask → Type 0) → record { pair = pair; prepared = prepared_of pair ready } ≡ seen → IsReceiving seen.prepared P → ⊥
+no_data_due pair ready seen P is due = let Due : Holding → Type 0 = λ h. IsReceiving h.prepared P in no_data pair ready P (subst Due (sym is) due)

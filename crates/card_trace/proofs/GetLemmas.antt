@@ -10,11 +10,12 @@ use Rattle.apdu_core.specs.CommandBytes.{Command}
 use Rattle.tlv_core.specs.Address.{NamesTag, IsAddressable}
 use Rattle.tlv_core.specs.Length.{shortest}
 use Rattle.t0_core.specs.declared.host_end.HostStage.{HostStage}
-use Rattle.t0_core.specs.declared.host_end.HostStage.TheVariants.{SendingHeader, Awaiting, TakingData, AwaitingSecond, Ended, Broken}
+use Rattle.t0_core.specs.declared.host_end.HostStage.TheVariants.{SendingHeader, Awaiting, Moving, AwaitingSecond, Ended, Broken}
 use Rattle.t0_core.specs.Character.{Character}
 use Rattle.t0_core.specs.Plan.{FollowInTurn}
 use Rattle.t0_core.specs.Watch.{Hearing, Hears}
-use Rattle.t0_core.specs.Dialogue.{Dialogue, FromCard, characters, IsDialogue}
+use Rattle.t0_core.specs.declared.direction.Direction.TheVariants.{FromCard}
+use Rattle.t0_core.specs.Dialogue.{Dialogue, characters, IsDialogue}
 use Rattle.t0_core.specs.Meaning.{Tpdu, tpdu_of, Runs, received}
 use Rattle.card_trace.specs.FirstCard.{Pair, object_of, announcing, IsNamed, Refuses, class_not_supported, instruction_not_supported, chaining_not_supported, wrong_parameters, not_found, wrong_length, Accepts, Does, refuses, sends}
 use Rattle.card_trace.specs.Gathered.{Everything, Asks, UnitOf, Single, Repeated, first_of, last_of, dialogues_of, unit_data, repeats_with, IsUnit, Gathers}
@@ -230,7 +231,7 @@ first_or (c ∷ cs) d = c
 abbrev ended_with : HostStage → StatusWord → StatusWord
 ended_with (SendingHeader sent) d = d
 ended_with (Awaiting moved) d = d
-ended_with (TakingData moved) d = d
+ended_with (Moving moved until) d = d
 ended_with (AwaitingSecond sw1) d = d
 ended_with (Ended status) d = status
 ended_with Broken d = d

@@ -5,7 +5,8 @@ use Rattle.hex.specs.Hex.{encode_with}
 use Rattle.apdu_core.specs.declared.header.Header.{Header}
 use Rattle.apdu_core.specs.CommandBytes.{Command}
 use Rattle.t0_core.specs.declared.plan.Step.TheVariants.{All}
-use Rattle.t0_core.specs.Dialogue.{Dialogue, FromCard, characters}
+use Rattle.t0_core.specs.declared.direction.Direction.TheVariants.{FromCard}
+use Rattle.t0_core.specs.Dialogue.{Dialogue, characters}
 use Rattle.card_trace.specs.Gathered.{Bytes, Everything, Asks, Single, Repeated, IsUnit, repeats_with, Gathers}
 use Rattle.card_trace.specs.TraceText.{trace_text}
 

@@ -2,14 +2,21 @@
 use Rattle.std.specs.Prelude.{◌≡◌, ℕ, ◌+◌, ◌-◌, List, [], ◌++◌, length, Bool, true, false, if◌then◌else◌}
 use Rattle.std.specs.List.{AllByRecursion, flat_map}
 use Rattle.t0_core.specs.declared.host_end.HostStage.{HostStage}
-use Rattle.t0_core.specs.declared.host_end.HostStage.TheVariants.{SendingHeader, Awaiting, TakingData, AwaitingSecond, Ended, Broken}
+use Rattle.t0_core.specs.declared.host_end.HostStage.TheVariants.{SendingHeader, Awaiting, Moving, AwaitingSecond, Ended, Broken}
 use Rattle.t0_core.specs.Dialogue.{Dialogue, characters, IsDialogue}
-use Rattle.t0_core.specs.Plan.{Cursor, plain, FollowInTurn}
+use Rattle.t0_core.specs.Plan.{Cursor, plain, plan_kept, FollowInTurn}
 use Rattle.t0_core.specs.Meaning.{Tpdu, Prepared, Runs}
 use Rattle.t0_core.specs.Front.{Front, IsFront, front_characters}
 use Rattle.t0_core.specs.Watch.{Hearing, Hears}
-use Rattle.t0_core.specs.CardSide.{Stage, Taking_header, Sending_data, Ending, StandsAt}
+use Rattle.t0_core.specs.CardSide.{Stage, Taking_header, Refusing, Serving, Ending, StandsAt, IsOnPlan, still_to_go}
 use Rattle.card_trace.specs.ExchangeSide.{ExchangeOf, UnderWay, IsDone}
+
+-- past the end of the list a card that has begun to answer keeps no plan
+abbrev pub KeepsNone : Stage → Cursor → Type 0
+KeepsNone (Taking_header bytes) cursor = Unit {0}
+KeepsNone (Refusing header p3 status done) cursor = plan_kept cursor ≡ plain
+KeepsNone (Serving s came) cursor = plan_kept cursor ≡ plain
+KeepsNone (Ending status) cursor = plan_kept cursor ≡ plain
 
 -- these dialogues are over: they follow the plans, and are a run of the card's meaning
 pub record AreOver {State : Type 0} (Does : State → ℕ → Tpdu → State → Type 0) (first : State) (whole : List Dialogue) (standing : State) : Type 0 where
@@ -24,10 +31,12 @@ pub record IsUnderWay {State : Type 0} (Does : State → ℕ → Tpdu → State 
   pub front : Front
   pub over : AreOver Does first whole standing
   pub terminal : UnderWay ex whole front
-  pub card : StandsAt Does standing prepared stage plain front
+  pub card : StandsAt Does standing prepared stage 256 front
+  pub on_plan : IsOnPlan stage plain front
   pub is_front : IsFront front
   pub hears : Hears since (flat_map characters whole ++ front_characters front) now
   pub no_plans : cursor.rest ≡ []
+  pub kept : KeepsNone stage cursor
 
 -- the exchange is over, and the card's end waits for a header
 pub record IsFinished {State : Type 0} (Does : State → ℕ → Tpdu → State → Type 0) (first : State) (since : Hearing)
@@ -41,13 +50,14 @@ pub record IsFinished {State : Type 0} (Does : State → ℕ → Tpdu → State 
 -- a number that falls with each character that is passed
 abbrev pub stage_number : Stage → ℕ
 stage_number (Taking_header bytes) = 300 + (5 - length bytes)
-stage_number (Sending_data header p3 moved) = 2 + (256 - moved)
-stage_number (Ending status) = 1
+stage_number (Refusing header p3 status done) = still_to_go (Refusing header p3 status done) plain
+stage_number (Serving s came) = still_to_go (Serving s came) plain
+stage_number (Ending status) = still_to_go (Ending status) plain
 
 abbrev pub is_over : HostStage → Bool
 is_over (SendingHeader sent) = false
 is_over (Awaiting moved) = false
-is_over (TakingData moved) = false
+is_over (Moving moved until) = false
 is_over (AwaitingSecond sw1) = false
 is_over (Ended status) = true
 is_over Broken = true

@@ -4,18 +4,20 @@ use Rattle.std.specs.List.{flat_map}
 use Rattle.apdu_core.specs.declared.header.Header.{Header}
 use Rattle.apdu_core.specs.StatusWord.{StatusWord, count, corrects}
 use Rattle.t0_core.specs.declared.host_end.HostStage.{HostStage}
-use Rattle.t0_core.specs.declared.host_end.HostStage.TheVariants.{SendingHeader, Awaiting, TakingData, AwaitingSecond, Ended, Broken}
-use Rattle.t0_core.specs.Dialogue.{Dialogue, Direction, ToCard, FromCard}
+use Rattle.t0_core.specs.declared.host_end.HostStage.TheVariants.{SendingHeader, Awaiting, Moving, AwaitingSecond, Ended, Broken}
+use Rattle.t0_core.specs.declared.direction.Direction.{Direction}
+use Rattle.t0_core.specs.declared.direction.Direction.TheVariants.{ToCard, FromCard}
+use Rattle.t0_core.specs.Dialogue.{Dialogue}
 use Rattle.t0_core.specs.Meaning.{received}
 use Rattle.t0_core.specs.Front.{Front, In_header, In_body, After_first, fresh}
 use Rattle.t0_core.specs.Room.{Room}
-use Rattle.t0_core.specs.HostSide.{Asking, HostStandsAt}
+use Rattle.t0_core.specs.HostSide.{Hosting, HostStandsAt}
 use Rattle.card_trace.specs.Gathered.{Everything, Asks, UnitOf, first_of, last_of, dialogues_of, unit_data, IsUnit}
 
 -- what an exchange keeps: the header, the end of the TPDU under way, the data so far, and whether this TPDU is a repetition
 pub record ExchangeOf : Type 0 where
   pub header : Header
-  pub host : Asking
+  pub host : Hosting
   pub gather : Room
   pub repeated : Bool
 
@@ -40,6 +42,7 @@ IsAttempt h true (d ∷ e ∷ ds) n = ⊥
 -- these dialogues are over, and a TPDU is under way
 pub record UnderWay (ex : ExchangeOf) (whole : List Dialogue) (front : Front) : Type 0 where
   pub same_header : ex.host.header ≡ ex.header
+  pub asks : ex.host.direction ≡ FromCard
   pub is_byte : ex.host.p3 < 256
   pub attempt : IsAttempt ex.header ex.repeated whole (count ex.host.p3)
   pub stands : HostStandsAt ex.host front
@@ -55,7 +58,7 @@ pub record IsDone (ex : ExchangeOf) (whole : List Dialogue) : Type 0 where
   pub ended : ex.host.stage ≡ Ended (last_of unit).status
   pub gathered : ex.gather.bytes ≡ unit_data unit
 
-abbrev pub with_host : ExchangeOf → Asking → ExchangeOf
+abbrev pub with_host : ExchangeOf → Hosting → ExchangeOf
 with_host ex host = record { header = ex.header; host = host; gather = ex.gather; repeated = ex.repeated }
 
 -- after a dialogue the exchange is over, or repeats it, once
@@ -71,7 +74,7 @@ count_again false status = corrects status
 abbrev pub IsEnded : HostStage → Type 0
 IsEnded (SendingHeader sent) = ⊥
 IsEnded (Awaiting moved) = ⊥
-IsEnded (TakingData moved) = ⊥
+IsEnded (Moving moved until) = ⊥
 IsEnded (AwaitingSecond sw1) = ⊥
 IsEnded (Ended status) = Unit {0}
 IsEnded Broken = ⊥

@@ -1,8 +1,8 @@
-ghost use Rattle.std.specs.Prelude.{◌≡◌, ◌↔◌, ℕ, ◌<◌, ◌≤◌, ◌++◌, List, [], ◌∷◌, length, Some, true, false, IfOk, IsOk, OnErr, IsSome, IfSome};
+ghost use Rattle.std.specs.Prelude.{◌≡◌, ◌↔◌, ℕ, ◌<◌, ◌≤◌, ◌++◌, List, [], ◌∷◌, length, Some, true, false, IfOk, IfErr, IsOk, IsSome, IfSome};
 ghost use Rattle.std.specs.Result.{result_err};
 ghost use Rattle.apdu_core.specs.CommandBytes.{Command};
 ghost use Rattle.t0_core.specs.Dialogue.{Dialogue};
-ghost use Rattle.t0_core.specs.Front.{Front, GoesOn, Ends, IsPlain, fresh};
+ghost use Rattle.t0_core.specs.Front.{Front, GoesOn, Ends, fresh};
 ghost use Rattle.t0_core.specs.HostSide.{at_stage, turn_of, after_turn, fault_of, after_fault};
 ghost use Rattle.card_trace.specs.ExchangeSide.{UnderWay, Continues, IsEnded, with_host, count_again};
 
@@ -20,7 +20,7 @@ pub const RESPONSE_LIMIT: usize = 4096;
 #[derive(Drop)]
 pub struct Exchange<A: Allocator = Global> {
     header: Header,
-    end: HostEnd,
+    end: HostEnd<'static>,
     gather: Gather<A>,
     repeated: bool,
 }
@@ -61,12 +61,12 @@ impl<A: Allocator> Exchange<A> {
         ensures turn { result ≡ turn_of self.old.host }
         ensures after { self.new ≡ record {
           header = self.old.header;
-          host = at_stage self.old.host (after_turn self.old.host.stage);
+          host = at_stage self.old.host (after_turn self.old.host);
           gather = self.old.gather;
           repeated = self.old.repeated;
         } }
         ensures goes_on { (whole : List Dialogue) (front : Front) (byte : ℕ) → UnderWay self.old whole front → result ≡ HostTurn.Sends byte →
-            (new : Front) × GoesOn front (Terminal, byte) new × IsPlain new × UnderWay self.new whole new }
+            (new : Front) × GoesOn front (Terminal, byte) new × UnderWay self.new whole new }
     {
         self.end.next()
     }
@@ -76,8 +76,8 @@ impl<A: Allocator> Exchange<A> {
     pub fn take(&mut self, byte: u8) -> Result<(), LineFault>
         ensures fault { result_err result ≡ fault_of self.old.host self.old.gather byte }
         ensures header { self.new.header ≡ self.old.header }
-        ensures refused { OnErr result (self.new ≡ with_host self.old (at_stage self.old.host (after_fault self.old.host.stage))) }
-        ensures goes_on { (whole : List Dialogue) (front new : Front) → UnderWay self.old whole front → GoesOn front (Card, byte) new → IsPlain new →
+        ensures refused { IfErr result (λ fault. self.new ≡ with_host self.old (at_stage self.old.host (after_fault self.old.host.stage fault))) }
+        ensures goes_on { (whole : List Dialogue) (front new : Front) → UnderWay self.old whole front → GoesOn front (Card, byte) new →
             length self.old.gather.bytes < self.old.gather.limit →
             IsOk result × UnderWay self.new whole new × (self.new.repeated ≡ self.old.repeated) }
         ensures ends { (whole : List Dialogue) (front : Front) (d : Dialogue) → UnderWay self.old whole front → Ends front (Card, byte) d →

@@ -70,6 +70,10 @@ impl<'a> TpduCard for FirstCard<'a> {
 
     ghost after_reset = { λ pair. pair };
 
+    ghost MayReceive = { λ _. ⊥ };
+
+    ghost MaySend = { λ ins. ins ≡ 0xCA };
+
     ghost prepared = { λ c. c.prepared };
 
     fn header(&mut self, header: Header, p3: u8, cut: u16) -> Verdict {
@@ -77,6 +81,13 @@ impl<'a> TpduCard for FirstCard<'a> {
         let ready = ready_for(&verdict, header, p3, cut);
         self.ready = ready;
         verdict
+    }
+
+    // No verdict of this card asks for data.
+    fn data(&mut self, _content: &[u8]) -> Status {
+        match self.ready {
+            Ready::Idle | Ready::Sends { .. } | Ready::Answered => unreachable!(),
+        }
     }
 
     fn byte(&self, at: u16) -> u8 {
@@ -107,6 +118,7 @@ fn ready_for(verdict: &Verdict, header: Header, p3: u8, cut: u16) -> Ready
 {
     match verdict {
         Verdict::Refuse(_) => Ready::Answered,
+        Verdict::Receive => Ready::Idle,
         Verdict::Send => Ready::Sends { header, p3, cut },
     }
 }

@@ -7,7 +7,7 @@ use crate::play_fault::PlayFault;
 use crate::session::Session;
 use crate::trace::trace;
 use apdu_core::{Command, Header};
-use std::alloc::Allocator;
+use std::alloc::{Allocator, Global};
 use std::io::Write;
 use t0_core::{CardEnd, Plans, Recorder};
 use tlv_core::ObjectTag;
@@ -53,7 +53,12 @@ pub fn get_lines<A: Allocator + Copy, W: Write>(
     let command = Command::new(header, &[], Some(256)).unwrap();
     let mut session = Session::new(CardEnd::new(card));
     let mut recorder = Recorder::new(alloc);
-    let answer = session.transmit(alloc, &command, &mut Plans::over(&[]), &mut recorder)?;
+    let answer = session.transmit(
+        alloc,
+        &command,
+        &mut Plans::<Global>::over(&[]),
+        &mut recorder,
+    )?;
     if recorder.lost() {
         return Err(PlayFault::OutOfMemory);
     }

@@ -49,11 +49,11 @@ impl<'a> Session<'a> {
     }
 
     /// Carries out a GET DATA with Le = `00`. Its error is want of memory, before the first character.
-    pub fn transmit<A: Allocator, W: Watch>(
+    pub fn transmit<A: Allocator, B: Allocator, W: Watch>(
         &mut self,
         alloc: A,
         command: &Command,
-        plans: &mut Plans,
+        plans: &mut Plans<B>,
         watch: &mut W,
     ) -> Result<Answer<A>, AllocError>
         requires get { (tag : List ℕ) × IsCommandsOf (Get tag) (command.now ∷ []) }
@@ -73,15 +73,16 @@ impl<'a> Session<'a> {
 }
 
 /// Passes one character from the end whose turn it is to the other, and tells the watch.
-fn pass_character<A: Allocator, C: TpduCard, W: Watch>(
+fn pass_character<A: Allocator, B: Allocator, C: TpduCard, W: Watch>(
     exchange: &mut Exchange<A>,
     end: &mut CardEnd<C>,
-    plans: &mut Plans,
+    plans: &mut Plans<B>,
     watch: &mut W,
 ) -> bool
-    requires { (first : C.State) × (since : Hearing) ×
+    requires under_way { (first : C.State) × (since : Hearing) ×
         (IsUnderWay C.Does first since (C.standing end.old.card) (C.prepared end.old.card) end.old.stage exchange.old plans.old (W.hearing watch.old)
         ⊎ IsFinished C.Does first since (C.standing end.old.card) end.old.stage exchange.old (W.hearing watch.old)) }
+    requires agreed { C.MayReceive exchange.old.header.ins → ⊥ }
     ensures header { exchange.new.header ≡ exchange.old.header }
     ensures goes_on { (first : C.State) (since : Hearing) →
         IsUnderWay C.Does first since (C.standing end.old.card) (C.prepared end.old.card) end.old.stage exchange.old plans.old (W.hearing watch.old) →
@@ -112,14 +113,15 @@ fn pass_character<A: Allocator, C: TpduCard, W: Watch>(
 }
 
 /// Passes characters until the exchange is over.
-fn converse<A: Allocator, C: TpduCard, W: Watch>(
+fn converse<A: Allocator, B: Allocator, C: TpduCard, W: Watch>(
     exchange: &mut Exchange<A>,
     end: &mut CardEnd<C>,
-    plans: &mut Plans,
+    plans: &mut Plans<B>,
     watch: &mut W,
 )
-    requires { (first : C.State) × (since : Hearing) ×
+    requires under_way { (first : C.State) × (since : Hearing) ×
         IsUnderWay C.Does first since (C.standing end.old.card) (C.prepared end.old.card) end.old.stage exchange.old plans.old (W.hearing watch.old) }
+    requires agreed { C.MayReceive exchange.old.header.ins → ⊥ }
     ensures header { exchange.new.header ≡ exchange.old.header }
     ensures finished { (first : C.State) (since : Hearing) →
         IsUnderWay C.Does first since (C.standing end.old.card) (C.prepared end.old.card) end.old.stage exchange.old plans.old (W.hearing watch.old) →

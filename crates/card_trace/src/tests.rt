@@ -143,11 +143,21 @@ fn session_without_memory(rt: HostRuntime) -> Result<(), Fail> {
     let none = LocalHeap::new(rt.alloc(), 0)?;
 
     let mut recorder = Recorder::new(rt.alloc());
-    let refused = session.transmit(&none, &command, &mut Plans::over(&[]), &mut recorder);
+    let refused = session.transmit(
+        &none,
+        &command,
+        &mut Plans::<Global>::over(&[]),
+        &mut recorder,
+    );
     assert!(rt; refused.is_err() && recorder.heard().is_empty() && !recorder.lost());
 
     let mut recorder = Recorder::new(&none);
-    let answer = session.transmit(rt.alloc(), &command, &mut Plans::over(&[]), &mut recorder)?;
+    let answer = session.transmit(
+        rt.alloc(),
+        &command,
+        &mut Plans::<Global>::over(&[]),
+        &mut recorder,
+    )?;
     assert!(rt; recorder.lost() && recorder.heard().len() < 21);
     assert!(rt; answer.status().is_ok());
     assert_eq!(rt;

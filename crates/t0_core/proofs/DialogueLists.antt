@@ -1,9 +1,9 @@
 -- Dialogues one after another: one more of them, and what holds of them all.
-use Rattle.std.proofs.Common.{◌≡◌, ℕ, List, [], ◌∷◌, ◌++◌, refl, sym, subst, ◌∙◌, ap, true, false, Bool, append-nil, append_assoc, if◌then◌else◌}
+use Rattle.std.proofs.Common.{◌≡◌, ℕ, ◌+◌, List, [], ◌∷◌, ◌++◌, length, length-append, arith, refl, sym, subst, ◌∙◌, ap, true, false, Bool, append-nil, append_assoc, if◌then◌else◌}
 use Rattle.std.specs.List.{AllByRecursion, flat_map}
 use Rattle.t0_core.specs.declared.end.End.TheVariants.{Card}
 use Rattle.t0_core.specs.Dialogue.{Dialogue, body_characters, characters}
-use Rattle.t0_core.specs.Plan.{Cursor, plain, advanced, plan_kept, Follows, FollowInTurn}
+use Rattle.t0_core.specs.Plan.{Course, Cursor, plain, advanced, plan_kept, Follows, FollowInTurn}
 use Rattle.t0_core.specs.Meaning.{Tpdu, tpdu_of, Runs}
 use Rattle.t0_core.specs.Front.{Front, In_header, In_body, After_first, front_characters, Ends}
 
@@ -21,6 +21,24 @@ plain_past old new false empty is yes_takes = absurd (cc)
 pub follow_more : (whole : List Dialogue) (d : Dialogue) → FollowInTurn whole [] → Follows d plain → FollowInTurn (whole ++ d ∷ []) []
 follow_more [] d follow follows = (follows, tt)
 follow_more (e ∷ whole) d follow follows = (follow.0, follow_more whole d follow.1 follows)
+
+-- the same where each dialogue has its plan
+pub follow_each : (whole : List Dialogue) (plans : List Course) (d : Dialogue) (p : Course) → length plans ≡ length whole → FollowInTurn whole plans → Follows d p → FollowInTurn (whole ++ d ∷ []) (plans ++ p ∷ [])
+follow_each [] [] d p same follow follows = (follows, tt)
+follow_each [] (q ∷ plans) d p same follow follows = absurd (omega (arith, same))
+follow_each (e ∷ whole) [] d p same follow follows = absurd (omega (arith, same))
+follow_each (e ∷ whole) (q ∷ plans) d p same follow follows = (follow.0, follow_each whole plans d p (omega (arith, same)) follow.1 follows)
+
+pub runs_each : {State : Type 0} (Does : State → ℕ → Tpdu → State → Type 0) (first old new : State) (whole : List Dialogue) (plans : List Course) (d : Dialogue) (p : Course)
+    → length plans ≡ length whole → Runs Does first whole plans old → Does old p.cut (tpdu_of d) new → Runs Does first (whole ++ d ∷ []) (plans ++ p ∷ []) new
+runs_each {State = State} Does first old new [] [] d p same runs does =
+    let P : State → Type 0 = λ s. Does s p.cut (tpdu_of d) new in (new, subst P runs does, refl)
+runs_each Does first old new [] (q ∷ plans) d p same runs does = absurd (omega (arith, same))
+runs_each Does first old new (e ∷ whole) [] d p same runs does = absurd (omega (arith, same))
+runs_each Does first old new (e ∷ whole) (q ∷ plans) d p same runs does = (runs.0, runs.1, runs_each Does runs.0 old new whole plans d p (omega (arith, same)) runs.2 does)
+
+pub one_more_each : {A B : Type 0} (xs : List A) (ys : List B) (x : A) (y : B) → length xs ≡ length ys → length (xs ++ x ∷ []) ≡ length (ys ++ y ∷ [])
+one_more_each xs ys x y same = length-append xs (x ∷ []) ∙ ap (λ n. n + 1) same ∙ sym (length-append ys (y ∷ []))
 
 pub all_more : (P : Dialogue → Type 0) (whole : List Dialogue) (d : Dialogue) → AllByRecursion P whole → P d → AllByRecursion P (whole ++ d ∷ [])
 all_more P [] d all this = (this, tt)

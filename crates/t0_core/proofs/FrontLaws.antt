@@ -8,7 +8,8 @@ use Rattle.t0_core.specs.declared.end.End.TheVariants.{Terminal, Card}
 use Rattle.t0_core.specs.declared.plan.Step.{Step}
 use Rattle.t0_core.specs.declared.plan.Step.TheVariants.{Null, One, All}
 use Rattle.t0_core.specs.Character.{Character, sent_by}
-use Rattle.t0_core.specs.Dialogue.{Body, Direction, data_sender, foreseen, moves, all_moves, to_move, procedure_byte, segment_characters}
+use Rattle.t0_core.specs.declared.direction.Direction.{Direction}
+use Rattle.t0_core.specs.Dialogue.{Body, data_sender, foreseen, moves, all_moves, to_move, procedure_byte, segment_characters}
 use Rattle.t0_core.specs.Front.{Front, In_header, In_body, After_first, front_characters, GoesOn, IsBetween, EndInLast, IsBegun, IsFront, with_segment, with_moved}
 
 pub moves-within : (s : Step) (n : ℕ) → moves s n ≤ n
@@ -84,7 +85,7 @@ segment_append ins direction (t ∷ segments) s n moved is =
     rw (segment_append ins direction segments s (n - moves t n) (drop (moves t n) moved) (omega (arith, is, length-drop (moves t n) moved)))
     (ap (λ cs. (Card, procedure_byte ins t) ∷ cs) (sym (append_assoc (sent_by (data_sender direction) (take (moves t n) moved)) _ _)))
 
-all_with : (P : Step → Type 0) (segments : List Step) (s : Step) → AllByRecursion P segments → P s → AllByRecursion P (segments ++ s ∷ [])
+pub all_with : (P : Step → Type 0) (segments : List Step) (s : Step) → AllByRecursion P segments → P s → AllByRecursion P (segments ++ s ∷ [])
 all_with P [] s all this = (this, tt)
 all_with P (t ∷ segments) s all this = (all.0, all_with P segments s all.1 this)
 

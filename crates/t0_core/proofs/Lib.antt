@@ -1,6 +1,7 @@
 pub mod HostLemmas
-pub mod CardLemmas
 pub mod DialogueLists
 pub mod FrontLaws
+pub mod PlanLemmas
+pub mod CardLemmas
 pub mod HistoryLemmas
 mod Vectors

@@ -4,8 +4,10 @@ use Rattle.apdu_core.specs.declared.header.Header.{Header}
 use Rattle.t0_core.specs.declared.end.End.TheVariants.{Terminal, Card}
 use Rattle.t0_core.specs.declared.plan.Step.TheVariants.{Null, One, All}
 use Rattle.t0_core.specs.Character.{sent_by}
-use Rattle.t0_core.specs.Dialogue.{Dialogue, ToCard, FromCard, characters, IsDialogue}
+use Rattle.t0_core.specs.declared.direction.Direction.TheVariants.{ToCard, FromCard}
+use Rattle.t0_core.specs.Dialogue.{Dialogue, characters, IsDialogue}
 use Rattle.t0_core.specs.Plan.{segments_of, Follows, plain, advanced, plan_kept}
+use Rattle.t0_core.specs.HostSide.{step_of}
 
 abbrev get_data : Header
 get_data = record { cla = 0x00; ins = 0xCA; p1 = 0x5F; p2 = 0x20 }
@@ -76,6 +78,10 @@ part_of_the_data follows = absurd (cc_of follows.step_by_step)
 transfer_under_6D : (p3 : ℕ) (moved : List ℕ)
     → IsDialogue (record { body = record { header = record { cla = 0; ins = 0x6D; p1 = 0; p2 = 0 }; p3 = p3; direction = FromCard; segments = All ∷ []; moved = moved }; status = (0x90, 0x00) }) → ⊥
 transfer_under_6D p3 moved is = let all_is_null = (is.only_nulls refl).0 in absurd (cc)
+
+-- the procedure bytes of CA, and a first status byte, which is none
+kinds_of_CA : (step_of 0xCA 0x60 ≡ Some Null) × (step_of 0xCA 0xCA ≡ Some All) × (step_of 0xCA 0x35 ≡ Some One) × (step_of 0xCA 0x90 ≡ None)
+kinds_of_CA = (refl, refl, refl, refl)
 
 -- a cursor past its list keeps none
 past_the_end : plan_kept (advanced (record { rest = []; kept = Some (record { steps = Null ∷ []; cut = 1 }) })) ≡ plain

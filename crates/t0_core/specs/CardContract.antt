@@ -2,13 +2,20 @@
 use Rattle.std.specs.Prelude.{◌≡◌, ℕ, length}
 use Rattle.apdu_core.specs.StatusWord.{count}
 use Rattle.t0_core.specs.declared.tpdu_card.Verdict.{Verdict}
-use Rattle.t0_core.specs.declared.tpdu_card.Verdict.TheVariants.{Refuse, Send}
-use Rattle.t0_core.specs.Meaning.{Tpdu, Ask, Prepared, Nothing, Receiving, Sending, Decided, IsSending, Decides, refused}
+use Rattle.t0_core.specs.declared.tpdu_card.Verdict.TheVariants.{Refuse, Receive, Send}
+use Rattle.t0_core.specs.Meaning.{Tpdu, Ask, Prepared, Nothing, Receiving, Sending, Decided, IsReceiving, IsSending, Decides, refused}
 
 -- the header is refused
 abbrev pub IsRefusal : Verdict → Type 0
 IsRefusal (Refuse status) = Unit {0}
+IsRefusal Receive = ⊥
 IsRefusal Send = ⊥
+
+-- Data move only for instructions to which the card may say so.
+abbrev pub Permits : (ℕ → Type 0) → (ℕ → Type 0) → ℕ → Verdict → Type 0
+Permits MayReceive MaySend ins (Refuse status) = Unit {0}
+Permits MayReceive MaySend ins Receive = MayReceive ins
+Permits MayReceive MaySend ins Send = MaySend ins
 
 -- there is an answer whose second status character is due
 abbrev pub IsDecided : {State : Type 0} → Prepared State → Type 0
@@ -20,4 +27,5 @@ IsDecided (Decided next) = Unit {0}
 -- A refusal is an answer by the card's meaning. To send there are as many bytes as P3 counts.
 abbrev pub Judges : {State : Type 0} → (State → ℕ → Tpdu → State → Type 0) → State → Ask → Verdict → Prepared State → Type 0
 Judges Does standing ask (Refuse status) prepared = Decides Does standing ask.cut (refused ask status) prepared
+Judges Does standing ask Receive prepared = IsReceiving prepared (λ asked. asked ≡ ask)
 Judges Does standing ask Send prepared = IsSending prepared (λ asked bytes. (asked ≡ ask) × (length bytes ≡ count ask.p3))

@@ -1,32 +1,104 @@
 -- How the fields of a card's end are seen.
-use Rattle.std.specs.Prelude.{◌≡◌, ◌≤◌, length, take, true}
+use Rattle.std.specs.Prelude.{◌≡◌, ℕ, ◌+◌, ◌-◌, ◌<◌, ◌≤◌, ◌⊎◌, List, [], ◌∷◌, length, take, drop, true}
 use Rattle.apdu_core.specs.HeaderBytes.{ins_is_valid}
-use Rattle.apdu_core.specs.StatusWord.{count}
+use Rattle.apdu_core.specs.StatusWord.{StatusWord, IsStatusWord, count}
 use Rattle.t0_core.specs.declared.card_end.Phase.{Phase}
-use Rattle.t0_core.specs.declared.card_end.Phase.TheVariants.{Opening, Data, SecondStatus}
-use Rattle.t0_core.specs.Meaning.{Prepared, IsSending}
+use Rattle.t0_core.specs.declared.card_end.Phase.TheVariants as phase
+use Rattle.apdu_core.specs.declared.header.Header.{Header}
+use Rattle.t0_core.specs.declared.service.Service.{Service}
+use Rattle.t0_core.specs.declared.direction.Direction.{Direction}
+use Rattle.t0_core.specs.declared.direction.Direction.TheVariants.{ToCard, FromCard}
+use Rattle.t0_core.specs.declared.plan.Step.{Step}
+use Rattle.t0_core.specs.declared.plan.Step.TheVariants.{Null, All}
+use Rattle.t0_core.specs.Dialogue.{moves}
+use Rattle.t0_core.specs.Plan.{segments_of}
+use Rattle.t0_core.specs.Meaning.{Tpdu, Prepared, IsReceiving, IsSending, Decides, taken_with, answered_with}
 use Rattle.t0_core.specs.CardContract.{IsDecided}
-use Rattle.t0_core.specs.CardSide.{Stage, Taking_header, Sending_data, Ending}
+use Rattle.t0_core.specs.CardSide.{Stage, Taking_header, Refusing, Serving, Ending, Starts, one_moved, whole_of}
 
-abbrev pub stage_of : Phase → Stage
-stage_of (Opening bytes taken) = Taking_header (take taken bytes)
-stage_of (Data header p3 moved) = Sending_data header p3 moved
-stage_of (SecondStatus status) = Ending status
+abbrev pub stage_of : Phase → List ℕ → Stage
+stage_of (phase.Opening bytes taken) came = Taking_header (take taken bytes)
+stage_of (phase.Refused header p3 status done) came = Refusing header p3 status done
+stage_of (phase.Accepted service) came = Serving service (take service.moved came)
+stage_of (phase.SecondStatus status) came = Ending status
 
--- no more characters of a header are kept than it has
-abbrev pub IsHeld : Phase → Type 0
-IsHeld (Opening bytes taken) = (length bytes ≡ 5) × (taken ≤ 5)
-IsHeld (Data header p3 moved) = Unit {0}
-IsHeld (SecondStatus status) = Unit {0}
+-- what the card has made ready fits the direction
+abbrev pub IsReadyFor : {State : Type 0} → Prepared State → Direction → ℕ → Type 0
+IsReadyFor prepared ToCard p3 = IsReceiving prepared (λ ask. p3 ≡ ask.p3)
+IsReadyFor prepared FromCard p3 = IsSending prepared (λ ask bytes. length bytes ≡ count p3)
 
-abbrev pub IsOpening : Phase → Type 0
-IsOpening (Opening bytes taken) = (length bytes ≡ 5) × (taken ≤ 5)
-IsOpening (Data header p3 moved) = ⊥
-IsOpening (SecondStatus status) = ⊥
+pub record IsInService {State : Type 0} (prepared : Prepared State) (s : Service) : Type 0 where
+  pub begun : s.moved ≤ s.until
+  pub within : s.until ≤ whole_of s
+  pub valid : ins_is_valid s.header.ins ≡ true
+  pub small : s.p3 < 256
+  pub ready : IsReadyFor prepared s.direction s.p3
 
 -- what the card has made ready fits the phase
 abbrev pub Fits : {State : Type 0} → Prepared State → Phase → Type 0
-Fits prepared (Opening bytes taken) = (length bytes ≡ 5) × (taken ≤ 5)
-Fits prepared (Data header p3 moved) = (ins_is_valid header.ins ≡ true) × (moved ≤ count p3)
-    × IsSending prepared (λ ask bytes. (ask.header ≡ header) × (ask.p3 ≡ p3) × (length bytes ≡ count p3))
-Fits prepared (SecondStatus status) = IsDecided prepared
+Fits prepared (phase.Opening bytes taken) = (length bytes ≡ 5) × (taken ≤ 5)
+Fits prepared (phase.Refused header p3 status done) = IsDecided prepared
+Fits prepared (phase.Accepted service) = IsInService prepared service
+Fits prepared (phase.SecondStatus status) = IsDecided prepared
+
+-- the same, apart from the card
+abbrev pub IsHeld : Phase → Type 0
+IsHeld (phase.Opening bytes taken) = (length bytes ≡ 5) × (taken ≤ 5)
+IsHeld (phase.Refused header p3 status done) = Unit {0}
+IsHeld (phase.Accepted service) = (service.until ≤ whole_of service) × (service.p3 < 256)
+IsHeld (phase.SecondStatus status) = Unit {0}
+
+-- the service after the next step of a plan
+pub record IsNext (s : Service) (steps : List Step) (step : Step) (next : Service) : Type 0 where
+  pub same : (next.header ≡ s.header) × (next.p3 ≡ s.p3) × (next.direction ≡ s.direction) × (next.moved ≡ s.moved)
+  pub starts : Starts step (whole_of s - s.until)
+  pub until_is : next.until ≡ s.until + moves step (whole_of s - s.until)
+  pub segments : segments_of (drop s.done steps) (whole_of s - s.until) ≡ step ∷ segments_of (drop next.done steps) (whole_of s - next.until)
+  pub counts : ((s.done < next.done) × (next.done ≤ length steps)) ⊎ ((step ≡ All) × (length steps ≤ next.done))
+
+-- what a card answers when all data have moved
+abbrev pub Concludes : {State : Type 0} → (State → ℕ → Tpdu → State → Type 0) → State → Prepared State → Direction → List ℕ → StatusWord → Prepared State → Type 0
+Concludes Does old before ToCard content status prepared =
+    IsReceiving before (λ ask. Decides Does old ask.cut (taken_with ask content status) prepared)
+Concludes Does old before FromCard content status prepared =
+    IsSending before (λ ask bytes. Decides Does old ask.cut (answered_with ask bytes status) prepared)
+
+-- the card has judged the header
+abbrev pub IsJudged : Phase → Type 0
+IsJudged (phase.Opening bytes taken) = ⊥
+IsJudged (phase.Refused header p3 status done) = Unit {0}
+IsJudged (phase.Accepted service) = Unit {0}
+IsJudged (phase.SecondStatus status) = Unit {0}
+
+-- what a character of the terminal leaves of a phase, apart from the characters
+abbrev pub IsAfter : Phase → Phase → Type 0
+IsAfter (phase.Opening bytes taken) new = IsOpening new where
+  IsOpening : Phase → Type 0
+  IsOpening (phase.Opening all more) = (length all ≡ 5) × (more ≤ 5)
+  IsOpening (phase.Refused header p3 status done) = ⊥
+  IsOpening (phase.Accepted service) = ⊥
+  IsOpening (phase.SecondStatus status) = ⊥
+IsAfter (phase.Refused header p3 status done) new = ⊥
+IsAfter (phase.Accepted service) new = (service.moved < service.until) × (new ≡ phase.Accepted (one_moved service))
+IsAfter (phase.SecondStatus status) new = ⊥
+
+-- a verdict and its direction stay until the status
+abbrev pub KeepsDirection : Stage → Stage → Type 0
+KeepsDirection old (Taking_header bytes) = (status : StatusWord) × (old ≡ Ending status)
+KeepsDirection old (Refusing header p3 status done) = (before : ℕ) × (old ≡ Refusing header p3 status before)
+KeepsDirection old (Serving s came) = (service : Service) × (before : List ℕ) × (old ≡ Serving service before) × (service.direction ≡ s.direction)
+KeepsDirection old (Ending status) = Unit {0}
+
+-- after a refused header comes a NULL where the plan has one left, and else the status
+abbrev pub Refuses : Header → ℕ → StatusWord → ℕ → List Step → Phase → ℕ → Type 0
+Refuses header p3 status done steps next byte =
+    ((left : ℕ) × (next ≡ phase.Refused header p3 status left) × (byte ≡ 0x60)
+    × (segments_of (drop done steps) 0 ≡ Null ∷ segments_of (drop left steps) 0) × (done < left) × (left ≤ length steps))
+    ⊎ ((next ≡ phase.SecondStatus status) × (byte ≡ status.0) × IsStatusWord status × (segments_of (drop done steps) 0 ≡ []))
+
+-- the card has judged the header, and nothing has gone since
+abbrev pub IsVerdict : Phase → Type 0
+IsVerdict (phase.Opening bytes taken) = ⊥
+IsVerdict (phase.Refused header p3 status done) = Unit {0}
+IsVerdict (phase.Accepted service) = Unit {0}
+IsVerdict (phase.SecondStatus status) = ⊥

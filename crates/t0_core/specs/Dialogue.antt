@@ -6,14 +6,11 @@ use Rattle.apdu_core.specs.HeaderBytes.{header_bytes, ins_is_valid}
 use Rattle.apdu_core.specs.StatusWord.{StatusWord, IsStatusWord, count}
 use Rattle.t0_core.specs.declared.end.End.{End}
 use Rattle.t0_core.specs.declared.end.End.TheVariants.{Terminal, Card}
+use Rattle.t0_core.specs.declared.direction.Direction.{Direction}
+use Rattle.t0_core.specs.declared.direction.Direction.TheVariants.{ToCard, FromCard}
 use Rattle.t0_core.specs.declared.plan.Step.{Step}
 use Rattle.t0_core.specs.declared.plan.Step.TheVariants.{Null, One, All}
 use Rattle.t0_core.specs.Character.{Character, sent_by}
-
--- where the data of a TPDU go
-pub data Direction : Type 0 where
-  ToCard : Direction
-  FromCard : Direction
 
 abbrev pub data_sender : Direction → End
 data_sender ToCard = Terminal

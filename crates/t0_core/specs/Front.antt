@@ -6,9 +6,10 @@ use Rattle.apdu_core.specs.HeaderBytes.{header_bytes, ins_is_valid}
 use Rattle.apdu_core.specs.StatusWord.{IsStatusWord}
 use Rattle.t0_core.specs.declared.end.End.TheVariants.{Terminal, Card}
 use Rattle.t0_core.specs.declared.plan.Step.{Step}
-use Rattle.t0_core.specs.declared.plan.Step.TheVariants.{Null, All}
+use Rattle.t0_core.specs.declared.plan.Step.TheVariants.{Null}
 use Rattle.t0_core.specs.Character.{Character, sent_by}
-use Rattle.t0_core.specs.Dialogue.{Dialogue, Body, Direction, FromCard, data_sender, foreseen, moves, procedure_byte, to_move, body_characters}
+use Rattle.t0_core.specs.declared.direction.Direction.{Direction}
+use Rattle.t0_core.specs.Dialogue.{Dialogue, Body, data_sender, foreseen, moves, procedure_byte, to_move, body_characters}
 
 -- What has gone: fewer than five characters of the header; the header, segments, and data that may lack
 -- the end of the last segment; all that and SW1.
@@ -69,18 +70,6 @@ abbrev pub Ends : Front → Character → Dialogue → Type 0
 Ends (In_header bytes) c d = ⊥
 Ends (In_body b) c d = ⊥
 Ends (After_first b sw1) c d = (c.0 ≡ Card) × (c.1 < 256) × (d ≡ record { body = b; status = (sw1, c.1) })
-
--- each segment begun is an "all": what both ends know so far of procedure bytes
-abbrev pub IsPlain : Front → Type 0
-IsPlain (In_header bytes) = Unit {0}
-IsPlain (In_body b) = AllByRecursion (λ s. s ≡ All) b.segments
-IsPlain (After_first b sw1) = AllByRecursion (λ s. s ≡ All) b.segments
-
--- data that are still to move, if any, come from the card
-abbrev pub IsFromCard : Front → Type 0
-IsFromCard (In_header bytes) = Unit {0}
-IsFromCard (In_body b) = b.direction ≡ FromCard
-IsFromCard (After_first b sw1) = Unit {0}
 
 -- so many data characters end inside the last of the segments
 abbrev pub EndInLast : List Step → ℕ → ℕ → Type 0

@@ -1,113 +1,148 @@
--- The terminal's end of a TPDU that asks for data: how far it stands, and which fronts of a dialogue led to it.
-use Rattle.std.specs.Prelude.{◌≡◌, ℕ, ◌+◌, ◌<◌, ◌≤◌, List, [], ◌∷◌, ◌++◌, length, take, Option, Some, None, Bool, true, ◌==◌, ◌||◌, ◌&&◌, nat_le, nat_lt, slice_index, if◌then◌else◌}
+-- The terminal's end of a TPDU: how far it stands, and which fronts of a dialogue led to it.
+use Rattle.std.specs.Prelude.{◌≡◌, ℕ, ◌+◌, ◌-◌, ◌<◌, ◌≤◌, List, [], ◌∷◌, ◌++◌, length, take, Option, Some, None, Bool, true, ◌==◌, ◌||◌, ◌&&◌, nat_le, nat_lt, slice_index, if◌then◌else◌}
 use Rattle.apdu_core.specs.declared.header.Header.{Header}
 use Rattle.apdu_core.specs.HeaderBytes.{header_bytes, ins_is_valid}
-use Rattle.apdu_core.specs.StatusWord.{IsStatusWord, count}
+use Rattle.apdu_core.specs.StatusWord.{IsStatusWord}
 use Rattle.t0_core.specs.declared.line_fault.LineFault.{LineFault}
 use Rattle.t0_core.specs.declared.line_fault.LineFault.TheVariants.{BadProcedure, AfterEnd, TooLong, NotListening}
 use Rattle.t0_core.specs.declared.host_end.HostStage.{HostStage}
 use Rattle.t0_core.specs.declared.host_end.HostTurn.{HostTurn}
 use Rattle.t0_core.specs.declared.host_end.HostTurn.TheVariants.{Sends, Listens, Done, Failed}
-use Rattle.t0_core.specs.declared.host_end.HostStage.TheVariants.{SendingHeader, Awaiting, TakingData, AwaitingSecond, Ended, Broken}
-use Rattle.t0_core.specs.Dialogue.{Body, FromCard, to_move}
+use Rattle.t0_core.specs.declared.host_end.HostStage.TheVariants.{SendingHeader, Awaiting, Moving, AwaitingSecond, Ended, Broken}
+use Rattle.t0_core.specs.declared.plan.Step.{Step}
+use Rattle.t0_core.specs.declared.plan.Step.TheVariants.{Null, One, All}
+use Rattle.t0_core.specs.declared.direction.Direction.{Direction}
+use Rattle.t0_core.specs.declared.direction.Direction.TheVariants.{ToCard, FromCard}
+use Rattle.t0_core.specs.Dialogue.{Body, foreseen, moves, procedure_byte, to_move}
 use Rattle.t0_core.specs.Front.{Front, In_header, In_body, After_first, IsBetween}
 use Rattle.t0_core.specs.Room.{Room}
 
--- An end that asks for count(P3) bytes
-pub record Asking : Type 0 where
+-- an end that opened a TPDU, with its data to the card, or with none where it asks for data
+pub record Hosting : Type 0 where
   pub header : Header
   pub p3 : ℕ
+  pub direction : Direction
+  pub content : List ℕ
   pub stage : HostStage
 
-abbrev pub at_stage : Asking → HostStage → Asking
-at_stage host stage = record { header = host.header; p3 = host.p3; stage = stage }
+abbrev pub at_stage : Hosting → HostStage → Hosting
+at_stage host stage =
+    record { header = host.header; p3 = host.p3; direction = host.direction; content = host.content; stage = stage }
 
--- the dialogue is the one that this end opened
-abbrev pub IsOpenedBy : Asking → Body → Type 0
-IsOpenedBy host b = (b.header ≡ host.header) × (b.p3 ≡ host.p3) × (b.direction ≡ FromCard)
+-- what has moved to the card are the first of the end's own data
+abbrev pub AreOwn : Direction → List ℕ → List ℕ → Type 0
+AreOwn ToCard content moved = moved ≡ take (length moved) content
+AreOwn FromCard content moved = Unit {0}
 
--- the end stands at this front of a dialogue
-abbrev pub HostStandsAt : Asking → Front → Type 0
+-- the dialogue is one that this end opened
+abbrev pub IsOpenedBy : Hosting → Body → Type 0
+IsOpenedBy host b = (b.header ≡ host.header) × (b.p3 ≡ host.p3) × (b.direction ≡ host.direction) × AreOwn host.direction host.content b.moved
+
+-- The end stands at this front of a dialogue: in the header; between segments; in a segment, which moves data
+-- up to a place; or after SW1.
+abbrev pub HostStandsAt : Hosting → Front → Type 0
 HostStandsAt host front = At host.stage front where
   At : HostStage → Front → Type 0
   At (SendingHeader sent) (In_header bytes) = (sent < 5) × (bytes ≡ take sent (header_bytes host.header ++ host.p3 ∷ []))
   At (Awaiting moved) (In_body b) = IsOpenedBy host b × IsBetween b × (length b.moved ≡ moved)
-  At (TakingData moved) (In_body b) = IsOpenedBy host b × (length b.moved ≡ moved) × (moved < count host.p3) × (to_move b ≡ count host.p3)
+  At (Moving moved until) (In_body b) = IsOpenedBy host b × (length b.moved ≡ moved) × (moved < until) × (to_move b ≡ until)
   At (AwaitingSecond sw1) (After_first b first) = IsOpenedBy host b × (first ≡ sw1)
   At (SendingHeader sent) (In_body b) = ⊥
   At (SendingHeader sent) (After_first b first) = ⊥
   At (Awaiting moved) (In_header bytes) = ⊥
   At (Awaiting moved) (After_first b first) = ⊥
-  At (TakingData moved) (In_header bytes) = ⊥
-  At (TakingData moved) (After_first b first) = ⊥
+  At (Moving moved until) (In_header bytes) = ⊥
+  At (Moving moved until) (After_first b first) = ⊥
   At (AwaitingSecond sw1) (In_header bytes) = ⊥
   At (AwaitingSecond sw1) (In_body b) = ⊥
   At (Ended status) front = ⊥
   At Broken front = ⊥
 
--- the first status bytes: 61 to 6F and 90 to 9F
-abbrev pub is_first_status : ℕ → Bool
-is_first_status byte = (nat_le 0x61 byte && nat_le byte 0x6F) || (nat_le 0x90 byte && nat_le byte 0x9F)
+-- what it does while data move
+abbrev pub data_turn : Direction → List ℕ → ℕ → HostTurn
+data_turn ToCard content moved = Sends (slice_index content moved)
+data_turn FromCard content moved = Listens
 
 -- what it does when it is its turn
-abbrev pub turn_of : Asking → HostTurn
+abbrev pub turn_of : Hosting → HostTurn
 turn_of host = Turn host.stage where
   Turn : HostStage → HostTurn
   Turn (SendingHeader sent) = Sends (slice_index (header_bytes host.header ++ host.p3 ∷ []) sent)
   Turn (Awaiting moved) = Listens
-  Turn (TakingData moved) = Listens
+  Turn (Moving moved until) = data_turn host.direction host.content moved
   Turn (AwaitingSecond sw1) = Listens
   Turn (Ended status) = Done status
   Turn Broken = Failed
 
-abbrev pub after_turn : HostStage → HostStage
-after_turn (SendingHeader sent) = if nat_lt sent 4 then SendingHeader (sent + 1) else Awaiting 0
-after_turn (Awaiting moved) = Awaiting moved
-after_turn (TakingData moved) = TakingData moved
-after_turn (AwaitingSecond sw1) = AwaitingSecond sw1
-after_turn (Ended status) = Ended status
-after_turn Broken = Broken
+-- the data of a segment move up to a place, or have all moved
+abbrev pub moving : ℕ → ℕ → HostStage
+moving moved until = if nat_lt moved until then Moving moved until else Awaiting moved
 
--- The fault that a character is, if any: as a procedure byte only INS is known so far, beside SW1.
-abbrev pub fault_of : Asking → Room → ℕ → Option LineFault
+-- a data character that it sends has moved; for one of the card it waits
+abbrev pub after_data_turn : Direction → ℕ → ℕ → HostStage
+after_data_turn ToCard moved until = moving (moved + 1) until
+after_data_turn FromCard moved until = Moving moved until
+
+abbrev pub after_turn : Hosting → HostStage
+after_turn host = After host.stage where
+  After : HostStage → HostStage
+  After (SendingHeader sent) = if nat_lt sent 4 then SendingHeader (sent + 1) else Awaiting 0
+  After (Awaiting moved) = Awaiting moved
+  After (Moving moved until) = after_data_turn host.direction moved until
+  After (AwaitingSecond sw1) = AwaitingSecond sw1
+  After (Ended status) = Ended status
+  After Broken = Broken
+
+-- the first status bytes: 61 to 6F and 90 to 9F
+abbrev pub is_first_status : ℕ → Bool
+is_first_status byte = (nat_le 0x61 byte && nat_le byte 0x6F) || (nat_le 0x90 byte && nat_le byte 0x9F)
+
+-- what a byte starts as a procedure byte of this INS, if it is one
+abbrev pub step_of : ℕ → ℕ → Option Step
+step_of ins byte =
+    if byte == procedure_byte ins Null then Some Null
+    else (if byte == procedure_byte ins All then Some All else (if byte == procedure_byte ins One then Some One else None))
+
+-- where a procedure byte is due, a byte that is neither one nor SW1 is a fault
+abbrev pub procedure_fault : Option Step → ℕ → Option LineFault
+procedure_fault (Some step) byte = None
+procedure_fault None byte = if is_first_status byte then None else Some (BadProcedure byte)
+
+-- while data move to the card, a character of it is out of turn; from the card there must be room for each
+abbrev pub data_fault : Direction → Room → Option LineFault
+data_fault ToCard gather = Some NotListening
+data_fault FromCard gather = if length gather.bytes == gather.limit then Some TooLong else None
+
+-- the fault that a character is, if any
+abbrev pub fault_of : Hosting → Room → ℕ → Option LineFault
 fault_of host gather byte = Fault host.stage where
   Fault : HostStage → Option LineFault
   Fault (SendingHeader sent) = Some NotListening
-  Fault (Awaiting moved) = if (byte == host.header.ins) || is_first_status byte then None else Some (BadProcedure byte)
-  Fault (TakingData moved) = if length gather.bytes == gather.limit then Some TooLong else None
+  Fault (Awaiting moved) = procedure_fault (step_of host.header.ins byte) byte
+  Fault (Moving moved until) = data_fault host.direction gather
   Fault (AwaitingSecond sw1) = None
   Fault (Ended status) = Some AfterEnd
   Fault Broken = Some AfterEnd
 
--- what the end keeps within its ranges
-abbrev pub IsInRange : Asking → Type 0
-IsInRange host = (ins_is_valid host.header.ins ≡ true) × Range host.stage where
-  Range : HostStage → Type 0
-  Range (SendingHeader sent) = sent < 5
-  Range (Awaiting moved) = moved ≤ count host.p3
-  Range (TakingData moved) = moved < count host.p3
-  Range (AwaitingSecond sw1) = IsStatusWord (sw1, 0)
-  Range (Ended status) = Unit {0}
-  Range Broken = Unit {0}
-
 -- where a fault leaves the end: a character that it does not understand or has no room for breaks it
-abbrev pub after_fault : HostStage → HostStage
-after_fault (SendingHeader sent) = SendingHeader sent
-after_fault (Awaiting moved) = Broken
-after_fault (TakingData moved) = Broken
-after_fault (AwaitingSecond sw1) = Broken
-after_fault (Ended status) = Ended status
-after_fault Broken = Broken
+abbrev pub after_fault : HostStage → LineFault → HostStage
+after_fault stage (BadProcedure byte) = Broken
+after_fault stage TooLong = Broken
+after_fault stage AfterEnd = stage
+after_fault stage NotListening = stage
+
+-- how the end goes on after a procedure byte, where so many data characters remain, or after SW1
+abbrev pub after_procedure : Option Step → ℕ → ℕ → ℕ → HostStage
+after_procedure (Some step) moved remain byte = moving moved (moved + moves step remain)
+after_procedure None moved remain byte = AwaitingSecond byte
 
 -- how the end goes on with a character that is no fault
-abbrev pub after_taking : Asking → ℕ → HostStage
+abbrev pub after_taking : Hosting → ℕ → HostStage
 after_taking host byte = After host.stage where
   After : HostStage → HostStage
   After (SendingHeader sent) = SendingHeader sent
-  After (Awaiting moved) =
-      if byte == host.header.ins then (if nat_lt moved (count host.p3) then TakingData moved else Awaiting moved)
-      else AwaitingSecond byte
-  After (TakingData moved) = if nat_lt (moved + 1) (count host.p3) then TakingData (moved + 1) else Awaiting (moved + 1)
+  After (Awaiting moved) = after_procedure (step_of host.header.ins byte) moved (foreseen host.direction host.p3 - moved) byte
+  After (Moving moved until) = moving (moved + 1) until
   After (AwaitingSecond sw1) = Ended (sw1, byte)
   After (Ended status) = Ended status
   After Broken = Broken
@@ -116,7 +151,7 @@ after_taking host byte = After host.stage where
 abbrev pub data_in : HostStage → ℕ → List ℕ
 data_in (SendingHeader sent) byte = []
 data_in (Awaiting moved) byte = []
-data_in (TakingData moved) byte = byte ∷ []
+data_in (Moving moved until) byte = byte ∷ []
 data_in (AwaitingSecond sw1) byte = []
 data_in (Ended status) byte = []
 data_in Broken byte = []
@@ -124,3 +159,21 @@ data_in Broken byte = []
 -- the gather with those
 abbrev pub gathered : Room → List ℕ → Room
 gathered room bytes = record { bytes = room.bytes ++ bytes; limit = room.limit }
+
+-- to the card as many data are foreseen as the end has
+abbrev pub AreForeseen : Direction → List ℕ → ℕ → Type 0
+AreForeseen ToCard content p3 = length content ≡ p3
+AreForeseen FromCard content p3 = content ≡ []
+
+-- what a stage keeps within its ranges, where so many data characters are foreseen
+abbrev pub IsStage : ℕ → HostStage → Type 0
+IsStage n (SendingHeader sent) = sent < 5
+IsStage n (Awaiting moved) = moved ≤ n
+IsStage n (Moving moved until) = (moved < until) × (until ≤ n)
+IsStage n (AwaitingSecond sw1) = IsStatusWord (sw1, 0)
+IsStage n (Ended status) = Unit {0}
+IsStage n Broken = Unit {0}
+
+abbrev pub IsInRange : Hosting → Type 0
+IsInRange host = (ins_is_valid host.header.ins ≡ true) × (host.header.ins < 256) × AreForeseen host.direction host.content host.p3
+    × IsStage (foreseen host.direction host.p3) host.stage

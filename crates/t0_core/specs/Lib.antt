@@ -8,4 +8,5 @@ pub mod Room
 pub mod CardSide
 pub mod CardContract
 pub mod HostSide
+pub mod HostView
 pub mod CardView

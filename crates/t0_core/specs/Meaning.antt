@@ -2,7 +2,9 @@
 use Rattle.std.specs.Prelude.{◌≡◌, ℕ, List, [], ◌∷◌}
 use Rattle.apdu_core.specs.declared.header.Header.{Header}
 use Rattle.apdu_core.specs.StatusWord.{StatusWord}
-use Rattle.t0_core.specs.Dialogue.{Dialogue, Direction, ToCard, FromCard}
+use Rattle.t0_core.specs.declared.direction.Direction.{Direction}
+use Rattle.t0_core.specs.declared.direction.Direction.TheVariants.{ToCard, FromCard}
+use Rattle.t0_core.specs.Dialogue.{Dialogue}
 use Rattle.t0_core.specs.Plan.{Course}
 
 -- a command TPDU and its answer
@@ -56,13 +58,23 @@ IsSending (Receiving ask) P = ⊥
 IsSending (Sending ask bytes) P = P ask bytes
 IsSending (Decided next) P = ⊥
 
+-- it takes the data to the card
+abbrev pub IsReceiving : {State : Type 0} → Prepared State → (Ask → Type 0) → Type 0
+IsReceiving Nothing P = ⊥
+IsReceiving (Receiving ask) P = P ask
+IsReceiving (Sending ask bytes) P = ⊥
+IsReceiving (Decided next) P = ⊥
+
 -- the answer to a TPDU is decided
 abbrev pub Decides : {State : Type 0} → (State → ℕ → Tpdu → State → Type 0) → State → ℕ → Tpdu → Prepared State → Type 0
 Decides {State = State} Does old cut tpdu prepared = (next : State) × (prepared ≡ Decided next) × Does old cut tpdu next
 
--- what a refused header and a sent response are answered
+-- how a refused header, data to the card and data from it are answered
 abbrev pub refused : Ask → StatusWord → Tpdu
 refused ask status = record { header = ask.header; p3 = ask.p3; sent = []; received = []; status = status }
+
+abbrev pub taken_with : Ask → List ℕ → StatusWord → Tpdu
+taken_with ask bytes status = record { header = ask.header; p3 = ask.p3; sent = bytes; received = []; status = status }
 
 abbrev pub answered_with : Ask → List ℕ → StatusWord → Tpdu
 answered_with ask bytes status = record { header = ask.header; p3 = ask.p3; sent = []; received = bytes; status = status }

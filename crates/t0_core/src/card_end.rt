@@ -1,18 +1,19 @@
-ghost use Rattle.std.specs.Prelude.{◌≡◌, ℕ, ◌≤◌, ◌<◌, ◌++◌, List, [], ◌∷◌, length, take, true, is_ok, OnOk, OnErr, IsOk, if◌then◌else◌, slice_index, ◌==◌, IfOk, ◌↔◌, ◌⊎◌, false};
+ghost use Rattle.std.specs.Prelude.{◌≡◌, ℕ, ◌+◌, ◌≤◌, ◌<◌, ◌++◌, List, [], ◌∷◌, length, take, true, is_ok, OnOk, OnErr, IsOk, if◌then◌else◌, slice_index, ◌==◌, IfOk, ◌↔◌, ◌⊎◌, false};
 ghost use Rattle.apdu_core.specs.declared.header.Header.{Header};
 ghost use Rattle.apdu_core.specs.HeaderBytes.{header_bytes, ins_is_valid};
-ghost use Rattle.apdu_core.specs.StatusWord.{count};
-ghost use Rattle.t0_core.specs.Meaning.{IsSending};
-ghost use Rattle.t0_core.specs.CardView.{Fits, IsHeld, IsOpening, stage_of};
-ghost use Rattle.t0_core.specs.CardSide.{StandsAt, Advances, Leads, begins_with, listens, with_character, Taking_header, Sending_data, takes_plan, still_to_go};
-ghost use Rattle.t0_core.specs.Dialogue.{FromCard};
+ghost use Rattle.t0_core.specs.declared.service.Service.{Service};
+ghost use Rattle.t0_core.specs.CardView.{Fits, IsHeld, IsJudged, IsVerdict, IsAfter, KeepsDirection, Refuses, stage_of};
+ghost use Rattle.t0_core.specs.CardSide.{StandsAt, Advances, IsOnPlan, Leads, LeadsUnder, SuitsFront, IsPermitted, IsLast, begins_with, listens, with_character, Taking_header, Serving, takes_plan, still_to_go};
 ghost use Rattle.t0_core.specs.Plan.{Course, advanced, plan_kept};
-ghost use Rattle.t0_core.specs.Front.{Front, In_body, header_only, IsFromCard};
-ghost use Rattle.t0_core.specs.declared.card_end.Phase.TheVariants.{Data};
+ghost use Rattle.t0_core.specs.declared.direction.Direction.{Direction};
+ghost use Rattle.t0_core.specs.Front.{Front, In_body, header_only};
 
-use crate::plan::Plans;
+use crate::direction::Direction;
+use crate::plan::{Plans, Step, next_step};
+use crate::service::{Service, serve};
 use crate::tpdu_card::{TpduCard, Verdict};
-use apdu_core::{Header, Status, count};
+use apdu_core::{Header, Status};
+use std::alloc::Allocator;
 use std::marker::Model;
 
 /// What a card's end does when it may.
@@ -32,32 +33,49 @@ pub struct NotListening;
 #[derive(Clone, Copy, Debug, PartialEq, Eq)]
 pub enum Phase {
     /// The terminal sends the header; so many of its characters have come, 0 to 5.
-    Opening { bytes: [u8; 5], taken: usize },
-    /// The card sends data; so many characters are handed out.
-    Data { header: Header, p3: u8, moved: u16 },
+    Opening {
+        bytes: [u8; 5],
+        taken: usize,
+    },
+    /// The card has refused the header; so many steps of the plan are done.
+    Refused {
+        header: Header,
+        p3: u8,
+        status: Status,
+        done: usize,
+    },
+    /// The card has accepted the header.
+    Accepted {
+        service: Service,
+    },
     /// SW1 is handed out.
-    SecondStatus { status: Status },
+    SecondStatus {
+        status: Status,
+    },
 }
 
 /// The card's end of the line, over a card (ISO/IEC 7816-3, 10.3).
 ///
-/// It takes the header of a TPDU, and then hands out what the card answers, under the next of the
-/// plans that it is given.
+/// It takes the header of a TPDU, and then moves the data and hands out what the card answers, by the
+/// steps of the next of the plans that it is given.
 #[derive(Drop)]
 pub struct CardEnd<C: TpduCard> {
     card: C,
     phase: Phase,
+    /// The data characters that come from the terminal, P3 of them at most.
+    came: [u8; 255],
 }
 
 impl<C: TpduCard> Model for CardEnd<C> {
+    ghost use Rattle.std.specs.Prelude.{◌≡◌, length};
     ghost use Rattle.t0_core.specs.CardSide.{EndOf};
     ghost use Rattle.t0_core.specs.CardView.{Fits, stage_of};
 
     ghost Value = { EndOf C };
 
-    ghost view = { λ e. record { card = e.card; stage = stage_of e.phase } };
+    ghost view = { λ e. record { card = e.card; stage = stage_of e.phase e.came } };
 
-    ghost invariant = { λ e. Fits (C.prepared e.card) e.phase };
+    ghost invariant = { λ e. Fits (C.prepared e.card) e.phase × (length e.came ≡ 255) };
 }
 
 impl<C: TpduCard> CardEnd<C> {
@@ -69,8 +87,13 @@ impl<C: TpduCard> CardEnd<C> {
     pub fn new(card: C) -> CardEnd<C>
         ensures fresh { result ≡ record { card = card; stage = Taking_header [] } }
         ensures led { Leads C.Does (C.standing card) [] (C.standing result.card) (C.prepared result.card) result.stage }
+        ensures led_under { LeadsUnder C.Does (C.standing card) [] [] (C.standing result.card) (C.prepared result.card) result.stage }
     {
-        CardEnd { card, phase: FRESH }
+        CardEnd {
+            card,
+            phase: FRESH,
+            came: [0; 255],
+        }
     }
 
     /// The card.
@@ -85,6 +108,7 @@ impl<C: TpduCard> CardEnd<C> {
         ensures card { C.standing self.new.card ≡ C.after_reset (C.standing self.old.card) }
         ensures stage { self.new.stage ≡ Taking_header [] }
         ensures led { Leads C.Does (C.standing self.new.card) [] (C.standing self.new.card) (C.prepared self.new.card) self.new.stage }
+        ensures led_under { LeadsUnder C.Does (C.standing self.new.card) [] [] (C.standing self.new.card) (C.prepared self.new.card) self.new.stage }
     {
         self.card.reset();
         self.phase = FRESH;
@@ -96,48 +120,65 @@ impl<C: TpduCard> CardEnd<C> {
         ensures listening { is_ok result ≡ listens self.old.stage }
         ensures refused { OnErr result (self.new ≡ self.old) }
         ensures taken { OnOk result (self.new ≡ record { card = self.old.card; stage = with_character self.old.stage byte }) }
+        ensures falls { OnOk result ((plan : Course) (service : Service) (came : List ℕ) → self.old.stage ≡ Serving service came →
+            still_to_go self.new.stage plan < still_to_go self.old.stage plan) }
 
-        // The dialogue under way goes on with it.
-        ensures goes_on { (plan : Course) (front new : Front) →
-            StandsAt C.Does (C.standing self.old.card) (C.prepared self.old.card) self.old.stage plan front →
+        // The dialogue under way goes on with it, and stays on its plan.
+        ensures goes_on { (cut : ℕ) (front new : Front) →
+            StandsAt C.Does (C.standing self.old.card) (C.prepared self.old.card) self.old.stage cut front →
             GoesOn front (Terminal, byte) new →
-            IsOk result × StandsAt C.Does (C.standing self.new.card) (C.prepared self.new.card) self.new.stage plan new }
+            IsOk result × StandsAt C.Does (C.standing self.new.card) (C.prepared self.new.card) self.new.stage cut new
+            × ((plan : Course) → IsOnPlan self.old.stage plan front → IsOnPlan self.new.stage plan new) }
 
         // Whatever led to the end leads to it with this character.
         ensures led { (first : C.State) (came : List Character) →
             Leads C.Does first came (C.standing self.old.card) (C.prepared self.old.card) self.old.stage →
             OnOk result (Leads C.Does first (came ++ (Terminal, byte) ∷ []) (C.standing self.new.card) (C.prepared self.new.card) self.new.stage) }
+        ensures led_under { (first : C.State) (came : List Character) (taken : List Course) →
+            LeadsUnder C.Does first came taken (C.standing self.old.card) (C.prepared self.old.card) self.old.stage →
+            OnOk result (LeadsUnder C.Does first (came ++ (Terminal, byte) ∷ []) taken (C.standing self.new.card) (C.prepared self.new.card) self.new.stage) }
     {
-        self.phase = phase_with(self.phase, byte)?;
+        self.phase = phase_with(self.phase, byte, &mut self.came)?;
         Ok(())
     }
 
     /// Hands out the card's next character, if it is the card's turn; else nothing changes.
     ///
-    /// With the first character after a header the next of the plans is taken; as yet its steps are
-    /// left aside. With the second status character the card's state changes.
-    pub fn turn(&mut self, plans: &mut Plans) -> Turn
+    /// With the first character after a header the next of the plans is taken. The steps done are
+    /// counted, and the end goes on from that count in the plan that the cursor keeps. With the second
+    /// status character the card's state changes.
+    pub fn turn<A: Allocator>(&mut self, plans: &mut Plans<A>) -> Turn
         ensures whose { (result ≡ Turn.Listens) ↔ (listens self.old.stage ≡ true) }
         ensures listens { result ≡ Turn.Listens → self.new ≡ self.old }
         ensures plan { plans.new ≡ (if takes_plan self.old.stage then advanced plans.old else plans.old) }
-        ensures falls { (byte : ℕ) → result ≡ Turn.Sends byte →
-            (self.new.stage ≡ Taking_header []) ⊎ (still_to_go self.new.stage < still_to_go self.old.stage) }
+        ensures falls { (byte : ℕ) → result ≡ Turn.Sends byte → (self.new.stage ≡ Taking_header [])
+            ⊎ (still_to_go self.new.stage (plan_kept plans.new) < still_to_go self.old.stage (plan_kept plans.new)) }
 
-        // The dialogue under way goes on with it, or ends, under a plan without steps.
-        ensures advances { (byte : ℕ) (plan : Course) (front : Front) → result ≡ Turn.Sends byte → plan.steps ≡ [] → IsFromCard front →
-            (takes_plan self.old.stage ≡ true → plan ≡ plan_kept plans.new) →
-            StandsAt C.Does (C.standing self.old.card) (C.prepared self.old.card) self.old.stage plan front →
-            Advances C.Does plan front byte (C.standing self.old.card) (C.standing self.new.card) (C.prepared self.new.card) self.new.stage }
+        // To this instruction the card may give this verdict.
+        ensures permitted { (header : Header) (p3 : ℕ) → self.old.stage ≡ Taking_header (begins_with header p3) →
+            IsPermitted C.MayReceive C.MaySend header.ins self.new.stage }
 
-        // Whatever led to the end leads to it with this character, over the empty list of plans.
-        ensures led { (first : C.State) (came : List Character) (byte : ℕ) → result ≡ Turn.Sends byte → plans.old.rest ≡ [] →
+        // The dialogue under way goes on with it, or ends.
+        ensures advances { (byte cut : ℕ) (front : Front) → result ≡ Turn.Sends byte →
+            (takes_plan self.old.stage ≡ true → (cut ≡ (plan_kept plans.new).cut) × SuitsFront self.new.stage front) →
+            StandsAt C.Does (C.standing self.old.card) (C.prepared self.old.card) self.old.stage cut front →
+            Advances C.Does cut (plan_kept plans.new) self.old.stage front byte
+            (C.standing self.old.card) (C.standing self.new.card) (C.prepared self.new.card) self.new.stage }
+
+        // Whatever led to the end leads to it with this character.
+        ensures led { (first : C.State) (came : List Character) (byte : ℕ) → result ≡ Turn.Sends byte →
             Leads C.Does first came (C.standing self.old.card) (C.prepared self.old.card) self.old.stage →
             Leads C.Does first (came ++ (Card, byte) ∷ []) (C.standing self.new.card) (C.prepared self.new.card) self.new.stage }
+        ensures led_under { (first : C.State) (came : List Character) (taken : List Course) (byte : ℕ) → result ≡ Turn.Sends byte →
+            LeadsUnder C.Does first came taken (C.standing self.old.card) (C.prepared self.old.card) self.old.stage →
+            (takes_plan self.old.stage ≡ false → IsLast (plan_kept plans.old) taken) →
+            LeadsUnder C.Does first (came ++ (Card, byte) ∷ []) (if takes_plan self.old.stage then taken ++ plan_kept plans.new ∷ [] else taken)
+            (C.standing self.new.card) (C.prepared self.new.card) self.new.stage }
     {
-        if is_listening(self.phase) {
+        if is_listening(&self.phase) {
             return Turn::Listens;
         }
-        let (phase, byte) = hand_out(&mut self.card, self.phase, plans);
+        let (phase, byte) = hand_out(&mut self.card, self.phase, &self.came, plans);
         self.phase = phase;
         Turn::Sends(byte)
     }
@@ -150,46 +191,137 @@ const FRESH: Phase = Phase::Opening {
 };
 
 /// Whether the next character is the terminal's.
-fn is_listening(phase: Phase) -> bool
-    requires { IsHeld phase }
-    ensures { result ≡ listens (stage_of phase) }
-{
-    matches!(phase, Phase::Opening { taken, .. } if taken < 5)
-}
-
-/// The phase with one more character of the terminal.
-fn phase_with(phase: Phase, byte: u8) -> Result<Phase, NotListening>
-    requires { IsHeld phase }
-    ensures listening { is_ok result ≡ listens (stage_of phase) }
-    ensures taken { IfOk result (λ new. (stage_of new ≡ with_character (stage_of phase) byte) × IsOpening new) }
+fn is_listening(phase: &Phase) -> bool
+    requires { IsHeld phase.now }
+    ensures { (came : List ℕ) → result ≡ listens (stage_of phase.now came) }
 {
     match phase {
-        Phase::Opening { mut bytes, taken } if taken < 5 => {
+        Phase::Opening { taken, .. } => *taken < 5,
+        Phase::Accepted { service } => service.is_listening(),
+        Phase::Refused { .. } | Phase::SecondStatus { .. } => false,
+    }
+}
+
+/// The phase with one more character of the terminal. A data character goes to its place in `came`.
+fn phase_with(phase: Phase, byte: u8, came: &mut [u8; 255]) -> Result<Phase, NotListening>
+    requires held { IsHeld phase }
+    requires room { length came.old ≡ 255 }
+    ensures listening { is_ok result ≡ listens (stage_of phase came.old) }
+    ensures taken { IfOk result (λ new. stage_of new came.new ≡ with_character (stage_of phase came.old) byte) }
+    ensures room { length came.new ≡ 255 }
+    ensures refused { OnErr result (came.new ≡ came.old) }
+    ensures fits { IfOk result (λ new. IsAfter phase new) }
+{
+    if !is_listening(&phase) {
+        return Err(NotListening);
+    }
+    match phase {
+        Phase::Opening { mut bytes, taken } => {
             bytes[taken] = byte;
             Ok(Phase::Opening {
                 bytes,
                 taken: taken + 1,
             })
         }
-        _ => Err(NotListening),
+        Phase::Accepted { service } => {
+            came[service.moved() as usize] = byte;
+            let service = service.one_moved();
+            Ok(Phase::Accepted { service })
+        }
+        Phase::Refused { .. } | Phase::SecondStatus { .. } => unreachable!(),
     }
 }
 
 /// The card's next character, and the phase after it.
-fn hand_out<C: TpduCard>(card: &mut C, phase: Phase, plans: &mut Plans) -> (Phase, u8)
+fn hand_out<C: TpduCard, A: Allocator>(
+    card: &mut C,
+    phase: Phase,
+    came: &[u8; 255],
+    plans: &mut Plans<A>,
+) -> (Phase, u8)
     requires fits { Fits (C.prepared card.old) phase }
-    requires due { listens (stage_of phase) ≡ false }
+    requires room { length came.now ≡ 255 }
+    requires due { listens (stage_of phase came.now) ≡ false }
     ensures fits { Fits (C.prepared card.new) result.0 }
-    ensures plan { plans.new ≡ (if takes_plan (stage_of phase) then advanced plans.old else plans.old) }
-    ensures falls { (stage_of result.0 ≡ Taking_header []) ⊎ (still_to_go (stage_of result.0) < still_to_go (stage_of phase)) }
-    ensures advances { (plan : Course) (front : Front) → plan.steps ≡ [] → IsFromCard front →
-        (takes_plan (stage_of phase) ≡ true → plan ≡ plan_kept plans.new) →
-        StandsAt C.Does (C.standing card.old) (C.prepared card.old) (stage_of phase) plan front →
-        Advances C.Does plan front result.1 (C.standing card.old) (C.standing card.new) (C.prepared card.new) (stage_of result.0) }
+    ensures plan { plans.new ≡ (if takes_plan (stage_of phase came.now) then advanced plans.old else plans.old) }
+    ensures falls { (stage_of result.0 came.now ≡ Taking_header [])
+        ⊎ (still_to_go (stage_of result.0 came.now) (plan_kept plans.new) < still_to_go (stage_of phase came.now) (plan_kept plans.new)) }
+    ensures permitted { (header : Header) (p3 : ℕ) → stage_of phase came.now ≡ Taking_header (begins_with header p3) →
+        IsPermitted C.MayReceive C.MaySend header.ins (stage_of result.0 came.now) }
+    ensures advances { (cut : ℕ) (front : Front) →
+        (takes_plan (stage_of phase came.now) ≡ true → (cut ≡ (plan_kept plans.new).cut) × SuitsFront (stage_of result.0 came.now) front) →
+        StandsAt C.Does (C.standing card.old) (C.prepared card.old) (stage_of phase came.now) cut front →
+        Advances C.Does cut (plan_kept plans.new) (stage_of phase came.now) front result.1
+        (C.standing card.old) (C.standing card.new) (C.prepared card.new) (stage_of result.0 came.now) }
 {
     match phase {
-        Phase::Opening { bytes, .. } => begin(card, bytes, plans.advance()),
-        Phase::Data { header, p3, moved } => send(card, header, p3, moved),
+        Phase::Opening { bytes, .. } => {
+            let verdict = judged(card, bytes, plans.advance());
+            go_on(card, verdict, came, plans.steps())
+        }
+        Phase::Refused { .. } | Phase::Accepted { .. } | Phase::SecondStatus { .. } => {
+            go_on(card, phase, came, plans.steps())
+        }
+    }
+}
+
+/// The card's verdict on a header.
+fn judged<C: TpduCard>(card: &mut C, bytes: [u8; 5], cut: u16) -> Phase
+    requires { length bytes ≡ 5 }
+    ensures fits { Fits (C.prepared card.new) result }
+    ensures judged { IsVerdict result }
+    ensures due { (came : List ℕ) → listens (stage_of result came) ≡ false }
+    ensures falls { (came : List ℕ) (plan : Course) → still_to_go (stage_of result came) plan < length plan.steps + 300 }
+    ensures stands { C.standing card.new ≡ C.standing card.old }
+    ensures permitted { (header : Header) (p3 : ℕ) (came : List ℕ) → bytes ≡ begins_with header p3 →
+        IsPermitted C.MayReceive C.MaySend header.ins (stage_of result came) }
+    ensures opens { (header : Header) (p3 : ℕ) (direction : Direction) (came : List ℕ) → bytes ≡ begins_with header p3 →
+        SuitsFront (stage_of result came) (In_body (header_only header p3 direction)) →
+        StandsAt C.Does (C.standing card.old) (C.prepared card.new) (stage_of result came) cut (In_body (header_only header p3 direction))
+        × ((plan : Course) → IsOnPlan (stage_of result came) plan (In_body (header_only header p3 direction))) }
+{
+    let [cla, ins, p1, p2, p3] = bytes;
+    let header = Header { cla, ins, p1, p2 };
+    match card.header(header, p3, cut) {
+        Verdict::Refuse(status) => Phase::Refused {
+            header,
+            p3,
+            status,
+            done: 0,
+        },
+        Verdict::Receive => Phase::Accepted {
+            service: Service::new(header, p3, Direction::ToCard),
+        },
+        Verdict::Send => Phase::Accepted {
+            service: Service::new(header, p3, Direction::FromCard),
+        },
+    }
+}
+
+/// The card's next character after its verdict, and the phase after it.
+fn go_on<C: TpduCard>(card: &mut C, phase: Phase, came: &[u8; 255], steps: &[Step]) -> (Phase, u8)
+    requires judged { IsJudged phase }
+    requires fits { Fits (C.prepared card.old) phase }
+    requires room { length came.now ≡ 255 }
+    requires due { listens (stage_of phase came.now) ≡ false }
+    ensures fits { Fits (C.prepared card.new) result.0 }
+    ensures falls { (plan : Course) → plan.steps ≡ steps.now → (stage_of result.0 came.now ≡ Taking_header [])
+        ⊎ (still_to_go (stage_of result.0 came.now) plan < still_to_go (stage_of phase came.now) plan) }
+    ensures keeps { KeepsDirection (stage_of phase came.now) (stage_of result.0 came.now) }
+    ensures advances { (cut : ℕ) (plan : Course) (front : Front) → plan.steps ≡ steps.now →
+        StandsAt C.Does (C.standing card.old) (C.prepared card.old) (stage_of phase came.now) cut front →
+        Advances C.Does cut plan (stage_of phase came.now) front result.1
+        (C.standing card.old) (C.standing card.new) (C.prepared card.new) (stage_of result.0 came.now) }
+{
+    match phase {
+        Phase::Opening { .. } => unreachable!(),
+        Phase::Refused {
+            header,
+            p3,
+            status,
+            done,
+        } => refuse(header, p3, status, done, steps),
+        Phase::Accepted { service } => serve(card, service, came, steps),
         Phase::SecondStatus { status } => {
             card.answered();
             (FRESH, status.sw2())
@@ -197,43 +329,20 @@ fn hand_out<C: TpduCard>(card: &mut C, phase: Phase, plans: &mut Plans) -> (Phas
     }
 }
 
-/// The first character after a header.
-fn begin<C: TpduCard>(card: &mut C, bytes: [u8; 5], cut: u16) -> (Phase, u8)
-    ensures fits { Fits (C.prepared card.new) result.0 }
-    ensures falls { still_to_go (stage_of result.0) < 300 }
-    ensures advances { (plan : Course) (header : Header) (p3 : ℕ) → plan.steps ≡ [] → plan.cut ≡ cut → bytes ≡ begins_with header p3 →
-        Advances C.Does plan (In_body (header_only header p3 FromCard)) result.1
-        (C.standing card.old) (C.standing card.new) (C.prepared card.new) (stage_of result.0) }
+/// The next character after a refused header, and the phase after it: a NULL, or SW1.
+fn refuse(header: Header, p3: u8, status: Status, done: usize, steps: &[Step]) -> (Phase, u8)
+    ensures { Refuses header p3 status done steps.now result.0 result.1 }
 {
-    let [cla, ins, p1, p2, p3] = bytes;
-    let header = Header { cla, ins, p1, p2 };
-    match card.header(header, p3, cut) {
-        Verdict::Refuse(status) => (Phase::SecondStatus { status }, status.sw1()),
-        Verdict::Send => (
-            Phase::Data {
+    match next_step(steps, done, 0) {
+        Some((_, done)) => (
+            Phase::Refused {
                 header,
                 p3,
-                moved: 0,
+                status,
+                done,
             },
-            ins,
+            0x60,
         ),
+        None => (Phase::SecondStatus { status }, status.sw1()),
     }
-}
-
-/// The next data character, or SW1 after the last.
-fn send<C: TpduCard>(card: &mut C, header: Header, p3: u8, moved: u16) -> (Phase, u8)
-    requires { Fits (C.prepared card.old) (Data header p3 moved) }
-    ensures fits { Fits (C.prepared card.new) result.0 }
-    ensures falls { still_to_go (stage_of result.0) < still_to_go (Sending_data header p3 moved) }
-    ensures advances { (plan : Course) (front : Front) → plan.steps ≡ [] →
-        StandsAt C.Does (C.standing card.old) (C.prepared card.old) (Sending_data header p3 moved) plan front →
-        Advances C.Does plan front result.1 (C.standing card.old) (C.standing card.new) (C.prepared card.new) (stage_of result.0) }
-{
-    if moved < count(p3) {
-        let byte = card.byte(moved);
-        let moved = moved + 1;
-        return (Phase::Data { header, p3, moved }, byte);
-    }
-    let status = card.end_of_sending();
-    (Phase::SecondStatus { status }, status.sw1())
 }

@@ -1,15 +1,18 @@
-ghost use Rattle.std.specs.Prelude.{◌≡◌, ℕ, ◌≤◌, ◌<◌, ◌++◌, [], ◌∷◌, true, slice_index, OnOk, OnErr, MatchResult, IsOk, length};
+ghost use Rattle.std.specs.Prelude.{◌≡◌, ℕ, ◌≤◌, ◌<◌, [], ◌∷◌, true, OnOk, IfErr, MatchResult, IsOk, length, IfOk, is_ok, if◌then◌else◌};
 ghost use Rattle.std.specs.Result.{result_err};
-ghost use Rattle.apdu_core.specs.HeaderBytes.{header_bytes, ins_is_valid};
+ghost use Rattle.apdu_core.specs.HeaderBytes.{ins_is_valid};
 ghost use Rattle.apdu_core.specs.StatusWord.{count};
-ghost use Rattle.std.specs.Prelude.{IfOk, is_ok, if◌then◌else◌};
 ghost use Rattle.t0_core.specs.declared.host_end.HostStage.TheVariants.{Awaiting};
+ghost use Rattle.t0_core.specs.declared.direction.Direction.TheVariants.{ToCard, FromCard};
 ghost use Rattle.t0_core.specs.Room.{Room};
-ghost use Rattle.t0_core.specs.HostSide.{IsInRange, turn_of, after_turn, fault_of, after_fault, after_taking, data_in, gathered};
+ghost use Rattle.t0_core.specs.HostSide.{IsInRange, IsStage, turn_of, data_turn, after_turn, moving, fault_of, data_fault, after_fault, after_taking, data_in, gathered};
+ghost use Rattle.t0_core.specs.HostView.{host_of, direction_of, content_of};
 
 use crate::gather::Gather;
 use crate::line_fault::LineFault;
-use apdu_core::{Header, Status, count};
+use crate::procedure::{moves, step_of};
+use crate::request::{Request, Transfer, foreseen, opening_character};
+use apdu_core::{Header, Status};
 use std::alloc::Allocator;
 use std::marker::Model;
 
@@ -31,10 +34,10 @@ pub enum HostTurn {
 pub enum HostStage {
     /// So many characters of the header are handed out, 0 to 4.
     SendingHeader { sent: usize },
-    /// A procedure byte or SW1 is due; so many data characters have come.
+    /// A procedure byte or SW1 is due; so many data characters have moved.
     Awaiting { moved: u16 },
-    /// Data characters come, up to those that P3 counts; so many have come.
-    TakingData { moved: u16 },
+    /// Data characters move, one way or the other, until so many have.
+    Moving { moved: u16, until: u16 },
     /// SW2 is due.
     AwaitingSecond { sw1: u8 },
     /// The TPDU has ended.
@@ -43,42 +46,70 @@ pub enum HostStage {
     Broken,
 }
 
-/// The terminal's end of one TPDU that asks for data (ISO/IEC 7816-3, 10.3).
+/// The terminal's end of one TPDU (ISO/IEC 7816-3, 10.3).
+///
+/// It sends the header, and then follows the card: after each procedure byte data move, as many as
+/// that byte says, and the status ends it, whether or not all data have moved.
 #[derive(Drop)]
-pub struct HostEnd {
-    header: Header,
-    p3: u8,
+pub struct HostEnd<'a> {
+    request: Request<'a>,
     stage: HostStage,
 }
 
-impl Model for HostEnd {
-    ghost use Rattle.t0_core.specs.HostSide.{Asking, IsInRange};
+impl<'a> Model for HostEnd<'a> {
+    ghost use Rattle.t0_core.specs.HostSide.{Hosting, IsInRange};
+    ghost use Rattle.t0_core.specs.HostView.{host_of};
 
-    ghost Value = { Asking };
+    ghost Value = { Hosting };
 
-    ghost view = { λ e. record { header = e.header; p3 = e.p3; stage = e.stage } };
+    ghost view = { λ e. host_of e.request e.stage };
 
-    ghost invariant = { λ e. IsInRange (record { header = e.header; p3 = e.p3; stage = e.stage }) };
+    ghost invariant = { λ e. IsInRange (host_of e.request e.stage) };
 }
 
-impl HostEnd {
+impl<'a> HostEnd<'a> {
     ghost use Rattle.t0_core.specs.declared.end.End.TheVariants.{Terminal, Card};
     ghost use Rattle.t0_core.specs.declared.host_end.HostStage.TheVariants.{SendingHeader, Ended};
     ghost use Rattle.t0_core.specs.Dialogue.{Dialogue};
-    ghost use Rattle.t0_core.specs.Front.{Front, GoesOn, Ends, IsPlain};
+    ghost use Rattle.t0_core.specs.Front.{Front, GoesOn, Ends};
     ghost use Rattle.t0_core.specs.HostSide.{at_stage, HostStandsAt};
 
-    /// An end that asks the card for so many bytes, 1 to 256, under a header with a valid INS.
-    pub fn asking(header: Header, wanted: u16) -> HostEnd
+    /// An end that sends the card these bytes, at most 255, under a header with a valid INS. P3 is
+    /// their number.
+    pub fn sending(header: Header, content: &'a [u8]) -> HostEnd<'a>
+        requires valid { ins_is_valid header.ins ≡ true }
+        requires counts { length content.now ≤ 255 }
+        ensures header { result.header ≡ header }
+        ensures p3 { result.p3 ≡ length content.now }
+        ensures data { (result.direction ≡ ToCard) × (result.content ≡ content.now) }
+        ensures stage { result.stage ≡ SendingHeader 0 }
+    {
+        HostEnd {
+            request: Request {
+                header,
+                p3: content.len() as u8,
+                transfer: Transfer::Sending(content),
+            },
+            stage: HostStage::SendingHeader { sent: 0 },
+        }
+    }
+
+    /// An end that asks the card for so many bytes, 1 to 256, under a header with a valid INS. P3
+    /// counts them, `00` for 256.
+    pub fn asking(header: Header, wanted: u16) -> HostEnd<'a>
         requires valid { ins_is_valid header.ins ≡ true }
         requires counts { (1 ≤ wanted) × (wanted ≤ 256) }
         ensures header { result.header ≡ header }
         ensures p3 { (count result.p3 ≡ wanted) × (result.p3 < 256) }
+        ensures data { (result.direction ≡ FromCard) × (result.content ≡ []) }
         ensures stage { result.stage ≡ SendingHeader 0 }
     {
         HostEnd {
-            header,
-            p3: (wanted % 256) as u8,
+            request: Request {
+                header,
+                p3: (wanted % 256) as u8,
+                transfer: Transfer::Asking,
+            },
             stage: HostStage::SendingHeader { sent: 0 },
         }
     }
@@ -86,40 +117,43 @@ impl HostEnd {
     /// What the end does now. A character to send is handed out; nothing else changes anything.
     pub fn next(&mut self) -> HostTurn
         ensures turn { result ≡ turn_of self.old }
-        ensures after { self.new ≡ at_stage self.old (after_turn self.old.stage) }
+        ensures after { self.new ≡ at_stage self.old (after_turn self.old) }
+
+        // With it a dialogue that the end opened goes on.
         ensures goes_on { (front : Front) (byte : ℕ) → HostStandsAt self.old front → result ≡ HostTurn.Sends byte →
-            (new : Front) × GoesOn front (Terminal, byte) new × IsPlain new × HostStandsAt self.new new }
+            (new : Front) × GoesOn front (Terminal, byte) new × HostStandsAt self.new new }
     {
-        let turn = turn_at(self.header, self.p3, self.stage);
-        self.stage = stage_after(self.stage);
+        let turn = turn_at(self.request, self.stage);
+        self.stage = stage_after(self.request, self.stage);
         turn
     }
 
     /// Takes a character of the card; a data character goes into the gather.
     ///
-    /// `BadProcedure` comes where a procedure byte is due and this is neither INS nor a first status
-    /// byte, `TooLong` where a data character is due and the gather is full: then the end has failed.
-    /// `AfterEnd` comes where the TPDU has ended or the end has failed, `NotListening` where it has
-    /// characters to send: these change nothing. No fault changes the gather.
+    /// `BadProcedure` comes where a procedure byte is due and this is neither `60`, INS, INS xor `FF`
+    /// nor a first status byte, `TooLong` where a data character of the card is due and the gather is
+    /// full: then the end has failed (this project's profile). `AfterEnd` comes where the TPDU has
+    /// ended or the end has failed, `NotListening` where it has characters to send: these change
+    /// nothing. No fault changes the gather.
     pub fn take<A: Allocator>(&mut self, byte: u8, gather: &mut Gather<A>) -> Result<(), LineFault>
         ensures fault { result_err result ≡ fault_of self.old gather.old byte }
-        ensures refused { OnErr result ((self.new ≡ at_stage self.old (after_fault self.old.stage)) × (gather.new ≡ gather.old)) }
+        ensures refused { IfErr result (λ fault. (self.new ≡ at_stage self.old (after_fault self.old.stage fault)) × (gather.new ≡ gather.old)) }
         ensures taken { OnOk result ((self.new ≡ at_stage self.old (after_taking self.old byte))
             × (gather.new ≡ gathered gather.old (data_in self.old.stage byte))) }
 
         // It takes each dialogue that it opened, where there is room for the data.
-        ensures goes_on { (front new : Front) → HostStandsAt self.old front → GoesOn front (Card, byte) new → IsPlain new →
+        ensures goes_on { (front new : Front) → HostStandsAt self.old front → GoesOn front (Card, byte) new →
             MatchResult result (λ _. HostStandsAt self.new new) (λ fault. fault ≡ LineFault.TooLong) }
         ensures ends { (front : Front) (d : Dialogue) → HostStandsAt self.old front → Ends front (Card, byte) d →
             IsOk result × (self.new.stage ≡ Ended d.status) }
     {
-        match stage_with(self.header, self.p3, self.stage, byte, gather) {
+        match stage_with(self.request, self.stage, byte, gather) {
             Ok(stage) => {
                 self.stage = stage;
                 Ok(())
             }
             Err(fault) => {
-                self.stage = broken_by(self.stage);
+                self.stage = stage_after_fault(self.stage, fault);
                 Err(fault)
             }
         }
@@ -127,60 +161,81 @@ impl HostEnd {
 }
 
 /// What an end at this stage does.
-fn turn_at(header: Header, p3: u8, stage: HostStage) -> HostTurn
-    requires { IsInRange (record { header = header; p3 = p3; stage = stage }) }
-    ensures { result ≡ turn_of (record { header = header; p3 = p3; stage = stage }) }
+fn turn_at(request: Request, stage: HostStage) -> HostTurn
+    requires { IsInRange (host_of request stage) }
+    ensures { result ≡ turn_of (host_of request.entry stage) }
 {
     match stage {
-        HostStage::SendingHeader { sent } => HostTurn::Sends(opening_character(header, p3, sent)),
-        HostStage::Awaiting { .. }
-        | HostStage::TakingData { .. }
-        | HostStage::AwaitingSecond { .. } => HostTurn::Listens,
+        HostStage::SendingHeader { sent } => {
+            HostTurn::Sends(opening_character(request.header, request.p3, sent))
+        }
+        HostStage::Moving { moved, .. } => turn_in_data(request.transfer, moved),
+        HostStage::Awaiting { .. } | HostStage::AwaitingSecond { .. } => HostTurn::Listens,
         HostStage::Ended { status } => HostTurn::Done(status),
         HostStage::Broken => HostTurn::Failed,
     }
 }
 
+/// What an end does while data move.
+fn turn_in_data(transfer: Transfer, moved: u16) -> HostTurn
+    requires { direction_of transfer ≡ ToCard → moved < length (content_of transfer) }
+    ensures { result ≡ data_turn (direction_of transfer.entry) (content_of transfer.entry) moved }
+{
+    match transfer {
+        Transfer::Sending(content) => HostTurn::Sends(content[usize::from(moved)]),
+        Transfer::Asking => HostTurn::Listens,
+    }
+}
+
 /// The stage after that turn.
-fn stage_after(stage: HostStage) -> HostStage
-    ensures { result ≡ after_turn stage }
+fn stage_after(request: Request, stage: HostStage) -> HostStage
+    requires { IsInRange (host_of request stage) }
+    ensures value { result ≡ after_turn (host_of request.entry stage) }
+    ensures range { IsInRange (host_of request.entry result) }
 {
     match stage {
         HostStage::SendingHeader { sent } if sent < 4 => HostStage::SendingHeader {
             sent: sent + 1,
         },
         HostStage::SendingHeader { .. } => HostStage::Awaiting { moved: 0 },
+        HostStage::Moving { moved, until } => match request.transfer {
+            Transfer::Sending(_) => stage_moving(moved + 1, until),
+            Transfer::Asking => stage,
+        },
         later => later,
+    }
+}
+
+/// Data characters move up to this place, if they are not there yet.
+fn stage_moving(moved: u16, until: u16) -> HostStage
+    ensures value { result ≡ moving moved until }
+    ensures range { (n : ℕ) → moved ≤ until → until ≤ n → IsStage n result }
+{
+    if moved < until {
+        HostStage::Moving { moved, until }
+    } else {
+        HostStage::Awaiting { moved }
     }
 }
 
 /// The stage after a character of the card, or the fault that it is.
 fn stage_with<A: Allocator>(
-    header: Header,
-    p3: u8,
+    request: Request,
     stage: HostStage,
     byte: u8,
     gather: &mut Gather<A>,
 ) -> Result<HostStage, LineFault>
-    requires { IsInRange (record { header = header; p3 = p3; stage = stage }) }
-    ensures fault { result_err result ≡ fault_of (record { header = header; p3 = p3; stage = stage }) gather.old byte }
-    ensures next { IfOk result (λ next. (next ≡ after_taking (record { header = header; p3 = p3; stage = stage }) byte)
-        × IsInRange (record { header = header; p3 = p3; stage = next })) }
+    requires { IsInRange (host_of request stage) }
+    ensures fault { result_err result ≡ fault_of (host_of request.entry stage) gather.old byte }
+    ensures next { IfOk result (λ next. (next ≡ after_taking (host_of request.entry stage) byte) × IsInRange (host_of request.entry next)) }
     ensures gathered { gather.new ≡ (if is_ok result then gathered gather.old (data_in stage byte) else gather.old) }
 {
     match stage {
         HostStage::SendingHeader { .. } => Err(LineFault::NotListening),
-        HostStage::Awaiting { moved } => after_procedure_byte(header, p3, moved, byte),
-        HostStage::TakingData { moved } => {
-            if gather.is_full() {
-                return Err(LineFault::TooLong);
-            }
-            gather.push(byte);
-            Ok(if moved + 1 < count(p3) {
-                HostStage::TakingData { moved: moved + 1 }
-            } else {
-                HostStage::Awaiting { moved: moved + 1 }
-            })
+        HostStage::Awaiting { moved } => after_procedure_byte(request, moved, byte),
+        HostStage::Moving { moved, until } => {
+            take_data(request.transfer, byte, gather)?;
+            Ok(stage_moving(moved + 1, until))
         }
         HostStage::AwaitingSecond { sw1 } => Ok(HostStage::Ended {
             status: Status::new(sw1, byte).unwrap(),
@@ -190,23 +245,14 @@ fn stage_with<A: Allocator>(
 }
 
 /// The stage after a character where a procedure byte is due.
-fn after_procedure_byte(
-    header: Header,
-    p3: u8,
-    moved: u16,
-    byte: u8,
-) -> Result<HostStage, LineFault>
-    requires { IsInRange (record { header = header; p3 = p3; stage = Awaiting moved }) }
-    ensures fault { (room : Room) → result_err result ≡ fault_of (record { header = header; p3 = p3; stage = Awaiting moved }) room byte }
-    ensures next { IfOk result (λ next. (next ≡ after_taking (record { header = header; p3 = p3; stage = Awaiting moved }) byte)
-        × IsInRange (record { header = header; p3 = p3; stage = next })) }
+fn after_procedure_byte(request: Request, moved: u16, byte: u8) -> Result<HostStage, LineFault>
+    requires { IsInRange (host_of request (Awaiting moved)) }
+    ensures fault { (room : Room) → result_err result ≡ fault_of (host_of request.entry (Awaiting moved)) room byte }
+    ensures next { IfOk result (λ next. (next ≡ after_taking (host_of request.entry (Awaiting moved)) byte) × IsInRange (host_of request.entry next)) }
 {
-    if byte == header.ins {
-        return Ok(if moved < count(p3) {
-            HostStage::TakingData { moved }
-        } else {
-            HostStage::Awaiting { moved }
-        });
+    if let Some(step) = step_of(request.header.ins, byte) {
+        let remain = foreseen(request.transfer, request.p3) - moved;
+        return Ok(stage_moving(moved, moved + moves(step, remain)));
     }
     match byte {
         0x61..=0x6F | 0x90..=0x9F => Ok(HostStage::AwaitingSecond { sw1: byte }),
@@ -214,26 +260,31 @@ fn after_procedure_byte(
     }
 }
 
-/// Where a fault leaves an end at this stage: what it can't take breaks it.
-fn broken_by(stage: HostStage) -> HostStage
-    ensures { result ≡ after_fault stage }
+/// Takes a data character of the card, where data move.
+fn take_data<A: Allocator>(
+    transfer: Transfer,
+    byte: u8,
+    gather: &mut Gather<A>,
+) -> Result<(), LineFault>
+    ensures fault { result_err result ≡ data_fault (direction_of transfer.entry) gather.old }
+    ensures gathered { gather.new ≡ (if is_ok result then gathered gather.old (byte ∷ []) else gather.old) }
 {
-    match stage {
-        HostStage::SendingHeader { .. } | HostStage::Ended { .. } => stage,
-        _ => HostStage::Broken,
+    if let Transfer::Sending(_) = transfer {
+        return Err(LineFault::NotListening);
     }
+    if gather.is_full() {
+        return Err(LineFault::TooLong);
+    }
+    gather.push(byte);
+    Ok(())
 }
 
-/// One of the five characters that open a TPDU: CLA INS P1 P2 P3.
-fn opening_character(header: Header, p3: u8, at: usize) -> u8
-    requires { at < 5 }
-    ensures { result ≡ slice_index (header_bytes header ++ p3 ∷ []) at }
+/// Where a fault leaves an end at this stage: what it can't take breaks it.
+fn stage_after_fault(stage: HostStage, fault: LineFault) -> HostStage
+    ensures { result ≡ after_fault stage fault }
 {
-    match at {
-        0 => header.cla,
-        1 => header.ins,
-        2 => header.p1,
-        3 => header.p2,
-        _ => p3,
+    match fault {
+        LineFault::BadProcedure(_) | LineFault::TooLong => HostStage::Broken,
+        LineFault::NotListening | LineFault::AfterEnd => stage,
     }
 }

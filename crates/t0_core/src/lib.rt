@@ -2,13 +2,17 @@
 #![tactic(auto)]
 
 mod card_end;
+mod direction;
 mod end;
 mod gather;
 mod host_end;
 pub mod laws;
 mod line_fault;
 mod plan;
+mod procedure;
 mod recorder;
+mod request;
+mod service;
 mod tpdu_card;
 mod watch;
 
@@ -22,5 +26,9 @@ pub use recorder::Recorder;
 pub use tpdu_card::{TpduCard, Verdict};
 pub use watch::{Silent, Watch};
 
+#[cfg(test)]
+mod card_tests;
+#[cfg(test)]
+mod test_card;
 #[cfg(test)]
 mod tests;

@@ -1,28 +1,141 @@
 use crate::{End, Gather, HostEnd, HostTurn, LineFault, Recorder, Silent, Watch};
 use apdu_core::Header;
 use linked_list_allocator::LocalHeap;
+use std::alloc::Global;
+use std::process::Abort;
 use std::test::Fail;
 
-/// GET DATA of `5F20`.
-const GET_NAME: Header = Header {
+/// GET DATA of `0000`.
+const GET: Header = Header {
     cla: 0x00,
     ins: 0xCA,
-    p1: 0x5F,
-    p2: 0x20,
+    p1: 0x00,
+    p2: 0x00,
 };
+
+/// PUT DATA of `0000`.
+const PUT: Header = Header {
+    cla: 0x00,
+    ins: 0xDA,
+    p1: 0x00,
+    p2: 0x00,
+};
+
+/// Passes these characters, run by run: a terminal's end hands out its own and takes the card's.
+fn pass(
+    rt: &impl Abort,
+    end: &mut HostEnd<'_>,
+    gather: &mut Gather<Global>,
+    runs: &[(End, &[u8])],
+) {
+    for (from, bytes) in runs {
+        for &byte in *bytes {
+            if *from == End::Terminal {
+                assert_eq!(rt; end.next(), HostTurn::Sends(byte), "{bytes:?}");
+            } else {
+                assert_eq!(rt; end.next(), HostTurn::Listens, "{bytes:?}");
+                assert_eq!(rt; end.take(byte, gather), Ok(()), "{bytes:?}");
+            }
+        }
+    }
+}
+
+/// The TPDU has ended with this status word.
+fn is_done(rt: &impl Abort, end: &mut HostEnd<'_>, word: u16) {
+    let HostTurn::Done(status) = end.next() else {
+        panic!(rt; "{word} was to come")
+    };
+    assert_eq!(rt; u16::from_be_bytes([status.sw1(), status.sw2()]), word);
+}
+
+#[test]
+fn takes_data_under_each_procedure_byte(rt: HostRuntime) -> Result<(), Fail> {
+    for (characters, data, word) in [
+        (
+            b"\xCA\x60\x60\x90\x00".as_slice(),
+            b"\x60\x60".as_slice(),
+            0x9000,
+        ),
+        (
+            b"\xCA\x01\x02\xCA\x90\x00".as_slice(),
+            b"\x01\x02".as_slice(),
+            0x9000,
+        ),
+        (b"\x35\x90\x90\x00".as_slice(), b"\x90".as_slice(), 0x9000),
+        (b"\x60\x60\x6A\x88".as_slice(), b"".as_slice(), 0x6A88),
+    ] {
+        let mut gather = Gather::with_room(rt.alloc(), 2)?;
+        let mut end = HostEnd::asking(GET, 2);
+        let opening = b"\x00\xCA\x00\x00\x02".as_slice();
+        pass(
+            &rt,
+            &mut end,
+            &mut gather,
+            &[(End::Terminal, opening), (End::Card, characters)],
+        );
+        is_done(&rt, &mut end, word);
+        assert_eq!(rt; gather.bytes(), data);
+    }
+    Ok(())
+}
+
+#[test]
+fn sends_data_under_each_procedure_byte(rt: HostRuntime) -> Result<(), Fail> {
+    let mut gather = Gather::with_room(rt.alloc(), 0)?;
+    for between in [b"\x60\xDA".as_slice(), b"\x25".as_slice()] {
+        let mut end = HostEnd::sending(PUT, b"\x41\x42");
+        let runs = [
+            (End::Terminal, b"\x00\xDA\x00\x00\x02".as_slice()),
+            (End::Card, b"\x25".as_slice()),
+            (End::Terminal, b"\x41".as_slice()),
+            (End::Card, between),
+            (End::Terminal, b"\x42".as_slice()),
+            (End::Card, b"\x90\x00".as_slice()),
+        ];
+        pass(&rt, &mut end, &mut gather, &runs);
+        is_done(&rt, &mut end, 0x9000);
+    }
+
+    let mut end = HostEnd::sending(PUT, &[]);
+    let runs = [
+        (End::Terminal, b"\x00\xDA\x00\x00\x00".as_slice()),
+        (End::Card, b"\x60\x90\x00".as_slice()),
+    ];
+    pass(&rt, &mut end, &mut gather, &runs);
+    is_done(&rt, &mut end, 0x9000);
+    Ok(())
+}
+
+#[test]
+fn listens_to_nothing_while_it_sends(rt: HostRuntime) -> Result<(), Fail> {
+    let mut gather = Gather::with_room(rt.alloc(), 2)?;
+    let mut end = HostEnd::sending(PUT, b"\x41\x42");
+    for run in [
+        (End::Terminal, b"\x00\xDA\x00\x00\x02".as_slice()),
+        (End::Card, b"\xDA".as_slice()),
+        (End::Terminal, b"\x41".as_slice()),
+        (End::Terminal, b"\x42".as_slice()),
+        (End::Card, b"\x90\x00".as_slice()),
+    ] {
+        if run.0 == End::Terminal {
+            assert_eq!(rt; end.take(0x90, &mut gather), Err(LineFault::NotListening));
+        }
+        pass(&rt, &mut end, &mut gather, &[run]);
+    }
+    is_done(&rt, &mut end, 0x9000);
+    assert_eq!(rt; gather.bytes().len(), 0);
+    Ok(())
+}
 
 #[test]
 fn third_character_is_too_long_for_room_of_two(rt: HostRuntime) -> Result<(), Fail> {
     let mut gather = Gather::with_room(rt.alloc(), 2)?;
-    let mut end = HostEnd::asking(GET_NAME, 3);
-    assert_eq!(rt; end.take(0xCA, &mut gather), Err(LineFault::NotListening));
-    for byte in [0x00, 0xCA, 0x5F, 0x20, 0x03] {
-        assert_eq!(rt; end.next(), HostTurn::Sends(byte));
-    }
-    for byte in [0xCA, 0x01, 0x02] {
-        assert_eq!(rt; end.next(), HostTurn::Listens);
-        assert_eq!(rt; end.take(byte, &mut gather), Ok(()));
-    }
+    let mut end = HostEnd::asking(GET, 3);
+    let runs = [
+        (End::Terminal, b"\x00\xCA\x00\x00\x03".as_slice()),
+        (End::Card, b"\xCA\x01\x02".as_slice()),
+    ];
+    pass(&rt, &mut end, &mut gather, &runs);
     assert_eq!(rt; end.take(0x03, &mut gather), Err(LineFault::TooLong));
     assert_eq!(rt; end.take(0x90, &mut gather), Err(LineFault::AfterEnd));
     assert_eq!(rt; end.next(), HostTurn::Failed);
@@ -33,18 +146,18 @@ fn third_character_is_too_long_for_room_of_two(rt: HostRuntime) -> Result<(), Fa
 }
 
 #[test]
-fn null_is_no_procedure_byte_yet(rt: HostRuntime) -> Result<(), Fail> {
+fn no_procedure_bytes(rt: HostRuntime) -> Result<(), Fail> {
     let mut gather = Gather::with_room(rt.alloc(), 256)?;
-    for byte in [0x60, 0xCA ^ 0xFF, 0x41, 0x70, 0x8F, 0xA0] {
-        let mut end = HostEnd::asking(GET_NAME, 256);
-        for sent in [0x00, 0xCA, 0x5F, 0x20, 0x00] {
-            assert_eq!(rt; end.next(), HostTurn::Sends(sent));
-        }
+    for byte in [0x41, 0x70, 0x8F, 0xA0] {
+        let mut end = HostEnd::asking(GET, 256);
+        let opening = b"\x00\xCA\x00\x00\x00".as_slice();
+        pass(&rt, &mut end, &mut gather, &[(End::Terminal, opening)]);
         assert_eq!(rt;
             end.take(byte, &mut gather),
             Err(LineFault::BadProcedure(byte))
         );
         assert_eq!(rt; end.take(0x90, &mut gather), Err(LineFault::AfterEnd));
+        assert_eq!(rt; end.next(), HostTurn::Failed);
     }
     Ok(())
 }

@@ -1,8 +1,8 @@
 ghost use Rattle.std.specs.Prelude.{◌≡◌, ℕ, ◌<◌, List, length, slice_get, Some, false};
 ghost use Rattle.apdu_core.specs.HeaderBytes.{ins_is_valid};
 ghost use Rattle.apdu_core.specs.StatusWord.{count};
-ghost use Rattle.t0_core.specs.Meaning.{Tpdu, Ask, Prepared, Nothing, Decided, IsSending, Decides, answered_with};
-ghost use Rattle.t0_core.specs.CardContract.{IsRefusal, IsDecided, Judges};
+ghost use Rattle.t0_core.specs.Meaning.{Tpdu, Ask, Prepared, Nothing, Decided, IsReceiving, IsSending, Decides, taken_with, answered_with};
+ghost use Rattle.t0_core.specs.CardContract.{IsRefusal, Permits, IsDecided, Judges};
 
 use apdu_core::{Header, Status};
 
@@ -11,6 +11,8 @@ use apdu_core::{Header, Status};
 pub enum Verdict {
     /// The command is refused with this status, and no data move.
     Refuse(Status),
+    /// The terminal sends as many data characters as P3 says, 0 to 255.
+    Receive,
     /// The card sends as many data characters as P3 counts, 1 to 256.
     Send,
 }
@@ -32,6 +34,11 @@ pub trait TpduCard {
     /// What a reset does.
     ghost after_reset: { State → State };
 
+    /// The instructions to which it may answer `Receive`, and those to which it may answer `Send`.
+    ghost MayReceive: { ℕ → Type 0 };
+
+    ghost MaySend: { ℕ → Type 0 };
+
     /// What is made ready for the TPDU under way.
     ghost prepared: { Self → Prepared State };
 
@@ -40,7 +47,16 @@ pub trait TpduCard {
     fn header(&mut self, header: Header, p3: u8, cut: u16) -> Verdict
         ensures stands { standing self.new ≡ standing self.old }
         ensures judged { Judges Does (standing self.old) (record { header = header; p3 = p3; cut = cut }) result (prepared self.new) }
-        ensures invalid { ins_is_valid header.ins ≡ false → IsRefusal result };
+        ensures invalid { ins_is_valid header.ins ≡ false → IsRefusal result }
+        ensures permitted { Permits MayReceive MaySend header.ins result };
+
+    /// Takes the data to the card, as many bytes as P3 says, and answers the status. It may be called
+    /// once after the verdict `Receive`.
+    fn data(&mut self, content: &[u8]) -> Status
+        requires { IsReceiving (prepared self.old) (λ ask. length content.now ≡ ask.p3) }
+        ensures stands { standing self.new ≡ standing self.old }
+        ensures decided { IsReceiving (prepared self.old) (λ ask.
+            Decides Does (standing self.old) ask.cut (taken_with ask content.now result) (prepared self.new)) };
 
     /// The byte to send at this place, below `count(P3)`. It may be called after the verdict `Send`.
     fn byte(&self, at: u16) -> u8

@@ -6,5 +6,5 @@ pub returns : goal.returns
 returns g c = (
   c.header-header.ensures.value,
   refl,
-  starts _ c.asking.ensures.header c.asking.ensures.p3.0 c.asking.ensures.p3.1 c.asking.ensures.stage c.in_ok-gather.ensures refl,
+  starts _ c.asking.ensures.header c.asking.ensures.data.0 c.asking.ensures.p3.0 c.asking.ensures.p3.1 c.asking.ensures.stage c.in_ok-gather.ensures refl,
 )

@@ -12,7 +12,7 @@ converse-requires g c =
     let hearing = g.W.Watch.hearing in
     let begun = begins Does pair c.self.inside.end.card.prepared c.self.inside.end.stage c.in_ok-exchange.exchange c.args.plans.now (hearing c.args.watch.now)
     c.self.invariant.0 c.in_ok-exchange.ensures.2 c.requires.no_plans in
-    (pair, hearing c.args.watch.now, begun)
+    record { under_way = (pair, hearing c.args.watch.now, begun); agreed = λ never. never }
 
 pub unwrap-requires : goal.unwrap-requires
 unwrap-requires g c =

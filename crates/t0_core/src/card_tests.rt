@@ -1,0 +1,152 @@
+//! The card's end under plans, with worked dialogues.
+
+use crate::test_card::TestCard;
+use crate::{CardEnd, End, NotListening, Plan, Plans, Step, Turn};
+use Step::{All, Null, One};
+use std::alloc::{Allocator, Global};
+use std::process::Abort;
+use std::test::Fail;
+
+/// The card's end hands out its characters, and takes the terminal's, run by run.
+fn passes<A: Allocator>(
+    rt: &impl Abort,
+    end: &mut CardEnd<TestCard>,
+    plans: &mut Plans<A>,
+    runs: &[(End, &[u8])],
+) {
+    for (from, bytes) in runs {
+        for &byte in *bytes {
+            if *from == End::Terminal {
+                assert_eq!(rt; end.turn(plans), Turn::Listens, "{bytes:?}");
+                assert_eq!(rt; end.take(byte), Ok(()), "{bytes:?}");
+            } else {
+                assert_eq!(rt; end.take(byte), Err(NotListening), "{bytes:?}");
+                assert_eq!(rt; end.turn(plans), Turn::Sends(byte), "{bytes:?}");
+            }
+        }
+    }
+    assert_eq!(rt; end.turn(plans), Turn::Listens);
+}
+
+#[test]
+fn each_step_of_a_plan(rt: HostRuntime) -> Result<(), Fail> {
+    let get = (End::Terminal, b"\x00\xCA\x00\x00\x03".as_slice());
+    let put = (End::Terminal, b"\x00\xDA\x00\x00\x02".as_slice());
+    let none = (End::Card, b"".as_slice());
+    let done = (End::Card, b"\x90\x00".as_slice());
+    let first = (End::Terminal, b"\x41".as_slice());
+    let second = (End::Terminal, b"\x42".as_slice());
+    let one = (End::Card, b"\x25".as_slice());
+    for (steps, runs) in [
+        (
+            [Null, One, Null, All].as_slice(),
+            [
+                get,
+                (
+                    End::Card,
+                    b"\x60\x35\x01\x60\xCA\x02\x03\x90\x00".as_slice(),
+                ),
+                none,
+                none,
+                none,
+                none,
+            ],
+        ),
+        (
+            [All, One, Null].as_slice(),
+            [
+                get,
+                (End::Card, b"\xCA\x01\x02\x03\x60\x90\x00".as_slice()),
+                none,
+                none,
+                none,
+                none,
+            ],
+        ),
+        (
+            [One, Null, All].as_slice(),
+            [
+                put,
+                one,
+                first,
+                (End::Card, b"\x60\xDA".as_slice()),
+                second,
+                done,
+            ],
+        ),
+        ([One, One].as_slice(), [put, one, first, one, second, done]),
+        (
+            [Null].as_slice(),
+            [
+                (End::Terminal, b"\x00\xDA\x00\x00\x00".as_slice()),
+                (End::Card, b"\x60\x90\x00".as_slice()),
+                none,
+                none,
+                none,
+                none,
+            ],
+        ),
+        (
+            [One, All, Null].as_slice(),
+            [
+                (End::Terminal, b"\x00\x60\x00\x00\x00".as_slice()),
+                (End::Card, b"\x60\x6D\x00".as_slice()),
+                none,
+                none,
+                none,
+                none,
+            ],
+        ),
+    ] {
+        let steps = Vec::from_slice(rt.alloc(), steps)?;
+        let plans = [Plan::new(steps, 256).ok_or("a plan")?];
+        let mut end = CardEnd::new(TestCard::new());
+        passes(&rt, &mut end, &mut Plans::over(&plans), &runs);
+    }
+    Ok(())
+}
+
+#[test]
+fn second_tpdu_over_one_plan_has_no_steps(rt: HostRuntime) -> Result<(), Fail> {
+    let steps = Vec::from_slice(rt.alloc(), &[Null, One])?;
+    let plans = [Plan::new(steps, 1).ok_or("a plan")?];
+    let mut cursor = Plans::over(&plans);
+    let mut end = CardEnd::new(TestCard::new());
+    let get = (End::Terminal, b"\x00\xCA\x00\x00\x02".as_slice());
+    for (answer, cut) in [
+        (b"\x60\x35\x01\xCA\x02\x90\x00".as_slice(), 1),
+        (b"\xCA\x01\x02\x90\x00".as_slice(), 256),
+    ] {
+        passes(&rt, &mut end, &mut cursor, &[get, (End::Card, answer)]);
+        assert_eq!(rt; end.card().cut(), cut);
+    }
+    Ok(())
+}
+
+#[test]
+fn cuts_of_a_plan(rt: HostRuntime) {
+    for (cut, made) in [(0, false), (1, true), (256, true), (257, false)] {
+        let steps = Vec::<Step, Global>::new(rt.alloc());
+        assert_eq!(rt; Plan::new(steps, cut).is_some(), made);
+    }
+}
+
+#[test]
+fn reset_drops_a_tpdu(rt: HostRuntime) {
+    let mut end = CardEnd::new(TestCard::new());
+    let mut plans = Plans::<Global>::over(&[]);
+    passes(
+        &rt,
+        &mut end,
+        &mut plans,
+        &[(End::Terminal, b"\x00\xDA".as_slice())],
+    );
+    end.reset();
+    let put = [
+        (End::Terminal, b"\x00\xDA\x00\x00\x01".as_slice()),
+        (End::Card, b"\xDA".as_slice()),
+        (End::Terminal, b"\x41".as_slice()),
+        (End::Card, b"\x90\x00".as_slice()),
+    ];
+    passes(&rt, &mut end, &mut plans, &put);
+}

@@ -1,0 +1,50 @@
+ghost use Rattle.std.specs.Prelude.{◌≡◌, ◌<◌, ◌++◌, [], ◌∷◌, slice_index};
+ghost use Rattle.apdu_core.specs.HeaderBytes.{header_bytes};
+ghost use Rattle.t0_core.specs.Dialogue.{foreseen};
+ghost use Rattle.t0_core.specs.HostView.{direction_of};
+
+use crate::direction::Direction;
+use apdu_core::Header;
+
+/// Which way the data of a TPDU move.
+#[derive(Clone, Copy, Debug)]
+pub enum Transfer<'a> {
+    /// The terminal sends these, at most 255.
+    Sending(&'a [u8]),
+    /// The card sends as many as P3 counts.
+    Asking,
+}
+
+/// What a terminal opens a TPDU with, and which way its data move.
+#[derive(Clone, Copy, Debug)]
+pub struct Request<'a> {
+    pub header: Header,
+    /// How many data characters are foreseen; from the card `00` stands for 256.
+    pub p3: u8,
+    pub transfer: Transfer<'a>,
+}
+
+/// One of the five characters that open a TPDU: CLA INS P1 P2 P3.
+pub(crate) fn opening_character(header: Header, p3: u8, at: usize) -> u8
+    requires { at < 5 }
+    ensures { result ≡ slice_index (header_bytes header ++ p3 ∷ []) at }
+{
+    match at {
+        0 => header.cla,
+        1 => header.ins,
+        2 => header.p1,
+        3 => header.p2,
+        _ => p3,
+    }
+}
+
+/// How many data characters P3 foresees in a transfer.
+pub(crate) fn foreseen(transfer: Transfer, p3: u8) -> u16
+    ensures { result ≡ foreseen (direction_of transfer.entry) p3 }
+{
+    let direction = match transfer {
+        Transfer::Sending(_) => Direction::ToCard,
+        Transfer::Asking => Direction::FromCard,
+    };
+    direction.foreseen(p3)
+}

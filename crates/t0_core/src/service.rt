@@ -1,0 +1,139 @@
+//! How a card's end moves the data of a TPDU.
+ghost use Rattle.std.specs.Prelude.{◌≡◌, ℕ, ◌-◌, ◌<◌, ◌≤◌, List, [], length, take, drop, false, MatchOption, nat_lt, ◌&&◌};
+ghost use Rattle.t0_core.specs.declared.plan.Step.{Step};
+ghost use Rattle.t0_core.specs.CardContract.{IsDecided};
+ghost use Rattle.t0_core.specs.CardView.{Fits, IsInService, IsNext, IsReadyFor, Concludes, KeepsDirection, stage_of};
+ghost use Rattle.t0_core.specs.CardSide.{comes_from_terminal, Advances, IsServed, Serving, listens, one_moved, still_to_go, whole_of};
+ghost use Rattle.t0_core.specs.Dialogue as dialogue;
+ghost use Rattle.t0_core.specs.Dialogue.{Body};
+ghost use Rattle.t0_core.specs.Front.{In_body};
+ghost use Rattle.t0_core.specs.Plan.{Course, segments_of};
+
+use crate::card_end::Phase;
+use crate::direction::Direction;
+use crate::plan::{Step, next_step};
+use crate::procedure::{moves, procedure_byte};
+use crate::tpdu_card::TpduCard;
+use apdu_core::{Header, Status};
+
+/// How far the data of a TPDU have moved, whose header the card has accepted.
+#[derive(Clone, Copy, Debug, PartialEq, Eq)]
+pub struct Service {
+    header: Header,
+    p3: u8,
+    direction: Direction,
+    /// Data characters that have moved.
+    moved: u16,
+    /// Data characters that the procedure bytes so far are to move.
+    until: u16,
+    /// Steps of the plan that are carried out or passed over.
+    done: usize,
+}
+
+impl Service {
+    /// No data have moved yet.
+    pub(crate) fn new(header: Header, p3: u8, direction: Direction) -> Service
+        ensures { result ≡ record { header = header; p3 = p3; direction = direction; moved = 0; until = 0; done = 0 } }
+    {
+        Service {
+            header,
+            p3,
+            direction,
+            moved: 0,
+            until: 0,
+            done: 0,
+        }
+    }
+
+    /// How many data characters have moved.
+    pub(crate) fn moved(self) -> u16
+        ensures { result ≡ self.moved }
+    {
+        self.moved
+    }
+
+    /// Whether the next character is a data character of the terminal.
+    pub(crate) fn is_listening(self) -> bool
+        ensures { result ≡ (comes_from_terminal self.direction && nat_lt self.moved self.until) }
+    {
+        matches!(self.direction, Direction::ToCard) && self.moved < self.until
+    }
+
+    /// One data character more has moved.
+    pub(crate) fn one_moved(self) -> Service
+        requires { self.moved < 256 }
+        ensures { result ≡ one_moved self }
+    {
+        Service {
+            moved: self.moved + 1,
+            ..self
+        }
+    }
+
+    /// The next procedure byte, when those so far have moved their data; `None` where no step is left
+    /// that moves something or is a NULL, and no data are left.
+    fn next(self, steps: &[Step]) -> Option<(u8, Service)>
+        requires { (self.moved ≡ self.until) × (self.until ≤ whole_of self) }
+        ensures { MatchOption result (segments_of (drop self.done steps.now) (whole_of self - self.until) ≡ [])
+            (λ next. (step : Step) × (next.0 ≡ dialogue.procedure_byte self.header.ins step) × IsNext self steps.now step next.1) }
+    {
+        let left = self.direction.foreseen(self.p3) - self.moved;
+        let (step, done) = next_step(steps, self.done, left)?;
+        let until = self.moved + moves(step, left);
+        Some((
+            procedure_byte(self.header.ins, step),
+            Service {
+                until,
+                done,
+                ..self
+            },
+        ))
+    }
+}
+
+/// The card's next character, and the phase after it: a data character, the next procedure byte, or
+/// SW1. `came` begins with the data characters that have come from the terminal.
+pub(crate) fn serve<C: TpduCard>(
+    card: &mut C,
+    service: Service,
+    came: &[u8; 255],
+    steps: &[Step],
+) -> (Phase, u8)
+    requires fits { IsInService (C.prepared card.old) service }
+    requires room { length came.now ≡ 255 }
+    requires due { listens (Serving service (take service.moved came.now)) ≡ false }
+    ensures fits { Fits (C.prepared card.new) result.0 }
+    ensures falls { (plan : Course) → plan.steps ≡ steps.now →
+        still_to_go (stage_of result.0 came.now) plan < still_to_go (Serving service (take service.moved came.now)) plan }
+    ensures keeps { KeepsDirection (Serving service (take service.moved came.now)) (stage_of result.0 came.now) }
+    ensures advances { (cut : ℕ) (plan : Course) (b : Body) → plan.steps ≡ steps.now →
+        IsServed (C.prepared card.old) service (take service.moved came.now) cut b →
+        Advances C.Does cut plan (Serving service (take service.moved came.now)) (In_body b) result.1
+        (C.standing card.old) (C.standing card.new) (C.prepared card.new) (stage_of result.0 came.now) }
+{
+    if service.moved < service.until {
+        let byte = card.byte(service.moved);
+        let service = service.one_moved();
+        return (Phase::Accepted { service }, byte);
+    }
+    match service.next(steps) {
+        Some((byte, service)) => (Phase::Accepted { service }, byte),
+        None => {
+            let status = conclude(card, service.direction, &came[..service.p3 as usize]);
+            (Phase::SecondStatus { status }, status.sw1())
+        }
+    }
+}
+
+/// The status, when all steps are carried out and all data have moved.
+fn conclude<C: TpduCard>(card: &mut C, direction: Direction, content: &[u8]) -> Status
+    requires { IsReadyFor (C.prepared card.old) direction (length content.now) }
+    ensures decided { IsDecided (C.prepared card.new) }
+    ensures stands { C.standing card.new ≡ C.standing card.old }
+    ensures answer { Concludes C.Does (C.standing card.old) (C.prepared card.old) direction content.now result (C.prepared card.new) }
+{
+    match direction {
+        Direction::ToCard => card.data(content),
+        Direction::FromCard => card.end_of_sending(),
+    }
+}

@@ -1,0 +1,106 @@
+//! A card for tests: it sends 1, 2, 3 and then zeros to INS `CA`, takes data under INS `DA`, answers `9000`
+//! to both, and refuses any other instruction with `6D00`.
+ghost use Rattle.std.specs.Prelude.{◌≡◌, ℕ, ◌≤◌, length, take};
+ghost use Rattle.apdu_core.specs.StatusWord.{count};
+ghost use Rattle.t0_core.specs.Meaning.{Prepared, Nothing, Receiving, Sending, Decided};
+ghost use Rattle.t0_core.specs.declared.test_card.Ready.TheVariants as ready;
+
+use crate::tpdu_card::{TpduCard, Verdict};
+use apdu_core::{Header, Status};
+
+/// What it has made ready.
+#[derive(Clone, Copy, Debug, PartialEq, Eq)]
+pub enum Ready {
+    Idle,
+    Takes { header: Header, p3: u8, cut: u16 },
+    Gives { header: Header, p3: u8, cut: u16 },
+    Answered,
+}
+
+#[derive(Drop)]
+pub struct TestCard {
+    ready: Ready,
+    counts: [u8; 256],
+    /// The cut that the last header came with.
+    cut: u16,
+    ghost long: { length counts ≡ 256 },
+}
+
+impl TestCard {
+    pub fn new() -> TestCard {
+        let mut counts = [0; 256];
+        counts[0] = 1;
+        counts[1] = 2;
+        counts[2] = 3;
+        TestCard {
+            ready: Ready::Idle,
+            counts,
+            cut: 0,
+        }
+    }
+
+    pub fn cut(&self) -> u16 {
+        self.cut
+    }
+}
+
+impl TpduCard for TestCard {
+    ghost State = { Unit {0} };
+
+    ghost standing = { λ _. tt };
+
+    ghost Does = { λ _ _ _ _. Unit {0} };
+
+    ghost after_reset = { λ _. tt };
+
+    ghost MayReceive = { λ ins. ins ≡ 0xDA };
+
+    ghost MaySend = { λ ins. ins ≡ 0xCA };
+
+    ghost prepared = { λ c. elim c.ready [
+      | ready.Idle ↦ Nothing
+      | ready.Takes header p3 cut ↦ Receiving (record { header = header; p3 = p3; cut = cut })
+      | ready.Gives header p3 cut ↦ Sending (record { header = header; p3 = p3; cut = cut }) (take (count p3) c.counts)
+      | ready.Answered ↦ Decided tt
+    ] };
+
+    fn header(&mut self, header: Header, p3: u8, cut: u16) -> Verdict {
+        self.cut = cut;
+        match header.ins {
+            0xCA => {
+                self.ready = Ready::Gives { header, p3, cut };
+                Verdict::Send
+            }
+            0xDA => {
+                self.ready = Ready::Takes { header, p3, cut };
+                Verdict::Receive
+            }
+            _ => {
+                self.ready = Ready::Answered;
+                Verdict::Refuse(Status::new(0x6D, 0x00).unwrap())
+            }
+        }
+    }
+
+    fn data(&mut self, _content: &[u8]) -> Status {
+        self.ready = Ready::Answered;
+        Status::new(0x90, 0x00).unwrap()
+    }
+
+    fn byte(&self, at: u16) -> u8 {
+        self.counts[at as usize]
+    }
+
+    fn end_of_sending(&mut self) -> Status {
+        self.ready = Ready::Answered;
+        Status::new(0x90, 0x00).unwrap()
+    }
+
+    fn answered(&mut self) {
+        self.ready = Ready::Idle;
+    }
+
+    fn reset(&mut self) {
+        self.ready = Ready::Idle;
+    }
+}

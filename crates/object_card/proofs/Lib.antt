@@ -1,0 +1,3 @@
+pub mod CardLaws
+pub mod NamedTags
+pub mod Vectors

@@ -8,29 +8,29 @@ use Rattle.object_card.specs.Tables.{value_limit, value_under}
 use Rattle.object_card.specs.State.{CardState, Pending, NothingPending, ChainPending, ResponsePending, chained, waiting, selected_entries}
 
 -- the instructions
-abbrev pub selects : Header → Bool
-selects h = h.ins == 0xA4
+abbrev pub is_select : Header → Bool
+is_select h = h.ins == 0xA4
 
-abbrev pub gets : Header → Bool
-gets h = h.ins == 0xCA
+abbrev pub is_get : Header → Bool
+is_get h = h.ins == 0xCA
 
-abbrev pub puts : Header → Bool
-puts h = h.ins == 0xDA
+abbrev pub is_put : Header → Bool
+is_put h = h.ins == 0xDA
 
-abbrev pub gets_response : Header → Bool
-gets_response h = h.ins == 0xC0
+abbrev pub is_get_response : Header → Bool
+is_get_response h = h.ins == 0xC0
 
 -- 00, and 10, which says that the command is not the last of its chain; GET DATA also 80
 abbrev pub class_is_known : Header → Bool
-class_is_known h = (h.cla == 0x00) || (h.cla == 0x10) || ((h.cla == 0x80) && gets h)
+class_is_known h = (h.cla == 0x00) || (h.cla == 0x10) || ((h.cla == 0x80) && is_get h)
 
 abbrev pub instruction_is_known : Header → Bool
-instruction_is_known h = selects h || gets h || puts h || gets_response h
+instruction_is_known h = is_select h || is_get h || is_put h || is_get_response h
 
 -- A chain is pending, and INS, P1, P2 or CLA but for bit 5 are not the chain's (ISO/IEC 7816-4, 5.1.1.1).
 abbrev pub breaks_chain : Pending → Header → Bool
 breaks_chain NothingPending h = false
-breaks_chain (ChainPending p1 p2 bytes) h = not ((bit_and h.cla 0xEF == 0x00) && puts h && (h.p1 == p1) && (h.p2 == p2))
+breaks_chain (ChainPending p1 p2 bytes) h = not ((bit_and h.cla 0xEF == 0x00) && is_put h && (h.p1 == p1) && (h.p2 == p2))
 breaks_chain (ResponsePending left) h = false
 
 -- The tag that P1-P2 name, if any: `NamesTag`, as a function (ISO/IEC 7816-4, GET DATA and PUT DATA; which
@@ -43,8 +43,8 @@ named_tag p1 p2 =
 -- SELECT by identifier has P1-P2 0400, GET RESPONSE 0000; those of GET DATA and PUT DATA name a tag
 abbrev pub parameters_fit : Header → Bool
 parameters_fit h =
-    if selects h then (h.p1 == 0x04) && (h.p2 == 0x00)
-    else if gets_response h then (h.p1 == 0x00) && (h.p2 == 0x00)
+    if is_select h then (h.p1 == 0x04) && (h.p2 == 0x00)
+    else if is_get_response h then (h.p1 == 0x00) && (h.p2 == 0x00)
     else is_some (named_tag h.p1 h.p2)
 
 -- the object that a GET DATA asks for, whole
@@ -55,7 +55,7 @@ object_asked state h =
 
 -- what a GET RESPONSE or a GET DATA has to send
 abbrev pub to_send : CardState → Header → List ℕ
-to_send state h = if gets_response h then waiting state.pending else unwrap_or (object_asked state h) []
+to_send state h = if is_get_response h then waiting state.pending else unwrap_or (object_asked state h) []
 
 -- a reason to refuse a header: whether it holds, and the status
 pub record Reason : Type 0 where
@@ -68,14 +68,14 @@ reasons state h p3 =
     record { holds = breaks_chain state.pending h; status = (0x68, 0x83) }
     ∷ record { holds = not (class_is_known h); status = (0x6E, 0x00) }
     ∷ record { holds = not (instruction_is_known h); status = (0x6D, 0x00) }
-    ∷ record { holds = (h.cla == 0x10) && not (puts h); status = (0x68, 0x84) }
+    ∷ record { holds = (h.cla == 0x10) && not (is_put h); status = (0x68, 0x84) }
     ∷ record { holds = not (parameters_fit h); status = (0x6A, 0x86) }
-    ∷ record { holds = (gets h || puts h) && is_none (selected_entries state); status = (0x69, 0x85) }
-    ∷ record { holds = gets_response h && (length (waiting state.pending) == 0); status = (0x69, 0x85) }
-    ∷ record { holds = gets h && is_none (object_asked state h); status = (0x6A, 0x88) }
-    ∷ record { holds = puts h && nat_lt value_limit (length (chained state.pending) + p3); status = (0x67, 0x00) }
-    ∷ record { holds = selects h && (nat_lt p3 5 || nat_lt 16 p3); status = (0x67, 0x00) }
-    ∷ record { holds = (gets h || gets_response h) && nat_lt (length (to_send state h)) (count p3); status = (0x6C, length (to_send state h)) }
+    ∷ record { holds = (is_get h || is_put h) && is_none (selected_entries state); status = (0x69, 0x85) }
+    ∷ record { holds = is_get_response h && (length (waiting state.pending) == 0); status = (0x69, 0x85) }
+    ∷ record { holds = is_get h && is_none (object_asked state h); status = (0x6A, 0x88) }
+    ∷ record { holds = is_put h && nat_lt value_limit (length (chained state.pending) + p3); status = (0x67, 0x00) }
+    ∷ record { holds = is_select h && (nat_lt p3 5 || nat_lt 16 p3); status = (0x67, 0x00) }
+    ∷ record { holds = (is_get h || is_get_response h) && nat_lt (length (to_send state h)) (count p3); status = (0x6C, length (to_send state h)) }
     ∷ []
 
 -- the status of the first that holds

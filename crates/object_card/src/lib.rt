@@ -1,7 +1,12 @@
 #![tactic(auto)]
 
-//! What a card of data objects holds: application identifiers, and the definitions of what each command does.
+//! A card of data objects: application identifiers, and the definitions of what the card holds and what each
+//! command does to it. The card itself is not there yet.
 
 pub mod aid;
+pub mod laws;
 
 pub use aid::Aid;
+
+#[cfg(test)]
+mod tests;

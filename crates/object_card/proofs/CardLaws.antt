@@ -1,10 +1,10 @@
 -- What no TPDU does, whatever the state.
 use Rattle.std.proofs.Common.{◌≡◌, ℕ, List, [], ◌++◌, Some, ◌⊎◌, inl, inr, refl, ap, arith}
-use Rattle.apdu_core.specs.StatusWord.{StatusWord}
+use Rattle.apdu_core.specs.StatusWord.{StatusWord, ok}
 use Rattle.t0_core.specs.Meaning.{Tpdu}
 use Rattle.object_card.specs.Tables.{Entry, entries_in}
 use Rattle.object_card.specs.State.{CardState, chained}
-use Rattle.object_card.specs.OneStep.{Operation, Select, Get, Put, Reply, Answers, selects, finds_no_application, none_selected, finds_no_object, gives, stores, does_not_store, wants_memory, with_put}
+use Rattle.object_card.specs.OneStep.{Operation, Select, Get, Put, Reply, Answers, PutStatus, selects, finds_no_application, none_selected, finds_no_object, gives, stores, does_not_store, wants_memory, with_put}
 use Rattle.object_card.specs.CardMeaning.{Does, refuses, selects_application, misses_application, sends, chains, puts_value}
 use Rattle.object_card.specs.Refusals.{refusal}
 
@@ -14,7 +14,7 @@ PutLeaves old (Select aid) new = Unit {0}
 PutLeaves old (Get tag) new = Unit {0}
 PutLeaves old (Put tag value) new = (new ≡ old)
     ⊎ ((aid : List ℕ) × (entries : List Entry) × (old.selected ≡ Some aid) × (entries_in aid old.applications ≡ Some entries)
-    × (new ≡ with_put old aid entries tag value))
+    × PutStatus entries tag value ok × (new ≡ with_put old aid entries tag value))
 
 stays : (old : CardState) (operation : Operation) → PutLeaves old operation old
 stays old (Select aid) = tt
@@ -27,7 +27,7 @@ put_leaves old new operation reply (finds_no_application aid none) = tt
 put_leaves old new operation reply (none_selected op kind none) = stays old op
 put_leaves old new operation reply (finds_no_object tag entries is none) = tt
 put_leaves old new operation reply (gives tag value entries is held) = tt
-put_leaves old new operation reply (stores tag value aid entries selected is status) = inr (aid, entries, selected, is, refl)
+put_leaves old new operation reply (stores tag value aid entries selected is status) = inr (aid, entries, selected, is, status, refl)
 put_leaves old new operation reply (does_not_store tag value entries status is other put) = inl refl
 put_leaves old new operation reply (wants_memory tag value entries is put) = inl refl
 
@@ -35,7 +35,7 @@ put_leaves old new operation reply (wants_memory tag value entries is put) = inl
 pub put_keeps_selection : (old new : CardState) (tag value : List ℕ) (reply : Reply) → Answers old (Put tag value) reply new → new.selected ≡ old.selected
 put_keeps_selection old new tag value reply h = elim (put_leaves old new (Put tag value) reply h) [
   | inl e ↦ ap (λ s. s.selected) e
-  | inr w ↦ ap (λ s. s.selected) w.4
+  | inr w ↦ ap (λ s. s.selected) w.5
 ]
 
 -- A command that is not the last of its chain changes no entry.

@@ -1,3 +1,5 @@
 pub mod CardLaws
 pub mod NamedTags
+pub mod StateLemmas
+pub mod TableLemmas
 pub mod Vectors

@@ -211,7 +211,7 @@ not_moved reply h = elim (put_leaves ready moved (Put name_tag (0x42 ∷ [])) re
       let one : aid ≡ w.0 = cc in
       let two : entries_in aid ready.applications ≡ Some w.1 = subst (λ x. entries_in x ready.applications ≡ Some w.1) (sym one) w.3 in
       let three : entries_with name ≡ w.1 = cc in
-      let four : moved ≡ with_put ready aid w.1 name_tag (0x42 ∷ []) = subst (λ x. moved ≡ with_put ready x w.1 name_tag (0x42 ∷ [])) (sym one) w.4 in
+      let four : moved ≡ with_put ready aid w.1 name_tag (0x42 ∷ []) = subst (λ x. moved ≡ with_put ready x w.1 name_tag (0x42 ∷ [])) (sym one) w.5 in
       let five : moved ≡ with_put ready aid (entries_with name) name_tag (0x42 ∷ []) = subst (λ x. moved ≡ with_put ready aid x name_tag (0x42 ∷ [])) (sym three) four in
       let same : false ≡ true = ap (λ state. name_stands_first state.applications) five in absurd (cc)
 ]

@@ -1,5 +1,6 @@
 pub mod CardLaws
 pub mod NamedTags
+pub mod PendingLaws
 pub mod StateLemmas
 pub mod TableLemmas
 pub mod Vectors

@@ -1,10 +1,10 @@
 //! Laws of what each command does to a card: each function's contract is a law.
-ghost use Rattle.std.specs.Prelude.{◌≡◌, ◌↔◌, ℕ, List, [], Some};
-ghost use Rattle.apdu_core.specs.StatusWord.{StatusWord};
+ghost use Rattle.std.specs.Prelude.{◌≡◌, ◌≢◌, ◌↔◌, ◌⊎◌, ℕ, List, [], Some, None, length, true};
+ghost use Rattle.apdu_core.specs.StatusWord.{StatusWord, ok};
 ghost use Rattle.t0_core.specs.Meaning.{Tpdu};
 ghost use Rattle.tlv_core.specs.Address.{NamesTag};
-ghost use Rattle.object_card.specs.State.{CardState, IsCardState, after_reset};
-ghost use Rattle.object_card.specs.Refusals.{named_tag, refusal};
+ghost use Rattle.object_card.specs.State.{CardState, IsCardState, ResponsePending, is_idle, after_reset};
+ghost use Rattle.object_card.specs.Refusals.{named_tag, refusal, is_put};
 ghost use Rattle.object_card.specs.CardMeaning.{Does};
 
 /// The tag that a header is found to name is the one that its P1-P2 name.
@@ -37,4 +37,25 @@ pub fn a_piece_changes_no_entry()
 pub fn not_found_keeps_the_selection()
     ensures { (old new : CardState) (cut : ℕ) (tpdu : Tpdu) → Does old cut tpdu new → tpdu.status ≡ (0x6A, 0x82) →
         new.selected ≡ old.selected }
+{}
+
+/// Every status but `9000` drops a chain, and a command that is the last of its chain ends it.
+pub fn a_chain_is_dropped_or_ended()
+    ensures dropped { (old new : CardState) (cut : ℕ) (tpdu : Tpdu) → Does old cut tpdu new → tpdu.status ≢ ok →
+        is_idle new.pending ≡ true }
+    ensures ended { (old new : CardState) (cut : ℕ) (tpdu : Tpdu) → Does old cut tpdu new → tpdu.header.cla ≢ 0x10 →
+        is_idle new.pending ≡ true }
+{}
+
+/// A response is pending only after `61XX`, or as it was after `6CXX` to a GET RESPONSE.
+pub fn a_response_is_announced()
+    ensures { (old new : CardState) (cut : ℕ) (tpdu : Tpdu) (left : List ℕ) → Does old cut tpdu new →
+        new.pending ≡ ResponsePending left →
+        (tpdu.status.0 ≡ 0x61) ⊎ ((tpdu.header.ins ≡ 0xC0) × (tpdu.status.0 ≡ 0x6C) × (new.pending ≡ old.pending)) }
+{}
+
+/// All P3 bytes of a PUT DATA move to the card, unless its header is refused.
+pub fn all_of_a_put_moves()
+    ensures { (old new : CardState) (cut : ℕ) (tpdu : Tpdu) → Does old cut tpdu new → refusal old tpdu.header tpdu.p3 ≡ None →
+        is_put tpdu.header ≡ true → tpdu.p3 ≡ length tpdu.sent }
 {}

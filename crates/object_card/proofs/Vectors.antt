@@ -1,11 +1,18 @@
 -- Worked rows, computed from the definitions or shown to be instances of them, and near misses.
-use Rattle.std.proofs.Common.{◌≡◌, ℕ, List, [], ◌∷◌, ◌++◌, Bool, true, false, refl, sym, ap, arith, subst, Option, Some, None, inl, inr, replicate}
+use Rattle.std.proofs.Common.{◌≡◌, ℕ, zero, suc, length, List, [], ◌∷◌, ◌++◌, Bool, true, false, refl, sym, ap, arith, subst, Option, Some, None, inl, inr, replicate}
 use Rattle.apdu_core.specs.declared.header.Header.{Header}
 use Rattle.t0_core.specs.Meaning.{Tpdu}
+use Rattle.std.specs.List.{All}
+use Rattle.std.proofs.lemmas.List.Elements.{All-nil, All-cons}
+use Rattle.tlv_core.specs.Spelling.{AreObjects, Empty, Primitive}
+use Rattle.tlv_core.specs.FirstFault.{IsFirstFault}
+use Rattle.tlv_core.specs.declared.fault.Reason.TheVariants.{ValueCut}
+use Rattle.tlv_core.proofs.Places.{spelled_has_no_fault}
+use Rattle.tlv_core.proofs.Faults.{first_here}
 use Rattle.tlv_core.specs.Address.{NamesTag}
 use Rattle.object_card.specs.Tables.{Entry, Application, same_bytes, with_value, entries_in}
 use Rattle.object_card.specs.State.{CardState, Pending, NothingPending, ChainPending, ResponsePending}
-use Rattle.object_card.specs.OneStep.{Put, Reply, Answers, stores, wants_memory, PutStatus, stored, control_information, with_put}
+use Rattle.object_card.specs.OneStep.{Put, Reply, Answers, stores, does_not_store, wants_memory, PutStatus, stored, wrong_data, no_space, control_information, with_put}
 use Rattle.object_card.specs.Refusals.{refusal}
 use Rattle.object_card.specs.CardMeaning.{Does, refuses, selects_application, misses_application, sends, chains, puts_value}
 use Rattle.object_card.proofs.CardLaws.{put_leaves, chaining_keeps_applications, refused_moves_nothing, not_found_keeps_selection}
@@ -190,6 +197,75 @@ last_piece_row = puts_value (head 0x00 0xDA 0x5F 0x20) (0xBB ∷ []) name_tag do
 empty_piece_row : Does ready 256
     (record { header = head 0x10 0xDA 0x5F 0x20; p3 = 0; sent = []; received = []; status = (0x90, 0x00) }) (in_chain [])
 empty_piece_row = chains (head 0x10 0xDA 0x5F 0x20) [] refl refl refl
+
+-- 00DA007003 500541: 6A80, since the value of 50 passes the end
+cut_value : AreObjects (0x50 ∷ 0x05 ∷ 0x41 ∷ []) 2 → ⊥
+cut_value objects =
+    let first : IsFirstFault (0x50 ∷ 0x05 ∷ 0x41 ∷ []) 2 0 ValueCut = first_here (0x50 ∷ 0x05 ∷ 0x41 ∷ []) 2 ValueCut (λ e. omega arith)
+    (omega arith, (0x50 ∷ [], 0x05 ∷ [], 0x41 ∷ [], 5, (omega arith, omega arith, omega arith), (omega arith, refl), refl, omega arith)) in
+    spelled_has_no_fault (0x50 ∷ 0x05 ∷ 0x41 ∷ []) 2 0 ValueCut objects first.here
+
+template_address : NamesTag (0x70 ∷ []) 0x00 0x70
+template_address = (omega arith, omega arith, omega arith, refl, refl)
+
+wrong_data_row : Does ready 256
+    (record { header = head 0x00 0xDA 0x00 0x70; p3 = 3; sent = 0x50 ∷ 0x05 ∷ 0x41 ∷ []; received = []; status = (0x6A, 0x80) }) ready
+wrong_data_row = puts_value (head 0x00 0xDA 0x00 0x70) (0x50 ∷ 0x05 ∷ 0x41 ∷ []) (0x70 ∷ []) (record { status = (0x6A, 0x80); content = [] })
+    ready refl refl refl template_address
+    (does_not_store (0x70 ∷ []) (0x50 ∷ 0x05 ∷ 0x41 ∷ []) (entries_with name) (0x6A, 0x80) refl
+    (λ e. let no : 0x6A ≡ 0x90 = ap (λ s. s.0) e in absurd (omega (arith, no)))
+    (wrong_data (omega arith) (λ value_of. cut_value (value_of refl))))
+
+-- 00DA007006 005081014100: 9000; padding and the long length are kept as they were sent
+abbrev Zero : ℕ → Type 0
+Zero b = b ≡ 0
+
+one_zero : All Zero (0 ∷ [])
+one_zero = All-cons Zero 0 [] refl (All-nil Zero)
+
+abbrev padded : List ℕ
+padded = 0x00 ∷ 0x50 ∷ 0x81 ∷ 0x01 ∷ 0x41 ∷ 0x00 ∷ []
+
+padded_objects : AreObjects padded 2
+padded_objects = (
+  Primitive (0x50 ∷ []) (0x41 ∷ []) Empty,
+  (
+    0x00 ∷ [],
+    0x81 ∷ 0x01 ∷ [],
+    0x00 ∷ [],
+    record { spelled = refl; is_padding = one_zero; is_tag = (omega arith, omega arith, omega arith); is_size = (refl, omega arith, refl); in_depth = omega arith },
+    refl,
+    one_zero,
+  ),
+)
+
+abbrev with_template : List Entry
+with_template = entries_with name ++ record { tag = 0x70 ∷ []; value = padded } ∷ []
+
+padded_row : Does ready 256
+    (record { header = head 0x00 0xDA 0x00 0x70; p3 = 6; sent = padded; received = []; status = (0x90, 0x00) }) (card with_template (Some aid) NothingPending)
+padded_row = puts_value (head 0x00 0xDA 0x00 0x70) padded (0x70 ∷ []) done (card with_template (Some aid) NothingPending) refl refl refl template_address
+    (stores (0x70 ∷ []) padded aid (entries_with name) refl refl (stored (omega arith) (λ kind. padded_objects) (inr (omega arith))))
+
+get_padded_row : Does (card with_template (Some aid) NothingPending) 256
+    (record { header = head 0x00 0xCA 0x00 0x70; p3 = 8; sent = []; received = 0x70 ∷ 0x06 ∷ padded; status = (0x90, 0x00) })
+    (card with_template (Some aid) NothingPending)
+get_padded_row = sends (head 0x00 0xCA 0x00 0x70) 8 refl refl
+
+-- so many entries: DF01, DF02 and so on
+abbrev numbered : ℕ → List Entry
+numbered zero = []
+numbered (suc n) = numbered n ++ record { tag = 0xDF ∷ suc n ∷ []; value = [] } ∷ []
+
+-- a new tag where 64 entries are held: 6A84; a tag that is held is stored
+sixty_four : length (numbered 64) ≡ 64
+sixty_four = refl
+
+full : PutStatus (numbered 64) (0xDF ∷ 0x41 ∷ []) (0x01 ∷ []) (0x6A, 0x84)
+full = no_space (omega arith) (λ kind. absurd (cc)) refl (omega (arith, sixty_four))
+
+held_in_full : PutStatus (numbered 64) (0xDF ∷ 0x40 ∷ []) (0x01 ∷ []) (0x90, 0x00)
+held_in_full = stored (omega arith) (λ kind. absurd (cc)) (inl refl)
 
 -- near miss: a put that moves an entry to the end
 abbrev moved : CardState

@@ -3,6 +3,8 @@ ghost use Rattle.std.specs.Prelude.{◌≡◌, ◌≢◌, ◌↔◌, ◌⊎◌, 
 ghost use Rattle.apdu_core.specs.StatusWord.{StatusWord, ok};
 ghost use Rattle.t0_core.specs.Meaning.{Tpdu};
 ghost use Rattle.tlv_core.specs.Address.{NamesTag};
+ghost use Rattle.object_card.specs.Tables.{Entry};
+ghost use Rattle.object_card.specs.OneStep.{PutStatus};
 ghost use Rattle.object_card.specs.State.{CardState, IsCardState, ResponsePending, is_idle, after_reset};
 ghost use Rattle.object_card.specs.Refusals.{named_tag, refusal, is_put};
 ghost use Rattle.object_card.specs.CardMeaning.{Does};
@@ -58,4 +60,10 @@ pub fn a_response_is_announced()
 pub fn all_of_a_put_moves()
     ensures { (old new : CardState) (cut : ℕ) (tpdu : Tpdu) → Does old cut tpdu new → refusal old tpdu.header tpdu.p3 ≡ None →
         is_put tpdu.header ≡ true → tpdu.p3 ≡ length tpdu.sent }
+{}
+
+/// A put has one status, where memory is not wanted.
+pub fn a_put_has_one_status()
+    ensures { (entries : List Entry) (tag value : List ℕ) (s t : StatusWord) → PutStatus entries tag value s →
+        PutStatus entries tag value t → s ≡ t }
 {}

@@ -1,0 +1,5 @@
+use Rattle.object_card.proofs.PutLaws.{one_status}
+use Rattle.object_card.proofs.laws.a_put_has_one_status.Goals as goal
+
+pub returns : goal.returns
+returns c = one_status

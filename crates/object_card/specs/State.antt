@@ -1,0 +1,65 @@
+-- The state of a card: what it holds, what is selected, and what a later command may go on with.
+use Rattle.std.specs.Prelude.{◌≡◌, ◌≢◌, ℕ, ◌≤◌, List, [], ◌∷◌, length, Option, Some, None, IfSome, Bool, true, false, is_some, option_and_then}
+use Rattle.object_card.specs.Tables.{Application, Entry, AreApplications, entries_in, value_limit}
+
+-- What is pending: nothing; a chain of PUT DATA, with its P1-P2 and the bytes so far (ISO/IEC 7816-4,
+-- 5.1.1.1); or a response, with the bytes that are left of it (ISO/IEC 7816-4, GET RESPONSE).
+pub data Pending : Type 0 where
+  NothingPending : Pending
+  ChainPending : (p1 p2 : ℕ) (bytes : List ℕ) → Pending
+  ResponsePending : (left : List ℕ) → Pending
+
+-- the applications, the identifier of the one selected, or none, and what is pending
+pub record CardState : Type 0 where
+  pub applications : List Application
+  pub selected : Option (List ℕ)
+  pub pending : Pending
+
+-- A chain, also an empty one, keeps to the limit of a value; of a response at least one byte is left.
+abbrev pub IsPending : Pending → Type 0
+IsPending NothingPending = Unit {0}
+IsPending (ChainPending p1 p2 bytes) = length bytes ≤ value_limit
+IsPending (ResponsePending left) = left ≢ []
+
+-- what is selected is held
+pub record IsCardState (state : CardState) : Type 0 where
+  pub are_applications : AreApplications state.applications
+  pub selected_is_held : IfSome state.selected (λ aid. is_some (entries_in aid state.applications) ≡ true)
+  pub is_pending : IsPending state.pending
+
+-- no chain is pending
+abbrev pub is_idle : Pending → Bool
+is_idle NothingPending = true
+is_idle (ChainPending p1 p2 bytes) = false
+is_idle (ResponsePending left) = true
+
+-- the bytes of the chain that is pending
+abbrev pub chained : Pending → List ℕ
+chained NothingPending = []
+chained (ChainPending p1 p2 bytes) = bytes
+chained (ResponsePending left) = []
+
+-- what is left of the response that is pending
+abbrev pub waiting : Pending → List ℕ
+waiting NothingPending = []
+waiting (ChainPending p1 p2 bytes) = []
+waiting (ResponsePending left) = left
+
+-- a response is pending where some of it is left
+abbrev pub pending_of : List ℕ → Pending
+pending_of [] = NothingPending
+pending_of (b ∷ left) = ResponsePending (b ∷ left)
+
+abbrev pub with_pending : CardState → Pending → CardState
+with_pending state pending = record state { pending = pending }
+
+abbrev pub with_selected : CardState → List ℕ → CardState
+with_selected state aid = record state { selected = Some aid }
+
+-- the entries of the application that is selected
+abbrev pub selected_entries : CardState → Option (List Entry)
+selected_entries state = option_and_then (λ aid. entries_in aid state.applications) state.selected
+
+-- A reset keeps what is held; nothing is selected, and nothing is pending (this project's profile).
+abbrev pub after_reset : CardState → CardState
+after_reset state = record { applications = state.applications; selected = None; pending = NothingPending }

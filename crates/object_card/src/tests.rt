@@ -1,0 +1,31 @@
+use crate::Aid;
+use std::process::Abort;
+use std::test::Fail;
+
+fn is_taken(rt: &impl Abort, bytes: &[u8]) {
+    let aid = Aid::new(bytes).expect(rt, "an identifier");
+    assert_eq!(rt; aid.bytes(), bytes);
+}
+
+#[test]
+fn takes_5_to_16_bytes(rt: HostRuntime) {
+    is_taken(&rt, b"\xA0\x00\x00\x00\x03");
+    is_taken(&rt, b"\xA0\x00\x00\x00\x03\x10\x10");
+    is_taken(
+        &rt,
+        b"\xA0\x00\x00\x00\x03\x10\x10\x00\x00\x00\x00\x00\x00\x00\x00\x01",
+    );
+    assert!(rt; Aid::new(b"").is_none());
+    assert!(rt; Aid::new(b"\xA0\x00\x00\x00").is_none());
+    assert!(rt;
+        Aid::new(b"\xA0\x00\x00\x00\x03\x10\x10\x00\x00\x00\x00\x00\x00\x00\x00\x01\x00").is_none()
+    );
+}
+
+#[test]
+fn tells_identifiers_apart(rt: HostRuntime) {
+    let aid = Aid::new(b"\xA0\x00\x00\x00\x03").expect(&rt, "an identifier");
+    let longer = Aid::new(b"\xA0\x00\x00\x00\x03\x00").expect(&rt, "an identifier");
+    assert!(rt; aid == aid);
+    assert!(rt; aid != longer);
+}

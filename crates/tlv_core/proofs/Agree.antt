@@ -6,10 +6,10 @@ use Rattle.tlv_core.specs.Place.{Reached, at_front, past_padding, past_object, i
 use Rattle.tlv_core.specs.FirstFault.{FailsFor, IsAtObject, IsFirstFault}
 use Rattle.tlv_core.specs.declared.fault.Reason.{Reason}
 use Rattle.tlv_core.specs.declared.fault.Reason.TheVariants.{TagCut, TagForm, LengthCut, LengthForm, ValueCut, TooDeep}
-use Rattle.tlv_core.proofs.Tags.{start_is_not_inside}
-use Rattle.tlv_core.proofs.Lengths.{length_start_is_not_inside}
-use Rattle.tlv_core.proofs.Starts.{after_tags_agree}
-use Rattle.tlv_core.proofs.Places.{padded_place, object_place, reached_inside, object_is_long, object_is_some}
+use Rattle.tlv_core.specs.TagLaws.{start_is_not_inside}
+use Rattle.tlv_core.specs.LengthLaws.{length_start_is_not_inside}
+use Rattle.tlv_core.specs.StartLaws.{after_tags_agree}
+use Rattle.tlv_core.specs.PlaceLaws.{padded_place, object_place, reached_inside, object_is_long, object_is_some}
 
 -- What follows the tag, for the three reasons that speak of it.
 TagThen : List ℕ → (List ℕ → Type 0) → Type 0

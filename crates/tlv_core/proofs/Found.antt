@@ -1,13 +1,11 @@
 -- Objects found by their tags, step by step.
-use Rattle.std.proofs.Common.{◌≡◌, ◌≢◌, ℕ, suc, ◌+◌, ◌<◌, List, [], ◌∷◌, ◌++◌, length, refl, sym, ap, subst, arith, add-one, append-nil, append_assoc, length-append, ◌∙◌, ◌⊎◌, inl, inr, true, All, Some, None}
-use Rattle.std.proofs.lemmas.List.Elements.{All-tail}
+use Rattle.std.proofs.Common.{◌≡◌, ◌≢◌, ℕ, suc, ◌+◌, ◌<◌, List, [], ◌∷◌, ◌++◌, length, refl, sym, ap, arith, length-append, ◌∙◌, ◌⊎◌, inl, inr, true}
 use Rattle.tlv_core.specs.TagForm.{is_constructed}
-use Rattle.tlv_core.specs.Object.{Object, ObjectList, GivesNext}
-use Rattle.tlv_core.specs.Spelling.{Begins}
+use Rattle.tlv_core.specs.Object.{Object}
 use Rattle.tlv_core.specs.Path.{StandsAt, IsFirstAt, NoneStandsAt}
 use Rattle.tlv_core.specs.Place.{StartsWith, at_front, past_padding, past_object, into_template}
-use Rattle.tlv_core.proofs.Starts.{starts_at_object, starts_agree}
-use Rattle.tlv_core.proofs.Places.{object_is_long, padded_place, object_place, reached_inside}
+use Rattle.tlv_core.specs.StartLaws.{starts_at_object, starts_agree}
+use Rattle.tlv_core.specs.PlaceLaws.{object_is_long, padded_place, object_place, reached_inside}
 
 -- Objects of padded bytes, and of bytes that start with an object.
 stands_past_padding : (rest : List ℕ) (level place : ℕ) (path : List (List ℕ)) (o : Object) → StandsAt rest level path place o
@@ -122,7 +120,7 @@ pub record Seeks (bytes : List ℕ) (level : ℕ) (path : List (List ℕ)) (rest
 pub seeks_at_start : (bytes : List ℕ) (level : ℕ) (path : List (List ℕ)) → Seeks bytes level path bytes
 seeks_at_start bytes level path = record { none = λ h. h; first = λ o h. h }
 
-seeks_one_zero : (bytes rest : List ℕ) (level : ℕ) (path : List (List ℕ)) → Seeks bytes level path (0 ∷ rest) → Seeks bytes level path rest
+pub seeks_one_zero : (bytes rest : List ℕ) (level : ℕ) (path : List (List ℕ)) → Seeks bytes level path (0 ∷ rest) → Seeks bytes level path rest
 seeks_one_zero bytes rest level path c = record {
   none = λ h. c.none (λ place o g. let (next, at, k) = stands_in_padded rest level place path o g in h next o k);
   first = λ o h. c.first o (record {
@@ -131,16 +129,6 @@ seeks_one_zero bytes rest level path c = record {
     none_before = λ p q g. let (next, at, k) = stands_in_padded rest level p path q g in omega (arith, h.none_before next q k);
   });
 }
-
-pub seeks_past_padding : (bytes at rest : List ℕ) (level : ℕ) (path : List (List ℕ)) (padding : List ℕ) → All (λ b. b ≡ 0) padding
-    → at ≡ padding ++ rest → Seeks bytes level path at → Seeks bytes level path rest
-seeks_past_padding bytes at rest level path [] zeros e c = rw (← e) c
-seeks_past_padding bytes at rest level path (a ∷ padding) zeros e c =
-    let zero_first : a ≡ 0 = zeros 0 0 (omega arith) in
-    let f : at ≡ 0 ∷ (padding ++ rest) = e ∙ ap (λ x. x ∷ (padding ++ rest)) zero_first in
-    let k : Seeks bytes level path (0 ∷ (padding ++ rest)) = rw (← f) c in
-    seeks_past_padding bytes (padding ++ rest) rest level path padding (All-tail (λ b. b ≡ 0) a padding zeros) refl
-    (seeks_one_zero bytes (padding ++ rest) level path k)
 
 -- An object is passed that is not the one sought, and does not hold it.
 pub seeks_past_object : (bytes at t s v r : List ℕ) (level : ℕ) (path : List (List ℕ)) → StartsWith at t s v r → (path ≡ t ∷ [] → ⊥)
@@ -190,66 +178,5 @@ found_within bytes at t s v r level path below o b kind e more h c = c.first o (
 })
 
 -- Nothing stands in what is left at the end.
-none_in_nil : (level : ℕ) (path : List (List ℕ)) → NoneStandsAt [] level path
+pub none_in_nil : (level : ℕ) (path : List (List ℕ)) → NoneStandsAt [] level path
 none_in_nil level path place o h = omega (arith, stands_inside [] level place path o h)
-
-pub none_in_padding : (bytes at : List ℕ) (level : ℕ) (path : List (List ℕ)) → All (λ b. b ≡ 0) at → Seeks bytes level path at
-    → NoneStandsAt bytes level path
-none_in_padding bytes at level path zeros c =
-    (seeks_past_padding bytes at [] level path at zeros (sym (append-nil at)) c).none (none_in_nil level path)
-
-regroup : (p t s v r : List ℕ) → p ++ t ++ s ++ v ++ r ≡ p ++ (t ++ s ++ v ++ r)
-regroup p t s v r = simp append_assoc
-
--- The next object of a list stands in front of what the reader is left with past the padding.
-pub seeks_next : (bytes : List ℕ) (level : ℕ) (path : List (List ℕ)) (before p t s v r : List ℕ) (depth : ℕ) → Begins before p t s v r depth
-    → Seeks bytes level path before → StartsWith (t ++ s ++ v ++ r) t s v r × Seeks bytes level path (t ++ s ++ v ++ r)
-seeks_next bytes level path before p t s v r depth b c =
-    let e : before ≡ p ++ (t ++ s ++ v ++ r) = b.spelled ∙ regroup p t s v r in (
-      record { spelled = refl; is_tag = b.is_tag; is_size = b.is_size },
-      seeks_past_padding bytes before (t ++ s ++ v ++ r) level path p b.is_padding e c,
-    )
-
--- One object of a list, looked at by a reader with a path.
-pub seeks_elsewhere : (bytes : List ℕ) (level : ℕ) (path : List (List ℕ)) (before after : ObjectList) (o : Object) (first : List ℕ) (below : List (List ℕ))
-    → GivesNext before (Some o) after → Seeks bytes level path before.bytes → path ≡ first ∷ below → o.tag ≢ first
-    → Seeks bytes level path after.bytes
-seeks_elsewhere bytes level path before after o first below ((p, b), same, kept) c e other =
-    let n = seeks_next bytes level path before.bytes p o.tag o.size o.value after.bytes before.level b c in
-    seeks_past_object bytes (o.tag ++ o.size ++ o.value ++ after.bytes) o.tag o.size o.value after.bytes level path n.0
-    (λ is. other (let f : o.tag ∷ [] ≡ first ∷ below = sym is ∙ e in cc))
-    (λ deep is kind. absurd (other (let f : o.tag ∷ deep ≡ first ∷ below = sym is ∙ e in cc)))
-    n.1
-
--- Nothing on the rest of the path stands in the object.
-pub seeks_past_children : (bytes : List ℕ) (level : ℕ) (path : List (List ℕ)) (before after : ObjectList) (o : Object) (below : List (List ℕ))
-    → GivesNext before (Some o) after → Seeks bytes level path before.bytes → path ≡ o.tag ∷ below → below ≢ []
-    → (is_constructed o.tag ≡ true → NoneStandsAt o.value (level + 1) below) → Seeks bytes level path after.bytes
-seeks_past_children bytes level path before after o below ((p, b), same, kept) c e more none =
-    let n = seeks_next bytes level path before.bytes p o.tag o.size o.value after.bytes before.level b c in
-    seeks_past_object bytes (o.tag ++ o.size ++ o.value ++ after.bytes) o.tag o.size o.value after.bytes level path n.0
-    (λ is. more (let f : o.tag ∷ below ≡ o.tag ∷ [] = sym e ∙ is in cc))
-    (λ deep is kind.
-    let f : deep ≡ below = (let g : o.tag ∷ deep ≡ o.tag ∷ below = sym is ∙ e in cc) in
-    let h : NoneStandsAt o.value (suc level) below = rw (← add-one) (none kind) in rw f h)
-    n.1
-
-pub found_as_object : (bytes : List ℕ) (level : ℕ) (path : List (List ℕ)) (before after : ObjectList) (o : Object)
-    → GivesNext before (Some o) after → before.level ≡ level → Seeks bytes level path before.bytes → path ≡ o.tag ∷ [] → IsFirstAt bytes level path o
-found_as_object bytes level path before after o ((p, b), same, kept) at c e =
-    let n = seeks_next bytes level path before.bytes p o.tag o.size o.value after.bytes before.level b c in
-    let h = found_here bytes (o.tag ++ o.size ++ o.value ++ after.bytes) o.tag o.size o.value after.bytes level path n.0 e n.1 in
-    let P : ℕ → Type 0 = λ x. IsFirstAt bytes level path (record { tag = o.tag; size = o.size; value = o.value; level = x }) in
-    subst P (sym (same ∙ at)) h
-
-pub found_in_children : (bytes : List ℕ) (level : ℕ) (path : List (List ℕ)) (before after : ObjectList) (o found : Object) (below : List (List ℕ))
-    → GivesNext before (Some o) after → Seeks bytes level path before.bytes → path ≡ o.tag ∷ below → below ≢ [] → is_constructed o.tag ≡ true
-    → IsFirstAt o.value (level + 1) below found → IsFirstAt bytes level path found
-found_in_children bytes level path before after o found below ((p, b), same, kept) c e more kind h =
-    let n = seeks_next bytes level path before.bytes p o.tag o.size o.value after.bytes before.level b c in
-    let g : IsFirstAt o.value (suc level) below found = rw (← add-one) h in
-    found_within bytes (o.tag ++ o.size ++ o.value ++ after.bytes) o.tag o.size o.value after.bytes level path below found n.0 kind e more g n.1
-
-pub none_at_end : (bytes : List ℕ) (level : ℕ) (path : List (List ℕ)) (before after : ObjectList) → GivesNext before None after
-    → Seeks bytes level path before.bytes → NoneStandsAt bytes level path
-none_at_end bytes level path before after (zeros, at, kept) c = none_in_padding bytes before.bytes level path zeros c

@@ -4,8 +4,8 @@ use Rattle.std.specs.List.{All}
 use Rattle.tlv_core.specs.TagForm.{is_constructed}
 use Rattle.tlv_core.specs.Spelling.{Forest, Empty, Primitive, Template, Begins, Spells}
 use Rattle.tlv_core.proofs.Paddings.{tag_front, one_padding, not_in_padding}
-use Rattle.tlv_core.proofs.Lengths.{sizes_agree}
-use Rattle.tlv_core.proofs.Starts.{after_tags_agree, fronts_agree}
+use Rattle.tlv_core.specs.LengthLaws.{sizes_agree}
+use Rattle.tlv_core.specs.StartLaws.{after_tags_agree, fronts_agree}
 use Rattle.std.proofs.lemmas.List.{append_cancel_left}
 
 -- what follows the padding starts with a byte that is none

@@ -6,7 +6,7 @@ use Rattle.tlv_core.specs.declared.fault.TlvFault.{TlvFault}
 use Rattle.tlv_core.specs.declared.read_fault.ReadFault.{ReadFault}
 use Rattle.tlv_core.specs.declared.read_fault.ReadFault.TheVariants.{Tlv, OutOfMemory}
 use Rattle.tlv_core.proofs.Agree.{first_faults_agree}
-use Rattle.tlv_core.proofs.Places.{spelled_has_no_fault}
+use Rattle.tlv_core.specs.PlaceLaws.{spelled_has_no_fault}
 
 one_fault : (f g : TlvFault) → f.place ≡ g.place → f.reason ≡ g.reason → f ≡ g
 one_fault f g place reason i = record { place = place i; reason = reason i }

@@ -3,7 +3,7 @@ use Rattle.std.proofs.Common.{◌≡◌, ◌≢◌, ◌↔◌, ℕ, ◌-◌, Lis
 use Rattle.std.specs.Cmp.Lexicographic.{pointwise, same_text, other_text}
 use Rattle.std.proofs.lemmas.Bool.{cases_Bool, eqb-true}
 use Rattle.tlv_core.specs.Tag.{padded}
-use Rattle.tlv_core.proofs.Starts.{fronts_agree}
+use Rattle.tlv_core.specs.StartLaws.{fronts_agree}
 
 both_true : (a b : Bool) → false ≡ not (a && b) → (a ≡ true) × (b ≡ true)
 both_true true true e = (refl, refl)

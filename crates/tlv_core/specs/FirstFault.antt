@@ -12,13 +12,16 @@ use Rattle.tlv_core.specs.declared.fault.Reason.TheVariants.{TagCut, TagForm, Le
 abbrev pub FailsFor : List ℕ → ℕ → Reason → Type 0
 FailsFor bytes level TooDeep = deepest < level
 FailsFor bytes level TagCut = (level ≤ deepest) × EndsInsideTag bytes
-FailsFor bytes level TagForm = (level ≤ deepest) × (EndsInsideTag bytes → ⊥) × (StartsWithTag bytes → ⊥)
+FailsFor bytes level TagForm = (level ≤ deepest) × (EndsInsideTag bytes → ⊥)
+    × (StartsWithTag bytes → ⊥)
 FailsFor bytes level LengthCut = (level ≤ deepest)
     × ((tag rest : List ℕ) × IsTag tag × (bytes ≡ tag ++ rest) × EndsInsideLength rest)
 FailsFor bytes level LengthForm = (level ≤ deepest)
-    × ((tag rest : List ℕ) × IsTag tag × (bytes ≡ tag ++ rest) × (EndsInsideLength rest → ⊥) × (StartsWithLength rest → ⊥))
+    × ((tag rest : List ℕ) × IsTag tag × (bytes ≡ tag ++ rest) × (EndsInsideLength rest → ⊥)
+        × (StartsWithLength rest → ⊥))
 FailsFor bytes level ValueCut = (level ≤ deepest)
-    × ((tag size rest : List ℕ) × (n : ℕ) × IsTag tag × SpellsLength size n × (bytes ≡ tag ++ size ++ rest) × (length rest < n))
+    × ((tag size rest : List ℕ) × (n : ℕ) × IsTag tag × SpellsLength size n
+        × (bytes ≡ tag ++ size ++ rest) × (length rest < n))
 
 -- a byte other than 00 stands in front
 abbrev pub IsAtObject : List ℕ → Type 0

@@ -1,7 +1,9 @@
 -- What a reader finds at the front of bytes.
-use Rattle.std.specs.Prelude.{◌≡◌, ◌≢◌, ℕ, List, [], ◌++◌, length, All, Result, Ok, Err}
+use Rattle.std.specs.Prelude.{◌≡◌, ◌≢◌, ℕ, zero, suc, ◌+◌, ◌≤◌, List, [], ◌∷◌, ◌++◌, length, drop, slice_index, All, Result, Ok, Err}
 use Rattle.tlv_core.specs.TagForm.{IsTag, StartsWithTag, EndsInsideTag}
 use Rattle.tlv_core.specs.Length.{SpellsLength, StartsWithLength, EndsInsideLength}
+use Rattle.tlv_core.specs.Spelling.{deepest}
+use Rattle.tlv_core.specs.Place.{StartsWith}
 use Rattle.tlv_core.specs.FirstFault.{IsAtObject}
 use Rattle.tlv_core.specs.declared.fault.Reason.{Reason}
 use Rattle.tlv_core.specs.declared.fault.Reason.TheVariants.{TagCut, TagForm, LengthCut, LengthForm}
@@ -13,9 +15,20 @@ IsFrontTag bytes (Err TagCut) = EndsInsideTag bytes
 IsFrontTag bytes (Err TagForm) = (EndsInsideTag bytes → ⊥) × (StartsWithTag bytes → ⊥)
 IsFrontTag bytes (Err _) = ⊥
 
+-- the tag at the front has so many bytes, or why there is none
+abbrev pub IsFrontTagSize : List ℕ → Result ℕ Reason → Type 0
+IsFrontTagSize bytes (Ok n) = (tag : List ℕ) × IsFrontTag bytes (Ok tag) × (length tag ≡ n)
+IsFrontTagSize bytes (Err reason) = IsFrontTag bytes (Err reason)
+
 -- a length is spelled at the front in so many bytes
 abbrev pub IsFrontSpelling : List ℕ → ℕ → ℕ → Type 0
-IsFrontSpelling bytes spelled value = (size rest : List ℕ) × (bytes ≡ size ++ rest) × (length size ≡ spelled) × SpellsLength size value
+IsFrontSpelling bytes spelled value = (size rest : List ℕ) × (bytes ≡ size ++ rest)
+    × (length size ≡ spelled) × SpellsLength size value
+
+-- a length is spelled from one place to another
+abbrev pub IsSpelledFrom : List ℕ → ℕ → ℕ → ℕ → Type 0
+IsSpelledFrom bytes start end value = (spelled : ℕ) × (end ≡ start + spelled)
+    × IsFrontSpelling (drop start bytes) spelled value
 
 -- why no length is spelled at the front
 abbrev pub HasNoFrontLength : List ℕ → Reason → Type 0
@@ -29,3 +42,20 @@ pub record IsPastPadding (bytes rest : List ℕ) : Type 0 where
   pub is_padding : All (λ b. b ≡ 0) padding
   pub split : bytes ≡ padding ++ rest
   pub at_object : rest ≢ [] → IsAtObject rest
+
+-- an object of this level at the front, and how many bytes its tag, its head and its value have
+pub record HasParts (bytes : List ℕ) (level tag_size head_size value_size : ℕ) : Type 0 where
+  pub in_depth : level ≤ deepest
+  pub tag : List ℕ
+  pub size : List ℕ
+  pub value : List ℕ
+  pub rest : List ℕ
+  pub starts : StartsWith bytes tag size value rest
+  pub tag_is : length tag ≡ tag_size
+  pub head_is : length (tag ++ size) ≡ head_size
+  pub value_is : length value ≡ value_size
+
+-- the first numbers of an array, the last of them first
+abbrev pub innermost_first : List ℕ → ℕ → List ℕ
+innermost_first cells zero = []
+innermost_first cells (suc n) = slice_index cells n ∷ innermost_first cells n

@@ -11,8 +11,10 @@ bytes_code bytes = (coded_list coded_ℕ).code bytes
 
 abbrev to_tree : Forest → Gv
 to_tree Empty = gnil
-to_tree (Primitive tag value rest) = gcons (gnum 0) (gcons (bytes_code tag) (gcons (bytes_code value) (to_tree rest)))
-to_tree (Template tag children rest) = gcons (gnum 1) (gcons (bytes_code tag) (gcons (to_tree children) (to_tree rest)))
+to_tree (Primitive tag value rest) =
+    gcons (gnum 0) (gcons (bytes_code tag) (gcons (bytes_code value) (to_tree rest)))
+to_tree (Template tag children rest) =
+    gcons (gnum 1) (gcons (bytes_code tag) (gcons (to_tree children) (to_tree rest)))
 
 abbrev front_of : Gv → Gv
 front_of gnil = gnil
@@ -63,4 +65,6 @@ item_join-split (PrimitiveItem tag value) = refl
 item_join-split (TemplateItem tag children) = refl
 
 abbrev pub item_code : Coded Item
-item_code = code_by ((List ℕ × List ℕ) ⊎ (List ℕ × Forest)) (coded⊎ (coded× (coded_list coded_ℕ) (coded_list coded_ℕ)) (coded× (coded_list coded_ℕ) forest_code)) item_split item_join item_join-split
+item_code = code_by ((List ℕ × List ℕ) ⊎ (List ℕ × Forest))
+    (coded⊎ (coded× (coded_list coded_ℕ) (coded_list coded_ℕ))
+    (coded× (coded_list coded_ℕ) forest_code)) item_split item_join item_join-split

@@ -18,7 +18,8 @@ shortest n =
 
 -- the bytes start with the spelling of some length
 abbrev pub StartsWithLength : List ℕ → Type 0
-StartsWithLength bytes = (size rest : List ℕ) × (n : ℕ) × SpellsLength size n × (bytes ≡ size ++ rest)
+StartsWithLength bytes = (size rest : List ℕ) × (n : ℕ) × SpellsLength size n
+    × (bytes ≡ size ++ rest)
 
 -- the bytes end inside the spelling of a length, or before it
 abbrev pub EndsInsideLength : List ℕ → Type 0

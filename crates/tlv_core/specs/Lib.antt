@@ -10,5 +10,13 @@ pub mod NodesFall
 pub mod Object
 pub mod Place
 pub mod FirstFault
+pub mod FaultText
 pub mod Path
 pub mod Address
+pub mod TagLaws
+pub mod LengthLaws
+pub mod StartLaws
+pub mod SpellingLaws
+pub mod PlaceLaws
+pub mod FaultLaws
+pub mod AddressLaws

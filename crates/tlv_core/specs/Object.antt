@@ -1,8 +1,9 @@
 -- Objects as they stand in bytes, one after another.
-use Rattle.std.specs.Prelude.{◌≡◌, ℕ, ◌+◌, ◌≤◌, List, [], length, All, Option, Some, None, true}
+use Rattle.std.specs.Prelude.{◌≡◌, ℕ, ◌+◌, ◌≤◌, List, [], length, All, Option, Some, None, true, false}
 use Rattle.tlv_core.specs.TagForm.{IsTag, is_constructed}
 use Rattle.tlv_core.specs.Length.{SpellsLength}
-use Rattle.tlv_core.specs.Spelling.{Begins, AreObjects, deepest}
+use Rattle.tlv_core.specs.Spelling.{Begins, Spells, AreObjects, deepest}
+use Rattle.tlv_core.specs.Items.{Item, PrimitiveItem, TemplateItem}
 
 -- an object: its tag, its length as spelled, its value, and its level
 pub record Object : Type 0 where
@@ -30,7 +31,18 @@ IsObjectList list = AreObjects list.bytes list.level
 -- Going on in a list gives its next object, past any padding, and leaves what follows it; at the
 -- end, past any padding, it gives none.
 abbrev pub GivesNext : ObjectList → Option Object → ObjectList → Type 0
-GivesNext before None after = All (λ b. b ≡ 0) before.bytes × (after.bytes ≡ []) × (after.level ≡ before.level)
+GivesNext before None after = All (λ b. b ≡ 0) before.bytes × (after.bytes ≡ [])
+    × (after.level ≡ before.level)
 GivesNext before (Some object) after =
-    ((padding : List ℕ) × Begins before.bytes padding object.tag object.size object.value after.bytes before.level)
+    ((padding : List ℕ) × Begins before.bytes padding object.tag object.size object.value
+        after.bytes before.level)
     × (object.level ≡ before.level) × (after.level ≡ before.level)
+
+-- the object is the one of a forest: a primitive with its tag and value, or a template whose value
+-- spells the children
+abbrev pub IsItemOf : Item → Object → Type 0
+IsItemOf (PrimitiveItem tag value) object =
+    (object.tag ≡ tag) × (is_constructed tag ≡ false) × (object.value ≡ value)
+IsItemOf (TemplateItem tag children) object =
+    (object.tag ≡ tag) × (is_constructed tag ≡ true)
+        × Spells children object.value (object.level + 1)

@@ -9,24 +9,31 @@ pub record StartsWith (bytes tag size value rest : List ℕ) : Type 0 where
   pub is_tag : IsTag tag
   pub is_size : SpellsLength size (length value)
 
--- A reader at the front of the bytes, which are a list of objects at a level, reaches a place: there
--- the bytes up to the end of the innermost list are `left`, that list is at the level `depth`, and
--- `path` has the tags of the templates that were entered, the outermost first.
+abbrev pub StartsWithObject : List ℕ → Type 0
+StartsWithObject bytes = (tag size value rest : List ℕ) × StartsWith bytes tag size value rest
+
+-- A reader at the front of the bytes, which are a list of objects at a level, reaches a place:
+-- there the bytes up to the end of the innermost list are `left`, that list is at the level
+-- `depth`, and `path` has the tags of the templates that were entered, the outermost first.
 pub data Reached : List ℕ → ℕ → ℕ → List ℕ → ℕ → List (List ℕ) → Type 0 where
   at_front : {bytes : List ℕ} {level place : ℕ} {left : List ℕ} {depth : ℕ} {path : List (List ℕ)}
       → place ≡ 0 → left ≡ bytes → depth ≡ level → path ≡ []
       → Reached bytes level place left depth path
-  past_padding : {bytes : List ℕ} {level place : ℕ} {left : List ℕ} {depth : ℕ} {path : List (List ℕ)}
+  past_padding : {bytes : List ℕ} {level place : ℕ} {left : List ℕ} {depth : ℕ}
+      {path : List (List ℕ)}
       (rest : List ℕ) (next : ℕ) → bytes ≡ 0 ∷ rest → place ≡ 1 + next
       → Reached rest level next left depth path
       → Reached bytes level place left depth path
-  past_object : {bytes : List ℕ} {level place : ℕ} {left : List ℕ} {depth : ℕ} {path : List (List ℕ)}
+  past_object : {bytes : List ℕ} {level place : ℕ} {left : List ℕ} {depth : ℕ}
+      {path : List (List ℕ)}
       (tag size value rest : List ℕ) (next : ℕ) → StartsWith bytes tag size value rest
       → place ≡ length (tag ++ size ++ value) + next
       → Reached rest level next left depth path
       → Reached bytes level place left depth path
-  into_template : {bytes : List ℕ} {level place : ℕ} {left : List ℕ} {depth : ℕ} {path : List (List ℕ)}
-      (tag size value rest : List ℕ) (inner : ℕ) (below : List (List ℕ)) → StartsWith bytes tag size value rest
+  into_template : {bytes : List ℕ} {level place : ℕ} {left : List ℕ} {depth : ℕ}
+      {path : List (List ℕ)}
+      (tag size value rest : List ℕ) (inner : ℕ) (below : List (List ℕ))
+          → StartsWith bytes tag size value rest
       → is_constructed tag ≡ true → place ≡ length (tag ++ size) + inner → path ≡ tag ∷ below
       → Reached value (suc level) inner left depth below
       → Reached bytes level place left depth path

@@ -26,9 +26,11 @@ pub record Begins (bytes padding tag size value rest : List ℕ) (level : ℕ) :
 abbrev pub Spells : Forest → List ℕ → ℕ → Type 0
 Spells Empty bytes level = All (λ b. b ≡ 0) bytes
 Spells (Primitive tag value rest) bytes level =
-    (padding size more : List ℕ) × Begins bytes padding tag size value more level × (is_constructed tag ≡ false) × Spells rest more level
+    (padding size more : List ℕ) × Begins bytes padding tag size value more level
+        × (is_constructed tag ≡ false) × Spells rest more level
 Spells (Template tag children rest) bytes level =
-    (padding size value more : List ℕ) × Begins bytes padding tag size value more level × (is_constructed tag ≡ true)
+    (padding size value more : List ℕ) × Begins bytes padding tag size value more level
+        × (is_constructed tag ≡ true)
     × Spells children value (suc level) × Spells rest more level
 
 -- the bytes are a list of objects at this level
@@ -58,9 +60,11 @@ levels (Template tag children rest) = max (suc (levels children)) (levels rest)
 -- Each object has a tag of its kind, and a value of at most 65,535 bytes when it is written.
 abbrev pub HasSoundObjects : Forest → Type 0
 HasSoundObjects Empty = Unit {0}
-HasSoundObjects (Primitive tag value rest) = IsTag tag × (is_constructed tag ≡ false) × (length value ≤ longest) × HasSoundObjects rest
+HasSoundObjects (Primitive tag value rest) = IsTag tag × (is_constructed tag ≡ false)
+    × (length value ≤ longest) × HasSoundObjects rest
 HasSoundObjects (Template tag children rest) =
-    IsTag tag × (is_constructed tag ≡ true) × (length (encoding children) ≤ longest) × HasSoundObjects children × HasSoundObjects rest
+    IsTag tag × (is_constructed tag ≡ true) × (length (encoding children) ≤ longest)
+        × HasSoundObjects children × HasSoundObjects rest
 
 -- the lists of objects that can be written
 pub record IsWritable (forest : Forest) : Type 0 where

@@ -15,6 +15,11 @@ pub enum BuildFault {
 }
 
 impl fmt::Display for BuildFault {
+    ghost use Rattle.std.specs.Prelude.{Some};
+    ghost use Rattle.tlv_core.specs.FaultText.{build_text};
+
+    ghost output = { λ fault. Some (build_text fault) };
+
     fn fmt<W: fmt::Write>(&self, f: &mut fmt::Formatter<W>) -> fmt::Result {
         f.write_str(match self {
             BuildFault::WrongKind => "wrong kind of tag",

@@ -4,8 +4,8 @@ ghost use Rattle.tlv_core.specs.Spelling.{AreObjects, deepest};
 ghost use Rattle.tlv_core.specs.TagForm.{is_constructed};
 
 use crate::fault::TlvFault;
-use crate::front::{front_object, past_padding};
-use crate::tag::Tag;
+use crate::front::{DEEPEST, front_parts};
+use crate::tag::{Tag, starts_template};
 
 /// The first fault of the value as that of an object at level 1 with this tag, its place counted in
 /// the value; None where it has none, and for a primitive tag.
@@ -21,27 +21,40 @@ pub fn value_fault(tag: Tag, value: &[u8]) -> Option<TlvFault>
 }
 
 /// The first fault of the bytes as a list of objects at this level, from 1 to one past the deepest.
-pub(crate) fn first_fault(bytes: &[u8], level: u8) -> Option<TlvFault>
-    requires { level ≤ deepest + 1 }
+pub(crate) fn first_fault(bytes: &[u8], level: usize) -> Option<TlvFault>
+    requires above { 1 ≤ level }
+    requires in_depth { level ≤ deepest + 1 }
     ensures { MatchOption result (AreObjects bytes.now level) (λ fault. IsFirstFault bytes.now level fault.place fault.reason) }
 {
-    let mut rest = past_padding(bytes);
-    while !rest.is_empty() {
-        let object = match front_object(rest, level) {
-            Ok(object) => object,
-            Err(reason) => {
-                let place = bytes.len() - rest.len();
-                return Some(TlvFault { place, reason });
+    let mut ends = [0; DEEPEST as usize];
+    let mut open = 0;
+    let mut place = 0;
+    let mut end = bytes.len();
+    'reading: loop {
+        'closing: while place == end {
+            if open == 0 {
+                return None;
             }
-        };
-        if object.tag.is_constructed() {
-            if let Some(fault) = first_fault(object.value, level + 1) {
-                let place = bytes.len() - object.rest.len() - object.value.len() + fault.place;
-                let reason = fault.reason;
-                return Some(TlvFault { place, reason });
+            open -= 1;
+            end = ends[open];
+        }
+        if bytes[place] == 0 {
+            place += 1;
+        } else {
+            let parts = match front_parts(&bytes[place..end], level + open) {
+                Ok(parts) => parts,
+                Err(reason) => return Some(TlvFault { place, reason }),
+            };
+            let value = place + parts.head;
+            let after = value + parts.value;
+            if starts_template(bytes[place]) {
+                ends[open] = end;
+                open += 1;
+                place = value;
+                end = after;
+            } else {
+                place = after;
             }
         }
-        rest = past_padding(object.rest);
     }
-    None
 }

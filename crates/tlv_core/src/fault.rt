@@ -20,6 +20,11 @@ pub enum Reason {
 }
 
 impl fmt::Display for Reason {
+    ghost use Rattle.std.specs.Prelude.{Some};
+    ghost use Rattle.tlv_core.specs.FaultText.{reason_text};
+
+    ghost output = { λ reason. Some (reason_text reason) };
+
     fn fmt<W: fmt::Write>(&self, f: &mut fmt::Formatter<W>) -> fmt::Result {
         let name = match self {
             Reason::TagCut => "TagCut",
@@ -42,6 +47,11 @@ pub struct TlvFault {
 }
 
 impl fmt::Display for TlvFault {
+    ghost use Rattle.std.specs.Prelude.{Some};
+    ghost use Rattle.tlv_core.specs.FaultText.{fault_text};
+
+    ghost output = { λ fault. Some (fault_text fault) };
+
     fn fmt<W: fmt::Write>(&self, f: &mut fmt::Formatter<W>) -> fmt::Result {
         write!(f, "{} at {}", self.reason, self.place)
     }

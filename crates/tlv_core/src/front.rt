@@ -1,20 +1,31 @@
-ghost use Rattle.std.specs.Prelude.{◌≡◌, ◌≤◌, ◌<◌, MatchResult};
-ghost use Rattle.tlv_core.specs.Front.{IsFrontSpelling, HasNoFrontLength, IsPastPadding};
+ghost use Rattle.std.specs.Prelude.{◌≡◌, ◌≤◌, ◌<◌, length, drop, MatchResult};
+ghost use Rattle.tlv_core.specs.Front.{IsFrontTagSize, IsSpelledFrom, HasNoFrontLength, IsPastPadding, HasParts};
 ghost use Rattle.tlv_core.specs.FirstFault.{FailsFor};
-ghost use Rattle.tlv_core.specs.Place.{StartsWith};
+ghost use Rattle.tlv_core.specs.Length.{StartsWithLength};
+ghost use Rattle.tlv_core.specs.Place.{StartsWith, StartsWithObject};
+ghost use Rattle.tlv_core.specs.TagForm.{StartsWithTag};
 ghost use Rattle.tlv_core.specs.Spelling.{deepest};
 
 use crate::fault::Reason;
-use crate::tag::{Tag, front_tag};
+use crate::tag::{Tag, tag_size};
 
 /// The deepest level at which objects stand (this project's profile).
 pub(crate) const DEEPEST: u8 = 16;
 
-/// A length as it is spelled: in how many bytes, and for how many bytes of value.
+/// A length as it is spelled: where it ends, and for how many bytes of value.
 #[derive(Clone, Copy)]
 struct Length {
-    spelled: usize,
+    end: usize,
     value: usize,
+}
+
+/// How many bytes the parts of an object have: its tag, its head, which is the tag and the length as
+/// spelled, and its value.
+#[derive(Clone, Copy)]
+pub(crate) struct Parts {
+    pub(crate) tag: usize,
+    pub(crate) head: usize,
+    pub(crate) value: usize,
 }
 
 /// The object at the front of bytes, and what follows it.
@@ -37,51 +48,111 @@ pub(crate) fn past_padding(bytes: &[u8]) -> &[u8]
     rest
 }
 
-#[tactic(auto, using(crate::proofs::Lengths::front_none, crate::proofs::Lengths::front_short, crate::proofs::Lengths::front_81, crate::proofs::Lengths::front_82, crate::proofs::Lengths::front_cut_first, crate::proofs::Lengths::front_cut_second))]
-/// The length at the front of the bytes, or why there is none.
-fn front_length(bytes: &[u8]) -> Result<Length, Reason>
-    ensures { MatchResult result (λ length. IsFrontSpelling bytes.now length.spelled length.value) (HasNoFrontLength bytes.now) }
+/// The length that is spelled from this place of the bytes, or why there is none.
+#[inline(always)]
+fn length_at(bytes: &[u8], start: usize) -> Result<Length, Reason>
+    requires { start ≤ length bytes.now }
+    ensures { MatchResult result
+        (λ found. IsSpelledFrom bytes.now start found.end found.value)
+        (HasNoFrontLength (drop start bytes.now)) }
 {
-    match bytes {
-        [] => Err(Reason::LengthCut),
-        [short @ 0x00..=0x7F, ..] => Ok(Length {
-            spelled: 1,
-            value: *short as usize,
+    if start == bytes.len() {
+        return Err(Reason::LengthCut);
+    }
+    let first = bytes[start];
+    if first < 0x80 {
+        return Ok(Length {
+            end: start + 1,
+            value: first as usize,
+        });
+    }
+    let left = bytes.len() - start;
+    match first {
+        0x81 if left < 2 => Err(Reason::LengthCut),
+        0x81 => Ok(Length {
+            end: start + 2,
+            value: bytes[start + 1] as usize,
         }),
-        [0x81, low, ..] => Ok(Length {
-            spelled: 2,
-            value: *low as usize,
+        0x82 if left < 3 => Err(Reason::LengthCut),
+        0x82 => Ok(Length {
+            end: start + 3,
+            value: 256 * bytes[start + 1] as usize + bytes[start + 2] as usize,
         }),
-        [0x82, high, low, ..] => Ok(Length {
-            spelled: 3,
-            value: 256 * *high as usize + *low as usize,
-        }),
-        [0x81 | 0x82] | [0x82, _] => Err(Reason::LengthCut),
         _ => Err(Reason::LengthForm),
     }
 }
 
-/// The object at the front of the bytes of a list at this level, or why there is none.
-pub(crate) fn front_object(bytes: &[u8], level: u8) -> Result<Front<'_>, Reason>
+/// How many bytes the parts of the object at the front of a list at this level have, or why there
+/// is none.
+#[inline(always)]
+pub(crate) fn front_parts(bytes: &[u8], level: usize) -> Result<Parts, Reason>
     ensures { MatchResult result
-        (λ front. (level ≤ deepest) × StartsWith bytes.now front.tag front.size.now front.value.now front.rest.now)
+        (λ parts. HasParts bytes.now level parts.tag parts.head parts.value)
         (FailsFor bytes.now level) }
 {
-    if level > DEEPEST {
+    if level > DEEPEST as usize {
         return Err(Reason::TooDeep);
     }
-    let tag = front_tag(bytes)?;
-    let after_tag = &bytes[tag.bytes().len()..];
-    let length = front_length(after_tag)?;
-    let (size, after_size) = after_tag.split_at(length.spelled);
-    if after_size.len() < length.value {
+    let tag = tag_size(bytes)?;
+    let length = length_at(bytes, tag)?;
+    if bytes.len() - length.end < length.value {
         return Err(Reason::ValueCut);
     }
-    let (value, rest) = after_size.split_at(length.value);
-    Ok(Front {
+    Ok(Parts {
         tag,
+        head: length.end,
+        value: length.value,
+    })
+}
+
+/// How many bytes the tag has that the bytes start with.
+#[inline(always)]
+fn known_tag(bytes: &[u8]) -> usize
+    requires { StartsWithTag bytes.now }
+    ensures { IsFrontTagSize bytes.now (Ok result) }
+{
+    if bytes[0] % 32 != 31 {
+        1
+    } else if bytes[1] < 128 {
+        2
+    } else {
+        3
+    }
+}
+
+/// The length that is spelled from this place of the bytes.
+#[inline(always)]
+fn known_length(bytes: &[u8], start: usize) -> Length
+    requires inside { start ≤ length bytes.now }
+    requires spelled { StartsWithLength (drop start bytes.now) }
+    ensures { IsSpelledFrom bytes.now start result.end result.value }
+{
+    let (end, value) = match bytes[start] {
+        0x81 => (start + 2, bytes[start + 1] as usize),
+        0x82 => (
+            start + 3,
+            256 * bytes[start + 1] as usize + bytes[start + 2] as usize,
+        ),
+        short => (start + 1, short as usize),
+    };
+    Length { end, value }
+}
+
+/// The object that the bytes start with. Nothing is checked.
+#[inline(always)]
+pub(crate) fn front_object(bytes: &[u8]) -> Front<'_>
+    requires { StartsWithObject bytes.now }
+    ensures { StartsWith bytes.now result.tag result.size.now result.value.now result.rest.now }
+{
+    let tag_size = known_tag(bytes);
+    let length = known_length(bytes, tag_size);
+    let (head, after_head) = bytes.split_at(length.end);
+    let (tag, size) = head.split_at(tag_size);
+    let (value, rest) = after_head.split_at(length.value);
+    Front {
+        tag: Tag::of(tag),
         size,
         value,
         rest,
-    })
+    }
 }

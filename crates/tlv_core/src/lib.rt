@@ -2,22 +2,22 @@
 
 //! Data objects of smart cards: tag, length and value by EMV Book 3, Annex B.
 
-pub mod build_fault;
-pub mod check;
-pub mod fault;
-pub mod forest;
+mod build_fault;
+mod check;
+mod fault;
+mod forest;
 pub mod forest_laws;
 mod front;
-pub mod heads;
-pub mod node;
-pub mod object_tag;
-pub mod objects;
-pub mod path;
-pub mod read_fault;
+mod heads;
+mod node;
+mod object_tag;
+mod objects;
+mod path;
+mod read_fault;
 pub mod reader_laws;
-pub mod short_head;
-pub mod tag;
-pub mod tree;
+mod short_head;
+mod tag;
+mod tree;
 
 pub use build_fault::BuildFault;
 pub use check::value_fault;

@@ -26,7 +26,7 @@ impl Model for ObjectTag {
 }
 
 impl ObjectTag {
-    #[tactic(auto, using(crate::proofs::Addresses::named_by_one, crate::proofs::Addresses::named_by_two))]
+    #[tactic(auto, using(crate::specs::AddressLaws::named_by_one, crate::specs::AddressLaws::named_by_two))]
     /// The tag, where it can be named; None for every other one.
     pub fn new(tag: Tag) -> Option<ObjectTag>
         ensures named { IsSome result ↔ IsAddressable tag }

@@ -1,13 +1,13 @@
 ghost use Rattle.std.specs.Prelude.{◌≡◌, ◌↔◌, ◌≤◌, ◌+◌, ◌++◌, length, true, false, IsOk, IfOk, IfErr, IsNone, IfSome};
 ghost use Rattle.std.specs.Iterator.{at_most};
 ghost use Rattle.tlv_core.specs.FirstFault.{IsFirstFault};
-ghost use Rattle.tlv_core.specs.Object.{IsObjectList, GivesNext};
+ghost use Rattle.tlv_core.specs.Object.{IsObject, IsObjectList, GivesNext};
 ghost use Rattle.tlv_core.specs.Spelling.{AreObjects, deepest};
 ghost use Rattle.tlv_core.specs.TagForm.{is_constructed};
 
 use crate::check::first_fault;
 use crate::fault::TlvFault;
-use crate::front::{front_object, past_padding};
+use crate::front::{Front, front_object, past_padding};
 use crate::tag::Tag;
 use std::marker::Model;
 
@@ -57,19 +57,9 @@ impl<'a> Objects<'a> {
         ensures list { IfOk result (λ list. list ≡ record { bytes = bytes.now; level = 1 }) }
         ensures fault { IfErr result (λ fault. IsFirstFault bytes.now 1 fault.place fault.reason) }
     {
-        Objects::at_level(bytes, 1)
-    }
-
-    /// The same for a list at any level, from 1 to one past the deepest.
-    fn at_level(bytes: &'a [u8], level: u8) -> Result<Objects<'a>, TlvFault>
-        requires { level ≤ deepest + 1 }
-        ensures objects { IsOk result ↔ AreObjects bytes.now level }
-        ensures list { IfOk result (λ list. list ≡ record { bytes = bytes.now; level = level }) }
-        ensures fault { IfErr result (λ fault. IsFirstFault bytes.now level fault.place fault.reason) }
-    {
-        match first_fault(bytes, level) {
+        match first_fault(bytes, 1) {
             Some(fault) => Err(fault),
-            None => Ok(Objects { bytes, level }),
+            None => Ok(Objects { bytes, level: 1 }),
         }
     }
 }
@@ -88,20 +78,26 @@ impl<'a> Iterator for Objects<'a> {
             self.bytes = bytes;
             return None;
         }
-        let Ok(front) = front_object(bytes, level) else {
-            unreachable!()
-        };
+        let front = front_object(bytes);
         self.bytes = front.rest;
-        Some(Obj {
-            tag: front.tag,
-            size: front.size,
-            value: front.value,
-            level,
-        })
+        Some(Obj::at_level(front, level))
     }
 }
 
 impl<'a> Obj<'a> {
+    /// The object that was found at the front of a list at this level.
+    pub(crate) fn at_level(front: Front<'a>, level: u8) -> Obj<'a>
+        requires { IsObject (record { tag = front.tag; size = front.size.now; value = front.value.now; level = level }) }
+        ensures { result ≡ record { tag = front.entry.tag; size = front.entry.size.now; value = front.entry.value.now; level = level } }
+    {
+        Obj {
+            tag: front.tag,
+            size: front.size,
+            value: front.value,
+            level,
+        }
+    }
+
     /// The tag.
     pub fn tag(&self) -> Tag
         ensures { result ≡ self.now.tag }
@@ -124,13 +120,16 @@ impl<'a> Obj<'a> {
         head + self.value.len()
     }
 
-    /// The objects in the value, which is checked again; None for a primitive object.
+    /// The objects in the value, which were checked with the list; None for a primitive object.
     pub fn children(&self) -> Option<Objects<'a>>
         ensures primitive { IsNone result ↔ (is_constructed self.now.tag ≡ false) }
         ensures list { IfSome result (λ list. (list ≡ record { bytes = self.now.value; level = self.now.level + 1 }) × IsObjectList list) }
     {
         if self.tag.is_constructed() {
-            Objects::at_level(self.value, self.level + 1).ok()
+            Some(Objects {
+                bytes: self.value,
+                level: self.level + 1,
+            })
         } else {
             None
         }

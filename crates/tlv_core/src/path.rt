@@ -4,6 +4,7 @@ ghost use Rattle.tlv_core.specs.Path.{IsFirstAt, NoneStandsAt};
 ghost use Rattle.tlv_core.specs.Spelling.{AreObjects};
 
 use crate::fault::TlvFault;
+use crate::front::{DEEPEST, front_object};
 use crate::objects::{Obj, Objects};
 use crate::tag::Tag;
 
@@ -14,27 +15,46 @@ pub fn find<'a>(bytes: &'a [u8], path: &[Tag]) -> Result<Option<Obj<'a>>, TlvFau
     ensures found { IfOk result (λ found. MatchOption found (NoneStandsAt bytes.now 1 path.now) (IsFirstAt bytes.now 1 path.now)) }
     ensures fault { IfErr result (λ fault. IsFirstFault bytes.now 1 fault.place fault.reason) }
 {
-    let objects = Objects::over(bytes)?;
-    Ok(find_in(objects, path))
+    Objects::over(bytes)?;
+    Ok(find_in(bytes, path))
 }
 
-/// The first object on the path, in what is left of a list.
-fn find_in<'a>(objects: Objects<'a>, path: &[Tag]) -> Option<Obj<'a>>
-    ensures { MatchOption result (NoneStandsAt objects.entry.bytes objects.entry.level path.now) (IsFirstAt objects.entry.bytes objects.entry.level path.now) }
+/// The first object on the path.
+fn find_in<'a>(bytes: &'a [u8], path: &[Tag]) -> Option<Obj<'a>>
+    requires { AreObjects bytes.now 1 }
+    ensures { MatchOption result (NoneStandsAt bytes.now 1 path.now) (IsFirstAt bytes.now 1 path.now) }
 {
-    let (first, below) = path.split_first()?;
-    for object in objects {
-        if object.tag() != *first {
-            continue;
-        }
-        if below.is_empty() {
-            return Some(object);
-        }
-        if let Some(children) = object.children() {
-            if let Some(found) = find_in(children, below) {
-                return Some(found);
+    if path.is_empty() {
+        return None;
+    }
+    let mut ends = [0; DEEPEST as usize];
+    let mut open = 0u8;
+    let mut place = 0;
+    let mut end = bytes.len();
+    'seeking: loop {
+        if place == end {
+            if open == 0 {
+                return None;
+            }
+            open -= 1;
+            end = ends[open as usize];
+        } else if bytes[place] == 0 {
+            place += 1;
+        } else {
+            let object = front_object(&bytes[place..end]);
+            let after = end - object.rest.len();
+            if object.tag != path[open as usize] {
+                place = after;
+            } else if open as usize + 1 == path.len() {
+                return Some(Obj::at_level(object, open + 1));
+            } else if object.tag.is_constructed() {
+                ends[open as usize] = end;
+                open += 1;
+                place = after - object.value.len();
+                end = after;
+            } else {
+                place = after;
             }
         }
     }
-    None
 }

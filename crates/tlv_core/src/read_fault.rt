@@ -12,10 +12,15 @@ pub enum ReadFault {
 }
 
 impl fmt::Display for ReadFault {
+    ghost use Rattle.std.specs.Prelude.{Some};
+    ghost use Rattle.tlv_core.specs.FaultText.{read_text};
+
+    ghost output = { λ fault. Some (read_text fault) };
+
     fn fmt<W: fmt::Write>(&self, f: &mut fmt::Formatter<W>) -> fmt::Result {
         match self {
             ReadFault::Tlv(fault) => write!(f, "{fault}"),
-            ReadFault::OutOfMemory => write!(f, "out of memory"),
+            ReadFault::OutOfMemory => f.write_str("out of memory"),
         }
     }
 }

@@ -1,10 +1,12 @@
-//! Laws on tags, lengths, faults and addresses, over the definitions alone.
+//! Laws on tags, lengths, faults, lists of objects and addresses, over the definitions alone.
 
-ghost use Rattle.std.specs.Prelude.{◌≡◌, ◌↔◌, ◌++◌, ℕ, List, []};
+ghost use Rattle.std.specs.Prelude.{◌≡◌, ◌↔◌, ◌++◌, ℕ, List, [], Some, None};
 ghost use Rattle.tlv_core.specs.Address.{NamesTag};
 ghost use Rattle.tlv_core.specs.FirstFault.{IsFirstFault};
 ghost use Rattle.tlv_core.specs.Length.{SpellsLength};
-ghost use Rattle.tlv_core.specs.Spelling.{AreObjects};
+ghost use Rattle.tlv_core.specs.Items.{Item, with_first};
+ghost use Rattle.tlv_core.specs.Object.{Object, ObjectList, GivesNext, IsItemOf};
+ghost use Rattle.tlv_core.specs.Spelling.{AreObjects, Forest, Empty, Spells};
 ghost use Rattle.tlv_core.specs.TagForm.{IsTag};
 ghost use Rattle.tlv_core.specs.declared.fault.Reason.{Reason};
 
@@ -27,6 +29,17 @@ pub fn a_fault_where_no_objects()
 /// There is at most one first fault.
 pub fn one_first_fault()
     ensures { (bytes : List ℕ) (level p q : ℕ) (r s : Reason) → IsFirstFault bytes level p r → IsFirstFault bytes level q s → (p ≡ q) × (r ≡ s) }
+{}
+
+/// Going on in a list that spells a forest gives the forest's first object, and what is left spells
+/// the others. It gives none only where the forest is empty.
+pub fn next_is_the_first_object()
+    ensures some { (list left : ObjectList) (object : Object) (forest : Forest) →
+        Spells forest list.bytes list.level → GivesNext list (Some object) left →
+        ((item : Item) × (others : Forest) × (forest ≡ with_first item others) × IsItemOf item object
+        × Spells others left.bytes left.level) }
+    ensures none { (list left : ObjectList) (forest : Forest) →
+        Spells forest list.bytes list.level → GivesNext list None left → forest ≡ Empty }
 {}
 
 /// A tag has at most one address.

@@ -1,6 +1,6 @@
-ghost use Rattle.std.specs.Prelude.{◌≡◌, ◌↔◌, ◌++◌, ℕ, List, length, false, IfOk, IsErrOf, IsOk, IsTrue};
+ghost use Rattle.std.specs.Prelude.{◌≡◌, ◌↔◌, ◌++◌, ◌∷◌, [], ℕ, List, length, false, IfOk, IsErrOf, IsOk, IsTrue};
 ghost use Rattle.tlv_core.specs.TagForm.{IsTag, StartsWithTag, EndsInsideTag, is_constructed};
-ghost use Rattle.tlv_core.specs.Front.{IsFrontTag};
+ghost use Rattle.tlv_core.specs.Front.{IsFrontTagSize};
 
 use crate::fault::{Reason, TlvFault};
 use std::marker::Model;
@@ -41,16 +41,38 @@ impl Tag {
             ↔ ((EndsInsideTag bytes.now → ⊥) × (StartsWithTag bytes.now → ⊥)) }
         ensures starts { IsOk result ↔ StartsWithTag bytes.now }
     {
-        let tag = front_tag(bytes).map_err(TlvFault::at_front)?;
-        let size = tag.len;
-        Ok((tag, size))
+        let size = tag_size(bytes).map_err(TlvFault::at_front)?;
+        Ok((Tag::of(&bytes[..size]), size))
+    }
+
+    /// The tag that the bytes are.
+    pub(crate) fn of(bytes: &[u8]) -> Tag
+        requires { IsTag bytes.now }
+        ensures { result ≡ bytes.now }
+    {
+        let len = bytes.len();
+        match bytes {
+            [first] => Tag {
+                bytes: [*first, 0, 0],
+                len,
+            },
+            [first, second] => Tag {
+                bytes: [*first, *second, 0],
+                len,
+            },
+            [first, second, third] => Tag {
+                bytes: [*first, *second, *third],
+                len,
+            },
+            _ => unreachable!(),
+        }
     }
 
     /// Whether the value is a list of objects: bit 6 of the first byte.
     pub fn is_constructed(&self) -> bool
         ensures { result ≡ is_constructed self.now }
     {
-        self.bytes[0] / 32 % 2 == 1
+        starts_template(self.bytes[0])
     }
 
     /// Whether the value is any bytes.
@@ -70,29 +92,42 @@ impl Tag {
     }
 }
 
-/// The tag at the front of the bytes, or why there is none.
-#[tactic(auto, using(crate::proofs::Tags::front_none, crate::proofs::Tags::front_cut_first, crate::proofs::Tags::front_cut_second))]
-pub(crate) fn front_tag(bytes: &[u8]) -> Result<Tag, Reason>
-    ensures { IsFrontTag bytes.now result }
+#[tactic(auto, using(crate::specs::TagLaws::front_none, crate::specs::TagLaws::front_zero, crate::specs::TagLaws::front_one, crate::specs::TagLaws::front_cut_first, crate::specs::TagLaws::front_second, crate::specs::TagLaws::front_two, crate::specs::TagLaws::front_cut_second, crate::specs::TagLaws::front_third, crate::specs::TagLaws::front_three))]
+/// How many bytes the tag at the front of the bytes has, or why there is none.
+#[inline(always)]
+pub(crate) fn tag_size(bytes: &[u8]) -> Result<usize, Reason>
+    ensures { IsFrontTagSize bytes.now result }
 {
-    match bytes {
-        [] => Err(Reason::TagCut),
-        [0, ..] => Err(Reason::TagForm),
-        [first, ..] if first % 32 != 31 => Ok(Tag {
-            bytes: [*first, 0, 0],
-            len: 1,
-        }),
-        [_] => Err(Reason::TagCut),
-        [first, second @ 0x01..=0x7F, ..] => Ok(Tag {
-            bytes: [*first, *second, 0],
-            len: 2,
-        }),
-        [_, 0x00 | 0x80, ..] => Err(Reason::TagForm),
-        [_, _] => Err(Reason::TagCut),
-        [first, second, third @ 0x00..=0x7F, ..] => Ok(Tag {
-            bytes: [*first, *second, *third],
-            len: 3,
-        }),
-        _ => Err(Reason::TagForm),
+    if bytes.is_empty() {
+        return Err(Reason::TagCut);
     }
+    if bytes[0] == 0 {
+        return Err(Reason::TagForm);
+    }
+    if bytes[0] % 32 != 31 {
+        return Ok(1);
+    }
+    if bytes.len() == 1 {
+        return Err(Reason::TagCut);
+    }
+    if bytes[1] % 128 == 0 {
+        return Err(Reason::TagForm);
+    }
+    if bytes[1] < 128 {
+        return Ok(2);
+    }
+    if bytes.len() == 2 {
+        return Err(Reason::TagCut);
+    }
+    if bytes[2] >= 128 {
+        return Err(Reason::TagForm);
+    }
+    Ok(3)
+}
+
+/// Whether this first byte of a tag says that the value is a list of objects.
+pub(crate) fn starts_template(first: u8) -> bool
+    ensures { result ≡ is_constructed (first ∷ []) }
+{
+    first / 32 % 2 == 1
 }

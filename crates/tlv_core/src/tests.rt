@@ -78,6 +78,45 @@ fn finds_the_first_fault(rt: HostRuntime) {
     has_fault(&rt, SEVENTEEN_LEVELS, 32, Reason::TooDeep);
 }
 
+/// `70` with `50 05 41` inside, `depth` templates deep: the value of the innermost object is cut off
+/// at this place.
+const CUT_INSIDE: [(&[u8], usize); 4] = [
+    (b"\x70\x03\x50\x05\x41", 2),
+    (b"\x70\x05\x70\x03\x50\x05\x41", 4),
+    (b"\x70\x07\x70\x05\x70\x03\x50\x05\x41", 6),
+    (b"\x70\x0A\x00\x70\x07\x00\x70\x04\x00\x50\x05\x41", 9),
+];
+
+/// The same, with objects before and behind the template that holds the fault.
+const FAULT_AMONG_OTHERS: [(&[u8], usize, Reason); 6] = [
+    (b"\x70\x02\x50\x00\x50\x05\x41", 4, Reason::ValueCut),
+    (b"\x70\x02\x50\x00\x70\x01\x9F", 6, Reason::TagCut),
+    (b"\x70\x02\x50\x00\x70\x01\x9F\x00\x00", 6, Reason::TagCut),
+    (
+        b"\x70\x04\x70\x01\x50\x00\x9F\x00\x00",
+        4,
+        Reason::LengthCut,
+    ),
+    (
+        b"\x70\x05\x70\x03\x50\x01\x41\x9F\x00\x00",
+        7,
+        Reason::TagForm,
+    ),
+    (b"\x70\x03\x50\x80\x00\x50\x05\x41", 2, Reason::LengthForm),
+];
+
+#[test]
+fn finds_faults_in_templates(rt: HostRuntime) {
+    for (bytes, place) in CUT_INSIDE {
+        has_fault(&rt, bytes, place, Reason::ValueCut);
+    }
+    for (bytes, place, reason) in FAULT_AMONG_OTHERS {
+        has_fault(&rt, bytes, place, reason);
+    }
+    let deepest = Objects::over(SIXTEEN_LEVELS).expect(&rt, "objects");
+    assert_eq!(rt; deepest.count(), 1);
+}
+
 #[test]
 fn counts_levels_from_the_object(rt: HostRuntime) {
     let mut levels = 0;
@@ -138,6 +177,25 @@ fn finds_by_path(rt: HostRuntime) {
             place: 0,
             reason: Reason::ValueCut
         })
+    );
+
+    let among = b"\x6F\x02\x51\x00\x00\x70\x05\x6F\x03\x84\x01\x41\x6F\x03\x84\x01\x42";
+    is_object(
+        &rt,
+        find(among, &[control, file]).expect(&rt, "objects"),
+        b"\x84",
+        b"\x42",
+    );
+    is_object(
+        &rt,
+        find(among, &[tag(&rt, b"\x70"), control, file]).expect(&rt, "objects"),
+        b"\x84",
+        b"\x41",
+    );
+    assert!(rt;
+        find(among, &[control, control])
+            .expect(&rt, "objects")
+            .is_none()
     );
 
     let templates = b"\x70\x03\x50\x01\x41\x70\x03\x51\x01\x42\x70\x03\x50\x01\x43";

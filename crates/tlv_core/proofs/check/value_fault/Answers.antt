@@ -3,7 +3,7 @@ use Rattle.std.proofs.Common.{◌≡◌, ◌↔◌, List, ℕ, true, Bool, Optio
 use Rattle.tlv_core.specs.FirstFault.{IsFirstFault}
 use Rattle.tlv_core.specs.Spelling.{AreObjects}
 use Rattle.tlv_core.specs.declared.fault.TlvFault.{TlvFault}
-use Rattle.tlv_core.proofs.Places.{spelled_has_no_fault}
+use Rattle.tlv_core.specs.PlaceLaws.{spelled_has_no_fault}
 use Rattle.tlv_core.proofs.check.value_fault.Goals as goal
 
 none_where_objects : (result : Option TlvFault) (value : List ℕ) (b : Bool) → b ≡ true

@@ -1,19 +1,19 @@
--- What the three readers found, put together.
-use Rattle.std.proofs.Common.{ap, length}
-use Rattle.std.proofs.lemmas.Result.{err_from_is_err_and}
-use Rattle.tlv_core.proofs.Starts.{after_tag, fails_for_length, whole_object}
+-- The parts cut where their sizes say.
+use Rattle.tlv_core.specs.StartLaws.{parts_cut}
+use Rattle.tlv_core.proofs.Known.{known_starts_tag, known_inside, known_starts_length, known_parts}
 use Rattle.tlv_core.proofs.front.front_object.Goals as goal
 
-pub returns-in_err-length : goal.returns-in_err-length
-returns-in_err-length c =
-    let p = err_from_is_err_and c.from_residual-in_err-length.result c.from_residual-in_err-length.ensures.1 in
-    rw (p.1, p.2) (fails_for_length _ c.in_ok-tag.tag _ _ _ c.if-level-gt-DEEPEST.false c.in_ok-tag.ensures.0
-    (after_tag _ _ _ c.in_ok-tag.ensures.1 (ap length c.bytes.ensures.bytes)) c.in_err-length.ensures)
+pub known_tag-tag_size-requires : goal.known_tag-tag_size-requires
+known_tag-tag_size-requires c = known_starts_tag _ c.requires
+
+pub known_length-length-requires-clause-inside : goal.known_length-length-requires-clause-inside
+known_length-length-requires-clause-inside c = known_inside _ _ c.requires c.known_tag-tag_size.ensures
+
+pub known_length-length-requires-clause-spelled : goal.known_length-length-requires-clause-spelled
+known_length-length-requires-clause-spelled c = known_starts_length _ _ c.requires c.known_tag-tag_size.ensures
 
 pub returns : goal.returns
-returns c = (
-  c.if-level-gt-DEEPEST.false,
-  whole_object _ _ _ _ _ _ _ _ _ c.in_ok-tag.ensures.0
-      (after_tag _ _ _ c.in_ok-tag.ensures.1 (ap length c.bytes.ensures.bytes)) c.in_ok-length.ensures
-      c.split_at.ensures.front c.split_at.ensures.back c.if-after_size-length.false c.split_at-2.ensures.front c.split_at-2.ensures.back,
-)
+returns c =
+    rw c.of.ensures (parts_cut _ _ _ _ _ _ _ _ _ _ _
+    (known_parts _ _ _ _ c.requires c.known_tag-tag_size.ensures c.known_length-length.ensures) c.split_at.ensures.front c.split_at.ensures.back
+    c.split_at-2.ensures.front c.split_at-2.ensures.back c.split_at-3.ensures.front c.split_at-3.ensures.back)

@@ -1,6 +1,6 @@
 use Rattle.std.proofs.Common.{[], ◌++◌, ◌∙◌, sym}
 use Rattle.std.proofs.lemmas.List.{append-nil, append_cancel_left}
-use Rattle.tlv_core.proofs.Lengths.{sizes_agree}
+use Rattle.tlv_core.specs.LengthLaws.{sizes_agree}
 use Rattle.tlv_core.proofs.reader_laws.no_length_starts_another.Goals as goal
 
 pub returns : goal.returns

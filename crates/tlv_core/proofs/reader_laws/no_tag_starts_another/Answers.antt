@@ -1,6 +1,6 @@
 use Rattle.std.proofs.Common.{[], ◌++◌, ◌≡◌, ◌∙◌, sym}
 use Rattle.std.proofs.lemmas.List.{append-nil, append_cancel_left}
-use Rattle.tlv_core.proofs.Tags.{tags_agree}
+use Rattle.tlv_core.specs.TagLaws.{tags_agree}
 use Rattle.tlv_core.proofs.reader_laws.no_tag_starts_another.Goals as goal
 
 pub returns : goal.returns

@@ -1,7 +1,0 @@
--- Bytes with a fault are no list of objects.
-use Rattle.tlv_core.proofs.Places.{spelled_has_no_fault}
-use Rattle.tlv_core.proofs.objects.Objects.at_level.Goals as goal
-
-pub returns-in-Some-clause-objects : goal.returns-in-Some-clause-objects
-returns-in-Some-clause-objects c =
-    (λ clash. cc, λ objects. absurd (spelled_has_no_fault _ _ _ _ objects c.in-Some.ensures.here))

@@ -18,7 +18,10 @@ every_below p zero h i l = absurd (omega arith)
 every_below p (suc n) h i l =
     let parts = both (p n) (all_below p n) h in
     elim (eq-zero-or-pos (n - i)) [
-      | inl none ↦ let here : n ≡ i = omega arith in let P : ℕ → Type 0 = λ x. IsTrue (p x) in subst P here parts.0
+      | inl none ↦
+          let here : n ≡ i = omega arith in
+          let P : ℕ → Type 0 = λ x. IsTrue (p x) in
+          subst P here parts.0
       | inr some ↦ every_below p n parts.1 i (omega arith)
     ]
 
@@ -33,7 +36,10 @@ pub cleared : (b : ℕ) → b < 256 → bit_and b 0x10 ≡ 0 → bit_and b 0xEF 
 cleared b h clear = let at = every_below stays 256 every_byte_stays b h in grind (arith, nat_tests)
 
 pub set_and_cleared : (b : ℕ) → b < 256 → bit_and b 0x10 ≡ 0 → bit_and (bit_or b 0x10) 0xEF ≡ b
-set_and_cleared b h clear = let apart = and_or_apart 0xEF b 0x10 refl in let same = cleared b h clear in cc
+set_and_cleared b h clear =
+    let apart = and_or_apart 0xEF b 0x10 refl in
+    let same = cleared b h clear in
+    cc
 
 pub is_set : (b : ℕ) → bit_and (bit_or b 0x10) 0x10 ≢ 0
 is_set b none = let m = and_or_self 0x10 b in omega arith

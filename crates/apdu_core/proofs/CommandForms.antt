@@ -7,7 +7,12 @@ use Rattle.apdu_core.specs.CommandBytes.{Command, HasSizes, HasForm, HasInvalidI
 -- the command that a header and these fields make
 abbrev made : List ℕ → List ℕ → Option ℕ → Command
 made bytes content le = record {
-  header = record { cla = slice_index_or bytes 0 0; ins = slice_index_or bytes 1 0; p1 = slice_index_or bytes 2 0; p2 = slice_index_or bytes 3 0 };
+  header = record {
+    cla = slice_index_or bytes 0 0;
+    ins = slice_index_or bytes 1 0;
+    p1 = slice_index_or bytes 2 0;
+    p2 = slice_index_or bytes 3 0;
+  };
   content = content;
   le = le;
 }
@@ -29,10 +34,14 @@ made-bytes (a ∷ b ∷ c ∷ d ∷ rest) content le h fields =
 
 pub has_form : (bytes content : List ℕ) (le : Option ℕ) → 4 ≤ length bytes → HasSizes content le →
     Fields bytes content le → HasForm bytes
-has_form bytes content le h sizes fields = (made bytes content le, sizes, made-bytes bytes content le h fields)
+has_form bytes content le h sizes fields =
+    (made bytes content le, sizes, made-bytes bytes content le h fields)
 
-pub has_invalid_ins : (bytes content : List ℕ) (le : Option ℕ) → 4 ≤ length bytes → HasSizes content le →
+pub has_invalid_ins : (bytes content : List ℕ) (le : Option ℕ) →
+    4 ≤ length bytes → HasSizes content le →
     Fields bytes content le → ins_is_valid (slice_index_or bytes 1 0) ≡ false →
     (c : Command) × HasInvalidIns c × (bytes ≡ command_bytes c)
 has_invalid_ins bytes content le h sizes fields invalid =
-    (made bytes content le, record { invalid_ins = invalid; sizes = sizes }, made-bytes bytes content le h fields)
+    let refused : HasInvalidIns (made bytes content le) =
+    record { invalid_ins = invalid; sizes = sizes } in
+    (made bytes content le, refused, made-bytes bytes content le h fields)

@@ -27,12 +27,16 @@ with_more header = record header { cla = bit_or header.cla 0x10 }
 abbrev pub as_last : Header → Header
 as_last header = record header { cla = bit_and header.cla 0xEF }
 
--- one command for each piece, without Le, bit 5 of CLA set in all but the last
+-- the command of one piece: it has no Le
+abbrev pub link : Header → List ℕ → Command
+link header piece = record { header = header; content = piece; le = None }
+
+-- one command for each piece, bit 5 of CLA set in all but the last
 abbrev pub chain_commands : Header → List (List ℕ) → List Command
 chain_commands header [] = []
-chain_commands header (last ∷ []) = record { header = header; content = last; le = None } ∷ []
+chain_commands header (last ∷ []) = link header last ∷ []
 chain_commands header (piece ∷ next ∷ others) =
-    record { header = with_more header; content = piece; le = None } ∷ chain_commands header (next ∷ others)
+    link (with_more header) piece ∷ chain_commands header (next ∷ others)
 
 -- A chain at its receiver: its bytes, how many it may have, and, while it is pending, the header
 -- that it goes on with, as the last command has it.

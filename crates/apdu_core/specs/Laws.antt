@@ -1,5 +1,5 @@
 -- What the laws say of the commands of a chain.
-use Rattle.std.specs.Prelude.{◌≡◌, List, [], ◌∷◌, ◌++◌, All, IsBitSet, None}
+use Rattle.std.specs.Prelude.{◌≡◌, ◌+◌, ◌≤◌, List, [], ◌∷◌, ◌++◌, length, All, IsBitSet, None}
 use Rattle.apdu_core.specs.declared.header.Header.{Header}
 use Rattle.apdu_core.specs.CommandBytes.{Command, IsCommand}
 use Rattle.apdu_core.specs.Chaining.{IsLast, as_last, ChainState, Accepts, added}
@@ -16,7 +16,10 @@ pub record IsLink (header : Header) (c : Command) : Type 0 where
   pub same : as_last c.header ≡ header
   pub no_le : c.le ≡ None
 
--- each command is accepted in its turn, and the chain is at the end as the last of them leaves it
+-- each command is accepted in its turn and has room, and the chain is at the end as the last of
+-- them leaves it
 abbrev pub Gathers : ChainState → List Command → ChainState → Type 0
 Gathers chain [] after = after ≡ chain
-Gathers chain (c ∷ others) after = Accepts chain c.header × Gathers (added chain c.header c.content) others after
+Gathers chain (c ∷ others) after =
+    Accepts chain c.header × (length chain.bytes + length c.content ≤ chain.limit)
+    × Gathers (added chain c.header c.content) others after

@@ -8,4 +8,5 @@ use Rattle.apdu_core.specs.declared.cut.iter.Pieces.TheInside.{Inside}
 
 -- the commands that are still to come
 abbrev pub commands_left : Inside → List Command
-commands_left pieces = option_map_or (λ left. chain_commands pieces.header (pieces_of left.now)) pieces.left []
+commands_left pieces =
+    option_map_or (λ left. chain_commands pieces.header (pieces_of left.now)) pieces.left []

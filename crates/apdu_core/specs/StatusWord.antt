@@ -1,13 +1,18 @@
 -- Status words (ISO/IEC 7816-4, 5.1, and ISO/IEC 7816-3, 10.3.3).
-use Rattle.std.specs.Prelude.{ℕ, ◌<◌, ◌≤◌, Option, Some, None, ◌⊎◌, ◌==◌, if◌then◌else◌}
+use Rattle.std.specs.Prelude.{ℕ, ◌<◌, Option, Some, None, Bool, IsTrue, ◌||◌, ◌&&◌, nat_le, ◌==◌, if◌then◌else◌}
 
 -- the two bytes SW1 SW2
 abbrev pub StatusWord : Type 0
 StatusWord = ℕ × ℕ
 
--- SW1 is 61 to 6F or 90 to 9F
+-- the first status bytes: 61 to 6F and 90 to 9F
+abbrev pub is_first_status : ℕ → Bool
+is_first_status byte =
+    (nat_le 0x61 byte && nat_le byte 0x6F) || (nat_le 0x90 byte && nat_le byte 0x9F)
+
+-- SW1 is a first status byte, and SW2 a byte
 abbrev pub IsStatusWord : StatusWord → Type 0
-IsStatusWord sw = (((0x61 ≤ sw.0) × (sw.0 ≤ 0x6F)) ⊎ ((0x90 ≤ sw.0) × (sw.0 ≤ 0x9F))) × (sw.1 < 256)
+IsStatusWord sw = IsTrue (is_first_status sw.0) × (sw.1 < 256)
 
 -- normal processing
 abbrev pub ok : StatusWord

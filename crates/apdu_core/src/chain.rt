@@ -42,7 +42,8 @@ impl<A: Allocator> Model for Chain<A> {
 
     ghost view = { λ c. record { bytes = c.bytes.items; limit = c.limit; pending = c.pending } };
 
-    ghost invariant = { λ c. IsChain (record { bytes = c.bytes.items; limit = c.limit; pending = c.pending })
+    ghost invariant = { λ c.
+        IsChain (record { bytes = c.bytes.items; limit = c.limit; pending = c.pending })
         × (c.limit ≤ vec_capacity c.bytes) };
 }
 
@@ -90,11 +91,12 @@ impl<A: Allocator> Chain<A> {
         self.pending.is_none_or(|first| header.as_last() == first)
     }
 
-    /// Adds the data of a command. The chain is then pending. An `Err` comes exactly where the limit
-    /// would be passed, and leaves the chain as it was.
+    /// Adds the data of a command. The chain is then pending. An `Err` comes exactly where the
+    /// limit would be passed, and leaves the chain as it was.
     pub fn add(&mut self, header: Header, content: &[u8]) -> Result<(), TooLong>
         requires { Accepts self.old header }
-        ensures too_long { IsErr result ↔ (self.old.limit < length self.old.bytes + length content.now) }
+        ensures too_long { IsErr result ↔
+            (self.old.limit < length self.old.bytes + length content.now) }
         ensures err { OnErr result (self.new ≡ self.old) }
         ensures ok { OnOk result (self.new ≡ added self.old header content.now) }
     {

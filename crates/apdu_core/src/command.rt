@@ -56,7 +56,8 @@ impl<'a> Model for Command<'a> {
 
     ghost view = { λ c. record { header = c.header; content = c.content.now; le = c.le } };
 
-    ghost invariant = { λ c. IsCommand (record { header = c.header; content = c.content.now; le = c.le }) };
+    ghost invariant = { λ c.
+        IsCommand (record { header = c.header; content = c.content.now; le = c.le }) };
 }
 
 impl Clone for Command<'_> {
@@ -78,9 +79,11 @@ impl<'a> Command<'a> {
     /// bytes, `BadLength` where no case fits the bytes after the header, `InvalidIns`.
     pub fn read(bytes: &'a [u8]) -> Result<Command<'a>, ApduFault>
         ensures command { IfOk result (λ c. IsCommand c × (bytes.now ≡ command_bytes c)) }
-        ensures each { (c : spec.Command) → IsCommand c → bytes.now ≡ command_bytes c → result ≡ Ok c }
+        ensures each { (c : spec.Command) →
+            IsCommand c → bytes.now ≡ command_bytes c → result ≡ Ok c }
         ensures too_short { (result ≡ Err TooShort) ↔ (length bytes.now < 4) }
-        ensures bad_length { (result ≡ Err BadLength) ↔ ((4 ≤ length bytes.now) × ¬ HasForm bytes.now) }
+        ensures bad_length { (result ≡ Err BadLength) ↔
+            ((4 ≤ length bytes.now) × ¬ HasForm bytes.now) }
         ensures invalid_ins { (result ≡ Err InvalidIns) ↔
             ((c : spec.Command) × HasInvalidIns c × (bytes.now ≡ command_bytes c)) }
     {
@@ -109,7 +112,8 @@ impl<'a> Command<'a> {
     /// The command with these parts; `None` for an invalid INS, more than 255 bytes of data, or a
     /// `le` outside 1 to 256.
     pub fn new(header: Header, content: &'a [u8], le: Option<u16>) -> Option<Command<'a>>
-        ensures { let parts : spec.Command = record { header = header; content = content.now; le = le } in
+        ensures { let parts : spec.Command =
+            record { header = header; content = content.now; le = le } in
             SomeIff result (IsCommand parts) parts }
     {
         if !header.ins_is_valid() || content.len() > 255 || le.is_some_and(|n| n == 0 || n > 256) {
@@ -172,7 +176,8 @@ impl<'a> Command<'a> {
 fn fields(bytes: &[u8]) -> Option<(&[u8], Option<u16>)>
     ensures none { IfNone result ((content : List ℕ) (le : Option ℕ) →
         HasSizes content le → bytes.now ≢ lc_field content ++ le_field le) }
-    ensures some { IfSome result (λ f. HasSizes f.0.now f.1 × (bytes.now ≡ lc_field f.0.now ++ le_field f.1)) }
+    ensures some { IfSome result (λ f. HasSizes f.0.now f.1
+        × (bytes.now ≡ lc_field f.0.now ++ le_field f.1)) }
 {
     match bytes {
         [] => Some((&[], None)),

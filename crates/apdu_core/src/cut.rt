@@ -9,8 +9,9 @@ use crate::header::Header;
 pub use iter::Pieces;
 
 /// The commands that carry `value` in a chain with this header, whose bit 5 of CLA is clear: pieces
-/// of 255 bytes, the last of 1 to 255, and one empty piece for the empty value. Bit 5 is set in each
-/// command but the last (ISO/IEC 7816-4, 5.1.1.1; the size of the pieces is this project's profile).
+/// of 255 bytes, the last of 1 to 255, and one empty piece for the empty value. Bit 5 is set in
+/// each command but the last (ISO/IEC 7816-4, 5.1.1.1). The size of the pieces is this project's
+/// profile.
 pub fn pieces(header: Header, value: &[u8]) -> Pieces<'_>
     requires valid_ins { ins_is_valid header.ins ≡ true }
     requires last { IsLast header }

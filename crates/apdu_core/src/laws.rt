@@ -1,32 +1,32 @@
-//! Laws of the definitions that the contracts of this crate cite: each function's contract is a law.
-ghost use Rattle.std.specs.Prelude.{◌≡◌, ◌<◌, ℕ, List, map, All, Some, true};
+//! Laws of the definitions that the contracts of this crate cite. Each function's contract is one.
+ghost use Rattle.std.specs.Prelude.{◌≡◌, ◌<◌, ◌≤◌, ◌↔◌, ℕ, List, length, map, All, Some, true};
 ghost use Rattle.std.specs.List.{concat};
 ghost use Rattle.apdu_core.specs.declared.header.Header.{Header};
 ghost use Rattle.apdu_core.specs.HeaderBytes.{ins_is_valid};
 ghost use Rattle.apdu_core.specs.CommandBytes.{Command, HasSizes, command_bytes};
-ghost use Rattle.apdu_core.specs.Chaining.{IsPieces, IsLast, chain_commands, idle};
+ghost use Rattle.apdu_core.specs.Chaining.{IsPieces, IsLast, chain_commands, ChainState, idle};
 ghost use Rattle.apdu_core.specs.Laws.{MoreInAllButLast, IsLink, Gathers};
 
-/// A command has one byte list, and a byte list is that of at most one command, whatever its INS.
-pub fn commands_and_bytes_correspond()
-    ensures one_list { (c : Command) → (bytes : List ℕ) × (bytes ≡ command_bytes c)
-        × ((other : List ℕ) → other ≡ command_bytes c → other ≡ bytes) }
-    ensures one_command { (c d : Command) → HasSizes c.content c.le → HasSizes d.content d.le →
+/// A byte list is that of at most one command, whatever its INS.
+pub fn bytes_are_of_one_command()
+    ensures { (c d : Command) → HasSizes c.content c.le → HasSizes d.content d.le →
         command_bytes c ≡ command_bytes d → c ≡ d }
 {}
 
 /// A value has pieces, and no others, and concatenated they are the value.
 pub fn a_value_has_its_pieces()
     ensures exist { (value : List ℕ) → (p : List (List ℕ)) × IsPieces value p }
-    ensures determined { (value : List ℕ) (p q : List (List ℕ)) → IsPieces value p → IsPieces value q → p ≡ q }
-    ensures concatenate { (value : List ℕ) (p : List (List ℕ)) → IsPieces value p → concat p ≡ value }
+    ensures determined { (value : List ℕ) (p q : List (List ℕ)) →
+        IsPieces value p → IsPieces value q → p ≡ q }
+    ensures concatenate { (value : List ℕ) (p : List (List ℕ)) →
+        IsPieces value p → concat p ≡ value }
 {}
 
 /// The commands of a chain carry the value, bit 5 of CLA is set in all but the last, and each is a
 /// command without Le whose header is the chain's but for that bit.
 pub fn the_commands_of_a_chain()
-    ensures concatenate { (header : Header) (value : List ℕ) (p : List (List ℕ)) → IsPieces value p →
-        concat (map (λ c. c.content) (chain_commands header p)) ≡ value }
+    ensures concatenate { (header : Header) (value : List ℕ) (p : List (List ℕ)) →
+        IsPieces value p → concat (map (λ c. c.content) (chain_commands header p)) ≡ value }
     ensures more { (header : Header) (value : List ℕ) (p : List (List ℕ)) → IsPieces value p →
         IsLast header → MoreInAllButLast (chain_commands header p) }
     ensures links { (header : Header) (value : List ℕ) (p : List (List ℕ)) → IsPieces value p →
@@ -34,11 +34,11 @@ pub fn the_commands_of_a_chain()
         All (IsLink header) (chain_commands header p) }
 {}
 
-/// A chain with nothing pending accepts the commands that carry a value, each in its turn, and has
-/// then that value.
+/// A chain with nothing pending takes the commands that carry a value, each in its turn, exactly
+/// where the value keeps to the limit. It has then that value, and is pending.
 pub fn a_chain_gathers_the_value()
-    ensures { (header : Header) (value : List ℕ) (p : List (List ℕ)) (limit : ℕ) → IsPieces value p →
-        IsLast header → header.cla < 256 →
-        Gathers (idle limit) (chain_commands header p)
-        (record { bytes = value; limit = limit; pending = Some header }) }
+    ensures { (header : Header) (value : List ℕ) (p : List (List ℕ)) (limit : ℕ)
+        (after : ChainState) → IsPieces value p → IsLast header → header.cla < 256 →
+        Gathers (idle limit) (chain_commands header p) after ↔ ((length value ≤ limit)
+        × (after ≡ record { bytes = value; limit = limit; pending = Some header })) }
 {}

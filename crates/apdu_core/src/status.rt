@@ -22,7 +22,8 @@ impl Model for Status {
 }
 
 impl Status {
-    /// The status word of these two bytes; `None` where SW1 is outside `61` to `6F` and `90` to `9F`.
+    /// The status word of these two bytes; `None` where SW1 is outside `61` to `6F` and `90` to
+    /// `9F`.
     pub fn new(sw1: u8, sw2: u8) -> Option<Status>
         ensures { SomeIff result (IsStatusWord (sw1, sw2)) (sw1, sw2) }
     {

@@ -6,9 +6,12 @@ use Rattle.apdu_core.proofs.cut.iter.PiecesIterator.next.Goals as goal
 
 pub returns-clause-steps : goal.returns-clause-steps
 returns-clause-steps c =
-    let shows : c.args.self.now ≡ chain_commands c.self.inside.header (pieces_of c.in_ok-left.left.now) =
+    let header = c.self.inside.header in
+    let left = c.in_ok-left.left.now in
+    let shows : c.args.self.now ≡ chain_commands header (pieces_of left) =
     sym (rw c.in_ok-left.was at c.self.view_is) in
-    next_more c.self.inside.header _ c.in_ok-left.left.now _ _ _ _ (omega arith) c.self.invariant shows c.with_more.ensures c.split_at.ensures.front c.split_at.ensures.back c.new-2.ensures
+    next_more header _ left _ _ _ _ (omega arith) c.self.invariant shows
+    c.with_more.ensures c.split_at.ensures.front c.split_at.ensures.back c.new-2.ensures
 
 pub returns-clause-goes : goal.returns-clause-goes
 returns-clause-goes c = makes_progress _ _ _ (returns-clause-steps c)

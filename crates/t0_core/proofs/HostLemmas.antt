@@ -1,13 +1,12 @@
 -- The terminal's end goes through each dialogue that it opened.
-use Rattle.std.proofs.Common.{◌≡◌, ℕ, zero, suc, ◌+◌, ◌-◌, ◌<◌, ◌≤◌, List, [], ◌∷◌, ◌++◌, length, take, refl, sym, subst, ◌∙◌, ap, arith, inl, inr, lit<, true, false, Bool, ◌==◌, nat_lt, if◌then◌else◌, Option, Some, None, ◌/◌, ◌%◌, eq-eqb, length-append, slice_index, bit_xor, bit_and}
+use Rattle.std.proofs.Common.{◌≡◌, ℕ, zero, suc, ◌+◌, ◌-◌, ◌<◌, ◌≤◌, List, [], ◌∷◌, ◌++◌, length, take, refl, sym, subst, ◌∙◌, ap, arith, inl, inr, lit<, true, false, Bool, ◌==◌, ◌&&◌, ◌⊎◌, nat_lt, nat_le, if◌then◌else◌, Option, Some, None, ◌/◌, ◌%◌, eq-eqb, length-append, slice_index, bit_xor, bit_and}
 use Rattle.std.specs.Int.Bits.{xor_add_and}
 use Rattle.std.proofs.lemmas.Nat.{and_mask}
 use Rattle.std.proofs.lemmas.List.{take_more}
-use Rattle.std.proofs.Math.Bool.{or-true}
-use Rattle.std.proofs.lemmas.Bool.{ltb-true, ltb-false, ne_eqb, le-leb}
+use Rattle.std.proofs.lemmas.Bool.{ltb-true, ltb-false, leb-true, ne_eqb, or_cases, and_parts}
 use Rattle.apdu_core.specs.declared.header.Header.{Header}
 use Rattle.apdu_core.specs.HeaderBytes.{ins_is_valid}
-use Rattle.apdu_core.specs.StatusWord.{IsStatusWord}
+use Rattle.apdu_core.specs.StatusWord.{IsStatusWord, is_first_status}
 use Rattle.t0_core.specs.declared.end.End.TheVariants.{Terminal, Card}
 use Rattle.t0_core.specs.declared.host_end.HostStage.{HostStage}
 use Rattle.t0_core.specs.declared.host_end.HostStage.TheVariants.{SendingHeader, Awaiting, Moving, AwaitingSecond, Ended, Broken}
@@ -19,17 +18,21 @@ use Rattle.t0_core.specs.declared.line_fault.LineFault.{LineFault}
 use Rattle.t0_core.specs.declared.line_fault.LineFault.TheVariants.{TooLong}
 use Rattle.t0_core.specs.declared.direction.Direction.{Direction}
 use Rattle.t0_core.specs.declared.direction.Direction.TheVariants.{ToCard, FromCard}
-use Rattle.t0_core.specs.Dialogue.{Body, data_sender, foreseen, procedure_byte, moves, all_moves, to_move}
+use Rattle.t0_core.specs.Dialogue.{Body, data_sender, foreseen, procedure_byte, moves, to_move}
 use Rattle.t0_core.specs.Front.{Front, In_header, In_body, After_first, GoesOn, IsBetween, header_only, with_segment, with_moved}
-use Rattle.t0_core.specs.HostSide.{Hosting, HostStandsAt, IsOpenedBy, AreOwn, IsInRange, at_stage, turn_of, after_turn, after_taking, step_of, fault_of, is_first_status}
+use Rattle.t0_core.specs.HostSide.{Hosting, HostStandsAt, IsOpenedBy, AreOwn, IsInRange, at_stage, turn_of, after_turn, after_taking, step_of, fault_of}
 use Rattle.t0_core.specs.Room.{Room}
+use Rattle.t0_core.specs.FrontLaws.{all_moves-more}
 
 abbrev pub host_at : Header → ℕ → Direction → List ℕ → HostStage → Hosting
-host_at h p3 d content stage = record { header = h; p3 = p3; direction = d; content = content; stage = stage }
+host_at h p3 d content stage =
+    record { header = h; p3 = p3; direction = d; content = content; stage = stage }
 
 -- the same of an end as it is seen
-pub seen_at : (host seen : Hosting) (front : Front) → host ≡ seen → HostStandsAt seen front → HostStandsAt host front
-seen_at host seen front is stands = let P : Hosting → Type 0 = λ v. HostStandsAt v front in subst P (sym is) stands
+pub seen_at : (host seen : Hosting) (front : Front) → host ≡ seen → HostStandsAt seen front
+    → HostStandsAt host front
+seen_at host seen front is stands = let P : Hosting → Type 0 = λ v. HostStandsAt v front in
+    subst P (sym is) stands
 
 byte_of : HostTurn → ℕ → ℕ
 byte_of (Sends b) d = b
@@ -54,73 +57,92 @@ no_nine : (ins : ℕ) → ins / 16 ≡ 9 → ins_is_valid ins ≡ true → ⊥
 no_nine ins nine valid = let e : ins_is_valid ins ≡ false = rw nine refl in absurd (cc)
 
 -- the three procedure bytes of an instruction are apart
-pub step_is : (ins : ℕ) (s : Step) → ins_is_valid ins ≡ true → ins < 256 → step_of ins (procedure_byte ins s) ≡ Some s
+pub step_is : (ins : ℕ) (s : Step) → ins_is_valid ins ≡ true → ins < 256
+    → step_of ins (procedure_byte ins s) ≡ Some s
 step_is ins Null valid small = refl
 step_is ins All valid small =
     rw (ne_eqb ins 0x60 (λ same. no_six ins (omega (arith, same)) valid), eq-eqb ins ins refl) refl
 step_is ins One valid small =
     rw (
-      ne_eqb (bit_xor ins 0xFF) 0x60 (λ same. no_nine ins (omega (arith, same, flipped ins small)) valid),
+      ne_eqb (bit_xor ins 0xFF) 0x60
+          (λ same. no_nine ins (omega (arith, same, flipped ins small)) valid),
       ne_eqb (bit_xor ins 0xFF) ins (λ same. absurd (omega (arith, same, flipped ins small))),
       eq-eqb (bit_xor ins 0xFF) (bit_xor ins 0xFF) refl,
     ) refl
 
+first_is_in_range : (byte : ℕ) → is_first_status byte ≡ true
+    → ((0x61 ≤ byte) × (byte ≤ 0x6F)) ⊎ ((0x90 ≤ byte) × (byte ≤ 0x9F))
+first_is_in_range byte first =
+    elim (or_cases (nat_le 0x61 byte && nat_le byte 0x6F) (nat_le 0x90 byte && nat_le byte 0x9F)
+    first) [
+      | inl six ↦
+          let both = and_parts (nat_le 0x61 byte) (nat_le byte 0x6F) six in
+          inl (leb-true 0x61 byte both.0, leb-true byte 0x6F both.1)
+      | inr nine ↦
+          let both = and_parts (nat_le 0x90 byte) (nat_le byte 0x9F) nine in
+          inr (leb-true 0x90 byte both.0, leb-true byte 0x9F both.1)
+    ]
+
 -- and a first status byte is none of them
-pub status_is_no_step : (ins byte : ℕ) → ins_is_valid ins ≡ true → ins < 256 → IsStatusWord (byte, 0) → step_of ins byte ≡ None
+pub status_is_no_step : (ins byte : ℕ) → ins_is_valid ins ≡ true → ins < 256
+    → IsStatusWord (byte, 0) → step_of ins byte ≡ None
 status_is_no_step ins byte valid small status =
+    let range = first_is_in_range byte status.0 in
     rw (
-      ne_eqb byte 0x60 (λ same. elim status.0 [ inl six ↦ absurd (omega (arith, same, six.0)) | inr nine ↦ absurd (omega (arith, same, nine.0)) ]),
-      ne_eqb byte ins (λ same. elim status.0 [
+      ne_eqb byte 0x60 (λ same. elim range [
+        | inl six ↦
+            absurd (omega (arith, same, six.0))
+        | inr nine ↦ absurd (omega (arith, same, nine.0))
+      ]),
+      ne_eqb byte ins (λ same. elim range [
         | inl six ↦ no_six ins (omega (arith, same, six.0, six.1)) valid
         | inr nine ↦ no_nine ins (omega (arith, same, nine.0, nine.1)) valid
       ]),
-      ne_eqb byte (bit_xor ins 0xFF) (λ same. elim status.0 [
+      ne_eqb byte (bit_xor ins 0xFF) (λ same. elim range [
         | inl six ↦ no_nine ins (omega (arith, same, six.0, six.1, flipped ins small)) valid
         | inr nine ↦ no_six ins (omega (arith, same, nine.0, nine.1, flipped ins small)) valid
       ]),
     ) refl
 
-pub status_is_first : (byte : ℕ) → IsStatusWord (byte, 0) → is_first_status byte ≡ true
-status_is_first byte status = elim status.0 [
-  | inl six ↦ rw (le-leb _ _ six.0, le-leb _ _ six.1) refl
-  | inr nine ↦ rw (le-leb _ _ nine.0, le-leb _ _ nine.1) (or-true _)
-]
-
--- what one more segment moves
-pub all_moves-more : (segments : List Step) (s : Step) (n : ℕ) → all_moves (segments ++ s ∷ []) n ≡ all_moves segments n + moves s (n - all_moves segments n)
-all_moves-more [] s n = let e : n - 0 ≡ n = omega arith in rw e (omega arith)
-all_moves-more (t ∷ segments) s n =
-    let e : n - (moves t n + all_moves segments (n - moves t n)) ≡ n - moves t n - all_moves segments (n - moves t n) = omega arith in
-    rw e (omega (arith, all_moves-more segments s (n - moves t n)))
-
 -- the end stands where data move, or all of the segment have moved
-moves_on : (host : Hosting) (m u : ℕ) (b : Body) (v : Bool) → nat_lt m u ≡ v → m ≤ u → IsOpenedBy host b → length b.moved ≡ m → to_move b ≡ u
+moves_on : (host : Hosting) (m u : ℕ) (b : Body) (v : Bool) → nat_lt m u ≡ v → m ≤ u
+    → IsOpenedBy host b → length b.moved ≡ m → to_move b ≡ u
     → HostStandsAt (at_stage host (if v then Moving m u else Awaiting m)) (In_body b)
 moves_on host m u b true e le opened len all = (opened, len, ltb-true m u e, all)
-moves_on host m u b false e le opened len all = (opened, omega (arith, len, le, ltb-false m u e, all), len)
+moves_on host m u b false e le opened len all =
+    (opened, omega (arith, len, le, ltb-false m u e, all), len)
 
 one_longer : (b : Body) (byte m : ℕ) → length b.moved ≡ m → length (b.moved ++ byte ∷ []) ≡ m + 1
 one_longer b byte m len = length-append b.moved (byte ∷ []) ∙ rw len refl
 
 abbrev HostGoesOn : Hosting → Front → ℕ → Type 0
-HostGoesOn host front byte = (x : Front) × GoesOn front (Terminal, byte) x × HostStandsAt (at_stage host (after_turn host)) x
+HostGoesOn host front byte = (x : Front) × GoesOn front (Terminal, byte) x
+    × HostStandsAt (at_stage host (after_turn host)) x
 
 -- the next of the end's own data
-own_more : (content moved : List ℕ) (byte m : ℕ) → moved ≡ take (length moved) content → length moved ≡ m → m < length content → slice_index content m ≡ byte
+own_more : (content moved : List ℕ) (byte m : ℕ) → moved ≡ take (length moved) content
+    → length moved ≡ m → m < length content → slice_index content m ≡ byte
     → moved ++ byte ∷ [] ≡ take (length (moved ++ byte ∷ [])) content
 own_more content moved byte m own len lt is =
-    let longer : length (moved ++ byte ∷ []) ≡ m + 1 = length-append moved (byte ∷ []) ∙ rw len refl in
+    let longer : length (moved ++ byte ∷ []) ≡ m + 1 = length-append moved (byte ∷ [])
+    ∙ rw len refl in
     let own_m : moved ≡ take m content = own ∙ ap (λ k. take k content) len in
-    rw longer (ap (λ bytes. bytes ++ byte ∷ []) own_m ∙ ap (λ x. take m content ++ x ∷ []) (sym is) ∙ sym (take_more content m 0 lt))
+    rw longer (ap (λ bytes. bytes ++ byte ∷ []) own_m ∙ ap (λ x. take m content ++ x ∷ []) (sym is)
+    ∙ sym (take_more content m 0 lt))
 
 -- it sends the next of its data
-sends_data : (h : Header) (p3 : ℕ) (content : List ℕ) (m u : ℕ) (b : Body) (byte : ℕ) → IsInRange (host_at h p3 ToCard content (Moving m u))
-    → HostStandsAt (host_at h p3 ToCard content (Moving m u)) (In_body b) → slice_index content m ≡ byte → HostGoesOn (host_at h p3 ToCard content (Moving m u)) (In_body b) byte
+sends_data : (h : Header) (p3 : ℕ) (content : List ℕ) (m u : ℕ) (b : Body) (byte : ℕ)
+    → IsInRange (host_at h p3 ToCard content (Moving m u))
+    → HostStandsAt (host_at h p3 ToCard content (Moving m u)) (In_body b)
+    → slice_index content m ≡ byte
+    → HostGoesOn (host_at h p3 ToCard content (Moving m u)) (In_body b) byte
 sends_data h p3 content m u b byte range at is =
-    let own = own_more content b.moved byte m at.0.3 at.1 (omega (arith, range.2, range.3.0, range.3.1)) is in (
+    let own = own_more content b.moved byte m at.0.3 at.1
+    (omega (arith, range.0.2, range.1.0, range.1.1)) is in (
       In_body (with_moved b byte),
       inl (omega (arith, at.1, at.2, at.3), sym (ap data_sender at.0.2), refl),
-      moves_on (host_at h p3 ToCard content (Moving m u)) (m + 1) u (with_moved b byte) (nat_lt (m + 1) u) refl (omega (arith, at.2))
+      moves_on (host_at h p3 ToCard content (Moving m u)) (m + 1) u (with_moved b byte)
+          (nat_lt (m + 1) u) refl (omega (arith, at.2))
           (at.0.0, at.0.1, at.0.2, own) (one_longer b byte m at.1) at.3,
     )
 
@@ -129,22 +151,43 @@ own_none : (d : Direction) (content : List ℕ) → AreOwn d content []
 own_none ToCard content = refl
 own_none FromCard content = tt
 
-pub host_sends : (h : Header) (p3 : ℕ) (d : Direction) (content : List ℕ) (stage : HostStage) (front : Front) (byte : ℕ) → IsInRange (host_at h p3 d content stage)
-    → HostStandsAt (host_at h p3 d content stage) front → turn_of (host_at h p3 d content stage) ≡ Sends byte → HostGoesOn (host_at h p3 d content stage) front byte
-host_sends h p3 d content (SendingHeader zero) (In_header bytes) byte range at e =
-    (In_header (bytes ++ byte ∷ []), (refl, inl (rw at.1 (lit< tt), refl)), (lit< tt, rw (at.1, ← sends_is _ _ e) refl))
-host_sends h p3 d content (SendingHeader (suc zero)) (In_header bytes) byte range at e =
-    (In_header (bytes ++ byte ∷ []), (refl, inl (rw at.1 (lit< tt), refl)), (lit< tt, rw (at.1, ← sends_is _ _ e) refl))
-host_sends h p3 d content (SendingHeader (suc (suc zero))) (In_header bytes) byte range at e =
-    (In_header (bytes ++ byte ∷ []), (refl, inl (rw at.1 (lit< tt), refl)), (lit< tt, rw (at.1, ← sends_is _ _ e) refl))
-host_sends h p3 d content (SendingHeader (suc (suc (suc zero)))) (In_header bytes) byte range at e =
-    (In_header (bytes ++ byte ∷ []), (refl, inl (rw at.1 (lit< tt), refl)), (lit< tt, rw (at.1, ← sends_is _ _ e) refl))
-host_sends h p3 d content (SendingHeader (suc (suc (suc (suc zero))))) (In_header bytes) byte range at e =
-    (In_body (header_only h byte d), (refl, inr (h, d, at.1, refl)), ((refl, sym (sends_is _ _ e), refl, own_none d content), refl, refl))
-host_sends h p3 d content (SendingHeader (suc (suc (suc (suc (suc n)))))) (In_header bytes) byte range at e = absurd (omega (arith, at.0))
+pub host_sends : (h : Header) (p3 : ℕ) (d : Direction) (content : List ℕ) (stage : HostStage)
+    (front : Front) (byte : ℕ) → IsInRange (host_at h p3 d content stage)
+    → HostStandsAt (host_at h p3 d content stage) front
+    → turn_of (host_at h p3 d content stage) ≡ Sends byte
+    → HostGoesOn (host_at h p3 d content stage) front byte
+host_sends h p3 d content (SendingHeader zero) (In_header bytes) byte range at e = (
+  In_header (bytes ++ byte ∷ []),
+  (refl, inl (rw at.1 (lit< tt), refl)),
+  (lit< tt, rw (at.1, ← sends_is _ _ e) refl),
+)
+host_sends h p3 d content (SendingHeader (suc zero)) (In_header bytes) byte range at e = (
+  In_header (bytes ++ byte ∷ []),
+  (refl, inl (rw at.1 (lit< tt), refl)),
+  (lit< tt, rw (at.1, ← sends_is _ _ e) refl),
+)
+host_sends h p3 d content (SendingHeader (suc (suc zero))) (In_header bytes) byte range at e = (
+  In_header (bytes ++ byte ∷ []),
+  (refl, inl (rw at.1 (lit< tt), refl)),
+  (lit< tt, rw (at.1, ← sends_is _ _ e) refl),
+)
+host_sends h p3 d content (SendingHeader (suc (suc (suc zero)))) (In_header bytes) byte range at e = (
+  In_header (bytes ++ byte ∷ []),
+  (refl, inl (rw at.1 (lit< tt), refl)),
+  (lit< tt, rw (at.1, ← sends_is _ _ e) refl),
+)
+host_sends h p3 d content (SendingHeader (suc (suc (suc (suc zero))))) (In_header bytes) byte range
+    at e = (
+      In_body (header_only h byte d),
+      (refl, inr (h, d, at.1, refl)),
+      ((refl, sym (sends_is _ _ e), refl, own_none d content), refl, refl),
+    )
+host_sends h p3 d content (SendingHeader (suc (suc (suc (suc (suc n)))))) (In_header bytes) byte
+    range at e = absurd (omega (arith, at.0))
 host_sends h p3 d content (SendingHeader sent) (In_body b) byte range at e = absurd at
 host_sends h p3 d content (SendingHeader sent) (After_first b sw1) byte range at e = absurd at
-host_sends h p3 ToCard content (Moving m u) (In_body b) byte range at e = sends_data h p3 content m u b byte range at (sends_is _ _ e)
+host_sends h p3 ToCard content (Moving m u) (In_body b) byte range at e =
+    sends_data h p3 content m u b byte range at (sends_is _ _ e)
 host_sends h p3 FromCard content (Moving m u) (In_body b) byte range at e = absurd (cc)
 host_sends h p3 d content (Moving m u) (In_header bytes) byte range at e = absurd at
 host_sends h p3 d content (Moving m u) (After_first b sw1) byte range at e = absurd at
@@ -162,73 +205,97 @@ no_fault = None
 none_is_some : (f : LineFault) → no_fault ≡ Some f → ⊥
 none_is_some f e = absurd (cc)
 
-full_is_too_long : (full : Bool) (f : LineFault) → (if full then Some TooLong else None) ≡ Some f → f ≡ TooLong
+full_is_too_long : (full : Bool) (f : LineFault) → (if full then Some TooLong else None) ≡ Some f
+    → f ≡ TooLong
 full_is_too_long true f e = cc
 full_is_too_long false f e = absurd (cc)
 
--- What the end makes of a character with which a dialogue of its own goes on: it stands at the front with it,
--- and there is no fault but want of room.
+-- What the end makes of a character with which a dialogue of its own goes on: it stands at the
+-- front with it, and there is no fault but want of room.
 pub record Takes (host : Hosting) (room : Room) (byte : ℕ) (new : Front) : Type 0 where
   pub stands : HostStandsAt (at_stage host (after_taking host byte)) new
   pub fault : (f : LineFault) → fault_of host room byte ≡ Some f → f ≡ TooLong
 
 -- so far the next segment moves data
-up_to : (d : Direction) (p3 m : ℕ) (b : Body) (s : Step) → b.direction ≡ d → b.p3 ≡ p3 → IsBetween b → length b.moved ≡ m
+up_to : (d : Direction) (p3 m : ℕ) (b : Body) (s : Step) → b.direction ≡ d → b.p3 ≡ p3 → IsBetween b
+    → length b.moved ≡ m
     → to_move (with_segment b s) ≡ m + moves s (foreseen d p3 - m)
 up_to d p3 m b s direction count between len =
     let so_far : to_move b ≡ m = sym between ∙ len in
     let same : foreseen b.direction b.p3 ≡ foreseen d p3 = rw (direction, count) refl in
     all_moves-more b.segments s (foreseen b.direction b.p3) ∙ rw (so_far, same) refl
 
-begins : (h : Header) (p3 : ℕ) (d : Direction) (content : List ℕ) (m : ℕ) (room : Room) (byte : ℕ) (b : Body) (s : Step) → IsInRange (host_at h p3 d content (Awaiting m))
-    → HostStandsAt (host_at h p3 d content (Awaiting m)) (In_body b) → byte ≡ procedure_byte b.header.ins s
+begins : (h : Header) (p3 : ℕ) (d : Direction) (content : List ℕ) (m : ℕ) (room : Room) (byte : ℕ)
+    (b : Body) (s : Step) → IsInRange (host_at h p3 d content (Awaiting m))
+    → HostStandsAt (host_at h p3 d content (Awaiting m)) (In_body b)
+    → byte ≡ procedure_byte b.header.ins s
     → Takes (host_at h p3 d content (Awaiting m)) room byte (In_body (with_segment b s))
 begins h p3 d content m room byte b s range at is =
     let n = moves s (foreseen d p3 - m) in
-    let step : step_of h.ins byte ≡ Some s = rw (is, at.0.0) (step_is h.ins s range.0 range.1) in
+    let step : step_of h.ins byte ≡ Some s =
+    rw (is, at.0.0) (step_is h.ins s range.0.0 range.0.1) in
     record {
-      stands = rw step (moves_on (host_at h p3 d content (Awaiting m)) m (m + n) (with_segment b s) (nat_lt m (m + n)) refl (omega arith) at.0 at.2
+      stands = rw step (moves_on (host_at h p3 d content (Awaiting m)) m (m + n) (with_segment b s)
+          (nat_lt m (m + n)) refl (omega arith) at.0 at.2
           (up_to d p3 m b s at.0.2 at.0.1 at.1 at.2));
       fault = λ f e. absurd (none_is_some f (rw step at e));
     }
 
-ends_data : (h : Header) (p3 : ℕ) (d : Direction) (content : List ℕ) (m : ℕ) (room : Room) (byte : ℕ) (b : Body) → IsInRange (host_at h p3 d content (Awaiting m))
-    → HostStandsAt (host_at h p3 d content (Awaiting m)) (In_body b) → IsStatusWord (byte, 0) → Takes (host_at h p3 d content (Awaiting m)) room byte (After_first b byte)
+ends_data : (h : Header) (p3 : ℕ) (d : Direction) (content : List ℕ) (m : ℕ) (room : Room)
+    (byte : ℕ) (b : Body) → IsInRange (host_at h p3 d content (Awaiting m))
+    → HostStandsAt (host_at h p3 d content (Awaiting m)) (In_body b) → IsStatusWord (byte, 0)
+    → Takes (host_at h p3 d content (Awaiting m)) room byte (After_first b byte)
 ends_data h p3 d content m room byte b range at status =
-    let none = status_is_no_step h.ins byte range.0 range.1 status in
+    let none = status_is_no_step h.ins byte range.0.0 range.0.1 status in
     record {
       stands = rw none (at.0, refl);
-      fault = λ f e. absurd (none_is_some f (rw (none, status_is_first byte status) at e));
+      fault = λ f e. absurd (none_is_some f (rw (none, status.0) at e));
     }
 
-takes_data : (h : Header) (p3 : ℕ) (d : Direction) (content : List ℕ) (m u : ℕ) (room : Room) (byte : ℕ) (b : Body) → HostStandsAt (host_at h p3 d content (Moving m u)) (In_body b)
-    → Card ≡ data_sender b.direction → Takes (host_at h p3 d content (Moving m u)) room byte (In_body (with_moved b byte))
-takes_data h p3 ToCard content m u room byte b at from = absurd (card_is_no_terminal (from ∙ ap data_sender at.0.2))
+takes_data : (h : Header) (p3 : ℕ) (d : Direction) (content : List ℕ) (m u : ℕ) (room : Room)
+    (byte : ℕ) (b : Body) → HostStandsAt (host_at h p3 d content (Moving m u)) (In_body b)
+    → Card ≡ data_sender b.direction
+    → Takes (host_at h p3 d content (Moving m u)) room byte (In_body (with_moved b byte))
+takes_data h p3 ToCard content m u room byte b at from =
+    absurd (card_is_no_terminal (from ∙ ap data_sender at.0.2))
 takes_data h p3 FromCard content m u room byte b at from = record {
-  stands = moves_on (host_at h p3 FromCard content (Moving m u)) (m + 1) u (with_moved b byte) (nat_lt (m + 1) u) refl (omega (arith, at.2))
+  stands = moves_on (host_at h p3 FromCard content (Moving m u)) (m + 1) u (with_moved b byte)
+      (nat_lt (m + 1) u) refl (omega (arith, at.2))
       (at.0.0, at.0.1, at.0.2, tt) (one_longer b byte m at.1) at.3;
   fault = λ f e. full_is_too_long (length room.bytes == room.limit) f e;
 }
 
-pub host_takes : (h : Header) (p3 : ℕ) (d : Direction) (content : List ℕ) (stage : HostStage) (room : Room) (byte : ℕ) (front new : Front) → IsInRange (host_at h p3 d content stage)
-    → HostStandsAt (host_at h p3 d content stage) front → GoesOn front (Card, byte) new → Takes (host_at h p3 d content stage) room byte new
-host_takes h p3 d content (SendingHeader sent) room byte (In_header bytes) new range at (from, goes) = absurd (card_is_no_terminal from)
-host_takes h p3 d content (Awaiting m) room byte (In_body b) new range at (inl (lt, from, is)) = absurd (omega (arith, lt, at.1))
-host_takes h p3 d content (Awaiting m) room byte (In_body b) new range at (inr (inl (between, from, (s, nulls, byte_is, is)))) =
+pub host_takes : (h : Header) (p3 : ℕ) (d : Direction) (content : List ℕ) (stage : HostStage)
+    (room : Room) (byte : ℕ) (front new : Front) → IsInRange (host_at h p3 d content stage)
+    → HostStandsAt (host_at h p3 d content stage) front → GoesOn front (Card, byte) new
+    → Takes (host_at h p3 d content stage) room byte new
+host_takes h p3 d content (SendingHeader sent) room byte (In_header bytes) new range at
+    (from, goes) = absurd (card_is_no_terminal from)
+host_takes h p3 d content (Awaiting m) room byte (In_body b) new range at (inl (lt, from, is)) =
+    absurd (omega (arith, lt, at.1))
+host_takes h p3 d content (Awaiting m) room byte (In_body b) new range at
+    (inr (inl (between, from, (s, nulls, byte_is, is)))) =
     rw is (begins h p3 d content m room byte b s range at byte_is)
-host_takes h p3 d content (Awaiting m) room byte (In_body b) new range at (inr (inr (between, from, status, is))) =
+host_takes h p3 d content (Awaiting m) room byte (In_body b) new range at
+    (inr (inr (between, from, status, is))) =
     rw is (ends_data h p3 d content m room byte b range at status)
-host_takes h p3 d content (Moving m u) room byte (In_body b) new range at (inl (lt, from, is)) = rw is (takes_data h p3 d content m u room byte b at from)
-host_takes h p3 d content (Moving m u) room byte (In_body b) new range at (inr (inl (between, from, others))) = absurd (omega (arith, between, at.1, at.2, at.3))
-host_takes h p3 d content (Moving m u) room byte (In_body b) new range at (inr (inr (between, from, status, is))) = absurd (omega (arith, between, at.1, at.2, at.3))
-host_takes h p3 d content (AwaitingSecond sw1) room byte (After_first b first) new range at goes = absurd goes
+host_takes h p3 d content (Moving m u) room byte (In_body b) new range at (inl (lt, from, is)) =
+    rw is (takes_data h p3 d content m u room byte b at from)
+host_takes h p3 d content (Moving m u) room byte (In_body b) new range at
+    (inr (inl (between, from, others))) = absurd (omega (arith, between, at.1, at.2, at.3))
+host_takes h p3 d content (Moving m u) room byte (In_body b) new range at
+    (inr (inr (between, from, status, is))) = absurd (omega (arith, between, at.1, at.2, at.3))
+host_takes h p3 d content (AwaitingSecond sw1) room byte (After_first b first) new range at goes =
+    absurd goes
 host_takes h p3 d content (SendingHeader sent) room byte (In_body b) new range at goes = absurd at
-host_takes h p3 d content (SendingHeader sent) room byte (After_first b first) new range at goes = absurd at
+host_takes h p3 d content (SendingHeader sent) room byte (After_first b first) new range at goes =
+    absurd at
 host_takes h p3 d content (Awaiting m) room byte (In_header bytes) new range at goes = absurd at
 host_takes h p3 d content (Awaiting m) room byte (After_first b first) new range at goes = absurd at
 host_takes h p3 d content (Moving m u) room byte (In_header bytes) new range at goes = absurd at
 host_takes h p3 d content (Moving m u) room byte (After_first b first) new range at goes = absurd at
-host_takes h p3 d content (AwaitingSecond sw1) room byte (In_header bytes) new range at goes = absurd at
+host_takes h p3 d content (AwaitingSecond sw1) room byte (In_header bytes) new range at goes =
+    absurd at
 host_takes h p3 d content (AwaitingSecond sw1) room byte (In_body b) new range at goes = absurd at
 host_takes h p3 d content (Ended status) room byte front new range at goes = absurd at
 host_takes h p3 d content Broken room byte front new range at goes = absurd at

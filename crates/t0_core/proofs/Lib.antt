@@ -1,7 +1,8 @@
 pub mod HostLemmas
-pub mod DialogueLists
-pub mod FrontLaws
+pub mod HostTook
 pub mod PlanLemmas
 pub mod CardLemmas
 pub mod HistoryLemmas
 mod Vectors
+pub mod PlannedFront
+pub mod HistoryLaws

@@ -6,10 +6,11 @@ use Rattle.t0_core.specs.declared.plan.Step.TheVariants.{Null, One, All}
 use Rattle.t0_core.specs.Dialogue.{moves, all_moves}
 use Rattle.t0_core.specs.Plan.{segments_of}
 use Rattle.t0_core.specs.CardSide.{Starts, IsFrugal, AreOnPlan}
-use Rattle.t0_core.proofs.FrontLaws.{moves-within}
+use Rattle.t0_core.specs.FrontLaws.{moves-within}
 
 -- a step is carried out where data are left, and a NULL always
-pub carried_out : (s : Step) (rest : List Step) (left : ℕ) → Starts s left → segments_of (s ∷ rest) left ≡ s ∷ segments_of rest (left - moves s left)
+pub carried_out : (s : Step) (rest : List Step) (left : ℕ) → Starts s left
+    → segments_of (s ∷ rest) left ≡ s ∷ segments_of rest (left - moves s left)
 carried_out Null rest left starts = let same : left - 0 ≡ left = omega arith in rw same refl
 carried_out One rest zero starts = absurd (omega (arith, starts))
 carried_out One rest (suc n) starts = let same : suc n - 1 ≡ n = omega arith in rw same refl
@@ -24,49 +25,54 @@ some_left (Null ∷ steps) (suc n) none = absurd (cc)
 some_left (One ∷ steps) (suc n) none = absurd (cc)
 some_left (All ∷ steps) (suc n) none = absurd (cc)
 
--- one more segment
-pub all_moves-more : (segments : List Step) (s : Step) (n : ℕ) → all_moves (segments ++ s ∷ []) n ≡ all_moves segments n + moves s (n - all_moves segments n)
-all_moves-more [] s n = let same : n - 0 ≡ n = omega arith in rw same (omega arith)
-all_moves-more (t ∷ segments) s n =
-    let rest = all_moves-more segments s (n - moves t n) in
-    let same : (n - moves t n) - all_moves segments (n - moves t n) ≡ n - (moves t n + all_moves segments (n - moves t n)) = omega arith in
-    let Rest : ℕ → Type 0 = λ k. all_moves (segments ++ s ∷ []) (n - moves t n) ≡ all_moves segments (n - moves t n) + moves s k in
-    omega (arith, subst Rest same rest)
-
-pub frugal_more : (segments : List Step) (s : Step) (n : ℕ) → IsFrugal segments n → Starts s (n - all_moves segments n) → IsFrugal (segments ++ s ∷ []) n
-frugal_more [] s n frugal starts = let same : n - 0 ≡ n = omega arith in (subst (Starts s) same starts, tt)
+pub frugal_more : (segments : List Step) (s : Step) (n : ℕ) → IsFrugal segments n
+    → Starts s (n - all_moves segments n) → IsFrugal (segments ++ s ∷ []) n
+frugal_more [] s n frugal starts = let same : n - 0 ≡ n = omega arith in
+    (subst (Starts s) same starts, tt)
 frugal_more (t ∷ segments) s n frugal starts =
-    let same : n - (moves t n + all_moves segments (n - moves t n)) ≡ (n - moves t n) - all_moves segments (n - moves t n) = omega arith in
+    let same : n - (moves t n + all_moves segments (n - moves t n)) ≡ (n - moves t n)
+    - all_moves segments (n - moves t n) = omega arith in
     (frugal.0, frugal_more segments s (n - moves t n) frugal.1 (subst (Starts s) same starts))
 
 -- segments that move all data, and none in vain, are those of the plan that they are
-pub follows_itself : (segments : List Step) (n : ℕ) → IsFrugal segments n → all_moves segments n ≡ n → segments ≡ segments_of segments n
+pub follows_itself : (segments : List Step) (n : ℕ) → IsFrugal segments n → all_moves segments n ≡ n
+    → segments ≡ segments_of segments n
 follows_itself [] zero frugal all = refl
 follows_itself [] (suc n) frugal all = absurd (omega (arith, all))
 follows_itself (s ∷ segments) n frugal all =
-    let rest : all_moves segments (n - moves s n) ≡ n - moves s n = omega (arith, all, moves-within s n) in
-    ap (λ x. s ∷ x) (follows_itself segments (n - moves s n) frugal.1 rest) ∙ sym (carried_out s segments n frugal.0)
+    let rest : all_moves segments (n - moves s n) ≡ n - moves s n =
+    omega (arith, all, moves-within s n) in
+    ap (λ x. s ∷ x) (follows_itself segments (n - moves s n) frugal.1 rest)
+    ∙ sym (carried_out s segments n frugal.0)
 
 -- NULLs alone
-pub nulls_follow : (segments : List Step) → AllByRecursion (λ s. s ≡ Null) segments → segments ≡ segments_of segments 0
+pub nulls_follow : (segments : List Step) → AllByRecursion (λ s. s ≡ Null) segments
+    → segments ≡ segments_of segments 0
 nulls_follow [] nulls = refl
 nulls_follow (Null ∷ segments) nulls = ap (λ x. Null ∷ x) (nulls_follow segments nulls.1)
 nulls_follow (One ∷ segments) nulls = absurd (cc)
 nulls_follow (All ∷ segments) nulls = absurd (cc)
 
-pub nulls_move_nothing : (segments : List Step) (n : ℕ) → AllByRecursion (λ s. s ≡ Null) segments → all_moves segments n ≡ 0
+pub nulls_move_nothing : (segments : List Step) (n : ℕ) → AllByRecursion (λ s. s ≡ Null) segments
+    → all_moves segments n ≡ 0
 nulls_move_nothing [] n nulls = refl
-nulls_move_nothing (Null ∷ segments) n nulls = omega (arith, nulls_move_nothing segments (n - 0) nulls.1)
+nulls_move_nothing (Null ∷ segments) n nulls =
+    omega (arith, nulls_move_nothing segments (n - 0) nulls.1)
 nulls_move_nothing (One ∷ segments) n nulls = absurd (cc)
 nulls_move_nothing (All ∷ segments) n nulls = absurd (cc)
 
 -- one more segment of the plan
-pub on_plan_more : (segments steps : List Step) (s : Step) (whole until next done count : ℕ) → AreOnPlan segments steps whole until done
-    → segments_of (drop done steps) (whole - until) ≡ s ∷ segments_of (drop count steps) (whole - next) → AreOnPlan (segments ++ s ∷ []) steps whole next count
+pub on_plan_more : (segments steps : List Step) (s : Step) (whole until next done count : ℕ)
+    → AreOnPlan segments steps whole until done
+    → segments_of (drop done steps) (whole - until) ≡ s ∷ segments_of (drop count steps)
+    (whole - next) → AreOnPlan (segments ++ s ∷ []) steps whole next count
 on_plan_more segments steps s whole until next done count on is =
-    on ∙ ap (λ x. segments ++ x) is ∙ sym (append_assoc segments (s ∷ []) (segments_of (drop count steps) (whole - next)))
+    on ∙ ap (λ x. segments ++ x) is
+    ∙ sym (append_assoc segments (s ∷ []) (segments_of (drop count steps) (whole - next)))
 
 -- all segments of the plan have come
-pub on_plan_all : (segments steps : List Step) (whole until done : ℕ) → AreOnPlan segments steps whole until done → segments_of (drop done steps) (whole - until) ≡ []
+pub on_plan_all : (segments steps : List Step) (whole until done : ℕ)
+    → AreOnPlan segments steps whole until done → segments_of (drop done steps) (whole - until) ≡ []
     → segments ≡ segments_of steps whole
-on_plan_all segments steps whole until done on none = sym (on ∙ ap (λ x. segments ++ x) none ∙ append-nil segments)
+on_plan_all segments steps whole until done on none =
+    sym (on ∙ ap (λ x. segments ++ x) none ∙ append-nil segments)

@@ -25,7 +25,10 @@ IsDecided (Sending ask bytes) = ⊥
 IsDecided (Decided next) = Unit {0}
 
 -- A refusal is an answer by the card's meaning. To send there are as many bytes as P3 counts.
-abbrev pub Judges : {State : Type 0} → (State → ℕ → Tpdu → State → Type 0) → State → Ask → Verdict → Prepared State → Type 0
-Judges Does standing ask (Refuse status) prepared = Decides Does standing ask.cut (refused ask status) prepared
+abbrev pub Judges : {State : Type 0} → (State → ℕ → Tpdu → State → Type 0) → State → Ask → Verdict
+    → Prepared State → Type 0
+Judges Does standing ask (Refuse status) prepared =
+    Decides Does standing ask.cut (refused ask status) prepared
 Judges Does standing ask Receive prepared = IsReceiving prepared (λ asked. asked ≡ ask)
-Judges Does standing ask Send prepared = IsSending prepared (λ asked bytes. (asked ≡ ask) × (length bytes ≡ count ask.p3))
+Judges Does standing ask Send prepared =
+    IsSending prepared (λ asked bytes. (asked ≡ ask) × (length bytes ≡ count ask.p3))

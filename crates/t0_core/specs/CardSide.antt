@@ -1,6 +1,6 @@
 -- The card's end of the line: how far it stands, and which dialogues led to it.
 use Rattle.std.specs.Prelude.{◌≡◌, ℕ, ◌+◌, ◌-◌, ◌<◌, ◌≤◌, List, [], ◌∷◌, ◌++◌, length, take, drop, true, false, nat_lt, ◌==◌, ◌&&◌, Bool, ◌⊎◌, if◌then◌else◌}
-use Rattle.std.specs.List.{AllByRecursion, flat_map}
+use Rattle.std.specs.List.{AllByRecursion}
 use Rattle.apdu_core.specs.declared.header.Header.{Header}
 use Rattle.apdu_core.specs.HeaderBytes.{header_bytes, ins_is_valid}
 use Rattle.apdu_core.specs.StatusWord.{StatusWord, count}
@@ -10,17 +10,18 @@ use Rattle.t0_core.specs.declared.direction.Direction.{Direction}
 use Rattle.t0_core.specs.declared.direction.Direction.TheVariants.{ToCard, FromCard}
 use Rattle.t0_core.specs.declared.end.End.TheVariants.{Card}
 use Rattle.t0_core.specs.declared.service.Service.{Service}
-use Rattle.t0_core.specs.Character.{Character}
-use Rattle.t0_core.specs.Dialogue.{Body, Dialogue, foreseen, moves, to_move, characters, IsDialogue}
-use Rattle.t0_core.specs.Plan.{Course, segments_of, Follows, FollowInTurn}
-use Rattle.t0_core.specs.Meaning.{Tpdu, tpdu_of, Runs, Ask, Prepared, Decided, Decides, IsReceiving, IsSending, refused}
-use Rattle.t0_core.specs.Front.{Front, In_header, In_body, After_first, header_only, front_characters, GoesOn, Ends, IsFront}
+use Rattle.t0_core.specs.Dialogue.{Body, Dialogue, foreseen, moves, to_move, IsDialogue}
+use Rattle.t0_core.specs.Plan.{Course, segments_of, Follows}
+use Rattle.t0_core.specs.Meaning.{Tpdu, tpdu_of, Ask, Prepared, Decided, Decides, IsReceiving, IsSending, refused}
+use Rattle.t0_core.specs.Front.{Front, In_header, In_body, After_first, header_only, GoesOn, Ends}
 
 -- what a card end itself keeps of a TPDU
 pub data Stage : Type 0 where
   Taking_header : (bytes : List ℕ) → Stage  -- characters of the header, at most five
-  Refusing : (header : Header) (p3 : ℕ) (status : StatusWord) (done : ℕ) → Stage  -- the status of a refused header is to come; steps done
-  Serving : (service : Service) (came : List ℕ) → Stage  -- data are to move; those that have come from the terminal
+  -- the status of a refused header is to come; steps done
+  Refusing : (header : Header) (p3 : ℕ) (status : StatusWord) (done : ℕ) → Stage
+  -- data are to move; those that have come from the terminal
+  Serving : (service : Service) (came : List ℕ) → Stage
   Ending : (status : StatusWord) → Stage  -- SW1 is handed out
 
 pub record EndOf (C : Type 0) : Type 0 where
@@ -50,7 +51,15 @@ takes_plan (Serving s came) = false
 takes_plan (Ending status) = false
 
 abbrev pub one_moved : Service → Service
-one_moved s = record { header = s.header; p3 = s.p3; direction = s.direction; moved = s.moved + 1; until = s.until; done = s.done }
+one_moved s = record {
+  header = s.header;
+  p3 = s.p3;
+  direction = s.direction;
+  moved =
+      s.moved + 1;
+  until = s.until;
+  done = s.done;
+}
 
 -- the header or the data with one more character
 abbrev pub with_character : Stage → ℕ → Stage
@@ -59,13 +68,15 @@ with_character (Refusing header p3 status done) byte = Refusing header p3 status
 with_character (Serving s came) byte = Serving (one_moved s) (came ++ byte ∷ [])
 with_character (Ending status) byte = Ending status
 
--- A number that falls with each character of a TPDU after its header, under one plan: the steps and the data
--- that are left, one more "all" where data will be left without a step, and the status.
+-- A number that falls with each character of a TPDU, under one plan: characters of the header that
+-- are to come, the steps and the data that are left, one more "all" where data will be left without
+-- a step, and the status.
 abbrev pub still_to_go : Stage → Course → ℕ
-still_to_go (Taking_header bytes) plan = length plan.steps + 300
+still_to_go (Taking_header bytes) plan = (5 - length bytes) + length plan.steps + 300
 still_to_go (Refusing header p3 status done) plan = (length plan.steps - done) + 2
 still_to_go (Serving s came) plan =
-    (length plan.steps - s.done) + (whole_of s - s.moved) + (if nat_lt s.until (whole_of s) then 1 else 0) + 2
+    (length plan.steps - s.done) + (whole_of s - s.moved)
+    + (if nat_lt s.until (whole_of s) then 1 else 0) + 2
 still_to_go (Ending status) plan = 1
 
 -- the header is whole, and these are its characters
@@ -87,22 +98,28 @@ IsFrugal [] remain = Unit {0}
 IsFrugal (s ∷ segments) remain = Starts s remain × IsFrugal segments (remain - moves s remain)
 
 -- after a refused header there are NULLs alone, and no data
-pub record IsRefused {State : Type 0} (Does : State → ℕ → Tpdu → State → Type 0) (standing : State) (prepared : Prepared State)
+pub record IsRefused {State : Type 0} (Does : State → ℕ → Tpdu → State → Type 0) (standing : State)
+    (prepared : Prepared State)
     (header : Header) (p3 : ℕ) (status : StatusWord) (cut : ℕ) (b : Body) : Type 0 where
   pub header_is : b.header ≡ header
   pub p3_is : b.p3 ≡ p3
   pub no_data : b.moved ≡ []
   pub nulls : AllByRecursion (λ s. s ≡ Null) b.segments
-  pub decides : Decides Does standing cut (refused (record { header = header; p3 = p3; cut = cut }) status) prepared
+  pub decides : Decides Does standing cut
+      (refused (record { header = header; p3 = p3; cut = cut }) status) prepared
 
 -- the data moved are those that the terminal sent, or the first of those that the card has ready
-abbrev pub ServesBy : {State : Type 0} → Prepared State → Direction → Service → List ℕ → ℕ → List ℕ → Type 0
-ServesBy prepared ToCard s came cut moved = (moved ≡ came) × IsReceiving prepared (λ ask. ask ≡ ask_of s cut)
+abbrev pub ServesBy : {State : Type 0} → Prepared State → Direction → Service → List ℕ → ℕ → List ℕ
+    → Type 0
+ServesBy prepared ToCard s came cut moved =
+    (moved ≡ came) × IsReceiving prepared (λ ask. ask ≡ ask_of s cut)
 ServesBy prepared FromCard s came cut moved =
-    IsSending prepared (λ ask bytes. (ask ≡ ask_of s cut) × (length bytes ≡ count s.p3) × (moved ≡ take s.moved bytes))
+    IsSending prepared (λ ask bytes. (ask ≡ ask_of s cut) × (length bytes ≡ count s.p3)
+    × (moved ≡ take s.moved bytes))
 
 -- after any other there are segments and data
-pub record IsServed {State : Type 0} (prepared : Prepared State) (s : Service) (came : List ℕ) (cut : ℕ) (b : Body) : Type 0 where
+pub record IsServed {State : Type 0} (prepared : Prepared State) (s : Service) (came : List ℕ)
+    (cut : ℕ) (b : Body) : Type 0 where
   pub header_is : b.header ≡ s.header
   pub p3_is : b.p3 ≡ s.p3
   pub direction_is : b.direction ≡ s.direction
@@ -119,12 +136,15 @@ abbrev pub FollowsItself : Dialogue → ℕ → Type 0
 FollowsItself d cut = Follows d (record { steps = d.body.segments; cut = cut })
 
 -- The end stands at this front of a dialogue under this cut, over a card with these members.
-abbrev pub StandsAt : {State : Type 0} → (State → ℕ → Tpdu → State → Type 0) → State → Prepared State → Stage → ℕ → Front → Type 0
-StandsAt Does standing prepared (Taking_header bytes) cut (In_header front) = (front ≡ bytes) × (length bytes < 5)
+abbrev pub StandsAt : {State : Type 0} → (State → ℕ → Tpdu → State → Type 0) → State
+    → Prepared State → Stage → ℕ → Front → Type 0
+StandsAt Does standing prepared (Taking_header bytes) cut (In_header front) =
+    (front ≡ bytes) × (length bytes < 5)
 StandsAt Does standing prepared (Taking_header bytes) cut (In_body b) =
     (bytes ≡ begins_with b.header b.p3) × (b ≡ header_only b.header b.p3 b.direction)
 StandsAt Does standing prepared (Taking_header bytes) cut (After_first b sw1) = ⊥
-StandsAt Does standing prepared (Refusing header p3 status done) cut (In_body b) = IsRefused Does standing prepared header p3 status cut b
+StandsAt Does standing prepared (Refusing header p3 status done) cut (In_body b) =
+    IsRefused Does standing prepared header p3 status cut b
 StandsAt Does standing prepared (Refusing header p3 status done) cut (In_header front) = ⊥
 StandsAt Does standing prepared (Refusing header p3 status done) cut (After_first b sw1) = ⊥
 StandsAt Does standing prepared (Serving s came) cut (In_body b) = IsServed prepared s came cut b
@@ -133,23 +153,29 @@ StandsAt Does standing prepared (Serving s came) cut (After_first b sw1) = ⊥
 StandsAt {State = State} Does standing prepared (Ending status) cut (After_first b sw1) =
     (status.0 ≡ sw1) × (next : State) × (prepared ≡ Decided next)
     × Does standing cut (tpdu_of (record { body = b; status = status })) next
-    × IsDialogue (record { body = b; status = status }) × FollowsItself (record { body = b; status = status }) cut
+    × IsDialogue (record { body = b; status = status })
+    × FollowsItself (record { body = b; status = status }) cut
 StandsAt Does standing prepared (Ending status) cut (In_header front) = ⊥
 StandsAt Does standing prepared (Ending status) cut (In_body b) = ⊥
 
--- the segments so far are those of the plan's steps that are done; those of the others are still to come
+-- the segments so far are those of the plan's steps that are done; those of the others are still to
+-- come
 abbrev pub AreOnPlan : List Step → List Step → ℕ → ℕ → ℕ → Type 0
-AreOnPlan segments steps whole until done = segments_of steps whole ≡ segments ++ segments_of (drop done steps) (whole - until)
+AreOnPlan segments steps whole until done =
+    segments_of steps whole ≡ segments ++ segments_of (drop done steps) (whole - until)
 
 abbrev pub IsOnPlan : Stage → Course → Front → Type 0
 IsOnPlan (Taking_header bytes) plan front = Unit {0}
-IsOnPlan (Refusing header p3 status done) plan (In_body b) = AreOnPlan b.segments plan.steps 0 0 done
+IsOnPlan (Refusing header p3 status done) plan (In_body b) =
+    AreOnPlan b.segments plan.steps 0 0 done
 IsOnPlan (Refusing header p3 status done) plan (In_header front) = ⊥
 IsOnPlan (Refusing header p3 status done) plan (After_first b sw1) = ⊥
-IsOnPlan (Serving s came) plan (In_body b) = AreOnPlan b.segments plan.steps (whole_of s) s.until s.done
+IsOnPlan (Serving s came) plan (In_body b) =
+    AreOnPlan b.segments plan.steps (whole_of s) s.until s.done
 IsOnPlan (Serving s came) plan (In_header front) = ⊥
 IsOnPlan (Serving s came) plan (After_first b sw1) = ⊥
-IsOnPlan (Ending status) plan (After_first b sw1) = Follows (record { body = b; status = status }) plan
+IsOnPlan (Ending status) plan (After_first b sw1) =
+    Follows (record { body = b; status = status }) plan
 IsOnPlan (Ending status) plan (In_header front) = ⊥
 IsOnPlan (Ending status) plan (In_body b) = ⊥
 
@@ -173,55 +199,15 @@ SuitsFront (Serving s came) (In_body b) = b.direction ≡ s.direction
 SuitsFront (Serving s came) (After_first b sw1) = Unit {0}
 SuitsFront (Ending status) front = Unit {0}
 
--- With a character of the card the dialogue goes on, and the card's state stands; or it ends, is a dialogue,
--- and is a step of the card's own meaning. Where it was on the plan it stays on it, and at its end has followed it.
-abbrev pub Advances : {State : Type 0} → (State → ℕ → Tpdu → State → Type 0) → ℕ → Course → Stage → Front → ℕ → State → State → Prepared State → Stage → Type 0
+-- With a character of the card the dialogue goes on, and the card's state stands; or it ends, is a
+-- dialogue, and is a step of the card's own meaning. Where it was on the plan it stays on it, and
+-- at its end has followed it.
+abbrev pub Advances : {State : Type 0} → (State → ℕ → Tpdu → State → Type 0) → ℕ → Course → Stage
+    → Front → ℕ → State → State → Prepared State → Stage → Type 0
 Advances Does cut plan before front byte old standing prepared stage =
-    ((new : Front) × GoesOn front (Card, byte) new × StandsAt Does standing prepared stage cut new × (standing ≡ old)
+    ((new : Front) × GoesOn front (Card, byte) new × StandsAt Does standing prepared stage cut new
+    × (standing ≡ old)
     × (IsOnPlan before plan front → IsOnPlan stage plan new))
-    ⊎ ((d : Dialogue) × Ends front (Card, byte) d × IsDialogue d × FollowsItself d cut × Does old cut (tpdu_of d) standing
+    ⊎ ((d : Dialogue) × Ends front (Card, byte) d × IsDialogue d × FollowsItself d cut
+    × Does old cut (tpdu_of d) standing
     × (stage ≡ Taking_header []) × (IsOnPlan before plan front → Follows d plan))
-
--- These characters lead to the end as it is: whole dialogues, each of which follows some plan and which are a run
--- of the card's own meaning, and a front of one more.
-pub record Leads {State : Type 0} (Does : State → ℕ → Tpdu → State → Type 0) (first : State) (came : List Character)
-    (standing : State) (prepared : Prepared State) (stage : Stage) : Type 0 where
-  pub whole : List Dialogue
-  pub plans : List Course
-  pub cut : ℕ
-  pub front : Front
-  pub came_is : came ≡ flat_map characters whole ++ front_characters front
-  pub one_each : length plans ≡ length whole
-  pub are_dialogues : AllByRecursion IsDialogue whole
-  pub follow : FollowInTurn whole plans
-  pub runs : Runs Does first whole plans standing
-  pub is_front : IsFront front
-  pub stands : StandsAt Does standing prepared stage cut front
-
--- the plan of a TPDU that the card has begun to answer
-abbrev pub under_way : Stage → Course → List Course
-under_way (Taking_header bytes) plan = []
-under_way (Refusing header p3 status done) plan = plan ∷ []
-under_way (Serving s came) plan = plan ∷ []
-under_way (Ending status) plan = plan ∷ []
-
--- The same where each TPDU has one cursor throughout: they follow the plans taken, in turn.
-pub record LeadsUnder {State : Type 0} (Does : State → ℕ → Tpdu → State → Type 0) (first : State) (came : List Character) (taken : List Course)
-    (standing : State) (prepared : Prepared State) (stage : Stage) : Type 0 where
-  pub whole : List Dialogue
-  pub plans : List Course
-  pub plan : Course
-  pub front : Front
-  pub taken_is : taken ≡ plans ++ under_way stage plan
-  pub came_is : came ≡ flat_map characters whole ++ front_characters front
-  pub one_each : length plans ≡ length whole
-  pub are_dialogues : AllByRecursion IsDialogue whole
-  pub follow : FollowInTurn whole plans
-  pub runs : Runs Does first whole plans standing
-  pub is_front : IsFront front
-  pub stands : StandsAt Does standing prepared stage plan.cut front
-  pub on_plan : IsOnPlan stage plan front
-
--- the plan taken last
-abbrev pub IsLast : Course → List Course → Type 0
-IsLast plan taken = (before : List Course) × (taken ≡ before ++ plan ∷ [])

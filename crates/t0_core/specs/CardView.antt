@@ -50,18 +50,23 @@ IsHeld (phase.SecondStatus status) = Unit {0}
 
 -- the service after the next step of a plan
 pub record IsNext (s : Service) (steps : List Step) (step : Step) (next : Service) : Type 0 where
-  pub same : (next.header ≡ s.header) × (next.p3 ≡ s.p3) × (next.direction ≡ s.direction) × (next.moved ≡ s.moved)
+  pub same : (next.header ≡ s.header) × (next.p3 ≡ s.p3) × (next.direction ≡ s.direction)
+      × (next.moved ≡ s.moved)
   pub starts : Starts step (whole_of s - s.until)
   pub until_is : next.until ≡ s.until + moves step (whole_of s - s.until)
-  pub segments : segments_of (drop s.done steps) (whole_of s - s.until) ≡ step ∷ segments_of (drop next.done steps) (whole_of s - next.until)
-  pub counts : ((s.done < next.done) × (next.done ≤ length steps)) ⊎ ((step ≡ All) × (length steps ≤ next.done))
+  pub segments : segments_of (drop s.done steps) (whole_of s - s.until) ≡ step
+      ∷ segments_of (drop next.done steps) (whole_of s - next.until)
+  pub counts : ((s.done < next.done) × (next.done ≤ length steps))
+      ⊎ ((step ≡ All) × (length steps ≤ next.done))
 
 -- what a card answers when all data have moved
-abbrev pub Concludes : {State : Type 0} → (State → ℕ → Tpdu → State → Type 0) → State → Prepared State → Direction → List ℕ → StatusWord → Prepared State → Type 0
+abbrev pub Concludes : {State : Type 0} → (State → ℕ → Tpdu → State → Type 0) → State
+    → Prepared State → Direction → List ℕ → StatusWord → Prepared State → Type 0
 Concludes Does old before ToCard content status prepared =
     IsReceiving before (λ ask. Decides Does old ask.cut (taken_with ask content status) prepared)
 Concludes Does old before FromCard content status prepared =
-    IsSending before (λ ask bytes. Decides Does old ask.cut (answered_with ask bytes status) prepared)
+    IsSending before (λ ask bytes. Decides Does old ask.cut (answered_with ask bytes status)
+    prepared)
 
 -- the card has judged the header
 abbrev pub IsJudged : Phase → Type 0
@@ -79,22 +84,27 @@ IsAfter (phase.Opening bytes taken) new = IsOpening new where
   IsOpening (phase.Accepted service) = ⊥
   IsOpening (phase.SecondStatus status) = ⊥
 IsAfter (phase.Refused header p3 status done) new = ⊥
-IsAfter (phase.Accepted service) new = (service.moved < service.until) × (new ≡ phase.Accepted (one_moved service))
+IsAfter (phase.Accepted service) new = (service.moved < service.until)
+    × (new ≡ phase.Accepted (one_moved service))
 IsAfter (phase.SecondStatus status) new = ⊥
 
 -- a verdict and its direction stay until the status
 abbrev pub KeepsDirection : Stage → Stage → Type 0
 KeepsDirection old (Taking_header bytes) = (status : StatusWord) × (old ≡ Ending status)
-KeepsDirection old (Refusing header p3 status done) = (before : ℕ) × (old ≡ Refusing header p3 status before)
-KeepsDirection old (Serving s came) = (service : Service) × (before : List ℕ) × (old ≡ Serving service before) × (service.direction ≡ s.direction)
+KeepsDirection old (Refusing header p3 status done) =
+    (before : ℕ) × (old ≡ Refusing header p3 status before)
+KeepsDirection old (Serving s came) = (service : Service) × (before : List ℕ)
+    × (old ≡ Serving service before) × (service.direction ≡ s.direction)
 KeepsDirection old (Ending status) = Unit {0}
 
 -- after a refused header comes a NULL where the plan has one left, and else the status
 abbrev pub Refuses : Header → ℕ → StatusWord → ℕ → List Step → Phase → ℕ → Type 0
 Refuses header p3 status done steps next byte =
     ((left : ℕ) × (next ≡ phase.Refused header p3 status left) × (byte ≡ 0x60)
-    × (segments_of (drop done steps) 0 ≡ Null ∷ segments_of (drop left steps) 0) × (done < left) × (left ≤ length steps))
-    ⊎ ((next ≡ phase.SecondStatus status) × (byte ≡ status.0) × IsStatusWord status × (segments_of (drop done steps) 0 ≡ []))
+    × (segments_of (drop done steps) 0 ≡ Null ∷ segments_of (drop left steps) 0) × (done < left)
+    × (left ≤ length steps))
+    ⊎ ((next ≡ phase.SecondStatus status) × (byte ≡ status.0) × IsStatusWord status
+    × (segments_of (drop done steps) 0 ≡ []))
 
 -- the card has judged the header, and nothing has gone since
 abbrev pub IsVerdict : Phase → Type 0

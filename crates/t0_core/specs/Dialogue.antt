@@ -16,13 +16,14 @@ abbrev pub data_sender : Direction → End
 data_sender ToCard = Terminal
 data_sender FromCard = Card
 
--- how many data characters P3 foresees (10.3.2): 00 stands for 256 from the card, and for none to the card
+-- how many data characters P3 foresees (10.3.2): 00 stands for 256 from the card, and for none to
+-- the card
 abbrev pub foreseen : Direction → ℕ → ℕ
 foreseen ToCard p3 = p3
 foreseen FromCard p3 = count p3
 
--- A segment is a procedure byte and the data characters that it starts (10.3.3): 60, a NULL, starts none;
--- INS xor FF the next one; INS all that are left.
+-- A segment is a procedure byte and the data characters that it starts (10.3.3): 60, a NULL, starts
+-- none; INS xor FF the next one; INS all that are left.
 abbrev pub procedure_byte : ℕ → Step → ℕ
 procedure_byte ins Null = 0x60
 procedure_byte ins One = bit_xor ins 0xFF
@@ -44,7 +45,8 @@ abbrev pub segment_characters : ℕ → Direction → List Step → ℕ → List
 segment_characters ins direction [] remain moved = []
 segment_characters ins direction (s ∷ segments) remain moved =
     (Card, procedure_byte ins s) ∷ (sent_by (data_sender direction) (take (moves s remain) moved)
-    ++ segment_characters ins direction segments (remain - moves s remain) (drop (moves s remain) moved))
+    ++ segment_characters ins direction segments (remain - moves s remain)
+    (drop (moves s remain) moved))
 
 -- what goes over the line before the status: the header, and the segments with their data
 pub record Body : Type 0 where
@@ -69,8 +71,10 @@ pub record Dialogue : Type 0 where
 abbrev pub characters : Dialogue → List Character
 characters d = body_characters d.body ++ sent_by Card (d.status.0 ∷ d.status.1 ∷ [])
 
--- The segments move the data. Where INS is no instruction, each segment is a NULL: 6X and 9X are read as status.
+-- The segments move the data. Where INS is no instruction, each segment is a NULL: 6X and 9X are
+-- read as status.
 pub record IsDialogue (d : Dialogue) : Type 0 where
   pub moved_by_segments : length d.body.moved ≡ to_move d.body
   pub is_status : IsStatusWord d.status
-  pub only_nulls : ins_is_valid d.body.header.ins ≡ false → AllByRecursion (λ s. s ≡ Null) d.body.segments
+  pub only_nulls : ins_is_valid d.body.header.ins ≡ false
+      → AllByRecursion (λ s. s ≡ Null) d.body.segments

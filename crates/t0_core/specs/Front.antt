@@ -9,10 +9,11 @@ use Rattle.t0_core.specs.declared.plan.Step.{Step}
 use Rattle.t0_core.specs.declared.plan.Step.TheVariants.{Null}
 use Rattle.t0_core.specs.Character.{Character, sent_by}
 use Rattle.t0_core.specs.declared.direction.Direction.{Direction}
+use Rattle.t0_core.specs.declared.direction.Direction.TheVariants.{ToCard, FromCard}
 use Rattle.t0_core.specs.Dialogue.{Dialogue, Body, data_sender, foreseen, moves, procedure_byte, to_move, body_characters}
 
--- What has gone: fewer than five characters of the header; the header, segments, and data that may lack
--- the end of the last segment; all that and SW1.
+-- What has gone: fewer than five characters of the header; the header, segments, and data that may
+-- lack the end of the last segment; all that and SW1.
 pub data Front : Type 0 where
   In_header : (bytes : List ℕ) → Front
   In_body : (body : Body) → Front
@@ -28,13 +29,28 @@ front_characters (In_body b) = body_characters b
 front_characters (After_first b sw1) = body_characters b ++ (Card, sw1) ∷ []
 
 abbrev pub with_segment : Body → Step → Body
-with_segment b s = record { header = b.header; p3 = b.p3; direction = b.direction; segments = b.segments ++ s ∷ []; moved = b.moved }
+with_segment b s = record {
+  header = b.header;
+  p3 = b.p3;
+  direction = b.direction;
+  segments =
+      b.segments ++ s ∷ [];
+  moved = b.moved;
+}
 
 abbrev pub with_moved : Body → ℕ → Body
-with_moved b byte = record { header = b.header; p3 = b.p3; direction = b.direction; segments = b.segments; moved = b.moved ++ byte ∷ [] }
+with_moved b byte = record {
+  header = b.header;
+  p3 = b.p3;
+  direction = b.direction;
+  segments =
+      b.segments;
+  moved = b.moved ++ byte ∷ [];
+}
 
 abbrev pub header_only : Header → ℕ → Direction → Body
-header_only h p3 direction = record { header = h; p3 = p3; direction = direction; segments = []; moved = [] }
+header_only h p3 direction =
+    record { header = h; p3 = p3; direction = direction; segments = []; moved = [] }
 
 -- the segments begun have moved all their data
 abbrev pub IsBetween : Body → Type 0
@@ -44,20 +60,24 @@ IsBetween b = length b.moved ≡ to_move b
 abbrev pub GoesOnInHeader : List ℕ → Character → Front → Type 0
 GoesOnInHeader bytes c new = (c.0 ≡ Terminal)
     × (((length bytes < 4) × (new ≡ In_header (bytes ++ c.1 ∷ [])))
-    ⊎ ((h : Header) × (direction : Direction) × (bytes ≡ header_bytes h) × (new ≡ In_body (header_only h c.1 direction))))
+    ⊎ ((h : Header) × (direction : Direction) × (bytes ≡ header_bytes h)
+    × (new ≡ In_body (header_only h c.1 direction))))
 
 -- the segment under way moves its next data character
 abbrev pub MovesData : Body → Character → Front → Type 0
-MovesData b c new = (length b.moved < to_move b) × (c.0 ≡ data_sender b.direction) × (new ≡ In_body (with_moved b c.1))
+MovesData b c new = (length b.moved < to_move b) × (c.0 ≡ data_sender b.direction)
+    × (new ≡ In_body (with_moved b c.1))
 
 -- between segments the card begins the next, where INS is no instruction a NULL
 abbrev pub BeginsSegment : Body → Character → Front → Type 0
 BeginsSegment b c new = IsBetween b × (c.0 ≡ Card)
-    × ((s : Step) × (ins_is_valid b.header.ins ≡ false → s ≡ Null) × (c.1 ≡ procedure_byte b.header.ins s) × (new ≡ In_body (with_segment b s)))
+    × ((s : Step) × (ins_is_valid b.header.ins ≡ false → s ≡ Null)
+    × (c.1 ≡ procedure_byte b.header.ins s) × (new ≡ In_body (with_segment b s)))
 
 -- or it begins its status
 abbrev pub BeginsStatus : Body → Character → Front → Type 0
-BeginsStatus b c new = IsBetween b × (c.0 ≡ Card) × IsStatusWord (c.1, 0) × (new ≡ After_first b c.1)
+BeginsStatus b c new = IsBetween b × (c.0 ≡ Card) × IsStatusWord (c.1, 0)
+    × (new ≡ After_first b c.1)
 
 -- a dialogue goes on with one character
 abbrev pub GoesOn : Front → Character → Front → Type 0
@@ -69,13 +89,15 @@ GoesOn (After_first b sw1) c new = ⊥
 abbrev pub Ends : Front → Character → Dialogue → Type 0
 Ends (In_header bytes) c d = ⊥
 Ends (In_body b) c d = ⊥
-Ends (After_first b sw1) c d = (c.0 ≡ Card) × (c.1 < 256) × (d ≡ record { body = b; status = (sw1, c.1) })
+Ends (After_first b sw1) c d = (c.0 ≡ Card) × (c.1 < 256)
+    × (d ≡ record { body = b; status = (sw1, c.1) })
 
 -- so many data characters end inside the last of the segments
 abbrev pub EndInLast : List Step → ℕ → ℕ → Type 0
 EndInLast [] n k = k ≡ 0
 EndInLast (s ∷ []) n k = k ≤ moves s n
-EndInLast (s ∷ t ∷ segments) n k = (moves s n ≤ k) × EndInLast (t ∷ segments) (n - moves s n) (k - moves s n)
+EndInLast (s ∷ t ∷ segments) n k =
+    (moves s n ≤ k) × EndInLast (t ∷ segments) (n - moves s n) (k - moves s n)
 
 -- a header, segments and data with which a dialogue begins
 pub record IsBegun (b : Body) : Type 0 where
@@ -87,3 +109,19 @@ abbrev pub IsFront : Front → Type 0
 IsFront (In_header bytes) = length bytes < 5
 IsFront (In_body b) = IsBegun b
 IsFront (After_first b sw1) = IsBegun b × IsBetween b × IsStatusWord (sw1, 0)
+
+-- from this front a dialogue goes on with these characters, front by front, to its end
+abbrev pub GoesThrough : Front → List Character → Dialogue → Type 0
+GoesThrough front [] d = ⊥
+GoesThrough front (c ∷ cs) d = (Ends front c d × (cs ≡ []))
+    ⊎ ((new : Front) × GoesOn front c new × GoesThrough new cs d)
+
+-- the data from the card among what has gone
+abbrev pub from_card : Direction → List ℕ → List ℕ
+from_card ToCard moved = []
+from_card FromCard moved = moved
+
+abbrev pub brought : Front → List ℕ
+brought (In_header bytes) = []
+brought (In_body b) = from_card b.direction b.moved
+brought (After_first b sw1) = from_card b.direction b.moved

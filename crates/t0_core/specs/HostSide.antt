@@ -1,10 +1,10 @@
 -- The terminal's end of a TPDU: how far it stands, and which fronts of a dialogue led to it.
-use Rattle.std.specs.Prelude.{◌≡◌, ℕ, ◌+◌, ◌-◌, ◌<◌, ◌≤◌, List, [], ◌∷◌, ◌++◌, length, take, Option, Some, None, Bool, true, ◌==◌, ◌||◌, ◌&&◌, nat_le, nat_lt, slice_index, if◌then◌else◌}
+use Rattle.std.specs.Prelude.{◌≡◌, ℕ, ◌+◌, ◌-◌, ◌<◌, ◌≤◌, List, [], ◌∷◌, ◌++◌, length, take, Option, Some, None, true, ◌==◌, nat_lt, slice_index, if◌then◌else◌}
 use Rattle.apdu_core.specs.declared.header.Header.{Header}
 use Rattle.apdu_core.specs.HeaderBytes.{header_bytes, ins_is_valid}
-use Rattle.apdu_core.specs.StatusWord.{IsStatusWord}
+use Rattle.apdu_core.specs.StatusWord.{IsStatusWord, is_first_status}
 use Rattle.t0_core.specs.declared.line_fault.LineFault.{LineFault}
-use Rattle.t0_core.specs.declared.line_fault.LineFault.TheVariants.{BadProcedure, AfterEnd, TooLong, NotListening}
+use Rattle.t0_core.specs.declared.line_fault.LineFault.TheVariants.{BadProcedure, AfterEnd, TooLong, Stalled, NotListening}
 use Rattle.t0_core.specs.declared.host_end.HostStage.{HostStage}
 use Rattle.t0_core.specs.declared.host_end.HostTurn.{HostTurn}
 use Rattle.t0_core.specs.declared.host_end.HostTurn.TheVariants.{Sends, Listens, Done, Failed}
@@ -27,7 +27,14 @@ pub record Hosting : Type 0 where
 
 abbrev pub at_stage : Hosting → HostStage → Hosting
 at_stage host stage =
-    record { header = host.header; p3 = host.p3; direction = host.direction; content = host.content; stage = stage }
+    record {
+      header = host.header;
+      p3 = host.p3;
+      direction = host.direction;
+      content =
+          host.content;
+      stage = stage;
+    }
 
 -- what has moved to the card are the first of the end's own data
 abbrev pub AreOwn : Direction → List ℕ → List ℕ → Type 0
@@ -36,16 +43,19 @@ AreOwn FromCard content moved = Unit {0}
 
 -- the dialogue is one that this end opened
 abbrev pub IsOpenedBy : Hosting → Body → Type 0
-IsOpenedBy host b = (b.header ≡ host.header) × (b.p3 ≡ host.p3) × (b.direction ≡ host.direction) × AreOwn host.direction host.content b.moved
+IsOpenedBy host b = (b.header ≡ host.header) × (b.p3 ≡ host.p3) × (b.direction ≡ host.direction)
+    × AreOwn host.direction host.content b.moved
 
--- The end stands at this front of a dialogue: in the header; between segments; in a segment, which moves data
--- up to a place; or after SW1.
+-- The end stands at this front of a dialogue: in the header; between segments; in a segment, which
+-- moves data up to a place; or after SW1.
 abbrev pub HostStandsAt : Hosting → Front → Type 0
 HostStandsAt host front = At host.stage front where
   At : HostStage → Front → Type 0
-  At (SendingHeader sent) (In_header bytes) = (sent < 5) × (bytes ≡ take sent (header_bytes host.header ++ host.p3 ∷ []))
+  At (SendingHeader sent) (In_header bytes) =
+      (sent < 5) × (bytes ≡ take sent (header_bytes host.header ++ host.p3 ∷ []))
   At (Awaiting moved) (In_body b) = IsOpenedBy host b × IsBetween b × (length b.moved ≡ moved)
-  At (Moving moved until) (In_body b) = IsOpenedBy host b × (length b.moved ≡ moved) × (moved < until) × (to_move b ≡ until)
+  At (Moving moved until) (In_body b) = IsOpenedBy host b × (length b.moved ≡ moved)
+      × (moved < until) × (to_move b ≡ until)
   At (AwaitingSecond sw1) (After_first b first) = IsOpenedBy host b × (first ≡ sw1)
   At (SendingHeader sent) (In_body b) = ⊥
   At (SendingHeader sent) (After_first b first) = ⊥
@@ -93,22 +103,20 @@ after_turn host = After host.stage where
   After (Ended status) = Ended status
   After Broken = Broken
 
--- the first status bytes: 61 to 6F and 90 to 9F
-abbrev pub is_first_status : ℕ → Bool
-is_first_status byte = (nat_le 0x61 byte && nat_le byte 0x6F) || (nat_le 0x90 byte && nat_le byte 0x9F)
-
 -- what a byte starts as a procedure byte of this INS, if it is one
 abbrev pub step_of : ℕ → ℕ → Option Step
 step_of ins byte =
     if byte == procedure_byte ins Null then Some Null
-    else (if byte == procedure_byte ins All then Some All else (if byte == procedure_byte ins One then Some One else None))
+    else (if byte == procedure_byte ins All then Some All
+    else (if byte == procedure_byte ins One then Some One else None))
 
 -- where a procedure byte is due, a byte that is neither one nor SW1 is a fault
 abbrev pub procedure_fault : Option Step → ℕ → Option LineFault
 procedure_fault (Some step) byte = None
 procedure_fault None byte = if is_first_status byte then None else Some (BadProcedure byte)
 
--- while data move to the card, a character of it is out of turn; from the card there must be room for each
+-- while data move to the card, a character of it is out of turn; from the card there must be room
+-- for each
 abbrev pub data_fault : Direction → Room → Option LineFault
 data_fault ToCard gather = Some NotListening
 data_fault FromCard gather = if length gather.bytes == gather.limit then Some TooLong else None
@@ -124,10 +132,12 @@ fault_of host gather byte = Fault host.stage where
   Fault (Ended status) = Some AfterEnd
   Fault Broken = Some AfterEnd
 
--- where a fault leaves the end: a character that it does not understand or has no room for breaks it
+-- where a fault leaves the end: a character that it does not understand or has no room for breaks
+-- it
 abbrev pub after_fault : HostStage → LineFault → HostStage
 after_fault stage (BadProcedure byte) = Broken
 after_fault stage TooLong = Broken
+after_fault stage Stalled = Broken
 after_fault stage AfterEnd = stage
 after_fault stage NotListening = stage
 
@@ -141,7 +151,9 @@ abbrev pub after_taking : Hosting → ℕ → HostStage
 after_taking host byte = After host.stage where
   After : HostStage → HostStage
   After (SendingHeader sent) = SendingHeader sent
-  After (Awaiting moved) = after_procedure (step_of host.header.ins byte) moved (foreseen host.direction host.p3 - moved) byte
+  After (Awaiting moved) =
+      after_procedure (step_of host.header.ins byte) moved (foreseen host.direction host.p3 - moved)
+      byte
   After (Moving moved until) = moving (moved + 1) until
   After (AwaitingSecond sw1) = Ended (sw1, byte)
   After (Ended status) = Ended status
@@ -174,6 +186,10 @@ IsStage n (AwaitingSecond sw1) = IsStatusWord (sw1, 0)
 IsStage n (Ended status) = Unit {0}
 IsStage n Broken = Unit {0}
 
+-- what an end keeps of the TPDU that it opened
+abbrev pub IsRequest : Hosting → Type 0
+IsRequest host = (ins_is_valid host.header.ins ≡ true) × (host.header.ins < 256)
+    × AreForeseen host.direction host.content host.p3
+
 abbrev pub IsInRange : Hosting → Type 0
-IsInRange host = (ins_is_valid host.header.ins ≡ true) × (host.header.ins < 256) × AreForeseen host.direction host.content host.p3
-    × IsStage (foreseen host.direction host.p3) host.stage
+IsInRange host = IsRequest host × IsStage (foreseen host.direction host.p3) host.stage

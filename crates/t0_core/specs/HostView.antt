@@ -18,4 +18,11 @@ content_of Asking = []
 
 abbrev pub host_of : Request → HostStage → Hosting
 host_of request stage =
-    record { header = request.header; p3 = request.p3; direction = direction_of request.transfer; content = content_of request.transfer; stage = stage }
+    record {
+      header = request.header;
+      p3 = request.p3;
+      direction =
+          direction_of request.transfer;
+      content = content_of request.transfer;
+      stage = stage;
+    }

@@ -29,13 +29,23 @@ sent d = Sent d.body.direction where
   Sent FromCard = []
 
 abbrev pub tpdu_of : Dialogue → Tpdu
-tpdu_of d = record { header = d.body.header; p3 = d.body.p3; sent = sent d; received = received d; status = d.status }
+tpdu_of d = record {
+  header = d.body.header;
+  p3 = d.body.p3;
+  sent = sent d;
+  received =
+      received d;
+  status = d.status;
+}
 
 -- the card goes from state to state, a dialogue at a time, under the plans' cuts
-abbrev pub Runs : {State : Type 0} → (State → ℕ → Tpdu → State → Type 0) → State → List Dialogue → List Course → State → Type 0
+abbrev pub Runs : {State : Type 0} → (State → ℕ → Tpdu → State → Type 0) → State → List Dialogue
+    → List Course → State → Type 0
 Runs Does old [] plans new = new ≡ old
-Runs {State = State} Does old (d ∷ ds) [] new = (mid : State) × Does old 256 (tpdu_of d) mid × Runs Does mid ds [] new
-Runs {State = State} Does old (d ∷ ds) (p ∷ plans) new = (mid : State) × Does old p.cut (tpdu_of d) mid × Runs Does mid ds plans new
+Runs {State = State} Does old (d ∷ ds) [] new = (mid : State) × Does old 256 (tpdu_of d) mid
+    × Runs Does mid ds [] new
+Runs {State = State} Does old (d ∷ ds) (p ∷ plans) new =
+    (mid : State) × Does old p.cut (tpdu_of d) mid × Runs Does mid ds plans new
 
 -- what a card was asked for
 pub record Ask : Type 0 where
@@ -66,15 +76,20 @@ IsReceiving (Sending ask bytes) P = ⊥
 IsReceiving (Decided next) P = ⊥
 
 -- the answer to a TPDU is decided
-abbrev pub Decides : {State : Type 0} → (State → ℕ → Tpdu → State → Type 0) → State → ℕ → Tpdu → Prepared State → Type 0
-Decides {State = State} Does old cut tpdu prepared = (next : State) × (prepared ≡ Decided next) × Does old cut tpdu next
+abbrev pub Decides : {State : Type 0} → (State → ℕ → Tpdu → State → Type 0) → State → ℕ → Tpdu
+    → Prepared State → Type 0
+Decides {State = State} Does old cut tpdu prepared = (next : State) × (prepared ≡ Decided next)
+    × Does old cut tpdu next
 
 -- how a refused header, data to the card and data from it are answered
 abbrev pub refused : Ask → StatusWord → Tpdu
-refused ask status = record { header = ask.header; p3 = ask.p3; sent = []; received = []; status = status }
+refused ask status =
+    record { header = ask.header; p3 = ask.p3; sent = []; received = []; status = status }
 
 abbrev pub taken_with : Ask → List ℕ → StatusWord → Tpdu
-taken_with ask bytes status = record { header = ask.header; p3 = ask.p3; sent = bytes; received = []; status = status }
+taken_with ask bytes status =
+    record { header = ask.header; p3 = ask.p3; sent = bytes; received = []; status = status }
 
 abbrev pub answered_with : Ask → List ℕ → StatusWord → Tpdu
-answered_with ask bytes status = record { header = ask.header; p3 = ask.p3; sent = []; received = bytes; status = status }
+answered_with ask bytes status =
+    record { header = ask.header; p3 = ask.p3; sent = []; received = bytes; status = status }

@@ -1,5 +1,6 @@
--- Plans: which procedure bytes a card sends, and how it cuts its responses (this project's profile).
-use Rattle.std.specs.Prelude.{◌≡◌, ℕ, zero, suc, List, [], ◌∷◌, length, Option, Some, None, ◌⊎◌}
+-- Plans: which procedure bytes a card sends, and how it cuts its responses (this project's
+-- profile).
+use Rattle.std.specs.Prelude.{◌≡◌, ℕ, ◌≤◌, zero, suc, List, [], ◌∷◌, length, Option, Some, None, ◌⊎◌}
 use Rattle.t0_core.specs.declared.plan.Step.{Step}
 use Rattle.t0_core.specs.declared.plan.Step.TheVariants.{Null, One, All}
 use Rattle.t0_core.specs.Dialogue.{Dialogue, foreseen}
@@ -9,12 +10,16 @@ pub record Course : Type 0 where
   pub steps : List Step
   pub cut : ℕ
 
+-- a cut is 1 to 256
+abbrev pub IsCut : ℕ → Type 0
+IsCut cut = (1 ≤ cut) × (cut ≤ 256)
+
 -- what a TPDU follows that the list has no plan for
 abbrev pub plain : Course
 plain = record { steps = []; cut = 256 }
 
--- The segments of a plan, where so many characters are to move: a step that finds none left is passed over,
--- and where some are left at the end one more "all" moves them.
+-- The segments of a plan, where so many characters are to move: a step that finds none left is
+-- passed over, and where some are left at the end one more "all" moves them.
 abbrev pub segments_of : List Step → ℕ → List Step
 segments_of [] zero = []
 segments_of [] (suc remain) = All ∷ []
@@ -26,7 +31,8 @@ segments_of (All ∷ steps) (suc remain) = All ∷ segments_of steps zero
 
 -- all data move or none, step by step
 pub record Follows (d : Dialogue) (plan : Course) : Type 0 where
-  pub all_or_nothing : (d.body.moved ≡ []) ⊎ (length d.body.moved ≡ foreseen d.body.direction d.body.p3)
+  pub all_or_nothing : (d.body.moved ≡ [])
+      ⊎ (length d.body.moved ≡ foreseen d.body.direction d.body.p3)
   pub step_by_step : d.body.segments ≡ segments_of plan.steps (length d.body.moved)
 
 -- The dialogues follow the plans in turn; past the end of the list a plan has no steps.

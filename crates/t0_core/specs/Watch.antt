@@ -7,8 +7,8 @@ pub record Hearing : Type 0 where
   pub heard : List Character
   pub lost : Bool
 
--- Characters went over the line: the watch has heard them all, or it has lost some, and then it has heard a
--- front of them; once it has lost one it hears nothing more.
+-- Characters went over the line: the watch has heard them all, or it has lost some, and then it has
+-- heard a front of them; once it has lost one it hears nothing more.
 pub record Hears (old : Hearing) (went : List Character) (new : Hearing) : Type 0 where
   pub all : new.lost ≡ false → (old.lost ≡ false) × (new.heard ≡ old.heard ++ went)
   pub front : (n : ℕ) × (new.heard ≡ old.heard ++ take n went)

@@ -1,10 +1,12 @@
-ghost use Rattle.std.specs.Prelude.{◌≡◌, ℕ, ◌+◌, ◌≤◌, ◌<◌, ◌++◌, List, [], ◌∷◌, length, take, true, is_ok, OnOk, OnErr, IsOk, if◌then◌else◌, slice_index, ◌==◌, IfOk, ◌↔◌, ◌⊎◌, false};
+ghost use Rattle.std.specs.Prelude.{◌≡◌, ℕ, ◌+◌, ◌≤◌, ◌<◌, ◌++◌, List, replicate, [], ◌∷◌, length, take, true, is_ok, OnOk, OnErr, IsOk, if◌then◌else◌, slice_index, ◌==◌, IfOk, ◌↔◌, ◌⊎◌, false};
 ghost use Rattle.apdu_core.specs.declared.header.Header.{Header};
 ghost use Rattle.apdu_core.specs.HeaderBytes.{header_bytes, ins_is_valid};
 ghost use Rattle.t0_core.specs.declared.service.Service.{Service};
 ghost use Rattle.t0_core.specs.CardView.{Fits, IsHeld, IsJudged, IsVerdict, IsAfter, KeepsDirection, Refuses, stage_of};
-ghost use Rattle.t0_core.specs.CardSide.{StandsAt, Advances, IsOnPlan, Leads, LeadsUnder, SuitsFront, IsPermitted, IsLast, begins_with, listens, with_character, Taking_header, Serving, takes_plan, still_to_go};
-ghost use Rattle.t0_core.specs.Plan.{Course, advanced, plan_kept};
+ghost use Rattle.t0_core.specs.CardSide.{StandsAt, Advances, IsOnPlan, SuitsFront, IsPermitted, begins_with, listens, with_character, Taking_header, Serving, takes_plan, still_to_go};
+ghost use Rattle.t0_core.specs.History.{Event, Passed, Reset};
+ghost use Rattle.t0_core.specs.CardHistory.{Leads, LeadsUnder, IsLast};
+ghost use Rattle.t0_core.specs.Plan.{Course, IsCut, advanced, plan_kept};
 ghost use Rattle.t0_core.specs.declared.direction.Direction.{Direction};
 ghost use Rattle.t0_core.specs.Front.{Front, In_body, header_only};
 
@@ -14,6 +16,8 @@ use crate::service::{Service, serve};
 use crate::tpdu_card::{TpduCard, Verdict};
 use apdu_core::{Header, Status};
 use std::alloc::Allocator;
+use std::error::Error;
+use std::fmt;
 use std::marker::Model;
 
 /// What a card's end does when it may.
@@ -28,6 +32,18 @@ pub enum Turn {
 /// A character was offered when the next one is the card's.
 #[derive(Clone, Copy, Debug, PartialEq, Eq)]
 pub struct NotListening;
+
+impl fmt::Display for NotListening {
+    ghost use Rattle.std.specs.Prelude.{Some, codes};
+
+    ghost output = { λ _. Some (codes "character out of turn") };
+
+    fn fmt<W: fmt::Write>(&self, f: &mut fmt::Formatter<W>) -> fmt::Result {
+        f.write_str("character out of turn")
+    }
+}
+
+impl Error for NotListening {}
 
 /// How far a card's end has come in a TPDU.
 #[derive(Clone, Copy, Debug, PartialEq, Eq)]
@@ -86,8 +102,10 @@ impl<C: TpduCard> CardEnd<C> {
     /// The end of a card that has heard nothing yet.
     pub fn new(card: C) -> CardEnd<C>
         ensures fresh { result ≡ record { card = card; stage = Taking_header [] } }
-        ensures led { Leads C.Does (C.standing card) [] (C.standing result.card) (C.prepared result.card) result.stage }
-        ensures led_under { LeadsUnder C.Does (C.standing card) [] [] (C.standing result.card) (C.prepared result.card) result.stage }
+        ensures led { Leads C.Does C.after_reset (C.standing card) []
+            (C.standing result.card) (C.prepared result.card) result.stage }
+        ensures led_under { LeadsUnder C.Does (C.standing card) [] []
+            (C.standing result.card) (C.prepared result.card) result.stage }
     {
         CardEnd {
             card,
@@ -107,11 +125,21 @@ impl<C: TpduCard> CardEnd<C> {
     pub fn reset(&mut self)
         ensures card { C.standing self.new.card ≡ C.after_reset (C.standing self.old.card) }
         ensures stage { self.new.stage ≡ Taking_header [] }
-        ensures led { Leads C.Does (C.standing self.new.card) [] (C.standing self.new.card) (C.prepared self.new.card) self.new.stage }
-        ensures led_under { LeadsUnder C.Does (C.standing self.new.card) [] [] (C.standing self.new.card) (C.prepared self.new.card) self.new.stage }
+
+        // Whatever led to the end leads to it with the reset, and nothing leads to it from here.
+        ensures led { (first : C.State) (events : List Event) →
+            Leads C.Does C.after_reset first events
+            (C.standing self.old.card) (C.prepared self.old.card) self.old.stage →
+            Leads C.Does C.after_reset first (events ++ Reset ∷ [])
+            (C.standing self.new.card) (C.prepared self.new.card) self.new.stage }
+        ensures anew { Leads C.Does C.after_reset (C.standing self.new.card) []
+            (C.standing self.new.card) (C.prepared self.new.card) self.new.stage }
+        ensures led_under { LeadsUnder C.Does (C.standing self.new.card) [] []
+            (C.standing self.new.card) (C.prepared self.new.card) self.new.stage }
     {
         self.card.reset();
         self.phase = FRESH;
+        self.came = [0; 255];
     }
 
     /// Takes a character of the terminal. It is refused exactly where the next character is the
@@ -119,24 +147,33 @@ impl<C: TpduCard> CardEnd<C> {
     pub fn take(&mut self, byte: u8) -> Result<(), NotListening>
         ensures listening { is_ok result ≡ listens self.old.stage }
         ensures refused { OnErr result (self.new ≡ self.old) }
-        ensures taken { OnOk result (self.new ≡ record { card = self.old.card; stage = with_character self.old.stage byte }) }
-        ensures falls { OnOk result ((plan : Course) (service : Service) (came : List ℕ) → self.old.stage ≡ Serving service came →
+        ensures taken { OnOk result
+            (self.new ≡ record self.old { stage = with_character self.old.stage byte }) }
+        ensures falls { OnOk result ((plan : Course) →
             still_to_go self.new.stage plan < still_to_go self.old.stage plan) }
 
         // The dialogue under way goes on with it, and stays on its plan.
         ensures goes_on { (cut : ℕ) (front new : Front) →
-            StandsAt C.Does (C.standing self.old.card) (C.prepared self.old.card) self.old.stage cut front →
+            StandsAt C.Does (C.standing self.old.card) (C.prepared self.old.card)
+            self.old.stage cut front →
             GoesOn front (Terminal, byte) new →
-            IsOk result × StandsAt C.Does (C.standing self.new.card) (C.prepared self.new.card) self.new.stage cut new
-            × ((plan : Course) → IsOnPlan self.old.stage plan front → IsOnPlan self.new.stage plan new) }
+            IsOk result
+            × StandsAt C.Does (C.standing self.new.card) (C.prepared self.new.card)
+            self.new.stage cut new
+            × ((plan : Course) →
+            IsOnPlan self.old.stage plan front → IsOnPlan self.new.stage plan new) }
 
         // Whatever led to the end leads to it with this character.
-        ensures led { (first : C.State) (came : List Character) →
-            Leads C.Does first came (C.standing self.old.card) (C.prepared self.old.card) self.old.stage →
-            OnOk result (Leads C.Does first (came ++ (Terminal, byte) ∷ []) (C.standing self.new.card) (C.prepared self.new.card) self.new.stage) }
+        ensures led { (first : C.State) (events : List Event) →
+            Leads C.Does C.after_reset first events
+            (C.standing self.old.card) (C.prepared self.old.card) self.old.stage →
+            OnOk result (Leads C.Does C.after_reset first (events ++ Passed (Terminal, byte) ∷ [])
+            (C.standing self.new.card) (C.prepared self.new.card) self.new.stage) }
         ensures led_under { (first : C.State) (came : List Character) (taken : List Course) →
-            LeadsUnder C.Does first came taken (C.standing self.old.card) (C.prepared self.old.card) self.old.stage →
-            OnOk result (LeadsUnder C.Does first (came ++ (Terminal, byte) ∷ []) taken (C.standing self.new.card) (C.prepared self.new.card) self.new.stage) }
+            LeadsUnder C.Does first came taken
+            (C.standing self.old.card) (C.prepared self.old.card) self.old.stage →
+            OnOk result (LeadsUnder C.Does first (came ++ (Terminal, byte) ∷ []) taken
+            (C.standing self.new.card) (C.prepared self.new.card) self.new.stage) }
     {
         self.phase = phase_with(self.phase, byte, &mut self.came)?;
         Ok(())
@@ -150,35 +187,49 @@ impl<C: TpduCard> CardEnd<C> {
     pub fn turn<A: Allocator>(&mut self, plans: &mut Plans<A>) -> Turn
         ensures whose { (result ≡ Turn.Listens) ↔ (listens self.old.stage ≡ true) }
         ensures listens { result ≡ Turn.Listens → self.new ≡ self.old }
-        ensures plan { plans.new ≡ (if takes_plan self.old.stage then advanced plans.old else plans.old) }
-        ensures falls { (byte : ℕ) → result ≡ Turn.Sends byte → (self.new.stage ≡ Taking_header [])
-            ⊎ (still_to_go self.new.stage (plan_kept plans.new) < still_to_go self.old.stage (plan_kept plans.new)) }
+        ensures plan { plans.new ≡
+            (if takes_plan self.old.stage then advanced plans.old else plans.old) }
+        ensures falls { (byte : ℕ) → result ≡ Turn.Sends byte →
+            (self.new.stage ≡ Taking_header [])
+            ⊎ (still_to_go self.new.stage (plan_kept plans.new)
+            < still_to_go self.old.stage (plan_kept plans.new)) }
 
         // To this instruction the card may give this verdict.
-        ensures permitted { (header : Header) (p3 : ℕ) → self.old.stage ≡ Taking_header (begins_with header p3) →
+        ensures permitted { (header : Header) (p3 : ℕ) →
+            self.old.stage ≡ Taking_header (begins_with header p3) →
             IsPermitted C.MayReceive C.MaySend header.ins self.new.stage }
 
         // The dialogue under way goes on with it, or ends.
         ensures advances { (byte cut : ℕ) (front : Front) → result ≡ Turn.Sends byte →
-            (takes_plan self.old.stage ≡ true → (cut ≡ (plan_kept plans.new).cut) × SuitsFront self.new.stage front) →
-            StandsAt C.Does (C.standing self.old.card) (C.prepared self.old.card) self.old.stage cut front →
+            (takes_plan self.old.stage ≡ true →
+            (cut ≡ (plan_kept plans.new).cut) × SuitsFront self.new.stage front) →
+            StandsAt C.Does (C.standing self.old.card) (C.prepared self.old.card)
+            self.old.stage cut front →
             Advances C.Does cut (plan_kept plans.new) self.old.stage front byte
-            (C.standing self.old.card) (C.standing self.new.card) (C.prepared self.new.card) self.new.stage }
+            (C.standing self.old.card)
+            (C.standing self.new.card) (C.prepared self.new.card) self.new.stage }
 
         // Whatever led to the end leads to it with this character.
-        ensures led { (first : C.State) (came : List Character) (byte : ℕ) → result ≡ Turn.Sends byte →
-            Leads C.Does first came (C.standing self.old.card) (C.prepared self.old.card) self.old.stage →
-            Leads C.Does first (came ++ (Card, byte) ∷ []) (C.standing self.new.card) (C.prepared self.new.card) self.new.stage }
-        ensures led_under { (first : C.State) (came : List Character) (taken : List Course) (byte : ℕ) → result ≡ Turn.Sends byte →
-            LeadsUnder C.Does first came taken (C.standing self.old.card) (C.prepared self.old.card) self.old.stage →
+        ensures led { (first : C.State) (events : List Event) (byte : ℕ) →
+            result ≡ Turn.Sends byte →
+            Leads C.Does C.after_reset first events
+            (C.standing self.old.card) (C.prepared self.old.card) self.old.stage →
+            Leads C.Does C.after_reset first (events ++ Passed (Card, byte) ∷ [])
+            (C.standing self.new.card) (C.prepared self.new.card) self.new.stage }
+        ensures led_under { (first : C.State) (came : List Character) (taken : List Course)
+            (byte : ℕ) → result ≡ Turn.Sends byte →
+            LeadsUnder C.Does first came taken
+            (C.standing self.old.card) (C.prepared self.old.card) self.old.stage →
             (takes_plan self.old.stage ≡ false → IsLast (plan_kept plans.old) taken) →
-            LeadsUnder C.Does first (came ++ (Card, byte) ∷ []) (if takes_plan self.old.stage then taken ++ plan_kept plans.new ∷ [] else taken)
+            LeadsUnder C.Does first (came ++ (Card, byte) ∷ [])
+            (if takes_plan self.old.stage then taken ++ plan_kept plans.new ∷ [] else taken)
             (C.standing self.new.card) (C.prepared self.new.card) self.new.stage }
     {
         if is_listening(&self.phase) {
             return Turn::Listens;
         }
         let (phase, byte) = hand_out(&mut self.card, self.phase, &self.came, plans);
+        forget_data(&phase, &mut self.came);
         self.phase = phase;
         Turn::Sends(byte)
     }
@@ -189,6 +240,17 @@ const FRESH: Phase = Phase::Opening {
     bytes: [0; 5],
     taken: 0,
 };
+
+/// Drops the data of a TPDU that is over.
+fn forget_data(phase: &Phase, came: &mut [u8; 255])
+    ensures stage { stage_of phase.now came.new ≡ stage_of phase.now came.old }
+    ensures gone { (bytes : List ℕ) (taken : ℕ) → phase.now ≡ Phase.Opening bytes taken →
+        came.new ≡ replicate 255 0 }
+{
+    if let Phase::Opening { .. } = phase {
+        *came = [0; 255];
+    }
+}
 
 /// Whether the next character is the terminal's.
 fn is_listening(phase: &Phase) -> bool
@@ -207,7 +269,8 @@ fn phase_with(phase: Phase, byte: u8, came: &mut [u8; 255]) -> Result<Phase, Not
     requires held { IsHeld phase }
     requires room { length came.old ≡ 255 }
     ensures listening { is_ok result ≡ listens (stage_of phase came.old) }
-    ensures taken { IfOk result (λ new. stage_of new came.new ≡ with_character (stage_of phase came.old) byte) }
+    ensures taken { IfOk result
+        (λ new. stage_of new came.new ≡ with_character (stage_of phase came.old) byte) }
     ensures room { length came.new ≡ 255 }
     ensures refused { OnErr result (came.new ≡ came.old) }
     ensures fits { IfOk result (λ new. IsAfter phase new) }
@@ -243,16 +306,23 @@ fn hand_out<C: TpduCard, A: Allocator>(
     requires room { length came.now ≡ 255 }
     requires due { listens (stage_of phase came.now) ≡ false }
     ensures fits { Fits (C.prepared card.new) result.0 }
-    ensures plan { plans.new ≡ (if takes_plan (stage_of phase came.now) then advanced plans.old else plans.old) }
+    ensures plan { plans.new
+        ≡ (if takes_plan (stage_of phase came.now) then advanced plans.old else plans.old) }
+    ensures cut { takes_plan (stage_of phase came.now) ≡ true → IsCut (plan_kept plans.new).cut }
     ensures falls { (stage_of result.0 came.now ≡ Taking_header [])
-        ⊎ (still_to_go (stage_of result.0 came.now) (plan_kept plans.new) < still_to_go (stage_of phase came.now) (plan_kept plans.new)) }
-    ensures permitted { (header : Header) (p3 : ℕ) → stage_of phase came.now ≡ Taking_header (begins_with header p3) →
+        ⊎ (still_to_go (stage_of result.0 came.now) (plan_kept plans.new)
+        < still_to_go (stage_of phase came.now) (plan_kept plans.new)) }
+    ensures permitted { (header : Header) (p3 : ℕ)
+        → stage_of phase came.now ≡ Taking_header (begins_with header p3) →
         IsPermitted C.MayReceive C.MaySend header.ins (stage_of result.0 came.now) }
     ensures advances { (cut : ℕ) (front : Front) →
-        (takes_plan (stage_of phase came.now) ≡ true → (cut ≡ (plan_kept plans.new).cut) × SuitsFront (stage_of result.0 came.now) front) →
-        StandsAt C.Does (C.standing card.old) (C.prepared card.old) (stage_of phase came.now) cut front →
+        (takes_plan (stage_of phase came.now) ≡ true → (cut ≡ (plan_kept plans.new).cut)
+        × SuitsFront (stage_of result.0 came.now) front) →
+        StandsAt C.Does (C.standing card.old) (C.prepared card.old) (stage_of phase came.now) cut
+        front →
         Advances C.Does cut (plan_kept plans.new) (stage_of phase came.now) front result.1
-        (C.standing card.old) (C.standing card.new) (C.prepared card.new) (stage_of result.0 came.now) }
+        (C.standing card.old) (C.standing card.new) (C.prepared card.new)
+        (stage_of result.0 came.now) }
 {
     match phase {
         Phase::Opening { bytes, .. } => {
@@ -267,18 +337,23 @@ fn hand_out<C: TpduCard, A: Allocator>(
 
 /// The card's verdict on a header.
 fn judged<C: TpduCard>(card: &mut C, bytes: [u8; 5], cut: u16) -> Phase
-    requires { length bytes ≡ 5 }
+    requires five { length bytes ≡ 5 }
+    requires cut { (1 ≤ cut) × (cut ≤ 256) }
     ensures fits { Fits (C.prepared card.new) result }
     ensures judged { IsVerdict result }
     ensures due { (came : List ℕ) → listens (stage_of result came) ≡ false }
-    ensures falls { (came : List ℕ) (plan : Course) → still_to_go (stage_of result came) plan < length plan.steps + 300 }
+    ensures falls { (came : List ℕ) (plan : Course)
+        → still_to_go (stage_of result came) plan < length plan.steps + 300 }
     ensures stands { C.standing card.new ≡ C.standing card.old }
     ensures permitted { (header : Header) (p3 : ℕ) (came : List ℕ) → bytes ≡ begins_with header p3 →
         IsPermitted C.MayReceive C.MaySend header.ins (stage_of result came) }
-    ensures opens { (header : Header) (p3 : ℕ) (direction : Direction) (came : List ℕ) → bytes ≡ begins_with header p3 →
+    ensures opens { (header : Header) (p3 : ℕ) (direction : Direction) (came : List ℕ)
+        → bytes ≡ begins_with header p3 →
         SuitsFront (stage_of result came) (In_body (header_only header p3 direction)) →
-        StandsAt C.Does (C.standing card.old) (C.prepared card.new) (stage_of result came) cut (In_body (header_only header p3 direction))
-        × ((plan : Course) → IsOnPlan (stage_of result came) plan (In_body (header_only header p3 direction))) }
+        StandsAt C.Does (C.standing card.old) (C.prepared card.new) (stage_of result came) cut
+        (In_body (header_only header p3 direction))
+        × ((plan : Course) → IsOnPlan (stage_of result came) plan
+        (In_body (header_only header p3 direction))) }
 {
     let [cla, ins, p1, p2, p3] = bytes;
     let header = Header { cla, ins, p1, p2 };
@@ -305,13 +380,17 @@ fn go_on<C: TpduCard>(card: &mut C, phase: Phase, came: &[u8; 255], steps: &[Ste
     requires room { length came.now ≡ 255 }
     requires due { listens (stage_of phase came.now) ≡ false }
     ensures fits { Fits (C.prepared card.new) result.0 }
-    ensures falls { (plan : Course) → plan.steps ≡ steps.now → (stage_of result.0 came.now ≡ Taking_header [])
-        ⊎ (still_to_go (stage_of result.0 came.now) plan < still_to_go (stage_of phase came.now) plan) }
+    ensures falls { (plan : Course) → plan.steps ≡ steps.now
+        → (stage_of result.0 came.now ≡ Taking_header [])
+        ⊎ (still_to_go (stage_of result.0 came.now) plan < still_to_go (stage_of phase came.now)
+        plan) }
     ensures keeps { KeepsDirection (stage_of phase came.now) (stage_of result.0 came.now) }
     ensures advances { (cut : ℕ) (plan : Course) (front : Front) → plan.steps ≡ steps.now →
-        StandsAt C.Does (C.standing card.old) (C.prepared card.old) (stage_of phase came.now) cut front →
+        StandsAt C.Does (C.standing card.old) (C.prepared card.old) (stage_of phase came.now) cut
+        front →
         Advances C.Does cut plan (stage_of phase came.now) front result.1
-        (C.standing card.old) (C.standing card.new) (C.prepared card.new) (stage_of result.0 came.now) }
+        (C.standing card.old) (C.standing card.new) (C.prepared card.new)
+        (stage_of result.0 came.now) }
 {
     match phase {
         Phase::Opening { .. } => unreachable!(),

@@ -28,6 +28,20 @@ fn passes<A: Allocator>(
     assert_eq!(rt; end.turn(plans), Turn::Listens);
 }
 
+/// A fresh card's end under one plan of these steps passes the runs.
+fn passes_under(
+    rt: &impl Abort,
+    alloc: Global,
+    steps: &[Step],
+    runs: &[(End, &[u8])],
+) -> Result<(), Fail> {
+    let steps = Vec::from_slice(alloc, steps)?;
+    let plans = [Plan::new(steps, 256).ok_or("a plan")?];
+    let mut end = CardEnd::new(TestCard::new());
+    passes(rt, &mut end, &mut Plans::over(&plans), runs);
+    Ok(())
+}
+
 #[test]
 fn each_step_of_a_plan(rt: HostRuntime) -> Result<(), Fail> {
     let get = (End::Terminal, b"\x00\xCA\x00\x00\x03".as_slice());
@@ -98,10 +112,7 @@ fn each_step_of_a_plan(rt: HostRuntime) -> Result<(), Fail> {
             ],
         ),
     ] {
-        let steps = Vec::from_slice(rt.alloc(), steps)?;
-        let plans = [Plan::new(steps, 256).ok_or("a plan")?];
-        let mut end = CardEnd::new(TestCard::new());
-        passes(&rt, &mut end, &mut Plans::over(&plans), &runs);
+        passes_under(&rt, rt.alloc(), steps, &runs)?;
     }
     Ok(())
 }

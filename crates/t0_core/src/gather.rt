@@ -57,7 +57,11 @@ impl<A: Allocator> Gather<A> {
     /// Adds a byte, for which there is room.
     pub(crate) fn push(&mut self, byte: u8)
         requires { (length self.old.bytes == self.old.limit) ≡ false }
-        ensures { self.new ≡ record { bytes = self.old.bytes ++ byte ∷ []; limit = self.old.limit } }
+        ensures { self.new ≡ record {
+          bytes = self.old.bytes ++ byte ∷ [];
+          limit =
+              self.old.limit;
+        } }
     {
         self.bytes.push(byte).unwrap();
     }

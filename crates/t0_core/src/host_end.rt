@@ -1,7 +1,7 @@
-ghost use Rattle.std.specs.Prelude.{◌≡◌, ℕ, ◌≤◌, ◌<◌, [], ◌∷◌, true, OnOk, IfErr, MatchResult, IsOk, length, IfOk, is_ok, if◌then◌else◌};
+ghost use Rattle.std.specs.Prelude.{◌≡◌, ℕ, ◌≤◌, ◌<◌, List, [], ◌∷◌, ◌++◌, true, OnOk, IfErr, MatchResult, IsOk, length, IfOk, is_ok, if◌then◌else◌, ◌⊎◌, ◌↔◌, Some};
 ghost use Rattle.std.specs.Result.{result_err};
 ghost use Rattle.apdu_core.specs.HeaderBytes.{ins_is_valid};
-ghost use Rattle.apdu_core.specs.StatusWord.{count};
+ghost use Rattle.apdu_core.specs.StatusWord.{StatusWord, count};
 ghost use Rattle.t0_core.specs.declared.host_end.HostStage.TheVariants.{Awaiting};
 ghost use Rattle.t0_core.specs.declared.direction.Direction.TheVariants.{ToCard, FromCard};
 ghost use Rattle.t0_core.specs.Room.{Room};
@@ -71,8 +71,8 @@ impl<'a> HostEnd<'a> {
     ghost use Rattle.t0_core.specs.declared.end.End.TheVariants.{Terminal, Card};
     ghost use Rattle.t0_core.specs.declared.host_end.HostStage.TheVariants.{SendingHeader, Ended};
     ghost use Rattle.t0_core.specs.Dialogue.{Dialogue};
-    ghost use Rattle.t0_core.specs.Front.{Front, GoesOn, Ends};
-    ghost use Rattle.t0_core.specs.HostSide.{at_stage, HostStandsAt};
+    ghost use Rattle.t0_core.specs.Front.{Front, GoesOn, Ends, brought, fresh};
+    ghost use Rattle.t0_core.specs.HostSide.{at_stage, HostStandsAt, IsRequest};
 
     /// An end that sends the card these bytes, at most 255, under a header with a valid INS. P3 is
     /// their number.
@@ -83,6 +83,8 @@ impl<'a> HostEnd<'a> {
         ensures p3 { result.p3 ≡ length content.now }
         ensures data { (result.direction ≡ ToCard) × (result.content ≡ content.now) }
         ensures stage { result.stage ≡ SendingHeader 0 }
+        ensures stands { HostStandsAt result fresh }
+        ensures keeps { IsRequest result }
     {
         HostEnd {
             request: Request {
@@ -103,6 +105,8 @@ impl<'a> HostEnd<'a> {
         ensures p3 { (count result.p3 ≡ wanted) × (result.p3 < 256) }
         ensures data { (result.direction ≡ FromCard) × (result.content ≡ []) }
         ensures stage { result.stage ≡ SendingHeader 0 }
+        ensures stands { HostStandsAt result fresh }
+        ensures keeps { IsRequest result }
     {
         HostEnd {
             request: Request {
@@ -118,14 +122,28 @@ impl<'a> HostEnd<'a> {
     pub fn next(&mut self) -> HostTurn
         ensures turn { result ≡ turn_of self.old }
         ensures after { self.new ≡ at_stage self.old (after_turn self.old) }
+        ensures keeps { IsRequest self.new }
+        ensures stays { ((byte : ℕ) → result ≡ HostTurn.Sends byte → ⊥) → self.new ≡ self.old }
 
         // With it a dialogue that the end opened goes on.
-        ensures goes_on { (front : Front) (byte : ℕ) → HostStandsAt self.old front → result ≡ HostTurn.Sends byte →
+        ensures goes_on { (front : Front) (byte : ℕ) → HostStandsAt self.old front
+            → result ≡ HostTurn.Sends byte →
             (new : Front) × GoesOn front (Terminal, byte) new × HostStandsAt self.new new }
     {
         let turn = turn_at(self.request, self.stage);
         self.stage = stage_after(self.request, self.stage);
         turn
+    }
+
+    /// The status, if the TPDU has ended.
+    pub fn status(&self) -> Option<Status>
+        ensures { (status : StatusWord) → (result ≡ Some status)
+            ↔ (turn_of self.now ≡ HostTurn.Done status) }
+    {
+        match self.stage {
+            HostStage::Ended { status } => Some(status),
+            _ => None,
+        }
     }
 
     /// Takes a character of the card; a data character goes into the gather.
@@ -137,15 +155,32 @@ impl<'a> HostEnd<'a> {
     /// nothing. No fault changes the gather.
     pub fn take<A: Allocator>(&mut self, byte: u8, gather: &mut Gather<A>) -> Result<(), LineFault>
         ensures fault { result_err result ≡ fault_of self.old gather.old byte }
-        ensures refused { IfErr result (λ fault. (self.new ≡ at_stage self.old (after_fault self.old.stage fault)) × (gather.new ≡ gather.old)) }
+        ensures refused { IfErr result
+            (λ fault. (self.new ≡ at_stage self.old (after_fault self.old.stage fault))
+            × (gather.new ≡ gather.old)) }
         ensures taken { OnOk result ((self.new ≡ at_stage self.old (after_taking self.old byte))
             × (gather.new ≡ gathered gather.old (data_in self.old.stage byte))) }
+        ensures keeps { IsRequest self.new }
 
         // It takes each dialogue that it opened, where there is room for the data.
-        ensures goes_on { (front new : Front) → HostStandsAt self.old front → GoesOn front (Card, byte) new →
-            MatchResult result (λ _. HostStandsAt self.new new) (λ fault. fault ≡ LineFault.TooLong) }
-        ensures ends { (front : Front) (d : Dialogue) → HostStandsAt self.old front → Ends front (Card, byte) d →
+        ensures goes_on { (front new : Front) → HostStandsAt self.old front
+            → GoesOn front (Card, byte) new →
+            MatchResult result (λ _. HostStandsAt self.new new)
+            (λ fault. fault ≡ LineFault.TooLong) }
+        ensures came { (front : Front) → HostStandsAt self.old front → OnOk result (
+            ((new : Front) × GoesOn front (Card, byte) new × HostStandsAt self.new new)
+            ⊎ ((d : Dialogue) × Ends front (Card, byte) d
+            × (turn_of self.new ≡ HostTurn.Done d.status))) }
+        ensures gathers { (front new : Front) (before : List ℕ) → HostStandsAt self.old front
+            → GoesOn front (Card, byte) new →
+            gather.old.bytes ≡ before ++ brought front
+            → OnOk result (gather.new.bytes ≡ before ++ brought new) }
+        ensures ends { (front : Front) (d : Dialogue) → HostStandsAt self.old front
+            → Ends front (Card, byte) d →
             IsOk result × (self.new.stage ≡ Ended d.status) }
+        ensures done { (front : Front) (d : Dialogue) → HostStandsAt self.old front
+            → Ends front (Card, byte) d →
+            (turn_of self.new ≡ HostTurn.Done d.status) × (gather.new ≡ gather.old) }
     {
         match stage_with(self.request, self.stage, byte, gather) {
             Ok(stage) => {
@@ -227,8 +262,10 @@ fn stage_with<A: Allocator>(
 ) -> Result<HostStage, LineFault>
     requires { IsInRange (host_of request stage) }
     ensures fault { result_err result ≡ fault_of (host_of request.entry stage) gather.old byte }
-    ensures next { IfOk result (λ next. (next ≡ after_taking (host_of request.entry stage) byte) × IsInRange (host_of request.entry next)) }
-    ensures gathered { gather.new ≡ (if is_ok result then gathered gather.old (data_in stage byte) else gather.old) }
+    ensures next { IfOk result (λ next. (next ≡ after_taking (host_of request.entry stage) byte)
+        × IsInRange (host_of request.entry next)) }
+    ensures gathered { gather.new
+        ≡ (if is_ok result then gathered gather.old (data_in stage byte) else gather.old) }
 {
     match stage {
         HostStage::SendingHeader { .. } => Err(LineFault::NotListening),
@@ -247,8 +284,11 @@ fn stage_with<A: Allocator>(
 /// The stage after a character where a procedure byte is due.
 fn after_procedure_byte(request: Request, moved: u16, byte: u8) -> Result<HostStage, LineFault>
     requires { IsInRange (host_of request (Awaiting moved)) }
-    ensures fault { (room : Room) → result_err result ≡ fault_of (host_of request.entry (Awaiting moved)) room byte }
-    ensures next { IfOk result (λ next. (next ≡ after_taking (host_of request.entry (Awaiting moved)) byte) × IsInRange (host_of request.entry next)) }
+    ensures fault { (room : Room)
+        → result_err result ≡ fault_of (host_of request.entry (Awaiting moved)) room byte }
+    ensures next { IfOk result
+        (λ next. (next ≡ after_taking (host_of request.entry (Awaiting moved)) byte)
+        × IsInRange (host_of request.entry next)) }
 {
     if let Some(step) = step_of(request.header.ins, byte) {
         let remain = foreseen(request.transfer, request.p3) - moved;
@@ -267,7 +307,8 @@ fn take_data<A: Allocator>(
     gather: &mut Gather<A>,
 ) -> Result<(), LineFault>
     ensures fault { result_err result ≡ data_fault (direction_of transfer.entry) gather.old }
-    ensures gathered { gather.new ≡ (if is_ok result then gathered gather.old (byte ∷ []) else gather.old) }
+    ensures gathered { gather.new
+        ≡ (if is_ok result then gathered gather.old (byte ∷ []) else gather.old) }
 {
     if let Transfer::Sending(_) = transfer {
         return Err(LineFault::NotListening);
@@ -284,7 +325,9 @@ fn stage_after_fault(stage: HostStage, fault: LineFault) -> HostStage
     ensures { result ≡ after_fault stage fault }
 {
     match fault {
-        LineFault::BadProcedure(_) | LineFault::TooLong => HostStage::Broken,
+        LineFault::BadProcedure(_) | LineFault::TooLong | LineFault::Stalled => {
+            HostStage::Broken
+        }
         LineFault::NotListening | LineFault::AfterEnd => stage,
     }
 }

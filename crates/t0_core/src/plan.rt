@@ -133,8 +133,10 @@ impl<'a, A: Allocator> Plans<'a, A> {
 pub(crate) fn next_step(steps: &[Step], done: usize, left: u16) -> Option<(Step, usize)>
     ensures { MatchOption result (segments_of (drop done steps.now) left ≡ [])
         (λ next. Starts next.0 left
-        × (segments_of (drop done steps.now) left ≡ next.0 ∷ segments_of (drop next.1 steps.now) (left - moves next.0 left))
-        × (((done < next.1) × (next.1 ≤ length steps.now)) ⊎ ((next.0 ≡ All) × (length steps.now ≤ next.1)))) }
+        × (segments_of (drop done steps.now) left ≡ next.0 ∷ segments_of (drop next.1 steps.now)
+        (left - moves next.0 left))
+        × (((done < next.1) × (next.1 ≤ length steps.now))
+        ⊎ ((next.0 ≡ All) × (length steps.now ≤ next.1)))) }
 {
     let mut at = done;
     while at < steps.len() {

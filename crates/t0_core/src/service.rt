@@ -33,7 +33,15 @@ pub struct Service {
 impl Service {
     /// No data have moved yet.
     pub(crate) fn new(header: Header, p3: u8, direction: Direction) -> Service
-        ensures { result ≡ record { header = header; p3 = p3; direction = direction; moved = 0; until = 0; done = 0 } }
+        ensures { result ≡ record {
+          header = header;
+          p3 = p3;
+          direction = direction;
+          moved =
+              0;
+          until = 0;
+          done = 0;
+        } }
     {
         Service {
             header,
@@ -74,8 +82,10 @@ impl Service {
     /// that moves something or is a NULL, and no data are left.
     fn next(self, steps: &[Step]) -> Option<(u8, Service)>
         requires { (self.moved ≡ self.until) × (self.until ≤ whole_of self) }
-        ensures { MatchOption result (segments_of (drop self.done steps.now) (whole_of self - self.until) ≡ [])
-            (λ next. (step : Step) × (next.0 ≡ dialogue.procedure_byte self.header.ins step) × IsNext self steps.now step next.1) }
+        ensures { MatchOption result
+            (segments_of (drop self.done steps.now) (whole_of self - self.until) ≡ [])
+            (λ next. (step : Step) × (next.0 ≡ dialogue.procedure_byte self.header.ins step)
+            × IsNext self steps.now step next.1) }
     {
         let left = self.direction.foreseen(self.p3) - self.moved;
         let (step, done) = next_step(steps, self.done, left)?;
@@ -104,12 +114,16 @@ pub(crate) fn serve<C: TpduCard>(
     requires due { listens (Serving service (take service.moved came.now)) ≡ false }
     ensures fits { Fits (C.prepared card.new) result.0 }
     ensures falls { (plan : Course) → plan.steps ≡ steps.now →
-        still_to_go (stage_of result.0 came.now) plan < still_to_go (Serving service (take service.moved came.now)) plan }
-    ensures keeps { KeepsDirection (Serving service (take service.moved came.now)) (stage_of result.0 came.now) }
+        still_to_go (stage_of result.0 came.now) plan
+        < still_to_go (Serving service (take service.moved came.now)) plan }
+    ensures keeps { KeepsDirection (Serving service (take service.moved came.now))
+        (stage_of result.0 came.now) }
     ensures advances { (cut : ℕ) (plan : Course) (b : Body) → plan.steps ≡ steps.now →
         IsServed (C.prepared card.old) service (take service.moved came.now) cut b →
-        Advances C.Does cut plan (Serving service (take service.moved came.now)) (In_body b) result.1
-        (C.standing card.old) (C.standing card.new) (C.prepared card.new) (stage_of result.0 came.now) }
+        Advances C.Does cut plan (Serving service (take service.moved came.now)) (In_body b)
+        result.1
+        (C.standing card.old) (C.standing card.new) (C.prepared card.new)
+        (stage_of result.0 came.now) }
 {
     if service.moved < service.until {
         let byte = card.byte(service.moved);
@@ -130,7 +144,8 @@ fn conclude<C: TpduCard>(card: &mut C, direction: Direction, content: &[u8]) -> 
     requires { IsReadyFor (C.prepared card.old) direction (length content.now) }
     ensures decided { IsDecided (C.prepared card.new) }
     ensures stands { C.standing card.new ≡ C.standing card.old }
-    ensures answer { Concludes C.Does (C.standing card.old) (C.prepared card.old) direction content.now result (C.prepared card.new) }
+    ensures answer { Concludes C.Does (C.standing card.old) (C.prepared card.old) direction
+        content.now result (C.prepared card.new) }
 {
     match direction {
         Direction::ToCard => card.data(content),

@@ -60,7 +60,8 @@ impl TpduCard for TestCard {
     ghost prepared = { λ c. elim c.ready [
       | ready.Idle ↦ Nothing
       | ready.Takes header p3 cut ↦ Receiving (record { header = header; p3 = p3; cut = cut })
-      | ready.Gives header p3 cut ↦ Sending (record { header = header; p3 = p3; cut = cut }) (take (count p3) c.counts)
+      | ready.Gives header p3 cut ↦
+          Sending (record { header = header; p3 = p3; cut = cut }) (take (count p3) c.counts)
       | ready.Answered ↦ Decided tt
     ] };
 

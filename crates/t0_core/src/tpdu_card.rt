@@ -1,4 +1,4 @@
-ghost use Rattle.std.specs.Prelude.{◌≡◌, ℕ, ◌<◌, List, length, slice_get, Some, false};
+ghost use Rattle.std.specs.Prelude.{◌≡◌, ℕ, ◌<◌, ◌≤◌, List, length, slice_get, Some, false};
 ghost use Rattle.apdu_core.specs.HeaderBytes.{ins_is_valid};
 ghost use Rattle.apdu_core.specs.StatusWord.{count};
 ghost use Rattle.t0_core.specs.Meaning.{Tpdu, Ask, Prepared, Nothing, Decided, IsReceiving, IsSending, Decides, taken_with, answered_with};
@@ -45,8 +45,10 @@ pub trait TpduCard {
     /// Judges a header. It may come at any time, and drops what an unfinished TPDU had made ready.
     /// `cut` is the most bytes, 1 to 256, that a `61XX` announces. An invalid INS is refused.
     fn header(&mut self, header: Header, p3: u8, cut: u16) -> Verdict
+        requires { (1 ≤ cut) × (cut ≤ 256) }
         ensures stands { standing self.new ≡ standing self.old }
-        ensures judged { Judges Does (standing self.old) (record { header = header; p3 = p3; cut = cut }) result (prepared self.new) }
+        ensures judged { Judges Does (standing self.old)
+            (record { header = header; p3 = p3; cut = cut }) result (prepared self.new) }
         ensures invalid { ins_is_valid header.ins ≡ false → IsRefusal result }
         ensures permitted { Permits MayReceive MaySend header.ins result };
 
@@ -56,7 +58,8 @@ pub trait TpduCard {
         requires { IsReceiving (prepared self.old) (λ ask. length content.now ≡ ask.p3) }
         ensures stands { standing self.new ≡ standing self.old }
         ensures decided { IsReceiving (prepared self.old) (λ ask.
-            Decides Does (standing self.old) ask.cut (taken_with ask content.now result) (prepared self.new)) };
+            Decides Does (standing self.old) ask.cut (taken_with ask content.now result)
+            (prepared self.new)) };
 
     /// The byte to send at this place, below `count(P3)`. It may be called after the verdict `Send`.
     fn byte(&self, at: u16) -> u8
@@ -68,12 +71,14 @@ pub trait TpduCard {
         requires { IsSending (prepared self.old) (λ ask bytes. Unit {0}) }
         ensures stands { standing self.new ≡ standing self.old }
         ensures decided { IsSending (prepared self.old) (λ ask bytes.
-            Decides Does (standing self.old) ask.cut (answered_with ask bytes result) (prepared self.new)) };
+            Decides Does (standing self.old) ask.cut (answered_with ask bytes result)
+            (prepared self.new)) };
 
     /// The second status character is handed out: what was decided stands from now on.
     fn answered(&mut self)
         requires { IsDecided (prepared self.old) }
-        ensures stands { (next : State) → prepared self.old ≡ Decided next → standing self.new ≡ next }
+        ensures stands { (next : State) → prepared self.old ≡ Decided next
+            → standing self.new ≡ next }
         ensures done { prepared self.new ≡ Nothing };
 
     /// Resets the card, at any time, and drops what an unfinished TPDU had made ready.

@@ -1,4 +1,4 @@
-use Rattle.std.proofs.Common.{refl, sym, subst, ◌≡◌, ◌∙◌, ℕ, inl, inr}
+use Rattle.std.proofs.Common.{refl, sym, subst, ◌≡◌, ◌∙◌, ℕ, inl, inr, true, false}
 use Rattle.t0_core.specs.Plan.{plan_kept}
 use Rattle.t0_core.specs.Front.{In_body, header_only}
 use Rattle.t0_core.specs.declared.card_end.Phase.{Phase}
@@ -18,14 +18,23 @@ returns-in-Opening-clause-advances g c = λ cut front taken stands.
     let stage = stage_of c.go_on.result.0 came in
     let Held : Phase → Type 0 = λ p. Fits (card.prepared c.args.card.now) p in
     let held = subst Held c.in-Opening.is c.requires.fits in
-    let takes = taken (takes_a_plan c.args.phase c.in-Opening.bytes came c.in-Opening.taken c.in-Opening.is held c.requires.due) in
-    opening_advances card.Does cut plan c.args.phase c.judged-verdict.result c.in-Opening.bytes came c.in-Opening.taken c.go_on.result.1 front old new
-    (card.prepared c.args.card.now) (card.prepared c.go_on.new.card) stage c.in-Opening.is held c.requires.due c.judged-verdict.ensures.judged c.go_on.ensures.keeps takes.1
+    let takes = taken (takes_a_plan c.args.phase c.in-Opening.bytes came c.in-Opening.taken
+    c.in-Opening.is held c.requires.due) in
+    opening_advances card.Does cut plan c.args.phase c.judged-verdict.result c.in-Opening.bytes came
+    c.in-Opening.taken c.go_on.result.1 front old new
+    (card.prepared c.args.card.now) (card.prepared c.go_on.new.card) stage c.in-Opening.is held
+    c.requires.due c.judged-verdict.ensures.judged c.go_on.ensures.keeps takes.1
     (λ h p3 d whole suits.
     let at = c.judged-verdict.ensures.opens h p3 d came whole suits in
-    let AtCut : ℕ → Type 0 = λ n. StandsAt card.Does old (card.prepared c.judged-verdict.new.card) judged n (In_body (header_only h p3 d)) in
-    let AtState : card.State → Type 0 = λ s. StandsAt card.Does s (card.prepared c.judged-verdict.new.card) judged cut (In_body (header_only h p3 d)) in
-    let From : card.State → Type 0 = λ s. Advances card.Does cut plan judged (In_body (header_only h p3 d)) c.go_on.result.1 s new (card.prepared c.go_on.new.card) stage in
+    let AtCut : ℕ → Type 0 =
+    λ n. StandsAt card.Does old (card.prepared c.judged-verdict.new.card) judged n
+    (In_body (header_only h p3 d)) in
+    let AtState : card.State → Type 0 =
+    λ s. StandsAt card.Does s (card.prepared c.judged-verdict.new.card) judged cut
+    (In_body (header_only h p3 d)) in
+    let From : card.State → Type 0 =
+    λ s. Advances card.Does cut plan judged (In_body (header_only h p3 d)) c.go_on.result.1 s
+    new (card.prepared c.go_on.new.card) stage in
     let cut_is : cut ≡ c.advance.result = takes.0 ∙ sym c.advance.ensures.cut in (
       subst From c.judged-verdict.ensures.stands
           (c.go_on.ensures.advances cut plan (In_body (header_only h p3 d)) (sym c.steps.ensures)
@@ -44,7 +53,11 @@ returns-in-Refused g c =
     record {
       fits = c.go_on-in-Refused.ensures.fits;
       plan = rw (takes_none c.args.phase came judged) refl;
-      falls = c.go_on-in-Refused.ensures.falls (plan_kept c.args.plans.now) (sym c.steps-in-Refused.ensures);
+      cut = λ takes. absurd (let e : true ≡ false =
+          sym takes ∙ takes_none c.args.phase came judged in cc);
+      falls = c.go_on-in-Refused.ensures.falls (plan_kept c.args.plans.now)
+          (sym c.steps-in-Refused.ensures);
       permitted = λ h p3 is. absurd (no_header c.args.phase came _ judged is);
-      advances = λ cut front taken stands. c.go_on-in-Refused.ensures.advances cut (plan_kept c.args.plans.now) front (sym c.steps-in-Refused.ensures) stands;
+      advances = λ cut front taken stands. c.go_on-in-Refused.ensures.advances cut
+          (plan_kept c.args.plans.now) front (sym c.steps-in-Refused.ensures) stands;
     }

@@ -12,8 +12,10 @@ use Rattle.t0_core.proofs.service.serve.Goals as goal
 pub returns-then-service-clause-advances : goal.returns-then-service-clause-advances
 returns-then-service-clause-advances g c = λ cut plan b steps served.
     let card = g.C.TpduCard in
-    sends_data card.Does (card.standing c.args.card.now) (card.prepared c.args.card.now) cut plan c.args.service c.one_moved-service.result
-    (take c.args.service.moved c.args.came.now) (take c.one_moved-service.result.moved c.args.came.now) c.byte-byte.result b
+    sends_data card.Does (card.standing c.args.card.now) (card.prepared c.args.card.now) cut plan
+    c.args.service c.one_moved-service.result
+    (take c.args.service.moved c.args.came.now)
+    (take c.one_moved-service.result.moved c.args.came.now) c.byte-byte.result b
     c.one_moved-service.ensures c.if-service.true c.requires.due c.byte-byte.ensures served
 
 pub returns-in-Some-clause-advances : goal.returns-in-Some-clause-advances
@@ -21,17 +23,27 @@ returns-in-Some-clause-advances g c = λ cut plan b steps served.
     let card = g.C.TpduCard in
     let next = c.in-Some.ensures in
     let Next : List Step → Type 0 = λ st. IsNext c.args.service st next.0 c.in-Some.service in
-    begins_segment card.Does (card.standing c.args.card.now) (card.prepared c.args.card.now) cut plan c.args.service c.in-Some.service
-    (take c.args.service.moved c.args.came.now) (take c.in-Some.service.moved c.args.came.now) next.0 c.in-Some.byte b
-    c.if-service.false (ap (λ n. take n c.args.came.now) next.2.same.3) next.1 (subst Next (sym steps) next.2) served
+    begins_segment card.Does (card.standing c.args.card.now) (card.prepared c.args.card.now) cut
+    plan c.args.service c.in-Some.service
+    (take c.args.service.moved c.args.came.now) (take c.in-Some.service.moved c.args.came.now)
+    next.0 c.in-Some.byte b
+    c.if-service.false (ap (λ n. take n c.args.came.now) next.2.same.3) next.1
+    (subst Next (sym steps) next.2) served
 
 pub returns-in-None-clause-advances : goal.returns-in-None-clause-advances
 returns-in-None-clause-advances g c = λ cut plan b steps served.
     let card = g.C.TpduCard in
     let s = c.args.service in
-    let None : List Step → Type 0 = λ st. segments_of (drop s.done st) (whole_of s - s.until) ≡ [] in
-    rw c.sw1.ensures.value (while_standing card.Does cut plan (Serving s (take s.moved c.args.came.now)) (In_body b) c.conclude-status.result.0 _ _ _ _ c.conclude-status.ensures.stands
-    (ends_service card.Does (card.standing c.args.card.now) (card.prepared c.args.card.now) (card.prepared c.conclude-status.new.card) cut plan s
-    (take s.moved c.args.came.now) (take s.p3 c.args.came.now) c.conclude-status.result b c.if-service.false
-    (λ moved way. ap (λ n. take n c.args.came.now) (moved ∙ ap (λ (d : Direction). foreseen d s.p3) way))
-    (subst None (sym steps) c.in-None.ensures) c.sw1.ensures.status c.conclude-status.ensures.answer served))
+    let None : List Step → Type 0 =
+    λ st. segments_of (drop s.done st) (whole_of s - s.until) ≡ [] in
+    rw c.sw1.ensures.value
+    (while_standing card.Does cut plan (Serving s (take s.moved c.args.came.now)) (In_body b)
+    c.conclude-status.result.0 _ _ _ _ c.conclude-status.ensures.stands
+    (ends_service card.Does (card.standing c.args.card.now) (card.prepared c.args.card.now)
+    (card.prepared c.conclude-status.new.card) cut plan s
+    (take s.moved c.args.came.now) (take s.p3 c.args.came.now) c.conclude-status.result b
+    c.if-service.false
+    (λ moved way. ap (λ n. take n c.args.came.now)
+    (moved ∙ ap (λ (d : Direction). foreseen d s.p3) way))
+    (subst None (sym steps) c.in-None.ensures) c.sw1.ensures.status c.conclude-status.ensures.answer
+    served))

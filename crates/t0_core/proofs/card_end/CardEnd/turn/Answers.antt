@@ -1,27 +1,59 @@
-use Rattle.std.proofs.Common.{sym, ◌∙◌, false, ◌≡◌}
+use Rattle.std.proofs.Common.{sym, subst, ◌∙◌, false, ◌≡◌}
 use Rattle.t0_core.specs.Plan.{plan_kept}
 use Rattle.t0_core.specs.CardView.{stage_of}
-use Rattle.t0_core.specs.CardSide.{listens}
-use Rattle.t0_core.proofs.HistoryLemmas.{turn_advances, turn_leads_on, turn_leads_under_on}
+use Rattle.t0_core.specs.CardSide.{Stage, listens}
+use Rattle.t0_core.proofs.HistoryLemmas.{HandsOut, turn_advances, turn_leads_on, turn_leads_under_on}
 use Rattle.t0_core.proofs.card_end.CardEnd.turn.Goals as goal
 
 pub returns-clause-advances : goal.returns-clause-advances
 returns-clause-advances g c =
     let card = g.C.TpduCard in
-    turn_advances card.Does card.standing card.prepared (plan_kept c.hand_out-phase.new.plans) c.hand_out-phase.result.1 (card.standing c.hand_out-phase.new.card)
-    (card.prepared c.hand_out-phase.new.card) (stage_of c.hand_out-phase.result.0 c.self.inside.came) _ _ c.self.view_is c.hand_out-phase.ensures.advances
+    let out = c.hand_out-phase in
+    let old = c.self.inside.card in
+    let at = stage_of c.self.inside.phase c.self.inside.came in
+    let Hands : Stage → Type 0 =
+    λ s. HandsOut card.Does (plan_kept out.new.plans) (card.standing old)
+    (card.standing out.new.card) (card.prepared old) (card.prepared out.new.card) at s
+    out.result.1 in
+    turn_advances card.Does card.standing card.prepared (plan_kept out.new.plans) out.result.1
+    (card.standing out.new.card) (card.prepared out.new.card)
+    (stage_of out.result.0 c.forget_data.new.came) _ _
+    c.self.view_is (subst Hands (sym c.forget_data.ensures.stage) out.ensures.advances)
 
 pub returns-clause-led : goal.returns-clause-led
 returns-clause-led g c =
     let card = g.C.TpduCard in
-    let silent : listens (stage_of c.self.inside.phase c.self.inside.came) ≡ false = sym (c.is_listening.ensures c.self.inside.came) ∙ c.if-is_listening.false in
-    turn_leads_on card.Does card.standing card.prepared (plan_kept c.hand_out-phase.new.plans) c.hand_out-phase.result.1 (card.standing c.hand_out-phase.new.card)
-    (card.prepared c.hand_out-phase.new.card) (stage_of c.hand_out-phase.result.0 c.self.inside.came) _ _ c.self.view_is silent c.hand_out-phase.ensures.advances
+    let out = c.hand_out-phase in
+    let old = c.self.inside.card in
+    let at = stage_of c.self.inside.phase c.self.inside.came in
+    let Hands : Stage → Type 0 =
+    λ s. HandsOut card.Does (plan_kept out.new.plans) (card.standing old)
+    (card.standing out.new.card) (card.prepared old) (card.prepared out.new.card) at s
+    out.result.1 in
+    let silent : listens at ≡ false = sym (c.is_listening.ensures c.self.inside.came)
+    ∙ c.if-is_listening.false in
+    turn_leads_on card.Does card.after_reset card.standing card.prepared (plan_kept out.new.plans)
+    out.result.1
+    (card.standing out.new.card) (card.prepared out.new.card)
+    (stage_of out.result.0 c.forget_data.new.came) _ _
+    c.self.view_is out.ensures.cut silent
+    (subst Hands (sym c.forget_data.ensures.stage) out.ensures.advances)
 
 pub returns-clause-led_under : goal.returns-clause-led_under
 returns-clause-led_under g c =
     let card = g.C.TpduCard in
-    let silent : listens (stage_of c.self.inside.phase c.self.inside.came) ≡ false = sym (c.is_listening.ensures c.self.inside.came) ∙ c.if-is_listening.false in
-    turn_leads_under_on card.Does card.standing card.prepared c.args.plans.now c.hand_out-phase.new.plans c.hand_out-phase.result.1 (card.standing c.hand_out-phase.new.card)
-    (card.prepared c.hand_out-phase.new.card) (stage_of c.hand_out-phase.result.0 c.self.inside.came) _ _ c.self.view_is silent c.hand_out-phase.ensures.plan
-    c.hand_out-phase.ensures.advances
+    let out = c.hand_out-phase in
+    let old = c.self.inside.card in
+    let at = stage_of c.self.inside.phase c.self.inside.came in
+    let Hands : Stage → Type 0 =
+    λ s. HandsOut card.Does (plan_kept out.new.plans) (card.standing old)
+    (card.standing out.new.card) (card.prepared old) (card.prepared out.new.card) at s
+    out.result.1 in
+    let silent : listens at ≡ false = sym (c.is_listening.ensures c.self.inside.came)
+    ∙ c.if-is_listening.false in
+    turn_leads_under_on card.Does card.standing card.prepared c.args.plans.now out.new.plans
+    out.result.1
+    (card.standing out.new.card) (card.prepared out.new.card)
+    (stage_of out.result.0 c.forget_data.new.came) _ _
+    c.self.view_is out.ensures.cut silent out.ensures.plan
+    (subst Hands (sym c.forget_data.ensures.stage) out.ensures.advances)

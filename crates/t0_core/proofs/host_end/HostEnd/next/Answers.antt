@@ -7,5 +7,6 @@ pub returns-clause-goes_on : goal.returns-clause-goes_on
 returns-clause-goes_on c = λ front byte stands sends.
     let request = c.self.inside.request in
     rw c.stage_after-self-inside.ensures.value
-    (host_sends request.header request.p3 (direction_of request.transfer) (content_of request.transfer) c.self.inside.stage front byte c.self.invariant
+    (host_sends request.header request.p3 (direction_of request.transfer)
+    (content_of request.transfer) c.self.inside.stage front byte c.self.invariant
     (seen_at _ _ front c.self.view_is stands) (sym c.turn_at-turn.ensures ∙ sends))

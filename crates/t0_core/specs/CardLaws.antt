@@ -1,0 +1,143 @@
+-- Laws of where a card's end stands.
+use Rattle.std.proofs.Common.{◌≡◌, ℕ, ◌<◌, List, [], ◌∷◌, length, refl, sym, ◌∙◌, ap, arith, inl, inr, lit<, true, false, ◌&&◌, nat_lt, length-append, eq-eqb}
+use Rattle.std.proofs.lemmas.Bool.{ltb-true, ltb-false}
+use Rattle.t0_core.specs.declared.end.End.TheVariants.{Terminal, Card}
+use Rattle.t0_core.specs.declared.direction.Direction.{Direction}
+use Rattle.t0_core.specs.declared.direction.Direction.TheVariants.{ToCard, FromCard}
+use Rattle.t0_core.specs.Dialogue.{Body, data_sender}
+use Rattle.t0_core.specs.Plan.{Course}
+use Rattle.t0_core.specs.Meaning.{Tpdu, Prepared}
+use Rattle.t0_core.specs.Front.{Front, In_header, In_body, After_first, GoesOn, header_only, with_moved, with_segment}
+use Rattle.t0_core.specs.CardSide.{Stage, Taking_header, Refusing, Serving, Ending, StandsAt, listens, takes_plan, with_character, comes_from_terminal}
+use Rattle.t0_core.specs.CardHistory.{under_way}
+
+-- the terminal's data are due
+pub due_data : (d : Direction) (a b : ℕ) → (comes_from_terminal d && nat_lt a b) ≡ true
+    → (d ≡ ToCard) × (a < b)
+due_data ToCard a b due = (refl, ltb-true a b due)
+due_data FromCard a b due = absurd (cc)
+
+next_header : (bytes : List ℕ) (byte : ℕ) → length bytes < 5
+    → (new : Front) × GoesOn (In_header bytes) (Terminal, byte) new
+next_header [] byte lt = (In_header (byte ∷ []), (refl, inl (lit< tt, refl)))
+next_header (a ∷ []) byte lt = (In_header (a ∷ byte ∷ []), (refl, inl (lit< tt, refl)))
+next_header (a ∷ b ∷ []) byte lt = (In_header (a ∷ b ∷ byte ∷ []), (refl, inl (lit< tt, refl)))
+next_header (a ∷ b ∷ c ∷ []) byte lt =
+    (In_header (a ∷ b ∷ c ∷ byte ∷ []), (refl, inl (lit< tt, refl)))
+next_header (a ∷ b ∷ c ∷ d ∷ []) byte lt = (
+  In_body (header_only (record { cla = a; ins = b; p1 = c; p2 = d }) byte FromCard),
+  (refl, inr (record { cla = a; ins = b; p1 = c; p2 = d }, FromCard, refl, refl)),
+)
+next_header (a ∷ b ∷ c ∷ d ∷ e ∷ rest) byte lt = absurd (omega (arith, lt))
+
+-- where a card's end listens, any character of the terminal leads to a next front
+pub next_front : {State : Type 0} (Does : State → ℕ → Tpdu → State → Type 0) (standing : State)
+    (prepared : Prepared State) (stage : Stage) (cut byte : ℕ) (front : Front)
+    → listens stage ≡ true → StandsAt Does standing prepared stage cut front
+    → (new : Front) × GoesOn front (Terminal, byte) new
+next_front Does s p (Taking_header bytes) cut byte (In_header f) due stands =
+    next_header f byte (omega (arith, stands.1, ap length stands.0))
+next_front Does s p (Taking_header bytes) cut byte (In_body b) due stands =
+    absurd (omega (arith, ltb-true (length bytes) 5 due, ap length stands.0))
+next_front Does s p (Taking_header bytes) cut byte (After_first b sw1) due stands = absurd stands
+next_front Does s p (Refusing h p3 status done) cut byte front due stands = absurd (cc)
+next_front Does s p (Serving service came) cut byte (In_body b) due stands =
+    let data_due = due_data service.direction service.moved service.until due in (
+      In_body (with_moved b byte),
+      inl (
+        omega (arith, data_due.1, stands.moved_is, stands.until_is),
+        ap data_sender (sym (stands.direction_is ∙ data_due.0)),
+        refl,
+      ),
+    )
+next_front Does s p (Serving service came) cut byte (In_header f) due stands = absurd stands
+next_front Does s p (Serving service came) cut byte (After_first b sw1) due stands = absurd stands
+next_front Does s p (Ending status) cut byte front due stands = absurd (cc)
+
+-- with a character of the terminal the plan of the TPDU stays
+pub taken_stays : (stage : Stage) (plan : Course) (byte : ℕ) → listens stage ≡ true
+    → under_way (with_character stage byte) plan ≡ under_way stage plan
+taken_stays (Taking_header bytes) plan byte due = refl
+taken_stays (Refusing h p3 status done) plan byte due = refl
+taken_stays (Serving s came) plan byte due = refl
+taken_stays (Ending status) plan byte due = refl
+
+the_body : Body → Front → Body
+the_body other (In_header f) = other
+the_body other (In_body b) = b
+the_body other (After_first b sw1) = other
+
+body_of : {a b : Body} → In_body a ≡ In_body b → a ≡ b
+unfolding the_body
+body_of {a = a} is = ap (the_body a) is
+
+-- after a hand-out the card has begun to answer
+pub begun : {State : Type 0} (Does : State → ℕ → Tpdu → State → Type 0) (standing : State)
+    (prepared : Prepared State) (stage : Stage) (cut byte : ℕ) (plan : Course) (front new : Front)
+    → GoesOn front (Card, byte) new → StandsAt Does standing prepared stage cut new
+    → under_way stage plan ≡ plan ∷ []
+begun Does s p (Refusing h p3 status done) cut byte plan front new goes stands = refl
+begun Does s p (Serving service came) cut byte plan front new goes stands = refl
+begun Does s p (Ending status) cut byte plan front new goes stands = refl
+begun Does s p (Taking_header bytes) cut byte plan front (After_first b sw1) goes stands =
+    absurd stands
+begun Does s p (Taking_header bytes) cut byte plan (In_header f) (In_header f2) goes stands =
+    let e : Card ≡ Terminal = goes.0 in absurd (cc)
+begun Does s p (Taking_header bytes) cut byte plan (In_header f) (In_body b) goes stands =
+    let e : Card ≡ Terminal = goes.0 in absurd (cc)
+begun Does s p (Taking_header bytes) cut byte plan (After_first a sw1) (In_header f2) goes stands =
+    absurd goes
+begun Does s p (Taking_header bytes) cut byte plan (After_first a sw1) (In_body b) goes stands =
+    absurd goes
+begun Does s p (Taking_header bytes) cut byte plan (In_body a) (In_header f2) (inl moves) stands =
+    absurd (never moves.2)
+  where
+    never : {x : Body} → In_header f2 ≡ In_body x → ⊥
+    never is = absurd (cc)
+begun Does s p (Taking_header bytes) cut byte plan (In_body a) (In_header f2) (inr (inl begins))
+    stands = absurd (never begins.2.3)
+  where
+    never : {x : Body} → In_header f2 ≡ In_body x → ⊥
+    never is = absurd (cc)
+begun Does s p (Taking_header bytes) cut byte plan (In_body a) (In_header f2) (inr (inr ends))
+    stands = absurd (never ends.3)
+  where
+    never : {x : Body} {n : ℕ} → In_header f2 ≡ After_first x n → ⊥
+    never is = absurd (cc)
+begun Does s p (Taking_header bytes) cut byte plan (In_body a) (In_body b) (inl moves) stands =
+    let e : b ≡ with_moved a byte = body_of moves.2 in
+    absurd (omega (
+      arith,
+      length-append a.moved (byte ∷ []),
+      ap (λ (x : Body). length x.moved) e,
+      ap (λ (x : Body). length x.moved) stands.1,
+    ))
+begun Does s p (Taking_header bytes) cut byte plan (In_body a) (In_body b) (inr (inl begins))
+    stands =
+    let e : b ≡ with_segment a begins.2.0 = body_of begins.2.3 in
+    absurd (omega (
+      arith,
+      length-append a.segments (begins.2.0 ∷ []),
+      ap (λ (x : Body). length x.segments) e,
+      ap (λ (x : Body). length x.segments) stands.1,
+    ))
+begun Does s p (Taking_header bytes) cut byte plan (In_body a) (In_body b) (inr (inr ends)) stands =
+    absurd (never ends.3)
+  where
+    never : {x : Body} {n : ℕ} → In_body b ≡ After_first x n → ⊥
+    never is = absurd (cc)
+
+-- where the card's turn has come, and it has its plan, it has begun to answer
+pub answers_on : {State : Type 0} (Does : State → ℕ → Tpdu → State → Type 0) (standing : State)
+    (prepared : Prepared State) (stage : Stage) (cut : ℕ) (plan : Course) (front : Front)
+    → StandsAt Does standing prepared stage cut front → listens stage ≡ false
+    → takes_plan stage ≡ false → under_way stage plan ≡ plan ∷ []
+answers_on Does s p (Taking_header bytes) cut plan (In_header f) stands silent none =
+    absurd (omega (arith, stands.1, ltb-false (length bytes) 5 silent))
+answers_on Does s p (Taking_header bytes) cut plan (In_body b) stands silent none =
+    absurd (let e : true ≡ false = sym (eq-eqb (length bytes) 5 (ap length stands.0)) ∙ none in cc)
+answers_on Does s p (Taking_header bytes) cut plan (After_first b sw1) stands silent none =
+    absurd stands
+answers_on Does s p (Refusing h p3 status done) cut plan front stands silent none = refl
+answers_on Does s p (Serving service came) cut plan front stands silent none = refl
+answers_on Does s p (Ending status) cut plan front stands silent none = refl

@@ -1,26 +1,16 @@
 -- What is pending after a TPDU.
-use Rattle.std.proofs.Common.{◌≡◌, ◌≢◌, ℕ, List, [], ◌∷◌, length, drop, None, Bool, true, false, ◌⊎◌, inl, inr, refl, subst}
+use Rattle.std.proofs.Common.{◌≡◌, ◌≢◌, ℕ, List, [], ◌∷◌, length, drop, Some, None, Bool, true, false, ◌⊎◌, inl, inr, refl, sym, subst, ◌∙◌}
 use Rattle.std.specs.Prelude.{if◌then◌else◌, ◌&&◌, ◌||◌, ◌==◌}
 use Rattle.std.proofs.lemmas.Bool.{and_parts, eqb-true}
 use Rattle.apdu_core.specs.declared.header.Header.{Header}
 use Rattle.apdu_core.specs.StatusWord.{StatusWord, ok, count}
 use Rattle.t0_core.specs.Meaning.{Tpdu}
 use Rattle.object_card.specs.State.{CardState, Pending, NothingPending, ChainPending, ResponsePending, is_idle, pending_of}
-use Rattle.object_card.specs.Refusals.{refusal, is_put, is_get_response, to_send}
+use Rattle.object_card.specs.Refusals.{refusal, is_select, is_put, is_get_response, to_send}
+use Rattle.object_card.specs.StepLaws.{select_step, select_refused, is_selected, is_missed}
+use Rattle.object_card.specs.ResponseLaws.{rest_is_idle}
+use Rattle.object_card.specs.RefusalLaws.{refusal_drops_chain}
 use Rattle.object_card.specs.CardMeaning.{Does, refuses, selects_application, misses_application, sends, chains, puts_value, after_refusal, announcing}
-
-refusal_drops_chain : (h : Header) (status : StatusWord) (pending : Pending) → is_idle (after_refusal h status pending) ≡ true
-refusal_drops_chain h status NothingPending = refl
-refusal_drops_chain h status (ChainPending p1 p2 bytes) = refl
-refusal_drops_chain h status (ResponsePending left) = kept (is_get_response h && (status.0 == 0x6C))
-  where
-    kept : (v : Bool) → is_idle (if v then ResponsePending left else NothingPending) ≡ true
-    kept true = refl
-    kept false = refl
-
-rest_is_idle : (left : List ℕ) → is_idle (pending_of left) ≡ true
-rest_is_idle [] = refl
-rest_is_idle (b ∷ left) = refl
 
 -- Every status but 9000 drops a chain.
 pub other_status_drops_chain : (old new : CardState) (cut : ℕ) (tpdu : Tpdu) → Does old cut tpdu new → tpdu.status ≢ ok → is_idle new.pending ≡ true
@@ -79,3 +69,12 @@ all_of_a_put_moves old new cut tpdu (sends h p3 e ins) taken put =
     let no : false ≡ true = subst (λ i. ((i == 0xCA) || (i == 0xC0)) ≡ true) (eqb-true h.ins 0xDA put) ins in absurd (cc)
 all_of_a_put_moves old new cut tpdu (chains h bytes e ins cla) taken put = refl
 all_of_a_put_moves old new cut tpdu (puts_value h bytes tag answer next e ins cla named put_value) taken put = refl
+
+-- All P3 bytes of a SELECT move, unless its header is refused.
+pub all_of_a_select_moves : (old new : CardState) (cut : ℕ) (tpdu : Tpdu) → Does old cut tpdu new → refusal old tpdu.header tpdu.p3 ≡ None
+    → is_select tpdu.header ≡ true → tpdu.p3 ≡ length tpdu.sent
+all_of_a_select_moves old new cut tpdu does taken select = elim (select_step old new cut tpdu does select) [
+  | select_refused refused none_sent none new_is ↦ let no : None ≡ Some tpdu.status = sym taken ∙ refused in absurd (cc)
+  | is_selected e all found none status new_is ↦ all
+  | is_missed e all missed none status new_is ↦ all
+]

@@ -7,15 +7,15 @@ use Rattle.std.proofs.lemmas.List.Elements.{All-nil, All-cons}
 use Rattle.tlv_core.specs.Spelling.{AreObjects, Empty, Primitive}
 use Rattle.tlv_core.specs.FirstFault.{IsFirstFault}
 use Rattle.tlv_core.specs.declared.fault.Reason.TheVariants.{ValueCut}
-use Rattle.tlv_core.proofs.Places.{spelled_has_no_fault}
-use Rattle.tlv_core.proofs.Faults.{first_here}
+use Rattle.tlv_core.specs.PlaceLaws.{spelled_has_no_fault}
+use Rattle.tlv_core.specs.FaultLaws.{first_here}
 use Rattle.tlv_core.specs.Address.{NamesTag}
-use Rattle.object_card.specs.Tables.{Entry, Application, same_bytes, with_value, entries_in}
+use Rattle.object_card.specs.Tables.{Entry, Application, same_bytes, is_locked, with_value}
 use Rattle.object_card.specs.State.{CardState, Pending, NothingPending, ChainPending, ResponsePending}
-use Rattle.object_card.specs.OneStep.{Put, Reply, Answers, stores, does_not_store, wants_memory, PutStatus, stored, wrong_data, no_space, control_information, with_put}
+use Rattle.object_card.specs.OneStep.{Put, Reply, Answers, stores, does_not_store, wants_memory, PutStatus, not_allowed, stored, wrong_data, no_space, control_information, with_put}
 use Rattle.object_card.specs.Refusals.{refusal}
 use Rattle.object_card.specs.CardMeaning.{Does, refuses, selects_application, misses_application, sends, chains, puts_value}
-use Rattle.object_card.proofs.CardLaws.{put_leaves, chaining_keeps_applications, refused_moves_nothing, not_found_keeps_selection}
+use Rattle.object_card.specs.CardLaws.{put_leaves, chaining_keeps_applications, refused_moves_nothing, not_found_keeps_selection}
 
 abbrev aid : List ℕ
 aid = 0xA0 ∷ 0x00 ∷ 0x00 ∷ 0x00 ∷ 0x03 ∷ 0x10 ∷ 0x10 ∷ []
@@ -31,7 +31,7 @@ name = 0x4A ∷ 0x4F ∷ 0x45 ∷ []
 
 -- the entries 5F20 and 50, with this value under 5F20
 abbrev entries_with : List ℕ → List Entry
-entries_with value = record { tag = name_tag; value = value } ∷ record { tag = 0x50 ∷ []; value = 0x41 ∷ [] } ∷ []
+entries_with value = record { tag = name_tag; value = value; locked = false } ∷ record { tag = 0x50 ∷ []; value = 0x41 ∷ []; locked = false } ∷ []
 
 -- the card that holds these entries
 abbrev card : List Entry → Option (List ℕ) → Pending → CardState
@@ -100,10 +100,10 @@ no_object = refl
 identifier_of_four_bytes : refusal ready (head 0x00 0xA4 0x04 0x00) 4 ≡ Some (0x67, 0x00)
 identifier_of_four_bytes = refl
 
-past_the_limit : refusal (in_chain (replicate 2040 0x42)) (head 0x00 0xDA 0x5F 0x20) 9 ≡ Some (0x67, 0x00)
+past_the_limit : refusal (in_chain (replicate 8184 0x42)) (head 0x00 0xDA 0x5F 0x20) 9 ≡ Some (0x67, 0x00)
 past_the_limit = refl
 
-up_to_the_limit : refusal (in_chain (replicate 2040 0x42)) (head 0x00 0xDA 0x5F 0x20) 8 ≡ None
+up_to_the_limit : refusal (in_chain (replicate 8184 0x42)) (head 0x00 0xDA 0x5F 0x20) 8 ≡ None
 up_to_the_limit = refl
 
 wrong_le : refusal ready (head 0x00 0xCA 0x5F 0x20) 0 ≡ Some (0x6C, 0x06)
@@ -113,8 +113,53 @@ wrong_le = refl
 in_place : with_value name_tag (0x42 ∷ []) (entries_with name) ≡ entries_with (0x42 ∷ [])
 in_place = refl
 
-last : with_value (0x9F ∷ 0x36 ∷ []) (0x01 ∷ []) (entries_with name) ≡ entries_with name ++ record { tag = 0x9F ∷ 0x36 ∷ []; value = 0x01 ∷ [] } ∷ []
+last : with_value (0x9F ∷ 0x36 ∷ []) (0x01 ∷ []) (entries_with name) ≡ entries_with name ++ record { tag = 0x9F ∷ 0x36 ∷ []; value = 0x01 ∷ []; locked = false } ∷ []
 last = refl
+
+-- with locked entries 50 and 70
+abbrev locked_entries : List ℕ → List Entry
+locked_entries value =
+    record { tag = name_tag; value = name; locked = false } ∷ record { tag = 0x50 ∷ []; value = value; locked = true }
+    ∷ record { tag = 0x70 ∷ []; value = []; locked = true } ∷ []
+
+abbrev guarded : Pending → CardState
+guarded pending = card (locked_entries (0x41 ∷ [])) (Some aid) pending
+
+none_selected_first : refusal (card (locked_entries (0x41 ∷ [])) None NothingPending) (head 0x00 0xDA 0x00 0x50) 1 ≡ Some (0x69, 0x85)
+none_selected_first = refl
+
+locked_last_piece : refusal (guarded NothingPending) (head 0x00 0xDA 0x00 0x50) 1 ≡ Some (0x69, 0x82)
+locked_last_piece = refl
+
+-- near miss: a lock that refuses the last piece alone
+locked_first_piece : refusal (guarded NothingPending) (head 0x10 0xDA 0x00 0x50) 255 ≡ Some (0x69, 0x82)
+locked_first_piece = refl
+
+lock_before_length : refusal (guarded (ChainPending 0x00 0x50 (replicate 8192 0x42))) (head 0x00 0xDA 0x00 0x50) 1 ≡ Some (0x69, 0x82)
+lock_before_length = refl
+
+locked_template : refusal (guarded NothingPending) (head 0x00 0xDA 0x00 0x70) 3 ≡ Some (0x69, 0x82)
+locked_template = refl
+
+beside_locked : refusal (guarded NothingPending) (head 0x00 0xDA 0x5F 0x20) 3 ≡ None
+beside_locked = refl
+
+get_locked : refusal (guarded NothingPending) (head 0x00 0xCA 0x00 0x50) 3 ≡ None
+get_locked = refl
+
+locked_is_not_put : PutStatus (locked_entries (0x41 ∷ [])) (0x50 ∷ []) (replicate 8193 0x42) (0x69, 0x82)
+locked_is_not_put = not_allowed refl
+
+-- a put keeps the mark
+mark_stays : with_value (0x50 ∷ []) (0x42 ∷ []) (locked_entries (0x41 ∷ [])) ≡ locked_entries (0x42 ∷ [])
+mark_stays = refl
+
+-- near miss: a replaced value that unlocks
+mark_is_not_lost : is_locked (0x50 ∷ []) (with_value (0x50 ∷ []) (0x42 ∷ []) (locked_entries (0x41 ∷ []))) ≡ true
+mark_is_not_lost = refl
+
+new_is_not_locked : is_locked (0x51 ∷ []) (with_value (0x51 ∷ []) (0x42 ∷ []) (locked_entries (0x41 ∷ []))) ≡ false
+new_is_not_locked = refl
 
 -- 00A4040007 and the identifier: 610B
 select_row : Does fresh 256 (record { header = head 0x00 0xA4 0x04 0x00; p3 = 7; sent = aid; received = []; status = (0x61, 0x0B) })
@@ -162,7 +207,7 @@ address = (omega arith, omega arith, refl, omega arith, omega arith, refl, refl)
 
 -- a value of two bytes can be put under 5F20
 two_bytes_fit : PutStatus (entries_with name) name_tag (0xAA ∷ 0xBB ∷ []) (0x90, 0x00)
-two_bytes_fit = stored (omega arith) (λ e. absurd (cc)) (inl refl)
+two_bytes_fit = stored refl (omega arith) (λ e. absurd (cc)) (inl refl)
 
 abbrev done : Reply
 done = record { status = (0x90, 0x00); content = [] }
@@ -214,7 +259,7 @@ wrong_data_row = puts_value (head 0x00 0xDA 0x00 0x70) (0x50 ∷ 0x05 ∷ 0x41 �
     ready refl refl refl template_address
     (does_not_store (0x70 ∷ []) (0x50 ∷ 0x05 ∷ 0x41 ∷ []) (entries_with name) (0x6A, 0x80) refl
     (λ e. let no : 0x6A ≡ 0x90 = ap (λ s. s.0) e in absurd (omega (arith, no)))
-    (wrong_data (omega arith) (λ value_of. cut_value (value_of refl))))
+    (wrong_data refl (omega arith) (λ value_of. cut_value (value_of refl))))
 
 -- 00DA007006 005081014100: 9000; padding and the long length are kept as they were sent
 abbrev Zero : ℕ → Type 0
@@ -240,12 +285,12 @@ padded_objects = (
 )
 
 abbrev with_template : List Entry
-with_template = entries_with name ++ record { tag = 0x70 ∷ []; value = padded } ∷ []
+with_template = entries_with name ++ record { tag = 0x70 ∷ []; value = padded; locked = false } ∷ []
 
 padded_row : Does ready 256
     (record { header = head 0x00 0xDA 0x00 0x70; p3 = 6; sent = padded; received = []; status = (0x90, 0x00) }) (card with_template (Some aid) NothingPending)
 padded_row = puts_value (head 0x00 0xDA 0x00 0x70) padded (0x70 ∷ []) done (card with_template (Some aid) NothingPending) refl refl refl template_address
-    (stores (0x70 ∷ []) padded aid (entries_with name) refl refl (stored (omega arith) (λ kind. padded_objects) (inr (omega arith))))
+    (stores (0x70 ∷ []) padded aid (entries_with name) refl refl (stored refl (omega arith) (λ kind. padded_objects) (inr (omega arith))))
 
 get_padded_row : Does (card with_template (Some aid) NothingPending) 256
     (record { header = head 0x00 0xCA 0x00 0x70; p3 = 8; sent = []; received = 0x70 ∷ 0x06 ∷ padded; status = (0x90, 0x00) })
@@ -255,21 +300,21 @@ get_padded_row = sends (head 0x00 0xCA 0x00 0x70) 8 refl refl
 -- so many entries: DF01, DF02 and so on
 abbrev numbered : ℕ → List Entry
 numbered zero = []
-numbered (suc n) = numbered n ++ record { tag = 0xDF ∷ suc n ∷ []; value = [] } ∷ []
+numbered (suc n) = numbered n ++ record { tag = 0xDF ∷ suc n ∷ []; value = []; locked = false } ∷ []
 
 -- a new tag where 64 entries are held: 6A84; a tag that is held is stored
 sixty_four : length (numbered 64) ≡ 64
 sixty_four = refl
 
 full : PutStatus (numbered 64) (0xDF ∷ 0x41 ∷ []) (0x01 ∷ []) (0x6A, 0x84)
-full = no_space (omega arith) (λ kind. absurd (cc)) refl (omega (arith, sixty_four))
+full = no_space refl (omega arith) (λ kind. absurd (cc)) refl (omega (arith, sixty_four))
 
 held_in_full : PutStatus (numbered 64) (0xDF ∷ 0x40 ∷ []) (0x01 ∷ []) (0x90, 0x00)
-held_in_full = stored (omega arith) (λ kind. absurd (cc)) (inl refl)
+held_in_full = stored refl (omega arith) (λ kind. absurd (cc)) (inl refl)
 
 -- near miss: a put that moves an entry to the end
 abbrev moved : CardState
-moved = card (record { tag = 0x50 ∷ []; value = 0x41 ∷ [] } ∷ record { tag = name_tag; value = 0x42 ∷ [] } ∷ []) (Some aid) NothingPending
+moved = card (record { tag = 0x50 ∷ []; value = 0x41 ∷ []; locked = false } ∷ record { tag = name_tag; value = 0x42 ∷ []; locked = false } ∷ []) (Some aid) NothingPending
 
 -- whether 5F20 is the first entry of the first application
 abbrev is_name_first : List Entry → Bool
@@ -285,11 +330,8 @@ not_moved reply h = elim (put_leaves ready moved (Put name_tag (0x42 ∷ [])) re
   | inl e ↦ let same : false ≡ true = ap (λ state. name_stands_first state.applications) e in absurd (cc)
   | inr w ↦
       let one : aid ≡ w.0 = cc in
-      let two : entries_in aid ready.applications ≡ Some w.1 = subst (λ x. entries_in x ready.applications ≡ Some w.1) (sym one) w.3 in
-      let three : entries_with name ≡ w.1 = cc in
-      let four : moved ≡ with_put ready aid w.1 name_tag (0x42 ∷ []) = subst (λ x. moved ≡ with_put ready x w.1 name_tag (0x42 ∷ [])) (sym one) w.5 in
-      let five : moved ≡ with_put ready aid (entries_with name) name_tag (0x42 ∷ []) = subst (λ x. moved ≡ with_put ready aid x name_tag (0x42 ∷ [])) (sym three) four in
-      let same : false ≡ true = ap (λ state. name_stands_first state.applications) five in absurd (cc)
+      let put : moved ≡ with_put ready aid name_tag (0x42 ∷ []) = subst (λ x. moved ≡ with_put ready x name_tag (0x42 ∷ [])) (sym one) w.5 in
+      let same : false ≡ true = ap (λ state. name_stands_first state.applications) put in absurd (cc)
 ]
 
 -- near miss: a PUT DATA with CLA 10 that stores its piece

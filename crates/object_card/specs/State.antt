@@ -1,9 +1,11 @@
 -- The state of a card: what it holds, what is selected, and what a later command may go on with.
-use Rattle.std.specs.Prelude.{◌≡◌, ◌≢◌, ℕ, ◌≤◌, List, [], ◌∷◌, length, Option, Some, None, IfSome, Bool, true, false, is_some, option_and_then}
-use Rattle.object_card.specs.Tables.{Application, Entry, AreApplications, entries_in, value_limit}
+use Rattle.std.specs.Prelude.{◌≡◌, ◌≢◌, ℕ, ◌+◌, ◌≤◌, List, [], ◌∷◌, length, Option, Some, None, IsSome, IfSome, Bool, true, false, is_some, option_and_then}
+use Rattle.object_card.specs.declared.limits.TheConstants.{VALUE_LIMIT, HEAD_LIMIT}
+use Rattle.object_card.specs.Tables.{Application, Entry, AreApplications, entries_in}
 
--- What is pending: nothing; a chain of PUT DATA, with its P1-P2 and the bytes so far (ISO/IEC 7816-4,
--- 5.1.1.1); or a response, with the bytes that are left of it (ISO/IEC 7816-4, GET RESPONSE).
+-- What is pending: nothing; a chain of PUT DATA, with its P1-P2 and the bytes so far (ISO/IEC
+-- 7816-4, 5.1.1.1); or a response, with the bytes that are left of it (ISO/IEC 7816-4, GET
+-- RESPONSE).
 pub data Pending : Type 0 where
   NothingPending : Pending
   ChainPending : (p1 p2 : ℕ) (bytes : List ℕ) → Pending
@@ -15,17 +17,20 @@ pub record CardState : Type 0 where
   pub selected : Option (List ℕ)
   pub pending : Pending
 
--- A chain, also an empty one, keeps to the limit of a value; of a response at least one byte is left.
-abbrev pub IsPending : Pending → Type 0
-IsPending NothingPending = Unit {0}
-IsPending (ChainPending p1 p2 bytes) = length bytes ≤ value_limit
-IsPending (ResponsePending left) = left ≢ []
+-- A chain, also an empty one, is pending only where an application is selected, and keeps to the
+-- limit of a value. Of a response at least one byte is left, and at most a value with its tag and
+-- length.
+abbrev pub IsPending : Option (List ℕ) → Pending → Type 0
+IsPending selected NothingPending = Unit {0}
+IsPending selected (ChainPending p1 p2 bytes) = IsSome selected × (length bytes ≤ VALUE_LIMIT)
+IsPending selected (ResponsePending left) = (left ≢ []) × (length left ≤ VALUE_LIMIT + HEAD_LIMIT)
 
 -- what is selected is held
 pub record IsCardState (state : CardState) : Type 0 where
   pub are_applications : AreApplications state.applications
-  pub selected_is_held : IfSome state.selected (λ aid. is_some (entries_in aid state.applications) ≡ true)
-  pub is_pending : IsPending state.pending
+  pub selected_is_held : IfSome state.selected
+      (λ aid. is_some (entries_in aid state.applications) ≡ true)
+  pub is_pending : IsPending state.selected state.pending
 
 -- no chain is pending
 abbrev pub is_idle : Pending → Bool
@@ -62,4 +67,5 @@ selected_entries state = option_and_then (λ aid. entries_in aid state.applicati
 
 -- A reset keeps what is held; nothing is selected, and nothing is pending (this project's profile).
 abbrev pub after_reset : CardState → CardState
-after_reset state = record { applications = state.applications; selected = None; pending = NothingPending }
+after_reset state = record { applications = state.applications; selected = None;
+    pending = NothingPending }

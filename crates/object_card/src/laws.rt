@@ -1,69 +1,106 @@
-//! Laws of what each command does to a card: each function's contract is a law.
+//! Laws of what each command does to a card: each function's contract is a law. Laws of what
+//! commands do one after another stand in `runs`.
 ghost use Rattle.std.specs.Prelude.{◌≡◌, ◌≢◌, ◌↔◌, ◌⊎◌, ℕ, List, [], Some, None, length, true};
 ghost use Rattle.apdu_core.specs.StatusWord.{StatusWord, ok};
 ghost use Rattle.t0_core.specs.Meaning.{Tpdu};
 ghost use Rattle.tlv_core.specs.Address.{NamesTag};
 ghost use Rattle.object_card.specs.Tables.{Entry};
-ghost use Rattle.object_card.specs.OneStep.{PutStatus};
+ghost use Rattle.object_card.specs.OneStep.{PutStatus, Operation, Reply, reply, Answers};
 ghost use Rattle.object_card.specs.State.{CardState, IsCardState, ResponsePending, is_idle, after_reset};
-ghost use Rattle.object_card.specs.Refusals.{named_tag, refusal, is_put};
+ghost use Rattle.object_card.specs.Refusals.{named_tag, refusal, is_select, is_put};
 ghost use Rattle.object_card.specs.CardMeaning.{Does};
+
+pub mod runs;
 
 /// The tag that a header is found to name is the one that its P1-P2 name.
 pub fn p1p2_name_the_tag()
     ensures { (tag : List ℕ) (p1 p2 : ℕ) → (named_tag p1 p2 ≡ Some tag) ↔ NamesTag tag p1 p2 }
 {}
 
-/// Whatever comes, a card's state stays one: distinct identifiers and tags, sound values, each number within
-/// its limit, what is selected is held, a chain keeps to the limit and some of a response is left. So it is
-/// after a reset.
+/// Whatever comes, a card's state stays one: distinct identifiers and tags, sound values, each
+/// number within its limit, what is selected is held, a chain keeps to the limit and some of a
+/// response is left. So it is after a reset.
 pub fn a_card_state_stays_one()
-    ensures step { (old new : CardState) (cut : ℕ) (tpdu : Tpdu) → Does old cut tpdu new → IsCardState old → IsCardState new }
+    ensures step { (old new : CardState) (cut : ℕ) (tpdu : Tpdu) → Does old cut tpdu new →
+        IsCardState old → IsCardState new }
     ensures reset { (state : CardState) → IsCardState state → IsCardState (after_reset state) }
 {}
 
-/// A header that is refused moves no data, and is answered with the status of the first reason that holds.
+/// A header that is refused moves no data, and is answered with the status of the first reason that
+/// holds.
 pub fn a_refused_header_moves_nothing()
-    ensures { (old new : CardState) (cut : ℕ) (tpdu : Tpdu) (status : StatusWord) → Does old cut tpdu new →
-        refusal old tpdu.header tpdu.p3 ≡ Some status →
-        (tpdu.sent ≡ []) × (tpdu.received ≡ []) × (tpdu.status ≡ status) }
+    ensures { (old new : CardState) (cut : ℕ) (tpdu : Tpdu) (status : StatusWord) →
+        Does old cut tpdu new → refusal old tpdu.header tpdu.p3 ≡ Some status → (tpdu.sent ≡ [])
+        × (tpdu.received ≡ []) × (tpdu.status ≡ status) }
 {}
 
 /// A command that is not the last of its chain changes no entry.
 pub fn a_piece_changes_no_entry()
-    ensures { (old new : CardState) (cut : ℕ) (tpdu : Tpdu) → Does old cut tpdu new → tpdu.header.cla ≡ 0x10 →
-        new.applications ≡ old.applications }
+    ensures { (old new : CardState) (cut : ℕ) (tpdu : Tpdu) → Does old cut tpdu new →
+        tpdu.header.cla ≡ 0x10 → new.applications ≡ old.applications }
 {}
 
 /// A SELECT that finds no application keeps the one selected.
 pub fn not_found_keeps_the_selection()
-    ensures { (old new : CardState) (cut : ℕ) (tpdu : Tpdu) → Does old cut tpdu new → tpdu.status ≡ (0x6A, 0x82) →
-        new.selected ≡ old.selected }
+    ensures { (old new : CardState) (cut : ℕ) (tpdu : Tpdu) → Does old cut tpdu new →
+        tpdu.status ≡ (0x6A, 0x82) → new.selected ≡ old.selected }
 {}
 
 /// Every status but `9000` drops a chain, and a command that is the last of its chain ends it.
 pub fn a_chain_is_dropped_or_ended()
-    ensures dropped { (old new : CardState) (cut : ℕ) (tpdu : Tpdu) → Does old cut tpdu new → tpdu.status ≢ ok →
-        is_idle new.pending ≡ true }
-    ensures ended { (old new : CardState) (cut : ℕ) (tpdu : Tpdu) → Does old cut tpdu new → tpdu.header.cla ≢ 0x10 →
-        is_idle new.pending ≡ true }
+    ensures dropped { (old new : CardState) (cut : ℕ) (tpdu : Tpdu) → Does old cut tpdu new →
+        tpdu.status ≢ ok → is_idle new.pending ≡ true }
+    ensures ended { (old new : CardState) (cut : ℕ) (tpdu : Tpdu) → Does old cut tpdu new →
+        tpdu.header.cla ≢ 0x10 → is_idle new.pending ≡ true }
 {}
 
 /// A response is pending only after `61XX`, or as it was after `6CXX` to a GET RESPONSE.
 pub fn a_response_is_announced()
-    ensures { (old new : CardState) (cut : ℕ) (tpdu : Tpdu) (left : List ℕ) → Does old cut tpdu new →
-        new.pending ≡ ResponsePending left →
-        (tpdu.status.0 ≡ 0x61) ⊎ ((tpdu.header.ins ≡ 0xC0) × (tpdu.status.0 ≡ 0x6C) × (new.pending ≡ old.pending)) }
+    ensures { (old new : CardState) (cut : ℕ) (tpdu : Tpdu) (left : List ℕ) →
+        Does old cut tpdu new → new.pending ≡ ResponsePending left →
+        (tpdu.status.0 ≡ 0x61) ⊎ ((tpdu.header.ins ≡ 0xC0) × (tpdu.status.0 ≡ 0x6C)
+        × (new.pending ≡ old.pending)) }
 {}
 
 /// All P3 bytes of a PUT DATA move to the card, unless its header is refused.
 pub fn all_of_a_put_moves()
-    ensures { (old new : CardState) (cut : ℕ) (tpdu : Tpdu) → Does old cut tpdu new → refusal old tpdu.header tpdu.p3 ≡ None →
-        is_put tpdu.header ≡ true → tpdu.p3 ≡ length tpdu.sent }
+    ensures { (old new : CardState) (cut : ℕ) (tpdu : Tpdu) → Does old cut tpdu new →
+        refusal old tpdu.header tpdu.p3 ≡ None → is_put tpdu.header ≡ true →
+        tpdu.p3 ≡ length tpdu.sent }
+{}
+
+/// All P3 bytes of a SELECT move to the card, unless its header is refused.
+pub fn all_of_a_select_moves()
+    ensures { (old new : CardState) (cut : ℕ) (tpdu : Tpdu) → Does old cut tpdu new →
+        refusal old tpdu.header tpdu.p3 ≡ None → is_select tpdu.header ≡ true →
+        tpdu.p3 ≡ length tpdu.sent }
+{}
+
+/// Entries change only by a PUT DATA with CLA `00` that is answered `9000`.
+pub fn only_a_put_changes_entries()
+    ensures { (old new : CardState) (cut : ℕ) (tpdu : Tpdu) → Does old cut tpdu new →
+        (new.applications ≡ old.applications) ⊎ ((tpdu.header.cla ≡ 0x00) × (tpdu.header.ins ≡ 0xDA)
+        × (tpdu.status ≡ ok)) }
+{}
+
+/// An operation has one reply and one next state, and a command with the same data to the card has
+/// the same data from the card, status and next state, where memory is not wanted (`6581`). It is
+/// wanted only where a value would be stored, and the card then stays as it was.
+pub fn a_command_has_one_outcome()
+    ensures operation { (old a b : CardState) (operation : Operation) (r s : Reply) →
+        Answers old operation r a → Answers old operation s b → r.status ≢ (0x65, 0x81) →
+        s.status ≢ (0x65, 0x81) → (r ≡ s) × (a ≡ b) }
+    ensures wanted { (old new : CardState) (operation : Operation) (answer : Reply) →
+        Answers old operation answer new → answer.status ≡ (0x65, 0x81) →
+        (new ≡ old) × ((next : CardState) × Answers old operation (reply ok) next) }
+    ensures tpdu { (old a b : CardState) (cut : ℕ) (t u : Tpdu) → Does old cut t a →
+        Does old cut u b → t.header ≡ u.header → t.p3 ≡ u.p3 → t.sent ≡ u.sent →
+        t.status ≢ (0x65, 0x81) → u.status ≢ (0x65, 0x81) → (t.received ≡ u.received)
+        × (t.status ≡ u.status) × (a ≡ b) }
 {}
 
 /// A put has one status, where memory is not wanted.
 pub fn a_put_has_one_status()
-    ensures { (entries : List Entry) (tag value : List ℕ) (s t : StatusWord) → PutStatus entries tag value s →
-        PutStatus entries tag value t → s ≡ t }
+    ensures { (entries : List Entry) (tag value : List ℕ) (s t : StatusWord) →
+        PutStatus entries tag value s → PutStatus entries tag value t → s ≡ t }
 {}

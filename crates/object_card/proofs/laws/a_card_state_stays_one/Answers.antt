@@ -1,4 +1,4 @@
-use Rattle.object_card.proofs.StateLemmas.{stays_sound}
+use Rattle.object_card.specs.StateLaws.{stays_sound}
 use Rattle.object_card.proofs.laws.a_card_state_stays_one.Goals as goal
 
 pub returns-clause-step : goal.returns-clause-step

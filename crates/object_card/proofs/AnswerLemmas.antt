@@ -1,0 +1,134 @@
+-- What is ready, and what stands once an answer is handed out.
+use Rattle.std.proofs.Common.{◌≡◌, ◌≢◌, ◌∙◌, ℕ, zero, suc, ◌≤◌, List, [], length, Option, Some, None, Bool, true, false, ◌⊎◌, inl, inr, refl, sym, ap, subst, arith}
+use Rattle.std.specs.Prelude.{unwrap_or, option_map, IfSome, IsSome, if◌then◌else◌, ◌==◌, ◌&&◌, ◌||◌, nat_lt}
+use Rattle.std.proofs.lemmas.Bool.{ltb-false, ne_eqb, not-false, eqb-true}
+use Rattle.std.proofs.lemmas.Bool.Decides.{eqb_tells}
+use Rattle.apdu_core.specs.declared.header.Header.{Header}
+use Rattle.apdu_core.specs.Chaining.{ChainState, idle}
+use Rattle.apdu_core.specs.StatusWord.{StatusWord, count}
+use Rattle.apdu_core.specs.HeaderBytes.{ins_is_valid}
+use Rattle.t0_core.specs.Meaning.{Ask, refused}
+use Rattle.object_card.specs.Tables.{Entry}
+use Rattle.object_card.specs.State.{CardState, IsCardState, NothingPending, ResponsePending, with_pending}
+use Rattle.object_card.specs.Refusals.{refusal, UnknownInstruction, MoreThanIsLeft, is_get, is_get_response, to_send}
+use Rattle.object_card.specs.CardMeaning.{Does, refuses, after_refusal}
+use Rattle.object_card.specs.declared.response.Response.{Response}
+use Rattle.object_card.specs.Held.{Held, IsResponse, entries_at, left_of, pending_in, chain_pending, state_of}
+use Rattle.object_card.specs.CardView.{IsStanding}
+use Rattle.object_card.specs.StateLaws.{stays_sound, none_holds}
+
+abbrev pub kept_after : Header → StatusWord → Option Response → Option Response
+kept_after h status response = if is_get_response h && (status.0 == 0x6C) then response else None
+
+pending_after : (entries : List Entry) (chain : ChainState) (response : Option Response) (h : Header) (status : StatusWord) (n : ℕ)
+    → after_refusal h status (pending_in entries chain response) ≡ pending_in entries (idle n) (kept_after h status response)
+pending_after entries chain None h status n = split chain.pending (is_get_response h && (status.0 == 0x6C))
+  where
+    split : (v : Option Header) (b : Bool) → after_refusal h status (chain_pending v chain.bytes) ≡ pending_in entries (idle n) (if b then None else None)
+    split None true = refl
+    split None false = refl
+    split (Some first) true = refl
+    split (Some first) false = refl
+pending_after entries chain (Some r) h status n = split (is_get_response h && (status.0 == 0x6C))
+  where
+    split : (b : Bool) → (if b then ResponsePending (left_of entries r) else NothingPending) ≡ pending_in entries (idle n) (if b then Some r else None)
+    split true = refl
+    split false = refl
+
+-- what a refusal leaves
+pub refused_next : (held : List Held) (selected : Option ℕ) (chain : ChainState) (response : Option Response) (h : Header) (status : StatusWord)
+    → with_pending (state_of held selected chain response) (after_refusal h status (state_of held selected chain response).pending)
+    ≡ state_of held selected (idle chain.limit) (kept_after h status response)
+refused_next held selected chain response h status =
+    ap (λ p. with_pending (state_of held selected chain response) p) (pending_after (entries_at held selected) chain response h status chain.limit)
+
+pub refused_does : (held : List Held) (selected : Option ℕ) (chain : ChainState) (response next : Option Response) (ask : Ask) (status : StatusWord)
+    → refusal (state_of held selected chain response) ask.header ask.p3 ≡ Some status → next ≡ kept_after ask.header status response
+    → Does (state_of held selected chain response) ask.cut (refused ask status) (state_of held selected (idle chain.limit) next)
+refused_does held selected chain response next ask status is leaves =
+    let Leads : CardState → Type 0 = λ new. Does (state_of held selected chain response) ask.cut (refused ask status) new in
+    subst Leads (refused_next held selected chain response ask.header status ∙ ap (λ r. state_of held selected (idle chain.limit) r) (sym leaves))
+    (refuses ask.header ask.p3 status is)
+
+-- a next state without a chain stands
+pub leaves_standing : (held : List Held) (selected : Option ℕ) (chain : ChainState) (response next : Option Response)
+    → IsStanding held selected chain response → IfSome next (IsResponse (entries_at held selected))
+    → IsCardState (state_of held selected (idle chain.limit) next) → IsStanding held selected (idle chain.limit) next
+leaves_standing held selected chain response next standing fits sound = record {
+  sound = sound;
+  selected_is = standing.selected_is;
+  limit_is = standing.limit_is;
+  of_puts = tt;
+  response_is = fits;
+  alone = λ some. refl;
+}
+
+pub kept_fits : (P : Response → Type 0) (h : Header) (status : StatusWord) (response next : Option Response)
+    → next ≡ kept_after h status response → IfSome response P → IfSome next P
+kept_fits P h status response next is fits = subst (λ r. IfSome r P) (sym is) (split (is_get_response h && (status.0 == 0x6C)))
+  where
+    split : (b : Bool) → IfSome (if b then response else None) P
+    split true = fits
+    split false = tt
+
+pub refused_standing : (held : List Held) (selected : Option ℕ) (chain : ChainState) (response next : Option Response) (ask : Ask) (status : StatusWord)
+    → IsStanding held selected chain response → refusal (state_of held selected chain response) ask.header ask.p3 ≡ Some status
+    → next ≡ kept_after ask.header status response → IsStanding held selected (idle chain.limit) next
+refused_standing held selected chain response next ask status standing is leaves =
+    leaves_standing held selected chain response next standing (kept_fits _ ask.header status response next leaves standing.response_is)
+    (stays_sound _ _ ask.cut (refused ask status) (refused_does held selected chain response next ask status is leaves) standing.sound)
+
+-- a header that is not refused
+known_sending : (n : ℕ) → ((n == 0xA4) || (n == 0xCA) || (n == 0xDA) || (n == 0xC0)) ≡ true → n ≢ 0xA4 → n ≢ 0xDA → ((n == 0xCA) || (n == 0xC0)) ≡ true
+known_sending n known a b = subst (λ v. v ≡ true) (rw (ne_eqb n 0xA4 a, ne_eqb n 0xDA b) (split (n == 0xCA))) known
+  where
+    split : (v : Bool) → (((false || v) || false) || (n == 0xC0)) ≡ (v || (n == 0xC0))
+    split true = refl
+    split false = refl
+
+pub sends_where : (s : CardState) (h : Header) (p3 : ℕ) → refusal s h p3 ≡ None → h.ins ≢ 0xA4 → h.ins ≢ 0xDA → (is_get h || is_get_response h) ≡ true
+sends_where s h p3 none a b = known_sending h.ins (not-false _ (none_holds s h p3 UnknownInstruction none)) a b
+
+pub enough_left : (s : CardState) (h : Header) (p3 : ℕ) → refusal s h p3 ≡ None → (is_get h || is_get_response h) ≡ true → count p3 ≤ length (to_send s h)
+enough_left s h p3 none sending =
+    ltb-false (length (to_send s h)) (count p3)
+    (subst (λ b. (b && nat_lt (length (to_send s h)) (count p3)) ≡ false) sending (none_holds s h p3 MoreThanIsLeft none))
+
+pub count_some : (p3 : ℕ) → 1 ≤ count p3
+count_some p3 = elim (eqb_tells p3 0) [
+  | inl zero_it ↦ rw zero_it.0 (omega arith)
+  | inr some ↦ rw some.0 (omega (arith, (let other : p3 ≢ 0 = some.1 in positive p3 other)))
+]
+  where
+    positive : (n : ℕ) → n ≢ 0 → 1 ≤ n
+    positive zero other = absurd (other refl)
+    positive (suc n) other = omega arith
+
+pub some_to_send : (f : Response → List ℕ) (r : Option Response) (xs : List ℕ) (n : ℕ) → unwrap_or (option_map f r) [] ≡ xs → n ≤ length xs → 1 ≤ n → IsSome r
+some_to_send f (Some r) xs n is fits some = refl
+some_to_send f None xs n is fits some = absurd (omega (arith, ap length is, fits, some))
+
+pub to_send_is : (f : Response → List ℕ) (r : Option Response) (x : Response) (xs : List ℕ) → r ≡ Some x → unwrap_or (option_map f r) [] ≡ xs → f x ≡ xs
+to_send_is f r x xs is whole = sym (ap (λ o. unwrap_or (option_map f o) []) is) ∙ whole
+
+pub sending_ins : (n : ℕ) → ((n == 0xCA) || (n == 0xC0)) ≡ true → (n ≡ 0xCA) ⊎ (n ≡ 0xC0)
+sending_ins n is = split (n == 0xCA) refl
+  where
+    split : (v : Bool) → (n == 0xCA) ≡ v → (n ≡ 0xCA) ⊎ (n ≡ 0xC0)
+    split true e = inl (eqb-true n 0xCA e)
+    split false e = inr (eqb-true n 0xC0 (subst (λ v. (v || (n == 0xC0)) ≡ true) e is))
+
+pub valid_sending : (n : ℕ) → ((n == 0xCA) || (n == 0xC0)) ≡ true → ins_is_valid n ≡ false → ⊥
+valid_sending n is invalid = elim (sending_ins n is) [
+  | inl e ↦ let no : true ≡ false = subst (λ x. ins_is_valid x ≡ false) e invalid in absurd (cc)
+  | inr e ↦ let no : true ≡ false = subst (λ x. ins_is_valid x ≡ false) e invalid in absurd (cc)
+]
+
+pub valid_receiving : (n : ℕ) → (n ≡ 0xA4) ⊎ (n ≡ 0xDA) → ins_is_valid n ≡ false → ⊥
+valid_receiving n is invalid = elim is [
+  | inl e ↦ let no : true ≡ false = subst (λ x. ins_is_valid x ≡ false) e invalid in absurd (cc)
+  | inr e ↦ let no : true ≡ false = subst (λ x. ins_is_valid x ≡ false) e invalid in absurd (cc)
+]
+
+pub receiving_ins : (n : ℕ) → (n ≡ 0xA4) ⊎ (n ≡ 0xDA) → ((n == 0xA4) || (n == 0xDA)) ≡ true
+receiving_ins n is = elim is [ inl e ↦ rw e refl | inr e ↦ rw e refl ]

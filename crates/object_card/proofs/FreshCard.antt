@@ -1,0 +1,63 @@
+-- A card of which nothing is selected, pending or ready, and what a card sends.
+use Rattle.std.proofs.Common.{◌≡◌, ℕ, zero, suc, ◌<◌, List, [], ◌∷◌, arith, length, take, Option, Some, None, refl, sym, ap, subst}
+use Rattle.std.specs.Prelude.{slice_get}
+use Rattle.apdu_core.specs.declared.header.Header.{Header}
+use Rattle.apdu_core.specs.StatusWord.{count}
+use Rattle.t0_core.specs.Meaning.{IsSending}
+use Rattle.apdu_core.specs.Chaining.{ChainState, idle}
+use Rattle.object_card.specs.declared.limits.TheConstants.{VALUE_LIMIT}
+use Rattle.object_card.specs.declared.response.Response.{Response}
+use Rattle.object_card.specs.declared.ready.Ready.{Ready}
+use Rattle.object_card.specs.declared.ready.Ready.TheVariants as ready
+use Rattle.object_card.specs.Tables.{AreApplications}
+use Rattle.object_card.specs.Held.{Held, applications_of, entries_at, left_of}
+use Rattle.object_card.specs.CardView.{IsCard, NewValue, chain_before, prepared_of, standing_chain}
+
+chain_limit : (chain : ChainState) (before : Option ℕ) → (chain_before chain before).limit ≡ chain.limit
+chain_limit chain None = refl
+chain_limit chain (Some len) = refl
+
+-- what is ready changes no limit
+pub standing_limit : (chain : ChainState) (r : Ready) → (standing_chain chain r).limit ≡ chain.limit
+standing_limit chain ready.Nothing = refl
+standing_limit chain (ready.Receives h p3 cut) = refl
+standing_limit chain (ready.Sends h p3 cut response) = refl
+standing_limit chain (ready.Leaves response) = refl
+standing_limit chain (ready.Selects application response) = refl
+standing_limit chain (ready.Joins before) = chain_limit chain before
+standing_limit chain ready.Stores = refl
+
+pub is_fresh : (held : List Held) (chain : ChainState) → AreApplications (applications_of held) → chain ≡ idle VALUE_LIMIT
+    → IsCard held None chain None ready.Nothing None
+is_fresh held chain are is =
+    let Fresh : ChainState → Type 0 = λ c. IsCard held None c None ready.Nothing None in
+    subst Fresh (sym is) (record {
+      standing = record {
+        sound = record { are_applications = are; selected_is_held = tt; is_pending = tt };
+        selected_is = tt;
+        limit_is = refl;
+        of_puts = tt;
+        response_is = tt;
+        alone = λ _. refl;
+      };
+      fits = refl;
+    })
+
+-- a byte within the first ones is a byte of the whole
+of_whole : (bytes : List ℕ) (n at byte : ℕ) → at < length (take n bytes) → slice_get bytes at ≡ Some byte
+    → slice_get (take n bytes) at ≡ Some byte
+of_whole [] n at byte lt is = absurd (cc)
+of_whole (b ∷ bytes) zero at byte lt is = absurd (omega (arith, lt))
+of_whole (b ∷ bytes) (suc n) zero byte lt is = is
+of_whole (b ∷ bytes) (suc n) (suc at) byte lt is = of_whole bytes n at byte (omega (arith, lt)) is
+
+-- the byte that is read is that of the data to send
+pub sends_byte : (held : List Held) (selected : Option ℕ) (chain : ChainState) (response : Option Response) (r : Ready)
+    (put : Option NewValue) (h : Header) (p3 cut : ℕ) (sent : Response) (at byte : ℕ) → r ≡ ready.Sends h p3 cut sent
+    → slice_get (left_of (entries_at held selected) sent) at ≡ Some byte
+    → IsSending (prepared_of held selected chain response r put) (λ ask bytes. at < length bytes)
+    → IsSending (prepared_of held selected chain response r put) (λ ask bytes. slice_get bytes at ≡ Some byte)
+sends_byte held selected chain response r put h p3 cut sent at byte is read =
+    let Read : Ready → Type 0 = λ x. IsSending (prepared_of held selected chain response x put) (λ ask bytes. at < length bytes)
+    → IsSending (prepared_of held selected chain response x put) (λ ask bytes. slice_get bytes at ≡ Some byte) in
+    subst Read (sym is) (λ within. of_whole (left_of (entries_at held selected) sent) (count p3) at byte within read)

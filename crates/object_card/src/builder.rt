@@ -1,0 +1,165 @@
+ghost use Rattle.std.specs.Prelude.{◌≡◌, List, [], length, None, true, false, OnOk, OnErr, IfOk, IfErr};
+ghost use Rattle.tlv_core.specs.Address.{IsAddressable};
+ghost use Rattle.object_card.specs.Tables.{with_entry};
+ghost use Rattle.object_card.specs.Held.{applications_of};
+ghost use Rattle.object_card.specs.Builder.{TakesApplication, RefusesApplication, TakesEntry, RefusesEntry, TakesObject, RefusesObject, with_application, with_last_entry, new_card};
+
+use crate::aid::Aid;
+use crate::application::Application;
+use crate::builder_fault::BuilderFault;
+use crate::card::ObjectCard;
+use crate::limits::{APPLICATION_LIMIT, ENTRY_LIMIT, VALUE_LIMIT};
+use crate::taking::find;
+use apdu_core::Chain;
+use std::alloc::{AllocError, Allocator, Global};
+use std::marker::Model;
+use tlv_core::{ObjectTag, value_fault};
+
+/// What a card is to hold: applications, each with its data objects. Contracts see it as the list of
+/// the applications.
+#[derive(Drop)]
+pub struct CardBuilder<A: Allocator = Global> {
+    alloc: A,
+    applications: Vec<Application<A>, A>,
+}
+
+impl<A: Allocator> Model for CardBuilder<A> {
+    ghost use Rattle.std.specs.Prelude.{List};
+    ghost use Rattle.object_card.specs.Tables as tables;
+    ghost use Rattle.object_card.specs.Tables.{AreApplications};
+    ghost use Rattle.object_card.specs.Held.{applications_of};
+
+    ghost Value = { List tables.Application };
+
+    ghost view = { λ b. applications_of b.applications.items };
+
+    ghost invariant = { λ b. AreApplications (applications_of b.applications.items) };
+}
+
+impl<A: Allocator + Copy> CardBuilder<A> {
+    /// No applications. It takes no memory.
+    pub fn new(alloc: A) -> CardBuilder<A>
+        ensures { result ≡ [] }
+    {
+        CardBuilder {
+            alloc,
+            applications: Vec::new(alloc),
+        }
+    }
+
+    /// Adds an application without data objects.
+    ///
+    /// # Errors
+    ///
+    /// `Twice`, `TooManyApps` and `OutOfMemory`, in this order. A refusal leaves the builder as it was.
+    pub fn app(&mut self, aid: Aid) -> Result<(), BuilderFault>
+        ensures ok { OnOk result (TakesApplication aid self.old
+            × (self.new ≡ with_application aid self.old)) }
+        ensures err { IfErr result (RefusesApplication aid self.old) }
+        ensures stays { OnErr result (self.new ≡ self.old) }
+    {
+        if find(&self.applications, aid.bytes()).is_some() {
+            return Err(BuilderFault::Twice);
+        }
+        if self.applications.len() >= APPLICATION_LIMIT {
+            return Err(BuilderFault::TooManyApps);
+        }
+        let application = Application::new(self.alloc, aid);
+        if self.applications.push(application).is_err() {
+            return Err(BuilderFault::OutOfMemory);
+        }
+        Ok(())
+    }
+
+    /// Adds a data object to the last application. A tag that is there has its value replaced in its
+    /// place, and is not locked then.
+    ///
+    /// # Errors
+    ///
+    /// `NoApp`, `ValueTooLong`, `NotObjects`, `Full` and `OutOfMemory`, in this order. A refusal leaves
+    /// the builder as it was.
+    pub fn object(&mut self, tag: ObjectTag, value: &[u8]) -> Result<(), BuilderFault>
+        ensures ok { OnOk result (TakesObject tag value.now self.old
+            × (self.new ≡ with_last_entry tag value.now false self.old)) }
+        ensures err { IfErr result (RefusesObject tag value.now self.old) }
+        ensures stays { OnErr result (self.new ≡ self.old) }
+    {
+        add_to_last(&mut self.applications, tag, value, false)
+    }
+
+    /// Adds a data object that no command changes, as `object` adds one.
+    ///
+    /// # Errors
+    ///
+    /// Those of `object`, in the same order.
+    pub fn locked(&mut self, tag: ObjectTag, value: &[u8]) -> Result<(), BuilderFault>
+        ensures ok { OnOk result (TakesObject tag value.now self.old
+            × (self.new ≡ with_last_entry tag value.now true self.old)) }
+        ensures err { IfErr result (RefusesObject tag value.now self.old) }
+        ensures stays { OnErr result (self.new ≡ self.old) }
+    {
+        add_to_last(&mut self.applications, tag, value, true)
+    }
+
+    /// A card that holds these, with nothing selected and nothing pending. Its error is want of memory
+    /// for the chain, the only memory that it takes.
+    pub fn finish(self) -> Result<ObjectCard<A>, AllocError>
+        ensures { IfOk result (λ card. card ≡ new_card self) }
+    {
+        let CardBuilder {
+            alloc,
+            applications,
+        } = self;
+        let chain = Chain::with_room(alloc, VALUE_LIMIT)?;
+        Ok(ObjectCard::new(applications, chain))
+    }
+}
+
+/// Adds a data object to the last of the applications.
+fn add_to_last<A: Allocator + Copy>(
+    applications: &mut [Application<A>],
+    tag: ObjectTag,
+    value: &[u8],
+    locked: bool,
+) -> Result<(), BuilderFault>
+    ensures addressable { OnOk result (IsAddressable tag) }
+    ensures ok { OnOk result (TakesObject tag value.now (applications_of applications.old)
+        × (applications_of applications.new
+        ≡ with_last_entry tag value.now locked (applications_of applications.old))) }
+    ensures err { IfErr result (RefusesObject tag value.now (applications_of applications.old)) }
+    ensures stays { OnErr result (applications_of applications.new ≡ applications_of applications.old) }
+{
+    let Some(application) = applications.last_mut() else {
+        return Err(BuilderFault::NoApp);
+    };
+    add(application, tag, value, locked)
+}
+
+/// Adds a data object to the application.
+fn add<A: Allocator + Copy>(
+    application: &mut Application<A>,
+    tag: ObjectTag,
+    value: &[u8],
+    locked: bool,
+) -> Result<(), BuilderFault>
+    ensures addressable { OnOk result (IsAddressable tag) }
+    ensures aid { application.new.aid ≡ application.old.aid }
+    ensures ok { OnOk result (TakesEntry tag value.now application.old.entries
+        × (application.new.entries ≡ with_entry tag value.now locked application.old.entries)) }
+    ensures err { IfErr result (RefusesEntry tag value.now application.old.entries) }
+    ensures stays { OnErr result (application.new.entries ≡ application.old.entries) }
+{
+    if value.len() > VALUE_LIMIT {
+        return Err(BuilderFault::ValueTooLong);
+    }
+    if value_fault(tag.tag(), value).is_some() {
+        return Err(BuilderFault::NotObjects);
+    }
+    if application.find(tag).is_none() && application.len() >= ENTRY_LIMIT {
+        return Err(BuilderFault::Full);
+    }
+    let copy = application.copied(value)?;
+    application.make_room(tag)?;
+    application.store(tag, copy, locked);
+    Ok(())
+}

@@ -1,0 +1,203 @@
+ghost use Rattle.std.specs.Prelude.{◌≡◌, ◌⊎◌, map, refl, Some};
+ghost use Rattle.std.specs.Option.{option_map};
+ghost use Rattle.apdu_core.specs.Chaining.{idle};
+ghost use Rattle.object_card.specs.Builder.{new_card};
+ghost use Rattle.object_card.specs.Held.{applications_of};
+ghost use Rattle.object_card.specs.Refusals.{is_locked_among};
+ghost use Rattle.object_card.specs.Tables.{AreApplications, entries_in};
+
+use crate::aid::Aid;
+use crate::answering::sent;
+use crate::application::Application;
+use crate::data_card::DataCard;
+use crate::deciding::take_data;
+use crate::entries::{Apps, Entries};
+use crate::judging::{View, judged};
+use crate::limits::VALUE_LIMIT;
+use crate::ready::{Put, Ready};
+use crate::response::Response;
+use crate::settling::{give_up, settle, store};
+use crate::taking::find;
+use apdu_core::{Chain, Header, Status};
+use std::alloc::{Allocator, Global};
+use std::marker::Model;
+use t0_core::{TpduCard, Verdict};
+use tlv_core::ObjectTag;
+
+/// A card of data objects. Each application's objects stand in a map, in the order in which they were
+/// first stored, and a response is sent from where it stands.
+///
+/// `data` for the last PUT DATA of a chain takes memory, and no other call does; its want is the
+/// answer `6581`.
+#[derive(Drop)]
+pub struct ObjectCard<A: Allocator = Global> {
+    applications: Vec<Application<A>, A>,
+    selected: Option<usize>,
+    chain: Chain<A>,
+    response: Option<Response>,
+    ready: Ready,
+    put: Option<Put<A>>,
+}
+
+impl<A: Allocator> Model for ObjectCard<A> {
+    ghost use Rattle.std.specs.Option.{option_map};
+    ghost use Rattle.object_card.specs.CardView.{CardView, IsCard, view_of};
+
+    ghost Value = { CardView };
+
+    ghost view = { λ c. view_of c.applications.items c.selected c.chain c.response c.ready
+        (option_map (λ put. (put.tag, put.value.items)) c.put) };
+
+    ghost invariant = { λ c. IsCard c.applications.items c.selected c.chain c.response c.ready
+        (option_map (λ put. (put.tag, put.value.items)) c.put) };
+}
+
+impl<A: Allocator> ObjectCard<A> {
+    /// A card with these applications, nothing selected and nothing pending.
+    pub(crate) fn new(applications: Vec<Application<A>, A>, chain: Chain<A>) -> ObjectCard<A>
+        requires applications { AreApplications (applications_of applications.items) }
+        requires chain { chain ≡ idle VALUE_LIMIT }
+        ensures { result ≡ new_card (applications_of applications.items) }
+    {
+        ObjectCard {
+            applications,
+            selected: None,
+            chain,
+            response: None,
+            ready: Ready::Nothing,
+            put: None,
+        }
+    }
+
+    /// The identifier of the application that is selected.
+    pub fn selected(&self) -> Option<Aid>
+        ensures { result ≡ self.now.state.selected }
+    {
+        let place = self.selected?;
+        Some(self.applications[place].aid())
+    }
+
+    /// The identifiers of the applications, in the order in which they were added.
+    pub fn apps(&self) -> Apps<'_, A>
+        ensures { result ≡ map (λ a. a.aid) self.now.state.applications }
+    {
+        Apps::over(&self.applications)
+    }
+
+    /// The data objects of an application, in the order in which their tags were first stored; `None`
+    /// where there is no such application.
+    pub fn entries(&self, aid: &Aid) -> Option<Entries<'_, A>>
+        ensures { result ≡ option_map (λ entries. map (λ e. (e.tag, e.value)) entries)
+            (entries_in aid.now self.now.state.applications) }
+    {
+        let place = find(&self.applications, aid.bytes())?;
+        Some(Entries::of(&self.applications[place]))
+    }
+
+    /// Whether the application has a data object with this tag, and no command changes it.
+    pub fn is_locked(&self, aid: &Aid, tag: ObjectTag) -> bool
+        ensures { result ≡ is_locked_among (Some tag) (entries_in aid.now self.now.state.applications) }
+    {
+        match find(&self.applications, aid.bytes()) {
+            Some(place) => self.applications[place].is_locked(tag),
+            None => false,
+        }
+    }
+}
+
+impl<A: Allocator + Copy> TpduCard for ObjectCard<A> {
+    ghost use Rattle.object_card.specs.State.{CardState, after_reset};
+    ghost use Rattle.object_card.specs.CardMeaning.{Does};
+
+    ghost State = { CardState };
+
+    ghost standing = { λ card. card.state };
+
+    ghost Does = { Does };
+
+    ghost after_reset = { after_reset };
+
+    ghost MayReceive = { λ ins. (ins ≡ 0xA4) ⊎ (ins ≡ 0xDA) };
+
+    ghost MaySend = { λ ins. (ins ≡ 0xCA) ⊎ (ins ≡ 0xC0) };
+
+    ghost prepared = { λ card. card.prepared };
+
+    fn header(&mut self, header: Header, p3: u8, cut: u16) -> Verdict {
+        give_up(&mut self.chain, self.ready);
+        self.put = None;
+        let view = View {
+            applications: &self.applications,
+            selected: self.selected,
+            chain: &self.chain,
+            response: self.response,
+        };
+        let (verdict, ready) = judged(&view, header, p3, cut);
+        self.ready = ready;
+        verdict
+    }
+
+    fn data(&mut self, content: &[u8]) -> Status {
+        let taken = take_data(
+            &mut self.applications,
+            self.selected,
+            &mut self.chain,
+            self.response,
+            self.ready,
+            content,
+        );
+        self.ready = taken.ready;
+        self.put = taken.put;
+        taken.status
+    }
+
+    fn byte(&self, at: u16) -> u8 {
+        match self.ready {
+            Ready::Sends { response, .. } => response.byte(&self.applications, self.selected, at),
+            _ => unreachable!(),
+        }
+    }
+
+    fn end_of_sending(&mut self) -> Status {
+        let view = View {
+            applications: &self.applications,
+            selected: self.selected,
+            chain: &self.chain,
+            response: self.response,
+        };
+        let (ready, status) = sent(&view, self.ready);
+        self.ready = ready;
+        status
+    }
+
+    fn answered(&mut self) {
+        let ready = self.ready;
+        store(&mut self.applications, self.selected, self.put.take());
+        settle(&mut self.chain, ready);
+        self.selected = ready.selected_after(self.selected);
+        self.response = ready.response_after();
+        self.ready = Ready::Nothing;
+    }
+
+    fn reset(&mut self) {
+        self.chain.drop_all();
+        self.selected = None;
+        self.response = None;
+        self.ready = Ready::Nothing;
+        self.put = None;
+    }
+}
+
+impl<A: Allocator + Copy> DataCard for ObjectCard<A> {
+    ghost state = { λ card. card.state };
+
+    ghost means = { (λ state. state, λ card. refl, record { steps = λ old new cut tpdu does. does; resets = λ state. refl }) };
+
+    ghost receives = { λ ins. (λ h. h, λ h. h) };
+
+    ghost sends = { λ ins. (λ h. h, λ h. h) };
+
+    fn is_idle(&self) -> bool {
+        self.ready.stands_idle(self.chain.is_pending())
+    }
+}

@@ -1,0 +1,115 @@
+//! Laws of what commands do to a card one after another: of the tables that a history shows, of
+//! operations as they are carried out, and of what an exchange brings.
+ghost use Rattle.std.specs.Prelude.{◌≡◌, ℕ, ◌+◌, ◌≤◌, List, [], ◌∷◌, Some, None, length, true};
+ghost use Rattle.std.specs.List.{flat_map};
+ghost use Rattle.apdu_core.specs.StatusWord.{StatusWord, count, announces, corrects};
+ghost use Rattle.apdu_core.specs.Chaining.{IsPieces, chain_commands};
+ghost use Rattle.t0_core.specs.Meaning.{Tpdu};
+ghost use Rattle.t0_core.specs.Plan.{IsCut};
+ghost use Rattle.t0_core.specs.History.{Item, RunsOver};
+ghost use Rattle.tlv_core.specs.Address.{NamesTag};
+ghost use Rattle.object_card.specs.declared.limits.TheConstants.{VALUE_LIMIT, HEAD_LIMIT, RESPONSE_LIMIT};
+ghost use Rattle.object_card.specs.Tables.{IsAid};
+ghost use Rattle.object_card.specs.OneStep.{Operation, Select, Get, Put, Reply, Answers, SameTables};
+ghost use Rattle.object_card.specs.State.{CardState, IsCardState, NothingPending, is_idle, waiting, after_reset};
+ghost use Rattle.object_card.specs.CardMeaning.{Does};
+ghost use Rattle.object_card.specs.DataCard.{StandsFor};
+ghost use Rattle.object_card.specs.CarryingOut.{select_header, get_header, put_header, get_response, Carries, EndsWith, AreFetches, FetchAll, IsFetched, IsCarriedOut};
+ghost use Rattle.object_card.specs.ShownPuts.{shown_puts, with_puts};
+
+use crate::DataCard;
+
+/// However a terminal uses a card, its tables are the first ones with the puts applied that the
+/// history shows, in order, and with no other change. So a chain that is given up, a data field
+/// that does not end, and a reset between the two status characters change no entry.
+pub fn the_tables_are_those_of_the_shown_puts()
+    ensures { (first last : CardState) (items : List Item) → first.selected ≡ None →
+        first.pending ≡ NothingPending → RunsOver Does after_reset first items last →
+        last.applications ≡ with_puts (shown_puts items) first.applications }
+{}
+
+/// So it is with any card of data objects, by what its own states stand for.
+pub fn so_are_those_of_any_card<C: DataCard>()
+    ensures { (state_of : C.State → CardState) → StandsFor C.Does C.after_reset state_of →
+        (first last : C.State) (items : List Item) → (state_of first).selected ≡ None →
+        (state_of first).pending ≡ NothingPending → RunsOver C.Does C.after_reset first items last →
+        (state_of last).applications ≡ with_puts (shown_puts items) (state_of first).applications }
+{}
+
+/// What is pending is no matter to an operation: cards with the same tables give the same answer,
+/// and have then the same tables.
+pub fn an_answer_does_not_hang_on_what_is_pending()
+    ensures { (a b a' : CardState) (operation : Operation) (answer : Reply) → SameTables a b →
+        Answers a operation answer a' → (b' : CardState) × Answers b operation answer b'
+        × SameTables a' b' }
+{}
+
+/// The commands that carry a value, a TPDU each under any cuts, up to the first that is answered
+/// with another status than `9000`, are the put of the value in one step, and end with no chain
+/// pending.
+pub fn the_commands_of_a_value_put_it()
+    ensures { (old new : CardState) (tag value : List ℕ) (p1 p2 : ℕ) (pieces : List (List ℕ))
+        (status : StatusWord) →
+        is_idle old.pending ≡ true → NamesTag tag p1 p2 → IsPieces value pieces →
+        EndsWith old (chain_commands (put_header p1 p2) pieces) new status →
+        IsCarriedOut old (Put tag value) status [] new }
+{}
+
+/// A SELECT, and GET RESPONSE for all that is announced, each time under any cut, select in one
+/// step.
+pub fn a_select_with_its_fetches_selects()
+    ensures { (old mid new : CardState) (cut : ℕ) (aid : List ℕ) (t : Tpdu) (fetches : List Tpdu)
+        (last : StatusWord) →
+        is_idle old.pending ≡ true → IsAid aid → IsCut cut → Carries select_header aid t →
+        Does old cut t mid → FetchAll mid t.status fetches last new →
+        IsCarriedOut old (Select aid) last (flat_map (λ t. t.received) (t ∷ fetches)) new }
+{}
+
+/// A GET DATA, again with the count that a `6CXX` tells, and GET RESPONSE for all that is
+/// announced, each time under any cut, get the object in one step.
+pub fn a_get_with_its_fetches_gets()
+    ensures once { (old mid new : CardState) (tag : List ℕ) (p1 p2 cut : ℕ) (t : Tpdu)
+        (fetches : List Tpdu) (last : StatusWord) →
+        is_idle old.pending ≡ true → NamesTag tag p1 p2 → t.header ≡ get_header p1 p2 → IsCut cut →
+        Does old cut t mid → corrects t.status ≡ None → FetchAll mid t.status fetches last new →
+        IsCarriedOut old (Get tag) last (flat_map (λ t. t.received) (t ∷ fetches)) new }
+    ensures again { (old next mid new : CardState) (tag : List ℕ) (p1 p2 before cut n : ℕ)
+        (t u : Tpdu) (fetches : List Tpdu) (last : StatusWord) →
+        is_idle old.pending ≡ true → NamesTag tag p1 p2 → t.header ≡ get_header p1 p2 →
+        Does old before t next → corrects t.status ≡ Some n → u.header ≡ get_header p1 p2 →
+        count u.p3 ≡ n → IsCut cut → Does next cut u mid → FetchAll mid u.status fetches last new →
+        IsCarriedOut old (Get tag) last (flat_map (λ t. t.received) (t ∷ u ∷ fetches)) new }
+{}
+
+/// What `61XX` announces waits, and a GET RESPONSE for no more than what waits brings as many bytes
+/// as its P3 counts. So one that the card announced brings data, without a `6CXX`, and no exchange
+/// stalls.
+pub fn what_is_announced_is_brought()
+    ensures waits { (old new : CardState) (cut n : ℕ) (t : Tpdu) → Does old cut t new → IsCut cut →
+        announces t.status ≡ Some n → (1 ≤ n) × (n ≤ length (waiting new.pending)) }
+    ensures fetched { (old new : CardState) (cut : ℕ) (t : Tpdu) → Does old cut t new →
+        t.header ≡ get_response → count t.p3 ≤ length (waiting old.pending) →
+        IsFetched old cut t new }
+    ensures brought { (old mid new : CardState) (cut next n : ℕ) (t fetch : Tpdu) →
+        Does old cut t mid → IsCut cut → announces t.status ≡ Some n → Does mid next fetch new →
+        fetch.header ≡ get_response → count fetch.p3 ≤ n → (1 ≤ length fetch.received)
+        × (length fetch.received ≡ count fetch.p3) × (corrects fetch.status ≡ None) }
+{}
+
+/// No exchange brings more than a terminal gathers: what a TPDU brings and what then waits are at
+/// most a value with its tag and length, `6CXX` comes without data, and each GET RESPONSE brings of
+/// what waits. There is room for the data of one more TPDU.
+pub fn an_exchange_brings_no_more_than_is_gathered()
+    ensures first { (old new : CardState) (cut : ℕ) (t : Tpdu) → Does old cut t new →
+        IsCardState old →
+        length t.received + length (waiting new.pending) ≤ VALUE_LIMIT + HEAD_LIMIT }
+    ensures corrected { (old new : CardState) (cut n : ℕ) (t : Tpdu) → Does old cut t new →
+        corrects t.status ≡ Some n → t.received ≡ [] }
+    ensures fetch { (old new : CardState) (cut : ℕ) (t : Tpdu) → Does old cut t new →
+        t.header ≡ get_response →
+        length t.received + length (waiting new.pending) ≤ length (waiting old.pending) }
+    ensures whole { (old mid new : CardState) (cut : ℕ) (t : Tpdu) (fetches : List Tpdu) →
+        IsCardState old → Does old cut t mid → AreFetches mid fetches new →
+        length (flat_map (λ t. t.received) (t ∷ fetches)) ≤ VALUE_LIMIT + HEAD_LIMIT }
+    ensures room { VALUE_LIMIT + HEAD_LIMIT + 256 ≤ RESPONSE_LIMIT }
+{}

@@ -1,0 +1,117 @@
+//! A response, as a place in what the card holds.
+ghost use Rattle.std.specs.Prelude.{◌≡◌, ◌+◌, ◌<◌, ◌≤◌, ◌++◌, length, take, slice_get, Some, None, IfSome};
+ghost use Rattle.object_card.specs.OneStep.{control_information};
+ghost use Rattle.object_card.specs.Held.{IsResponse, IsWhole, entries_at, left_of, value_at};
+
+use crate::aid::Aid;
+use crate::application::Application;
+use std::alloc::Allocator;
+
+/// The most bytes that stand before a value, or of the file control information.
+const ROOM: usize = 20;
+
+/// A response, or what is left of one: bytes of its own, the place of the value that follows them among
+/// the data objects of the application selected, if one does, and how many bytes are sent.
+#[derive(Clone, Copy, Debug)]
+pub struct Response {
+    front: [u8; 20],
+    len: usize,
+    value: Option<usize>,
+    sent: usize,
+}
+
+impl Response {
+    /// The file control information of an application, whole.
+    pub(crate) fn information(aid: Aid) -> Response
+        ensures { IsWhole result (control_information aid) None }
+    {
+        let bytes = aid.bytes();
+        let len = bytes.len() as u8;
+        Response::new(&[0x6F, len + 2, 0x84, len], bytes, None)
+    }
+
+    /// The data object whose tag and length these are, and whose value stands at this place, whole.
+    pub(crate) fn object(head: &[u8], place: usize) -> Response
+        requires { length head.now ≤ 20 }
+        ensures { IsWhole result head.now (Some place) }
+    {
+        Response::new(head, &[], Some(place))
+    }
+
+    fn new(first: &[u8], second: &[u8], value: Option<usize>) -> Response
+        requires { length first.now + length second.now ≤ 20 }
+        ensures { IsWhole result (first.now ++ second.now) value }
+    {
+        let mut front = [0; ROOM];
+        let len = first.len() + second.len();
+        front[..first.len()].copy_from_slice(first);
+        front[first.len()..len].copy_from_slice(second);
+        Response {
+            front,
+            len,
+            value,
+            sent: 0,
+        }
+    }
+
+    /// What is left when so many more bytes are sent.
+    pub(crate) fn after(self, count: usize) -> Response
+        requires { self.sent + count < 65536 }
+        ensures { result ≡ record self { sent = self.sent + count } }
+    {
+        Response {
+            sent: self.sent + count,
+            ..self
+        }
+    }
+
+    /// How many bytes are left.
+    pub(crate) fn left<A: Allocator>(
+        self,
+        applications: &[Application<A>],
+        selected: Option<usize>,
+    ) -> usize
+        requires selected { IfSome selected (λ place. place < length applications.now) }
+        requires response { IsResponse (entries_at applications.now selected) self }
+        ensures { result ≡ length (left_of (entries_at applications.now selected) self) }
+    {
+        self.len + self.value(applications, selected).len() - self.sent
+    }
+
+    /// The byte at this place among those left.
+    pub(crate) fn byte<A: Allocator>(
+        self,
+        applications: &[Application<A>],
+        selected: Option<usize>,
+        at: u16,
+    ) -> u8
+        requires selected { IfSome selected (λ place. place < length applications.now) }
+        requires response { IsResponse (entries_at applications.now selected) self }
+        requires within { at < length (left_of (entries_at applications.now selected) self) }
+        ensures { slice_get (left_of (entries_at applications.now selected) self) at ≡ Some result }
+    {
+        let value = self.value(applications, selected);
+        let place = self.sent + at as usize;
+        if place < self.len {
+            self.front[place]
+        } else {
+            value[place - self.len]
+        }
+    }
+
+    /// The value that follows the front.
+    fn value<'a, A: Allocator>(
+        self,
+        applications: &'a [Application<A>],
+        selected: Option<usize>,
+    ) -> &'a [u8]
+        requires selected { IfSome selected (λ place. place < length applications.now) }
+        requires value { IfSome self.value (λ place. place < length (entries_at applications.now selected)) }
+        ensures { result.now ≡ value_at (entries_at applications.now selected) self.value }
+    {
+        match (selected, self.value) {
+            (Some(application), Some(place)) => applications[application].value(place),
+            _ => &[],
+        }
+    }
+}

@@ -1,0 +1,593 @@
+-- What follows the end of a dialogue of an exchange: it is repeated, or more is fetched, or the
+-- exchange is over or has stalled.
+use Rattle.std.proofs.Common.{◌≡◌, ℕ, ◌+◌, ◌<◌, List, [], ◌∷◌, ◌++◌, length, take, drop, refl, sym, subst, ◌∙◌, ap, arith, inl, inr, ◌⊎◌, true, false, not, ◌&&◌, ◌==◌, Bool, Option, Some, None, is_some, append-nil, length-append, lit<, if◌then◌else◌, eq-eqb}
+use Rattle.std.specs.List.{AllByRecursion, flat_map}
+use Rattle.std.proofs.lemmas.List.{take-append-drop}
+use Rattle.std.proofs.lemmas.Bool.{eqb-true, and_parts}
+use Rattle.apdu_core.specs.declared.header.Header.{Header}
+use Rattle.apdu_core.specs.StatusWord.{StatusWord, count, corrects}
+use Rattle.apdu_core.specs.CommandBytes.{Command}
+use Rattle.t0_core.specs.declared.end.End.TheVariants.{Card}
+use Rattle.t0_core.specs.declared.host_end.HostTurn.TheVariants.{Done}
+use Rattle.t0_core.specs.declared.direction.Direction.{Direction}
+use Rattle.t0_core.specs.declared.direction.Direction.TheVariants.{ToCard, FromCard}
+use Rattle.t0_core.specs.Dialogue.{Dialogue, IsDialogue}
+use Rattle.t0_core.specs.Meaning.{received}
+use Rattle.t0_core.specs.Front.{Front, In_header, In_body, After_first, Ends, IsFront, brought, fresh}
+use Rattle.t0_core.specs.DialogueLaws.{flat_map_last, all_more}
+use Rattle.t0_core.specs.Room.{Room}
+use Rattle.t0_core.specs.HostSide.{Hosting, AreOwn, IsOpenedBy, HostStandsAt, turn_of, IsRequest}
+use Rattle.t0_core.specs.HostLaws.{opened}
+use Rattle.card_terminal.specs.declared.wanted.Wanted.{Wanted}
+use Rattle.card_terminal.specs.declared.attempt.Attempt.{Attempt}
+use Rattle.card_terminal.specs.declared.attempt.Next.{Next}
+use Rattle.card_terminal.specs.declared.attempt.Next.TheVariants as next
+use Rattle.card_terminal.specs.Gathered.{Asks, SendsFrom, get_response, wanted_by, less, wants_at_least, correction_of, repeated_with, after_dialogue, after_unit, fetched_after, Opening, By_command, By_fetch, OpensWith, UnitOf, Single, first_of, last_of, unit_data, IsUnit, BringsSome, IsOpenExchange}
+use Rattle.card_terminal.specs.Attempts.{again_with, next_by, following, repetition, fetch}
+use Rattle.card_terminal.specs.ExchangeSide.{ExchangeOf, HostAsks, HostSends, HostOpens, HostOpensBy, IsOpenedAs, UnderWay, IsOver, Stall, Continues, so_far, begun_with, ended_with, asks_card, is_fetch}
+use Rattle.card_terminal.proofs.UnitLemmas.{followed_left, one_more, less_less, unit_ends, unit_goes_on, unit_dialogues, unit_data_received, ended_data, gathered_parts, received_of}
+
+-- ---- the dialogue that has ended
+
+-- it is one that the end opened, and has brought what the front had
+abbrev pub IsEnded : Hosting → Front → Dialogue → Type 0
+IsEnded host front d = IsOpenedBy host d.body × IsDialogue d × (received d ≡ brought front)
+
+pub ended_at : (host : Hosting) (front : Front) (byte : ℕ) (d : Dialogue)
+    → HostStandsAt host front → IsFront front → Ends front (Card, byte) d → IsEnded host front d
+ended_at host (In_header bytes) byte d stands is ends = absurd ends
+ended_at host (In_body b) byte d stands is ends = absurd ends
+ended_at host (After_first b sw1) byte d stands is ends =
+    let Ended : Dialogue → Type 0 = λ e. IsEnded host (After_first b sw1) e in
+    subst Ended (sym ends.2) (
+      opened host (After_first b sw1) stands,
+      record {
+        moved_by_segments = is.1;
+        is_status = (is.2.0, ends.1);
+        only_nulls =
+            is.0.only_nulls;
+      },
+      received_of b (sw1, byte),
+    )
+
+-- it opens or repeats what the end opened
+asks_as : (h : Header) (n : ℕ) (host : Hosting) (d : Dialogue) → HostAsks h n host
+    → IsOpenedBy host d.body → Asks h n d
+asks_as h n host d asks by =
+    let Byte : ℕ → Type 0 = λ p. p < 256 in
+    record {
+      header_is = by.0 ∙ asks.header_is;
+      from_card = by.2
+          ∙ asks.from_card;
+      counts = ap count by.1
+          ∙ asks.counts;
+      is_byte = subst Byte (sym by.1) asks.is_byte;
+    }
+
+sends_as : (h : Header) (content : List ℕ) (host : Hosting) (d : Dialogue)
+    → HostSends h content host → IsOpenedBy host d.body → SendsFrom h content d
+sends_as h content host d sends by =
+    let moved = d.body.moved in
+    let Own : Direction → Type 0 = λ direction. AreOwn direction host.content moved in
+    let own : moved ≡ take (length moved) host.content = subst Own sends.to_card by.3 in
+    record {
+      header_is = by.0 ∙ sends.header_is;
+      to_card = by.2 ∙ sends.to_card;
+      counts = by.1 ∙ sends.counts;
+      sends = (
+        drop (length moved) host.content,
+        sym sends.has ∙ sym (take-append-drop (length moved) host.content)
+            ∙ ap (λ bs. bs ++ drop (length moved) host.content) (sym own),
+      );
+    }
+
+opens_by : (h : Header) (content : List ℕ) (le : Option ℕ) (host : Hosting) (d : Dialogue)
+    → HostOpensBy h content le host → IsOpenedBy host d.body
+    → OpensWith (By_command (record { header = h; content = content; le = le })) d
+opens_by h [] None host d opens by = sends_as h [] host d opens by
+opens_by h [] (Some n) host d opens by = asks_as h n host d opens by
+opens_by h (b ∷ bs) le host d opens by = sends_as h (b ∷ bs) host d opens by
+
+opens_as : (opening : Opening) (host : Hosting) (d : Dialogue) → HostOpens opening host
+    → IsOpenedBy host d.body → OpensWith opening d
+opens_as (By_command c) host d opens by = opens_by c.header c.content c.le host d opens by
+opens_as (By_fetch n) host d opens by = asks_as get_response n host d opens by
+
+pub unit_opens : (opening : Opening) (left : Wanted) (first : Option Dialogue) (host : Hosting)
+    (d : Dialogue) → IsOpenedAs opening left first host → IsOpenedBy host d.body
+    → OpensWith opening (first_of (ended_with first d))
+unit_opens opening left None host d opens by = opens_as opening host d opens by
+unit_opens opening left (Some e) host d opens by = opens.0
+
+-- ---- what is gathered, and what is still wanted
+
+pub all_gathered : (c : Command) (ex : ExchangeOf) (units : List UnitOf)
+    (first : Option Dialogue) (front : Front) (d : Dialogue) → UnderWay c ex units first front
+    → received d ≡ brought front
+    → ex.gather.bytes ≡ flat_map received (so_far units first ++ d ∷ [])
+all_gathered c ex units first front d under is =
+    under.gathered ∙ ap (λ ds. flat_map received (so_far units first) ++ ds) (sym is)
+    ∙ sym (flat_map_last received (so_far units first) d)
+
+unit_gathered : (c : Command) (ex : ExchangeOf) (units : List UnitOf) (first : Option Dialogue)
+    (front : Front) (d : Dialogue) → UnderWay c ex units first front → received d ≡ brought front
+    → length ex.gather.bytes
+    ≡ length (flat_map unit_data units) + length (unit_data (ended_with first d))
+unit_gathered c ex units first front d under is =
+    ap length (under.gathered ∙ ap (λ ds. flat_map received (so_far units first) ++ ds) (sym is)
+    ∙ gathered_parts units first (received d))
+    ∙ length-append (flat_map unit_data units) (flat_map received (begun_with first) ++ received d)
+    ∙ ap (λ ds. length (flat_map unit_data units) + length ds) (sym (ended_data first d))
+
+pub still_wanted : (c : Command) (ex : ExchangeOf) (units : List UnitOf)
+    (first : Option Dialogue) (front : Front) (d : Dialogue)
+    (under : UnderWay c ex units first front) → received d ≡ brought front
+    → less ex.wanted (length ex.gather.bytes) ≡ after_unit under.left (ended_with first d)
+still_wanted c ex units first front d under is =
+    ap (λ w. less w (length ex.gather.bytes)) under.wanted_is
+    ∙ ap (less (wanted_by c.le)) (unit_gathered c ex units first front d under is)
+    ∙ sym (less_less (wanted_by c.le) (length (flat_map unit_data units))
+    (length (unit_data (ended_with first d))))
+    ∙ ap (λ w. after_unit w (ended_with first d))
+    (sym (followed_left (By_command c)
+    (wanted_by c.le) units under.opening under.left under.followed))
+
+-- ---- whether it is repeated
+
+never_again : (asks w : Bool) → (asks && not true && w) ≡ false
+never_again true w = refl
+never_again false w = refl
+
+again_as : (a : Attempt) (direction : Direction) (left : Wanted) (corrected : Option ℕ)
+    → a.asks ≡ asks_card direction → a.repeats ≡ false
+    → again_with a left corrected ≡ correction_of direction left corrected
+again_as a ToCard left None asks once = refl
+again_as a ToCard left (Some n) asks once = rw asks refl
+again_as a FromCard left None asks once = refl
+again_as a FromCard left (Some n) asks once = rw (asks, once) refl
+
+again_once : (a : Attempt) (left : Wanted) (corrected : Option ℕ) → a.repeats ≡ true
+    → again_with a left corrected ≡ None
+again_once a left None again = refl
+again_once a left (Some n) again = rw (again, never_again a.asks (wants_at_least n left)) refl
+
+-- the count of a repetition, which a repetition has not
+abbrev pub again_of : Option Dialogue → Option ℕ → Option ℕ
+again_of None corrected = corrected
+again_of (Some e) corrected = None
+
+same_left : (left : Wanted) (d : Dialogue) → after_unit left (Single d) ≡ after_dialogue left d
+same_left left d = ap (λ ds. less left (length ds)) (append-nil (received d))
+
+again_is : (a : Attempt) (left now : Wanted) (first : Option Dialogue) (d : Dialogue)
+    → now ≡ after_unit left (ended_with first d) → a.asks ≡ asks_card d.body.direction
+    → a.repeats ≡ is_some first
+    → again_with a now (corrects d.status) ≡ again_of first (repeated_with left d)
+again_is a left now None d is asks once =
+    again_as a d.body.direction now (corrects d.status) asks once
+    ∙ ap (λ w. correction_of d.body.direction w (corrects d.status)) (is ∙ same_left left d)
+again_is a left now (Some e) d is asks again = again_once a now (corrects d.status) again
+
+-- where it is not, the unit is whole
+pub unit_is : (opening : Opening) (left : Wanted) (first : Option Dialogue) (host : Hosting)
+    (d : Dialogue) → IsOpenedAs opening left first host → IsOpenedBy host d.body
+    → again_of first (repeated_with left d) ≡ None → IsUnit left (ended_with first d)
+unit_is opening left None host d opens by none = none
+unit_is opening left (Some e) host d opens by none =
+    (opens.1, opens.2, asks_as e.body.header opens.1 host d opens.3 by)
+
+last_is : (first : Option Dialogue) (d : Dialogue) → last_of (ended_with first d) ≡ d
+last_is None d = refl
+last_is (Some e) d = refl
+
+-- ---- what is known at the end of a dialogue
+
+pub record AtEnd (c : Command) (ex : ExchangeOf) (units : List UnitOf) (first : Option Dialogue)
+    (front : Front) (d : Dialogue) (under : UnderWay c ex units first front) : Type 0 where
+  pub by : IsOpenedBy ex.host d.body
+  pub are_dialogues : AllByRecursion IsDialogue (so_far units first ++ d ∷ [])
+  pub opens : OpensWith under.opening (first_of (ended_with first d))
+  pub gathered : ex.gather.bytes ≡ flat_map received (so_far units first ++ d ∷ [])
+  pub number : length ex.gather.bytes
+      ≡ length (flat_map unit_data units) + length (unit_data (ended_with first d))
+  pub left : less ex.wanted (length ex.gather.bytes) ≡ after_unit under.left (ended_with first d)
+  pub again : again_with ex.attempt (less ex.wanted (length ex.gather.bytes))
+      (corrects d.status) ≡ again_of first (repeated_with under.left d)
+  pub fetched : fetched_after (less ex.wanted (length ex.gather.bytes)) d.status
+      ≡ fetched_after (after_unit under.left (ended_with first d))
+      (last_of (ended_with first d)).status
+
+pub at_end : (c : Command) (ex : ExchangeOf) (units : List UnitOf) (first : Option Dialogue)
+    (front : Front) (byte : ℕ) (d : Dialogue) (under : UnderWay c ex units first front)
+    → Ends front (Card, byte) d → AtEnd c ex units first front d under
+at_end c ex units first front byte d under ends =
+    let ended = ended_at ex.host front byte d under.stands under.is_front ends in
+    let left = still_wanted c ex units first front d under ended.2 in
+    record {
+      by = ended.0;
+      are_dialogues = all_more IsDialogue (so_far units first) d under.are_dialogues ended.1;
+      opens = unit_opens under.opening under.left first ex.host d under.opened_as ended.0;
+      gathered = all_gathered c ex units first front d under ended.2;
+      number = unit_gathered c ex units first front d under ended.2;
+      left = left;
+      again = again_is ex.attempt under.left (less ex.wanted (length ex.gather.bytes)) first d
+          left (under.place.asks_is ∙ ap asks_card (sym ended.0.2)) under.place.repeats_is;
+      fetched = ap (λ w. fetched_after w d.status) left
+          ∙ ap (λ e. fetched_after (after_unit under.left (ended_with first d)) e.status)
+          (sym (last_is first d));
+    }
+
+-- ---- what the attempt says
+
+pub some_or_none : {A : Type 0} (o : Option A) → (o ≡ None) ⊎ ((x : A) × (o ≡ Some x))
+some_or_none None = inl refl
+some_or_none (Some x) = inr (x, refl)
+
+-- a repetition, or a fetch
+abbrev pub IsAsked : Attempt → ℕ → Option ℕ → Option ℕ → Attempt → ℕ → Type 0
+IsAsked a gathered again fetched attempt n =
+    ((again ≡ Some n) × (attempt ≡ repetition a))
+    ⊎ ((again ≡ None) × (fetched ≡ Some n) × (attempt ≡ fetch a gathered)
+    × ((a.fetches && gathered == a.before) ≡ false))
+
+fetch_asked : (v : Bool) (a : Attempt) (gathered n : ℕ) (attempt : Attempt) (m : ℕ)
+    → (if v then next.Stalls else next.Asks (fetch a gathered) n) ≡ next.Asks attempt m
+    → (v ≡ false) × (n ≡ m) × (attempt ≡ fetch a gathered)
+fetch_asked true a gathered n attempt m e = absurd (cc)
+fetch_asked false a gathered n attempt m e = (refl, cc, cc)
+
+pub asked_is : (a : Attempt) (gathered : ℕ) (again fetched : Option ℕ) (attempt : Attempt)
+    (n : ℕ) → next_by a gathered again fetched ≡ next.Asks attempt n
+    → IsAsked a gathered again fetched attempt n
+asked_is a gathered (Some m) fetched attempt n e = inl (cc, cc)
+asked_is a gathered None None attempt n e = absurd (cc)
+asked_is a gathered None (Some m) attempt n e =
+    let asked = fetch_asked (a.fetches && gathered == a.before) a gathered m attempt n e in
+    inr (refl, ap Some asked.1, asked.2, asked.0)
+
+stall_is_when : (v : Bool) (attempt : Attempt) (n : ℕ)
+    → (if v then next.Stalls else next.Asks attempt n) ≡ next.Stalls → v ≡ true
+stall_is_when true attempt n e = refl
+stall_is_when false attempt n e = absurd (cc)
+
+pub stall_is : (a : Attempt) (gathered : ℕ) (again fetched : Option ℕ)
+    → next_by a gathered again fetched ≡ next.Stalls
+    → (again ≡ None) × ((a.fetches && gathered == a.before) ≡ true) × ((n : ℕ) × (fetched ≡ Some n))
+stall_is a gathered (Some m) fetched e = absurd (cc)
+stall_is a gathered None None e = absurd (cc)
+stall_is a gathered None (Some m) e =
+    (refl, stall_is_when (a.fetches && gathered == a.before) (fetch a gathered) m e, (m, refl))
+
+end_is_when : (v : Bool) (attempt : Attempt) (n : ℕ)
+    → (if v then next.Stalls else next.Asks attempt n) ≡ next.Ends → ⊥
+end_is_when true attempt n e = absurd (cc)
+end_is_when false attempt n e = absurd (cc)
+
+pub end_is : (a : Attempt) (gathered : ℕ) (again fetched : Option ℕ)
+    → next_by a gathered again fetched ≡ next.Ends → (again ≡ None) × (fetched ≡ None)
+end_is a gathered (Some m) fetched e = absurd (cc)
+end_is a gathered None None e = (refl, refl)
+end_is a gathered None (Some m) e =
+    absurd (end_is_when (a.fetches && gathered == a.before) (fetch a gathered) m e)
+
+-- ---- and the exchange after it
+
+abbrev pub next_exchange : ExchangeOf → Hosting → Attempt → ExchangeOf
+next_exchange ex host attempt =
+    record {
+      host = host;
+      gather = ex.gather;
+      attempt = attempt;
+      wanted = ex.wanted;
+      stalled =
+          ex.stalled;
+    }
+
+-- the first dialogue of a unit is repeated
+none_is_first : (first : Option Dialogue) (corrected : Option ℕ) (n : ℕ)
+    → again_of first corrected ≡ Some n → (first ≡ None) × (corrected ≡ Some n)
+none_is_first None corrected n e = (refl, e)
+none_is_first (Some d) corrected n e = absurd (cc)
+
+repeats_first : (c : Command) (ex : ExchangeOf) (host : Hosting) (units : List UnitOf)
+    (front : Front) (d : Dialogue) (n : ℕ) (under : UnderWay c ex units None front)
+    → AtEnd c ex units None front d under → repeated_with under.left d ≡ Some n
+    → HostAsks ex.attempt.header n host → HostStandsAt host fresh → IsRequest host
+    → UnderWay c (next_exchange ex host (repetition ex.attempt)) units (Some d) fresh
+repeats_first c ex host units front d n under end corrected asks stands request =
+    let more = unit_goes_on units d in
+    let Are : List Dialogue → Type 0 = λ ds. AllByRecursion IsDialogue ds in
+    let Header : Header → Type 0 = λ h. HostAsks h n host in
+    let header : ex.attempt.header ≡ d.body.header = under.place.header_is ∙ sym end.by.0 in
+    record {
+      opening = under.opening;
+      left = under.left;
+      followed = under.followed;
+      are_dialogues = subst Are (sym more) end.are_dialogues;
+      opened_as = (end.opens, n, corrected, subst Header header asks);
+      place = record {
+        header_is = sym asks.header_is;
+        asks_is = under.place.asks_is
+            ∙ ap asks_card (sym end.by.2 ∙ from_the_card d n under.left corrected
+            ∙ sym asks.from_card);
+        fetches_is = under.place.fetches_is;
+        repeats_is = refl;
+        before_is = under.place.before_is;
+        number_is = ap (λ k. k + 1)
+            (under.place.number_is ∙ sym (length-append (so_far units None) (d ∷ []))
+            ∙ ap length (sym more));
+      };
+      stands = stands;
+      request = request;
+      is_front = lit< tt;
+      gathered = end.gathered ∙ ap (flat_map received) (sym more)
+          ∙ sym (append-nil (flat_map received (so_far units (Some d))));
+      room = under.room;
+      wanted_is = under.wanted_is;
+      going = under.going;
+    }
+  where
+    by_card : (direction : Direction) (left : Wanted) (corrected : Option ℕ) (n : ℕ)
+        → correction_of direction left corrected ≡ Some n → direction ≡ FromCard
+    by_card ToCard left corrected n e = absurd (cc)
+    by_card FromCard left corrected n e = refl
+
+    from_the_card : (d : Dialogue) (n : ℕ) (left : Wanted) → repeated_with left d ≡ Some n
+        → d.body.direction ≡ FromCard
+    from_the_card d n left e = by_card d.body.direction (after_dialogue left d)
+        (corrects d.status) n e
+
+pub repeats : (c : Command) (ex : ExchangeOf) (host : Hosting) (units : List UnitOf)
+    (first : Option Dialogue) (front : Front) (d : Dialogue) (n : ℕ)
+    (under : UnderWay c ex units first front)
+    → AtEnd c ex units first front d under → again_of first (repeated_with under.left d) ≡ Some n
+    → HostAsks ex.attempt.header n host → HostStandsAt host fresh → IsRequest host
+    → (first ≡ None) × UnderWay c (next_exchange ex host (repetition ex.attempt)) units (Some d)
+    fresh
+repeats c ex host units None front d n under end again asks stands request =
+    (refl, repeats_first c ex host units front d n under end again asks stands request)
+repeats c ex host units (Some e) front d n under end again asks stands request = absurd (cc)
+
+-- more is fetched
+some_brought : (opening : Opening) (u : UnitOf) (a : Attempt) (gathered before : ℕ)
+    → a.fetches ≡ is_fetch opening → a.before ≡ before → gathered ≡ before + length (unit_data u)
+    → (a.fetches && gathered == a.before) ≡ false → BringsSome opening u
+some_brought (By_command c) u a gathered before fetches begun number not_stalled = tt
+some_brought (By_fetch n) u a gathered before fetches begun number not_stalled = λ none.
+    let same : gathered ≡ a.before = omega (arith, number, begun, ap length none) in
+    let both : (a.fetches && gathered == a.before) ≡ true =
+    rw (fetches, eq-eqb gathered a.before same) refl in
+    absurd (cc)
+
+pub fetches : (c : Command) (ex : ExchangeOf) (host : Hosting) (units : List UnitOf)
+    (first : Option Dialogue) (front : Front) (d : Dialogue) (n : ℕ)
+    (under : UnderWay c ex units first front)
+    → AtEnd c ex units first front d under → again_of first (repeated_with under.left d) ≡ None
+    → fetched_after (after_unit under.left (ended_with first d))
+    (last_of (ended_with first d)).status ≡ Some n
+    → (ex.attempt.fetches && length ex.gather.bytes == ex.attempt.before) ≡ false
+    → HostAsks get_response n host → HostStandsAt host fresh → IsRequest host
+    → UnderWay c (next_exchange ex host (fetch ex.attempt (length ex.gather.bytes)))
+    (units ++ ended_with first d ∷ []) None fresh
+fetches c ex host units first front d n under end none fetched not_stalled asks stands request =
+    let u = ended_with first d in
+    let more = unit_ends units first d in
+    let Are : List Dialogue → Type 0 = λ ds. AllByRecursion IsDialogue ds in
+    record {
+      opening = By_fetch n;
+      left = after_unit under.left u;
+      followed = one_more (By_command c)
+          (wanted_by c.le) units under.opening under.left u n under.followed (record {
+            opens = end.opens;
+            is_unit = unit_is under.opening under.left first ex.host d under.opened_as end.by none;
+            brings = some_brought under.opening u ex.attempt (length ex.gather.bytes)
+                (length (flat_map unit_data units)) under.place.fetches_is under.place.before_is
+                end.number not_stalled;
+            fetched = fetched;
+          });
+      are_dialogues = subst Are (sym more) end.are_dialogues;
+      opened_as = asks;
+      place = record {
+        header_is = sym asks.header_is;
+        asks_is = ap asks_card (sym asks.from_card);
+        fetches_is = refl;
+        repeats_is = refl;
+        before_is = end.number ∙ sym (length-append (flat_map unit_data units) (unit_data u))
+            ∙ ap length (sym (flat_map_last unit_data units u));
+        number_is = ap (λ k. k + 1)
+            (under.place.number_is ∙ sym (length-append (so_far units first) (d ∷ []))
+            ∙ ap length (sym more));
+      };
+      stands = stands;
+      request = request;
+      is_front = lit< tt;
+      gathered = end.gathered ∙ ap (flat_map received) (sym more)
+          ∙ sym (append-nil (flat_map received (so_far (units ++ u ∷ []) None)));
+      room = under.room;
+      wanted_is = under.wanted_is;
+      going = under.going;
+    }
+
+-- the units are those of an open exchange
+pub is_open : (c : Command) (ex : ExchangeOf) (units : List UnitOf) (first : Option Dialogue)
+    (front : Front) (d : Dialogue) (under : UnderWay c ex units first front)
+    → AtEnd c ex units first front d under → again_of first (repeated_with under.left d) ≡ None
+    → IsOpenExchange c (units ++ ended_with first d ∷ [])
+is_open c ex units first front d under end none = record {
+  before = units;
+  last = ended_with first d;
+  opening = under.opening;
+  left = under.left;
+  units_are = refl;
+  followed = under.followed;
+  opens = end.opens;
+  is_unit = unit_is under.opening under.left first ex.host d under.opened_as end.by none;
+}
+
+-- the exchange is over
+pub is_over : (c : Command) (ex : ExchangeOf) (host : Hosting) (units : List UnitOf)
+    (first : Option Dialogue) (front : Front) (d : Dialogue)
+    (under : UnderWay c ex units first front)
+    → AtEnd c ex units first front d under → again_of first (repeated_with under.left d) ≡ None
+    → fetched_after (after_unit under.left (ended_with first d))
+    (last_of (ended_with first d)).status ≡ None → turn_of host ≡ Done d.status
+    → IsOver c (next_exchange ex host ex.attempt) (units ++ ended_with first d ∷ []) d.status
+unfolding is_open
+is_over c ex host units first front d under end none fetched done =
+    let u = ended_with first d in
+    let Are : List Dialogue → Type 0 = λ ds. AllByRecursion IsDialogue ds in
+    record {
+      gathers = record {
+        is_open = is_open c ex units first front d under end none;
+        ends = fetched;
+        status_is = ap (λ (e : Dialogue). e.status) (sym (last_is first d));
+        gathered_is = end.gathered ∙ ap (flat_map received) (sym (unit_dialogues units first d))
+            ∙ sym (unit_data_received (units ++ u ∷ []));
+      };
+      are_dialogues = subst Are (sym (unit_dialogues units first d)) end.are_dialogues;
+      done = done;
+      going = under.going;
+    }
+
+-- it has stalled
+no_command_stalls : (opening : Opening) (a : Attempt) (v : Bool) → a.fetches ≡ is_fetch opening
+    → (a.fetches && v) ≡ true → (n : ℕ) × (opening ≡ By_fetch n)
+no_command_stalls (By_command c) a v fetches both = let first = (and_parts a.fetches v both).0 in
+    let no : false ≡ true = sym fetches ∙ first in absurd (cc)
+no_command_stalls (By_fetch n) a v fetches both = (n, refl)
+
+none_when_short : (bytes : List ℕ) → length bytes ≡ 0 → bytes ≡ []
+none_when_short [] e = refl
+none_when_short (b ∷ bytes) e = absurd (omega (arith, e))
+
+pub stalls : (c : Command) (ex : ExchangeOf) (units : List UnitOf) (first : Option Dialogue)
+    (front : Front) (d : Dialogue) (n : ℕ) (under : UnderWay c ex units first front)
+    → AtEnd c ex units first front d under → again_of first (repeated_with under.left d) ≡ None
+    → fetched_after (after_unit under.left (ended_with first d))
+    (last_of (ended_with first d)).status ≡ Some n
+    → (ex.attempt.fetches && length ex.gather.bytes == ex.attempt.before) ≡ true
+    → Stall c (units ++ ended_with first d ∷ [])
+unfolding is_open
+stalls c ex units first front d n under end none fetched stalled =
+    let fetch = no_command_stalls under.opening ex.attempt
+    (length ex.gather.bytes == ex.attempt.before) under.place.fetches_is stalled in
+    let same = eqb-true (length ex.gather.bytes) ex.attempt.before
+    (and_parts ex.attempt.fetches (length ex.gather.bytes == ex.attempt.before) stalled).1 in
+    record {
+      is_open = is_open c ex units first front d under end none;
+      asked = fetch.0;
+      more = n;
+      is_fetch = fetch.1;
+      brought_none = none_when_short (unit_data (ended_with first d))
+          (omega (arith, end.number, same, under.place.before_is));
+      announces = fetched;
+    }
+
+-- ---- in the terms of the code
+
+pub follows_as : (c : Command) (ex : ExchangeOf) (units : List UnitOf) (first : Option Dialogue)
+    (front : Front) (d : Dialogue) (under : UnderWay c ex units first front)
+    → AtEnd c ex units first front d under
+    → (gathered : ℕ) (left : Wanted) (status : StatusWord) (after : Next)
+    → after ≡ following ex.attempt gathered left status
+    → gathered ≡ length ex.gather.bytes → left ≡ less ex.wanted gathered → status ≡ d.status
+    → after ≡ next_by ex.attempt (length ex.gather.bytes)
+    (again_of first (repeated_with under.left d))
+    (fetched_after (after_unit under.left (ended_with first d))
+    (last_of (ended_with first d)).status)
+follows_as c ex units first front d under end gathered left status after is number left_is
+    status_is =
+    let a = ex.attempt in
+    let n = length ex.gather.bytes in
+    let w = less ex.wanted n in
+    is ∙ ap (λ k. following a k left status) number
+    ∙ ap (λ v. following a n v status) (left_is ∙ ap (less ex.wanted) number)
+    ∙ ap (following a n w) status_is
+    ∙ ap (λ r. next_by a n r (fetched_after w d.status)) end.again
+    ∙ ap (next_by a n (again_of first (repeated_with under.left d))) end.fetched
+
+abbrev pub taken_on : ExchangeOf → Hosting → Room → Attempt → ExchangeOf
+taken_on ex host gather attempt =
+    record {
+      host = host;
+      gather = gather;
+      attempt = attempt;
+      wanted = ex.wanted;
+      stalled =
+          ex.stalled;
+    }
+
+as_taken : (ex : ExchangeOf) (host : Hosting) (gather : Room) (attempt asked : Attempt)
+    (P : ExchangeOf → Type 0) → gather ≡ ex.gather → attempt ≡ asked
+    → P (next_exchange ex host asked) → P (taken_on ex host gather attempt)
+as_taken ex host gather attempt asked P room same holds =
+    let A : Attempt → Type 0 = λ a. P (next_exchange ex host a) in
+    let G : Room → Type 0 = λ r. P (taken_on ex host r attempt) in
+    subst G (sym room) (subst A (sym same) holds)
+
+as_asked : (attempt asked : Attempt) (n : ℕ) (host : Hosting) → attempt ≡ asked
+    → HostAsks attempt.header n host → HostAsks asked.header n host
+as_asked attempt asked n host same asks = let A : Attempt
+    → Type 0 = λ a. HostAsks a.header n host in subst A same asks
+
+pub asks_next : (c : Command) (ex : ExchangeOf) (units : List UnitOf) (first : Option Dialogue)
+    (front : Front) (d : Dialogue) (under : UnderWay c ex units first front)
+    (end : AtEnd c ex units first front d under) (host : Hosting) (gather : Room)
+    (attempt : Attempt) (n : ℕ) → gather ≡ ex.gather
+    → next.Asks attempt n ≡ next_by ex.attempt (length ex.gather.bytes)
+    (again_of first (repeated_with under.left d))
+    (fetched_after (after_unit under.left (ended_with first d))
+    (last_of (ended_with first d)).status)
+    → HostAsks attempt.header n host → HostStandsAt host fresh → IsRequest host
+    → Continues c (taken_on ex host gather attempt) units first d
+asks_next c ex units first front d under end host gather attempt n room is asks stands request =
+    elim (asked_is ex.attempt (length ex.gather.bytes) _ _ attempt n (sym is)) [
+      | inl again ↦
+          let next = repeats c ex host units first front d n under end again.0
+          (as_asked attempt (repetition ex.attempt) n host again.1 asks) stands request in
+          let P : ExchangeOf → Type 0 = λ e. UnderWay c e units (Some d) fresh in
+          inl (
+            next.0,
+            as_taken ex host gather attempt (repetition ex.attempt) P room again.1
+                next.1,
+          )
+      | inr more ↦
+          let asked = fetch ex.attempt (length ex.gather.bytes) in
+          let P : ExchangeOf → Type 0 =
+          λ e. UnderWay c e (units ++ ended_with first d ∷ []) None fresh in
+          inr (inl (as_taken ex host gather attempt asked P room more.2
+          (fetches c ex host units first front d n under end more.0 more.1 more.3
+          (as_asked attempt asked n host more.2 asks) stands request)))
+    ]
+
+pub ends_over : (c : Command) (ex : ExchangeOf) (units : List UnitOf) (first : Option Dialogue)
+    (front : Front) (d : Dialogue) (under : UnderWay c ex units first front)
+    (end : AtEnd c ex units first front d under) (host : Hosting) (gather : Room)
+    → gather ≡ ex.gather
+    → next.Ends ≡ next_by ex.attempt (length ex.gather.bytes)
+    (again_of first (repeated_with under.left d))
+    (fetched_after (after_unit under.left (ended_with first d))
+    (last_of (ended_with first d)).status)
+    → turn_of host ≡ Done d.status → Continues c (taken_on ex host gather ex.attempt) units first d
+ends_over c ex units first front d under end host gather room is done =
+    let over = end_is ex.attempt (length ex.gather.bytes) _ _ (sym is) in
+    let P : ExchangeOf → Type 0 = λ e. IsOver c e (units ++ ended_with first d ∷ []) d.status in
+    inr (inr (as_taken ex host gather ex.attempt ex.attempt P room refl
+    (is_over c ex host units first front d under end over.0 over.1 done)))
+
+pub ends_stalled : (c : Command) (ex : ExchangeOf) (units : List UnitOf)
+    (first : Option Dialogue) (front : Front) (d : Dialogue)
+    (under : UnderWay c ex units first front)
+    (end : AtEnd c ex units first front d under)
+    → next.Stalls ≡ next_by ex.attempt (length ex.gather.bytes)
+    (again_of first (repeated_with under.left d))
+    (fetched_after (after_unit under.left (ended_with first d))
+    (last_of (ended_with first d)).status)
+    → Stall c (units ++ ended_with first d ∷ [])
+ends_stalled c ex units first front d under end is =
+    let stall = stall_is ex.attempt (length ex.gather.bytes) _ _ (sym is) in
+    stalls c ex units first front d stall.2.0 under end stall.0 stall.2.1 stall.1
+
+-- a status that was told is the one of the turn
+pub same_status : (a b : StatusWord) → Some a ≡ Some b → a ≡ b
+same_status a b e = cc

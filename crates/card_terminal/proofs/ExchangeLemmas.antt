@@ -1,0 +1,166 @@
+-- An exchange goes through the dialogues of its units.
+use Rattle.std.proofs.Common.{◌≡◌, ℕ, ◌<◌, List, [], ◌∷◌, ◌++◌, refl, sym, subst, ◌∙◌, ap, inl, inr, Option, Some, None, false, if◌then◌else◌}
+use Rattle.std.specs.List.{flat_map}
+use Rattle.apdu_core.specs.declared.header.Header.{Header}
+use Rattle.apdu_core.specs.StatusWord.{count}
+use Rattle.apdu_core.specs.CommandBytes.{Command}
+use Rattle.t0_core.specs.declared.end.End.{End}
+use Rattle.t0_core.specs.declared.end.End.TheVariants.{Terminal, Card}
+use Rattle.t0_core.specs.declared.direction.Direction.{Direction}
+use Rattle.t0_core.specs.declared.direction.Direction.TheVariants.{ToCard, FromCard}
+use Rattle.t0_core.specs.declared.host_end.HostTurn.{HostTurn}
+use Rattle.t0_core.specs.declared.host_end.HostTurn.TheVariants.{Failed}
+use Rattle.t0_core.specs.Dialogue.{Dialogue, data_sender}
+use Rattle.t0_core.specs.Meaning.{received}
+use Rattle.t0_core.specs.Front.{Front, In_header, In_body, After_first, GoesOn, brought, from_card}
+use Rattle.t0_core.specs.FrontLaws.{goes_on}
+use Rattle.t0_core.specs.Room.{Room}
+use Rattle.t0_core.specs.HostSide.{Hosting, HostStandsAt, turn_of, IsRequest}
+use Rattle.card_terminal.specs.declared.wanted.Wanted.{Wanted}
+use Rattle.card_terminal.specs.declared.attempt.Attempt.{Attempt}
+use Rattle.card_terminal.specs.Gathered.{get_response, Opening, By_command, By_fetch, UnitOf}
+use Rattle.card_terminal.specs.ExchangeSide.{ExchangeOf, HostAsks, HostSends, HostOpens, HostOpensBy, IsOpenedAs, IsPlaceOf, UnderWay, so_far, asks_card, exchange_turn}
+
+-- what an end opened its TPDU with stays
+pub record IsSameRequest (old new : Hosting) : Type 0 where
+  pub header : new.header ≡ old.header
+  pub p3 : new.p3 ≡ old.p3
+  pub direction : new.direction ≡ old.direction
+  pub content : new.content ≡ old.content
+
+same_asks : (h : Header) (n : ℕ) (old new : Hosting) → IsSameRequest old new → HostAsks h n old
+    → HostAsks h n new
+same_asks h n old new same asks =
+    let Byte : ℕ → Type 0 = λ p. p < 256 in
+    record {
+      header_is = same.header ∙ asks.header_is;
+      from_card = same.direction
+          ∙ asks.from_card;
+      counts = ap count same.p3
+          ∙ asks.counts;
+      is_byte = subst Byte (sym same.p3) asks.is_byte;
+    }
+
+same_sends : (h : Header) (content : List ℕ) (old new : Hosting) → IsSameRequest old new
+    → HostSends h content old → HostSends h content new
+same_sends h content old new same sends =
+    record {
+      header_is = same.header ∙ sends.header_is;
+      to_card = same.direction
+          ∙ sends.to_card;
+      counts = same.p3 ∙ sends.counts;
+      has = same.content ∙ sends.has;
+    }
+
+same_opens : (h : Header) (content : List ℕ) (le : Option ℕ) (old new : Hosting)
+    → IsSameRequest old new → HostOpensBy h content le old → HostOpensBy h content le new
+same_opens h [] None old new same opens = same_sends h [] old new same opens
+same_opens h [] (Some n) old new same opens = same_asks h n old new same opens
+same_opens h (b ∷ bs) le old new same opens = same_sends h (b ∷ bs) old new same opens
+
+same_opening : (opening : Opening) (old new : Hosting) → IsSameRequest old new
+    → HostOpens opening old → HostOpens opening new
+same_opening (By_command c) old new same opens =
+    same_opens c.header c.content c.le old new same opens
+same_opening (By_fetch n) old new same opens = same_asks get_response n old new same opens
+
+pub opened_too : (opening : Opening) (left : Wanted) (first : Option Dialogue)
+    (old new : Hosting) → IsSameRequest old new → IsOpenedAs opening left first old
+    → IsOpenedAs opening left first new
+opened_too opening left None old new same opens = same_opening opening old new same opens
+opened_too opening left (Some d) old new same opens =
+    (opens.0, opens.1, opens.2, same_asks d.body.header opens.1 old new same opens.3)
+
+pub place_too : (a : Attempt) (opening : Opening) (units : List UnitOf) (first : Option Dialogue)
+    (old new : Hosting) → IsSameRequest old new → IsPlaceOf a opening units first old
+    → IsPlaceOf a opening units first new
+place_too a opening units first old new same place = record {
+  header_is = place.header_is ∙ sym same.header;
+  asks_is = place.asks_is ∙ ap asks_card (sym same.direction);
+  fetches_is = place.fetches_is;
+  repeats_is = place.repeats_is;
+  before_is = place.before_is;
+  number_is = place.number_is;
+}
+
+-- the terminal's characters bring no data
+terminal_is_no_card : Terminal ≡ Card → ⊥
+terminal_is_no_card e = absurd (cc)
+
+header_brings_nothing : (direction : Direction) → from_card direction [] ≡ []
+header_brings_nothing ToCard = refl
+header_brings_nothing FromCard = refl
+
+sent_brings_nothing : (direction : Direction) (moved : List ℕ) (byte : ℕ)
+    → Terminal ≡ data_sender direction
+    → from_card direction (moved ++ byte ∷ []) ≡ from_card direction moved
+sent_brings_nothing ToCard moved byte sender = refl
+sent_brings_nothing FromCard moved byte sender = absurd (terminal_is_no_card sender)
+
+pub terminal_brings_nothing : (front new : Front) (byte : ℕ) → GoesOn front (Terminal, byte) new
+    → brought new ≡ brought front
+terminal_brings_nothing (In_header bytes) new byte (from, inl (short, new_is)) = rw new_is refl
+terminal_brings_nothing (In_header bytes) new byte (from, inr (h, direction, bytes_is, new_is)) =
+    rw new_is (header_brings_nothing direction)
+terminal_brings_nothing (In_body b) new byte (inl (lt, sender, new_is)) =
+    rw new_is (sent_brings_nothing b.direction b.moved byte sender)
+terminal_brings_nothing (In_body b) new byte (inr (inl (between, sender, begins))) =
+    absurd (terminal_is_no_card sender)
+terminal_brings_nothing (In_body b) new byte (inr (inr (between, sender, status, new_is))) =
+    absurd (terminal_is_no_card sender)
+terminal_brings_nothing (After_first b sw1) new byte goes = absurd goes
+
+abbrev pub with_host : ExchangeOf → Hosting → Room → ExchangeOf
+with_host ex host gather =
+    record {
+      host = host;
+      gather = gather;
+      attempt = ex.attempt;
+      wanted = ex.wanted;
+      stalled =
+          ex.stalled;
+    }
+
+-- a character takes the dialogue under way on
+pub goes_further : (c : Command) (ex : ExchangeOf) (host : Hosting) (gather : Room)
+    (units : List UnitOf) (first : Option Dialogue) (front new : Front) (ch : End × ℕ)
+    → IsSameRequest ex.host host → IsRequest host → gather.limit ≡ ex.gather.limit
+    → UnderWay c ex units first front → GoesOn front ch new → HostStandsAt host new
+    → gather.bytes ≡ flat_map received (so_far units first) ++ brought new
+    → UnderWay c (with_host ex host gather) units first new
+goes_further c ex host gather units first front new ch same request limit under goes stands
+    gathered = record {
+      opening = under.opening;
+      left = under.left;
+      followed = under.followed;
+      are_dialogues = under.are_dialogues;
+      opened_as = opened_too under.opening under.left first ex.host host same under.opened_as;
+      place = place_too ex.attempt under.opening units first ex.host host same under.place;
+      stands = stands;
+      request = request;
+      is_front = (goes_on front new ch under.is_front goes).0;
+      gathered = gathered;
+      room = limit ∙ under.room;
+      wanted_is = under.wanted_is;
+      going = under.going;
+    }
+
+-- the exchange as it is seen
+pub seen_under_way : (c : Command) (ex seen : ExchangeOf) (units : List UnitOf)
+    (first : Option Dialogue) (front : Front) → ex ≡ seen → UnderWay c seen units first front
+    → UnderWay c ex units first front
+seen_under_way c ex seen units first front is under = let P : ExchangeOf
+    → Type 0 = λ e. UnderWay c e units first front in subst P (sym is) under
+
+-- an exchange that has not stalled does what its end does
+pub told : (ex seen : ExchangeOf) (turn : HostTurn) → ex ≡ seen → ex.stalled ≡ false
+    → exchange_turn seen ≡ turn → turn_of ex.host ≡ turn
+told ex seen turn is going does =
+    let P : ExchangeOf → Type 0 = λ e. exchange_turn e ≡ turn in
+    ap (λ b. if b then Failed else turn_of ex.host) (sym going) ∙ subst P (sym is) does
+
+pub tells : (ex seen : ExchangeOf) (turn : HostTurn) → ex ≡ seen → ex.stalled ≡ false
+    → turn_of ex.host ≡ turn → exchange_turn seen ≡ turn
+tells ex seen turn is going does =
+    let P : ExchangeOf → Type 0 = λ e. exchange_turn e ≡ turn in
+    subst P is (ap (λ b. if b then Failed else turn_of ex.host) going ∙ does)

@@ -1,0 +1,17 @@
+pub mod UnitLemmas
+pub mod ExchangeLemmas
+pub mod EndLemmas
+pub mod SessionLemmas
+pub mod LeadsLemmas
+pub mod PrefixLemmas
+pub mod FetchLemmas
+pub mod SelectLemmas
+pub mod GetLemmas
+pub mod PutTalkLemmas
+pub mod TalkLemmas
+pub mod BoundLemmas
+pub mod TalkListLemmas
+pub mod ObjectLemmas
+mod Vectors
+pub mod TalkVectors
+pub mod WholeLemmas

@@ -1,0 +1,173 @@
+-- The commands of a put, an exchange each, are the put in one step.
+use Rattle.std.proofs.Common.{◌≡◌, ◌≢◌, ℕ, ◌-◌, List, [], ◌∷◌, ◌++◌, length, Option, Some, None, ◌⊎◌, inl, inr, refl, sym, ap, subst, ◌∙◌, arith, append-nil}
+use Rattle.std.specs.List.{flat_map}
+use Rattle.std.proofs.lemmas.Bool.Decides.{eqb_tells}
+use Rattle.apdu_core.specs.declared.header.Header.{Header}
+use Rattle.apdu_core.specs.StatusWord.{StatusWord, ok, announces, corrects}
+use Rattle.apdu_core.specs.CommandBytes.{Command}
+use Rattle.apdu_core.specs.Chaining.{with_more, link, chain_commands}
+use Rattle.t0_core.specs.Dialogue.{Dialogue}
+use Rattle.t0_core.specs.Meaning.{tpdu_of, received}
+use Rattle.object_card.specs.State.{CardState}
+use Rattle.object_card.specs.OneStep.{Reply}
+use Rattle.object_card.specs.CardMeaning.{Does}
+use Rattle.object_card.specs.CarryingOut.{Carries, IsAnswered, EndsWith, all_taken, stopped}
+use Rattle.card_terminal.specs.declared.wanted.Wanted.{Wanted}
+use Rattle.card_terminal.specs.declared.wanted.Wanted.TheVariants.{Bytes}
+use Rattle.card_terminal.specs.Gathered.{UnitOf, Single, Repeated, Opening, By_command, Opens, OpensWith, SendsFrom, Gathers, first_of, last_of, dialogues_of, unit_data, after_dialogue, less, fetched_of, correction_of, IsUnit, AreFollowed}
+use Rattle.card_terminal.specs.Talk.{AreExchangesOf, talk_dialogues}
+use Rattle.card_terminal.proofs.FetchLemmas.{Goes, goes_apart, sent_data, received_none}
+
+-- a command without Le wants nothing, and nothing is fetched after it
+none_wanted : (k : ℕ) (v : Option ℕ) → fetched_of (less (Bytes 0) k) v ≡ None
+none_wanted k None = refl
+none_wanted k (Some n) = let e : 0 - k ≡ 0 = omega arith in rw e refl
+
+sends_piece : (h : Header) (piece : List ℕ) (d : Dialogue) → Opens (link h piece) d
+    → SendsFrom h piece d
+sends_piece h [] d opens = opens
+sends_piece h (b ∷ piece) d opens = opens
+
+-- its exchange is one dialogue
+record IsAlone (h : Header) (piece : List ℕ) (units : List UnitOf) (content : List ℕ)
+    (status : StatusWord) (d : Dialogue) : Type 0 where
+  units_are : units ≡ Single d ∷ []
+  sends : SendsFrom h piece d
+  none : content ≡ []
+  status_is : status ≡ d.status
+
+alone : (h : Header) (piece : List ℕ) (units : List UnitOf) (content : List ℕ) (status : StatusWord)
+    → Gathers (link h piece) units content status
+    → (d : Dialogue) × IsAlone h piece units content status d
+alone h piece units content status g =
+    by g.is_open.before g.is_open.last g.is_open.opening g.is_open.left g.is_open.followed
+    g.is_open.opens g.is_open.is_unit g.is_open.units_are g.status_is
+  where
+    last_unit : (left : Wanted) (u : UnitOf) → SendsFrom h piece (first_of u) → IsUnit left u
+        → units ≡ u ∷ [] → status ≡ (last_of u).status
+        → (d : Dialogue) × IsAlone h piece units content status d
+    last_unit left (Single d) sends is_unit units_are status_is = (
+      d,
+      record {
+        units_are = units_are;
+        sends = sends;
+        none = g.gathered_is ∙ ap (λ us. flat_map unit_data us) units_are
+            ∙ append-nil (received d ++ []) ∙ append-nil (received d)
+            ∙ received_none d sends.to_card;
+        status_is = status_is;
+      },
+    )
+    last_unit left (Repeated d e) sends is_unit units_are status_is =
+        let no : Some is_unit.0 ≡ None =
+        sym is_unit.1 ∙ ap (λ v. correction_of v (after_dialogue left d) (corrects d.status))
+        sends.to_card in absurd (cc)
+
+    by : (before : List UnitOf) (last : UnitOf) (opening : Opening) (left : Wanted)
+        → AreFollowed (By_command (link h piece)) (Bytes 0) before opening left
+        → OpensWith opening (first_of last) → IsUnit left last → units ≡ before ++ last ∷ []
+        → status ≡ (last_of last).status
+        → (d : Dialogue) × IsAlone h piece units content status d
+    by [] last opening left followed opens is_unit units_are status_is =
+        last_unit left last (sends_piece h piece (first_of last)
+        (subst (λ o. OpensWith o (first_of last)) followed.0 opens)) is_unit units_are status_is
+    by (u ∷ before) last opening left (n, is, followed) opens is_unit units_are status_is =
+        let no : Some n ≡ None =
+        sym is.fetched ∙ none_wanted (length (unit_data u)) (announces (last_of u).status) in
+        absurd (cc)
+
+answered_by : (h : Header) (piece : List ℕ) (units : List UnitOf) (content : List ℕ)
+    (status : StatusWord) (old new : CardState)
+    → Gathers (link h piece) units content status → Goes old (flat_map dialogues_of units) new
+    → IsAnswered old (link h piece) status new × (content ≡ [])
+answered_by h piece units content status old new g goes =
+    let (d, is) = alone h piece units content status g in
+    let (cut, mid, is_cut, does, last) =
+    subst (λ us. Goes old (flat_map dialogues_of us) new) is.units_are goes in
+    let carries : Carries h piece (tpdu_of d) = record {
+      header_is = is.sends.header_is;
+      counts = is.sends.counts;
+      takes = (
+        is.sends.sends.0,
+        is.sends.sends.1
+            ∙ ap (λ bs. bs ++ is.sends.sends.0) (sym (sent_data d is.sends.to_card)),
+      );
+    } in (
+      (
+        cut,
+        tpdu_of d,
+        carries,
+        sym is.status_is,
+        subst (λ s. Does old cut (tpdu_of d) s) (sym last)
+            does,
+      ),
+      is.none,
+    )
+
+-- one more command at the front
+taken_first : (old mid new : CardState) (c : Command) (commands : List Command)
+    (status : StatusWord) → IsAnswered old c ok mid
+    → EndsWith mid commands new status → EndsWith old (c ∷ commands) new status
+taken_first old mid new c commands status answered (all_taken taken) =
+    all_taken (mid, answered, taken)
+taken_first old mid new c commands status answered
+    (stopped before other after last end split taken refused not_ok) =
+    stopped (c ∷ before) other after last end (ap (λ cs. c ∷ cs) split) (mid, answered, taken)
+    refused not_ok
+
+is_ok_or_not : (status : StatusWord) → (status ≡ ok) ⊎ (status ≢ ok)
+is_ok_or_not status = elim (eqb_tells status.0 0x90) [
+  | inl first ↦ elim (eqb_tells status.1 0x00) [
+    | inl second ↦ inl (ap (λ a. (a, status.1)) first.1 ∙ ap (λ b. (0x90, b)) second.1)
+    | inr other ↦ inr (λ e. other.1 (ap (λ (s : StatusWord). s.1) e))
+  ]
+  | inr other ↦ inr (λ e. other.1 (ap (λ (s : StatusWord). s.0) e))
+]
+
+-- the last command of a chain, and one that is answered otherwise than 9000
+ends_here : (old new : CardState) (c : Command) (commands : List Command) (status : StatusWord)
+    → IsAnswered old c status new
+    → (commands ≡ []) ⊎ (status ≢ ok) → EndsWith old (c ∷ commands) new status
+ends_here old new c commands status answered (inr other) =
+    stopped [] c commands old status refl refl answered other
+ends_here old new c commands status answered (inl none) =
+    let Ends : List Command → Type 0 = λ cs. EndsWith old (c ∷ cs) new status in
+    subst Ends (sym none) (elim (is_ok_or_not status) [
+      | inl fine ↦ subst (λ s. EndsWith old (c ∷ []) new s) (sym fine)
+          (all_taken (new, subst (λ s. IsAnswered old c s new) fine answered, refl))
+      | inr other ↦ stopped [] c [] old status refl refl answered other
+    ])
+
+-- The exchanges of a chain's commands: how they end, and that they bring no data.
+pub chain_ends : (h : Header) (pieces : List (List ℕ)) (exchanges : List (List UnitOf))
+    (answer : Reply) (old new : CardState)
+    → AreExchangesOf (chain_commands h pieces) exchanges answer
+    → Goes old (talk_dialogues exchanges) new
+    → EndsWith old (chain_commands h pieces) new answer.status × (answer.content ≡ [])
+chain_ends h [] exchanges answer old new are goes = absurd are
+chain_ends h (last ∷ []) [] answer old new are goes = absurd are
+chain_ends h (last ∷ []) (units ∷ []) answer old new are goes =
+    let (answered, none) =
+    answered_by h last units answer.content answer.status old new are.0
+    (subst (λ ds. Goes old ds new) (append-nil (flat_map dialogues_of units)) goes) in
+    (ends_here old new (link h last) [] answer.status answered are.1, none)
+chain_ends h (last ∷ []) (units ∷ next ∷ exchanges) answer old new are goes = absurd are.2
+chain_ends h (piece ∷ second ∷ others) [] answer old new are goes = absurd are
+chain_ends h (piece ∷ second ∷ others) (units ∷ []) answer old new are goes =
+    let (answered, none) =
+    answered_by (with_more h) piece units answer.content answer.status old new are.0
+    (subst (λ ds. Goes old ds new) (append-nil (flat_map dialogues_of units)) goes) in (
+      ends_here old new (link (with_more h) piece) (chain_commands h (second ∷ others)) answer.status
+          answered are.1,
+      none,
+    )
+chain_ends h (piece ∷ second ∷ others) (units ∷ next ∷ exchanges) answer old new
+    (brought, gathers, are) goes =
+    let (mid, first, rest) =
+    goes_apart old new (flat_map dialogues_of units) (talk_dialogues (next ∷ exchanges)) goes in
+    let (answered, none) = answered_by (with_more h) piece units brought ok old mid gathers first in
+    let (ends, none_then) =
+    chain_ends h (second ∷ others) (next ∷ exchanges) answer mid new are rest in (
+      taken_first old mid new (link (with_more h) piece) (chain_commands h (second ∷ others))
+          answer.status answered ends,
+      none_then,
+    )

@@ -1,0 +1,177 @@
+-- A talk of an operation is its answer in one step.
+use Rattle.std.proofs.Common.{◌≡◌, ℕ, List, [], ◌∷◌, arith, true, refl, sym, ap, subst, ◌∙◌, append-nil}
+use Rattle.std.specs.List.{flat_map}
+use Rattle.apdu_core.specs.CommandBytes.{Command}
+use Rattle.apdu_core.specs.Chaining.{IsPieces, chain_commands}
+use Rattle.t0_core.specs.Character.{Character}
+use Rattle.t0_core.specs.Meaning.{Tpdu, Runs}
+use Rattle.t0_core.specs.Plan.{Course}
+use Rattle.tlv_core.specs.Address.{NamesTag}
+use Rattle.object_card.specs.Tables.{IsAid}
+use Rattle.object_card.specs.State.{CardState, IsCardState, is_idle}
+use Rattle.object_card.specs.OneStep.{Operation, Select, Get, Put, Reply, Answers, SameTables, AnswersAll}
+use Rattle.object_card.specs.DataCard.{StandsFor}
+use Rattle.object_card.specs.CardMeaning.{Does}
+use Rattle.object_card.specs.CarryingOut.{put_header}
+use Rattle.object_card.specs.PutRunLaws.{chain_is_put}
+use Rattle.object_card.specs.AnswerLaws.{answers_alike}
+use Rattle.object_card.specs.TagLaws.{named}
+use Rattle.card_terminal.specs.Gathered.{UnitOf, Single, Opens, Gathers, first_of, dialogues_of, IsUnit}
+use Rattle.card_terminal.specs.declared.wanted.Wanted.TheVariants.{Everything}
+use Rattle.card_terminal.specs.Talk.{AreExchangesOf, IsTalkOf, AreTalksOf, Talk, talk_dialogues, select_command, get_command, HaveCuts}
+use Rattle.card_terminal.proofs.FetchLemmas.{Goes, goes_by_runs, goes_apart, goes_sound, begun, IsOneStep, Rest, sent_once, same_reply}
+use Rattle.card_terminal.proofs.SelectLemmas.{select_answers}
+use Rattle.card_terminal.proofs.GetLemmas.{get_answers}
+use Rattle.card_terminal.proofs.TalkListLemmas.{talk_stands}
+use Rattle.card_terminal.proofs.PutTalkLemmas.{chain_ends}
+
+-- one command has one exchange
+one_exchange : (c : Command) (exchanges : List (List UnitOf)) (answer : Reply)
+    → AreExchangesOf (c ∷ []) exchanges answer
+    → (units : List UnitOf) × (exchanges ≡ units ∷ [])
+    × Gathers c units answer.content answer.status
+one_exchange c [] answer are = absurd are
+one_exchange c (units ∷ []) answer are = (units, refl, are.0)
+one_exchange c (units ∷ next ∷ exchanges) answer are = absurd are.2
+
+one_goes : (old new : CardState) (units : List UnitOf) (exchanges : List (List UnitOf))
+    → exchanges ≡ units ∷ [] → Goes old (talk_dialogues exchanges) new
+    → Goes old (flat_map dialogues_of units) new
+one_goes old new units exchanges is goes =
+    subst (λ ds. Goes old ds new) (append-nil (flat_map dialogues_of units))
+    (subst (λ es. Goes old (talk_dialogues es) new) is goes)
+
+-- a command that wants everything, from its first unit on
+select_unit : (old mid new : CardState) (aid : List ℕ) (u : UnitOf) (answer : Reply)
+    → is_idle old.pending ≡ true → IsAid aid
+    → Opens (select_command aid) (first_of u) → IsUnit Everything u → Goes old (dialogues_of u) mid
+    → Rest u mid new answer.content answer.status
+    → IsOneStep old (Select aid) answer new
+select_unit old mid new [] u answer idle is_aid opens is_unit goes rest =
+    absurd (omega (arith, is_aid.0))
+select_unit old mid new (b ∷ bytes) u answer idle is_aid opens is_unit goes rest =
+    let Begins : UnitOf → Type 0 = λ v. Goes old (dialogues_of v) mid
+    × Rest v mid new answer.content answer.status in
+    let once : Begins (Single (first_of u)) =
+    subst Begins (sent_once u opens.to_card is_unit) (goes, rest) in
+    select_answers old mid new (b ∷ bytes) (first_of u) answer.content answer.status idle is_aid
+    opens once.0 once.1
+
+select_talk : (old new : CardState) (aid : List ℕ) (exchanges : List (List UnitOf)) (answer : Reply)
+    → is_idle old.pending ≡ true → IsAid aid
+    → AreExchangesOf (select_command aid ∷ []) exchanges answer
+    → Goes old (talk_dialogues exchanges) new → IsOneStep old (Select aid) answer new
+select_talk old new aid exchanges answer idle is_aid are goes =
+    let (units, only, gathers) = one_exchange (select_command aid) exchanges answer are in
+    let (u, mid, b) = begun (select_command aid).header aid units answer.content answer.status old
+    new gathers (one_goes old new units exchanges only goes) in
+    select_unit old mid new aid u answer idle is_aid b.opens b.is_unit b.goes b.rest
+
+get_talk : (old new : CardState) (tag : List ℕ) (p1 p2 : ℕ) (exchanges : List (List UnitOf))
+    (answer : Reply) → is_idle old.pending ≡ true → NamesTag tag p1 p2
+    → AreExchangesOf (get_command p1 p2 ∷ []) exchanges answer
+    → Goes old (talk_dialogues exchanges) new → IsOneStep old (Get tag) answer new
+get_talk old new tag p1 p2 exchanges answer idle names are goes =
+    let (units, only, gathers) = one_exchange (get_command p1 p2) exchanges answer are in
+    let (u, mid, b) = begun (get_command p1 p2).header [] units answer.content answer.status old new
+    gathers (one_goes old new units exchanges only goes) in
+    get_answers old mid new tag p1 p2 u answer.content answer.status idle (named tag p1 p2 names)
+    b.opens b.is_unit b.goes b.rest
+
+put_talk : (old new : CardState) (tag value : List ℕ) (p1 p2 : ℕ) (pieces : List (List ℕ))
+    (exchanges : List (List UnitOf)) (answer : Reply) → is_idle old.pending ≡ true
+    → NamesTag tag p1 p2 → IsPieces value pieces
+    → AreExchangesOf (chain_commands (put_header p1 p2) pieces) exchanges answer
+    → Goes old (talk_dialogues exchanges) new → IsOneStep old (Put tag value) answer new
+put_talk old new tag value p1 p2 pieces exchanges answer idle names are_pieces are goes =
+    let (ends, none) = chain_ends (put_header p1 p2) pieces exchanges answer old new are goes in
+    let (after, answers, same, is_idle_then) =
+    chain_is_put tag p1 p2 names old new value pieces answer.status idle are_pieces ends in
+    record {
+      after = after;
+      answers = subst (λ r. Answers old (Put tag value) r after)
+          (same_reply answer.status answer.status [] answer.content refl none) answers;
+      same = same;
+      idle = is_idle_then;
+    }
+
+-- A talk of an operation: its answer in one step, and no chain is pending.
+pub talk_answers : (old new : CardState) (operation : Operation) (exchanges : List (List UnitOf))
+    (answer : Reply)
+    → is_idle old.pending ≡ true → IsTalkOf operation exchanges answer
+    → Goes old (talk_dialogues exchanges) new → IsOneStep old operation answer new
+talk_answers old new (Select aid) exchanges answer idle (commands, (is_aid, is), are) goes =
+    select_talk old new aid exchanges answer idle is_aid
+    (subst (λ cs. AreExchangesOf cs exchanges answer) is are) goes
+talk_answers old new (Get tag) exchanges answer idle (commands, (p1, p2, names, is), are) goes =
+    get_talk old new tag p1 p2 exchanges answer idle names
+    (subst (λ cs. AreExchangesOf cs exchanges answer) is are) goes
+talk_answers old new (Put tag value) exchanges answer idle
+    (commands, (p1, p2, pieces, names, are_pieces, is), are) goes =
+    put_talk old new tag value p1 p2 pieces exchanges answer idle names are_pieces
+    (subst (λ cs. AreExchangesOf cs exchanges answer) is are) goes
+
+-- what is pending is no matter to operations in turn
+all_alike : (operations : List Operation) (replies : List Reply) (a b new : CardState)
+    → SameTables a b → AnswersAll a operations replies new → AnswersAll b operations replies new
+all_alike [] [] a b new same answers = (sym same.0 ∙ answers.0, sym same.1 ∙ answers.1)
+all_alike [] (r ∷ replies) a b new same answers = answers
+all_alike (o ∷ operations) [] a b new same answers = answers
+all_alike (o ∷ operations) (r ∷ replies) a b new same (mid, first, others) =
+    let (next, here, tables) = answers_alike a b mid o r same first in
+    (next, here, all_alike operations replies mid next new tables others)
+
+-- Talks of operations in turn: their answers, one step each, and no chain is pending.
+pub talks_answer : (operations : List Operation) (talks : List (List (List UnitOf)))
+    (replies : List Reply) (old new : CardState) → is_idle old.pending ≡ true
+    → AreTalksOf operations talks replies → Goes old (flat_map talk_dialogues talks) new
+    → AnswersAll old operations replies new × (is_idle new.pending ≡ true)
+talks_answer [] [] [] old new idle are goes = (
+  (ap (λ s. s.applications) (sym goes), ap (λ s. s.selected) (sym goes)),
+  ap (λ s. is_idle s.pending) goes ∙ idle,
+)
+talks_answer [] [] (r ∷ replies) old new idle are goes = absurd are
+talks_answer [] (talk ∷ talks) replies old new idle are goes = absurd are
+talks_answer (o ∷ operations) [] replies old new idle are goes = absurd are
+talks_answer (o ∷ operations) (talk ∷ talks) [] old new idle are goes = absurd are
+talks_answer (o ∷ operations) (talk ∷ talks) (r ∷ replies) old new idle are goes =
+    let (mid, first, rest) =
+    goes_apart old new (talk_dialogues talk) (flat_map talk_dialogues talks) goes in
+    let one = talk_answers old mid o talk r idle are.0 first in
+    let (others, is_idle_then) =
+    talks_answer operations talks replies mid new one.idle are.1 rest in (
+      (
+        one.after,
+        one.answers,
+        all_alike operations replies mid one.after new (sym one.same.0, sym one.same.1) others,
+      ),
+      is_idle_then,
+    )
+
+pub whole_talk_answers : (first last : CardState) (plans left : List Course)
+    (operations : List Operation) (replies : List Reply) (line : List Character)
+    → IsCardState first → is_idle first.pending ≡ true → HaveCuts plans
+    → Talk Does first plans operations replies last left line
+    → AnswersAll first operations replies last × (is_idle last.pending ≡ true) × IsCardState last
+whole_talk_answers first last plans left operations replies line sound idle cuts talk =
+    let goes : Goes first (flat_map talk_dialogues talk.talks) last =
+    goes_by_runs first last (flat_map talk_dialogues talk.talks) plans cuts
+    (subst (λ ds. Runs Does first ds plans last) talk.dialogues_are talk.runs) in
+    let (answers, is_idle_then) =
+    talks_answer operations talk.talks replies first last idle talk.are_talks goes in
+    (answers, is_idle_then, goes_sound first last (flat_map talk_dialogues talk.talks) sound goes)
+
+-- the same over a card whose own states stand for these
+pub own_talk_answers : {State : Type 0} (Own : State → ℕ → Tpdu → State → Type 0) (own_reset : State → State)
+    (state_of : State → CardState) → StandsFor Own own_reset state_of → (first last : State)
+    (old new : CardState) → state_of first ≡ old → state_of last ≡ new → (plans left : List Course)
+    (operations : List Operation) (replies : List Reply) (line : List Character) → IsCardState old
+    → is_idle old.pending ≡ true → HaveCuts plans → Talk Own first plans operations replies last left line
+    → AnswersAll old operations replies new × (is_idle new.pending ≡ true) × IsCardState new
+own_talk_answers Own own_reset state_of stands first last old new was is plans left operations replies line sound idle cuts talk =
+    let over = talk_stands Own own_reset state_of stands first last plans left operations replies line talk in
+    let from : Talk Does old plans operations replies (state_of last) left line =
+    subst (λ s. Talk Does s plans operations replies (state_of last) left line) was over in
+    let to : Talk Does old plans operations replies new left line =
+    subst (λ s. Talk Does old plans operations replies s left line) is from in
+    whole_talk_answers old new plans left operations replies line sound idle cuts to

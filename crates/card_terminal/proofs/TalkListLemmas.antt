@@ -1,0 +1,223 @@
+-- Dialogues one after another: what follows the plans, and what runs, in parts and whole; a talk,
+-- and one operation more.
+use Rattle.std.proofs.Common.{◌≡◌, ◌≢◌, ℕ, List, [], ◌∷◌, ◌++◌, length, drop, ◌⊎◌, refl, sym, ap, subst, ◌∙◌}
+use Rattle.std.specs.List.{AllByRecursion, flat_map}
+use Rattle.std.proofs.Math.Seq.{drop-nil}
+use Rattle.std.proofs.lemmas.Grind.{flat_map-append}
+use Rattle.apdu_core.specs.StatusWord.{ok}
+use Rattle.apdu_core.specs.CommandBytes.{Command}
+use Rattle.t0_core.specs.Character.{Character}
+use Rattle.t0_core.specs.Dialogue.{Dialogue, IsDialogue, characters}
+use Rattle.t0_core.specs.DialogueLaws.{flat_map_last}
+use Rattle.t0_core.specs.Meaning.{Tpdu, tpdu_of, Runs}
+use Rattle.t0_core.specs.Plan.{Course, FollowInTurn}
+use Rattle.object_card.specs.State.{CardState}
+use Rattle.object_card.specs.CardMeaning.{Does}
+use Rattle.object_card.specs.DataCard.{StandsFor}
+use Rattle.object_card.specs.OneStep.{Operation, Reply}
+use Rattle.card_terminal.specs.Gathered.{UnitOf, Gathers, dialogues_of}
+use Rattle.card_terminal.specs.Talk.{AreExchangesOf, IsTalkOf, AreTalksOf, Talk, talk_dialogues}
+
+-- no plan is left of none
+no_plans : (xs ys : List Dialogue)
+    → drop {A = Course} (length xs) [] ≡ drop {A = Course} (length ys) []
+no_plans xs ys = drop-nil {A = Course} (length xs) ∙ sym (drop-nil {A = Course} (length ys))
+
+-- what is left of the plans after some dialogues and then others
+pub left_after_both : (xs ys : List Dialogue) (plans : List Course)
+    → drop (length (xs ++ ys)) plans ≡ drop (length ys) (drop (length xs) plans)
+left_after_both [] ys plans = refl
+left_after_both (x ∷ xs) ys [] = no_plans (x ∷ xs ++ ys) ys
+    ∙ ap (λ p. drop (length ys) p) (sym (drop-nil {A = Course} (length (x ∷ xs))))
+left_after_both (x ∷ xs) ys (p ∷ plans) = left_after_both xs ys plans
+
+-- Dialogues follow the plans, and others what is left of them: so do they all; and apart.
+pub follow_both : (xs ys : List Dialogue) (plans : List Course) → FollowInTurn xs plans
+    → FollowInTurn ys (drop (length xs) plans) → FollowInTurn (xs ++ ys) plans
+follow_both [] ys plans first second = second
+follow_both (x ∷ xs) ys [] first second = (
+  first.0,
+  follow_both xs ys [] first.1
+      (subst (λ p. FollowInTurn ys p) (no_plans (x ∷ xs) xs) second),
+)
+follow_both (x ∷ xs) ys (p ∷ plans) first second = (first.0, follow_both xs ys plans first.1 second)
+
+pub follow_apart : (xs ys : List Dialogue) (plans : List Course) → FollowInTurn (xs ++ ys) plans
+    → FollowInTurn xs plans × FollowInTurn ys (drop (length xs) plans)
+follow_apart [] ys plans both = (tt, both)
+follow_apart (x ∷ xs) ys [] both =
+    let rest = follow_apart xs ys [] both.1 in
+    ((both.0, rest.0), subst (λ p. FollowInTurn ys p) (no_plans xs (x ∷ xs)) rest.1)
+follow_apart (x ∷ xs) ys (p ∷ plans) both = let rest = follow_apart xs ys plans both.1 in
+    ((both.0, rest.0), rest.1)
+
+-- A run, and a run from where it ended: one run; and apart.
+pub runs_both : {State : Type 0} (Does : State → ℕ → Tpdu → State → Type 0) (old mid new : State)
+    (xs ys : List Dialogue) (plans : List Course)
+    → Runs Does old xs plans mid → Runs Does mid ys (drop (length xs) plans) new
+    → Runs Does old (xs ++ ys) plans new
+runs_both Does old mid new [] ys plans first second =
+    subst (λ s. Runs Does s ys plans new) first second
+runs_both Does old mid new (x ∷ xs) ys [] (next, does, first) second = (
+  next,
+  does,
+  runs_both Does next mid new xs ys [] first
+      (subst (λ p. Runs Does mid ys p new) (no_plans (x ∷ xs) xs) second),
+)
+runs_both Does old mid new (x ∷ xs) ys (p ∷ plans) (next, does, first) second =
+    (next, does, runs_both Does next mid new xs ys plans first second)
+
+pub runs_apart : {State : Type 0} (Does : State → ℕ → Tpdu → State → Type 0) (old new : State)
+    (xs ys : List Dialogue) (plans : List Course)
+    → Runs Does old (xs ++ ys) plans new → (mid : State) × Runs Does old xs plans mid
+    × Runs Does mid ys (drop (length xs) plans) new
+runs_apart Does old new [] ys plans both = (old, refl, both)
+runs_apart Does old new (x ∷ xs) ys [] (next, does, both) =
+    let (mid, first, second) = runs_apart Does next new xs ys [] both in
+    (mid, (next, does, first), subst (λ p. Runs Does mid ys p new) (no_plans xs (x ∷ xs)) second)
+runs_apart Does old new (x ∷ xs) ys (p ∷ plans) (next, does, both) =
+    let (mid, first, second) = runs_apart Does next new xs ys plans both in
+    (mid, (next, does, first), second)
+
+pub all_both : {A : Type 0} (P : A → Type 0) (xs ys : List A) → AllByRecursion P xs
+    → AllByRecursion P ys → AllByRecursion P (xs ++ ys)
+all_both P [] ys first second = second
+all_both P (x ∷ xs) ys first second = (first.0, all_both P xs ys first.1 second)
+
+-- Commands of which each has had its exchange and was answered 9000, and those that have not come
+-- yet.
+abbrev pub AreTakenUpTo : List Command → List (List UnitOf) → List Command → Type 0
+AreTakenUpTo commands [] left = left ≡ commands
+AreTakenUpTo [] (units ∷ exchanges) left = ⊥
+AreTakenUpTo (c ∷ commands) (units ∷ exchanges) left =
+    (brought : List ℕ) × Gathers c units brought ok × AreTakenUpTo commands exchanges left
+
+-- one more is answered 9000
+pub taken_more : (commands : List Command) (exchanges : List (List UnitOf)) (c : Command)
+    (left : List Command) (units : List UnitOf) (brought : List ℕ)
+    → AreTakenUpTo commands exchanges (c ∷ left) → Gathers c units brought ok
+    → AreTakenUpTo commands (exchanges ++ units ∷ []) left
+taken_more commands [] c left units brought taken gathers =
+    subst (λ cs. AreTakenUpTo cs (units ∷ []) left) taken (brought, gathers, refl)
+taken_more [] (first ∷ exchanges) c left units brought taken gathers = absurd taken
+taken_more (d ∷ commands) (first ∷ exchanges) c left units brought taken gathers =
+    (taken.0, taken.1, taken_more commands exchanges c left units brought taken.2 gathers)
+
+-- the last comes, or one that is answered otherwise
+pub taken_to_end : (commands : List Command) (exchanges : List (List UnitOf)) (c : Command)
+    (left : List Command) (units : List UnitOf) (answer : Reply)
+    → AreTakenUpTo commands exchanges (c ∷ left) → Gathers c units answer.content answer.status
+    → (left ≡ []) ⊎ (answer.status ≢ ok)
+    → AreExchangesOf commands (exchanges ++ units ∷ []) answer
+taken_to_end commands [] c left units answer taken gathers ends =
+    subst (λ cs. AreExchangesOf cs (units ∷ []) answer) taken (gathers, ends)
+taken_to_end [] (first ∷ exchanges) c left units answer taken gathers ends = absurd taken
+taken_to_end (d ∷ commands) (first ∷ []) c left units answer taken gathers ends =
+    (taken.0, taken.1, taken_to_end commands [] c left units answer taken.2 gathers ends)
+taken_to_end (d ∷ commands) (first ∷ second ∷ exchanges) c left units answer taken gathers ends = (
+  taken.0,
+  taken.1,
+  taken_to_end commands (second ∷ exchanges) c left units answer taken.2
+      gathers ends,
+)
+
+-- the dialogues of one more exchange
+pub one_more_exchange : (exchanges : List (List UnitOf)) (units : List UnitOf)
+    → talk_dialogues (exchanges ++ units ∷ []) ≡ talk_dialogues exchanges ++ flat_map dialogues_of
+    units
+one_more_exchange exchanges units = flat_map_last (λ us. flat_map dialogues_of us) exchanges units
+
+-- one operation more
+pub talks_more : (operations : List Operation) (talks : List (List (List UnitOf)))
+    (replies : List Reply) (o : Operation) (exchanges : List (List UnitOf)) (r : Reply)
+    → AreTalksOf operations talks replies → IsTalkOf o exchanges r
+    → AreTalksOf (operations ++ o ∷ []) (talks ++ exchanges ∷ []) (replies ++ r ∷ [])
+talks_more [] [] [] o exchanges r are talk = (talk, tt)
+talks_more [] [] (q ∷ replies) o exchanges r are talk = absurd are
+talks_more [] (t ∷ talks) replies o exchanges r are talk = absurd are
+talks_more (p ∷ operations) [] replies o exchanges r are talk = absurd are
+talks_more (p ∷ operations) (t ∷ talks) [] o exchanges r are talk = absurd are
+talks_more (p ∷ operations) (t ∷ talks) (q ∷ replies) o exchanges r are talk =
+    (are.0, talks_more operations talks replies o exchanges r are.1 talk)
+
+-- A talk of no operations.
+pub no_talk : {State : Type 0} (Does : State → ℕ → Tpdu → State → Type 0) (first : State)
+    (plans : List Course) → Talk Does first plans [] [] first plans []
+no_talk Does first plans = record {
+  dialogues = [];
+  talks = [];
+  are_dialogues = tt;
+  line_is = refl;
+  follow = tt;
+  runs = refl;
+  left_is = refl;
+  dialogues_are = refl;
+  are_talks = tt;
+}
+
+-- A talk, and one operation more under the plans that are left.
+pub talk_more : {State : Type 0} (Does : State → ℕ → Tpdu → State → Type 0) (first mid last : State)
+    (plans left rest : List Course)
+    (operations : List Operation) (replies : List Reply) (line more : List Character)
+    (o : Operation) (exchanges : List (List UnitOf)) (r : Reply)
+    → Talk Does first plans operations replies mid left line → IsTalkOf o exchanges r
+    → AllByRecursion IsDialogue (talk_dialogues exchanges)
+    → FollowInTurn (talk_dialogues exchanges) left
+    → Runs Does mid (talk_dialogues exchanges) left last
+    → rest ≡ drop (length (talk_dialogues exchanges)) left
+    → more ≡ flat_map characters (talk_dialogues exchanges)
+    → Talk Does first plans (operations ++ o ∷ []) (replies ++ r ∷ []) last rest (line ++ more)
+talk_more Does first mid last plans left rest operations replies line more o exchanges r talk one
+    are_dialogues follow runs rest_is more_is = record {
+      dialogues = talk.dialogues ++ talk_dialogues exchanges;
+      talks = talk.talks ++ exchanges ∷ [];
+      are_dialogues = all_both IsDialogue talk.dialogues (talk_dialogues exchanges) talk.are_dialogues
+          are_dialogues;
+      line_is = ap (λ l. l ++ more) talk.line_is
+          ∙ ap (λ l. flat_map characters talk.dialogues ++ l) more_is
+          ∙ sym (flat_map-append characters talk.dialogues (talk_dialogues exchanges));
+      follow = follow_both talk.dialogues (talk_dialogues exchanges) plans talk.follow
+          (subst (λ p. FollowInTurn (talk_dialogues exchanges) p) talk.left_is follow);
+      runs = runs_both Does first mid last talk.dialogues (talk_dialogues exchanges) plans talk.runs
+          (subst (λ p. Runs Does mid (talk_dialogues exchanges) p last) talk.left_is runs);
+      left_is = rest_is ∙ ap (λ p. drop (length (talk_dialogues exchanges)) p) talk.left_is
+          ∙ sym (left_after_both talk.dialogues (talk_dialogues exchanges) plans);
+      dialogues_are = ap (λ ds. ds ++ talk_dialogues exchanges) talk.dialogues_are
+          ∙ sym (flat_map_last talk_dialogues talk.talks exchanges);
+      are_talks = talks_more operations talk.talks replies o exchanges r talk.are_talks one;
+    }
+
+-- A card whose own states stand for states of a card of data objects: what runs over its own states
+-- runs over those, and a talk over the one is a talk over the other.
+pub runs_stand : {State : Type 0} (Own : State → ℕ → Tpdu → State → Type 0) (own_reset : State → State)
+    (state_of : State → CardState) → StandsFor Own own_reset state_of → (old new : State)
+    (ds : List Dialogue) (plans : List Course) → Runs Own old ds plans new
+    → Runs Does (state_of old) ds plans (state_of new)
+runs_stand Own own_reset state_of stands old new [] plans runs = ap state_of runs
+runs_stand Own own_reset state_of stands old new (d ∷ ds) [] (mid, does, others) = (
+  state_of mid,
+  stands.steps old mid 256 (tpdu_of d) does,
+  runs_stand Own own_reset state_of stands mid new ds [] others,
+)
+runs_stand Own own_reset state_of stands old new (d ∷ ds) (p ∷ plans) (mid, does, others) = (
+  state_of mid,
+  stands.steps old mid p.cut (tpdu_of d) does,
+  runs_stand Own own_reset state_of stands mid new ds plans others,
+)
+
+pub talk_stands : {State : Type 0} (Own : State → ℕ → Tpdu → State → Type 0) (own_reset : State → State)
+    (state_of : State → CardState) → StandsFor Own own_reset state_of → (first last : State)
+    (plans left : List Course) (operations : List Operation) (replies : List Reply)
+    (line : List Character) → Talk Own first plans operations replies last left line
+    → Talk Does (state_of first) plans operations replies (state_of last) left line
+talk_stands Own own_reset state_of stands first last plans left operations replies line talk = record {
+  dialogues = talk.dialogues;
+  talks = talk.talks;
+  are_dialogues = talk.are_dialogues;
+  line_is = talk.line_is;
+  follow = talk.follow;
+  runs = runs_stand Own own_reset state_of stands first last talk.dialogues plans talk.runs;
+  left_is = talk.left_is;
+  dialogues_are = talk.dialogues_are;
+  are_talks = talk.are_talks;
+}

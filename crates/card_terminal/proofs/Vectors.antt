@@ -1,0 +1,241 @@
+-- Rows of exchanges, as instances of the definitions, and near misses.
+use Rattle.std.proofs.Common.{◌≡◌, ℕ, List, [], ◌∷◌, ◌++◌, refl, sym, ◌∙◌, arith, lit<, Some, None}
+use Rattle.apdu_core.specs.declared.header.Header.{Header}
+use Rattle.apdu_core.specs.StatusWord.{StatusWord}
+use Rattle.apdu_core.specs.CommandBytes.{Command}
+use Rattle.t0_core.specs.declared.direction.Direction.TheVariants.{ToCard, FromCard}
+use Rattle.t0_core.specs.declared.plan.Step.TheVariants.{All}
+use Rattle.t0_core.specs.Dialogue.{Dialogue}
+use Rattle.card_terminal.specs.declared.wanted.Wanted.TheVariants.{Bytes, Everything}
+use Rattle.card_terminal.specs.Gathered.{get_response, wanted_by, less, fetched_after, By_command, By_fetch, UnitOf, Single, Repeated, IsUnit, IsFollowed, AreFollowed, Gathers}
+use Rattle.card_terminal.specs.ExchangeSide.{Stall}
+
+abbrev get_data : Header
+get_data = record { cla = 0x00; ins = 0xCA; p1 = 0x5F; p2 = 0x20 }
+
+abbrev put_data : Header
+put_data = record { cla = 0x00; ins = 0xDA; p1 = 0x5F; p2 = 0x20 }
+
+-- a GET DATA for so many bytes, and a PUT DATA of one
+abbrev get : ℕ → Command
+get n = record { header = get_data; content = []; le = Some n }
+
+abbrev put : Command
+put = record { header = put_data; content = 0x41 ∷ []; le = None }
+
+-- a dialogue that asks for data: refused, or with these
+abbrev refused : Header → ℕ → StatusWord → Dialogue
+refused h p3 status = record {
+  body = record { header = h; p3 = p3; direction = FromCard; segments = []; moved = [] };
+  status = status;
+}
+
+abbrev given : Header → ℕ → List ℕ → StatusWord → Dialogue
+given h p3 moved status =
+    record {
+      body = record {
+        header = h;
+        p3 = p3;
+        direction = FromCard;
+        segments =
+            All ∷ [];
+        moved = moved;
+      };
+      status = status;
+    }
+
+-- a count above what is wanted is not repeated, and one that is no more is
+above_what_is_wanted : Gathers (get 4)
+    (Single (refused get_data 4 (0x6C, 0x06)) ∷ []) [] (0x6C, 0x06)
+above_what_is_wanted = record {
+  is_open = record {
+    before = [];
+    last = Single (refused get_data 4 (0x6C, 0x06));
+    opening = By_command (get 4);
+    left = Bytes 4;
+    units_are = refl;
+    followed = (refl, refl);
+    opens = record { header_is = refl; from_card = refl; counts = refl; is_byte = lit< tt };
+    is_unit = refl;
+  };
+  ends = refl;
+  status_is = refl;
+  gathered_is = refl;
+}
+
+no_repetition_above : IsUnit (Bytes 4)
+    (Repeated (refused get_data 4 (0x6C, 0x06)) (refused get_data 6 (0x90, 0x00))) → ⊥
+no_repetition_above (n, told, asks) = let e : None ≡ Some n = told in absurd (cc)
+
+-- a repetition that is corrected again ends the exchange
+corrected_twice : Gathers (get 256)
+    (Repeated (refused get_data 0 (0x6C, 0x06)) (refused get_data 6 (0x6C, 0x05)) ∷ []) []
+    (0x6C, 0x05)
+corrected_twice = record {
+  is_open = record {
+    before = [];
+    last = Repeated (refused get_data 0 (0x6C, 0x06)) (refused get_data 6 (0x6C, 0x05));
+    opening = By_command (get 256);
+    left = Everything;
+    units_are = refl;
+    followed = (refl, refl);
+    opens = record { header_is = refl; from_card = refl; counts = refl; is_byte = lit< tt };
+    is_unit = (
+      6,
+      refl,
+      record
+          { header_is = refl; from_card = refl; counts = refl; is_byte = lit< tt },
+    );
+  };
+  ends = refl;
+  status_is = refl;
+  gathered_is = refl;
+}
+
+-- one that a 6CXX asks for is not left out
+no_correction_ignored : IsUnit Everything (Single (refused get_data 0 (0x6C, 0x06))) → ⊥
+no_correction_ignored none = let e : Some 6 ≡ None = none in absurd (cc)
+
+-- no more is fetched than is wanted
+two_are_wanted : Gathers (get 2)
+    (Single (refused get_data 2 (0x61, 0x05))
+    ∷ Single (given get_response 2 (1 ∷ 2 ∷ []) (0x61, 0x03)) ∷ []) (1 ∷ 2 ∷ []) (0x61, 0x03)
+two_are_wanted = record {
+  is_open = record {
+    before = Single (refused get_data 2 (0x61, 0x05)) ∷ [];
+    last = Single (given get_response 2 (1 ∷ 2 ∷ []) (0x61, 0x03));
+    opening = By_fetch 2;
+    left = Bytes 2;
+    units_are = refl;
+    followed = (
+      2,
+      record {
+        opens = record {
+          header_is = refl;
+          from_card = refl;
+          counts = refl;
+          is_byte =
+              lit< tt;
+        };
+        is_unit = refl;
+        brings = tt;
+        fetched = refl;
+      },
+      (refl, refl),
+    );
+    opens = record { header_is = refl; from_card = refl; counts = refl; is_byte = lit< tt };
+    is_unit = refl;
+  };
+  ends = refl;
+  status_is = refl;
+  gathered_is = refl;
+}
+
+same_count : (a b : ℕ) → Some a ≡ Some b → a ≡ b
+same_count a b e = cc
+
+no_fetch_of_five : IsFollowed (By_command (get 2)) (Bytes 2)
+    (Single (refused get_data 2 (0x61, 0x05))) 5 → ⊥
+no_fetch_of_five followed = let same = same_count 2 5 followed.fetched in
+    absurd (omega (arith, same))
+
+-- data to the card: nothing is wanted, and an announcement ends the exchange
+nothing_is_wanted : Gathers put
+    (Single (record {
+      body =
+          record {
+            header = put_data;
+            p3 = 1;
+            direction = ToCard;
+            segments = All ∷ [];
+            moved =
+                0x41 ∷ [];
+          };
+      status = (0x61, 0x05);
+    }) ∷ []) [] (0x61, 0x05)
+nothing_is_wanted = record {
+  is_open = record {
+    before = [];
+    last = Single (record {
+      body =
+          record {
+            header = put_data;
+            p3 = 1;
+            direction = ToCard;
+            segments = All ∷ [];
+            moved =
+                0x41 ∷ [];
+          };
+      status = (0x61, 0x05);
+    });
+    opening = By_command put;
+    left = Bytes 0;
+    units_are = refl;
+    followed = (refl, refl);
+    opens = record { header_is = refl; to_card = refl; counts = refl; sends = ([], refl) };
+    is_unit = refl;
+  };
+  ends = refl;
+  status_is = refl;
+  gathered_is = refl;
+}
+
+-- everything is wanted also past 256 bytes
+more_is_fetched : fetched_after (less (wanted_by (Some 256)) 256) (0x61, 0x00) ≡ Some 256
+more_is_fetched = refl
+
+no_more_past_255 : fetched_after (less (wanted_by (Some 255)) 255) (0x61, 0x00) ≡ None
+no_more_past_255 = refl
+
+-- a fetch that brings nothing, though more is announced, stalls
+second_stalls : Stall (get 256)
+    (Single (refused get_data 0 (0x61, 0x05)) ∷ Single (refused get_response 5 (0x61, 0x05)) ∷ [])
+second_stalls = record {
+  is_open = record {
+    before = Single (refused get_data 0 (0x61, 0x05)) ∷ [];
+    last = Single (refused get_response 5 (0x61, 0x05));
+    opening = By_fetch 5;
+    left = Everything;
+    units_are = refl;
+    followed = (
+      5,
+      record {
+        opens = record {
+          header_is = refl;
+          from_card = refl;
+          counts = refl;
+          is_byte =
+              lit< tt;
+        };
+        is_unit = refl;
+        brings = tt;
+        fetched = refl;
+      },
+      (refl, refl),
+    );
+    opens = record { header_is = refl; from_card = refl; counts = refl; is_byte = lit< tt };
+    is_unit = refl;
+  };
+  asked = 5;
+  more = 5;
+  is_fetch = refl;
+  brought_none = refl;
+  announces = refl;
+}
+
+no_fetch_after_nothing : IsFollowed (By_fetch 5) Everything
+    (Single (refused get_response 5 (0x61, 0x05))) 5 → ⊥
+no_fetch_after_nothing followed = followed.brings refl
+
+-- the first unit does not
+first_does_not_stall : Stall (get 256) (Single (refused get_data 0 (0x61, 0x05)) ∷ []) → ⊥
+first_does_not_stall stall = by stall.is_open.before stall.is_open.units_are stall.is_open.followed
+  where
+    by : (before : List UnitOf)
+        → Single (refused get_data 0 (0x61, 0x05)) ∷ [] ≡ before ++ stall.is_open.last ∷ []
+        → AreFollowed (By_command (get 256)) Everything before stall.is_open.opening
+        stall.is_open.left → ⊥
+    by [] is followed = let e : By_command (get 256) ≡ By_fetch stall.asked = sym followed.0
+        ∙ stall.is_fetch in absurd (cc)
+    by (u ∷ []) is followed = absurd (cc)
+    by (u ∷ v ∷ before) is followed = absurd (cc)

@@ -1,0 +1,46 @@
+-- Which characters led to an exchange, whatever the card sent.
+use Rattle.std.specs.Prelude.{◌≡◌, ℕ, List, [], ◌∷◌, ◌++◌, Option}
+use Rattle.std.specs.List.{AllByRecursion, flat_map}
+use Rattle.apdu_core.specs.StatusWord.{StatusWord}
+use Rattle.apdu_core.specs.CommandBytes.{Command}
+use Rattle.t0_core.specs.declared.end.End.TheVariants.{Card}
+use Rattle.t0_core.specs.declared.host_end.HostTurn.TheVariants.{Failed}
+use Rattle.t0_core.specs.Character.{Character}
+use Rattle.t0_core.specs.Dialogue.{Dialogue, characters, IsDialogue}
+use Rattle.t0_core.specs.Front.{Front, front_characters}
+use Rattle.card_terminal.specs.Gathered.{UnitOf, dialogues_of, IsOpenExchange}
+use Rattle.card_terminal.specs.ExchangeSide.{ExchangeOf, UnderWay, IsOver, Stall, so_far, exchange_turn}
+
+-- the characters of units
+abbrev pub unit_characters : List UnitOf → List Character
+unit_characters units = flat_map characters (flat_map dialogues_of units)
+
+-- the characters of units, of the first dialogue of one more where that is repeated, and of a
+-- front of the next dialogue
+abbrev pub characters_to : List UnitOf → Option Dialogue → Front → List Character
+characters_to units first front = flat_map characters (so_far units first) ++ front_characters front
+
+-- These characters lead to the exchange as it is: to a front of a dialogue; to the end of a
+-- whole exchange; to that of
+-- one that stalls; or a character came last that was none of an exchange, or too much.
+pub data Leads (c : Command) (came : List Character) (ex : ExchangeOf) : Type 0 where
+  to_front : (units : List UnitOf) (first : Option Dialogue) (front : Front)
+      → UnderWay c ex units first front
+      → came ≡ characters_to units first front → Leads c came ex
+  to_end : (units : List UnitOf) (status : StatusWord) → IsOver c ex units status
+      → came ≡ unit_characters units → Leads c came ex
+  to_stall : (units : List UnitOf) → Stall c units
+      → AllByRecursion IsDialogue (flat_map dialogues_of units)
+      → exchange_turn ex ≡ Failed → came ≡ unit_characters units → Leads c came ex
+  to_fault : (units : List UnitOf) (first : Option Dialogue) (front : Front)
+      (before : ExchangeOf) (byte : ℕ)
+      → UnderWay c before units first front → exchange_turn ex ≡ Failed
+      → came ≡ characters_to units first front ++ (Card, byte) ∷ [] → Leads c came ex
+
+-- the characters are a front of those of an open exchange
+pub record BeginsExchange (c : Command) (came : List Character) : Type 0 where
+  pub units : List UnitOf
+  pub is_open : IsOpenExchange c units
+  pub are_dialogues : AllByRecursion IsDialogue (flat_map dialogues_of units)
+  pub rest : List Character
+  pub whole : unit_characters units ≡ came ++ rest

@@ -1,0 +1,169 @@
+-- How far an exchange has come: which dialogues are over, and which is under way.
+use Rattle.std.specs.Prelude.{◌≡◌, ℕ, ◌+◌, ◌*◌, ◌<◌, ◌≤◌, List, [], ◌∷◌, ◌++◌, length, Option, Some, None, is_some, Bool, true, false, ◌⊎◌, if◌then◌else◌}
+use Rattle.std.specs.List.{AllByRecursion, flat_map}
+use Rattle.apdu_core.specs.declared.header.Header.{Header}
+use Rattle.apdu_core.specs.StatusWord.{StatusWord, count}
+use Rattle.apdu_core.specs.CommandBytes.{Command}
+use Rattle.t0_core.specs.declared.direction.Direction.{Direction}
+use Rattle.t0_core.specs.declared.direction.Direction.TheVariants.{ToCard, FromCard}
+use Rattle.t0_core.specs.declared.host_end.HostTurn.{HostTurn}
+use Rattle.t0_core.specs.declared.host_end.HostTurn.TheVariants.{Done, Failed}
+use Rattle.t0_core.specs.declared.line_fault.LineFault.{LineFault}
+use Rattle.t0_core.specs.declared.line_fault.LineFault.TheVariants.{BadProcedure, AfterEnd, TooLong, Stalled, NotListening}
+use Rattle.t0_core.specs.Dialogue.{Dialogue, IsDialogue}
+use Rattle.t0_core.specs.Meaning.{received}
+use Rattle.t0_core.specs.Front.{Front, IsFront, brought, fresh}
+use Rattle.t0_core.specs.Room.{Room}
+use Rattle.t0_core.specs.HostSide.{Hosting, HostStandsAt, IsRequest, turn_of}
+use Rattle.card_terminal.specs.declared.wanted.Wanted.{Wanted}
+use Rattle.card_terminal.specs.declared.attempt.Attempt.{Attempt}
+use Rattle.card_terminal.specs.Attempts.{IsCounted}
+use Rattle.card_terminal.specs.Gathered.{get_response, wanted_by, after_unit, fetched_after, repeated_with, Opening, By_command, By_fetch, OpensWith, UnitOf, Single, Repeated, last_of, dialogues_of, unit_data, AreFollowed, IsOpenExchange, Gathers}
+
+-- what an exchange keeps: the end of the TPDU under way, the data so far, the place of the TPDU
+-- in the exchange,
+-- what the command wants, and whether the exchange has stalled
+pub record ExchangeOf : Type 0 where
+  pub host : Hosting
+  pub gather : Room
+  pub attempt : Attempt
+  pub wanted : Wanted
+  pub stalled : Bool
+
+-- the end opens a TPDU with this header that asks for so many bytes
+pub record HostAsks (header : Header) (n : ℕ) (host : Hosting) : Type 0 where
+  pub header_is : host.header ≡ header
+  pub from_card : host.direction ≡ FromCard
+  pub counts : count host.p3 ≡ n
+  pub is_byte : host.p3 < 256
+
+-- or one that sends these
+pub record HostSends (header : Header) (content : List ℕ) (host : Hosting) : Type 0 where
+  pub header_is : host.header ≡ header
+  pub to_card : host.direction ≡ ToCard
+  pub counts : host.p3 ≡ length content
+  pub has : host.content ≡ content
+
+abbrev pub HostOpensBy : Header → List ℕ → Option ℕ → Hosting → Type 0
+HostOpensBy h [] None host = HostSends h [] host
+HostOpensBy h [] (Some n) host = HostAsks h n host
+HostOpensBy h (b ∷ bs) le host = HostSends h (b ∷ bs) host
+
+abbrev pub HostOpens : Opening → Hosting → Type 0
+HostOpens (By_command c) host = HostOpensBy c.header c.content c.le host
+HostOpens (By_fetch n) host = HostAsks get_response n host
+
+-- The TPDU under way opens a unit; or it repeats the first dialogue of one with the count that
+-- was told.
+abbrev pub IsOpenedAs : Opening → Wanted → Option Dialogue → Hosting → Type 0
+IsOpenedAs opening left None host = HostOpens opening host
+IsOpenedAs opening left (Some d) host = OpensWith opening d × (n : ℕ)
+    × (repeated_with left d ≡ Some n) × HostAsks d.body.header n host
+
+-- the first dialogue of the unit under way, where that is over
+abbrev pub begun_with : Option Dialogue → List Dialogue
+begun_with None = []
+begun_with (Some d) = d ∷ []
+
+-- the dialogues that are over
+abbrev pub so_far : List UnitOf → Option Dialogue → List Dialogue
+so_far units first = flat_map dialogues_of units ++ begun_with first
+
+-- the unit under way, once its last dialogue is over
+abbrev pub ended_with : Option Dialogue → Dialogue → UnitOf
+ended_with None d = Single d
+ended_with (Some e) d = Repeated e d
+
+abbrev pub asks_card : Direction → Bool
+asks_card ToCard = false
+asks_card FromCard = true
+
+abbrev pub is_fetch : Opening → Bool
+is_fetch (By_command c) = false
+is_fetch (By_fetch n) = true
+
+-- what the exchange keeps of the place of a TPDU
+pub record IsPlaceOf (a : Attempt) (opening : Opening) (units : List UnitOf)
+    (first : Option Dialogue) (host : Hosting) : Type 0 where
+  pub header_is : a.header ≡ host.header
+  pub asks_is : a.asks ≡ asks_card host.direction
+  pub fetches_is : a.fetches ≡ is_fetch opening
+  pub repeats_is : a.repeats ≡ is_some first
+  pub before_is : a.before ≡ length (flat_map unit_data units)
+  pub number_is : a.number ≡ length (so_far units first) + 1
+
+abbrev pub response_limit : ℕ
+response_limit = 16384
+
+-- these units are over, and the first dialogue of the next where it is repeated, and the TPDU
+-- under way stands at this front
+pub record UnderWay (c : Command) (ex : ExchangeOf) (units : List UnitOf)
+    (first : Option Dialogue) (front : Front) : Type 0 where
+  pub opening : Opening
+  pub left : Wanted
+  pub followed : AreFollowed (By_command c) (wanted_by c.le) units opening left
+  pub are_dialogues : AllByRecursion IsDialogue (so_far units first)
+  pub opened_as : IsOpenedAs opening left first ex.host
+  pub place : IsPlaceOf ex.attempt opening units first ex.host
+  pub stands : HostStandsAt ex.host front
+  pub request : IsRequest ex.host
+  pub is_front : IsFront front
+  pub gathered : ex.gather.bytes ≡ flat_map received (so_far units first) ++ brought front
+  pub room : ex.gather.limit ≡ response_limit
+  pub wanted_is : ex.wanted ≡ wanted_by c.le
+  pub going : ex.stalled ≡ false
+
+-- the exchange is over: these are its units, and it has the data and the status
+pub record IsOver (c : Command) (ex : ExchangeOf) (units : List UnitOf)
+    (status : StatusWord) : Type 0 where
+  pub gathers : Gathers c units ex.gather.bytes status
+  pub are_dialogues : AllByRecursion IsDialogue (flat_map dialogues_of units)
+  pub done : turn_of ex.host ≡ Done status
+  pub going : ex.stalled ≡ false
+
+-- the last of these units is a fetch that has brought nothing, and the card announces more (this
+-- project's profile)
+pub record Stall (c : Command) (units : List UnitOf) : Type 0 where
+  pub is_open : IsOpenExchange c units
+  pub asked : ℕ
+  pub more : ℕ
+  pub is_fetch : is_open.opening ≡ By_fetch asked
+  pub brought_none : unit_data is_open.last ≡ []
+  pub announces : fetched_after (after_unit is_open.left is_open.last)
+      (last_of is_open.last).status ≡ Some more
+
+-- what the exchange does when it is its turn
+abbrev pub exchange_turn : ExchangeOf → HostTurn
+exchange_turn ex = if ex.stalled then Failed else turn_of ex.host
+
+-- With so many bytes gathered, at most the room's, it has begun at most twice two more TPDUs.
+pub record IsBounded (ex : ExchangeOf) : Type 0 where
+  pub fits : length ex.gather.bytes ≤ response_limit
+  pub tpdus : ex.attempt.number ≤ 2 * (length ex.gather.bytes + 2)
+
+-- what holds of every exchange
+pub record IsKept (ex : ExchangeOf) : Type 0 where
+  pub counted : IsCounted ex.attempt (length ex.gather.bytes)
+  pub room : ex.gather.limit ≡ response_limit
+  pub fits : length ex.gather.bytes ≤ response_limit
+  pub stalled_at_end : ex.stalled ≡ true → (status : StatusWord) × (turn_of ex.host ≡ Done status)
+
+-- the faults that end an exchange; the others change nothing
+abbrev pub is_final : LineFault → Bool
+is_final (BadProcedure byte) = true
+is_final AfterEnd = false
+is_final TooLong = true
+is_final Stalled = true
+is_final NotListening = false
+
+-- it neither sends nor listens any more
+abbrev pub IsAtEnd : ExchangeOf → Type 0
+IsAtEnd ex = (exchange_turn ex ≡ Failed)
+    ⊎ ((status : StatusWord) × (exchange_turn ex ≡ Done status))
+
+-- After a dialogue it is repeated, or more is fetched, or the exchange is over.
+abbrev pub Continues : Command → ExchangeOf → List UnitOf → Option Dialogue → Dialogue → Type 0
+Continues c ex units first d =
+    ((first ≡ None) × UnderWay c ex units (Some d) fresh)
+    ⊎ UnderWay c ex (units ++ ended_with first d ∷ []) None fresh
+    ⊎ IsOver c ex (units ++ ended_with first d ∷ []) d.status

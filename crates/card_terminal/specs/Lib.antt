@@ -1,0 +1,12 @@
+pub mod Gathered
+pub mod Attempts
+pub mod ExchangeSide
+pub mod Agreed
+pub mod Conversing
+pub mod ExchangeHistory
+pub mod Talk
+pub mod AnswerList
+pub mod Operations
+pub mod OneObject
+pub mod WholeExchange
+pub mod FaultText

@@ -1,0 +1,89 @@
+-- What goes over the line for operations: which commands each becomes, and each command's exchange.
+use Rattle.std.specs.Prelude.{◌≡◌, ◌≢◌, ℕ, List, [], ◌∷◌, length, drop, Some, ◌⊎◌}
+use Rattle.std.specs.List.{AllByRecursion, flat_map}
+use Rattle.apdu_core.specs.StatusWord.{ok}
+use Rattle.apdu_core.specs.CommandBytes.{Command}
+use Rattle.apdu_core.specs.Chaining.{IsPieces, chain_commands}
+use Rattle.tlv_core.specs.Address.{NamesTag}
+use Rattle.t0_core.specs.Character.{Character}
+use Rattle.t0_core.specs.Dialogue.{Dialogue, IsDialogue, characters}
+use Rattle.t0_core.specs.Meaning.{Tpdu, Runs}
+use Rattle.t0_core.specs.Plan.{Course, IsCut, FollowInTurn}
+use Rattle.object_card.specs.Tables.{IsAid}
+use Rattle.object_card.specs.OneStep.{Operation, Select, Get, Put, Reply}
+use Rattle.object_card.specs.CarryingOut.{put_header}
+use Rattle.card_terminal.specs.Gathered.{UnitOf, dialogues_of, Gathers}
+
+-- SELECT by identifier, and GET DATA, both with Le = 00, which asks for all that there is
+-- (ISO/IEC 7816-4, SELECT and GET DATA)
+abbrev pub select_command : List ℕ → Command
+select_command aid = record {
+  header = record { cla = 0x00; ins = 0xA4; p1 = 0x04; p2 = 0x00 };
+  content = aid;
+  le = Some 256;
+}
+
+abbrev pub get_command : ℕ → ℕ → Command
+get_command p1 p2 = record {
+  header = record { cla = 0x00; ins = 0xCA; p1 = p1; p2 = p2 };
+  content = [];
+  le = Some 256;
+}
+
+-- The commands of an operation: one SELECT, one GET DATA, or a chain of PUT DATA, one for each
+-- piece of the value.
+abbrev pub AreCommandsOf : Operation → List Command → Type 0
+AreCommandsOf (Select aid) commands = IsAid aid × (commands ≡ select_command aid ∷ [])
+AreCommandsOf (Get tag) commands =
+    (p1 p2 : ℕ) × NamesTag tag p1 p2 × (commands ≡ get_command p1 p2 ∷ [])
+AreCommandsOf (Put tag value) commands =
+    (p1 p2 : ℕ) × (pieces : List (List ℕ)) × NamesTag tag p1 p2 × IsPieces value pieces
+    × (commands ≡ chain_commands (put_header p1 p2) pieces)
+
+-- An exchange is the units of one command. The commands come in turn, an exchange each, up to the
+-- first that is answered with another status than 9000; the answer is that of the last exchange.
+abbrev pub AreExchangesOf : List Command → List (List UnitOf) → Reply → Type 0
+AreExchangesOf [] exchanges answer = ⊥
+AreExchangesOf (c ∷ commands) [] answer = ⊥
+AreExchangesOf (c ∷ commands) (units ∷ []) answer =
+    Gathers c units answer.content answer.status × ((commands ≡ []) ⊎ (answer.status ≢ ok))
+AreExchangesOf (c ∷ commands) (units ∷ next ∷ exchanges) answer =
+    (brought : List ℕ) × Gathers c units brought ok
+    × AreExchangesOf commands (next ∷ exchanges) answer
+
+-- these are the exchanges of the operation, and this is its answer
+abbrev pub IsTalkOf : Operation → List (List UnitOf) → Reply → Type 0
+IsTalkOf operation exchanges answer =
+    (commands : List Command) × AreCommandsOf operation commands
+    × AreExchangesOf commands exchanges answer
+
+-- operations in turn, each with its exchanges and its answer
+abbrev pub AreTalksOf : List Operation → List (List (List UnitOf)) → List Reply → Type 0
+AreTalksOf [] [] [] = Unit {0}
+AreTalksOf (o ∷ operations) (exchanges ∷ talks) (r ∷ replies) =
+    IsTalkOf o exchanges r × AreTalksOf operations talks replies
+AreTalksOf _ _ _ = ⊥
+
+-- the dialogues of exchanges, one after another
+abbrev pub talk_dialogues : List (List UnitOf) → List Dialogue
+talk_dialogues exchanges = flat_map (λ units. flat_map dialogues_of units) exchanges
+
+-- each cut is 1 to 256
+abbrev pub HaveCuts : List Course → Type 0
+HaveCuts plans = AllByRecursion (λ plan. IsCut plan.cut) plans
+
+-- A talk of operations with a card. The characters are those of whole dialogues, which follow the
+-- plans in turn and are a run of the card's meaning from state to state. They fall into the
+-- exchanges of the operations, each with its answer. Left are the plans that no dialogue has taken.
+pub record Talk {State : Type 0} (Does : State → ℕ → Tpdu → State → Type 0) (first : State)
+    (plans : List Course) (operations : List Operation) (replies : List Reply) (last : State)
+    (left : List Course) (line : List Character) : Type 0 where
+  pub dialogues : List Dialogue
+  pub talks : List (List (List UnitOf))
+  pub are_dialogues : AllByRecursion IsDialogue dialogues
+  pub line_is : line ≡ flat_map characters dialogues
+  pub follow : FollowInTurn dialogues plans
+  pub runs : Runs Does first dialogues plans last
+  pub left_is : left ≡ drop (length dialogues) plans
+  pub dialogues_are : dialogues ≡ flat_map talk_dialogues talks
+  pub are_talks : AreTalksOf operations talks replies

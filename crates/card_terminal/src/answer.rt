@@ -1,0 +1,68 @@
+ghost use Rattle.std.specs.Prelude.{◌≡◌, IfSome, IfNone};
+ghost use Rattle.tlv_core.specs.Object.{Object};
+ghost use Rattle.card_terminal.specs.OneObject.{IsOneObject};
+
+use apdu_core::Status;
+use std::alloc::{Allocator, Global};
+use std::marker::Model;
+use t0_core::Gather;
+use tlv_core::{Obj, Objects};
+
+/// What a card answers to a command: the data gathered, and the status.
+#[derive(Drop)]
+pub struct Answer<A: Allocator = Global> {
+    status: Status,
+    gather: Gather<A>,
+}
+
+impl<A: Allocator> Model for Answer<A> {
+    ghost use Rattle.object_card.specs.OneStep.{Reply};
+
+    ghost Value = { Reply };
+
+    ghost view = { λ a. record { status = a.status; content = a.gather.bytes } };
+}
+
+impl<A: Allocator> Answer<A> {
+    /// An answer of these data.
+    pub(crate) fn new(status: Status, gather: Gather<A>) -> Answer<A>
+        ensures { result ≡ record { status = status; content = gather.bytes } }
+    {
+        Answer { status, gather }
+    }
+
+    /// The status word.
+    pub fn status(&self) -> Status
+        ensures { result ≡ self.now.status }
+    {
+        self.status
+    }
+
+    /// The data from the card.
+    pub fn data(&self) -> &[u8]
+        ensures { result.now ≡ self.now.content }
+    {
+        self.gather.bytes()
+    }
+
+    /// The data as one object, if they are tag, length and value of one and nothing else.
+    pub fn object(&self) -> Option<Obj<'_>>
+        ensures some { IfSome result (λ object. IsOneObject self.now.content object) }
+        ensures none { IfNone result ((object : Object) → IsOneObject self.now.content object → ⊥) }
+    {
+        let data = self.gather.bytes();
+        let Ok(mut objects) = Objects::over(data) else {
+            return None;
+        };
+        match objects.next() {
+            None => None,
+            Some(object) => {
+                if object.size() == data.len() {
+                    Some(object)
+                } else {
+                    None
+                }
+            }
+        }
+    }
+}

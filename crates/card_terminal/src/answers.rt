@@ -1,0 +1,65 @@
+ghost use Rattle.std.specs.Prelude.{◌≡◌, ◌≤◌, [], ◌∷◌, ◌++◌, length, slice_get, option_copied, OnOk};
+
+use crate::answer::Answer;
+use std::alloc::{AllocError, Allocator, Global};
+use std::marker::Model;
+
+/// The answers to operations, in order.
+#[derive(Drop)]
+pub struct Answers<A: Allocator = Global> {
+    answers: Vec<Answer<A>, A>,
+}
+
+impl<A: Allocator> Model for Answers<A> {
+    ghost use Rattle.std.specs.Prelude.{◌-◌, vec_len, vec_capacity};
+    ghost use Rattle.card_terminal.specs.AnswerList.{AnswerList};
+
+    ghost Value = { AnswerList };
+
+    ghost view = { λ a. record {
+      given = a.answers.items;
+      room =
+          vec_capacity a.answers - vec_len a.answers;
+    } };
+}
+
+impl<A: Allocator> Answers<A> {
+    /// No answers. It takes no memory.
+    pub fn new(alloc: A) -> Answers<A>
+        ensures { result.given ≡ [] }
+    {
+        Answers {
+            answers: Vec::new(alloc),
+        }
+    }
+
+    /// How many answers there are.
+    pub fn len(&self) -> usize
+        ensures { result ≡ length self.now.given }
+    {
+        self.answers.len()
+    }
+
+    /// The answer at this place, from 0; None past the last.
+    pub fn get(&self, at: usize) -> Option<&Answer<A>>
+        ensures { option_copied result ≡ slice_get self.now.given at }
+    {
+        self.answers.as_slice().get(at)
+    }
+
+    /// Takes the room for one more answer. Its error is want of memory. Either way the answers stay.
+    pub(crate) fn make_room(&mut self) -> Result<(), AllocError>
+        ensures stays { self.new.given ≡ self.old.given }
+        ensures room { OnOk result (1 ≤ self.new.room) }
+    {
+        self.answers.reserve(1)
+    }
+
+    /// Appends an answer, for which there is room.
+    pub(crate) fn append(&mut self, answer: Answer<A>)
+        requires { 1 ≤ self.old.room }
+        ensures { self.new.given ≡ self.old.given ++ answer ∷ [] }
+    {
+        self.answers.push(answer).unwrap();
+    }
+}

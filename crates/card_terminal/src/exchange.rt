@@ -1,0 +1,244 @@
+ghost use Rattle.std.specs.Prelude.{◌≡◌, ◌≤◌, ◌+◌, ◌*◌, ℕ, ◌⊎◌, ◌↔◌, List, [], ◌∷◌, ◌++◌, length, Option, Some, None, true, false, IfOk, OnOk, OnErr, IfErr, IsOk, MatchResult, IsSome, IfSome, IsErrOf};
+ghost use Rattle.apdu_core.specs.declared.header.Header.{Header};
+ghost use Rattle.apdu_core.specs.StatusWord.{StatusWord};
+ghost use Rattle.apdu_core.specs.HeaderBytes.{ins_is_valid};
+ghost use Rattle.apdu_core.specs.CommandBytes.{HasSizes};
+ghost use Rattle.t0_core.specs.Front.{fresh};
+ghost use Rattle.t0_core.specs.HostSide.{HostStandsAt, IsRequest, turn_of};
+ghost use Rattle.card_terminal.specs.ExchangeSide.{HostOpensBy, asks_card};
+
+use crate::answer::Answer;
+use crate::attempt::{Attempt, Next};
+use crate::wanted::Wanted;
+use apdu_core::{Command, Header};
+use std::alloc::{AllocError, Allocator, Global};
+use std::marker::Model;
+use t0_core::{Gather, HostEnd, HostTurn, LineFault};
+
+/// The most bytes of a response that a terminal gathers (this project's profile).
+pub const RESPONSE_LIMIT: usize = 16_384;
+
+/// The terminal's side of a command: its TPDU, a repetition of it after `6CXX`, and a GET RESPONSE
+/// after each `61XX` while more is wanted (ISO/IEC 7816-3, clause 12).
+#[derive(Drop)]
+pub struct Exchange<'a, A: Allocator = Global> {
+    end: HostEnd<'a>,
+    gather: Gather<A>,
+    attempt: Attempt,
+    wanted: Wanted,
+    stalled: bool,
+}
+
+impl<'a, A: Allocator> Model for Exchange<'a, A> {
+    ghost use Rattle.card_terminal.specs.ExchangeSide.{ExchangeOf, IsKept};
+
+    ghost Value = { ExchangeOf };
+
+    ghost view = { λ e. record {
+      host = e.end;
+      gather = e.gather;
+      attempt = e.attempt;
+      wanted = e.wanted;
+      stalled =
+          e.stalled;
+    } };
+
+    ghost invariant = { λ e. IsKept
+        (record {
+          host = e.end;
+          gather = e.gather;
+          attempt = e.attempt;
+          wanted =
+              e.wanted;
+          stalled = e.stalled;
+        }) };
+}
+
+impl<'a, A: Allocator> Exchange<'a, A> {
+    ghost use Rattle.apdu_core.specs.CommandBytes as spec;
+    ghost use Rattle.t0_core.specs.declared.end.End.TheVariants.{Terminal, Card};
+    ghost use Rattle.t0_core.specs.Dialogue.{Dialogue};
+    ghost use Rattle.t0_core.specs.Front.{Front, GoesOn, Ends, brought};
+    ghost use Rattle.t0_core.specs.HostSide.{fault_of};
+    ghost use Rattle.card_terminal.specs.Gathered.{UnitOf, Gathers};
+    ghost use Rattle.card_terminal.specs.ExchangeHistory.{Leads, unit_characters};
+    ghost use Rattle.t0_core.specs.Character.{Character};
+    ghost use Rattle.card_terminal.specs.ExchangeSide.{UnderWay, IsKept, IsBounded, IsAtEnd, Continues, Stall, exchange_turn, ended_with, is_final};
+
+    /// Begins the exchange of a command. The room for the response is taken here; the error is want of
+    /// memory.
+    pub fn start(alloc: A, command: Command<'a>) -> Result<Exchange<'a, A>, AllocError>
+        ensures begins { IfOk result (λ ex. UnderWay command.entry ex [] None fresh) }
+        ensures led { IfOk result (λ ex. Leads command.entry [] ex) }
+    {
+        let gather = Gather::with_room(alloc, RESPONSE_LIMIT)?;
+        Ok(Exchange::begin(gather, command))
+    }
+
+    /// Begins the exchange of another command in the same room, which is emptied.
+    pub fn again<'b>(self, command: Command<'b>) -> Exchange<'b, A>
+        ensures begins { UnderWay command.entry result [] None fresh }
+        ensures led { Leads command.entry [] result }
+    {
+        let Exchange { mut gather, .. } = self;
+        gather.clear();
+        Exchange::begin(gather, command)
+    }
+
+    /// Begins the exchange of a command in an empty room.
+    fn begin(gather: Gather<A>, command: Command<'a>) -> Exchange<'a, A>
+        requires { gather ≡ record { bytes = []; limit = 16384 } }
+        ensures { UnderWay command.entry result [] None fresh }
+    {
+        let header = command.header();
+        let le = command.le();
+        let (end, asks) = first_end(header, command.data(), le);
+        Exchange {
+            end,
+            gather,
+            attempt: Attempt {
+                header,
+                asks,
+                fetches: false,
+                repeats: false,
+                before: 0,
+                number: 1,
+            },
+            wanted: Wanted::by(le),
+            stalled: false,
+        }
+    }
+
+    /// What the terminal does now. A character to send is handed out; nothing else changes anything.
+    pub fn next(&mut self) -> HostTurn
+        ensures turn { result ≡ exchange_turn self.old }
+        ensures stays { ((byte : ℕ) → result ≡ HostTurn.Sends byte → ⊥) → self.new ≡ self.old }
+        ensures bounds { IsBounded self.new }
+
+        // With it the dialogue under way goes on.
+        ensures goes_on { (c : spec.Command) (units : List UnitOf) (first : Option Dialogue)
+            (front : Front) (byte : ℕ) →
+            UnderWay c self.old units first front → result ≡ HostTurn.Sends byte →
+            (new : Front) × GoesOn front (Terminal, byte) new
+            × UnderWay c self.new units first new }
+
+        // Whatever led to the exchange leads to it with this character.
+        ensures led { (c : spec.Command) (came : List Character) (byte : ℕ)
+            → Leads c came self.old → result ≡ HostTurn.Sends byte →
+            Leads c (came ++ (Terminal, byte) ∷ []) self.new }
+    {
+        let turn = self.end.next();
+        if self.stalled { HostTurn::Failed } else { turn }
+    }
+
+    /// Takes a character of the card. With a status the next TPDU is begun, if one follows.
+    ///
+    /// `BadProcedure` comes where a procedure byte is due and this is neither one nor a first status
+    /// byte, `TooLong` where a data character of the card is due and the room is full, `Stalled` where
+    /// a GET RESPONSE has brought nothing and the card announces more: then the exchange has failed for
+    /// good (this project's profile). `AfterEnd` comes where it is over or has failed, `NotListening`
+    /// where it has characters to send: these change nothing.
+    pub fn take(&mut self, byte: u8) -> Result<(), LineFault>
+        ensures fault { MatchResult result (λ _. fault_of self.old.host self.old.gather byte ≡ None)
+            (λ fault. (fault_of self.old.host self.old.gather byte ≡ Some fault)
+            ⊎ ((fault ≡ LineFault.Stalled)
+            × (fault_of self.old.host self.old.gather byte ≡ None))) }
+        ensures bounds { IsBounded self.new }
+        ensures after_end { IsAtEnd self.old → IsErrOf result LineFault.AfterEnd }
+        ensures unchanged { IfErr result (λ fault. is_final fault ≡ false → self.new ≡ self.old) }
+        ensures failed { IfErr result
+            (λ fault. is_final fault ≡ true → exchange_turn self.new ≡ HostTurn.Failed) }
+
+        // It takes each dialogue that it opened, where there is room for the data.
+        ensures goes_on { (c : spec.Command) (units : List UnitOf) (first : Option Dialogue)
+            (front new : Front) →
+            UnderWay c self.old units first front → GoesOn front (Card, byte) new →
+            MatchResult result (λ _. UnderWay c self.new units first new)
+            (λ fault. fault ≡ LineFault.TooLong) }
+        ensures full { (c : spec.Command) (units : List UnitOf) (first : Option Dialogue)
+            (front new : Front) →
+            UnderWay c self.old units first front → GoesOn front (Card, byte) new →
+            OnErr result ((length self.old.gather.bytes ≡ RESPONSE_LIMIT)
+            × (brought new ≡ brought front ++ byte ∷ [])) }
+        ensures came { (c : spec.Command) (units : List UnitOf) (first : Option Dialogue)
+            (front : Front) →
+            UnderWay c self.old units first front → OnOk result (
+            ((new : Front) × GoesOn front (Card, byte) new)
+            ⊎ ((d : Dialogue) × Ends front (Card, byte) d)) }
+
+        // With the end of a dialogue the next is begun, or the exchange is over, or has stalled.
+        ensures ends { (c : spec.Command) (units : List UnitOf) (first : Option Dialogue)
+            (front : Front) (d : Dialogue) →
+            UnderWay c self.old units first front → Ends front (Card, byte) d →
+            MatchResult result (λ _. Continues c self.new units first d)
+            (λ fault. (fault ≡ LineFault.Stalled) × Stall c (units ++ ended_with first d ∷ [])) }
+
+        // Whatever led to the exchange leads to it with this character, also with one that ends it by a fault.
+        ensures led { (c : spec.Command) (came : List Character) → Leads c came self.old
+            → MatchResult result
+            (λ _. Leads c (came ++ (Card, byte) ∷ []) self.new)
+            (λ fault. is_final fault ≡ true → Leads c (came ++ (Card, byte) ∷ []) self.new) }
+    {
+        self.end.take(byte, &mut self.gather)?;
+        let Some(status) = self.end.status() else {
+            return Ok(());
+        };
+        let gathered = self.gather.bytes().len();
+        match self
+            .attempt
+            .followed(gathered, self.wanted.less(gathered), status)
+        {
+            Next::Asks { attempt, count } => {
+                self.end = HostEnd::asking(attempt.header, count);
+                self.attempt = attempt;
+                Ok(())
+            }
+            Next::Stalls => {
+                self.stalled = true;
+                Err(LineFault::Stalled)
+            }
+            Next::Ends => Ok(()),
+        }
+    }
+
+    /// The answer, if the exchange is over.
+    pub fn into_answer(self) -> Option<Answer<A>>
+        ensures done { (status : StatusWord) → exchange_turn self.entry ≡ HostTurn.Done status →
+            result ≡ Some (record { status = status; content = self.entry.gather.bytes }) }
+        ensures led { (c : spec.Command) (came : List Character) → Leads c came self.entry →
+            IfSome result (λ answer. (units : List UnitOf)
+            × Gathers c units answer.content answer.status × (came ≡ unit_characters units)) }
+        ensures undone { ((status : StatusWord) → exchange_turn self.entry ≡ HostTurn.Done status
+            → ⊥) → result ≡ None }
+    {
+        let Exchange {
+            end,
+            gather,
+            stalled,
+            ..
+        } = self;
+        if stalled {
+            return None;
+        }
+        match end.status() {
+            None => None,
+            Some(status) => Some(Answer::new(status, gather)),
+        }
+    }
+}
+
+/// The terminal's end of a command's first TPDU, and whether it asks the card for data: in case 2 it
+/// does, else it sends the command's data.
+fn first_end<'a>(header: Header, content: &'a [u8], le: Option<u16>) -> (HostEnd<'a>, bool)
+    requires valid { ins_is_valid header.ins ≡ true }
+    requires sizes { HasSizes content.now le }
+    ensures opens { HostOpensBy header content.now le result.0 }
+    ensures stands { HostStandsAt result.0 fresh }
+    ensures keeps { IsRequest result.0 }
+    ensures asks { result.1 ≡ asks_card result.0.direction }
+{
+    match le {
+        Some(count) if content.is_empty() => (HostEnd::asking(header, count), true),
+        _ => (HostEnd::sending(header, content), false),
+    }
+}

@@ -1,0 +1,178 @@
+ghost use Rattle.std.specs.Prelude.{◌≡◌, ℕ, ◌<◌, ◌++◌, List, ◌⊎◌, true, false, MatchResult, OnOk, OnErr, IfOk, IfErr};
+ghost use Rattle.apdu_core.specs.CommandBytes as spec;
+ghost use Rattle.t0_core.specs.Plan.{Course};
+ghost use Rattle.t0_core.specs.Watch.{Hearing};
+ghost use Rattle.card_terminal.specs.Agreed.{IsAgreed};
+ghost use Rattle.card_terminal.specs.ExchangeSide.{IsBounded};
+ghost use Rattle.card_terminal.specs.Conversing.{IsUnderWay, IsFinished, IsCaused, characters_left};
+
+use crate::answer::Answer;
+use crate::exchange::Exchange;
+use crate::session_fault::SessionFault;
+use apdu_core::Command;
+use std::alloc::Allocator;
+use std::marker::Model;
+use t0_core::{CardEnd, End, HostTurn, LineFault, Plans, TpduCard, Turn, Watch};
+
+/// A terminal and a card, joined by a line that delivers every character.
+#[derive(Drop)]
+pub struct Session<C: TpduCard> {
+    end: CardEnd<C>,
+}
+
+impl<C: TpduCard> Model for Session<C> {
+    ghost use Rattle.std.specs.Prelude.{◌≡◌, []};
+    ghost use Rattle.t0_core.specs.CardSide.{Taking_header};
+
+    ghost Value = { C };
+
+    ghost view = { λ s. s.end.card };
+
+    ghost invariant = { λ s. s.end.stage ≡ Taking_header [] };
+}
+
+impl<C: TpduCard> Session<C> {
+    ghost use Rattle.std.specs.Prelude.{IsErrOf};
+    ghost use Rattle.std.specs.List.{flat_map};
+    ghost use Rattle.t0_core.specs.declared.line_fault.LineFault.{LineFault};
+    ghost use Rattle.card_terminal.specs.Gathered.{UnitOf, Gathers, dialogues_of};
+    ghost use Rattle.card_terminal.specs.Conversing.{HaveGone};
+
+    /// A session with a card, which it resets.
+    pub fn new(mut end: CardEnd<C>) -> Session<C>
+        ensures { C.standing result ≡ C.after_reset (C.standing end.card) }
+    {
+        end.reset();
+        Session { end }
+    }
+
+    /// The card.
+    pub fn card(&self) -> &C
+        ensures { result.now ≡ self.now }
+    {
+        self.end.card()
+    }
+
+    /// Resets the card.
+    pub fn reset(&mut self)
+        ensures { C.standing self.new ≡ C.after_reset (C.standing self.old) }
+    {
+        self.end.reset();
+    }
+
+    /// Carries out a command that is agreed with the card.
+    ///
+    /// `OutOfMemory` comes before the first character, and changes nothing. `Line` comes where the card
+    /// stalls or brings more than there is room for; the card is reset then.
+    pub fn transmit<A: Allocator, B: Allocator, W: Watch>(
+        &mut self,
+        alloc: A,
+        command: Command,
+        plans: &mut Plans<B>,
+        watch: &mut W,
+    ) -> Result<Answer<A>, SessionFault>
+        requires { IsAgreed C.MayReceive C.MaySend command }
+        ensures answers { IfOk result
+            (λ reply. (units : List UnitOf) × Gathers command.entry units reply.content reply.status
+            × HaveGone C.Does (C.standing self.old) plans.old.rest (W.hearing watch.old)
+            (flat_map dialogues_of units)
+            (C.standing self.new) plans.new (W.hearing watch.new)) }
+        ensures memory { IsErrOf result SessionFault.OutOfMemory →
+            (self.new ≡ self.old) × (plans.new ≡ plans.old)
+            × (W.hearing watch.new ≡ W.hearing watch.old) }
+        ensures line { (fault : LineFault) → IsErrOf result (SessionFault.Line fault)
+            → (standing : C.State) ×
+            IsCaused C.Does (C.standing self.old) plans.old.rest (W.hearing watch.old)
+            command.entry standing plans.new (W.hearing watch.new) fault
+            × (C.standing self.new ≡ C.after_reset standing) }
+    {
+        let mut exchange = Exchange::start(alloc, command)?;
+        match converse(&mut exchange, &mut self.end, plans, watch) {
+            Ok(()) => Ok(exchange.into_answer().unwrap()),
+            Err(fault) => {
+                self.end.reset();
+                Err(SessionFault::Line(fault))
+            }
+        }
+    }
+}
+
+/// Passes one character from the end whose turn it is to the other, and tells the watch. The answer is
+/// whether there was one.
+fn pass_character<A: Allocator, B: Allocator, C: TpduCard, W: Watch>(
+    exchange: &mut Exchange<'_, A>,
+    end: &mut CardEnd<C>,
+    plans: &mut Plans<B>,
+    watch: &mut W,
+) -> Result<bool, LineFault>
+    requires { (c : spec.Command) × (first : C.State) × (all : List Course) × (since : Hearing) ×
+        (IsUnderWay C.Does C.MayReceive C.MaySend first all since c (C.standing end.old.card)
+        (C.prepared end.old.card) end.old.stage exchange.old plans.old (W.hearing watch.old)
+        ⊎ IsFinished C.Does first all since c (C.standing end.old.card) end.old.stage
+        exchange.old plans.old (W.hearing watch.old)) }
+    ensures goes_on { (c : spec.Command) (first : C.State) (all : List Course) (since : Hearing) →
+        IsUnderWay C.Does C.MayReceive C.MaySend first all since c (C.standing end.old.card)
+        (C.prepared end.old.card) end.old.stage exchange.old plans.old (W.hearing watch.old) →
+        MatchResult result
+        (λ going. (going ≡ true)
+        × (characters_left exchange.new end.new.stage plans.new < characters_left
+        exchange.old end.old.stage plans.old) ×
+        (IsUnderWay C.Does C.MayReceive C.MaySend first all since c (C.standing end.new.card)
+        (C.prepared end.new.card) end.new.stage exchange.new plans.new (W.hearing watch.new)
+        ⊎ IsFinished C.Does first all since c (C.standing end.new.card) end.new.stage
+        exchange.new plans.new (W.hearing watch.new)))
+        (λ fault. IsCaused C.Does first all since c (C.standing end.new.card) plans.new
+        (W.hearing watch.new) fault) }
+    ensures finished { (c : spec.Command) (first : C.State) (all : List Course) (since : Hearing) →
+        IsFinished C.Does first all since c (C.standing end.old.card) end.old.stage exchange.old
+        plans.old (W.hearing watch.old) →
+        MatchResult result
+        (λ going. (going ≡ false)
+        × IsFinished C.Does first all since c (C.standing end.new.card) end.new.stage
+        exchange.new plans.new (W.hearing watch.new))
+        (λ fault. ⊥) }
+{
+    match exchange.next() {
+        HostTurn::Sends(byte) => {
+            end.take(byte).unwrap();
+            watch.seen(End::Terminal, byte);
+            Ok(true)
+        }
+        HostTurn::Listens => {
+            let Turn::Sends(byte) = end.turn(plans) else {
+                unreachable!()
+            };
+            watch.seen(End::Card, byte);
+            exchange.take(byte)?;
+            Ok(true)
+        }
+        HostTurn::Done(_) => Ok(false),
+        HostTurn::Failed => unreachable!(),
+    }
+}
+
+/// Passes characters until the exchange is over, or has failed.
+fn converse<A: Allocator, B: Allocator, C: TpduCard, W: Watch>(
+    exchange: &mut Exchange<'_, A>,
+    end: &mut CardEnd<C>,
+    plans: &mut Plans<B>,
+    watch: &mut W,
+) -> Result<(), LineFault>
+    requires { (c : spec.Command) × (first : C.State) × (all : List Course) × (since : Hearing) ×
+        IsUnderWay C.Does C.MayReceive C.MaySend first all since c (C.standing end.old.card)
+        (C.prepared end.old.card) end.old.stage exchange.old plans.old (W.hearing watch.old) }
+    ensures { (c : spec.Command) (first : C.State) (all : List Course) (since : Hearing) →
+        IsUnderWay C.Does C.MayReceive C.MaySend first all since c (C.standing end.old.card)
+        (C.prepared end.old.card) end.old.stage exchange.old plans.old (W.hearing watch.old) →
+        MatchResult result
+        (λ _. IsFinished C.Does first all since c (C.standing end.new.card) end.new.stage
+        exchange.new plans.new (W.hearing watch.new))
+        (λ fault. IsCaused C.Does first all since c (C.standing end.new.card) plans.new
+        (W.hearing watch.new) fault) }
+{
+    let mut going = true;
+    'talk: while going {
+        going = pass_character(exchange, end, plans, watch)?;
+    }
+    Ok(())
+}

@@ -1,0 +1,65 @@
+ghost use Rattle.std.specs.Prelude.{◌≡◌, ◌≤◌, IfSome};
+ghost use Rattle.card_terminal.specs.Gathered.{wanted_by, less, wants_some, wants_at_least, smaller};
+
+/// How much of a response is wanted.
+#[derive(Clone, Copy, Debug, PartialEq, Eq)]
+pub enum Wanted {
+    /// So many bytes, 0 to 255.
+    Bytes(u16),
+    /// All that the card announces.
+    Everything,
+}
+
+impl Wanted {
+    /// What a command with this Le wants: nothing without one, and with 256 everything, also past 256
+    /// bytes (this project's profile).
+    pub fn by(le: Option<u16>) -> Wanted
+        ensures { result ≡ wanted_by le }
+    {
+        match le {
+            None => Wanted::Bytes(0),
+            Some(256) => Wanted::Everything,
+            Some(count) => Wanted::Bytes(count),
+        }
+    }
+
+    /// What is still wanted where so many bytes are gathered.
+    pub fn less(self, gathered: usize) -> Wanted
+        ensures { result ≡ less self gathered }
+    {
+        match self {
+            Wanted::Bytes(count) if gathered < usize::from(count) => {
+                Wanted::Bytes(count - gathered as u16)
+            }
+            Wanted::Bytes(_) => Wanted::Bytes(0),
+            Wanted::Everything => Wanted::Everything,
+        }
+    }
+
+    /// Whether anything is wanted.
+    pub fn is_some(self) -> bool
+        ensures { result ≡ wants_some self }
+    {
+        !matches!(self, Wanted::Bytes(0))
+    }
+
+    /// Whether so many bytes are no more than are wanted.
+    pub fn is_at_least(self, count: u16) -> bool
+        ensures { result ≡ wants_at_least count self }
+    {
+        match self {
+            Wanted::Bytes(wanted) => count <= wanted,
+            Wanted::Everything => true,
+        }
+    }
+
+    /// So many bytes, but no more than are wanted.
+    pub fn up_to(self, count: u16) -> u16
+        ensures { result ≡ smaller count self }
+    {
+        match self {
+            Wanted::Bytes(wanted) => count.min(wanted),
+            Wanted::Everything => count,
+        }
+    }
+}

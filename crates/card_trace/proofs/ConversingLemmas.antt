@@ -1,8 +1,8 @@
 -- A character that passes from one end to the other takes both to the same front.
-use Rattle.std.proofs.Common.{◌≡◌, ℕ, zero, suc, ◌+◌, ◌-◌, ◌<◌, ◌≤◌, List, [], ◌∷◌, ◌++◌, length, take, refl, sym, subst, ◌∙◌, ap, arith, inl, inr, ◌⊎◌, lit<, lit≤, true, false, Bool, Result, Ok, append-nil, append_assoc, length-append, if◌then◌else◌, eq-eqb}
+use Rattle.std.proofs.Common.{◌≡◌, ℕ, ◌+◌, ◌-◌, ◌<◌, ◌≤◌, List, [], ◌∷◌, ◌++◌, length, refl, sym, subst, ◌∙◌, ap, arith, inl, inr, ◌⊎◌, lit<, lit≤, true, false, Bool, Result, Ok, append-nil, append_assoc, length-append, if◌then◌else◌, eq-eqb}
 use Rattle.std.specs.Result.{OnOk}
 use Rattle.std.specs.List.{AllByRecursion, flat_map}
-use Rattle.std.proofs.lemmas.Bool.{ltb-true, ltb-false}
+use Rattle.std.proofs.lemmas.Bool.{ltb-false}
 use Rattle.std.proofs.lemmas.Bool.Decides.{eqb_tells}
 use Rattle.apdu_core.specs.declared.header.Header.{Header}
 use Rattle.apdu_core.specs.StatusWord.{StatusWord, count}
@@ -11,54 +11,25 @@ use Rattle.t0_core.specs.declared.host_end.HostStage.{HostStage}
 use Rattle.t0_core.specs.declared.host_end.HostStage.TheVariants.{SendingHeader, Awaiting, Moving, AwaitingSecond, Ended, Broken}
 use Rattle.t0_core.specs.declared.host_end.HostTurn.TheVariants.{Listens, Done}
 use Rattle.t0_core.specs.declared.plan.Step.{Step}
-use Rattle.t0_core.specs.declared.service.Service.{Service}
 use Rattle.t0_core.specs.Character.{Character}
 use Rattle.t0_core.specs.declared.direction.Direction.{Direction}
 use Rattle.t0_core.specs.declared.direction.Direction.TheVariants.{ToCard, FromCard}
-use Rattle.t0_core.specs.Dialogue.{Body, Dialogue, foreseen, moves, all_moves, characters, IsDialogue}
+use Rattle.t0_core.specs.Dialogue.{Body, Dialogue, foreseen, moves, characters, IsDialogue}
 use Rattle.t0_core.specs.Plan.{Course, Cursor, plain, plan_kept, advanced, Follows}
 use Rattle.t0_core.specs.Meaning.{Tpdu, tpdu_of, Prepared, received}
 use Rattle.t0_core.specs.Front.{Front, In_header, In_body, After_first, GoesOn, Ends, IsFront, EndInLast, IsBegun, front_characters, fresh}
 use Rattle.t0_core.specs.Watch.{Hearing, Hears}
 use Rattle.t0_core.specs.HostSide.{Hosting, HostStandsAt, at_stage, turn_of, data_turn, after_turn, after_data_turn}
 use Rattle.t0_core.specs.declared.card_end.Turn.TheVariants as turn
-use Rattle.t0_core.specs.CardSide.{Stage, EndOf, Taking_header, Refusing, Serving, Ending, StandsAt, IsOnPlan, IsPermitted, PermitsData, SuitsFront, begins_with, under_way, listens, takes_plan, with_character, still_to_go}
-use Rattle.t0_core.proofs.DialogueLists.{flat_map_last, plain_past, all_more, follow_more, runs_more, ends_with}
-use Rattle.t0_core.proofs.FrontLaws.{goes_on, moves-within}
-use Rattle.t0_core.proofs.HistoryLemmas.{begun}
+use Rattle.t0_core.specs.CardSide.{Stage, EndOf, Taking_header, Refusing, Serving, Ending, StandsAt, IsOnPlan, IsPermitted, PermitsData, SuitsFront, begins_with, listens, takes_plan, with_character, still_to_go}
+use Rattle.t0_core.specs.CardHistory.{under_way}
+use Rattle.t0_core.specs.DialogueLaws.{flat_map_last, plain_past, all_more, follow_more, runs_more, ends_with}
+use Rattle.t0_core.specs.FrontLaws.{goes_on, moves-within, all_moves-within}
+use Rattle.t0_core.specs.WatchLaws.{hears_more, hears_nothing}
+use Rattle.t0_core.specs.CardLaws.{begun}
 use Rattle.card_trace.specs.ExchangeSide.{ExchangeOf, UnderWay, IsDone, IsAttempt, moved_in, from_card}
 use Rattle.card_trace.specs.Conversing.{KeepsNone, AreOver, IsUnderWay, IsFinished, is_over, for_repetition, stage_number, characters_left}
 use Rattle.card_trace.proofs.ExchangeLemmas.{asks_from_card}
-
--- a front of a front, and a front that goes past one
-front_of_front : (n : ℕ) (xs ys : List Character) → (m : ℕ) × (take m (xs ++ ys) ≡ take n xs)
-front_of_front zero xs ys = (0, refl)
-front_of_front (suc n) [] ys = (0, refl)
-front_of_front (suc n) (x ∷ xs) ys = let shorter = front_of_front n xs ys in (suc shorter.0, ap (λ cs. x ∷ cs) shorter.1)
-
-front_past : (xs ys : List Character) (m : ℕ) → (n : ℕ) × (take n (xs ++ ys) ≡ xs ++ take m ys)
-front_past [] ys m = (m, refl)
-front_past (x ∷ xs) ys m = let shorter = front_past xs ys m in (suc shorter.0, ap (λ cs. x ∷ cs) shorter.1)
-
--- what a watch hears of one part and then of another
-heard_front : (a b c : Hearing) (xs ys : List Character) → Hears a xs b → Hears b ys c → (lost : Bool) → b.lost ≡ lost → (n : ℕ) × (c.heard ≡ a.heard ++ take n (xs ++ ys))
-heard_front a b c xs ys one two true lost =
-    let shorter = front_of_front one.front.0 xs ys in
-    (shorter.0, (two.deaf lost).1 ∙ one.front.1 ∙ ap (λ cs. a.heard ++ cs) (sym shorter.1))
-heard_front a b c xs ys one two false kept =
-    let past = front_past xs ys two.front.0 in
-    (past.0, two.front.1 ∙ ap (λ hs. hs ++ take two.front.0 ys) (one.all kept).1 ∙ append_assoc a.heard xs (take two.front.0 ys) ∙ ap (λ cs. a.heard ++ cs) (sym past.1))
-
-pub hears_more : (a b c : Hearing) (xs ys : List Character) → Hears a xs b → Hears b ys c → Hears a (xs ++ ys) c
-hears_more a b c xs ys one two = record {
-  all = λ kept. let later = two.all kept in let before = one.all later.0 in
-      (before.0, later.1 ∙ ap (λ hs. hs ++ ys) before.1 ∙ append_assoc a.heard xs ys);
-  front = heard_front a b c xs ys one two b.lost refl;
-  deaf = λ lost. let before = one.deaf lost in let later = two.deaf before.0 in (later.0, later.1 ∙ before.1);
-}
-
-pub hears_nothing : (a : Hearing) → Hears a [] a
-hears_nothing a = record { all = λ kept. (kept, sym (append-nil a.heard)); front = (0, sym (append-nil a.heard)); deaf = λ lost. (lost, refl) }
 
 -- a cursor past its list
 pub past_the_list : (old new : Cursor) (takes : Bool) → old.rest ≡ [] → new ≡ (if takes then advanced old else old) → new.rest ≡ []
@@ -79,10 +50,6 @@ listening_stays (Ended status) host listens = refl
 listening_stays Broken host listens = refl
 
 -- a TPDU moves at most 256 bytes
-all_moves-within : (segments : List Step) (n : ℕ) → all_moves segments n ≤ n
-all_moves-within [] n = omega arith
-all_moves-within (s ∷ segments) n = omega (arith, moves-within s n, all_moves-within segments (n - moves s n))
-
 count_within : (p3 : ℕ) → p3 < 256 → count p3 ≤ 256
 count_within p3 lt = elim (eqb_tells p3 0) [ inl p ↦ rw p.0 (lit≤ tt) | inr p ↦ rw p.0 (omega (arith, lt)) ]
 
@@ -344,49 +311,23 @@ left_under : (ex : ExchangeOf) (stage : Stage) (whole : List Dialogue) (front : 
     → characters_left ex stage ≡ 1 + for_repetition ex.repeated + stage_number stage
 left_under ex stage whole front under = left_going ex stage (not_over ex.host ex.host.stage front under.stands)
 
--- a character of the terminal is taken
-header_number : (stage : Stage) (byte : ℕ) → listens stage ≡ true
-    → ((service : Service) (came : List ℕ) → stage ≡ Serving service came → still_to_go (with_character stage byte) plain < still_to_go stage plain)
-    → stage_number (with_character stage byte) < stage_number stage
-header_number (Taking_header bytes) byte due falls =
-    omega (arith, length-append bytes (byte ∷ []), ltb-true (length bytes) 5 due)
-header_number (Refusing h p3 status done) byte due falls = absurd (cc)
-header_number (Serving s came) byte due falls = falls s came refl
-header_number (Ending status) byte due falls = absurd (cc)
-
 pub header_falls : (ex after : ExchangeOf) (whole : List Dialogue) (front new : Front) (stage next : Stage) (byte : ℕ) → UnderWay ex whole front → UnderWay after whole new
     → after.repeated ≡ ex.repeated → listens stage ≡ true → next ≡ with_character stage byte
-    → ((service : Service) (came : List ℕ) → stage ≡ Serving service came → still_to_go next plain < still_to_go stage plain)
-    → characters_left after next < characters_left ex stage
+    → still_to_go next plain < still_to_go stage plain → characters_left after next < characters_left ex stage
 header_falls ex after whole front new stage next byte under later same due next_is falls =
-    let Falls : Stage → Type 0 = λ n. (service : Service) (came : List ℕ) → stage ≡ Serving service came → still_to_go n plain < still_to_go stage plain in
+    let Falls : Stage → Type 0 = λ n. still_to_go n plain < still_to_go stage plain in
     let Smaller : Stage → Type 0 = λ n. characters_left after n < characters_left ex stage in
     subst Smaller (sym next_is) (omega (
       arith,
       left_under ex stage whole front under,
       left_under after (with_character stage byte) whole new later,
       ap for_repetition same,
-      header_number stage byte due (subst Falls next_is falls),
+      subst Falls next_is falls,
     ))
 
 -- the card's characters fall
 past_the_header : (bytes : List ℕ) → under_way (Taking_header bytes) plain ≡ plain ∷ [] → ⊥
 past_the_header bytes is = absurd (cc)
-
-number_falls : (old new : Stage) → under_way new plain ≡ plain ∷ [] → still_to_go new plain < still_to_go old plain → stage_number new < stage_number old
-number_falls old (Taking_header bytes) under falls = absurd (past_the_header bytes under)
-number_falls (Taking_header bytes) (Refusing h p3 status done) under falls = omega (arith, falls)
-number_falls (Refusing i q first before) (Refusing h p3 status done) under falls = falls
-number_falls (Serving s came) (Refusing h p3 status done) under falls = falls
-number_falls (Ending before) (Refusing h p3 status done) under falls = falls
-number_falls (Taking_header bytes) (Serving s came) under falls = omega (arith, falls)
-number_falls (Refusing i q first before) (Serving s came) under falls = falls
-number_falls (Serving r before) (Serving s came) under falls = falls
-number_falls (Ending before) (Serving s came) under falls = falls
-number_falls (Taking_header bytes) (Ending status) under falls = omega (arith, falls)
-number_falls (Refusing i q first before) (Ending status) under falls = falls
-number_falls (Serving r before) (Ending status) under falls = falls
-number_falls (Ending before) (Ending status) under falls = falls
 
 pub card_falls : {State : Type 0} (Does : State → ℕ → Tpdu → State → Type 0) (standing : State) (prepared : Prepared State) (ex after : ExchangeOf) (whole : List Dialogue) (front new : Front)
     (old stage : Stage) (kept : Course) (byte : ℕ) → UnderWay ex whole front → UnderWay after whole new → after.repeated ≡ ex.repeated → kept ≡ plain
@@ -401,7 +342,7 @@ card_falls Does standing prepared ex after whole front new old stage kept byte u
       left_under ex old whole front under,
       left_under after stage whole new later,
       ap for_repetition same,
-      number_falls old stage (begun Does standing prepared stage 256 byte plain front new goes stands) (subst Falls kept_is falls),
+      subst Falls kept_is falls,
     )
 
 pub repetition_falls : (ex after : ExchangeOf) (whole more : List Dialogue) (front : Front) (old stage : Stage) → UnderWay ex whole front → UnderWay after more fresh

@@ -15,7 +15,7 @@ use Rattle.t0_core.specs.Meaning.{received}
 use Rattle.t0_core.specs.Front.{Front, In_header, In_body, After_first, GoesOn, Ends, fresh}
 use Rattle.t0_core.specs.Room.{Room}
 use Rattle.t0_core.specs.HostSide.{Hosting, HostStandsAt, at_stage, turn_of, after_turn, data_in, gathered}
-use Rattle.t0_core.proofs.DialogueLists.{flat_map_last}
+use Rattle.t0_core.specs.DialogueLaws.{flat_map_last}
 use Rattle.card_trace.specs.Gathered.{Everything, Asks, Single, Repeated, repeats_with}
 use Rattle.card_trace.specs.ExchangeSide.{ExchangeOf, UnderWay, IsDone, IsAttempt, moved_in, from_card, with_host, count_again}
 

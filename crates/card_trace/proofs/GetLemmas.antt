@@ -23,7 +23,7 @@ use Rattle.card_trace.specs.Talk.{Get, Reply, IsTalk}
 use Rattle.std.specs.Option.{IfSome, SomeIff}
 use Rattle.std.specs.Result.{OnOk}
 use Rattle.std.specs.Io.KnownBytes.{Appends}
-use Rattle.tlv_core.proofs.Addresses.{named_tags_agree}
+use Rattle.tlv_core.specs.AddressLaws.{named_tags_agree}
 use Rattle.card_trace.specs.TraceText.{trace_text, WritesTalk}
 use Rattle.card_trace.specs.ExchangeSide.{ExchangeOf, IsDone, IsEnded}
 use Rattle.card_trace.specs.Conversing.{AreOver}

@@ -16,7 +16,8 @@ pub record Holding : Type 0 where
 
 abbrev pub prepared_of : Pair → Ready → Prepared Pair
 prepared_of pair Idle = Nothing
-prepared_of pair (Sends header p3 cut) = Sending (record { header = header; p3 = p3; cut = cut }) (take (count p3) (object_of pair))
+prepared_of pair (Sends header p3 cut) =
+    Sending (record { header = header; p3 = p3; cut = cut }) (take (count p3) (object_of pair))
 prepared_of pair Answered = Decided pair
 
 -- only what was accepted is sent

@@ -1,5 +1,5 @@
 -- A terminal and a card that exchange characters, over the empty list of plans.
-use Rattle.std.specs.Prelude.{◌≡◌, ℕ, ◌+◌, ◌-◌, List, [], ◌++◌, length, Bool, true, false, if◌then◌else◌}
+use Rattle.std.specs.Prelude.{◌≡◌, ℕ, ◌+◌, List, [], ◌++◌, Bool, true, false, if◌then◌else◌}
 use Rattle.std.specs.List.{AllByRecursion, flat_map}
 use Rattle.t0_core.specs.declared.host_end.HostStage.{HostStage}
 use Rattle.t0_core.specs.declared.host_end.HostStage.TheVariants.{SendingHeader, Awaiting, Moving, AwaitingSecond, Ended, Broken}
@@ -19,14 +19,17 @@ KeepsNone (Serving s came) cursor = plan_kept cursor ≡ plain
 KeepsNone (Ending status) cursor = plan_kept cursor ≡ plain
 
 -- these dialogues are over: they follow the plans, and are a run of the card's meaning
-pub record AreOver {State : Type 0} (Does : State → ℕ → Tpdu → State → Type 0) (first : State) (whole : List Dialogue) (standing : State) : Type 0 where
+pub record AreOver {State : Type 0} (Does : State → ℕ → Tpdu → State → Type 0) (first : State)
+    (whole : List Dialogue) (standing : State) : Type 0 where
   pub are_dialogues : AllByRecursion IsDialogue whole
   pub follow : FollowInTurn whole []
   pub runs : Runs Does first whole [] standing
 
 -- a TPDU is under way, and both ends stand at the same front of its dialogue
-pub record IsUnderWay {State : Type 0} (Does : State → ℕ → Tpdu → State → Type 0) (first : State) (since : Hearing)
-    (standing : State) (prepared : Prepared State) (stage : Stage) (ex : ExchangeOf) (cursor : Cursor) (now : Hearing) : Type 0 where
+pub record IsUnderWay {State : Type 0} (Does : State → ℕ → Tpdu → State → Type 0) (first : State)
+    (since : Hearing)
+    (standing : State) (prepared : Prepared State) (stage : Stage) (ex : ExchangeOf)
+        (cursor : Cursor) (now : Hearing) : Type 0 where
   pub whole : List Dialogue
   pub front : Front
   pub over : AreOver Does first whole standing
@@ -39,7 +42,8 @@ pub record IsUnderWay {State : Type 0} (Does : State → ℕ → Tpdu → State 
   pub kept : KeepsNone stage cursor
 
 -- the exchange is over, and the card's end waits for a header
-pub record IsFinished {State : Type 0} (Does : State → ℕ → Tpdu → State → Type 0) (first : State) (since : Hearing)
+pub record IsFinished {State : Type 0} (Does : State → ℕ → Tpdu → State → Type 0) (first : State)
+    (since : Hearing)
     (standing : State) (stage : Stage) (ex : ExchangeOf) (now : Hearing) : Type 0 where
   pub whole : List Dialogue
   pub over : AreOver Does first whole standing
@@ -49,10 +53,7 @@ pub record IsFinished {State : Type 0} (Does : State → ℕ → Tpdu → State 
 
 -- a number that falls with each character that is passed
 abbrev pub stage_number : Stage → ℕ
-stage_number (Taking_header bytes) = 300 + (5 - length bytes)
-stage_number (Refusing header p3 status done) = still_to_go (Refusing header p3 status done) plain
-stage_number (Serving s came) = still_to_go (Serving s came) plain
-stage_number (Ending status) = still_to_go (Ending status) plain
+stage_number stage = still_to_go stage plain
 
 abbrev pub is_over : HostStage → Bool
 is_over (SendingHeader sent) = false
@@ -68,4 +69,5 @@ for_repetition true = 0
 for_repetition false = 1000
 
 abbrev pub characters_left : ExchangeOf → Stage → ℕ
-characters_left ex stage = if is_over ex.host.stage then 0 else 1 + for_repetition ex.repeated + stage_number stage
+characters_left ex stage = if is_over ex.host.stage then 0 else 1 + for_repetition ex.repeated
+    + stage_number stage

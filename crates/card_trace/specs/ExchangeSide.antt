@@ -1,4 +1,5 @@
--- How far an exchange of a command that asks for all there is has come, as far as the first path goes: one unit.
+-- How far an exchange of a command that asks for all there is has come, as far as the first path
+-- goes: one unit.
 use Rattle.std.specs.Prelude.{◌≡◌, ℕ, ◌<◌, List, [], ◌∷◌, ◌++◌, Some, None, Option, Bool, true, false, ◌⊎◌}
 use Rattle.std.specs.List.{flat_map}
 use Rattle.apdu_core.specs.declared.header.Header.{Header}
@@ -14,7 +15,8 @@ use Rattle.t0_core.specs.Room.{Room}
 use Rattle.t0_core.specs.HostSide.{Hosting, HostStandsAt}
 use Rattle.card_trace.specs.Gathered.{Everything, Asks, UnitOf, first_of, last_of, dialogues_of, unit_data, IsUnit}
 
--- what an exchange keeps: the header, the end of the TPDU under way, the data so far, and whether this TPDU is a repetition
+-- what an exchange keeps: the header, the end of the TPDU under way, the data so far, and whether
+-- this TPDU is a repetition
 pub record ExchangeOf : Type 0 where
   pub header : Header
   pub host : Hosting
@@ -59,11 +61,13 @@ pub record IsDone (ex : ExchangeOf) (whole : List Dialogue) : Type 0 where
   pub gathered : ex.gather.bytes ≡ unit_data unit
 
 abbrev pub with_host : ExchangeOf → Hosting → ExchangeOf
-with_host ex host = record { header = ex.header; host = host; gather = ex.gather; repeated = ex.repeated }
+with_host ex host = record { header = ex.header; host = host; gather = ex.gather;
+    repeated = ex.repeated }
 
 -- after a dialogue the exchange is over, or repeats it, once
 abbrev pub Continues : ExchangeOf → ExchangeOf → List Dialogue → Type 0
-Continues old new whole = (UnderWay new whole fresh × (new.repeated ≡ true) × (old.repeated ≡ false)) ⊎ IsDone new whole
+Continues old new whole =
+    (UnderWay new whole fresh × (new.repeated ≡ true) × (old.repeated ≡ false)) ⊎ IsDone new whole
 
 -- the count that a first TPDU is repeated with
 abbrev pub count_again : Bool → StatusWord → Option ℕ

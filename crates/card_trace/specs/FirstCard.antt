@@ -1,5 +1,5 @@
--- The first card: it holds one object, whose application is selected for good (this project's profile, with
--- the status meanings of ISO/IEC 7816-4).
+-- The first card: it holds one object, whose application is selected for good (this project's
+-- profile, with the status meanings of ISO/IEC 7816-4).
 use Rattle.std.specs.Prelude.{◌≡◌, ◌≢◌, ℕ, suc, ◌%◌, ◌<◌, ◌≤◌, min, List, [], ◌∷◌, length, take, drop, ◌⊎◌}
 use Rattle.apdu_core.specs.declared.header.Header.{Header}
 use Rattle.apdu_core.specs.StatusWord.{StatusWord, ok, count}
@@ -29,11 +29,14 @@ pub data Refuses (pair : Pair) (h : Header) (p3 : ℕ) : StatusWord → Type 0 w
   class_not_supported : (IsClassKnown h → ⊥) → Refuses pair h p3 (0x6E, 0x00)
   instruction_not_supported : IsClassKnown h → h.ins ≢ 0xCA → Refuses pair h p3 (0x6D, 0x00)
   chaining_not_supported : h.cla ≡ 0x10 → h.ins ≡ 0xCA → Refuses pair h p3 (0x68, 0x84)
-  wrong_parameters : IsClassKnown h → h.ins ≡ 0xCA → h.cla ≢ 0x10 → ((tag : List ℕ) → NamesTag tag h.p1 h.p2 → ⊥)
+  wrong_parameters : IsClassKnown h → h.ins ≡ 0xCA → h.cla ≢ 0x10
+      → ((tag : List ℕ) → NamesTag tag h.p1 h.p2 → ⊥)
       → Refuses pair h p3 (0x6A, 0x86)
-  not_found : IsClassKnown h → h.ins ≡ 0xCA → h.cla ≢ 0x10 → IsNamed h → (NamesTag pair.tag h.p1 h.p2 → ⊥)
+  not_found : IsClassKnown h → h.ins ≡ 0xCA → h.cla ≢ 0x10 → IsNamed h
+      → (NamesTag pair.tag h.p1 h.p2 → ⊥)
       → Refuses pair h p3 (0x6A, 0x88)
-  wrong_length : IsClassKnown h → h.ins ≡ 0xCA → h.cla ≢ 0x10 → NamesTag pair.tag h.p1 h.p2 → length (object_of pair) < count p3
+  wrong_length : IsClassKnown h → h.ins ≡ 0xCA → h.cla ≢ 0x10 → NamesTag pair.tag h.p1 h.p2
+      → length (object_of pair) < count p3
       → Refuses pair h p3 (0x6C, length (object_of pair))
 
 -- a header that is not refused: GET DATA of the tag held, for no more than there is
@@ -49,10 +52,13 @@ abbrev pub announcing : List ℕ → ℕ → StatusWord
 announcing [] cut = ok
 announcing (b ∷ left) cut = (0x61, min (suc (length left)) cut % 256)
 
--- What a TPDU does: a header is refused, or as many bytes are sent as P3 counts. Nothing is pending afterwards.
+-- What a TPDU does: a header is refused, or as many bytes are sent as P3 counts. Nothing is pending
+-- afterwards.
 pub data Does : Pair → ℕ → Tpdu → Pair → Type 0 where
-  refuses : {pair : Pair} {cut : ℕ} (h : Header) (p3 : ℕ) (status : StatusWord) → Refuses pair h p3 status
-      → Does pair cut (record { header = h; p3 = p3; sent = []; received = []; status = status }) pair
+  refuses : {pair : Pair} {cut : ℕ} (h : Header) (p3 : ℕ) (status : StatusWord)
+      → Refuses pair h p3 status
+      → Does pair cut (record { header = h; p3 = p3; sent = []; received = []; status = status })
+          pair
   sends : {pair : Pair} {cut : ℕ} (h : Header) (p3 : ℕ) → Accepts pair h p3
       → Does pair cut (record {
         header = h;

@@ -14,7 +14,8 @@ pub data Wanted : Type 0 where
   Bytes : (n : ℕ) → Wanted
   Everything : Wanted
 
--- nothing without Le; with Le = 00, read as 256, everything, also past 256 bytes (this project's profile)
+-- nothing without Le; with Le = 00, read as 256, everything, also past 256 bytes (this project's
+-- profile)
 abbrev pub wanted_by : Option ℕ → Wanted
 wanted_by None = Bytes 0
 wanted_by (Some n) = if n == 256 then Everything else Bytes n
@@ -48,13 +49,16 @@ pub record Asks (header : Header) (n : ℕ) (d : Dialogue) : Type 0 where
 abbrev pub BeginsWith : List ℕ → List ℕ → Type 0
 BeginsWith whole front = (rest : List ℕ) × (whole ≡ front ++ rest)
 
--- The first dialogue of a command (12.2.1). Case 1 sends P3 = 00, case 2 Le, cases 3 and 4 Lc and a front of the data.
+-- The first dialogue of a command (12.2.1). Case 1 sends P3 = 00, case 2 Le, cases 3 and 4 Lc and a
+-- front of the data.
 abbrev pub Opens : Command → Dialogue → Type 0
 Opens c d = OpensBy c.content c.le where
   OpensBy : List ℕ → Option ℕ → Type 0
   OpensBy [] (Some n) = Asks c.header n d
-  OpensBy [] None = (d.body.header ≡ c.header) × (d.body.direction ≡ ToCard) × (d.body.p3 ≡ 0) × (d.body.moved ≡ [])
-  OpensBy (b ∷ bs) le = (d.body.header ≡ c.header) × (d.body.direction ≡ ToCard) × (d.body.p3 ≡ length (b ∷ bs)) × BeginsWith (b ∷ bs) d.body.moved
+  OpensBy [] None = (d.body.header ≡ c.header) × (d.body.direction ≡ ToCard) × (d.body.p3 ≡ 0)
+      × (d.body.moved ≡ [])
+  OpensBy (b ∷ bs) le = (d.body.header ≡ c.header) × (d.body.direction ≡ ToCard)
+      × (d.body.p3 ≡ length (b ∷ bs)) × BeginsWith (b ∷ bs) d.body.moved
 
 -- One or two dialogues: a second repeats the first with the count that a 6CXX gave, at most once.
 pub data UnitOf : Type 0 where
@@ -76,7 +80,8 @@ dialogues_of (Repeated d e) = d ∷ e ∷ []
 abbrev pub unit_data : UnitOf → List ℕ
 unit_data u = flat_map received (dialogues_of u)
 
--- the count that the card wants instead, where the TPDU asked for data and the count is no more than what is still wanted
+-- the count that the card wants instead, where the TPDU asked for data and the count is no more
+-- than what is still wanted
 abbrev pub repeats_with : Wanted → Dialogue → Option ℕ
 repeats_with wanted d = RepeatsWith d.body.direction (corrects d.status) where
   RepeatsWith : Direction → Option ℕ → Option ℕ
@@ -94,19 +99,24 @@ after_unit wanted u = less wanted (length (unit_data u))
 -- a unit has two dialogues exactly where the first is to be repeated
 abbrev pub IsUnit : Wanted → UnitOf → Type 0
 IsUnit wanted (Single d) = repeats_with (after_dialogue wanted d) d ≡ None
-IsUnit wanted (Repeated d e) = (n : ℕ) × (repeats_with (after_dialogue wanted d) d ≡ Some n) × Asks d.body.header n e
+IsUnit wanted (Repeated d e) = (n : ℕ) × (repeats_with (after_dialogue wanted d) d ≡ Some n)
+    × Asks d.body.header n e
 
 -- what is announced at the end of a unit, where more is wanted
 abbrev pub more_after : Wanted → UnitOf → Option ℕ
-more_after wanted u = if wants_some (after_unit wanted u) then announces (last_of u).status else None
+more_after wanted u =
+    if wants_some (after_unit wanted u) then announces (last_of u).status else None
 
--- Units that fetch what was announced. Each but the last brings data, and announces more that is wanted.
+-- Units that fetch what was announced. Each but the last brings data, and announces more that is
+-- wanted.
 abbrev pub Fetch : Wanted → ℕ → List UnitOf → Type 0
 Fetch wanted announced [] = ⊥
-Fetch wanted announced (u ∷ []) = Asks get_response (smaller announced wanted) (first_of u) × IsUnit wanted u
+Fetch wanted announced (u ∷ []) = Asks get_response (smaller announced wanted) (first_of u)
+    × IsUnit wanted u
 Fetch wanted announced (u ∷ next ∷ units) =
     Asks get_response (smaller announced wanted) (first_of u) × IsUnit wanted u × (unit_data u ≢ [])
-    × ((more : ℕ) × (more_after wanted u ≡ Some more) × Fetch (after_unit wanted u) more (next ∷ units))
+    × ((more : ℕ) × (more_after wanted u ≡ Some more)
+        × Fetch (after_unit wanted u) more (next ∷ units))
 
 -- The units of an exchange so far: its last unit may end in any status.
 abbrev pub IsOpenExchange : Command → List UnitOf → Type 0
@@ -114,10 +124,12 @@ IsOpenExchange c [] = ⊥
 IsOpenExchange c (u ∷ []) = Opens c (first_of u) × IsUnit (wanted_by c.le) u
 IsOpenExchange c (u ∷ next ∷ units) =
     Opens c (first_of u) × IsUnit (wanted_by c.le) u
-    × ((more : ℕ) × (more_after (wanted_by c.le) u ≡ Some more) × Fetch (after_unit (wanted_by c.le) u) more (next ∷ units))
+    × ((more : ℕ) × (more_after (wanted_by c.le) u ≡ Some more)
+        × Fetch (after_unit (wanted_by c.le) u) more (next ∷ units))
 
 -- The units of a whole exchange: no more is fetched after the last, which gives the status.
-pub record Gathers (c : Command) (units : List UnitOf) (gathered : List ℕ) (status : StatusWord) : Type 0 where
+pub record Gathers (c : Command) (units : List UnitOf) (gathered : List ℕ) (status : StatusWord)
+    : Type 0 where
   pub is_open : IsOpenExchange c units
   pub all_data : gathered ≡ flat_map unit_data units
   pub ends : (front : List UnitOf) × (last : UnitOf) × (units ≡ front ++ last ∷ [])

@@ -7,3 +7,4 @@ pub mod ExchangeSide
 pub mod Conversing
 pub mod TraceText
 pub mod LineBreaks
+pub mod FaultText

@@ -1,4 +1,5 @@
--- What a whole talk of operations is: dialogues that follow the plans, are a run of the card, and carry the operations.
+-- What a whole talk of operations is: dialogues that follow the plans, are a run of the card, and
+-- carry the operations.
 use Rattle.std.specs.Prelude.{◌≡◌, ◌≢◌, ℕ, List, [], ◌∷◌, ◌++◌, Some, ◌⊎◌}
 use Rattle.std.specs.List.{AllByRecursion, flat_map}
 use Rattle.apdu_core.specs.StatusWord.{StatusWord, ok}
@@ -24,14 +25,19 @@ pub record Reply : Type 0 where
 
 -- the commands of an operation: SELECT by AID and GET DATA with Le = 00, and a chain of PUT DATA
 abbrev pub IsCommandsOf : Operation → List Command → Type 0
-IsCommandsOf (Select aid) commands = commands ≡ record { header = record { cla = 0x00; ins = 0xA4; p1 = 0x04; p2 = 0x00 }; content = aid; le = Some 256 } ∷ []
+IsCommandsOf (Select aid) commands =
+    commands ≡ record { header = record { cla = 0x00; ins = 0xA4; p1 = 0x04; p2 = 0x00 };
+    content = aid; le = Some 256 } ∷ []
 IsCommandsOf (Get tag) commands =
-    (p1 p2 : ℕ) × NamesTag tag p1 p2 × (commands ≡ record { header = record { cla = 0x00; ins = 0xCA; p1 = p1; p2 = p2 }; content = []; le = Some 256 } ∷ [])
+    (p1 p2 : ℕ) × NamesTag tag p1 p2
+        × (commands ≡ record { header = record { cla = 0x00; ins = 0xCA; p1 = p1; p2 = p2 };
+        content = []; le = Some 256 } ∷ [])
 IsCommandsOf (Put tag value) commands =
     (p1 p2 : ℕ) × (pieces : List (List ℕ)) × NamesTag tag p1 p2 × IsPieces value pieces
     × (commands ≡ chain_commands (record { cla = 0x00; ins = 0xDA; p1 = p1; p2 = p2 }) pieces)
 
--- Commands are exchanged one after another, up to the first whose status is not 9000. Their units, and the last reply.
+-- Commands are exchanged one after another, up to the first whose status is not 9000. Their units,
+-- and the last reply.
 abbrev pub Exchanged : List Command → List UnitOf → Reply → Type 0
 Exchanged [] units reply = ⊥
 Exchanged (c ∷ []) units reply = Gathers c units reply.content reply.status
@@ -50,7 +56,8 @@ Carries (o ∷ operations) units (r ∷ replies) =
     × IsCommandsOf o commands × Exchanged commands first r × Carries operations others replies
 
 -- A talk with a card of this meaning, under these plans.
-pub record IsTalk {State : Type 0} (Does : State → ℕ → Tpdu → State → Type 0) (plans : List Course) (operations : List Operation)
+pub record IsTalk {State : Type 0} (Does : State → ℕ → Tpdu → State → Type 0) (plans : List Course)
+    (operations : List Operation)
     (old : State) (replies : List Reply) (new : State) (heard : List Character) : Type 0 where
   pub units : List UnitOf
   pub are_dialogues : AllByRecursion IsDialogue (flat_map dialogues_of units)

@@ -1,4 +1,5 @@
--- The text of a trace: a line for each longest run of characters from one end, and a line for the answer.
+-- The text of a trace: a line for each longest run of characters from one end, and a line for the
+-- answer.
 use Rattle.std.specs.Prelude.{ℕ, List, [], ◌∷◌, ◌++◌, codes, Bool, true, false, if◌then◌else◌, Option}
 use Rattle.std.specs.List.{flat_map}
 use Rattle.std.specs.Io.KnownBytes.{Appends}
@@ -52,7 +53,8 @@ data_text [] = []
 data_text (b ∷ bytes) = codes " " ++ encode_upper (b ∷ bytes)
 
 abbrev pub answer_text : Reply → List ℕ
-answer_text reply = codes "= " ++ encode_upper (reply.status.0 ∷ reply.status.1 ∷ []) ++ data_text reply.content ++ newline
+answer_text reply = codes "= " ++ encode_upper (reply.status.0 ∷ reply.status.1 ∷ [])
+    ++ data_text reply.content ++ newline
 
 abbrev pub trace_text : List Character → Reply → List ℕ
 trace_text heard reply = characters_text heard ++ answer_text reply

@@ -16,9 +16,11 @@ use tlv_core::ObjectTag;
 ///
 /// `Write` is a fault of the writer; `OutOfMemory` comes before anything is written.
 pub fn first_lines<A: Allocator + Copy, W: Write>(alloc: A, writer: &mut W) -> Result<(), PlayFault>
-    ensures written { OnOk result (WritesTalk (record { tag = 0x5F ∷ 0x20 ∷ []; value = 0x4A ∷ 0x4F ∷ 0x45 ∷ [] }) (0x5F ∷ 0x20 ∷ [])
+    ensures written { OnOk result (WritesTalk
+        (record { tag = 0x5F ∷ 0x20 ∷ []; value = 0x4A ∷ 0x4F ∷ 0x45 ∷ [] }) (0x5F ∷ 0x20 ∷ [])
         (W.contents writer.old) (W.contents writer.new)) }
-    ensures unwritten { IsErrOf result PlayFault.OutOfMemory → W.contents writer.new ≡ W.contents writer.old }
+    ensures unwritten { IsErrOf result PlayFault.OutOfMemory →
+        W.contents writer.new ≡ W.contents writer.old }
 {
     let name = ObjectTag::from_p1p2(0x5F, 0x20).unwrap();
     get_lines(
@@ -40,8 +42,10 @@ pub fn get_lines<A: Allocator + Copy, W: Write>(
 ) -> Result<(), PlayFault>
     requires fits { length card.pair.value ≤ 127 }
     requires addressable { IsAddressable card.pair.tag }
-    ensures written { OnOk result (WritesTalk card.entry.pair asked (W.contents writer.old) (W.contents writer.new)) }
-    ensures unwritten { IsErrOf result PlayFault.OutOfMemory → W.contents writer.new ≡ W.contents writer.old }
+    ensures written { OnOk result
+        (WritesTalk card.entry.pair asked (W.contents writer.old) (W.contents writer.new)) }
+    ensures unwritten { IsErrOf result PlayFault.OutOfMemory →
+        W.contents writer.new ≡ W.contents writer.old }
 {
     let (p1, p2) = asked.p1p2();
     let header = Header {

@@ -3,6 +3,7 @@
 
 mod answer;
 mod exchange;
+mod exit_status;
 mod first_card;
 mod first_lines;
 mod play_fault;
@@ -11,17 +12,13 @@ mod session;
 mod tests;
 mod trace;
 
+use exit_status::exit_status;
 use first_lines::first_lines;
 use std::io;
 use std::process::ExitCode;
 
-/// Prints the trace of one GET DATA. A fault is printed on standard error, with status 1.
+/// Prints the trace of one GET DATA. A fault is told on standard error, with status 1.
 fn main(rt: HostRuntime) -> ExitCode {
-    match first_lines(rt.alloc(), &mut io::writer(&rt)) {
-        Ok(()) => ExitCode::SUCCESS,
-        Err(fault) => {
-            let _ = eprintln!(rt; "{fault}");
-            ExitCode::FAILURE
-        }
-    }
+    let outcome = first_lines(rt.alloc(), &mut io::writer(&rt));
+    ExitCode::from(exit_status(&outcome, &mut io::writer(&rt.stderr())))
 }

@@ -1,6 +1,7 @@
 ghost use Rattle.std.specs.Prelude.{◌≤◌, length};
 
 use crate::exchange::Exchange;
+use crate::exit_status::exit_status;
 use crate::first_card::FirstCard;
 use crate::first_lines::{first_lines, get_lines};
 use crate::play_fault::PlayFault;
@@ -185,4 +186,31 @@ impl Write for Broken {
 fn failing_writer_is_a_write_fault(rt: HostRuntime) {
     let result = first_lines(rt.alloc(), &mut Broken);
     assert!(rt; matches!(result, Err(PlayFault::Write)));
+}
+
+/// A fault is told in one line, with status 1, also where it cannot be told; a success is not told.
+#[test]
+fn faults_are_told(rt: HostRuntime) -> Result<(), Fail> {
+    for (outcome, status, told) in [
+        (Ok(()), 0, b"".as_slice()),
+        (Err(PlayFault::Write), 1, b"write fault\n"),
+        (Err(PlayFault::OutOfMemory), 1, b"out of memory\n"),
+    ] {
+        let mut faults = Vec::new(rt.alloc());
+        assert_eq!(rt; exit_status(&outcome, &mut faults), status);
+        assert_eq!(rt; faults.as_slice(), told);
+        assert_eq!(rt; exit_status(&outcome, &mut Broken), status);
+    }
+    Ok(())
+}
+
+#[test]
+fn texts_of_faults(rt: HostRuntime) -> Result<(), Fail> {
+    for (fault, text) in [
+        (PlayFault::Write, "write fault"),
+        (PlayFault::OutOfMemory, "out of memory"),
+    ] {
+        assert_eq!(rt; format!(in rt.alloc(); "{fault}")?.as_str(), text);
+    }
+    Ok(())
 }

@@ -1,6 +1,6 @@
 use Rattle.std.proofs.Common.{◌≡◌, ◌∙◌, arith, ap, true, not, is_some}
 use Rattle.card_trace.specs.FirstCard.{class_not_supported, instruction_not_supported, chaining_not_supported, wrong_parameters, not_found, wrong_length}
-use Rattle.tlv_core.proofs.Addresses.{addresses_agree}
+use Rattle.tlv_core.specs.AddressLaws.{addresses_agree}
 use Rattle.card_trace.proofs.FirstCardLemmas.{both_ways}
 use Rattle.card_trace.proofs.first_card.judged.Goals as goal
 use Rattle.card_trace.proofs.first_card.judged.Goals.{then-p1-header-via-then-p1-header, then-p1-header-via-else-p1-header+then-p2-header}

@@ -1,6 +1,6 @@
 use Rattle.std.proofs.Common.{ap, refl, lit<, lit≤, ◌∷◌, []}
 use Rattle.card_trace.specs.CardView.{Holding}
-use Rattle.tlv_core.proofs.Addresses.{named_tags_agree}
+use Rattle.tlv_core.specs.AddressLaws.{named_tags_agree}
 use Rattle.card_trace.proofs.GetLemmas.{if_some, of_name}
 use Rattle.card_trace.proofs.first_lines.first_lines.Goals as goal
 

@@ -29,7 +29,7 @@ pub record AreOver {State : Type 0} (Does : State → ℕ → Tpdu → State →
 pub record IsUnderWay {State : Type 0} (Does : State → ℕ → Tpdu → State → Type 0) (first : State)
     (since : Hearing)
     (standing : State) (prepared : Prepared State) (stage : Stage) (ex : ExchangeOf)
-        (cursor : Cursor) (now : Hearing) : Type 0 where
+    (cursor : Cursor) (now : Hearing) : Type 0 where
   pub whole : List Dialogue
   pub front : Front
   pub over : AreOver Does first whole standing

@@ -61,8 +61,12 @@ pub record IsDone (ex : ExchangeOf) (whole : List Dialogue) : Type 0 where
   pub gathered : ex.gather.bytes ≡ unit_data unit
 
 abbrev pub with_host : ExchangeOf → Hosting → ExchangeOf
-with_host ex host = record { header = ex.header; host = host; gather = ex.gather;
-    repeated = ex.repeated }
+with_host ex host = record {
+  header = ex.header;
+  host = host;
+  gather = ex.gather;
+  repeated = ex.repeated;
+}
 
 -- after a dialogue the exchange is over, or repeats it, once
 abbrev pub Continues : ExchangeOf → ExchangeOf → List Dialogue → Type 0

@@ -58,7 +58,7 @@ pub data Does : Pair → ℕ → Tpdu → Pair → Type 0 where
   refuses : {pair : Pair} {cut : ℕ} (h : Header) (p3 : ℕ) (status : StatusWord)
       → Refuses pair h p3 status
       → Does pair cut (record { header = h; p3 = p3; sent = []; received = []; status = status })
-          pair
+      pair
   sends : {pair : Pair} {cut : ℕ} (h : Header) (p3 : ℕ) → Accepts pair h p3
       → Does pair cut (record {
         header = h;

@@ -116,7 +116,7 @@ Fetch wanted announced (u ∷ []) = Asks get_response (smaller announced wanted)
 Fetch wanted announced (u ∷ next ∷ units) =
     Asks get_response (smaller announced wanted) (first_of u) × IsUnit wanted u × (unit_data u ≢ [])
     × ((more : ℕ) × (more_after wanted u ≡ Some more)
-        × Fetch (after_unit wanted u) more (next ∷ units))
+    × Fetch (after_unit wanted u) more (next ∷ units))
 
 -- The units of an exchange so far: its last unit may end in any status.
 abbrev pub IsOpenExchange : Command → List UnitOf → Type 0
@@ -125,7 +125,7 @@ IsOpenExchange c (u ∷ []) = Opens c (first_of u) × IsUnit (wanted_by c.le) u
 IsOpenExchange c (u ∷ next ∷ units) =
     Opens c (first_of u) × IsUnit (wanted_by c.le) u
     × ((more : ℕ) × (more_after (wanted_by c.le) u ≡ Some more)
-        × Fetch (after_unit (wanted_by c.le) u) more (next ∷ units))
+    × Fetch (after_unit (wanted_by c.le) u) more (next ∷ units))
 
 -- The units of a whole exchange: no more is fetched after the last, which gives the status.
 pub record Gathers (c : Command) (units : List UnitOf) (gathered : List ℕ) (status : StatusWord)

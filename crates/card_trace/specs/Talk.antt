@@ -26,12 +26,18 @@ pub record Reply : Type 0 where
 -- the commands of an operation: SELECT by AID and GET DATA with Le = 00, and a chain of PUT DATA
 abbrev pub IsCommandsOf : Operation → List Command → Type 0
 IsCommandsOf (Select aid) commands =
-    commands ≡ record { header = record { cla = 0x00; ins = 0xA4; p1 = 0x04; p2 = 0x00 };
-    content = aid; le = Some 256 } ∷ []
+    commands ≡ record {
+      header = record { cla = 0x00; ins = 0xA4; p1 = 0x04; p2 = 0x00 };
+      content = aid;
+      le = Some 256;
+    } ∷ []
 IsCommandsOf (Get tag) commands =
     (p1 p2 : ℕ) × NamesTag tag p1 p2
-        × (commands ≡ record { header = record { cla = 0x00; ins = 0xCA; p1 = p1; p2 = p2 };
-        content = []; le = Some 256 } ∷ [])
+    × (commands ≡ record {
+      header = record { cla = 0x00; ins = 0xCA; p1 = p1; p2 = p2 };
+      content = [];
+      le = Some 256;
+    } ∷ [])
 IsCommandsOf (Put tag value) commands =
     (p1 p2 : ℕ) × (pieces : List (List ℕ)) × NamesTag tag p1 p2 × IsPieces value pieces
     × (commands ≡ chain_commands (record { cla = 0x00; ins = 0xDA; p1 = p1; p2 = p2 }) pieces)

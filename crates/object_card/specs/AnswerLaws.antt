@@ -16,10 +16,11 @@ same_entries a b same =
 pub answers_alike : (a b a' : CardState) (operation : Operation) (answer : Reply) → SameTables a b
     → Answers a operation answer a'
     → (b' : CardState) × Answers b operation answer b' × SameTables a' b'
-answers_alike a b a' operation answer same (selects aid held) =
-    (with_selected b aid,
-        selects aid (subst (λ apps. is_some (entries_in aid apps) ≡ true) same.0 held),
-        (same.0, refl))
+answers_alike a b a' operation answer same (selects aid held) = (
+  with_selected b aid,
+  selects aid (subst (λ apps. is_some (entries_in aid apps) ≡ true) same.0 held),
+  (same.0, refl),
+)
 answers_alike a b a' operation answer same (finds_no_application aid none) =
     (b, finds_no_application aid (subst (λ apps. entries_in aid apps ≡ None) same.0 none), same)
 answers_alike a b a' operation answer same (none_selected op kind none) =

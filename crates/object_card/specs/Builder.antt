@@ -75,7 +75,7 @@ TakesObject tag value applications =
 abbrev pub RefusesObject : List ℕ → List ℕ → List Application → BuilderFault → Type 0
 RefusesObject tag value applications fault =
     MatchOption (last_added applications) (fault ≡ NoApp)
-        (λ a. RefusesEntry tag value a.entries fault)
+    (λ a. RefusesEntry tag value a.entries fault)
 
 -- a card that holds these applications, nothing selected, nothing pending, and no answer under way
 abbrev pub new_card : List Application → CardView

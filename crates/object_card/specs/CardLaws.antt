@@ -14,7 +14,7 @@ PutLeaves old (Select aid) new = Unit {0}
 PutLeaves old (Get tag) new = Unit {0}
 PutLeaves old (Put tag value) new = (new ≡ old)
     ⊎ ((aid : List ℕ) × (entries : List Entry) × (old.selected ≡ Some aid)
-        × (entries_in aid old.applications ≡ Some entries)
+    × (entries_in aid old.applications ≡ Some entries)
     × PutStatus entries tag value ok × (new ≡ with_put old aid tag value))
 
 stays : (old : CardState) (operation : Operation) → PutLeaves old operation old
@@ -59,7 +59,7 @@ chaining_keeps_applications old new cut tpdu
 pub refused_moves_nothing : (old new : CardState) (cut : ℕ) (tpdu : Tpdu) (status : StatusWord)
     → Does old cut tpdu new
     → refusal old tpdu.header tpdu.p3 ≡ Some status → (tpdu.sent ≡ []) × (tpdu.received ≡ [])
-        × (tpdu.status ≡ status)
+    × (tpdu.status ≡ status)
 refused_moves_nothing old new cut tpdu status (refuses h p3 other is) refused =
     let e : other ≡ status = cc in (refl, refl, e)
 refused_moves_nothing old new cut tpdu status (selects_application h aid is ins held) refused =

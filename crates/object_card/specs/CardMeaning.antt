@@ -34,14 +34,24 @@ pub data Does : CardState → ℕ → Tpdu → CardState → Type 0 where
   selects_application : {old : CardState} {cut : ℕ} (h : Header) (aid : List ℕ)
       → refusal old h (length aid) ≡ None → is_select h ≡ true
       → is_some (entries_in aid old.applications) ≡ true
-      → Does old cut (record { header = h; p3 = length aid; sent = aid; received = [];
-          status = announcing (control_information aid) cut })
+      → Does old cut (record {
+        header = h;
+        p3 = length aid;
+        sent = aid;
+        received = [];
+        status = announcing (control_information aid) cut;
+      })
       (with_pending (with_selected old aid) (ResponsePending (control_information aid)))
   misses_application : {old : CardState} {cut : ℕ} (h : Header) (aid : List ℕ)
       → refusal old h (length aid) ≡ None → is_select h ≡ true
       → entries_in aid old.applications ≡ None
-      → Does old cut (record { header = h; p3 = length aid; sent = aid; received = [];
-          status = (0x6A, 0x82) })
+      → Does old cut (record {
+        header = h;
+        p3 = length aid;
+        sent = aid;
+        received = [];
+        status = (0x6A, 0x82);
+      })
       (with_pending old NothingPending)
   sends : {old : CardState} {cut : ℕ} (h : Header) (p3 : ℕ) → refusal old h p3 ≡ None
       → is_get h || is_get_response h ≡ true
@@ -54,14 +64,24 @@ pub data Does : CardState → ℕ → Tpdu → CardState → Type 0 where
       }) (with_pending old (pending_of (drop (count p3) (to_send old h))))
   chains : {old : CardState} {cut : ℕ} (h : Header) (bytes : List ℕ)
       → refusal old h (length bytes) ≡ None → is_put h ≡ true → h.cla ≡ 0x10
-      → Does old cut (record { header = h; p3 = length bytes; sent = bytes; received = [];
-          status = ok })
+      → Does old cut (record {
+        header = h;
+        p3 = length bytes;
+        sent = bytes;
+        received = [];
+        status = ok;
+      })
       (with_pending old (ChainPending h.p1 h.p2 (chained old.pending ++ bytes)))
   puts_value : {old : CardState} {cut : ℕ} (h : Header) (bytes tag : List ℕ) (answer : Reply)
       (new : CardState)
       → refusal old h (length bytes) ≡ None → is_put h ≡ true → h.cla ≡ 0x00
       → NamesTag tag h.p1 h.p2
       → Answers old (Put tag (chained old.pending ++ bytes)) answer new
-      → Does old cut (record { header = h; p3 = length bytes; sent = bytes; received = [];
-          status = answer.status })
+      → Does old cut (record {
+        header = h;
+        p3 = length bytes;
+        sent = bytes;
+        received = [];
+        status = answer.status;
+      })
       (with_pending new NothingPending)

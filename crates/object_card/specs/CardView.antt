@@ -99,7 +99,7 @@ prepared_of held selected chain response (ready.Receives h p3 cut) put =
     Receiving (record { header = h; p3 = p3; cut = cut })
 prepared_of held selected chain response (ready.Sends h p3 cut sent) put =
     Sending (record { header = h; p3 = p3; cut = cut })
-        (take (count p3) (left_of (entries_at held selected) sent))
+    (take (count p3) (left_of (entries_at held selected) sent))
 prepared_of held selected chain response (ready.Leaves next) put =
     Decided (state_of held selected (idle chain.limit) next)
 prepared_of held selected chain response (ready.Selects application next) put =
@@ -140,25 +140,25 @@ abbrev pub IsReady : List Held → Option ℕ → ChainState → Option Response
 IsReady held selected chain response ready.Nothing put = put ≡ None
 IsReady held selected chain response (ready.Receives h p3 cut) put =
     IsAsked (state_of held selected chain response) h p3 cut × (is_select h || is_put h ≡ true)
-        × (put ≡ None)
+    × (put ≡ None)
 IsReady held selected chain response (ready.Sends h p3 cut sent) put =
     IsAsked (state_of held selected chain response) h p3 cut
-        × (is_get h || is_get_response h ≡ true)
+    × (is_get h || is_get_response h ≡ true)
     × IsResponse (entries_at held selected) sent
     × (left_of (entries_at held selected) sent ≡ to_send (state_of held selected chain response) h)
-        × (put ≡ None)
+    × (put ≡ None)
 IsReady held selected chain response (ready.Leaves next) put =
     IsStanding held selected (idle chain.limit) next × (put ≡ None)
 IsReady held selected chain response (ready.Selects application next) put =
     IsStanding held (Some application) (idle chain.limit) (Some next) × (put ≡ None)
 IsReady held selected chain response (ready.Joins before) put =
     IsStanding held selected chain None × IfSome before (λ len. len ≤ length chain.bytes)
-        × (put ≡ None)
+    × (put ≡ None)
 IsReady held selected chain response ready.Stores put =
     (a : Held) × (tag value : List ℕ) × (held_at held selected ≡ Some a) × (put ≡ Some (tag, value))
-        × HasPlace a tag
+    × HasPlace a tag
     × (is_locked tag a.entries ≡ false)
-        × IsCardState (state_with (state_of held selected chain response) put)
+    × IsCardState (state_with (state_of held selected chain response) put)
 
 -- what the fields keep
 pub record IsCard (held : List Held) (selected : Option ℕ) (chain : ChainState)

@@ -28,7 +28,7 @@ get_response = record { cla = 0x00; ins = 0xC0; p1 = 0x00; p2 = 0x00 }
 abbrev pub IsCarriedOut : CardState → Operation → StatusWord → List ℕ → CardState → Type 0
 IsCarriedOut old operation status content new =
     (after : CardState) × Answers old operation (record { status = status; content = content })
-        after
+    after
     × SameTables after new × (is_idle new.pending ≡ true)
 
 -- the TPDU of a command that sends data: P3 counts them, and the card takes a front of them, all or
@@ -65,7 +65,7 @@ abbrev pub AreFetches : CardState → List Tpdu → CardState → Type 0
 AreFetches old [] new = new ≡ old
 AreFetches old (t ∷ others) new =
     (cut : ℕ) × (mid : CardState) × (t.header ≡ get_response) × Does old cut t mid
-        × AreFetches mid others new
+    × AreFetches mid others new
 
 -- After this status all that is announced is fetched, and what is announced then, until a status
 -- announces no more. That is the last.
@@ -73,7 +73,7 @@ abbrev pub FetchAll : CardState → StatusWord → List Tpdu → StatusWord → 
 FetchAll old status [] last new = (announces status ≡ None) × (last ≡ status) × (new ≡ old)
 FetchAll old status (t ∷ others) last new =
     (n cut : ℕ) × (mid : CardState) × (announces status ≡ Some n) × (t.header ≡ get_response)
-        × (count t.p3 ≡ n)
+    × (count t.p3 ≡ n)
     × IsCut cut × Does old cut t mid × FetchAll mid t.status others last new
 
 -- What a fetch of no more than what waits brings: as many bytes as P3 counts, and word of what is

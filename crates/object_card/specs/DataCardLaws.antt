@@ -30,12 +30,18 @@ module _ {State : Type 0} (OwnDoes : State → ℕ → Tpdu → State → Type 0
       → RunsOver OwnDoes own_reset old items new
       → RunsOver Does after_reset (state_of old) items (state_of new)
   runs_over_stand old new [] runs = ap state_of runs
-  runs_over_stand old new (Whole d ∷ items) (plan, mid, under, does, rest) =
-      (plan, state_of mid, under, stands.steps old mid plan.cut (tpdu_of d) does,
-          runs_over_stand mid new items rest)
-  runs_over_stand old new (Cut_off part ∷ items) (is_part, rest) =
-      (is_part, subst (λ s. RunsOver Does after_reset s items (state_of new)) (stands.resets old)
-          (runs_over_stand (own_reset old) new items rest))
+  runs_over_stand old new (Whole d ∷ items) (plan, mid, under, does, rest) = (
+    plan,
+    state_of mid,
+    under,
+    stands.steps old mid plan.cut (tpdu_of d) does,
+    runs_over_stand mid new items rest,
+  )
+  runs_over_stand old new (Cut_off part ∷ items) (is_part, rest) = (
+    is_part,
+    subst (λ s. RunsOver Does after_reset s items (state_of new)) (stands.resets old)
+        (runs_over_stand (own_reset old) new items rest),
+  )
 
 -- A run leads from a sound state to a sound state.
 pub runs_stay_sound : (old new : CardState) (ds : List Dialogue) (plans : List Course)
@@ -73,11 +79,19 @@ pub run_brings_within : (old new : CardState) (d : Dialogue) (ds : List Dialogue
     (plans : List Course) → Runs Does old (d ∷ ds) plans new → IsCardState old → AreAllFetches ds
     → length (flat_map received (d ∷ ds)) ≤ VALUE_LIMIT + HEAD_LIMIT
 run_brings_within old new d ds [] (mid, does, rest) is fetches =
-    omega (arith, exchange_brings_within old mid new 256 (tpdu_of d) (tpdus ds) is does
-        (are_fetches mid new ds [] rest fetches), ap length (all_received (d ∷ ds)))
+    omega (
+      arith,
+      exchange_brings_within old mid new 256 (tpdu_of d) (tpdus ds) is does
+          (are_fetches mid new ds [] rest fetches),
+      ap length (all_received (d ∷ ds)),
+    )
 run_brings_within old new d ds (p ∷ plans) (mid, does, rest) is fetches =
-    omega (arith, exchange_brings_within old mid new p.cut (tpdu_of d) (tpdus ds) is does
-        (are_fetches mid new ds plans rest fetches), ap length (all_received (d ∷ ds)))
+    omega (
+      arith,
+      exchange_brings_within old mid new p.cut (tpdu_of d) (tpdus ds) is does
+          (are_fetches mid new ds plans rest fetches),
+      ap length (all_received (d ∷ ds)),
+    )
 
 again_within : (old mid new : CardState) (cut n : ℕ) (d : Dialogue) (again : Dialogue)
     (ds : List Dialogue) (plans : List Course) → Does old cut (tpdu_of d) mid
@@ -86,7 +100,7 @@ again_within : (old mid new : CardState) (cut n : ℕ) (d : Dialogue) (again : D
     → length (flat_map received (d ∷ again ∷ ds)) ≤ VALUE_LIMIT + HEAD_LIMIT
 again_within old mid new cut n d again ds plans does corrected rest is fetches =
     let nothing : received d ≡ [] =
-        corrected_brings_none old mid cut n (tpdu_of d) does corrected in
+    corrected_brings_none old mid cut n (tpdu_of d) does corrected in
     omega (
       arith,
       run_brings_within mid new again ds plans rest (stays_sound old mid cut (tpdu_of d) does is)
@@ -120,19 +134,19 @@ pub run_brings_announced : (old new : CardState) (before : List Dialogue) (d fet
     → Runs Does old (before ++ d ∷ fetch ∷ after) plans new → AreCuts plans
     → announces d.status ≡ Some n → fetch.body.header ≡ get_response → count fetch.body.p3 ≤ n
     → (1 ≤ length (received fetch)) × (length (received fetch) ≡ count fetch.body.p3)
-        × (corrects fetch.status ≡ None)
+    × (corrects fetch.status ≡ None)
 run_brings_announced old new [] d fetch after [] n (mid, does, (next, fetches, rest)) cuts announced
     header few =
     announced_is_brought old mid next 256 256 n (tpdu_of d) (tpdu_of fetch) does plain_cut announced
-        fetches header few
+    fetches header few
 run_brings_announced old new [] d fetch after (p ∷ []) n (mid, does, (next, fetches, rest)) cuts
     announced header few =
     announced_is_brought old mid next p.cut 256 n (tpdu_of d) (tpdu_of fetch) does cuts.0 announced
-        fetches header few
+    fetches header few
 run_brings_announced old new [] d fetch after (p ∷ q ∷ plans) n (mid, does, (next, fetches, rest))
     cuts announced header few =
     announced_is_brought old mid next p.cut q.cut n (tpdu_of d) (tpdu_of fetch) does cuts.0
-        announced fetches header few
+    announced fetches header few
 run_brings_announced old new (b ∷ before) d fetch after [] n (mid, does, rest) cuts announced header
     few =
     run_brings_announced mid new before d fetch after [] n rest cuts announced header few
@@ -153,10 +167,26 @@ pub run_fetches_all : (old new : CardState) (status last : StatusWord) (ds : Lis
     → AskForAll status ds last → FetchAll old status (tpdus ds) last new
 run_fetches_all old new status last [] plans runs cuts (none, is) = (none, is, runs)
 run_fetches_all old new status last (d ∷ ds) [] (mid, does, rest) cuts
-    (n, announced, header, counts, others) =
-    (n, 256, mid, announced, header, counts, plain_cut, does,
-        run_fetches_all mid new d.status last ds [] rest cuts others)
+    (n, announced, header, counts, others) = (
+      n,
+      256,
+      mid,
+      announced,
+      header,
+      counts,
+      plain_cut,
+      does,
+      run_fetches_all mid new d.status last ds [] rest cuts others,
+    )
 run_fetches_all old new status last (d ∷ ds) (p ∷ plans) (mid, does, rest) cuts
-    (n, announced, header, counts, others) =
-    (n, p.cut, mid, announced, header, counts, cuts.0, does,
-        run_fetches_all mid new d.status last ds plans rest cuts.1 others)
+    (n, announced, header, counts, others) = (
+      n,
+      p.cut,
+      mid,
+      announced,
+      header,
+      counts,
+      cuts.0,
+      does,
+      run_fetches_all mid new d.status last ds plans rest cuts.1 others,
+    )

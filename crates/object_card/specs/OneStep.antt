@@ -59,7 +59,7 @@ pub data PutStatus (entries : List Entry) (tag value : List ℕ) : StatusWord �
 pub data Answers (old : CardState) : Operation → Reply → CardState → Type 0 where
   selects : (aid : List ℕ) → is_some (entries_in aid old.applications) ≡ true
       → Answers old (Select aid) (record { status = ok; content = control_information aid })
-          (with_selected old aid)
+      (with_selected old aid)
   finds_no_application : (aid : List ℕ) → entries_in aid old.applications ≡ None
       → Answers old (Select aid) (reply (0x6A, 0x82)) old
   none_selected : (operation : Operation) → is_selection operation ≡ false

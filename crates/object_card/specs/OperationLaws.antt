@@ -56,7 +56,7 @@ pub all_is_fetched : (old new : CardState) (cut : ℕ) (status last : StatusWord
     → FetchAll old status fetches last new → IsBrought left fetches old new last
 all_is_fetched old new cut status last left [] is waits idle told (none, last_is, stays) =
     let nothing : left ≡ [] = announces_nothing cut left (sym (ap announces told) ∙ none) in
-        record {
+    record {
       whole = sym nothing;
       last_is = last_is ∙ told ∙ ap (λ bs. announcing bs cut) nothing;
       same = (ap (λ s. s.applications) (sym stays), ap (λ s. s.selected) (sym stays));
@@ -66,14 +66,14 @@ all_is_fetched old new cut status last left (t ∷ fetches) is waits idle told
     (n, next, mid, announced, header, counts, in_range, does, others) =
     let some = announces_some left cut n is (sym (ap announces told) ∙ announced) in
     let few : count t.p3 ≤ length (waiting old.pending) =
-        omega (arith, counts, some.1, ap length waits) in
+    omega (arith, counts, some.1, ap length waits) in
     let here = fetched old mid next t does header few in
     let rest : List ℕ = drop (count t.p3) left in
     let still : pending_of (drop (count t.p3) (waiting old.pending)) ≡ pending_of rest =
-        ap (λ bs. pending_of (drop (count t.p3) bs)) waits in
+    ap (λ bs. pending_of (drop (count t.p3) bs)) waits in
     let mid_pending : mid.pending ≡ pending_of rest = here.left ∙ still in
     let after = all_is_fetched mid new next t.status last rest fetches in_range
-        (ap waiting mid_pending ∙ rest_waits rest) (ap is_idle mid_pending ∙ rest_is_idle rest)
+    (ap waiting mid_pending ∙ rest_waits rest) (ap is_idle mid_pending ∙ rest_is_idle rest)
     (here.status_is ∙ ap (λ bs. announcing (drop (count t.p3) bs) next) waits) others in
     record {
       whole = ap (λ bs. bs ++ all_brought fetches)
@@ -102,9 +102,13 @@ carried_out old after new operation status last content brought answers same_sta
     same idle =
     let here : Answers old operation (record { status = last; content = content }) after =
     subst (λ s. Answers old operation (record { status = s; content = content }) after)
-        (sym same_status) answers in
-    (after, subst (λ c. Answers old operation (record { status = last; content = c }) after)
-        (sym same_content) here, same, idle)
+    (sym same_status) answers in (
+      after,
+      subst (λ c. Answers old operation (record { status = last; content = c }) after)
+          (sym same_content) here,
+      same,
+      idle,
+    )
 
 -- A card with the same tables carries it out so.
 pub carried_out_alike : (a b new : CardState) (operation : Operation) (status : StatusWord)
@@ -112,8 +116,8 @@ pub carried_out_alike : (a b new : CardState) (operation : Operation) (status : 
     → IsCarriedOut a operation status content new → IsCarriedOut b operation status content new
 carried_out_alike a b new operation status content same (after, answers, tables, idle) =
     let (here, now, alike) =
-        answers_alike a b after operation (record { status = status; content = content }) same
-        answers in
+    answers_alike a b after operation (record { status = status; content = content }) same
+    answers in
     (here, now, (sym alike.0 ∙ tables.0, sym alike.1 ∙ tables.1), idle)
 
 -- ---- SELECT
@@ -121,8 +125,11 @@ carried_out_alike a b new operation status content same (after, answers, tables,
 select_is_taken : (state : CardState) (aid : List ℕ) → is_idle state.pending ≡ true → IsAid aid
     → refusal state select_header (length aid) ≡ None
 select_is_taken state aid idle is =
-    rw (unbroken state.pending select_header idle, le-ltb (length aid) 5 is.0,
-        le-ltb 16 (length aid) is.1) refl
+    rw (
+      unbroken state.pending select_header idle,
+      le-ltb (length aid) 5 is.0,
+      le-ltb 16 (length aid) is.1,
+    ) refl
 
 -- A SELECT and all that is fetched after it select in one step.
 pub select_is_carried_out : (old mid new : CardState) (cut : ℕ) (aid : List ℕ) (t : Tpdu)
@@ -133,42 +140,45 @@ pub select_is_carried_out : (old mid new : CardState) (cut : ℕ) (aid : List �
 select_is_carried_out old mid new cut aid t fetches last idle is in_range carries does all =
     let taken : refusal old t.header t.p3 ≡ None =
     subst (λ p. refusal old t.header p ≡ None) (sym carries.counts)
-        (subst (λ h. refusal old h (length aid) ≡ None) (sym carries.header_is)
-        (select_is_taken old aid idle is)) in
+    (subst (λ h. refusal old h (length aid) ≡ None) (sym carries.header_is)
+    (select_is_taken old aid idle is)) in
     elim (select_step old mid cut t does (ap (λ h. is_select h) carries.header_is)) [
       | select_refused refused none_sent none new_is ↦ let no : None ≡ Some t.status =
           sym taken ∙ refused in absurd (cc)
       | is_selected e counts found none status new_is ↦
           let moved : aid ≡ t.sent =
-              all_have_moved aid t.sent carries.takes.0 carries.takes.1
-              (sym carries.counts ∙ counts) in
+          all_have_moved aid t.sent carries.takes.0 carries.takes.1
+          (sym carries.counts ∙ counts) in
           let held : is_some (entries_in aid old.applications) ≡ true =
-              ap (λ x. is_some (entries_in x old.applications)) moved ∙ found in
+          ap (λ x. is_some (entries_in x old.applications)) moved ∙ found in
           let waits : waiting mid.pending ≡ control_information aid =
-              ap (λ s. waiting s.pending) new_is ∙ ap (λ x. control_information x) (sym moved) in
+          ap (λ s. waiting s.pending) new_is ∙ ap (λ x. control_information x) (sym moved) in
           let told : t.status ≡ announcing (control_information aid) cut =
-              status ∙ ap (λ x. announcing (control_information x) cut) (sym moved) in
+          status ∙ ap (λ x. announcing (control_information x) cut) (sym moved) in
           let brought = all_is_fetched mid new cut t.status last (control_information aid) fetches
-              in_range waits (ap (λ s. is_idle s.pending) new_is) told all in
+          in_range waits (ap (λ s. is_idle s.pending) new_is) told all in
           carried_out old (with_selected old aid) new (Select aid) ok last (control_information aid)
-              (all_brought (t ∷ fetches)) (selects aid held) brought.last_is
-          (ap (λ bs. bs ++ all_brought fetches) none ∙ brought.whole)
-          (sym (ap (λ s. s.applications) new_is) ∙ brought.same.0, ap (λ x. Some x) moved
-              ∙ sym (ap (λ s. s.selected) new_is) ∙ brought.same.1)
+          (all_brought (t ∷ fetches)) (selects aid held) brought.last_is
+          (ap (λ bs. bs ++ all_brought fetches) none ∙ brought.whole) (
+            sym (ap (λ s. s.applications) new_is) ∙ brought.same.0,
+            ap (λ x. Some x) moved
+                ∙ sym (ap (λ s. s.selected) new_is) ∙ brought.same.1,
+          )
           brought.idle
       | is_missed e counts missed none status new_is ↦
           let moved : aid ≡ t.sent =
-              all_have_moved aid t.sent carries.takes.0 carries.takes.1
-              (sym carries.counts ∙ counts) in
+          all_have_moved aid t.sent carries.takes.0 carries.takes.1
+          (sym carries.counts ∙ counts) in
           let absent : entries_in aid old.applications ≡ None =
-              ap (λ x. entries_in x old.applications) moved ∙ missed in
+          ap (λ x. entries_in x old.applications) moved ∙ missed in
           let (nothing, last_is, stays) =
-              none_fetched mid new t.status last fetches (ap announces status) all in
+          none_fetched mid new t.status last fetches (ap announces status) all in
           carried_out old old new (Select aid) (0x6A, 0x82) last [] (all_brought (t ∷ fetches))
-              (finds_no_application aid absent) (last_is ∙ status)
-          (ap (λ bs. bs ++ all_brought fetches) none ∙ nothing)
-          (sym (ap (λ s. s.applications) new_is) ∙ sym (ap (λ s. s.applications) stays),
-              sym (ap (λ s. s.selected) new_is) ∙ sym (ap (λ s. s.selected) stays))
+          (finds_no_application aid absent) (last_is ∙ status)
+          (ap (λ bs. bs ++ all_brought fetches) none ∙ nothing) (
+            sym (ap (λ s. s.applications) new_is) ∙ sym (ap (λ s. s.applications) stays),
+            sym (ap (λ s. s.selected) new_is) ∙ sym (ap (λ s. s.selected) stays),
+          )
           (ap (λ s. is_idle s.pending) (stays ∙ new_is))
     ]
 
@@ -184,12 +194,12 @@ object_of tag entries =
 abbrev refused_with : ℕ → Option (List ℕ) → Option StatusWord
 refused_with p3 object =
     if is_none object then Some (0x6A, 0x88) else if nat_lt (length (unwrap_or object []))
-        (count p3) then Some (0x6C, length (unwrap_or object [])) else None
+    (count p3) then Some (0x6C, length (unwrap_or object [])) else None
 
 abbrev first_of_get : Bool → ℕ → Option (List ℕ) → Option (List Entry) → Option StatusWord
 first_of_get broken p3 tag entries =
     if broken then Some (0x68, 0x83) else if not (is_some tag) then Some (0x6A, 0x86)
-        else if is_none entries then Some (0x69, 0x85)
+    else if is_none entries then Some (0x69, 0x85)
     else refused_with p3 (object_of tag entries)
 
 -- how a GET DATA for a tag is refused, or not, and what there is to send
@@ -201,7 +211,7 @@ data GetCase (state : CardState) (tag : List ℕ) (p3 : ℕ) : Option StatusWord
       → value_under tag entries ≡ Some value
       → length (object_bytes tag value) < count p3
       → GetCase state tag p3 (Some (0x6C, length (object_bytes tag value)))
-          (object_bytes tag value)
+      (object_bytes tag value)
   case_given : (entries : List Entry) (value : List ℕ) → selected_entries state ≡ Some entries
       → value_under tag entries ≡ Some value
       → count p3 ≤ length (object_bytes tag value)
@@ -212,15 +222,15 @@ get_case : (state : CardState) (tag : List ℕ) (p1 p2 p3 : ℕ) → is_idle sta
     → GetCase state tag p3 (refusal state (get_header p1 p2) p3) (to_send state (get_header p1 p2))
 get_case state tag p1 p2 p3 idle is_named =
     let here : GetCase state tag p3 (first_of_get false p3 (Some tag) (selected_entries state))
-        (unwrap_or (object_of (Some tag) (selected_entries state)) []) =
+    (unwrap_or (object_of (Some tag) (selected_entries state)) []) =
     chosen (selected_entries state) refl in
     let by_tag : GetCase state tag p3
-        (first_of_get false p3 (named_tag p1 p2) (selected_entries state))
-        (unwrap_or (object_of (named_tag p1 p2) (selected_entries state)) []) =
+    (first_of_get false p3 (named_tag p1 p2) (selected_entries state))
+    (unwrap_or (object_of (named_tag p1 p2) (selected_entries state)) []) =
     subst (λ x. GetCase state tag p3 (first_of_get false p3 x (selected_entries state))
-        (unwrap_or (object_of x (selected_entries state)) [])) (sym is_named) here in
+    (unwrap_or (object_of x (selected_entries state)) [])) (sym is_named) here in
     subst (λ b. GetCase state tag p3 (first_of_get b p3 (named_tag p1 p2) (selected_entries state))
-        (unwrap_or (object_of (named_tag p1 p2) (selected_entries state)) []))
+    (unwrap_or (object_of (named_tag p1 p2) (selected_entries state)) []))
     (sym (unbroken state.pending (get_header p1 p2) idle)) by_tag
   where
     Found : Option (List ℕ) → Type 0
@@ -247,13 +257,13 @@ get_case state tag p1 p2 p3 idle is_named =
                 (if b then Some (0x6C, length (object_bytes tag value)) else None)
                 (object_bytes tag value)) (sym l)
                 (case_short entries value e k
-                    (ltb-true (length (object_bytes tag value)) (count p3) l))
+                (ltb-true (length (object_bytes tag value)) (count p3) l))
             sized false l = subst
                 (λ b. GetCase state tag p3
                 (if b then Some (0x6C, length (object_bytes tag value)) else None)
                 (object_bytes tag value)) (sym l)
                 (case_given entries value e k
-                    (ltb-false (length (object_bytes tag value)) (count p3) l))
+                (ltb-false (length (object_bytes tag value)) (count p3) l))
 
 -- the value under a tag of the application that is selected
 record IsHeld (state : CardState) (tag value : List ℕ) : Type 0 where
@@ -265,15 +275,19 @@ one_held : (a b : CardState) (tag u v : List ℕ) → SameTables a b → IsHeld 
     → u ≡ v
 one_held a b tag u v same first second =
     let both : Some first.entries ≡ Some second.entries =
-        sym first.is_selected ∙ same_entries a b same ∙ second.is_selected in
+    sym first.is_selected ∙ same_entries a b same ∙ second.is_selected in
     let entries : first.entries ≡ second.entries = cc in
     let values : Some u ≡ Some v = sym first.is_under ∙ ap (λ es. value_under tag es) entries
-        ∙ second.is_under in cc
+    ∙ second.is_under in cc
 
 some_bytes : (tag value : List ℕ) → 1 ≤ length (object_bytes tag value)
 some_bytes tag value =
-    omega (arith, length-append (tag ++ shortest (length value)) value,
-    length-append tag (shortest (length value)), some_length (length value))
+    omega (
+      arith,
+      length-append (tag ++ shortest (length value)) value,
+      length-append tag (shortest (length value)),
+      some_length (length value),
+    )
   where
     some_length : (n : ℕ) → 1 ≤ length (shortest n)
     some_length n = split (nat_lt n 0x80) (nat_lt n 0x100)
@@ -319,7 +333,7 @@ get_step : (old new : CardState) (tag : List ℕ) (p1 p2 cut : ℕ) (t : Tpdu)
 get_step old new tag p1 p2 cut t idle is header does =
     each (refusal old t.header t.p3) (to_send old t.header) refl refl
     (subst (λ h. GetCase old tag t.p3 (refusal old h t.p3) (to_send old h)) (sym header)
-        (get_case old tag p1 p2 t.p3 idle (named tag p1 p2 is)))
+    (get_case old tag p1 p2 t.p3 idle (named tag p1 p2 is)))
     (send_step old new cut t does (ap (λ h. is_get h || is_get_response h) header))
   where
     refused_by : (status : StatusWord) → Some t.status ≡ Some status → t.status ≡ status
@@ -331,43 +345,43 @@ get_step old new tag p1 p2 cut t idle is header does =
     each r whole e w (case_unselected none) (send_refused refused nothing new_is) =
         let status : t.status ≡ (0x69, 0x85) = refused_by (0x69, 0x85) (sym refused ∙ e) in
         get_refused (subst (λ s. Answers old (Get tag) (reply s) old) (sym status)
-            (none_selected (Get tag) refl none)) (ap announces status) (ap corrects status) nothing
+        (none_selected (Get tag) refl none)) (ap announces status) (ap corrects status) nothing
         (sym (ap (λ s. s.applications) new_is), sym (ap (λ s. s.selected) new_is))
-            (ap (λ s. is_idle s.pending) new_is ∙ refusal_drops_chain t.header t.status old.pending)
+        (ap (λ s. is_idle s.pending) new_is ∙ refusal_drops_chain t.header t.status old.pending)
     each r whole e w (case_unselected none) (is_sent taken brought status new_is) =
         absurd (not_both (refusal old t.header t.p3) (0x69, 0x85) taken e)
     each r whole e w (case_missing entries selected absent) (send_refused refused nothing new_is) =
         let status : t.status ≡ (0x6A, 0x88) = refused_by (0x6A, 0x88) (sym refused ∙ e) in
         get_refused (subst (λ s. Answers old (Get tag) (reply s) old) (sym status)
-            (finds_no_object tag entries selected absent)) (ap announces status)
-            (ap corrects status) nothing
+        (finds_no_object tag entries selected absent)) (ap announces status)
+        (ap corrects status) nothing
         (sym (ap (λ s. s.applications) new_is), sym (ap (λ s. s.selected) new_is))
-            (ap (λ s. is_idle s.pending) new_is ∙ refusal_drops_chain t.header t.status old.pending)
+        (ap (λ s. is_idle s.pending) new_is ∙ refusal_drops_chain t.header t.status old.pending)
     each r whole e w (case_missing entries selected absent) (is_sent taken brought status new_is) =
         absurd (not_both (refusal old t.header t.p3) (0x6A, 0x88) taken e)
     each r whole e w (case_short entries value selected held short)
         (send_refused refused nothing new_is) =
         let status : t.status ≡ (0x6C, length (object_bytes tag value)) =
-            refused_by (0x6C, length (object_bytes tag value)) (sym refused ∙ e) in
+        refused_by (0x6C, length (object_bytes tag value)) (sym refused ∙ e) in
         let same : count (length (object_bytes tag value)) ≡ length (object_bytes tag value) =
-            count_of_some (length (object_bytes tag value)) (some_bytes tag value) in
+        count_of_some (length (object_bytes tag value)) (some_bytes tag value) in
         get_corrected value (record { entries = entries; is_selected = selected; is_under = held })
-            short (ap corrects status ∙ ap (λ n. Some n) same) nothing
+        short (ap corrects status ∙ ap (λ n. Some n) same) nothing
         (sym (ap (λ s. s.applications) new_is), sym (ap (λ s. s.selected) new_is))
-            (ap (λ s. is_idle s.pending) new_is ∙ refusal_drops_chain t.header t.status old.pending)
+        (ap (λ s. is_idle s.pending) new_is ∙ refusal_drops_chain t.header t.status old.pending)
     each r whole e w (case_short entries value selected held short)
         (is_sent taken brought status new_is) =
         absurd (not_both (refusal old t.header t.p3) (0x6C, length (object_bytes tag value)) taken
-            e)
+        e)
     each r whole e w (case_given entries value selected held few)
         (send_refused refused nothing new_is) = let no : Some t.status ≡ None = sym refused ∙ e in
         absurd (cc)
     each r whole e w (case_given entries value selected held few)
         (is_sent taken brought status new_is) =
         get_given value (record { entries = entries; is_selected = selected; is_under = held })
-            (brought ∙ ap (λ bs. take (count t.p3) bs) w)
+        (brought ∙ ap (λ bs. take (count t.p3) bs) w)
         (status ∙ ap (λ bs. announcing (drop (count t.p3) bs) cut) w)
-            (sym (ap (λ s. s.applications) new_is), sym (ap (λ s. s.selected) new_is))
+        (sym (ap (λ s. s.applications) new_is), sym (ap (λ s. s.selected) new_is))
         (ap (λ s. s.pending) new_is ∙ ap (λ bs. pending_of (drop (count t.p3) bs)) w)
 
 -- A GET DATA and all that is fetched after it get the object in one step.
@@ -378,28 +392,28 @@ pub get_is_carried_out : (old mid new : CardState) (tag : List ℕ) (p1 p2 cut :
     → IsCarriedOut old (Get tag) last (flat_map (λ t. t.received) (t ∷ fetches)) new
 get_is_carried_out old mid new tag p1 p2 cut t fetches last idle is header in_range does uncorrected
     all = elim (get_step old mid tag p1 p2 cut t idle is header does) [
-  | get_refused answers none told nothing same at_rest ↦
-      let (empty, last_is, stays) = none_fetched mid new t.status last fetches none all in
-      carried_out old old new (Get tag) t.status last [] (all_brought (t ∷ fetches)) answers last_is
+      | get_refused answers none told nothing same at_rest ↦
+          let (empty, last_is, stays) = none_fetched mid new t.status last fetches none all in
+          carried_out old old new (Get tag) t.status last [] (all_brought (t ∷ fetches)) answers last_is
           (ap (λ bs. bs ++ all_brought fetches) nothing ∙ empty)
-      (same.0 ∙ sym (ap (λ s. s.applications) stays), same.1 ∙ sym (ap (λ s. s.selected) stays))
+          (same.0 ∙ sym (ap (λ s. s.applications) stays), same.1 ∙ sym (ap (λ s. s.selected) stays))
           (ap (λ s. is_idle s.pending) stays ∙ at_rest)
-  | get_corrected value held short corrected nothing same at_rest ↦
-      let no : None ≡ Some (length (object_bytes tag value)) = sym uncorrected ∙ corrected in
+      | get_corrected value held short corrected nothing same at_rest ↦
+          let no : None ≡ Some (length (object_bytes tag value)) = sym uncorrected ∙ corrected in
           absurd (cc)
-  | get_given value held brought status same pending ↦
-      let whole : List ℕ = object_bytes tag value in
-      let rest : List ℕ = drop (count t.p3) whole in
-      let more = all_is_fetched mid new cut t.status last rest fetches in_range
+      | get_given value held brought status same pending ↦
+          let whole : List ℕ = object_bytes tag value in
+          let rest : List ℕ = drop (count t.p3) whole in
+          let more = all_is_fetched mid new cut t.status last rest fetches in_range
           (ap waiting pending ∙ rest_waits rest) (ap is_idle pending ∙ rest_is_idle rest) status
           all in
-      carried_out old old new (Get tag) ok last whole (all_brought (t ∷ fetches))
+          carried_out old old new (Get tag) ok last whole (all_brought (t ∷ fetches))
           (gives tag value held.entries held.is_selected held.is_under) more.last_is
-      (ap (λ bs. bs ++ all_brought fetches) brought
+          (ap (λ bs. bs ++ all_brought fetches) brought
           ∙ ap (λ bs. take (count t.p3) whole ++ bs) more.whole
           ∙ take-append-drop (count t.p3) whole)
-      (same.0 ∙ more.same.0, same.1 ∙ more.same.1) more.idle
-]
+          (same.0 ∙ more.same.0, same.1 ∙ more.same.1) more.idle
+    ]
 
 -- A GET DATA that comes again with the count that a 6CXX tells, and all that is fetched then, get
 -- the object in one step.
@@ -417,28 +431,33 @@ get_again_is_carried_out old next mid new tag p1 p2 before cut n t u fetches las
           sym told ∙ corrected in absurd (cc)
       | get_given value held brought status same pending ↦
           let no : None ≡ Some n =
-              sym (no_correction (drop (count t.p3) (object_bytes tag value)) before)
-              ∙ sym (ap corrects status) ∙ corrected in absurd (cc)
+          sym (no_correction (drop (count t.p3) (object_bytes tag value)) before)
+          ∙ sym (ap corrects status) ∙ corrected in absurd (cc)
       | get_corrected value held short told nothing same at_rest ↦
           let counted : Some n ≡ Some (length (object_bytes tag value)) = sym corrected ∙ told in
           let all_of_it : n ≡ length (object_bytes tag value) = cc in
           let fine : corrects u.status ≡ None =
-              elim (get_step next mid tag p1 p2 cut u at_rest is again does_again) [
+          elim (get_step next mid tag p1 p2 cut u at_rest is again does_again) [
             | get_refused answers none untold nothing_here same_here rests ↦ untold
             | get_corrected other held_here short_here told_here nothing_here same_here rests ↦
                 let one : value ≡ other = one_held old next tag value other same held held_here in
-                absurd (omega (arith, short_here, counts, all_of_it,
-                    ap (λ v. length (object_bytes tag v)) one))
+                absurd (omega (
+                  arith,
+                  short_here,
+                  counts,
+                  all_of_it,
+                  ap (λ v. length (object_bytes tag v)) one,
+                ))
             | get_given other held_here brought status same_here pending ↦
                 ap corrects status ∙ no_correction (drop (count u.p3) (object_bytes tag other)) cut
           ] in
           let later = get_is_carried_out next mid new tag p1 p2 cut u fetches last at_rest is again
-              in_range does_again fine all in
+          in_range does_again fine all in
           let at_old : IsCarriedOut old (Get tag) last (all_brought (u ∷ fetches)) new =
           carried_out_alike next old new (Get tag) last (all_brought (u ∷ fetches))
-              (sym same.0, sym same.1) later in
+          (sym same.0, sym same.1) later in
           subst (λ bs. IsCarriedOut old (Get tag) last (bs ++ all_brought (u ∷ fetches)) new)
-              (sym nothing) at_old
+          (sym nothing) at_old
     ]
 
 -- ---- one operation after another
@@ -448,17 +467,20 @@ pub one_more_answer : (first mid new : CardState) (operations : List Operation)
     (replies : List Reply) (operation : Operation) (status : StatusWord) (content : List ℕ)
     → AnswersAll first operations replies mid → IsCarriedOut mid operation status content new
     → AnswersAll first (operations ++ operation ∷ [])
-        (replies ++ record { status = status; content = content } ∷ []) new
+    (replies ++ record { status = status; content = content } ∷ []) new
 one_more_answer first mid new [] [] operation status content so_far (after, answers, same, idle) =
     let (here, now, tables) =
-        answers_alike mid first after operation (record { status = status; content = content })
-        (sym so_far.0, sym so_far.1) answers in
+    answers_alike mid first after operation (record { status = status; content = content })
+    (sym so_far.0, sym so_far.1) answers in
     (here, now, (sym tables.0 ∙ same.0, sym tables.1 ∙ same.1))
 one_more_answer first mid new [] (r ∷ replies) operation status content so_far carried =
     absurd so_far
 one_more_answer first mid new (o ∷ operations) [] operation status content so_far carried =
     absurd so_far
 one_more_answer first mid new (o ∷ operations) (r ∷ replies) operation status content
-    (next, answers, rest) carried =
-    (next, answers, one_more_answer next mid new operations replies operation status content rest
-        carried)
+    (next, answers, rest) carried = (
+      next,
+      answers,
+      one_more_answer next mid new operations replies operation status content rest
+          carried,
+    )

@@ -38,15 +38,15 @@ refusal_answers state tag value p3 status long (none_is_selected none) =
     none_selected (Put tag value) refl none
 refusal_answers state tag value p3 status long (is_not_allowed entries is locked) =
     does_not_store tag value entries (0x69, 0x82) is (other_than_ok (0x69, 0x82) refl)
-        (not_allowed locked)
+    (not_allowed locked)
 refusal_answers state tag value p3 status long (is_too_long entries is free longer) =
     does_not_store tag value entries (0x67, 0x00) is (other_than_ok (0x67, 0x00) refl)
-        (wrong_length free (omega (arith, long, longer)))
+    (wrong_length free (omega (arith, long, longer)))
 
 -- a value has a piece, and its pieces together are the value
 some_piece : (value : List ℕ) (pieces : List (List ℕ)) → IsPieces value pieces
     → (first : List ℕ) × (others : List (List ℕ)) × (pieces ≡ first ∷ others)
-        × (concat pieces ≡ value)
+    × (concat pieces ≡ value)
 some_piece [] pieces is = ([], [], is, ap concat is)
 some_piece (b ∷ bytes) [] is = absurd is.1
 some_piece (b ∷ bytes) (first ∷ others) is = (first, others, refl, is.0)
@@ -94,30 +94,36 @@ module _ (tag : List ℕ) (p1 p2 : ℕ) (is_named : NamesTag tag p1 p2) where
       → IsGathering old mid bytes → IsOfChain t.header → length bytes + t.p3 ≤ length value
       → refusal mid t.header t.p3 ≡ Some t.status
       → new ≡ with_pending mid (after_refusal t.header t.status mid.pending)
-          → IsCarriedOut old (Put tag value) t.status [] new
+      → IsCarriedOut old (Put tag value) t.status [] new
   refused_here old mid new t bytes value gathering which long refused is =
       let came : chained mid.pending ≡ bytes = suits_chained mid.pending bytes gathering.suits in
       let fits : length (chained mid.pending) + t.p3 ≤ length value =
-          omega (arith, long, ap length came) in
+      omega (arith, long, ap length came) in
       let why = put_is_refused mid tag p1 p2 t.p3 (named tag p1 p2 is_named) t.header t.status which
-          (suits_goes_on mid.pending bytes t.header which gathering.suits) refused in
+      (suits_goes_on mid.pending bytes t.header which gathering.suits) refused in
       let (after, answers, same) =
-          answers_alike mid old mid (Put tag value) (reply t.status) gathering.same
-          (refusal_answers mid tag value t.p3 t.status fits why) in (
+      answers_alike mid old mid (Put tag value) (reply t.status) gathering.same
+      (refusal_answers mid tag value t.p3 t.status fits why) in (
         after,
         answers,
-        (sym same.0 ∙ sym (ap (λ s. s.applications) is), sym same.1
-            ∙ sym (ap (λ s. s.selected) is)),
+        (
+          sym same.0 ∙ sym (ap (λ s. s.applications) is),
+          sym same.1
+              ∙ sym (ap (λ s. s.selected) is),
+        ),
         ap (λ s. is_idle s.pending) is ∙ refusal_drops_chain t.header t.status mid.pending,
       )
 
   -- a command that is not the last is taken, or its refusal ends the put
   piece_step : (old mid new : CardState) (piece bytes value : List ℕ) (status : StatusWord)
       → IsGathering old mid bytes
-      → IsAnswered mid (record { header = with_more (put_header p1 p2); content = piece;
-          le = None }) status new → length bytes + length piece ≤ length value
+      → IsAnswered mid (record {
+        header = with_more (put_header p1 p2);
+        content = piece;
+        le = None;
+      }) status new → length bytes + length piece ≤ length value
       → ((status ≡ ok) × IsGathering old new (bytes ++ piece))
-          ⊎ ((status ≢ ok) × IsCarriedOut old (Put tag value) status [] new)
+      ⊎ ((status ≢ ok) × IsCarriedOut old (Put tag value) status [] new)
   piece_step old mid new piece bytes value status gathering (cut, t, carries, is, does) long =
       elim (put_step mid new cut t does (is_of_chain_put t.header (inr carries.header_is))) [
         | put_refused refused left ↦
@@ -131,17 +137,20 @@ module _ (tag : List ℕ) (p1 p2 : ℕ) (is_named : NamesTag tag p1 p2) where
             )
         | is_chained taken cla all fine left ↦
             let sent : piece ≡ t.sent =
-                all_have_moved piece t.sent carries.takes.0 carries.takes.1
-                (sym carries.counts ∙ all) in
+            all_have_moved piece t.sent carries.takes.0 carries.takes.1
+            (sym carries.counts ∙ all) in
             let came : chained mid.pending ≡ bytes =
-                suits_chained mid.pending bytes gathering.suits in
+            suits_chained mid.pending bytes gathering.suits in
             let joined : chained mid.pending ++ t.sent ≡ bytes ++ piece =
-                ap (λ bs. bs ++ t.sent) came ∙ ap (λ bs. bytes ++ bs) (sym sent) in
+            ap (λ bs. bs ++ t.sent) came ∙ ap (λ bs. bytes ++ bs) (sym sent) in
             inl (
               sym is ∙ fine,
               record {
-                same = (ap (λ s. s.applications) left ∙ gathering.same.0, ap (λ s. s.selected) left
-                    ∙ gathering.same.1);
+                same = (
+                  ap (λ s. s.applications) left ∙ gathering.same.0,
+                  ap (λ s. s.selected) left
+                      ∙ gathering.same.1,
+                );
                 suits = subst (λ pending. Suits pending (bytes ++ piece))
                     (sym (ap (λ s. s.pending) left))
                     (ap (λ h. h.p1) carries.header_is, ap (λ h. h.p2) carries.header_is, joined);
@@ -149,7 +158,7 @@ module _ (tag : List ℕ) (p1 p2 : ℕ) (is_named : NamesTag tag p1 p2) where
             )
         | is_ended taken cla all other answer next named_by same answers left ↦
             let more : t.header.cla ≡ 0x10 = ap (λ h. h.cla) carries.header_is in
-                absurd (omega (arith, cla, more))
+            absurd (omega (arith, cla, more))
       ]
 
   one_tag : (other : List ℕ) → NamesTag other p1 p2 → other ≡ tag
@@ -164,40 +173,43 @@ module _ (tag : List ℕ) (p1 p2 : ℕ) (is_named : NamesTag tag p1 p2) where
       elim (put_step mid new cut t does (is_of_chain_put t.header (inl carries.header_is))) [
         | put_refused refused left ↦
             let fits : length bytes + t.p3 ≤ length (bytes ++ last) =
-                omega (arith, length-append bytes last, carries.counts) in
+            omega (arith, length-append bytes last, carries.counts) in
             subst (λ s. IsCarriedOut old (Put tag (bytes ++ last)) s [] new) is
-                (refused_here old mid new t bytes (bytes ++ last) gathering (inl carries.header_is)
-                fits refused left)
+            (refused_here old mid new t bytes (bytes ++ last) gathering (inl carries.header_is)
+            fits refused left)
         | is_chained taken cla all fine left ↦
             let none : t.header.cla ≡ 0x00 = ap (λ h. h.cla) carries.header_is in
-                absurd (omega (arith, cla, none))
+            absurd (omega (arith, cla, none))
         | is_ended taken cla all other answer next named_by same answers left ↦
             let sent : last ≡ t.sent =
-                all_have_moved last t.sent carries.takes.0 carries.takes.1
-                (sym carries.counts ∙ all) in
+            all_have_moved last t.sent carries.takes.0 carries.takes.1
+            (sym carries.counts ∙ all) in
             let came : chained mid.pending ≡ bytes =
-                suits_chained mid.pending bytes gathering.suits in
+            suits_chained mid.pending bytes gathering.suits in
             let joined : chained mid.pending ++ t.sent ≡ bytes ++ last =
-                ap (λ bs. bs ++ t.sent) came ∙ ap (λ bs. bytes ++ bs) (sym sent) in
+            ap (λ bs. bs ++ t.sent) came ∙ ap (λ bs. bytes ++ bs) (sym sent) in
             let here : NamesTag other p1 p2 =
-                subst (λ h. NamesTag other h.p1 h.p2) carries.header_is named_by in
+            subst (λ h. NamesTag other h.p1 h.p2) carries.header_is named_by in
             let operation : Put other (chained mid.pending ++ t.sent) ≡ Put tag (bytes ++ last) =
             ap (λ x. Put x (chained mid.pending ++ t.sent)) (one_tag other here)
-                ∙ ap (λ v. Put tag v) joined in
+            ∙ ap (λ v. Put tag v) joined in
             let bare : answer ≡ reply status =
-                put_is_bare mid next other (chained mid.pending ++ t.sent) answer answers
-                ∙ ap (λ s. reply s) (sym same ∙ is) in
+            put_is_bare mid next other (chained mid.pending ++ t.sent) answer answers
+            ∙ ap (λ s. reply s) (sym same ∙ is) in
             let at_mid : Answers mid (Put tag (bytes ++ last)) (reply status) next =
             subst (λ o. Answers mid o (reply status) next) operation
-                (subst (λ a. Answers mid (Put other (chained mid.pending ++ t.sent)) a next) bare
-                answers) in
+            (subst (λ a. Answers mid (Put other (chained mid.pending ++ t.sent)) a next) bare
+            answers) in
             let (after, at_old, tables) =
-                answers_alike mid old next (Put tag (bytes ++ last)) (reply status) gathering.same
-                at_mid in (
+            answers_alike mid old next (Put tag (bytes ++ last)) (reply status) gathering.same
+            at_mid in (
               after,
               at_old,
-              (sym tables.0 ∙ sym (ap (λ s. s.applications) left), sym tables.1
-                  ∙ sym (ap (λ s. s.selected) left)),
+              (
+                sym tables.0 ∙ sym (ap (λ s. s.applications) left),
+                sym tables.1
+                    ∙ sym (ap (λ s. s.selected) left),
+              ),
               ap (λ s. is_idle s.pending) left,
             )
       ]
@@ -209,14 +221,17 @@ module _ (tag : List ℕ) (p1 p2 : ℕ) (is_named : NamesTag tag p1 p2) where
       → IsCarriedOut old (Put tag (bytes ++ concat (first ∷ others))) ok [] new
   all_of_them first [] old mid new bytes gathering (next, answered, is) =
       let put : IsCarriedOut old (Put tag (bytes ++ first)) ok [] next =
-          last_step old mid next first bytes ok gathering answered in
+      last_step old mid next first bytes ok gathering answered in
       subst (λ v. IsCarriedOut old (Put tag (bytes ++ v)) ok [] new) (sym (append-nil first))
-          (subst (λ s. IsCarriedOut old (Put tag (bytes ++ first)) ok [] s) (sym is) put)
+      (subst (λ s. IsCarriedOut old (Put tag (bytes ++ first)) ok [] s) (sym is) put)
   all_of_them first (second ∷ others) old mid new bytes gathering (next, answered, rest) =
       let value : List ℕ = bytes ++ concat (first ∷ second ∷ others) in
       let fits : length bytes + length first ≤ length value =
-          omega (arith, length-append bytes (concat (first ∷ second ∷ others)),
-          length-append first (concat (second ∷ others))) in
+      omega (
+        arith,
+        length-append bytes (concat (first ∷ second ∷ others)),
+        length-append first (concat (second ∷ others)),
+      ) in
       elim (piece_step old mid next first bytes value ok gathering answered fits) [
         | inl taken ↦ subst (λ v. IsCarriedOut old (Put tag v) ok [] new)
             (append_assoc bytes first (concat (second ∷ others)))
@@ -228,32 +243,35 @@ module _ (tag : List ℕ) (p1 p2 : ℕ) (is_named : NamesTag tag p1 p2) where
   up_to_one : (first : List ℕ) (others : List (List ℕ)) (before : List Command) (c : Command)
       (after : List Command) (old mid last new : CardState) (bytes : List ℕ) (status : StatusWord)
       → IsGathering old mid bytes → chain_commands (put_header p1 p2) (first ∷ others) ≡ before ++ c
-          ∷ after
+      ∷ after
       → AreTaken mid before last → IsAnswered last c status new → status ≢ ok
       → IsCarriedOut old (Put tag (bytes ++ concat (first ∷ others))) status [] new
   up_to_one first [] [] c after old mid last new bytes status gathering are taken answered other =
       let here : Command = record { header = put_header p1 p2; content = first; le = None } in
       let same : here ≡ c = cc in
       let at_mid : IsAnswered mid here status new =
-          subst (λ s. IsAnswered s here status new) taken
-          (subst (λ x. IsAnswered last x status new) (sym same) answered) in
+      subst (λ s. IsAnswered s here status new) taken
+      (subst (λ x. IsAnswered last x status new) (sym same) answered) in
       subst (λ v. IsCarriedOut old (Put tag (bytes ++ v)) status [] new) (sym (append-nil first))
-          (last_step old mid new first bytes status gathering at_mid)
+      (last_step old mid new first bytes status gathering at_mid)
   up_to_one first [] (b ∷ before) c after old mid last new bytes status gathering are taken answered
       other =
       absurd (omega (arith, ap length are, length-append before (c ∷ after)))
   up_to_one first (second ∷ others) [] c after old mid last new bytes status gathering are taken
       answered other =
       let here : Command =
-          record { header = with_more (put_header p1 p2); content = first; le = None } in
+      record { header = with_more (put_header p1 p2); content = first; le = None } in
       let same : here ≡ c = cc in
       let at_mid : IsAnswered mid here status new =
-          subst (λ s. IsAnswered s here status new) taken
-          (subst (λ x. IsAnswered last x status new) (sym same) answered) in
+      subst (λ s. IsAnswered s here status new) taken
+      (subst (λ x. IsAnswered last x status new) (sym same) answered) in
       let value : List ℕ = bytes ++ concat (first ∷ second ∷ others) in
       let fits : length bytes + length first ≤ length value =
-          omega (arith, length-append bytes (concat (first ∷ second ∷ others)),
-          length-append first (concat (second ∷ others))) in
+      omega (
+        arith,
+        length-append bytes (concat (first ∷ second ∷ others)),
+        length-append first (concat (second ∷ others)),
+      ) in
       elim (piece_step old mid new first bytes value status gathering at_mid fits) [
         | inl taken_too ↦ absurd (other taken_too.0)
         | inr refused ↦ refused.1
@@ -261,20 +279,23 @@ module _ (tag : List ℕ) (p1 p2 : ℕ) (is_named : NamesTag tag p1 p2) where
   up_to_one first (second ∷ others) (b ∷ before) c after old mid last new bytes status gathering are
       (next, now, taken) answered other =
       let here : Command =
-          record { header = with_more (put_header p1 p2); content = first; le = None } in
+      record { header = with_more (put_header p1 p2); content = first; le = None } in
       let same : here ≡ b = cc in
       let rest : chain_commands (put_header p1 p2) (second ∷ others) ≡ before ++ c ∷ after = cc in
       let at_mid : IsAnswered mid here ok next =
-          subst (λ x. IsAnswered mid x ok next) (sym same) now in
+      subst (λ x. IsAnswered mid x ok next) (sym same) now in
       let value : List ℕ = bytes ++ concat (first ∷ second ∷ others) in
       let fits : length bytes + length first ≤ length value =
-          omega (arith, length-append bytes (concat (first ∷ second ∷ others)),
-          length-append first (concat (second ∷ others))) in
+      omega (
+        arith,
+        length-append bytes (concat (first ∷ second ∷ others)),
+        length-append first (concat (second ∷ others)),
+      ) in
       elim (piece_step old mid next first bytes value ok gathering at_mid fits) [
         | inl taken_too ↦ subst (λ v. IsCarriedOut old (Put tag v) status [] new)
             (append_assoc bytes first (concat (second ∷ others)))
             (up_to_one second others before c after old next last new (bytes ++ first) status
-                taken_too.1 rest taken answered other)
+            taken_too.1 rest taken answered other)
         | inr refused ↦ absurd (refused.0 refl)
       ]
 
@@ -292,11 +313,11 @@ module _ (tag : List ℕ) (p1 p2 : ℕ) (is_named : NamesTag tag p1 p2) where
   chain_is_put old new value pieces status idle are ends =
       let (first, others, pieces_are, whole) = some_piece value pieces are in
       let begun : IsGathering old old [] =
-          record { same = (refl, refl); suits = suits_idle old.pending idle } in
+      record { same = (refl, refl); suits = suits_idle old.pending idle } in
       let all : concat (first ∷ others) ≡ value = ap concat (sym pieces_are) ∙ whole in
       each first others status all begun
-          (subst (λ p. EndsWith old (chain_commands (put_header p1 p2) p) new status) pieces_are
-          ends)
+      (subst (λ p. EndsWith old (chain_commands (put_header p1 p2) p) new status) pieces_are
+      ends)
     where
       each : (first : List ℕ) (others : List (List ℕ)) (last : StatusWord)
           → concat (first ∷ others) ≡ value → IsGathering old old []
@@ -308,8 +329,8 @@ module _ (tag : List ℕ) (p1 p2 : ℕ) (is_named : NamesTag tag p1 p2) where
       each first others last all begun
           (stopped before c after mid other_status split taken answered other) =
           subst (λ v. IsCarriedOut old (Put tag v) other_status [] new) all
-              (up_to_one first others before c after old old mid new [] other_status begun split
-              taken answered other)
+          (up_to_one first others before c after old old mid new [] other_status begun split
+          taken answered other)
 
 -- One more command is taken.
 pub taken_more : (old mid new : CardState) (before : List Command) (c : Command)

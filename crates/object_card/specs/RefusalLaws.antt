@@ -41,8 +41,8 @@ first_is_refusing state h p3 (r ∷ rs) status is =
         → (first_of_them state h p3 rs ≡ Some status → IsRefusing status) → IsRefusing status
     split true e more =
         let here : Some (status_for state h r) ≡ Some status =
-            subst (λ b. (if b then Some (status_for state h r) else first_of_them state h p3 rs)
-            ≡ Some status) e is in
+        subst (λ b. (if b then Some (status_for state h r) else first_of_them state h p3 rs)
+        ≡ Some status) e is in
         let same : status_for state h r ≡ status = cc in
         subst IsRefusing same (each_is_refusing state h r)
     split false e more =
@@ -69,7 +69,7 @@ refusal_drops_chain h status (ResponsePending left) = kept (is_get_response h &&
 abbrev first_of_put : Bool → Bool → Bool → Bool → Bool → Option StatusWord
 first_of_put broken unnamed unselected locked long =
     if broken then Some (0x68, 0x83) else if unnamed then Some (0x6A, 0x86) else if unselected
-        then Some (0x69, 0x85)
+    then Some (0x69, 0x85)
     else if locked then Some (0x69, 0x82) else if long then Some (0x67, 0x00) else None
 
 -- why a PUT DATA that continues what is pending, and names this tag, is refused
@@ -82,68 +82,68 @@ pub data IsPutRefusal (state : CardState) (tag : List ℕ) (p3 : ℕ) : StatusWo
       → VALUE_LIMIT < length (chained state.pending) + p3 → IsPutRefusal state tag p3 (0x67, 0x00)
 
 module _ (state : CardState) (tag : List ℕ) (p1 p2 p3 : ℕ) (is_named : named_tag p1 p2 ≡ Some tag)
-    where
-  abbrev too_long : Bool
-  too_long = nat_lt VALUE_LIMIT (length (chained state.pending) + p3)
+  where
+    abbrev too_long : Bool
+    too_long = nat_lt VALUE_LIMIT (length (chained state.pending) + p3)
 
-  reasons : (status : StatusWord) (es : Option (List Entry)) → selected_entries state ≡ es
-      → first_of_put false false (is_none es) (is_locked_among (Some tag) es) too_long ≡ Some status
-      → IsPutRefusal state tag p3 status
-  reasons status None e is = let same : (0x69, 0x85) ≡ status = cc in
-      subst (IsPutRefusal state tag p3) same (none_is_selected e)
-  reasons status (Some entries) e is = locked (is_locked tag entries) too_long refl refl
-    where
-      locked : (v w : Bool) → is_locked tag entries ≡ v → too_long ≡ w
-          → IsPutRefusal state tag p3 status
-      locked true w l k =
-          let here : Some (0x69, 0x82) ≡ Some status =
-              subst (λ b. first_of_put false false false b too_long ≡ Some status) l is in
-          let same : (0x69, 0x82) ≡ status = cc in
-          subst (IsPutRefusal state tag p3) same (is_not_allowed entries e l)
-      locked false true l k =
-          let here : Some (0x67, 0x00) ≡ Some status =
-              subst (λ b. first_of_put false false false false b ≡ Some status) k
-              (subst (λ b. first_of_put false false false b too_long ≡ Some status) l is) in
-          let same : (0x67, 0x00) ≡ status = cc in
-          subst (IsPutRefusal state tag p3) same
-              (is_too_long entries e l
-              (ltb-true VALUE_LIMIT (length (chained state.pending) + p3) k))
-      locked false false l k =
-          let no : None ≡ Some status =
-              subst (λ b. first_of_put false false false false b ≡ Some status) k
-              (subst (λ b. first_of_put false false false b too_long ≡ Some status) l is) in
-          absurd (cc)
+    reasons : (status : StatusWord) (es : Option (List Entry)) → selected_entries state ≡ es
+        → first_of_put false false (is_none es) (is_locked_among (Some tag) es) too_long ≡ Some status
+        → IsPutRefusal state tag p3 status
+    reasons status None e is = let same : (0x69, 0x85) ≡ status = cc in
+        subst (IsPutRefusal state tag p3) same (none_is_selected e)
+    reasons status (Some entries) e is = locked (is_locked tag entries) too_long refl refl
+      where
+        locked : (v w : Bool) → is_locked tag entries ≡ v → too_long ≡ w
+            → IsPutRefusal state tag p3 status
+        locked true w l k =
+            let here : Some (0x69, 0x82) ≡ Some status =
+            subst (λ b. first_of_put false false false b too_long ≡ Some status) l is in
+            let same : (0x69, 0x82) ≡ status = cc in
+            subst (IsPutRefusal state tag p3) same (is_not_allowed entries e l)
+        locked false true l k =
+            let here : Some (0x67, 0x00) ≡ Some status =
+            subst (λ b. first_of_put false false false false b ≡ Some status) k
+            (subst (λ b. first_of_put false false false b too_long ≡ Some status) l is) in
+            let same : (0x67, 0x00) ≡ status = cc in
+            subst (IsPutRefusal state tag p3) same
+            (is_too_long entries e l
+            (ltb-true VALUE_LIMIT (length (chained state.pending) + p3) k))
+        locked false false l k =
+            let no : None ≡ Some status =
+            subst (λ b. first_of_put false false false false b ≡ Some status) k
+            (subst (λ b. first_of_put false false false b too_long ≡ Some status) l is) in
+            absurd (cc)
 
-  abbrev first_for : Header → Option StatusWord
-  first_for h = first_of_put (breaks_chain state.pending h) (not (is_some (named_tag p1 p2)))
-      (is_none (selected_entries state))
-      (is_locked_among (named_tag p1 p2) (selected_entries state)) too_long
+    abbrev first_for : Header → Option StatusWord
+    first_for h = first_of_put (breaks_chain state.pending h) (not (is_some (named_tag p1 p2)))
+        (is_none (selected_entries state))
+        (is_locked_among (named_tag p1 p2) (selected_entries state)) too_long
 
-  reasons_for : (h : Header) (status : StatusWord) → breaks_chain state.pending h ≡ false
-      → first_for h ≡ Some status → IsPutRefusal state tag p3 status
-  reasons_for h status goes_on is =
-      let joined : first_of_put false (not (is_some (named_tag p1 p2)))
-          (is_none (selected_entries state))
-          (is_locked_among (named_tag p1 p2) (selected_entries state)) too_long ≡ Some status =
-      subst (λ b. first_of_put b (not (is_some (named_tag p1 p2)))
-          (is_none (selected_entries state))
-          (is_locked_among (named_tag p1 p2) (selected_entries state)) too_long ≡ Some status)
-          goes_on is in
-      reasons status (selected_entries state) refl
-      (subst (λ t. first_of_put false (not (is_some t)) (is_none (selected_entries state))
-          (is_locked_among t (selected_entries state)) too_long ≡ Some status) is_named joined)
+    reasons_for : (h : Header) (status : StatusWord) → breaks_chain state.pending h ≡ false
+        → first_for h ≡ Some status → IsPutRefusal state tag p3 status
+    reasons_for h status goes_on is =
+        let joined : first_of_put false (not (is_some (named_tag p1 p2)))
+        (is_none (selected_entries state))
+        (is_locked_among (named_tag p1 p2) (selected_entries state)) too_long ≡ Some status =
+        subst (λ b. first_of_put b (not (is_some (named_tag p1 p2)))
+        (is_none (selected_entries state))
+        (is_locked_among (named_tag p1 p2) (selected_entries state)) too_long ≡ Some status)
+        goes_on is in
+        reasons status (selected_entries state) refl
+        (subst (λ t. first_of_put false (not (is_some t)) (is_none (selected_entries state))
+        (is_locked_among t (selected_entries state)) too_long ≡ Some status) is_named joined)
 
-  -- A PUT DATA that continues what is pending is refused for one of three reasons.
-  pub put_is_refused : (h : Header) (status : StatusWord) → (h ≡ put_header p1 p2)
-      ⊎ (h ≡ with_more (put_header p1 p2)) → breaks_chain state.pending h ≡ false
-      → refusal state h p3 ≡ Some status → IsPutRefusal state tag p3 status
-  put_is_refused h status which goes_on is =
-      let Refused : Header → Type 0 = λ h. (breaks_chain state.pending h ≡ false)
-          × (refusal state h p3 ≡ Some status) in
-      elim which [
-        | inl last ↦ let at : Refused (put_header p1 p2) = subst Refused last (goes_on, is) in
-            reasons_for (put_header p1 p2) status at.0 at.1
-        | inr more ↦ let at : Refused (with_more (put_header p1 p2)) =
-            subst Refused more (goes_on, is) in
-            reasons_for (with_more (put_header p1 p2)) status at.0 at.1
-      ]
+    -- A PUT DATA that continues what is pending is refused for one of three reasons.
+    pub put_is_refused : (h : Header) (status : StatusWord) → (h ≡ put_header p1 p2)
+        ⊎ (h ≡ with_more (put_header p1 p2)) → breaks_chain state.pending h ≡ false
+        → refusal state h p3 ≡ Some status → IsPutRefusal state tag p3 status
+    put_is_refused h status which goes_on is =
+        let Refused : Header → Type 0 = λ h. (breaks_chain state.pending h ≡ false)
+        × (refusal state h p3 ≡ Some status) in
+        elim which [
+          | inl last ↦ let at : Refused (put_header p1 p2) = subst Refused last (goes_on, is) in
+              reasons_for (put_header p1 p2) status at.0 at.1
+          | inr more ↦ let at : Refused (with_more (put_header p1 p2)) =
+              subst Refused more (goes_on, is) in
+              reasons_for (with_more (put_header p1 p2)) status at.0 at.1
+        ]

@@ -42,9 +42,9 @@ breaks_chain (ResponsePending left) h = false
 abbrev pub named_tag : ℕ → ℕ → Option (List ℕ)
 named_tag p1 p2 =
     if p1 == 0 then (if nat_le 0x40 p2 && nat_le p2 0xFE
-        && not (p2 % 32 == 31) then Some (p2 ∷ []) else None)
+    && not (p2 % 32 == 31) then Some (p2 ∷ []) else None)
     else (if nat_le 0x5F p1 && nat_lt p1 256 && (p1 % 32 == 31) && nat_lt 0 p2
-        && nat_lt p2 0x80 then Some (p1 ∷ p2 ∷ []) else None)
+    && nat_lt p2 0x80 then Some (p1 ∷ p2 ∷ []) else None)
 
 -- SELECT by identifier has P1-P2 0400, GET RESPONSE 0000; those of GET DATA and PUT DATA name a tag
 abbrev pub parameters_fit : Header → Bool
@@ -57,8 +57,8 @@ parameters_fit h =
 abbrev pub object_asked : CardState → Header → Option (List ℕ)
 object_asked state h =
     option_and_then (λ tag. option_and_then
-        (λ entries. option_map (object_bytes tag) (value_under tag entries))
-        (selected_entries state))
+    (λ entries. option_map (object_bytes tag) (value_under tag entries))
+    (selected_entries state))
     (named_tag h.p1 h.p2)
 
 -- what a GET RESPONSE or a GET DATA has to send
@@ -91,7 +91,7 @@ pub data Reason : Type 0 where
 abbrev pub in_order : List Reason
 in_order =
     OtherThanItsChain ∷ UnknownClass ∷ UnknownInstruction ∷ NotChained ∷ WrongParameters
-        ∷ NoApplicationSelected ∷ NoResponsePending
+    ∷ NoApplicationSelected ∷ NoResponsePending
     ∷ LockedEntry ∷ NoSuchObject ∷ ValueTooLong ∷ NoIdentifier ∷ MoreThanIsLeft ∷ []
 
 -- where each holds
@@ -131,7 +131,7 @@ abbrev pub first_of_them : CardState → Header → ℕ → List Reason → Opti
 first_of_them state h p3 [] = None
 first_of_them state h p3 (reason ∷ others) =
     if holds state h p3 reason then Some (status_for state h reason) else first_of_them state h p3
-        others
+    others
 
 -- the status with which a header is refused, if it is
 abbrev pub refusal : CardState → Header → ℕ → Option StatusWord

@@ -40,7 +40,7 @@ pub announces_some : (left : List ℕ) (cut n : ℕ) → IsCut cut
 announces_some [] cut n is announced = absurd (cc)
 announces_some (b ∷ left) cut n is announced =
     let told = announced_count (b ∷ left) cut n is announced in
-        (omega (arith, told, is.0), omega (arith, told))
+    (omega (arith, told, is.0), omega (arith, told))
 
 -- neither 61XX nor 6CXX
 record TellsNoCount (status : StatusWord) : Type 0 where
@@ -84,8 +84,8 @@ no_announcement : (status : StatusWord) (n : ℕ) → (status.0 == 0x61) ≡ fal
     → announces status ≡ Some n → ⊥
 no_announcement status n other announced =
     let no : None ≡ Some n =
-        subst (λ b. (if b then Some (count status.1) else None) ≡ Some n) other announced in
-        absurd (cc)
+    subst (λ b. (if b then Some (count status.1) else None) ≡ Some n) other announced in
+    absurd (cc)
 
 pub rest_waits : (left : List ℕ) → waiting (pending_of left) ≡ left
 rest_waits [] = refl
@@ -109,13 +109,13 @@ what_is_announced_waits old new cut n t (misses_application h aid e ins none) is
 what_is_announced_waits old new cut n t (sends h p3 e ins) is announced =
     let left : List ℕ = drop (count p3) (to_send old h) in
     subst (λ w. (1 ≤ n) × (n ≤ length w)) (sym (rest_waits left))
-        (announces_some left cut n is announced)
+    (announces_some left cut n is announced)
 what_is_announced_waits old new cut n t (chains h bytes e ins cla) is announced =
     absurd (no_announcement ok n refl announced)
 what_is_announced_waits old new cut n t (puts_value h bytes tag answer next e ins cla named put) is
     announced =
     absurd (no_announcement answer.status n
-        (answer_tells_no_count old next (Put tag _) answer put).no_more announced)
+    (answer_tells_no_count old next (Put tag _) answer put).no_more announced)
 
 -- Data come before a 6CXX in no TPDU.
 pub corrected_brings_none : (old new : CardState) (cut n : ℕ) (t : Tpdu) → Does old cut t new
@@ -169,9 +169,9 @@ fetch_is_taken state p3 some few = split state.pending refl
         absurd (omega (arith, some, ap (λ p. length (waiting p)) e))
     split (ResponsePending left) e =
         let is_there : (length (waiting state.pending) == 0) ≡ false =
-            ne_eqb (length (waiting state.pending)) 0 (λ none. omega (arith, none, some)) in
+        ne_eqb (length (waiting state.pending)) 0 (λ none. omega (arith, none, some)) in
         let fits : nat_lt (length (waiting state.pending)) (count p3) ≡ false =
-            le-ltb (length (waiting state.pending)) (count p3) few in
+        le-ltb (length (waiting state.pending)) (count p3) few in
         rw (is_there, fits, e) refl
 
 count_is_some : (b : ℕ) → 1 ≤ count b
@@ -187,10 +187,10 @@ pub fetched : (old new : CardState) (cut : ℕ) (t : Tpdu) → Does old cut t ne
     → IsFetched old cut t new
 fetched old new cut t does is few =
     let sending : is_get t.header || is_get_response t.header ≡ true =
-        ap (λ h. is_get h || is_get_response h) is in
+    ap (λ h. is_get h || is_get_response h) is in
     let taken : refusal old t.header t.p3 ≡ None =
     subst (λ h. refusal old h t.p3 ≡ None) (sym is)
-        (fetch_is_taken old t.p3 (omega (arith, few, count_is_some t.p3)) few) in
+    (fetch_is_taken old t.p3 (omega (arith, few, count_is_some t.p3)) few) in
     let whole : to_send old t.header ≡ waiting old.pending = ap (λ h. to_send old h) is in
     elim (send_step old new cut t does sending) [
       | send_refused refused none left ↦ let no : None ≡ Some t.status = sym taken ∙ refused in
@@ -209,15 +209,18 @@ pub announced_is_brought : (old mid new : CardState) (cut next n : ℕ) (t fetch
     → Does old cut t mid → IsCut cut → announces t.status ≡ Some n
     → Does mid next fetch new → fetch.header ≡ get_response → count fetch.p3 ≤ n
     → (1 ≤ length fetch.received) × (length fetch.received ≡ count fetch.p3)
-        × (corrects fetch.status ≡ None)
+    × (corrects fetch.status ≡ None)
 announced_is_brought old mid new cut next n t fetch does is announced fetches header few =
     let waits = what_is_announced_waits old mid cut n t does is announced in
     let whole = fetched mid new next fetch fetches header (omega (arith, waits.1, few)) in
     let brought : length fetch.received ≡ count fetch.p3 =
     ap length whole.brought
-        ∙ omega (arith, length-take (count fetch.p3) (waiting mid.pending), waits.1, few) in
-    (omega (arith, brought, count_is_some fetch.p3), brought, ap (λ s. corrects s) whole.status_is
-        ∙ none_corrected (drop (count fetch.p3) (waiting mid.pending)))
+    ∙ omega (arith, length-take (count fetch.p3) (waiting mid.pending), waits.1, few) in (
+      omega (arith, brought, count_is_some fetch.p3),
+      brought,
+      ap (λ s. corrects s) whole.status_is
+          ∙ none_corrected (drop (count fetch.p3) (waiting mid.pending)),
+    )
   where
     none_corrected : (left : List ℕ) → corrects (announcing left next) ≡ None
     none_corrected [] = refl
@@ -241,29 +244,45 @@ pub fetch_brings_what_waits : (old new : CardState) (cut : ℕ) (t : Tpdu) → D
     → length t.received + length (waiting new.pending) ≤ length (waiting old.pending)
 fetch_brings_what_waits old new cut t does is =
     let sending : is_get t.header || is_get_response t.header ≡ true =
-        ap (λ h. is_get h || is_get_response h) is in
+    ap (λ h. is_get h || is_get_response h) is in
     let whole : to_send old t.header ≡ waiting old.pending = ap (λ h. to_send old h) is in
     elim (send_step old new cut t does sending) [
       | send_refused refused none left ↦
-          omega (arith, ap length none, ap (λ s. length (waiting s.pending)) left,
-              refusal_keeps_within t.header t.status old.pending)
+          omega (
+            arith,
+            ap length none,
+            ap (λ s. length (waiting s.pending)) left,
+            refusal_keeps_within t.header t.status old.pending,
+          )
       | is_sent e brought status left ↦
-          omega (arith, ap length brought, ap (λ s. length (waiting s.pending)) left,
-              taken_and_left (count t.p3) (to_send old t.header), ap length whole)
+          omega (
+            arith,
+            ap length brought,
+            ap (λ s. length (waiting s.pending)) left,
+            taken_and_left (count t.p3) (to_send old t.header),
+            ap length whole,
+          )
     ]
 
 fetches_bring_what_waits : (old new : CardState) (fetches : List Tpdu) → AreFetches old fetches new
     → length (flat_map (λ t. t.received) fetches) ≤ length (waiting old.pending)
 fetches_bring_what_waits old new [] are = omega arith
 fetches_bring_what_waits old new (t ∷ fetches) (cut, mid, is, does, others) =
-    omega (arith, fetch_brings_what_waits old mid cut t does is,
-        fetches_bring_what_waits mid new fetches others,
-        length-append t.received (flat_map (λ t. t.received) fetches))
+    omega (
+      arith,
+      fetch_brings_what_waits old mid cut t does is,
+      fetches_bring_what_waits mid new fetches others,
+      length-append t.received (flat_map (λ t. t.received) fetches),
+    )
 
 -- What a TPDU and the fetches after it bring is no more than a value with its tag and length.
 pub exchange_brings_within : (old mid new : CardState) (cut : ℕ) (t : Tpdu) (fetches : List Tpdu)
     → IsCardState old → Does old cut t mid → AreFetches mid fetches new
     → length (flat_map (λ t. t.received) (t ∷ fetches)) ≤ VALUE_LIMIT + HEAD_LIMIT
 exchange_brings_within old mid new cut t fetches is does are =
-    omega (arith, brings_within old mid cut t does is, fetches_bring_what_waits mid new fetches are,
-        length-append t.received (flat_map (λ t. t.received) fetches))
+    omega (
+      arith,
+      brings_within old mid cut t does is,
+      fetches_bring_what_waits mid new fetches are,
+      length-append t.received (flat_map (λ t. t.received) fetches),
+    )

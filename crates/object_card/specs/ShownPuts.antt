@@ -21,7 +21,7 @@ is_selecting t = is_select t.header && (t.status.0 == 0x61)
 abbrev pub is_piece_for : Header → Tpdu → Bool
 is_piece_for h t =
     (t.header.cla == 0x10) && (t.header.ins == h.ins) && (t.header.p1 == h.p1)
-        && (t.header.p2 == h.p2)
+    && (t.header.p2 == h.p2)
     && is_ok t.status
 
 -- a PUT DATA with CLA 00 answered 9000
@@ -55,7 +55,7 @@ abbrev pub shown_by : List Tpdu → Tpdu → List ShownPut
 shown_by before t =
     if is_stored t
     then put_into (selected_by before) (named_tag t.header.p1 t.header.p2)
-        (run_before t.header before ++ t.sent)
+    (run_before t.header before ++ t.sent)
     else []
 
 abbrev pub shown_after : List Tpdu → List Item → List ShownPut

@@ -67,5 +67,8 @@ selected_entries state = option_and_then (λ aid. entries_in aid state.applicati
 
 -- A reset keeps what is held; nothing is selected, and nothing is pending (this project's profile).
 abbrev pub after_reset : CardState → CardState
-after_reset state = record { applications = state.applications; selected = None;
-    pending = NothingPending }
+after_reset state = record {
+  applications = state.applications;
+  selected = None;
+  pending = NothingPending;
+}

@@ -25,7 +25,7 @@ use Rattle.object_card.specs.CardLaws.{put_leaves}
 stored_why : (entries : List Entry) (tag value : List ℕ) (status : StatusWord)
     → PutStatus entries tag value status → status ≡ ok
     → (length value ≤ VALUE_LIMIT) × IsValueOf tag value
-        × ((is_some (value_under tag entries) ≡ true) ⊎ (length entries < ENTRY_LIMIT))
+    × ((is_some (value_under tag entries) ≡ true) ⊎ (length entries < ENTRY_LIMIT))
 stored_why entries tag value status (not_allowed locked) is = let e : 0x69 ≡ 0x90 =
     ap (λ s. s.0) is in absurd (omega (arith, e))
 stored_why entries tag value status (wrong_length free long) is = let e : 0x67 ≡ 0x90 =
@@ -49,12 +49,14 @@ none_of_them state h p3 (r ∷ rs) none =
         → AllByRecursion (λ r. holds state h p3 r ≡ false) (r ∷ rs)
     split true s more =
         let no : Some (status_for state h r) ≡ None =
-            subst (λ b. (if b then Some (status_for state h r) else first_of_them state h p3 rs)
-            ≡ None) s none in
+        subst (λ b. (if b then Some (status_for state h r) else first_of_them state h p3 rs)
+        ≡ None) s none in
         absurd (cc)
-    split false s more =
-        (s, more (subst (λ b.
-        (if b then Some (status_for state h r) else first_of_them state h p3 rs) ≡ None) s none))
+    split false s more = (
+      s,
+      more (subst (λ b.
+          (if b then Some (status_for state h r) else first_of_them state h p3 rs) ≡ None) s none),
+    )
 
 -- No reason holds where a header is not refused.
 pub none_holds : (state : CardState) (h : Header) (p3 : ℕ) (r : Reason) → refusal state h p3 ≡ None
@@ -82,8 +84,8 @@ pub keeps_to_limit : (state : CardState) (h : Header) (p3 : ℕ) → refusal sta
 keeps_to_limit state h p3 none put =
     let past = none_holds state h p3 ValueTooLong none in
     ltb-false VALUE_LIMIT (length (chained state.pending) + p3)
-        (subst (λ b. (b && nat_lt VALUE_LIMIT (length (chained state.pending) + p3)) ≡ false) put
-        past)
+    (subst (λ b. (b && nat_lt VALUE_LIMIT (length (chained state.pending) + p3)) ≡ false) put
+    past)
 
 selected_where : (state : CardState) → is_none (selected_entries state) ≡ false
     → IsSome state.selected
@@ -100,7 +102,7 @@ pub put_is_selected : (state : CardState) (h : Header) (p3 : ℕ) → refusal st
     → is_put h ≡ true → IsSome state.selected
 put_is_selected state h p3 none put = selected_where state (
     shed (is_get h) (subst (λ b. ((is_get h || b) && is_none (selected_entries state)) ≡ false) put
-        (none_holds state h p3 NoApplicationSelected none))
+    (none_holds state h p3 NoApplicationSelected none))
     )
   where
     shed : (v : Bool) → ((v || true) && is_none (selected_entries state)) ≡ false
@@ -140,8 +142,12 @@ short_length n = split (nat_lt n 0x80) (nat_lt n 0x100)
 object_length : (tag value : List ℕ)
     → length (object_bytes tag value) ≤ length tag + 3 + length value
 object_length tag value =
-    omega (arith, short_length (length value), length-append (tag ++ shortest (length value)) value,
-    length-append tag (shortest (length value)))
+    omega (
+      arith,
+      short_length (length value),
+      length-append (tag ++ shortest (length value)) value,
+      length-append tag (shortest (length value)),
+    )
 
 -- a tag that can be addressed has two bytes at most
 address_length : (tag : List ℕ) (p1 p2 : ℕ) → NamesTag tag p1 p2 → length tag ≤ 2
@@ -152,13 +158,16 @@ address_length (a ∷ b ∷ c ∷ tag) p1 p2 h = absurd h
 
 pub information_length : (aid : List ℕ) → length (control_information aid) ≤ length aid + 8
 information_length aid =
-    omega (arith, object_length (0x6F ∷ []) (object_bytes (0x84 ∷ []) aid),
-    object_length (0x84 ∷ []) aid)
+    omega (
+      arith,
+      object_length (0x6F ∷ []) (object_bytes (0x84 ∷ []) aid),
+      object_length (0x84 ∷ []) aid,
+    )
 
 -- an object that a GET DATA asks for has a value's bytes, its tag and its length
 object_in : (tag : List ℕ) (entries : List Entry) → AllByRecursion IsEntry entries
     → length (unwrap_or (option_map (object_bytes tag) (value_under tag entries)) []) ≤ VALUE_LIMIT
-        + HEAD_LIMIT
+    + HEAD_LIMIT
 object_in tag entries all = split (value_under tag entries) refl
   where
     split : (v : Option (List ℕ)) → value_under tag entries ≡ v
@@ -166,8 +175,12 @@ object_in tag entries all = split (value_under tag entries) refl
     split None e = omega arith
     split (Some value) e =
         let is = value_is_sound tag value entries all e in
-        omega (arith, object_length tag value, is.within,
-            address_length tag is.addressable.0 is.addressable.1 is.addressable.2)
+        omega (
+          arith,
+          object_length tag value,
+          is.within,
+          address_length tag is.addressable.0 is.addressable.1 is.addressable.2,
+        )
 
 object_asked_length : (state : CardState) (h : Header) → IsCardState state
     → length (unwrap_or (object_asked state h) []) ≤ VALUE_LIMIT + HEAD_LIMIT
@@ -175,8 +188,8 @@ object_asked_length state h is = tagged (named_tag h.p1 h.p2)
   where
     held : (tag aid : List ℕ) (v : Option (List Entry)) → entries_in aid state.applications ≡ v
         → length (unwrap_or (option_and_then
-            (λ entries. option_map (object_bytes tag) (value_under tag entries)) v) [])
-            ≤ VALUE_LIMIT + HEAD_LIMIT
+        (λ entries. option_map (object_bytes tag) (value_under tag entries)) v) [])
+        ≤ VALUE_LIMIT + HEAD_LIMIT
     held tag aid None e = omega arith
     held tag aid (Some entries) e =
         object_in tag entries
@@ -186,7 +199,7 @@ object_asked_length state h is = tagged (named_tag h.p1 h.p2)
         → length (unwrap_or (option_and_then
         (λ entries. option_map (object_bytes tag) (value_under tag entries))
         (option_and_then (λ aid. entries_in aid state.applications) v)) []) ≤ VALUE_LIMIT
-            + HEAD_LIMIT
+        + HEAD_LIMIT
     chosen tag None = omega arith
     chosen tag (Some aid) = held tag aid (entries_in aid state.applications) refl
 
@@ -240,35 +253,43 @@ pub put_stays_sound : (old new : CardState) (tag value : List ℕ) (reply : Repl
     → IsCardState old → AreApplications new.applications × IsSelectionHeld new
 put_stays_sound old new tag value reply h addressable is =
     elim (put_leaves old new (Put tag value) reply h) [
-  | inl e ↦ subst (λ s. AreApplications s.applications × IsSelectionHeld s) (sym e)
-      (is.are_applications, is.selected_is_held)
-  | inr (aid, entries, selected, found, status, e) ↦
-      let (fits, value_of, room) = stored_why entries tag value ok status refl in
-      let entry : IsEntry (record { tag = tag; value = value; locked = false }) =
+      | inl e ↦ subst (λ s. AreApplications s.applications × IsSelectionHeld s) (sym e)
+          (is.are_applications, is.selected_is_held)
+      | inr (aid, entries, selected, found, status, e) ↦
+          let (fits, value_of, room) = stored_why entries tag value ok status refl in
+          let entry : IsEntry (record { tag = tag; value = value; locked = false }) =
           record { addressable = addressable; within = fits; value_of_kind = value_of } in
-      subst (λ s. AreApplications s.applications × IsSelectionHeld s) (sym e) (
-        applications_stay_sound aid tag value entries old.applications is.are_applications entry
-            room found,
-        subst (λ s. IfSome s
-            (λ x. is_some (entries_in x (with_object aid tag value old.applications)) ≡ true))
-            (sym selected)
-            (held_stays aid aid tag value old.applications ∙ ap is_some found),
-      )
-]
+          subst (λ s. AreApplications s.applications × IsSelectionHeld s) (sym e) (
+            applications_stay_sound aid tag value entries old.applications is.are_applications entry
+                room found,
+            subst (λ s. IfSome s
+                (λ x. is_some (entries_in x (with_object aid tag value old.applications)) ≡ true))
+                (sym selected)
+                (held_stays aid aid tag value old.applications ∙ ap is_some found),
+          )
+    ]
 
 -- A card's state stays one.
 pub stays_sound : (old new : CardState) (cut : ℕ) (tpdu : Tpdu) → Does old cut tpdu new
     → IsCardState old → IsCardState new
 stays_sound old new cut tpdu (refuses h p3 status e) is =
-    record { are_applications = is.are_applications;
-        selected_is_held = is.selected_is_held;
-        is_pending = pending_after old.selected h status old.pending is.is_pending }
+    record {
+      are_applications = is.are_applications;
+      selected_is_held = is.selected_is_held;
+      is_pending = pending_after old.selected h status old.pending is.is_pending;
+    }
 stays_sound old new cut tpdu (selects_application h aid e ins held) is =
-    record { are_applications = is.are_applications; selected_is_held = held;
-        is_pending = control_information_is_pending old aid is held }
+    record {
+      are_applications = is.are_applications;
+      selected_is_held = held;
+      is_pending = control_information_is_pending old aid is held;
+    }
 stays_sound old new cut tpdu (misses_application h aid e ins none) is =
-    record { are_applications = is.are_applications;
-        selected_is_held = is.selected_is_held; is_pending = tt }
+    record {
+      are_applications = is.are_applications;
+      selected_is_held = is.selected_is_held;
+      is_pending = tt;
+    }
 stays_sound old new cut tpdu (sends h p3 e ins) is = record {
   are_applications = is.are_applications;
   selected_is_held = is.selected_is_held;
@@ -280,11 +301,14 @@ stays_sound old new cut tpdu (chains h bytes e ins cla) is = record {
   selected_is_held = is.selected_is_held;
   is_pending = (
     put_is_selected old h (length bytes) e ins,
-    omega (arith, length-append (chained old.pending) bytes,
-        keeps_to_limit old h (length bytes) e ins),
+    omega (
+      arith,
+      length-append (chained old.pending) bytes,
+      keeps_to_limit old h (length bytes) e ins,
+    ),
   );
 }
 stays_sound old new cut tpdu (puts_value h bytes tag answer next e ins cla named put) is =
     let sound = put_stays_sound old next tag (chained old.pending ++ bytes) answer put
-        (h.p1, h.p2, named) is in
+    (h.p1, h.p2, named) is in
     record { are_applications = sound.0; selected_is_held = sound.1; is_pending = tt }

@@ -14,19 +14,23 @@ use Rattle.object_card.specs.CardMeaning.{Does, refuses, selects_application, mi
 
 -- the TPDU of a header that is refused
 pub record RefusedStep (old : CardState) (t : Tpdu) (new : CardState) (status : StatusWord) : Type 0
-    where
-  pub none_sent : t.sent ≡ []
-  pub none_received : t.received ≡ []
-  pub status_is : t.status ≡ status
-  pub new_is : new ≡ with_pending old (after_refusal t.header status old.pending)
+  where
+    pub none_sent : t.sent ≡ []
+    pub none_received : t.received ≡ []
+    pub status_is : t.status ≡ status
+    pub new_is : new ≡ with_pending old (after_refusal t.header status old.pending)
 
 pub refused_step : (old new : CardState) (cut : ℕ) (t : Tpdu) (status : StatusWord)
     → Does old cut t new → refusal old t.header t.p3 ≡ Some status
     → RefusedStep old t new status
 refused_step old new cut t status (refuses h p3 other e) refused =
     let same : other ≡ status = cc in
-    record { none_sent = refl; none_received = refl; status_is = same;
-        new_is = ap (λ s. with_pending old (after_refusal h s old.pending)) same }
+    record {
+      none_sent = refl;
+      none_received = refl;
+      status_is = same;
+      new_is = ap (λ s. with_pending old (after_refusal h s old.pending)) same;
+    }
 refused_step old new cut t status (selects_application h aid e ins held) refused = absurd (cc)
 refused_step old new cut t status (misses_application h aid e ins none) refused = absurd (cc)
 refused_step old new cut t status (sends h p3 e ins) refused = absurd (cc)
@@ -43,7 +47,7 @@ pub data SelectStep (old : CardState) (cut : ℕ) (t : Tpdu) (new : CardState) :
       → is_some (entries_in t.sent old.applications) ≡ true → t.received ≡ []
       → t.status ≡ announcing (control_information t.sent) cut
       → new ≡ with_pending (with_selected old t.sent)
-          (ResponsePending (control_information t.sent))
+      (ResponsePending (control_information t.sent))
       → SelectStep old cut t new
   is_missed : refusal old t.header t.p3 ≡ None → t.p3 ≡ length t.sent
       → entries_in t.sent old.applications ≡ None → t.received ≡ []
@@ -63,8 +67,8 @@ select_step old new cut t (misses_application h aid e ins none) select =
     is_missed e refl none refl refl refl
 select_step old new cut t (sends h p3 e ins) select =
     let no : false ≡ true =
-        subst (λ i. ((i == 0xCA) || (i == 0xC0)) ≡ true) (eqb-true h.ins 0xA4 select) ins in
-        absurd (true≢false (sym no))
+    subst (λ i. ((i == 0xCA) || (i == 0xC0)) ≡ true) (eqb-true h.ins 0xA4 select) ins in
+    absurd (true≢false (sym no))
 select_step old new cut t (chains h bytes e ins cla) select =
     absurd (not_select h 0xDA refl ins select)
 select_step old new cut t (puts_value h bytes tag answer next e ins cla named_by put) select =
@@ -77,7 +81,7 @@ pub data PutStep (old : CardState) (t : Tpdu) (new : CardState) : Type 0 where
   is_chained : refusal old t.header t.p3 ≡ None → t.header.cla ≡ 0x10 → t.p3 ≡ length t.sent
       → t.status ≡ ok
       → new ≡ with_pending old
-          (ChainPending t.header.p1 t.header.p2 (chained old.pending ++ t.sent)) → PutStep old t new
+      (ChainPending t.header.p1 t.header.p2 (chained old.pending ++ t.sent)) → PutStep old t new
   is_ended : refusal old t.header t.p3 ≡ None → t.header.cla ≡ 0x00 → t.p3 ≡ length t.sent
       → (tag : List ℕ) (answer : Reply) (next : CardState) → NamesTag tag t.header.p1 t.header.p2
       → t.status ≡ answer.status → Answers old (Put tag (chained old.pending ++ t.sent)) answer next
@@ -97,8 +101,8 @@ put_step old new cut t (misses_application h aid e ins none) put =
     absurd (other_ins h 0xA4 refl ins put)
 put_step old new cut t (sends h p3 e ins) put =
     let no : false ≡ true =
-        subst (λ i. ((i == 0xCA) || (i == 0xC0)) ≡ true) (eqb-true h.ins 0xDA put) ins in
-        absurd (true≢false (sym no))
+    subst (λ i. ((i == 0xCA) || (i == 0xC0)) ≡ true) (eqb-true h.ins 0xDA put) ins in
+    absurd (true≢false (sym no))
 put_step old new cut t (chains h bytes e ins cla) put = is_chained e cla refl refl refl
 put_step old new cut t (puts_value h bytes tag answer next e ins cla named_by is) put =
     is_ended e cla refl tag answer next named_by refl is refl

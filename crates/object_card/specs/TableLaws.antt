@@ -27,7 +27,7 @@ tags_stay tag value (e ∷ entries) held =
     split true s more = rw s refl
     split false s more = rw s (ap (λ ts. e.tag ∷ ts)
         (more (subst (λ b. is_some (if b then Some e.value else value_under tag entries) ≡ true) s
-            held)))
+        held)))
 
 -- a new tag goes last
 pub tag_goes_last : (tag value : List ℕ) (entries : List Entry) → value_under tag entries ≡ None
@@ -130,12 +130,23 @@ length_with tag value entries fits room = split (value_under tag entries) refl
         → length (with_value tag value entries) ≤ ENTRY_LIMIT
     split None none = elim room [
       | inl held ↦ let no : false ≡ true = sym (ap is_some none) ∙ held in absurd (cc)
-      | inr short ↦ omega (arith, counted, before, short,
-          ap length (tag_goes_last tag value entries none), length_with_last (tags entries) tag)
+      | inr short ↦ omega (
+        arith,
+        counted,
+        before,
+        short,
+        ap length (tag_goes_last tag value entries none),
+        length_with_last (tags entries) tag,
+      )
     ]
     split (Some held) is =
-        omega (arith, counted, before, fits,
-        ap length (tags_stay tag value entries (ap is_some is)))
+        omega (
+          arith,
+          counted,
+          before,
+          fits,
+          ap length (tags_stay tag value entries (ap is_some is)),
+        )
 
 -- an application stays one
 pub application_stays_sound : (a : Application) (tag value : List ℕ) → IsApplication a
@@ -176,7 +187,7 @@ pub all_stay_sound : (aid tag value : List ℕ) (entries : List Entry)
 all_stay_sound aid tag value entries [] new room found all = tt
 all_stay_sound aid tag value entries (a ∷ applications) new room found all =
     split (same_bytes aid a.aid) refl
-        (λ f. all_stay_sound aid tag value entries applications new room f all.1)
+    (λ f. all_stay_sound aid tag value entries applications new room f all.1)
   where
     split : (v : Bool) → same_bytes aid a.aid ≡ v
         → (entries_in aid applications ≡ Some entries
@@ -184,19 +195,22 @@ all_stay_sound aid tag value entries (a ∷ applications) new room found all =
         → AllByRecursion IsApplication (with_object aid tag value (a ∷ applications))
     split true s more =
         let is : Some a.entries ≡ Some entries =
-            subst (λ b. (if b then Some a.entries else entries_in aid applications) ≡ Some entries)
-            s found in
+        subst (λ b. (if b then Some a.entries else entries_in aid applications) ≡ Some entries)
+        s found in
         let e : entries ≡ a.entries = cc in
         let here : HasRoom tag a.entries = subst (λ es. HasRoom tag es) e room in
         rw s (application_stays_sound a tag value all.0 new here, all.1)
     split false s more =
-        rw s (all.0, more (subst
-        (λ b. (if b then Some a.entries else entries_in aid applications) ≡ Some entries) s found))
+        rw s (
+          all.0,
+          more (subst
+              (λ b. (if b then Some a.entries else entries_in aid applications) ≡ Some entries) s found),
+        )
 
 -- what was held is held
 pub held_stays : (x aid tag value : List ℕ) (applications : List Application)
     → is_some (entries_in x (with_object aid tag value applications))
-        ≡ is_some (entries_in x applications)
+    ≡ is_some (entries_in x applications)
 held_stays x aid tag value [] = refl
 held_stays x aid tag value (a ∷ applications) =
     split (same_bytes aid a.aid) refl (held_stays x aid tag value applications)
@@ -210,8 +224,8 @@ held_stays x aid tag value (a ∷ applications) =
     passed : (v : Bool) → is_some (entries_in x (with_object aid tag value applications))
         ≡ is_some (entries_in x applications)
         → is_some (if v then Some a.entries else entries_in x
-            (with_object aid tag value applications))
-            ≡ is_some (if v then Some a.entries else entries_in x applications)
+        (with_object aid tag value applications))
+        ≡ is_some (if v then Some a.entries else entries_in x applications)
     passed true more = refl
     passed false more = more
 
@@ -232,9 +246,13 @@ pub applications_stay_sound : (aid tag value : List ℕ) (entries : List Entry)
 applications_stay_sound aid tag value entries applications are new room found = record {
   all_sound = all_stay_sound aid tag value entries applications new room found are.all_sound;
   distinct_aids = subst AreDistinct (sym (aids_stay aid tag value applications)) are.distinct_aids;
-  no_more = omega (arith, are.no_more, ap length (aids_stay aid tag value applications),
-      length-map applications (λ application. application.aid),
-      length-map (with_object aid tag value applications) (λ application. application.aid));
+  no_more = omega (
+    arith,
+    are.no_more,
+    ap length (aids_stay aid tag value applications),
+    length-map applications (λ application. application.aid),
+    length-map (with_object aid tag value applications) (λ application. application.aid),
+  );
 }
 
 -- an application that is found is sound
@@ -252,15 +270,15 @@ found_is_sound aid entries (a ∷ applications) all found =
         → IsApplication (record { aid = aid; entries = entries })
     split true s more =
         let is : Some a.entries ≡ Some entries =
-            subst (λ b. (if b then Some a.entries else entries_in aid applications) ≡ Some entries)
-            s found in
+        subst (λ b. (if b then Some a.entries else entries_in aid applications) ≡ Some entries)
+        s found in
         let e : a.entries ≡ entries = cc in
         subst (λ x. IsApplication (record { aid = x; entries = entries }))
-            (sym (same_text aid a.aid (sym s)))
+        (sym (same_text aid a.aid (sym s)))
         (subst (λ x. IsApplication (record { aid = a.aid; entries = x })) e all.0)
     split false s more = more
         (subst (λ b. (if b then Some a.entries else entries_in aid applications) ≡ Some entries) s
-            found)
+        found)
 
 -- an entry that is found is sound
 pub value_is_sound : (tag value : List ℕ) (entries : List Entry) → AllByRecursion IsEntry entries
@@ -276,14 +294,17 @@ value_is_sound tag value (e ∷ entries) all found =
         → IsEntry (record { tag = tag; value = value; locked = false })
     split true s more =
         let is : Some e.value ≡ Some value =
-            subst (λ b. (if b then Some e.value else value_under tag entries) ≡ Some value) s
-            found in
+        subst (λ b. (if b then Some e.value else value_under tag entries) ≡ Some value) s
+        found in
         let same : e.value ≡ value = cc in
         let entry : IsEntry (record { tag = e.tag; value = e.value; locked = false }) =
-            record { addressable = all.0.addressable; within = all.0.within;
-            value_of_kind = all.0.value_of_kind } in
+        record {
+          addressable = all.0.addressable;
+          within = all.0.within;
+          value_of_kind = all.0.value_of_kind;
+        } in
         subst (λ x. IsEntry (record { tag = x; value = value; locked = false }))
-            (sym (same_text tag e.tag (sym s)))
+        (sym (same_text tag e.tag (sym s)))
         (subst (λ x. IsEntry (record { tag = e.tag; value = x; locked = false })) same entry)
     split false s more = more
         (subst (λ b. (if b then Some e.value else value_under tag entries) ≡ Some value) s found)

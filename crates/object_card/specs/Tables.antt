@@ -70,7 +70,7 @@ abbrev pub with_object : List ℕ → List ℕ → List ℕ → List Application
 with_object aid tag value [] = []
 with_object aid tag value (a ∷ applications) =
     if same_bytes aid a.aid then record a { entries = with_value tag value a.entries }
-        ∷ applications
+    ∷ applications
     else a ∷ with_object aid tag value applications
 
 -- no two are the same

@@ -11,8 +11,14 @@ named [] p1 p2 h = absurd h
 named (a ∷ []) p1 p2 (low, high, last, first, second) =
     rw first (rw second (rw (le-leb 0x40 a low, le-leb a 0xFE high, ne_eqb (a % 32) 31 last) refl))
 named (a ∷ b ∷ []) p1 p2 (low, high, all, some, few, first, second) =
-    rw first (rw second (rw (ne_eqb a 0 (λ e. omega (arith, low, e)), le-leb 0x5F a low,
-        lt-ltb a 256 high, eq-eqb (a % 32) 31 all, lt-ltb 0 b some, lt-ltb b 0x80 few) refl))
+    rw first (rw second (rw (
+      ne_eqb a 0 (λ e. omega (arith, low, e)),
+      le-leb 0x5F a low,
+      lt-ltb a 256 high,
+      eq-eqb (a % 32) 31 all,
+      lt-ltb 0 b some,
+      lt-ltb b 0x80 few,
+    ) refl))
 named (a ∷ b ∷ c ∷ tag) p1 p2 h = absurd h
 
 abbrev short_test : ℕ → Bool
@@ -30,27 +36,37 @@ pub names : (tag : List ℕ) (p1 p2 : ℕ) → named_tag p1 p2 ≡ Some tag → 
 names tag p1 p2 h =
     let Given : Bool → Type 0 = λ test.
     (if test then (if short_test p2 then Some (p2 ∷ []) else None)
-        else (if long_test p1 p2 then Some (p1 ∷ p2 ∷ []) else None)) ≡ Some tag in
+    else (if long_test p1 p2 then Some (p1 ∷ p2 ∷ []) else None)) ≡ Some tag in
     elim (eqb_tells p1 0) [
       | inl zero_first ↦
           let (test, e) = from_test (short_test p2) (p2 ∷ []) tag (subst Given zero_first.0 h) in
           let (both, last) = and_parts (leb 0x40 p2 && leb p2 0xFE) (not (eqb (p2 % 32) 31)) test in
           let (low, high) = and_parts (leb 0x40 p2) (leb p2 0xFE) both in
-          subst (λ t. NamesTag t p1 p2) e
-          (leb-true 0x40 p2 low, leb-true p2 0xFE high, eqb-false (p2 % 32) 31 (not-true _ last),
-              zero_first.1, refl)
+          subst (λ t. NamesTag t p1 p2) e (
+            leb-true 0x40 p2 low,
+            leb-true p2 0xFE high,
+            eqb-false (p2 % 32) 31 (not-true _ last),
+            zero_first.1,
+            refl,
+          )
       | inr some_first ↦
           let (test, e) = from_test (long_test p1 p2) (p1 ∷ p2 ∷ []) tag
-              (subst Given some_first.0 h) in
+          (subst Given some_first.0 h) in
           let (four, few) = and_parts (leb 0x5F p1 && ltb p1 256 && eqb (p1 % 32) 31 && ltb 0 p2)
-              (ltb p2 0x80) test in
+          (ltb p2 0x80) test in
           let (three, some) = and_parts (leb 0x5F p1 && ltb p1 256 && eqb (p1 % 32) 31) (ltb 0 p2)
-              four in
+          four in
           let (two, all) = and_parts (leb 0x5F p1 && ltb p1 256) (eqb (p1 % 32) 31) three in
           let (low, high) = and_parts (leb 0x5F p1) (ltb p1 256) two in
-          subst (λ t. NamesTag t p1 p2) e
-          (leb-true 0x5F p1 low, ltb-true p1 256 high, eqb-true (p1 % 32) 31 all,
-              ltb-true 0 p2 some, ltb-true p2 0x80 few, refl, refl)
+          subst (λ t. NamesTag t p1 p2) e (
+            leb-true 0x5F p1 low,
+            ltb-true p1 256 high,
+            eqb-true (p1 % 32) 31 all,
+            ltb-true 0 p2 some,
+            ltb-true p2 0x80 few,
+            refl,
+            refl,
+          )
     ]
 
 -- the tag that is found, where one is found exactly for those that are named

@@ -15,7 +15,7 @@ use Rattle.object_card.specs.OneStep.{PutStatus}
 abbrev pub DoesNotStore : List Entry → List ℕ → List ℕ → StatusWord → Type 0
 DoesNotStore entries tag value status =
     ((status ≢ ok) × PutStatus entries tag value status)
-        ⊎ ((status ≡ (0x65, 0x81)) × PutStatus entries tag value ok)
+    ⊎ ((status ≡ (0x65, 0x81)) × PutStatus entries tag value ok)
 
 -- the application in this place is there, the header names a tag that is not locked in it, and the
 -- value keeps to the limit
@@ -31,8 +31,8 @@ abbrev pub IsPut : List Held → ℕ → Header → List ℕ → List Held → S
 IsPut held selected h value new status next put = (a b : Held) × (tag : List ℕ)
     × (slice_get held selected ≡ Some a)
     × (named_tag h.p1 h.p2 ≡ Some tag) × (slice_get new selected ≡ Some b) × (b.aid ≡ a.aid)
-        × (b.entries ≡ a.entries)
+    × (b.entries ≡ a.entries)
     × (new ≡ slice_set held selected b)
     × (((next ≡ ready.Stores) × (put ≡ Some (tag, value)) × (status ≡ ok) × HasPlace b tag
-        × PutStatus a.entries tag value ok)
+    × PutStatus a.entries tag value ok)
     ⊎ ((next ≡ ready.Leaves None) × (put ≡ None) × DoesNotStore a.entries tag value status))

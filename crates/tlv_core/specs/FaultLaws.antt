@@ -28,9 +28,18 @@ fault_in_padded : (rest : List ℕ) (level place : ℕ) (reason : Reason)
     → (next : ℕ) × (place ≡ 1 + next) × IsFault rest level next reason
 fault_in_padded rest level place reason f =
     let (next, at, reached) =
-        padded_place (0 ∷ rest) level place f.left f.depth f.path f.reached rest refl f.at_object in
-    (next, at, record { left = f.left; depth = f.depth; path = f.path;
-        reached = reached; at_object = f.at_object; fails = f.fails })
+    padded_place (0 ∷ rest) level place f.left f.depth f.path f.reached rest refl f.at_object in (
+      next,
+      at,
+      record {
+        left = f.left;
+        depth = f.depth;
+        path = f.path;
+        reached = reached;
+        at_object = f.at_object;
+        fails = f.fails;
+      },
+    )
 
 fault_past_object : (bytes t s v r : List ℕ) (level place : ℕ) (reason : Reason)
     → StartsWith bytes t s v r → IsFault r level place reason
@@ -61,7 +70,7 @@ fault_in_object : (bytes t s v r : List ℕ) (level place : ℕ) (reason : Reaso
     → IsFault bytes level place reason
     → ((next : ℕ) × (place ≡ length (t ++ s ++ v) + next) × IsFault r level next reason)
     ⊎ ((inner : ℕ) × (place ≡ length (t ++ s) + inner) × (is_constructed t ≡ true)
-        × IsFault v (suc level) inner reason)
+    × IsFault v (suc level) inner reason)
 fault_in_object bytes t s v r level place reason h low f =
     elim (object_place bytes level place f.left f.depth f.path f.reached t s v r h) [
       | inl front ↦
@@ -99,8 +108,14 @@ pub first_here : (bytes : List ℕ) (level : ℕ) (reason : Reason) → IsAtObje
     → FailsFor bytes level reason
     → IsFirstFault bytes level 0 reason
 first_here bytes level reason object fails = record {
-  here = record { left = bytes; depth = level; path = [];
-      reached = at_front refl refl refl refl; at_object = object; fails = fails };
+  here = record {
+    left = bytes;
+    depth = level;
+    path = [];
+    reached = at_front refl refl refl refl;
+    at_object = object;
+    fails = fails;
+  };
   none_before = λ p r f. omega arith;
 }
 
@@ -173,12 +188,18 @@ judge_template : (bytes t s v r : List ℕ) (level : ℕ) → StartsWith bytes t
 unfolding Judged
 judge_template bytes t s v r level h low kind inside j = elim inside [
   | inr (place, reason, first) ↦
-      inr (length (t ++ s) + place, reason, first_in_template bytes t s v r level place reason h low
-      kind first)
+      inr (
+        length (t ++ s) + place,
+        reason,
+        first_in_template bytes t s v r level place reason h low
+            kind first,
+      )
   | inl (children, g) ↦ elim j [
-    | inl (forest, k) ↦ inl
-        (Template t children forest, spells_template bytes t s v r level children forest h low kind
-        g k)
+    | inl (forest, k) ↦ inl (
+      Template t children forest,
+      spells_template bytes t s v r level children forest h low kind
+          g k,
+    )
     | inr (place, reason, first) ↦ inr (
       length (t ++ s ++ v) + place,
       reason,
@@ -211,6 +232,6 @@ judge_up_to (suc n) (a ∷ bytes) level short = elim (cases_eq a 0) [
 
 pub judged : (bytes : List ℕ) (level : ℕ)
     → ((forest : Forest) × Spells forest bytes level)
-        ⊎ ((place : ℕ) × (reason : Reason) × IsFirstFault bytes level place reason)
+    ⊎ ((place : ℕ) × (reason : Reason) × IsFirstFault bytes level place reason)
 unfolding Judged
 judged bytes level = judge_up_to (length bytes) bytes level (omega arith)

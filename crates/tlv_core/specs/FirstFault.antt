@@ -18,10 +18,10 @@ FailsFor bytes level LengthCut = (level ≤ deepest)
     × ((tag rest : List ℕ) × IsTag tag × (bytes ≡ tag ++ rest) × EndsInsideLength rest)
 FailsFor bytes level LengthForm = (level ≤ deepest)
     × ((tag rest : List ℕ) × IsTag tag × (bytes ≡ tag ++ rest) × (EndsInsideLength rest → ⊥)
-        × (StartsWithLength rest → ⊥))
+    × (StartsWithLength rest → ⊥))
 FailsFor bytes level ValueCut = (level ≤ deepest)
     × ((tag size rest : List ℕ) × (n : ℕ) × IsTag tag × SpellsLength size n
-        × (bytes ≡ tag ++ size ++ rest) × (length rest < n))
+    × (bytes ≡ tag ++ size ++ rest) × (length rest < n))
 
 -- a byte other than 00 stands in front
 abbrev pub IsAtObject : List ℕ → Type 0

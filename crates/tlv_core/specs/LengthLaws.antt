@@ -32,12 +32,15 @@ pub length_start_is_not_inside : (bytes : List ℕ) → StartsWithLength bytes �
     → ⊥
 length_start_is_not_inside bytes (size, rest, n, is_size, e) (whole, m, is_whole, (more, f, some)) =
     let g : size ++ (rest ++ more) ≡ whole ++ [] = sym (append_assoc size rest more)
-        ∙ ap (λ x. x ++ more) (sym e) ∙ f ∙ sym (append-nil whole) in
+    ∙ ap (λ x. x ++ more) (sym e) ∙ f ∙ sym (append-nil whole) in
     let h : size ≡ whole = (sizes_agree size whole (rest ++ more) [] n m is_size is_whole g).0 in
     let k : size ++ (rest ++ more) ≡ size ++ [] = g ∙ ap (λ x. x ++ []) (sym h) in
     some (nil_from_length more
-        (omega (arith, length-append rest more,
-        ap length (append_cancel_left size (rest ++ more) [] k))))
+    (omega (
+      arith,
+      length-append rest more,
+      ap length (append_cancel_left size (rest ++ more) [] k),
+    )))
 
 -- Bytes that agree with no spelling start with none and end inside none.
 AgreesWithNone : List ℕ → Type 0
@@ -82,8 +85,12 @@ inside_81 : EndsInsideLength (129 ∷ [])
 inside_81 = (129 ∷ 0 ∷ [], 0, (refl, omega arith, refl), (0 ∷ [], refl, λ e. cc))
 
 inside_82 : EndsInsideLength (130 ∷ [])
-inside_82 = (130 ∷ 0 ∷ 0 ∷ [], 0, (refl, omega arith, omega arith, refl),
-    (0 ∷ 0 ∷ [], refl, λ e. cc))
+inside_82 = (
+  130 ∷ 0 ∷ 0 ∷ [],
+  0,
+  (refl, omega arith, omega arith, refl),
+  (0 ∷ 0 ∷ [], refl, λ e. cc),
+)
 
 inside_82_of_two : (b : ℕ) → b < 256 → EndsInsideLength (130 ∷ b ∷ [])
 inside_82_of_two b byte =
@@ -176,7 +183,7 @@ pub cut_in_81 : (bytes : List ℕ) (start : ℕ) → length bytes - start ≢ 0 
 cut_in_81 bytes start some few first =
     let same : start + 0 ≡ start = omega arith in
     front_cut_first (drop start bytes) (omega (arith, length-drop start bytes))
-        (inl (first_there bytes start 0 ∙ ap (λ x. get_or bytes x 0) same ∙ first))
+    (inl (first_there bytes start 0 ∙ ap (λ x. get_or bytes x 0) same ∙ first))
 
 pub cut_in_82 : (bytes : List ℕ) (start : ℕ) → length bytes - start ≢ 0 → length bytes - start < 3
     → get_or bytes start 0 ≡ 130
@@ -184,7 +191,7 @@ pub cut_in_82 : (bytes : List ℕ) (start : ℕ) → length bytes - start ≢ 0 
 cut_in_82 bytes start some few first byte =
     let same : start + 0 ≡ start = omega arith in
     let there : get_or (drop start bytes) 0 0 ≡ 130 = first_there bytes start 0
-        ∙ ap (λ x. get_or bytes x 0) same ∙ first in
+    ∙ ap (λ x. get_or bytes x 0) same ∙ first in
     elim (cases_eq (length bytes - start) 1) [
       | inl one ↦ front_cut_first (drop start bytes) (omega (arith, length-drop start bytes))
           (inr there)
@@ -196,13 +203,16 @@ pub spelled_by_82 : (bytes : List ℕ) (start : ℕ) → 3 ≤ length bytes - st
     → get_or bytes start 0 ≡ 130
     → get_or bytes (start + 1) 0 < 256 → get_or bytes (start + 2) 0 < 256
     → IsSpelledFrom bytes start (start + 3)
-        (256 * get_or bytes (start + 1) 0 + get_or bytes (start + 2) 0)
+    (256 * get_or bytes (start + 1) 0 + get_or bytes (start + 2) 0)
 spelled_by_82 bytes start some first second third =
     let same : start + 0 ≡ start = omega arith in
     let there : get_or (drop start bytes) 0 0 ≡ 130 = first_there bytes start 0
-        ∙ ap (λ x. get_or bytes x 0) same ∙ first in
+    ∙ ap (λ x. get_or bytes x 0) same ∙ first in
     let e1 = first_there bytes start 1 in
-    let e2 = first_there bytes start 2 in
-    (3, refl, rw (← e1, ← e2)
-        (front_82 (drop start bytes) (omega (arith, length-drop start bytes)) there (omega arith)
-        (omega arith)))
+    let e2 = first_there bytes start 2 in (
+      3,
+      refl,
+      rw (← e1, ← e2)
+          (front_82 (drop start bytes) (omega (arith, length-drop start bytes)) there (omega arith)
+          (omega arith)),
+    )

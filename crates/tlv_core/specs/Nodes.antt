@@ -25,7 +25,7 @@ item_size (TemplateItem tag children) = suc (forest_size children)
 -- and their levels; where a forest is dropped, the check finds its allocator by this fact alone,
 -- which says nothing else of it
 pub record IsKept {A : Type 0} (allocator : Ghosts A) (forest : Forest) (written depth : ℕ) : Type 0
-    where
-  pub writable : IsWritable forest
-  pub written_is : written ≡ min (length (encoding forest)) (suc longest)
-  pub depth_is : depth ≡ levels forest
+  where
+    pub writable : IsWritable forest
+    pub written_is : written ≡ min (length (encoding forest)) (suc longest)
+    pub depth_is : depth ≡ levels forest

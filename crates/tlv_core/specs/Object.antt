@@ -35,7 +35,7 @@ GivesNext before None after = All (λ b. b ≡ 0) before.bytes × (after.bytes �
     × (after.level ≡ before.level)
 GivesNext before (Some object) after =
     ((padding : List ℕ) × Begins before.bytes padding object.tag object.size object.value
-        after.bytes before.level)
+    after.bytes before.level)
     × (object.level ≡ before.level) × (after.level ≡ before.level)
 
 -- the object is the one of a forest: a primitive with its tag and value, or a template whose value
@@ -45,4 +45,4 @@ IsItemOf (PrimitiveItem tag value) object =
     (object.tag ≡ tag) × (is_constructed tag ≡ false) × (object.value ≡ value)
 IsItemOf (TemplateItem tag children) object =
     (object.tag ≡ tag) × (is_constructed tag ≡ true)
-        × Spells children object.value (object.level + 1)
+    × Spells children object.value (object.level + 1)

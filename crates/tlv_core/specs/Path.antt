@@ -16,10 +16,10 @@ pub record StandsAt (bytes : List ℕ) (level : ℕ) (path : List (List ℕ)) (p
 
 -- the first of them in the order of the bytes
 pub record IsFirstAt (bytes : List ℕ) (level : ℕ) (path : List (List ℕ)) (object : Object) : Type 0
-    where
-  pub place : ℕ
-  pub here : StandsAt bytes level path place object
-  pub none_before : (p : ℕ) (other : Object) → StandsAt bytes level path p other → place ≤ p
+  where
+    pub place : ℕ
+    pub here : StandsAt bytes level path place object
+    pub none_before : (p : ℕ) (other : Object) → StandsAt bytes level path p other → place ≤ p
 
 abbrev pub NoneStandsAt : List ℕ → ℕ → List (List ℕ) → Type 0
 NoneStandsAt bytes level path = (place : ℕ) (object : Object)

@@ -33,7 +33,7 @@ pub data Reached : List ℕ → ℕ → ℕ → List ℕ → ℕ → List (List 
   into_template : {bytes : List ℕ} {level place : ℕ} {left : List ℕ} {depth : ℕ}
       {path : List (List ℕ)}
       (tag size value rest : List ℕ) (inner : ℕ) (below : List (List ℕ))
-          → StartsWith bytes tag size value rest
+      → StartsWith bytes tag size value rest
       → is_constructed tag ≡ true → place ≡ length (tag ++ size) + inner → path ≡ tag ∷ below
       → Reached value (suc level) inner left depth below
       → Reached bytes level place left depth path

@@ -33,12 +33,19 @@ reached_inside bytes level place left depth path (at_front p l d t) = omega (ari
 reached_inside bytes level place left depth path (past_padding rest next b p r) =
     omega (arith, ap length b, reached_inside rest level next left depth path r)
 reached_inside bytes level place left depth path (past_object t s v rest next h p r) =
-    omega (arith, starts_length bytes t s v rest h, length-append (t ++ s) v,
-        reached_inside rest level next left depth path r)
+    omega (
+      arith,
+      starts_length bytes t s v rest h,
+      length-append (t ++ s) v,
+      reached_inside rest level next left depth path r,
+    )
 reached_inside bytes level place left depth path
     (into_template t s v rest inner below h kind p q r) =
-    omega (arith, starts_length bytes t s v rest h,
-        reached_inside v (suc level) inner left depth below r)
+    omega (
+      arith,
+      starts_length bytes t s v rest h,
+      reached_inside v (suc level) inner left depth below r,
+    )
 
 -- Where some forest spells the bytes, one spells what is left at each place.
 pub reached_spelled : (bytes : List ℕ) (level place : ℕ) (left : List ℕ) (depth : ℕ)
@@ -54,7 +61,7 @@ reached_spelled bytes level place left depth path (past_object t s v rest next o
 reached_spelled bytes level place left depth path
     (into_template t s v rest inner below o kind p q r) h =
     reached_spelled v (suc level) inner left depth below r
-        (inside_is_spelled bytes t s v rest level o kind h)
+    (inside_is_spelled bytes t s v rest level o kind h)
 
 -- Bytes that a forest spells have no fault.
 pub spelled_has_no_fault : (bytes : List ℕ) (level place : ℕ) (reason : Reason) → (forest : Forest)
@@ -69,8 +76,11 @@ spelled_has_no_fault bytes level place reason h f =
 pub fault_inside : (bytes : List ℕ) (level place : ℕ) (reason : Reason)
     → IsFault bytes level place reason → place < length bytes
 fault_inside bytes level place reason f =
-    omega (arith, reached_inside bytes level place f.left f.depth f.path f.reached,
-        object_is_long f.left f.at_object)
+    omega (
+      arith,
+      reached_inside bytes level place f.left f.depth f.path f.reached,
+      object_is_long f.left f.at_object,
+    )
 
 -- A place at an object, reached in padded bytes, is reached in what follows the padding.
 pub padded_place : (bytes : List ℕ) (level place : ℕ) (left : List ℕ) (depth : ℕ)
@@ -84,11 +94,11 @@ padded_place bytes level place left depth path (past_padding more next b p r) re
     let same : more ≡ rest = cc in (next, p, rw (← same) r)
 padded_place bytes level place left depth path (past_object t s v more next o p r) rest e object =
     let h : StartsWith (0 ∷ rest) t s v more = rw (← e) o in
-        absurd (zero_starts_none rest t s v more h)
+    absurd (zero_starts_none rest t s v more h)
 padded_place bytes level place left depth path (into_template t s v more inner below o kind p q r)
     rest e object =
     let h : StartsWith (0 ∷ rest) t s v more = rw (← e) o in
-        absurd (zero_starts_none rest t s v more h)
+    absurd (zero_starts_none rest t s v more h)
 
 -- A place reached in bytes that start with an object is their front, or past the object, or in it.
 pub record IsFront (bytes : List ℕ) (level place : ℕ) (left : List ℕ) (depth : ℕ)
@@ -118,15 +128,18 @@ pub object_place : (bytes : List ℕ) (level place : ℕ) (left : List ℕ) (dep
     → Reached bytes level place left depth path → (t s v r : List ℕ) → StartsWith bytes t s v r
     → IsFront bytes level place left depth path
     ⊎ (IsPast (t ++ s) v r level place left depth path
-        ⊎ IsWithin t (t ++ s) v level place left depth path)
+    ⊎ IsWithin t (t ++ s) v level place left depth path)
 object_place bytes level place left depth path (at_front p l d e) t s v r h =
     inl (record { at = p; whole = l; same = d; outside = e })
 object_place bytes level place left depth path (past_padding more next b p q) t s v r h =
     let k : StartsWith (0 ∷ more) t s v r = rw (← b) h in absurd (zero_starts_none more t s v r k)
 object_place bytes level place left depth path (past_object t' s' v' r' next o p q) t s v r h =
     let same = starts_agree bytes t' s' v' r' t s v r o h in
-    inr (inl (record { next = next; at = rw (← same.tag, ← same.size, ← same.value) p;
-        reached = rw (← same.rest) q }))
+    inr (inl (record {
+      next = next;
+      at = rw (← same.tag, ← same.size, ← same.value) p;
+      reached = rw (← same.rest) q;
+    }))
 object_place bytes level place left depth path (into_template t' s' v' r' inner below o kind p e q)
     t s v r h =
     let same = starts_agree bytes t' s' v' r' t s v r o h in

@@ -27,10 +27,10 @@ abbrev pub Spells : Forest → List ℕ → ℕ → Type 0
 Spells Empty bytes level = All (λ b. b ≡ 0) bytes
 Spells (Primitive tag value rest) bytes level =
     (padding size more : List ℕ) × Begins bytes padding tag size value more level
-        × (is_constructed tag ≡ false) × Spells rest more level
+    × (is_constructed tag ≡ false) × Spells rest more level
 Spells (Template tag children rest) bytes level =
     (padding size value more : List ℕ) × Begins bytes padding tag size value more level
-        × (is_constructed tag ≡ true)
+    × (is_constructed tag ≡ true)
     × Spells children value (suc level) × Spells rest more level
 
 -- the bytes are a list of objects at this level
@@ -64,7 +64,7 @@ HasSoundObjects (Primitive tag value rest) = IsTag tag × (is_constructed tag �
     × (length value ≤ longest) × HasSoundObjects rest
 HasSoundObjects (Template tag children rest) =
     IsTag tag × (is_constructed tag ≡ true) × (length (encoding children) ≤ longest)
-        × HasSoundObjects children × HasSoundObjects rest
+    × HasSoundObjects children × HasSoundObjects rest
 
 -- the lists of objects that can be written
 pub record IsWritable (forest : Forest) : Type 0 where

@@ -19,16 +19,25 @@ begins_starts bytes t s v r level h =
 pub starts_begins : (bytes t s v r : List ℕ) (level : ℕ) → StartsWith bytes t s v r
     → level ≤ deepest → Begins bytes [] t s v r level
 starts_begins bytes t s v r level h low =
-    record { spelled = h.spelled; is_padding = All_nil; is_tag = h.is_tag;
-        is_size = h.is_size; in_depth = low }
+    record {
+      spelled = h.spelled;
+      is_padding = All_nil;
+      is_tag = h.is_tag;
+      is_size = h.is_size;
+      in_depth = low;
+    }
 
 -- One 00 more or less in front changes no forest.
 pub begins_more : (rest p t s v r : List ℕ) (level : ℕ) → Begins rest p t s v r level
     → Begins (0 ∷ rest) (0 ∷ p) t s v r level
 begins_more rest p t s v r level h =
-    record { spelled = ap (λ x. 0 ∷ x) h.spelled;
-        is_padding = All-cons (λ b. b ≡ 0) 0 p refl h.is_padding; is_tag = h.is_tag;
-        is_size = h.is_size; in_depth = h.in_depth }
+    record {
+      spelled = ap (λ x. 0 ∷ x) h.spelled;
+      is_padding = All-cons (λ b. b ≡ 0) 0 p refl h.is_padding;
+      is_tag = h.is_tag;
+      is_size = h.is_size;
+      in_depth = h.in_depth;
+    }
 
 pub spells_more : (forest : Forest) (rest : List ℕ) (level : ℕ) → Spells forest rest level
     → Spells forest (0 ∷ rest) level
@@ -49,10 +58,17 @@ zero_padding rest [] t s v r level b =
 zero_padding rest (a ∷ q) t s v r level b =
     let first : a ≡ 0 = b.is_padding 0 0 (omega arith) in
     let e : 0 ∷ rest ≡ a ∷ (q ++ t ++ s ++ v ++ r) = b.spelled in
-    let tail : rest ≡ q ++ t ++ s ++ v ++ r = cc in
-    (q, ap (λ x. x ∷ q) first,
-        record { spelled = tail; is_padding = All-tail (λ b. b ≡ 0) a q b.is_padding;
-        is_tag = b.is_tag; is_size = b.is_size; in_depth = b.in_depth })
+    let tail : rest ≡ q ++ t ++ s ++ v ++ r = cc in (
+      q,
+      ap (λ x. x ∷ q) first,
+      record {
+        spelled = tail;
+        is_padding = All-tail (λ b. b ≡ 0) a q b.is_padding;
+        is_tag = b.is_tag;
+        is_size = b.is_size;
+        in_depth = b.in_depth;
+      },
+    )
 
 pub spells_less : (forest : Forest) (rest : List ℕ) (level : ℕ) → Spells forest (0 ∷ rest) level
     → Spells forest rest level
@@ -99,15 +115,15 @@ spelled_object (Primitive tag value next) bytes level at (p, s, r, b, kind, more
 }
 spelled_object (Template tag children next) bytes level at (p, s, v, r, b, kind, inner, more) =
     record {
-  tag = tag;
-  size = s;
-  value = v;
-  rest = r;
-  starts = no_padding bytes p tag s v r level at b;
-  in_depth = b.in_depth;
-  inside = λ is. (children, inner);
-  after = (next, more);
-}
+      tag = tag;
+      size = s;
+      value = v;
+      rest = r;
+      starts = no_padding bytes p tag s v r level at b;
+      in_depth = b.in_depth;
+      inside = λ is. (children, inner);
+      after = (next, more);
+    }
 
 -- What follows an object, and what is in it, are spelled where the whole is.
 pub after_is_spelled : (bytes t s v r : List ℕ) (level : ℕ) → StartsWith bytes t s v r
@@ -121,7 +137,7 @@ after_is_spelled bytes t s v r level h (forest, spells) =
 pub inside_is_spelled : (bytes t s v r : List ℕ) (level : ℕ) → StartsWith bytes t s v r
     → is_constructed t ≡ true
     → (forest : Forest) × Spells forest bytes level → (forest : Forest)
-        × Spells forest v (suc level)
+    × Spells forest v (suc level)
 inside_is_spelled bytes t s v r level h kind (forest, spells) =
     let o = spelled_object forest bytes level (starts_at_object bytes t s v r h) spells in
     let same = starts_agree bytes o.tag o.size o.value o.rest t s v r o.starts h in
@@ -151,7 +167,7 @@ objects_past_padding bytes rest level (a ∷ padding) zeros e (forest, h) =
     let f : bytes ≡ 0 ∷ (padding ++ rest) = e ∙ ap (λ x. x ∷ (padding ++ rest)) first in
     let k : Spells forest (0 ∷ (padding ++ rest)) level = rw (← f) h in
     objects_past_padding (padding ++ rest) rest level padding
-        (All-tail (λ b. b ≡ 0) a padding zeros) refl
+    (All-tail (λ b. b ≡ 0) a padding zeros) refl
     (forest, spells_less forest (padding ++ rest) level k)
 
 pub objects_past_zero : (bytes rest : List ℕ) (level : ℕ) → bytes ≡ 0 ∷ rest
@@ -164,7 +180,7 @@ pub spelled_starts : (bytes : List ℕ) (level : ℕ) → AreObjects bytes level
     → StartsWithObject bytes × (level ≤ deepest)
 spelled_starts bytes level (forest, spells) at =
     let o = spelled_object forest bytes level at spells in
-        ((o.tag, o.size, o.value, o.rest, o.starts), o.in_depth)
+    ((o.tag, o.size, o.value, o.rest, o.starts), o.in_depth)
 
 pub spelled_is_object : (bytes t s v r : List ℕ) (level : ℕ) → AreObjects bytes level
     → level ≤ deepest → StartsWith bytes t s v r

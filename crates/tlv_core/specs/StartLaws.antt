@@ -74,12 +74,12 @@ starts_fails_not bytes t s v r level TagForm h low f =
     f.2 (t, s ++ (v ++ r), h.is_tag, h.spelled ∙ regroup t s v r)
 starts_fails_not bytes t s v r level LengthCut h low (level_ok, (tag, rest, is_tag, e, inside)) =
     let same = after_tags_agree t tag (s ++ (v ++ r)) rest h.is_tag is_tag
-        (sym (regroup t s v r) ∙ sym h.spelled ∙ e) in
+    (sym (regroup t s v r) ∙ sym h.spelled ∙ e) in
     length_start_is_not_inside rest (s, v ++ r, length v, h.is_size, sym same.1) inside
 starts_fails_not bytes t s v r level LengthForm h low
     (level_ok, (tag, rest, is_tag, e, inside, starts)) =
     let same = after_tags_agree t tag (s ++ (v ++ r)) rest h.is_tag is_tag
-        (sym (regroup t s v r) ∙ sym h.spelled ∙ e) in
+    (sym (regroup t s v r) ∙ sym h.spelled ∙ e) in
     starts (s, v ++ r, length v, h.is_size, sym same.1)
 starts_fails_not bytes t s v r level ValueCut h low
     (level_ok, (tag, size, rest, n, is_tag, is_size, e, short)) =
@@ -181,7 +181,7 @@ fails_for_length bytes n level reason low front h =
 heads : (bytes : List ℕ) (n end value : ℕ) → IsFrontTagSize bytes (Ok n)
     → IsSpelledFrom bytes n end value
     → (tag size rest : List ℕ) × IsTag tag × SpellsLength size value × (bytes ≡ tag ++ size ++ rest)
-        × (length tag ≡ n) × (length (tag ++ size) ≡ end)
+    × (length tag ≡ n) × (length (tag ++ size) ≡ end)
 heads bytes n end value front (spelled, ends, (size, rest, f, same_size, is_size)) =
     let (tag, is_tag, same, e) = after_tag bytes n front in (
       tag,
@@ -198,9 +198,19 @@ pub cut_for_value : (bytes : List ℕ) (n end value level : ℕ) → level ≤ d
     → IsFrontTagSize bytes (Ok n) → IsSpelledFrom bytes n end value
     → length bytes - end < value → FailsFor bytes level ValueCut
 cut_for_value bytes n end value level low front spelling short =
-    let (tag, size, rest, is_tag, is_size, e, a, b) = heads bytes n end value front spelling in
-    (low, (tag, size, rest, value, is_tag, is_size, e,
-        omega (arith, ap length e, length-append (tag ++ size) rest)))
+    let (tag, size, rest, is_tag, is_size, e, a, b) = heads bytes n end value front spelling in (
+      low,
+      (
+        tag,
+        size,
+        rest,
+        value,
+        is_tag,
+        is_size,
+        e,
+        omega (arith, ap length e, length-append (tag ++ size) rest),
+      ),
+    )
 
 pub has_parts : (bytes : List ℕ) (n end value level : ℕ) → level ≤ deepest
     → IsFrontTagSize bytes (Ok n) → IsSpelledFrom bytes n end value
@@ -227,11 +237,11 @@ pub parts_cut : (bytes head after_head tag size value rest : List ℕ) (level n 
     → value ≡ take m after_head → rest ≡ drop m after_head → StartsWith bytes tag size value rest
 parts_cut bytes head after_head tag size value rest level n end m h e1 e2 e3 e4 e5 e6 =
     let split : bytes ≡ (h.tag ++ h.size) ++ (h.value ++ h.rest) =
-        h.starts.spelled ∙ append_assoc (h.tag ++ h.size) h.value h.rest in
+    h.starts.spelled ∙ append_assoc (h.tag ++ h.size) h.value h.rest in
     let front : head ≡ h.tag ++ h.size = e1 ∙ ap (take end) split
-        ∙ take_at (h.tag ++ h.size) (h.value ++ h.rest) end h.head_is in
+    ∙ take_at (h.tag ++ h.size) (h.value ++ h.rest) end h.head_is in
     let after : after_head ≡ h.value ++ h.rest = e2 ∙ ap (drop end) split
-        ∙ drop_at (h.tag ++ h.size) (h.value ++ h.rest) end h.head_is in
+    ∙ drop_at (h.tag ++ h.size) (h.value ++ h.rest) end h.head_is in
     let tag_is : tag ≡ h.tag = e3 ∙ ap (take n) front ∙ take_at h.tag h.size n h.tag_is in
     let size_is : size ≡ h.size = e4 ∙ ap (drop n) front ∙ drop_at h.tag h.size n h.tag_is in
     let value_is : value ≡ h.value = e5 ∙ ap (take m) after ∙ take_at h.value h.rest m h.value_is in

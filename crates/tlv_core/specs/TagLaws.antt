@@ -31,12 +31,15 @@ tags_agree s (a ∷ b ∷ c ∷ d ∷ t) x y hs ht e = absurd ht
 pub start_is_not_inside : (bytes : List ℕ) → StartsWithTag bytes → EndsInsideTag bytes → ⊥
 start_is_not_inside bytes (tag, rest, is_tag, e) (whole, is_whole, (more, f, some)) =
     let g : tag ++ (rest ++ more) ≡ whole ++ [] = sym (append_assoc tag rest more)
-        ∙ ap (λ x. x ++ more) (sym e) ∙ f ∙ sym (append-nil whole) in
+    ∙ ap (λ x. x ++ more) (sym e) ∙ f ∙ sym (append-nil whole) in
     let h : tag ≡ whole = tags_agree tag whole (rest ++ more) [] is_tag is_whole g in
     let k : tag ++ (rest ++ more) ≡ tag ++ [] = g ∙ ap (λ x. x ++ []) (sym h) in
     some (nil_from_length more
-        (omega (arith, length-append rest more,
-        ap length (append_cancel_left tag (rest ++ more) [] k))))
+    (omega (
+      arith,
+      length-append rest more,
+      ap length (append_cancel_left tag (rest ++ more) [] k),
+    )))
 
 -- Bytes that agree with no tag start with none and end inside none.
 neither : (bytes : List ℕ) → ((tag x y : List ℕ) → IsTag tag → bytes ++ x ≡ tag ++ y → ⊥)

@@ -1,8 +1,8 @@
 //! A card of data objects: what it holds, and what each TPDU does to it.
 //!
-//! A `CardBuilder` takes applications and their data objects, `finish` makes a card of them, and an end
-//! of the line over the card (`t0_core::CardEnd`) takes the characters of a terminal and hands out those
-//! of the card. That is a card simulator:
+//! A `CardBuilder` takes applications and their data objects, `finish` makes a card of them, and an
+//! end of the line over the card (`t0_core::CardEnd`) takes the characters of a terminal and hands
+//! out those of the card. That is a card simulator:
 //!
 //! ```
 //! /// A card with one application that holds a name.
@@ -13,7 +13,7 @@
 //!     Ok(CardEnd::new(builder.finish()?))
 //! }
 //!
-//! /// Takes the terminal's characters, and adds to `heard` what the card then sends, until it listens.
+//! /// Takes the terminal's characters, and adds to `heard` what the card sends until it listens.
 //! fn answer(
 //!     end: &mut CardEnd<ObjectCard>,
 //!     plans: &mut Plans,
@@ -33,10 +33,10 @@
 //! }
 //! ```
 //!
-//! `Plans::over(&[])` is a card that sends no NULL and moves all data at once. `take` refuses a character
-//! where the card has some to send, and changes nothing then; `reset` of the end is a reset of the card,
-//! at any time. What the card holds is read through the end, and changes only as the second status
-//! character is handed out:
+//! `Plans::over(&[])` is a card that sends no NULL and moves all data at once. `take` refuses a
+//! character where the card has some to send, and changes nothing then; `reset` of the end is a
+//! reset of the card, at any time. What the card holds is read through the end, and changes only as
+//! the second status character is handed out:
 //!
 //! ```
 //! for (tag, value) in end.card().entries(&application).ok_or("no such application")? {

@@ -10,8 +10,8 @@ use std::process::Abort;
 use std::test::Fail;
 use t0_core::{CardEnd, Plans, Turn};
 
-/// Bytes of a heap that a call does not get: they hold what was there before, and later the card that
-/// is made of what the call left.
+/// Bytes of a heap that a call does not get: they hold what was there before, and later the card
+/// that is made of what the call left.
 const ASIDE: usize = 16_384;
 
 /// Bytes that are enough for each call here.
@@ -45,8 +45,8 @@ fn serves_after_refusals<F: Fn(&LocalHeap) -> Result<bool, Fail>>(
     Err(Fail::new("no heap was large enough"))
 }
 
-/// Whether the call was served. The builder has the table `after` then, and `before` where memory was
-/// refused.
+/// Whether the call was served. The builder has the table `after` then, and `before` where memory
+/// was refused.
 fn is_added<A: Allocator + Copy>(
     rt: &impl Abort,
     alloc: Global,
@@ -120,8 +120,8 @@ fn finish_takes_the_room_of_the_chain(rt: HostRuntime) -> Result<(), Fail> {
 
 const SELECT: &str = "> 00A4040007 < A4 > A0000000031010 < 610B";
 
-/// Whether the put, a trace up to its status, was served: the table `before` is then `after`. Else it
-/// is answered `6581`, the table stays, and the put is served once there is memory.
+/// Whether the put, a trace up to its status, was served: the table `before` is then `after`. Else
+/// it is answered `6581`, the table stays, and the put is served once there is memory.
 fn is_put(
     rt: &impl Abort,
     alloc: Global,

@@ -15,7 +15,7 @@ fn card(alloc: Global, application: Aid, name: ObjectTag) -> Result<CardEnd<Obje
     Ok(CardEnd::new(builder.finish()?))
 }
 
-/// Takes the terminal's characters, and adds to `heard` what the card then sends, until it listens.
+/// Takes the terminal's characters, and adds to `heard` what the card sends until it listens.
 fn answer(
     end: &mut CardEnd<ObjectCard>,
     plans: &mut Plans,

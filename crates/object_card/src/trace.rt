@@ -89,8 +89,8 @@ pub fn holds<A: Allocator + Copy>(
     Ok(())
 }
 
-/// Plans of these steps and cuts, as `-:1 nona:256`: `n` is a NULL, `o` moves one data character, `a`
-/// all that remain, and `-` stands for no steps.
+/// Plans of these steps and cuts, as `-:1 nona:256`: `n` is a NULL, `o` moves one data character,
+/// `a` all that remain, and `-` stands for no steps.
 pub fn plans(alloc: Global, text: &str) -> Result<Vec<Plan>, Fail> {
     let mut plans = Vec::new(alloc);
     for word in text.split_whitespace() {
@@ -109,8 +109,8 @@ pub fn plans(alloc: Global, text: &str) -> Result<Vec<Plan>, Fail> {
     Ok(plans)
 }
 
-/// What stands in a trace passes, as `> 00CA5F2000 < 6C06`: the card's end takes the characters of the
-/// terminal, and hands out those of the card, each where it alone is due; `reset` resets it.
+/// What stands in a trace passes, as `> 00CA5F2000 < 6C06`: the card's end takes the characters of
+/// the terminal, and hands out those of the card, each where it alone is due; `reset` resets it.
 pub fn passes<A: Allocator + Copy, B: Allocator>(
     rt: &impl Abort,
     alloc: Global,

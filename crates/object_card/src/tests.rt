@@ -1,4 +1,4 @@
-use crate::Aid;
+use crate::{APPLICATION_LIMIT, Aid, ENTRY_LIMIT, HEAD_LIMIT, RESPONSE_LIMIT, VALUE_LIMIT};
 use std::process::Abort;
 use std::test::Fail;
 
@@ -28,4 +28,14 @@ fn tells_identifiers_apart(rt: HostRuntime) {
     let longer = Aid::new(b"\xA0\x00\x00\x00\x03\x00").expect(&rt, "an identifier");
     assert!(rt; aid == aid);
     assert!(rt; aid != longer);
+}
+
+/// The definitions take the limits as they stand, so no proof sees a wrong number.
+#[test]
+fn limits_of_the_profile(rt: HostRuntime) {
+    assert_eq!(rt; APPLICATION_LIMIT, 8);
+    assert_eq!(rt; ENTRY_LIMIT, 64);
+    assert_eq!(rt; VALUE_LIMIT, 8_192);
+    assert_eq!(rt; HEAD_LIMIT, 5);
+    assert_eq!(rt; RESPONSE_LIMIT, 16_384);
 }

@@ -15,3 +15,4 @@ pub mod ObjectLemmas
 mod Vectors
 pub mod TalkVectors
 pub mod WholeLemmas
+mod RunLemmas

@@ -1,5 +1,5 @@
 -- A character that passes from one end to the other takes both to the same front.
-use Rattle.std.proofs.Common.{◌≡◌, ℕ, zero, suc, ◌+◌, ◌-◌, ◌*◌, ◌<◌, ◌≤◌, List, [], ◌∷◌, ◌++◌, length, drop, refl, sym, subst, ◌∙◌, ap, arith, inl, inr, ◌⊎◌, lit<, true, false, Bool, Option, Some, None, Result, Ok, Err, append-nil, append_assoc, length-append, if◌then◌else◌}
+use Rattle.std.proofs.Common.{◌≡◌, ℕ, zero, suc, ◌+◌, ◌-◌, ◌*◌, ◌<◌, ◌≤◌, List, [], ◌∷◌, ◌++◌, length, take, drop, refl, sym, subst, ◌∙◌, ap, arith, inl, inr, ◌⊎◌, lit<, true, false, Bool, Option, Some, None, Result, Ok, Err, append-nil, append_assoc, length-append, if◌then◌else◌}
 use Rattle.std.specs.Result.{OnOk}
 use Rattle.std.specs.List.{flat_map}
 use Rattle.apdu_core.specs.declared.header.Header.{Header}
@@ -15,7 +15,7 @@ use Rattle.t0_core.specs.declared.direction.Direction.TheVariants.{ToCard, FromC
 use Rattle.t0_core.specs.declared.card_end.Turn.TheVariants as turn
 use Rattle.t0_core.specs.Character.{Character}
 use Rattle.t0_core.specs.Dialogue.{Body, Dialogue, characters, IsDialogue}
-use Rattle.t0_core.specs.Plan.{Course, Cursor, plain, plan_kept, advanced, Follows, FollowInTurn}
+use Rattle.t0_core.specs.Plan.{Course, Cursor, IsCut, plain, plan_kept, advanced, Follows, FollowInTurn}
 use Rattle.t0_core.specs.Meaning.{Tpdu, tpdu_of, Prepared, Runs, received}
 use Rattle.t0_core.specs.Front.{Front, In_header, In_body, After_first, GoesOn, Ends, front_characters, brought, fresh}
 use Rattle.t0_core.specs.Watch.{Hearing, Hears}
@@ -33,6 +33,7 @@ use Rattle.card_terminal.specs.declared.wanted.Wanted.TheVariants.{Bytes}
 use Rattle.card_terminal.specs.Gathered.{get_response, wanted_by, less, correction_of, after_dialogue, after_unit, fetched_of, fetched_after, Opening, By_command, By_fetch, OpensWith, UnitOf, last_of, unit_data, AreFollowed, Gathers, dialogues_of}
 use Rattle.object_card.specs.OneStep.{Reply}
 use Rattle.card_terminal.specs.Agreed.{IsAgreed}
+use Rattle.card_terminal.specs.Talk.{HaveCuts}
 use Rattle.card_terminal.specs.ExchangeSide.{ExchangeOf, HostAsks, HostSends, HostOpensBy, IsOpenedAs, UnderWay, IsOver, IsBounded, Stall, Continues, so_far, ended_with, exchange_turn, response_limit}
 use Rattle.card_terminal.specs.Conversing.{next_plan, plan_after, IsAtPlan, IsUnderWay, HaveGone, IsFinished, HasStalled, HasOverflown, IsCaused, here, steps_in, is_done, characters_left, most_tpdus}
 use Rattle.card_terminal.proofs.UnitLemmas.{unit_ends, unit_goes_on, unit_dialogues}
@@ -114,6 +115,7 @@ takes_none_twice (Ending status) plan takes under = absurd (cc)
 pub record HasPlan (stage : Stage) (old new : Cursor) (plans : List Course) (n : ℕ) : Type 0 where
   pub kept : plan_kept new ≡ plan_after n plans
   pub rest : new.rest ≡ drop (n + 1) plans
+  pub cut : IsCut (plan_after n plans).cut
   pub falls : steps_in new.rest + still_to_go stage (plan_kept new) ≤ steps_in old.rest + here
       stage old
 
@@ -140,8 +142,8 @@ pub has_plan : {State : Type 0} (Does : State → ℕ → Tpdu → State → Typ
     → listens stage ≡ false →
     StandsAt Does standing prepared stage (plan_after n plans).cut front
     → IsAtPlan stage old plans n → new ≡ (if takes_plan stage then advanced old else old)
-    → HasPlan stage old new plans n
-has_plan Does standing prepared stage front old new plans n silent stands at_plan is =
+    → (takes_plan stage ≡ true → IsCut (plan_kept new).cut) → HasPlan stage old new plans n
+has_plan Does standing prepared stage front old new plans n silent stands at_plan is taken =
     by (takes_plan stage) refl at_plan is
   where
     by : (v : Bool) → takes_plan stage ≡ v → IsAtPlan stage old plans n
@@ -154,6 +156,7 @@ has_plan Does standing prepared stage front old new plans n silent stands at_pla
         record {
           kept = kept ∙ ap next_plan rest;
           rest = left ∙ ap (drop 1) rest ∙ drop_one n plans;
+          cut = subst (λ (p : Course). IsCut p.cut) (kept ∙ ap next_plan rest) (taken takes);
           falls = omega (
             arith,
             header_here stage old (plan_kept new) takes,
@@ -162,15 +165,16 @@ has_plan Does standing prepared stage front old new plans n silent stands at_pla
             steps_advanced old.rest old.kept,
           );
         }
-    by true takes (inr (has, rest, kept)) is =
+    by true takes (inr (has, rest, kept, cut)) is =
         absurd (takes_none_twice stage (plan_after n plans) takes has)
     by false takes (inl (none, rest)) is =
         absurd (no_plan_twice (plan_after n plans)
         (sym (answers_on Does standing prepared stage (plan_after n plans).cut
         (plan_after n plans) front stands silent takes) ∙ none))
-    by false takes (inr (has, rest, kept)) is = record {
+    by false takes (inr (has, rest, kept, cut)) is = record {
       kept = ap plan_kept is ∙ kept;
       rest = ap (λ (c : Cursor). c.rest) is ∙ rest;
+      cut = cut;
       falls = omega (
         arith,
         ap (λ (c : Cursor). steps_in c.rest) is,
@@ -397,11 +401,12 @@ terminal_passed {C = C} Does R S standing prepared first plans since now later c
       front = front;
       terminal = terminal;
       follow = under.follow;
+      cuts = under.cuts;
       runs = subst Run (sym same) under.runs;
       card = card;
       on_plan = on;
       at_plan = elim under.at_plan
-          [ inl none ↦ inl (way ∙ none.0, none.1) | inr has ↦ inr (way ∙ has.0, has.1, has.2) ];
+          [ inl none ↦ inl (way ∙ none.0, none.1) | inr has ↦ inr (way ∙ has.0, has.1, has.2, has.3) ];
       hears = hears_front since now later (so_far under.units under.tried) under.front front
           (Terminal, byte) under.hears hears grown.1;
     }
@@ -433,6 +438,7 @@ card_passed {State = State} Does R S first plans since now later c old new befor
       front = front;
       terminal = terminal;
       follow = under.follow;
+      cuts = under.cuts;
       runs = subst Run (sym same) under.runs;
       card = card;
       on_plan = on;
@@ -441,12 +447,26 @@ card_passed {State = State} Does R S first plans since now later c old new befor
             card,
         has.rest,
         has.kept,
+        has.cut,
       );
       hears = hears_front since now later (so_far under.units under.tried) under.front front
           (Card, byte) under.hears hears grown.1;
     }
 
 -- ---- it has passed, and a dialogue is over
+
+-- the plan of one TPDU more has such a cut too
+cuts_more : (n : ℕ) (plans : List Course) → HaveCuts (take n plans)
+    → IsCut (plan_after n plans).cut → HaveCuts (take (n + 1) plans)
+cuts_more n plans cuts cut = let e : suc n ≡ n + 1 = omega arith in
+    subst (λ k. HaveCuts (take k plans)) e (by n plans cuts cut)
+  where
+    by : (n : ℕ) (plans : List Course) → HaveCuts (take n plans)
+        → IsCut (plan_after n plans).cut → HaveCuts (take (suc n) plans)
+    by zero [] cuts cut = tt
+    by zero (p ∷ plans) cuts cut = (cut, tt)
+    by (suc n) [] cuts cut = tt
+    by (suc n) (p ∷ plans) cuts cut = (cuts.0, by n plans cuts.1 cut)
 
 pub gone_more : {State : Type 0} (Does : State → ℕ → Tpdu → State → Type 0) (R S : ℕ → Type 0)
     (first : State) (plans : List Course) (since now later : Hearing) (c : Command)
@@ -466,6 +486,8 @@ gone_more Does R S first plans since now later c old new before was ex had curso
     record {
       are_dialogues = all_more IsDialogue ds d under.terminal.are_dialogues is;
       follow = follow_next ds plans d under.follow follows;
+      cuts = subst (λ n. HaveCuts (take n plans)) longer
+          (cuts_more (length ds) plans under.cuts has.cut);
       runs = runs_next Does first old new ds plans d under.runs does;
       used = has.rest ∙ ap (λ n. drop n plans) longer;
       hears = hears_end since now later ds under.front d (Card, byte) under.hears hears
@@ -504,6 +526,7 @@ begins_next Does R S first plans since later c standing prepared stage after cur
       front = fresh;
       terminal = terminal;
       follow = gone.follow;
+      cuts = gone.cuts;
       runs = gone.runs;
       card = here.0;
       on_plan = here.1;
@@ -524,6 +547,7 @@ begins Does R S plans now c standing prepared stage ex cursor agreed rests termi
     (record {
       are_dialogues = tt;
       follow = follow_none plans;
+      cuts = cuts_none plans;
       runs = runs_none plans;
       used =
           rest;
@@ -533,6 +557,10 @@ begins Does R S plans now c standing prepared stage ex cursor agreed rests termi
     follow_none : (plans : List Course) → FollowInTurn [] plans
     follow_none [] = tt
     follow_none (p ∷ ps) = tt
+
+    cuts_none : (plans : List Course) → HaveCuts (take 0 plans)
+    cuts_none [] = tt
+    cuts_none (p ∷ ps) = tt
 
     runs_none : (plans : List Course) → Runs Does standing [] plans standing
     runs_none [] = refl
@@ -787,9 +815,11 @@ has_overflown {State = State} Does R S first plans since now later c old new bef
       before = under.front;
       terminal = under.terminal;
       front = front;
+      goes = (byte, goes);
       prepared = prepared;
       stage = stage;
       follow = under.follow;
+      cuts = under.cuts;
       runs = subst Run (sym same) under.runs;
       card = card;
       on_plan = on;

@@ -140,23 +140,8 @@ talks_more (p ∷ operations) (t ∷ talks) [] o exchanges r are talk = absurd a
 talks_more (p ∷ operations) (t ∷ talks) (q ∷ replies) o exchanges r are talk =
     (are.0, talks_more operations talks replies o exchanges r are.1 talk)
 
--- A talk of no operations.
-pub no_talk : {State : Type 0} (Does : State → ℕ → Tpdu → State → Type 0) (first : State)
-    (plans : List Course) → Talk Does first plans [] [] first plans []
-no_talk Does first plans = record {
-  dialogues = [];
-  talks = [];
-  are_dialogues = tt;
-  line_is = refl;
-  follow = tt;
-  runs = refl;
-  left_is = refl;
-  dialogues_are = refl;
-  are_talks = tt;
-}
-
 -- A talk, and one operation more under the plans that are left.
-pub talk_more : {State : Type 0} (Does : State → ℕ → Tpdu → State → Type 0) (first mid last : State)
+unfoldable pub talk_more : {State : Type 0} (Does : State → ℕ → Tpdu → State → Type 0) (first mid last : State)
     (plans left rest : List Course)
     (operations : List Operation) (replies : List Reply) (line more : List Character)
     (o : Operation) (exchanges : List (List UnitOf)) (r : Reply)

@@ -10,3 +10,4 @@ pub mod Operations
 pub mod OneObject
 pub mod WholeExchange
 pub mod FaultText
+pub mod Running

@@ -6,6 +6,8 @@ mod answer;
 mod answers;
 mod attempt;
 mod bytes;
+#[cfg(test)]
+mod counting_card;
 mod exchange;
 #[cfg(test)]
 mod exchange_tests;
@@ -13,6 +15,8 @@ pub mod laws;
 #[cfg(test)]
 mod memory_tests;
 mod operation;
+#[cfg(test)]
+mod run_tests;
 mod session;
 mod session_fault;
 #[cfg(test)]

@@ -6,6 +6,8 @@ ghost use Rattle.card_terminal.specs.Agreed.{IsAgreed};
 ghost use Rattle.card_terminal.specs.ExchangeSide.{IsBounded};
 ghost use Rattle.card_terminal.specs.Conversing.{IsUnderWay, IsFinished, IsCaused, characters_left};
 
+mod run;
+
 use crate::answer::Answer;
 use crate::exchange::Exchange;
 use crate::session_fault::SessionFault;

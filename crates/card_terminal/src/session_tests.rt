@@ -1,12 +1,12 @@
 //! Sessions with cards of the tests.
 
 use crate::test_card::{Manner, TestCard};
-use crate::trace::{bytes, characters, word};
+use crate::trace::{bytes, characters, plans, word};
 use crate::{Session, SessionFault};
 use apdu_core::{Command, Header};
 use std::alloc::Global;
 use std::test::Fail;
-use t0_core::{CardEnd, LineFault, Plan, Plans, Recorder, Step};
+use t0_core::{CardEnd, LineFault, Plans, Recorder};
 
 /// GET DATA of `5F20`.
 const NAME: Header = Header {
@@ -31,26 +31,6 @@ const PUT: Header = Header {
     p1: 0x5F,
     p2: 0x20,
 };
-
-/// Plans of these steps and cuts, as `-:1 nona:256`: `n` is a NULL, `o` moves one data character, `a`
-/// all that remain, and `-` stands for no steps.
-fn plans(alloc: Global, text: &str) -> Result<Vec<Plan>, Fail> {
-    let mut plans = Vec::new(alloc);
-    for word in text.split_whitespace() {
-        let (letters, cut) = word.split_once(':').ok_or("no cut")?;
-        let mut steps = Vec::new(alloc);
-        for letter in letters.bytes() {
-            match letter {
-                b'n' => steps.push(Step::Null)?,
-                b'o' => steps.push(Step::One)?,
-                b'a' => steps.push(Step::All)?,
-                _ => {}
-            }
-        }
-        plans.push(Plan::new(steps, cut.parse()?).ok_or("no plan")?)?;
-    }
-    Ok(plans)
-}
 
 #[test]
 fn object_is_brought_whole(rt: HostRuntime) -> Result<(), Fail> {

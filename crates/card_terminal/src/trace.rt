@@ -5,7 +5,7 @@ use apdu_core::Status;
 use std::alloc::{Allocator, Global};
 use std::process::Abort;
 use std::test::Fail;
-use t0_core::{End, HostTurn};
+use t0_core::{End, HostTurn, Plan, Step};
 
 /// The bytes of a text of hexadecimal digits.
 pub fn bytes(alloc: Global, text: &str) -> Result<Vec<u8>, Fail> {
@@ -48,6 +48,26 @@ pub fn characters(alloc: Global, trace: &str) -> Result<Vec<(End, u8)>, Fail> {
         }
     }
     Ok(characters)
+}
+
+/// Plans of these steps and cuts, as `-:1 nona:256`: `n` is a NULL, `o` moves one data character, `a`
+/// all that remain, and `-` stands for no steps.
+pub fn plans(alloc: Global, text: &str) -> Result<Vec<Plan>, Fail> {
+    let mut plans = Vec::new(alloc);
+    for word in text.split_whitespace() {
+        let (letters, cut) = word.split_once(':').ok_or("no cut")?;
+        let mut steps = Vec::new(alloc);
+        for letter in letters.bytes() {
+            match letter {
+                b'n' => steps.push(Step::Null)?,
+                b'o' => steps.push(Step::One)?,
+                b'a' => steps.push(Step::All)?,
+                _ => {}
+            }
+        }
+        plans.push(Plan::new(steps, cut.parse()?).ok_or("no plan")?)?;
+    }
+    Ok(plans)
 }
 
 /// A status word as a number: `0x9000`.

@@ -79,7 +79,8 @@ impl<A: Allocator> ObjectCard<A> {
 
     /// The identifiers of the applications, in the order in which they were added.
     pub fn apps(&self) -> Apps<'_, A>
-        ensures { result ≡ map (λ a. a.aid) self.now.state.applications }
+        ensures apps { result ≡ map (λ a. a.aid) self.now.state.applications }
+        ensures sound { AreApplications self.now.state.applications }
     {
         Apps::over(&self.applications)
     }

@@ -189,6 +189,8 @@ impl<C: TpduCard> CardEnd<C> {
         ensures listens { result ≡ Turn.Listens → self.new ≡ self.old }
         ensures plan { plans.new ≡
             (if takes_plan self.old.stage then advanced plans.old else plans.old) }
+        ensures cut { (byte : ℕ) → result ≡ Turn.Sends byte →
+            takes_plan self.old.stage ≡ true → IsCut (plan_kept plans.new).cut }
         ensures falls { (byte : ℕ) → result ≡ Turn.Sends byte →
             (self.new.stage ≡ Taking_header [])
             ⊎ (still_to_go self.new.stage (plan_kept plans.new)

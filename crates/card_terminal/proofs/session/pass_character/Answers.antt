@@ -54,7 +54,8 @@ returns-in_ok-take-in-Listens-clause-goes_on g c = λ command first plans since 
     under.terminal in
     let silent = silent_turn end.stage byte c.in-Sends-turn.ensures.whose in
     let has = has_plan card.Does _ _ end.stage under.front _ c.turn.new.plans plans n silent
-    under.card under.at_plan c.in-Sends-turn.ensures.plan in
+    under.card under.at_plan c.in-Sends-turn.ensures.plan
+    (c.in-Sends-turn.ensures.cut byte refl) in
     elim (on_its_plan card.Does plan.cut end.stage now.stage under.front byte _ _ _ _ plan
     has.kept (c.in-Sends-turn.ensures.advances byte plan.cut under.front refl
     (λ takes. (
@@ -108,7 +109,8 @@ returns-in_err-take-in-Listens-clause-goes_on g c = λ command first plans since
     under.terminal in
     let silent = silent_turn end.stage byte c.in-Sends-turn.ensures.whose in
     let has = has_plan card.Does _ _ end.stage under.front _ c.turn.new.plans plans n silent
-    under.card under.at_plan c.in-Sends-turn.ensures.plan in
+    under.card under.at_plan c.in-Sends-turn.ensures.plan
+    (c.in-Sends-turn.ensures.cut byte refl) in
     let p = err_from_is_err_and c.from_residual.result c.from_residual.ensures.1 in
     rw (p.1, p.2) (elim (on_its_plan card.Does plan.cut end.stage now.stage under.front byte _ _
     _ _ plan has.kept (c.in-Sends-turn.ensures.advances byte plan.cut under.front refl

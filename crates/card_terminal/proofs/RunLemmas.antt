@@ -1,0 +1,757 @@
+-- Operations with a card of data objects: no line fault comes, and talks come one after another.
+use Rattle.std.proofs.Common.{slice_index_or, append-nil, IfOk, Result, Ok, Err, IsOk, MatchResult, map, ◌≡◌, ◌≢◌, ℕ, zero, suc, ◌+◌, ◌-◌, ◌<◌, ◌≤◌, List, [], ◌∷◌, ◌++◌, length, take, drop, ◌⊎◌, ◌↔◌, inl, inr, refl, sym, ap, subst, ◌∙◌, arith, Option, Some, None, IfSome, Bool, true, false, ◌==◌, if◌then◌else◌, append_assoc, length-append}
+use Rattle.std.specs.List.{AllByRecursion, flat_map}
+use Rattle.std.proofs.lemmas.Grind.{flat_map-append}
+use Rattle.apdu_core.specs.declared.header.Header.{Header}
+use Rattle.apdu_core.specs.StatusWord.{StatusWord, count, ok}
+use Rattle.apdu_core.specs.Chaining.{HavePieceSizes, IsPieces, link, with_more, chain_commands}
+use Rattle.apdu_core.specs.CommandBytes.{Command}
+use Rattle.t0_core.specs.declared.direction.Direction.{Direction}
+use Rattle.t0_core.specs.declared.direction.Direction.TheVariants.{ToCard, FromCard}
+use Rattle.t0_core.specs.declared.end.End.TheVariants.{Card}
+use Rattle.t0_core.specs.declared.host_end.HostTurn.TheVariants.{Sends, Done}
+use Rattle.t0_core.specs.declared.line_fault.LineFault.{LineFault}
+use Rattle.t0_core.specs.declared.plan.Step.{Step}
+use Rattle.t0_core.specs.Character.{Character}
+use Rattle.t0_core.specs.Dialogue.{Body, Dialogue, IsDialogue, characters, foreseen, moves}
+use Rattle.t0_core.specs.Front.{Front, In_header, In_body, After_first, GoesOn, IsFront, EndInLast, brought, from_card}
+use Rattle.t0_core.specs.FrontLaws.{moves-within, goes_on}
+use Rattle.t0_core.specs.HostSide.{Hosting, IsOpenedBy, HostStandsAt}
+use Rattle.t0_core.specs.HostLaws.{opened}
+use Rattle.t0_core.specs.Meaning.{Tpdu, Runs, received}
+use Rattle.t0_core.specs.Plan.{Course, Cursor, FollowInTurn}
+use Rattle.t0_core.specs.Watch.{Hearing, Hears}
+use Rattle.t0_core.specs.WatchLaws.{hears_more, hears_nothing}
+use Rattle.object_card.specs.declared.limits.TheConstants.{VALUE_LIMIT, HEAD_LIMIT}
+use Rattle.object_card.specs.Tables.{IsAid}
+use Rattle.object_card.specs.State.{CardState, IsCardState, is_idle}
+use Rattle.object_card.specs.CardMeaning.{Does}
+use Rattle.object_card.specs.DataCard.{StandsFor}
+use Rattle.object_card.specs.OneStep.{Operation, Reply, AnswersAll}
+use Rattle.card_terminal.specs.declared.operation.Op.{Op}
+use Rattle.card_terminal.specs.Agreed.{IsAgreed}
+use Rattle.card_terminal.specs.Gathered.{Gathers, Opening, By_command, By_fetch, UnitOf, dialogues_of, repeated_with}
+use Rattle.card_terminal.specs.declared.wanted.Wanted.{Wanted}
+use Rattle.card_terminal.specs.ExchangeSide.{ExchangeOf, exchange_turn, HostOpensBy, UnderWay, IsOver, IsOpenedAs, so_far, response_limit}
+use Rattle.card_terminal.specs.Conversing.{HaveGone, HasStalled, HasOverflown, IsCaused}
+use Rattle.card_terminal.specs.Talk.{HaveCuts, Talk, AreCommandsOf, AreExchangesOf, IsTalkOf, talk_dialogues, select_command, get_command}
+use Rattle.card_terminal.specs.Operations.{operation_of}
+use Rattle.card_terminal.specs.Running.{new_answers, carried_out}
+use Rattle.card_terminal.proofs.FetchLemmas.{Goes, goes_by_runs, goes_sound}
+use Rattle.card_terminal.proofs.SessionLemmas.{over_turn, some_is}
+use Rattle.card_terminal.proofs.BoundLemmas.{so_far_brings, never_stalls}
+use Rattle.card_terminal.proofs.TalkLemmas.{own_talk_answers}
+use Rattle.card_terminal.proofs.TalkListLemmas.{left_after_both, follow_both, runs_both, all_both, runs_stand, AreTakenUpTo, taken_more, taken_to_end, one_more_exchange, talk_more}
+
+-- ---- the plans that are used, and no others
+
+runs_used : {State : Type 0} (Does : State → ℕ → Tpdu → State → Type 0) (old new : State)
+    (ds : List Dialogue) (plans : List Course) → Runs Does old ds plans new
+    → Runs Does old ds (take (length ds) plans) new
+runs_used Does old new [] plans runs = runs
+runs_used Does old new (d ∷ ds) [] runs = runs
+runs_used Does old new (d ∷ ds) (p ∷ plans) (mid, does, runs) =
+    (mid, does, runs_used Does mid new ds plans runs)
+
+follow_used : (ds : List Dialogue) (plans : List Course) → FollowInTurn ds plans
+    → FollowInTurn ds (take (length ds) plans)
+follow_used [] plans follow = tt
+follow_used (d ∷ ds) [] follow = follow
+follow_used (d ∷ ds) (p ∷ plans) follow = (follow.0, follow_used ds plans follow.1)
+
+none_left : (ds : List Dialogue) (plans : List Course)
+    → drop (length ds) (take (length ds) plans) ≡ []
+none_left [] plans = refl
+none_left (d ∷ ds) [] = refl
+none_left (d ∷ ds) (p ∷ plans) = none_left ds plans
+
+talk_used : {State : Type 0} (Does : State → ℕ → Tpdu → State → Type 0) (first last : State)
+    (plans left : List Course) (operations : List Operation) (replies : List Reply)
+    (line : List Character) (talk : Talk Does first plans operations replies last left line)
+    → Talk Does first (take (length talk.dialogues) plans) operations replies last [] line
+talk_used Does first last plans left operations replies line talk = record {
+  dialogues = talk.dialogues;
+  talks = talk.talks;
+  are_dialogues = talk.are_dialogues;
+  line_is = talk.line_is;
+  follow = follow_used talk.dialogues plans talk.follow;
+  runs = runs_used Does first last talk.dialogues plans talk.runs;
+  left_is = sym (none_left talk.dialogues plans);
+  dialogues_are = talk.dialogues_are;
+  are_talks = talk.are_talks;
+}
+
+-- the cuts of some plans, and of those after them
+cuts_both : (n m : ℕ) (plans : List Course) → HaveCuts (take n plans)
+    → HaveCuts (take m (drop n plans)) → HaveCuts (take (n + m) plans)
+cuts_both zero m plans first second = let e : m ≡ 0 + m = omega arith in
+    subst (λ k. HaveCuts (take k plans)) e second
+cuts_both (suc n) m [] first second = let e : suc (n + m) ≡ suc n + m = omega arith in
+    subst (λ k. HaveCuts (take k [])) e tt
+cuts_both (suc n) m (p ∷ plans) first second =
+    let e : suc (n + m) ≡ suc n + m = omega arith in
+    subst (λ k. HaveCuts (take k (p ∷ plans))) e
+    (first.0, cuts_both n m plans first.1 second)
+
+-- what a card whose own states stand for these does, under plans with such cuts
+own_goes : {State : Type 0} (Own : State → ℕ → Tpdu → State → Type 0) (own_reset : State → State)
+    (state_of : State → CardState) → StandsFor Own own_reset state_of → (old new : State)
+    (ds : List Dialogue) (plans : List Course) → Runs Own old ds plans new
+    → HaveCuts (take (length ds) plans) → Goes (state_of old) ds (state_of new)
+own_goes Own own_reset state_of stands old new ds plans runs cuts =
+    goes_by_runs (state_of old) (state_of new) ds (take (length ds) plans) cuts
+    (runs_stand Own own_reset state_of stands old new ds (take (length ds) plans)
+    (runs_used Own old new ds plans runs))
+
+-- ---- a card of data objects causes no line fault
+
+moved_within : (segments : List Step) (n k : ℕ) → EndInLast segments n k → k ≤ n
+moved_within [] n k ends = omega (arith, ends)
+moved_within (s ∷ []) n k ends = omega (arith, ends, moves-within s n)
+moved_within (s ∷ t ∷ segments) n k ends = omega (
+  arith,
+  ends.0,
+  moves-within s n,
+  moved_within (t ∷ segments) (n - moves s n) (k - moves s n) ends.1,
+)
+
+opens_bytes : (c : Command) (host : Hosting) (content : List ℕ) (le : Option ℕ)
+    → HostOpensBy c.header content le host → (host.direction ≡ ToCard) ⊎ (host.p3 < 256)
+opens_bytes c host [] None opens = inl opens.to_card
+opens_bytes c host [] (Some n) opens = inr opens.is_byte
+opens_bytes c host (b ∷ bs) le opens = inl opens.to_card
+
+-- a terminal that asks for data has a byte that counts them
+asks_with_a_byte : (opening : Opening) (left : Wanted) (first : Option Dialogue) (host : Hosting)
+    → IsOpenedAs opening left first host → (host.direction ≡ ToCard) ⊎ (host.p3 < 256)
+asks_with_a_byte (By_command c) left None host opened =
+    opens_bytes c host c.content c.le opened
+asks_with_a_byte (By_fetch n) left None host opened = inr opened.is_byte
+asks_with_a_byte opening left (Some d) host (opens, n, repeats, asks) = inr asks.is_byte
+
+count_is_few : (b : ℕ) → b < 256 → count b ≤ 256
+count_is_few b few = by (b == 0)
+  where
+    by : (v : Bool) → (if v then 256 else b) ≤ 256
+    by true = omega arith
+    by false = omega (arith, few)
+
+few_in : (direction : Direction) (p3 : ℕ) (segments : List Step) (moved : List ℕ)
+    → EndInLast segments (foreseen direction p3) (length moved)
+    → (direction ≡ ToCard) ⊎ (p3 < 256) → length (from_card direction moved) ≤ 256
+few_in ToCard p3 segments moved ends is = omega arith
+few_in FromCard p3 segments moved ends (inl e) = absurd (cc)
+few_in FromCard p3 segments moved ends (inr few) = omega (
+  arith,
+  moved_within segments (count p3) (length moved) ends,
+  count_is_few p3 few,
+)
+
+few_of : (host : Hosting) (b : Body) → IsOpenedBy host b
+    → (host.direction ≡ ToCard) ⊎ (host.p3 < 256)
+    → EndInLast b.segments (foreseen b.direction b.p3) (length b.moved)
+    → length (from_card b.direction b.moved) ≤ 256
+few_of host b by is ends = few_in b.direction b.p3 b.segments b.moved ends (elim is [
+  | inl to ↦ inl (by.2 ∙ to)
+  | inr few ↦ inr (subst (λ n. n < 256) (sym by.1) few)
+])
+
+-- the data that a dialogue under way has brought are at most 256
+brought_few : (host : Hosting) (front : Front) → (host.direction ≡ ToCard) ⊎ (host.p3 < 256)
+    → HostStandsAt host front → IsFront front → length (brought front) ≤ 256
+brought_few host (In_header bytes) is stands is_front = omega arith
+brought_few host (In_body b) is stands is_front =
+    few_of host b (opened host (In_body b) stands) is is_front.in_last
+brought_few host (After_first b sw1) is stands is_front =
+    few_of host b (opened host (After_first b sw1) stands) is is_front.0.in_last
+
+none_from_card : (direction : Direction) → length (from_card direction []) ≤ 0
+none_from_card ToCard = omega arith
+none_from_card FromCard = omega arith
+
+one_from_card : (direction : Direction) (moved : List ℕ) (byte : ℕ)
+    → length (from_card direction (moved ++ byte ∷ [])) ≤ length (from_card direction moved) + 1
+one_from_card ToCard moved byte = omega arith
+one_from_card FromCard moved byte = omega (arith, length-append moved (byte ∷ []))
+
+-- and with one character more, one more
+brings_one : (front new : Front) (c : Character) → GoesOn front c new
+    → length (brought new) ≤ length (brought front) + 1
+brings_one (In_header bytes) new c (from, inl (few, is)) = rw is (omega arith)
+brings_one (In_header bytes) new c (from, inr (h, direction, whole, is)) =
+    rw is (omega (arith, none_from_card direction))
+brings_one (In_body b) new c (inl (lt, from, is)) = rw is (one_from_card b.direction b.moved c.1)
+brings_one (In_body b) new c (inr (inl (between, from, (s, null, byte, is)))) = rw is (omega arith)
+brings_one (In_body b) new c (inr (inr (between, from, status, is))) = rw is (omega arith)
+brings_one (After_first b sw1) new c goes = absurd goes
+
+repeats_first : (opening : Opening) (left : Wanted) (first : Option Dialogue) (host : Hosting)
+    → IsOpenedAs opening left first host
+    → IfSome first (λ d. (n : ℕ) × (repeated_with left d ≡ Some n))
+repeats_first opening left None host opened = tt
+repeats_first opening left (Some d) host (opens, n, repeats, asks) = (n, repeats)
+
+-- no more comes than there is room for
+never_overflows : {State : Type 0} (Own : State → ℕ → Tpdu → State → Type 0)
+    (own_reset : State → State) (state_of : State → CardState)
+    → StandsFor Own own_reset state_of → (first standing : State) (plans : List Course)
+    (since now : Hearing) (c : Command) → IsCardState (state_of first)
+    → HasOverflown Own first plans since c standing now → ⊥
+never_overflows Own own_reset state_of stands first standing plans since now c sound over =
+    let way = over.terminal in
+    let ds = so_far over.units over.tried in
+    let goes = own_goes Own own_reset state_of stands first standing ds plans over.runs over.cuts in
+    let before = so_far_brings c over.units way.opening way.left over.tried (state_of first)
+    (state_of standing) sound way.followed
+    (repeats_first way.opening way.left over.tried over.ex.host way.opened_as) goes in
+    let here = brought_few over.ex.host over.before
+    (asks_with_a_byte way.opening way.left over.tried over.ex.host way.opened_as) way.stands
+    way.is_front in
+    let one = brings_one over.before over.front (Card, over.goes.0) over.goes.1 in
+    absurd (omega (
+      arith,
+      over.too_many,
+      before,
+      here,
+      one,
+      length-append (flat_map received ds) (brought over.front),
+    ))
+
+-- a card of data objects causes no line fault
+pub never_caused : {State : Type 0} (Own : State → ℕ → Tpdu → State → Type 0)
+    (own_reset : State → State) (state_of : State → CardState)
+    → StandsFor Own own_reset state_of → (first standing : State) (plans : List Course)
+    (since now : Hearing) (c : Command) (cursor : Cursor) (fault : LineFault)
+    → IsCardState (state_of first)
+    → IsCaused Own first plans since c standing cursor now fault → ⊥
+never_caused Own own_reset state_of stands first standing plans since now c cursor fault sound
+    (inl (is, stalled)) =
+    let ds = flat_map dialogues_of stalled.units in
+    never_stalls c stalled.units (state_of first) (state_of standing) stalled.stall
+    (own_goes Own own_reset state_of stands first standing ds plans stalled.gone.runs
+    stalled.gone.cuts)
+never_caused Own own_reset state_of stands first standing plans since now c cursor fault sound
+    (inr (is, over)) =
+    never_overflows Own own_reset state_of stands first standing plans since now c sound over
+
+-- it stays a sound one
+pub stays_sound : {State : Type 0} (Own : State → ℕ → Tpdu → State → Type 0)
+    (own_reset : State → State) (state_of : State → CardState)
+    → StandsFor Own own_reset state_of → (first standing : State) (plans : List Course)
+    (since now : Hearing) (ds : List Dialogue) (cursor : Cursor) → IsCardState (state_of first)
+    → HaveGone Own first plans since ds standing cursor now → IsCardState (state_of standing)
+stays_sound Own own_reset state_of stands first standing plans since now ds cursor sound gone =
+    goes_sound (state_of first) (state_of standing) ds sound
+    (own_goes Own own_reset state_of stands first standing ds plans gone.runs gone.cuts)
+
+-- ---- one after another
+
+-- dialogues that have gone, and others after them
+pub gone_both : {State : Type 0} (Does : State → ℕ → Tpdu → State → Type 0)
+    (first mid last : State) (plans : List Course) (since between now : Hearing)
+    (ds es : List Dialogue) (cursor later : Cursor)
+    → HaveGone Does first plans since ds mid cursor between
+    → HaveGone Does mid cursor.rest between es last later now
+    → HaveGone Does first plans since (ds ++ es) last later now
+gone_both Does first mid last plans since between now ds es cursor later one two =
+    let n = length ds in
+    record {
+      are_dialogues = all_both IsDialogue ds es one.are_dialogues two.are_dialogues;
+      follow = follow_both ds es plans one.follow
+          (subst (λ p. FollowInTurn es p) one.used two.follow);
+      cuts = subst (λ k. HaveCuts (take k plans)) (sym (length-append ds es))
+          (cuts_both n (length es) plans one.cuts
+          (subst (λ p. HaveCuts (take (length es) p)) one.used two.cuts));
+      runs = runs_both Does first mid last ds es plans one.runs
+          (subst (λ p. Runs Does mid es p last) one.used two.runs);
+      used = two.used ∙ ap (λ p. drop (length es) p) one.used ∙ sym (left_after_both ds es plans);
+      hears = subst (λ cs. Hears since cs now) (sym (flat_map-append characters ds es))
+          (hears_more since between now (flat_map characters ds) (flat_map characters es)
+          one.hears two.hears);
+    }
+
+-- Operations that have been carried out: their talk, whose plans have cuts of 1 to 256, is heard.
+pub record HaveCome {State : Type 0} (Does : State → ℕ → Tpdu → State → Type 0) (first : State)
+    (plans : List Course) (since : Hearing) (operations : List Operation) (replies : List Reply)
+    (standing : State) (cursor : Cursor) (now : Hearing) : Type 0 where
+  pub line : List Character
+  pub talk : Talk Does first plans operations replies standing cursor.rest line
+  pub cuts : HaveCuts (take (length talk.dialogues) plans)
+  pub hears : Hears since line now
+
+pub none_come : {State : Type 0} (Does : State → ℕ → Tpdu → State → Type 0) (first : State)
+    (plans : List Course) (since : Hearing) (cursor : Cursor) → cursor.rest ≡ plans
+    → HaveCome Does first plans since [] [] first cursor since
+none_come Does first plans since cursor is = record {
+  line = [];
+  talk = record {
+    dialogues = [];
+    talks = [];
+    are_dialogues = tt;
+    line_is = refl;
+    follow = tt;
+    runs = refl;
+    left_is = is;
+    dialogues_are = refl;
+    are_talks = tt;
+  };
+  cuts = tt;
+  hears = hears_nothing since;
+}
+
+-- and one more
+pub one_more_comes : {State : Type 0} (Does : State → ℕ → Tpdu → State → Type 0)
+    (first mid last : State) (plans : List Course) (since between now : Hearing)
+    (operations : List Operation) (replies : List Reply) (cursor later : Cursor)
+    (o : Operation) (exchanges : List (List UnitOf)) (r : Reply)
+    → HaveCome Does first plans since operations replies mid cursor between
+    → IsTalkOf o exchanges r
+    → HaveGone Does mid cursor.rest between (talk_dialogues exchanges) last later now
+    → HaveCome Does first plans since (operations ++ o ∷ []) (replies ++ r ∷ []) last later now
+unfolding talk_more
+one_more_comes Does first mid last plans since between now operations replies cursor later o
+    exchanges r come talk gone =
+    let ds = talk_dialogues exchanges in
+    let n = length come.talk.dialogues in
+    record {
+      line = come.line ++ flat_map characters ds;
+      talk = talk_more Does first mid last plans cursor.rest later.rest operations replies
+          come.line (flat_map characters ds) o exchanges r come.talk talk gone.are_dialogues
+          gone.follow gone.runs gone.used refl;
+      cuts = subst (λ k. HaveCuts (take k plans)) (sym (length-append come.talk.dialogues ds))
+          (cuts_both n (length ds) plans come.cuts
+          (subst (λ p. HaveCuts (take (length ds) p)) come.talk.left_is gone.cuts));
+      hears = hears_more since between now come.line (flat_map characters ds) come.hears gone.hears;
+    }
+
+-- their answers are those of the card that answers each in one step
+pub have_answers : {State : Type 0} (Own : State → ℕ → Tpdu → State → Type 0)
+    (own_reset : State → State) (state_of : State → CardState)
+    → StandsFor Own own_reset state_of → (first standing : State) (old new : CardState)
+    → state_of first ≡ old → state_of standing ≡ new → (plans : List Course)
+    (since now : Hearing) (operations : List Operation) (replies : List Reply) (cursor : Cursor)
+    → IsCardState old → is_idle old.pending ≡ true
+    → HaveCome Own first plans since operations replies standing cursor now
+    → AnswersAll old operations replies new × (is_idle new.pending ≡ true) × IsCardState new
+have_answers Own own_reset state_of stands first standing old new was is plans since now
+    operations replies cursor sound idle come =
+    own_talk_answers Own own_reset state_of stands first standing old new was is
+    (take (length come.talk.dialogues) plans) [] operations replies come.line sound idle come.cuts
+    (talk_used Own first standing plans cursor.rest operations replies come.line come.talk)
+
+-- ---- the commands of an operation
+
+-- what a card of data objects may take and send under
+pub record KeepsTo (R S : ℕ → Type 0) : Type 0 where
+  pub receives : (ins : ℕ) → R ins ↔ ((ins ≡ 0xA4) ⊎ (ins ≡ 0xDA))
+  pub sends : (ins : ℕ) → S ins ↔ ((ins ≡ 0xCA) ⊎ (ins ≡ 0xC0))
+
+agreed_select_by : (R S : ℕ → Type 0) → KeepsTo R S → (aid : List ℕ) → 5 ≤ length aid
+    → IsAgreed R S (select_command aid)
+agreed_select_by R S keeps [] long = absurd (omega (arith, long))
+agreed_select_by R S keeps (b ∷ bs) long = (
+  λ sends. elim ((keeps.sends 0xA4).0 sends) [ inl e ↦ absurd (omega (arith, e)) | inr e ↦ absurd (omega (arith, e)) ],
+  λ takes. elim ((keeps.receives 0xC0).0 takes) [ inl e ↦ absurd (omega (arith, e)) | inr e ↦ absurd (omega (arith, e)) ],
+)
+
+pub agreed_select : (R S : ℕ → Type 0) → KeepsTo R S → (aid : List ℕ) → IsAid aid
+    → IsAgreed R S (select_command aid)
+agreed_select R S keeps aid is = agreed_select_by R S keeps aid is.0
+
+pub agreed_get : (R S : ℕ → Type 0) → KeepsTo R S → (p1 p2 : ℕ)
+    → IsAgreed R S (get_command p1 p2)
+agreed_get R S keeps p1 p2 = (
+  λ takes. elim ((keeps.receives 0xCA).0 takes) [ inl e ↦ absurd (omega (arith, e)) | inr e ↦ absurd (omega (arith, e)) ],
+  λ takes. elim ((keeps.receives 0xC0).0 takes) [ inl e ↦ absurd (omega (arith, e)) | inr e ↦ absurd (omega (arith, e)) ],
+)
+
+no_data_from_a_put : (R S : ℕ → Type 0) → KeepsTo R S → S 0xDA → ⊥
+no_data_from_a_put R S keeps sends =
+    elim ((keeps.sends 0xDA).0 sends) [ inl e ↦ absurd (omega (arith, e)) | inr e ↦ absurd (omega (arith, e)) ]
+
+agreed_link : (R S : ℕ → Type 0) → KeepsTo R S → (h : Header) → h.ins ≡ 0xDA
+    → (piece : List ℕ) → IsAgreed R S (link h piece)
+agreed_link R S keeps h is [] = λ sends. no_data_from_a_put R S keeps (subst S is sends)
+agreed_link R S keeps h is (b ∷ bs) = λ sends. no_data_from_a_put R S keeps (subst S is sends)
+
+pub agreed_pieces : (R S : ℕ → Type 0) → KeepsTo R S → (h : Header) → h.ins ≡ 0xDA
+    → (pieces : List (List ℕ))
+    → AllByRecursion (λ c. IsAgreed R S c) (chain_commands h pieces)
+agreed_pieces R S keeps h is [] = tt
+agreed_pieces R S keeps h is (last ∷ []) = (agreed_link R S keeps h is last, tt)
+agreed_pieces R S keeps h is (piece ∷ next ∷ others) = (
+  agreed_link R S keeps (with_more h) is piece,
+  agreed_pieces R S keeps h is (next ∷ others),
+)
+
+-- The exchange of a command is over, and those of the commands before it, each answered 9000.
+pub record HaveBeen {State : Type 0} (Does : State → ℕ → Tpdu → State → Type 0) (first : State)
+    (plans : List Course) (since : Hearing) (commands left : List Command) (ex : ExchangeOf)
+    (status : StatusWord) (standing : State) (cursor : Cursor) (now : Hearing) : Type 0 where
+  pub before : List (List UnitOf)
+  pub current : Command
+  pub units : List UnitOf
+  pub taken : AreTakenUpTo commands before (current ∷ left)
+  pub over : IsOver current ex units status
+  pub gone : HaveGone Does first plans since (talk_dialogues (before ++ units ∷ [])) standing
+      cursor now
+
+gone_as : {State : Type 0} (Does : State → ℕ → Tpdu → State → Type 0) (first : State)
+    (plans : List Course) (since : Hearing) (ds es : List Dialogue) (standing : State)
+    (cursor : Cursor) (now : Hearing) → ds ≡ es
+    → HaveGone Does first plans since ds standing cursor now
+    → HaveGone Does first plans since es standing cursor now
+gone_as Does first plans since ds es standing cursor now is gone =
+    subst (λ xs. HaveGone Does first plans since xs standing cursor now) is gone
+
+pub first_has_been : {State : Type 0} (Does : State → ℕ → Tpdu → State → Type 0) (first : State)
+    (plans : List Course) (since : Hearing) (c : Command) (left : List Command)
+    (ex : ExchangeOf) (units : List UnitOf) (status : StatusWord) (standing : State)
+    (cursor : Cursor) (now : Hearing) → IsOver c ex units status
+    → HaveGone Does first plans since (flat_map dialogues_of units) standing cursor now
+    → HaveBeen Does first plans since (c ∷ left) left ex status standing cursor now
+first_has_been Does first plans since c left ex units status standing cursor now over gone =
+    record {
+      before = [];
+      current = c;
+      units = units;
+      taken = refl;
+      over = over;
+      gone = gone_as Does first plans since (flat_map dialogues_of units)
+          (talk_dialogues ([] ++ units ∷ [])) standing cursor now
+          (sym (one_more_exchange [] units)) gone;
+    }
+
+pub next_has_been : {State : Type 0} (Does : State → ℕ → Tpdu → State → Type 0)
+    (first mid last : State) (plans : List Course) (since between now : Hearing)
+    (commands left : List Command) (c : Command) (ex after : ExchangeOf)
+    (units : List UnitOf) (status next : StatusWord) (cursor later : Cursor)
+    → HaveBeen Does first plans since commands (c ∷ left) ex status mid cursor between
+    → status ≡ ok → IsOver c after units next
+    → HaveGone Does mid cursor.rest between (flat_map dialogues_of units) last later now
+    → HaveBeen Does first plans since commands left after next last later now
+next_has_been Does first mid last plans since between now commands left c ex after units status
+    next cursor later been is over gone =
+    let before = been.before ++ been.units ∷ [] in
+    record {
+      before = before;
+      current = c;
+      units = units;
+      taken = taken_more commands been.before been.current (c ∷ left) been.units ex.gather.bytes
+          been.taken
+          (subst (λ s. Gathers been.current been.units ex.gather.bytes s) is been.over.gathers);
+      over = over;
+      gone = gone_as Does first plans since (talk_dialogues before ++ flat_map dialogues_of units)
+          (talk_dialogues (before ++ units ∷ [])) last later now
+          (sym (one_more_exchange before units))
+          (gone_both Does first mid last plans since between now (talk_dialogues before)
+          (flat_map dialogues_of units) cursor later been.gone gone);
+    }
+
+-- none follows: these are the exchanges of the commands, with this answer
+pub all_have_been : {State : Type 0} (Does : State → ℕ → Tpdu → State → Type 0) (first : State)
+    (plans : List Course) (since : Hearing) (commands left : List Command) (ex : ExchangeOf)
+    (status : StatusWord) (standing : State) (cursor : Cursor) (now : Hearing) (answer : Reply)
+    → HaveBeen Does first plans since commands left ex status standing cursor now
+    → (left ≡ []) ⊎ (status ≢ ok)
+    → answer ≡ record { status = status; content = ex.gather.bytes }
+    → (exchanges : List (List UnitOf)) × AreExchangesOf commands exchanges answer
+    × HaveGone Does first plans since (talk_dialogues exchanges) standing cursor now
+all_have_been Does first plans since commands left ex status standing cursor now answer been
+    ends is =
+    let whole : Reply = record { status = status; content = ex.gather.bytes } in
+    let exchanges = been.before ++ been.units ∷ [] in (
+      exchanges,
+      subst (λ r. AreExchangesOf commands exchanges r) (sym is)
+          (taken_to_end commands been.before been.current left been.units whole been.taken
+          been.over.gathers ends),
+      been.gone,
+    )
+
+-- ---- the answers that are new
+
+pub new_are : (before given now : List Reply) → now ≡ before ++ given
+    → new_answers before now ≡ given
+new_are before given now is = ap (λ l. new_answers before l) is ∙ by before
+  where
+    by : (rs : List Reply) → drop (length rs) (rs ++ given) ≡ given
+    by [] = refl
+    by (r ∷ rs) = by rs
+
+take_front : {A : Type 0} (xs ys : List A) → take (length xs) (xs ++ ys) ≡ xs
+take_front [] ys = refl
+take_front (x ∷ xs) ys = ap (λ l. x ∷ l) (take_front xs ys)
+
+pub carried_are : {A : Type 0} (ops : List (Op A)) (done left : List Operation)
+    (given : List Reply) → map operation_of ops ≡ done ++ left → length given ≡ length done
+    → carried_out ops given ≡ done
+carried_are ops done left given is same = ap (λ n. take n (map operation_of ops)) same
+    ∙ ap (λ l. take (length done) l) is ∙ take_front done left
+
+-- ---- an exchange that has been gone through
+
+pub ok_unless : {E : Type 0} (r : Result Unit E) (P : Unit → Type 0) (Q : E → Type 0)
+    → MatchResult r P Q → ((e : E) → Q e → ⊥) → IsOk r
+ok_unless (Ok x) P Q is never = refl
+ok_unless (Err e) P Q is never = absurd (never e is)
+
+pub when_ok : {A E : Type 0} (r : Result A E) (x : A) (P : A → Type 0) (Q : E → Type 0)
+    → r ≡ Ok x → MatchResult r P Q → P x
+when_ok r x P Q is holds = let M : Result _ _ → Type 0 = λ s. MatchResult s P Q in
+    subst M is holds
+
+pub done_sends_nothing : (status : StatusWord) (byte : ℕ) → Done status ≡ Sends byte → ⊥
+done_sends_nothing status byte e = absurd (cc)
+
+same_status : (a b : StatusWord) → Done a ≡ Done b → a ≡ b
+same_status a b e = cc
+
+pub over_then : (c : Command) (ex after : ExchangeOf) (units : List UnitOf)
+    (status told : StatusWord) → IsOver c ex units status → after ≡ ex
+    → Done told ≡ exchange_turn ex → IsOver c after units told
+over_then c ex after units status told over stays turn =
+    let is : told ≡ status = same_status told status
+    (turn ∙ over_turn c ex units status over) in
+    subst (λ e. IsOver c e units told) (sym stays)
+    (subst (λ s. IsOver c ex units s) (sym is) over)
+
+-- a sound card's own state stands for a sound one
+pub sound_at : {C State : Type 0} (state_of : State → CardState) (state : C → CardState)
+    (standing : C → State) → ((card : C) → state_of (standing card) ≡ state card)
+    → (card seen : C) → card ≡ seen → IsCardState (state seen)
+    → IsCardState (state_of (standing card))
+sound_at state_of state standing means card seen same sound =
+    subst IsCardState (sym (means card ∙ ap state same)) sound
+
+pub gone_from : {State : Type 0} (Does : State → ℕ → Tpdu → State → Type 0) (first was : State)
+    (plans : List Course) (since : Hearing) (ds : List Dialogue) (standing : State)
+    (cursor : Cursor) (now : Hearing) → first ≡ was
+    → HaveGone Does first plans since ds standing cursor now
+    → HaveGone Does was plans since ds standing cursor now
+gone_from Does first was plans since ds standing cursor now is gone =
+    subst (λ s. HaveGone Does s plans since ds standing cursor now) is gone
+
+-- the answer of an exchange that is over
+pub told : (c : Command) (ex : ExchangeOf) (units : List UnitOf) (status : StatusWord)
+    (given : Option Reply) (answer : Reply) → IsOver c ex units status
+    → ((s : StatusWord) → exchange_turn ex ≡ Done s
+    → given ≡ Some (record { status = s; content = ex.gather.bytes }))
+    → given ≡ Some answer → answer ≡ record { status = status; content = ex.gather.bytes }
+told c ex units status given answer over done is = some_is given answer _ is
+    (done status (over_turn c ex units status over))
+
+pub as_left : {State : Type 0} (Does : State → ℕ → Tpdu → State → Type 0) (first : State)
+    (plans : List Course) (since : Hearing) (commands left others : List Command)
+    (ex : ExchangeOf) (status : StatusWord) (standing : State) (cursor : Cursor) (now : Hearing)
+    → left ≡ others
+    → HaveBeen Does first plans since commands left ex status standing cursor now
+    → HaveBeen Does first plans since commands others ex status standing cursor now
+as_left Does first plans since commands left others ex status standing cursor now is been =
+    subst (λ cs. HaveBeen Does first plans since commands cs ex status standing cursor now) is
+    been
+
+pub never_both : (b : Bool) → b ≡ true → b ≡ false → ⊥
+never_both true one two = absurd (cc)
+never_both false one two = absurd (cc)
+
+-- ---- what an operation has been answered
+
+pub keeps_to : (R S : ℕ → Type 0) → ((ins : ℕ) → R ins ↔ ((ins ≡ 0xA4) ⊎ (ins ≡ 0xDA)))
+    → ((ins : ℕ) → S ins ↔ ((ins ≡ 0xCA) ⊎ (ins ≡ 0xC0))) → KeepsTo R S
+keeps_to R S receives sends = record { receives = receives; sends = sends }
+
+-- a list of commands with some exchanges that are gone through
+abbrev pub Answered : {State : Type 0} → (State → ℕ → Tpdu → State → Type 0) → State
+    → List Course → Hearing → State → Cursor → Hearing → List Command → Reply → Type 0
+Answered Does first plans since standing cursor now commands answer =
+    (exchanges : List (List UnitOf)) × AreExchangesOf commands exchanges answer
+    × HaveGone Does first plans since (talk_dialogues exchanges) standing cursor now
+
+-- or of an operation
+abbrev pub Talked : {State : Type 0} → (State → ℕ → Tpdu → State → Type 0) → State
+    → List Course → Hearing → State → Cursor → Hearing → Operation → Reply → Type 0
+Talked Does first plans since standing cursor now operation answer =
+    (exchanges : List (List UnitOf)) × IsTalkOf operation exchanges answer
+    × HaveGone Does first plans since (talk_dialogues exchanges) standing cursor now
+
+-- the exchanges of its commands are a talk of the operation
+pub talked : {State E : Type 0} (Does : State → ℕ → Tpdu → State → Type 0) (first : State)
+    (plans : List Course) (since : Hearing) (standing : State) (cursor : Cursor) (now : Hearing)
+    (commands : List Command) (operation : Operation) (r : Result Reply E)
+    → AreCommandsOf operation commands
+    → IfOk r (Answered Does first plans since standing cursor now commands)
+    → IfOk r (Talked Does first plans since standing cursor now operation)
+talked Does first plans since standing cursor now commands operation (Ok answer) are gone =
+    (gone.0, (commands, are, gone.1), gone.2)
+talked Does first plans since standing cursor now commands operation (Err e) are gone = tt
+
+pub talked_as : {State E : Type 0} (Does : State → ℕ → Tpdu → State → Type 0) (first : State)
+    (plans : List Course) (since : Hearing) (standing : State) (cursor : Cursor) (now : Hearing)
+    (a b : Operation) (r : Result Reply E) → a ≡ b
+    → IfOk r (Talked Does first plans since standing cursor now a)
+    → IfOk r (Talked Does first plans since standing cursor now b)
+talked_as Does first plans since standing cursor now a b r is talk =
+    subst (λ o. IfOk r (Talked Does first plans since standing cursor now o)) is talk
+
+no_pieces : (value : List ℕ) (pieces : List (List ℕ)) → IsPieces value pieces → pieces ≡ [] → ⊥
+no_pieces [] pieces is e = let f : [] ≡ [] ∷ [] = sym e ∙ is in absurd (cc)
+no_pieces (b ∷ bs) pieces is e = subst HavePieceSizes e is.1
+
+-- a value has at least one piece
+pub some_command : (h : Header) (value : List ℕ) (pieces : List (List ℕ)) (left : List Command)
+    → IsPieces value pieces → left ≡ chain_commands h pieces → left ≡ [] → ⊥
+some_command h value [] left is same none = no_pieces value [] is refl
+some_command h value (p ∷ []) left is same none = let e : [] ≡ link h p ∷ [] = sym none ∙ same in
+    absurd (cc)
+some_command h value (p ∷ q ∷ others) left is same none =
+    let e : [] ≡ link (with_more h) p ∷ chain_commands h (q ∷ others) = sym none ∙ same in
+    absurd (cc)
+
+-- ---- operations in turn
+
+-- The first of the operations are carried out, so many as there are new answers: their talk is
+-- heard.
+pub record HaveAnswers {State A : Type 0} (Does : State → ℕ → Tpdu → State → Type 0)
+    (first : State) (plans : List Course) (since : Hearing) (ops : List (Op A))
+    (before : List Reply) (n : ℕ) (given : List Reply) (standing : State) (cursor : Cursor)
+    (now : Hearing) : Type 0 where
+  pub done : List Operation
+  pub replies : List Reply
+  pub given_is : given ≡ before ++ replies
+  pub ops_are : map operation_of ops ≡ done ++ map operation_of (drop n ops)
+  pub many : length replies ≡ length done
+  pub many_done : length done ≡ n
+  pub few : n ≤ length ops
+  pub come : HaveCome Does first plans since done replies standing cursor now
+
+pub none_answered : {State A : Type 0} (Does : State → ℕ → Tpdu → State → Type 0)
+    (first : State) (plans : List Course) (since : Hearing) (ops : List (Op A))
+    (before : List Reply) (cursor : Cursor) → cursor.rest ≡ plans
+    → HaveAnswers Does first plans since ops before 0 before first cursor since
+none_answered Does first plans since ops before cursor is = record {
+  done = [];
+  replies = [];
+  given_is = sym (append-nil before);
+  ops_are = refl;
+  many = refl;
+  many_done = refl;
+  few = omega arith;
+  come = none_come Does first plans since cursor is;
+}
+
+-- it is so where nothing has changed
+pub still_answered : {State A : Type 0} (Does : State → ℕ → Tpdu → State → Type 0)
+    (first : State) (plans : List Course) (since : Hearing) (ops : List (Op A))
+    (before : List Reply) (n : ℕ) (given given' : List Reply) (standing standing' : State)
+    (cursor cursor' : Cursor) (now now' : Hearing)
+    → HaveAnswers Does first plans since ops before n given standing cursor now
+    → given' ≡ given → standing' ≡ standing → cursor' ≡ cursor → now' ≡ now
+    → HaveAnswers Does first plans since ops before n given' standing' cursor' now'
+still_answered Does first plans since ops before n given given' standing standing' cursor cursor'
+    now now' have same_given same_standing same_cursor same_now =
+    subst (λ x. HaveAnswers Does first plans since ops before n x standing' cursor' now')
+    (sym same_given)
+    (subst (λ x. HaveAnswers Does first plans since ops before n given x cursor' now')
+    (sym same_standing)
+    (subst (λ x. HaveAnswers Does first plans since ops before n given standing x now')
+    (sym same_cursor)
+    (subst (λ x. HaveAnswers Does first plans since ops before n given standing cursor x)
+    (sym same_now) have)))
+
+-- one more is carried out
+pub one_more_answered : {State A : Type 0} (Does : State → ℕ → Tpdu → State → Type 0)
+    (first mid last : State) (plans : List Course) (since between now : Hearing)
+    (ops : List (Op A)) (before : List Reply) (n : ℕ) (given given' : List Reply)
+    (cursor later : Cursor) (op : Op A) (r : Reply)
+    → HaveAnswers Does first plans since ops before n given mid cursor between
+    → n < length ops → drop n ops ≡ op ∷ drop (n + 1) ops → given' ≡ given ++ r ∷ []
+    → Talked Does mid cursor.rest between last later now (operation_of op) r
+    → HaveAnswers Does first plans since ops before (n + 1) given' last later now
+one_more_answered Does first mid last plans since between now ops before n given given' cursor
+    later op r have lt next given_is talked =
+    let o = operation_of op in
+    let rest = map operation_of (drop (n + 1) ops) in
+    record {
+      done = have.done ++ o ∷ [];
+      replies = have.replies ++ r ∷ [];
+      given_is = given_is ∙ ap (λ l. l ++ r ∷ []) have.given_is
+          ∙ append_assoc before have.replies (r ∷ []);
+      ops_are = have.ops_are ∙ ap (λ l. have.done ++ map operation_of l) next
+          ∙ sym (append_assoc have.done (o ∷ []) rest);
+      many = length-append have.replies (r ∷ []) ∙ ap (λ k. k + 1) have.many
+          ∙ sym (length-append have.done (o ∷ []));
+      many_done = length-append have.done (o ∷ []) ∙ ap (λ k. k + 1) have.many_done;
+      few = omega (arith, lt);
+      come = one_more_comes Does first mid last plans since between now have.done have.replies
+          cursor later o talked.0 r have.come talked.1 talked.2;
+    }
+
+pub has_given : {State A : Type 0} (Does : State → ℕ → Tpdu → State → Type 0) (first : State)
+    (plans : List Course) (since : Hearing) (ops : List (Op A)) (before : List Reply) (n : ℕ)
+    (given : List Reply) (standing : State) (cursor : Cursor) (now : Hearing)
+    → HaveAnswers Does first plans since ops before n given standing cursor now
+    → (given ≡ before ++ new_answers before given) × (length (new_answers before given) ≡ n)
+has_given Does first plans since ops before n given standing cursor now have =
+    let new = new_are before have.replies given have.given_is in (
+      have.given_is ∙ ap (λ l. before ++ l) (sym new),
+      ap length new ∙ have.many ∙ have.many_done,
+    )
+
+carried_here : {State A : Type 0} (Does : State → ℕ → Tpdu → State → Type 0) (first : State)
+    (plans : List Course) (since : Hearing) (ops : List (Op A)) (before : List Reply) (n : ℕ)
+    (given : List Reply) (standing : State) (cursor : Cursor) (now : Hearing)
+    (have : HaveAnswers Does first plans since ops before n given standing cursor now)
+    → carried_out ops (new_answers before given) ≡ have.done
+carried_here Does first plans since ops before n given standing cursor now have =
+    ap (λ l. carried_out ops l) (new_are before have.replies given have.given_is)
+    ∙ carried_are ops have.done (map operation_of (drop n ops)) have.replies have.ops_are
+    have.many
+
+pub has_one_step : {State A : Type 0} (Own : State → ℕ → Tpdu → State → Type 0)
+    (own_reset : State → State) (state_of : State → CardState)
+    → StandsFor Own own_reset state_of → (first standing : State) (old new : CardState)
+    → state_of first ≡ old → state_of standing ≡ new → (plans : List Course)
+    (since : Hearing) (ops : List (Op A)) (before : List Reply) (n : ℕ) (given : List Reply)
+    (cursor : Cursor) (now : Hearing) → IsCardState old → is_idle old.pending ≡ true
+    → HaveAnswers Own first plans since ops before n given standing cursor now
+    → AnswersAll old (carried_out ops (new_answers before given)) (new_answers before given) new
+    × (is_idle new.pending ≡ true) × IsCardState new
+has_one_step Own own_reset state_of stands first standing old new was is plans since ops before n
+    given cursor now sound idle have =
+    let (answers, is_idle_then, is_sound) =
+    have_answers Own own_reset state_of stands first standing old new was is plans since now
+    have.done have.replies cursor sound idle have.come in
+    let same = carried_here Own first plans since ops before n given standing cursor now have in
+    let replies = new_are before have.replies given have.given_is in (
+      subst (λ os. AnswersAll old os (new_answers before given) new) (sym same)
+          (subst (λ rs. AnswersAll old have.done rs new) (sym replies) answers),
+      is_idle_then,
+      is_sound,
+    )
+
+pub has_talk : {State A : Type 0} (Does : State → ℕ → Tpdu → State → Type 0) (first : State)
+    (plans : List Course) (since : Hearing) (ops : List (Op A)) (before : List Reply) (n : ℕ)
+    (given : List Reply) (standing : State) (cursor : Cursor) (now : Hearing)
+    → HaveAnswers Does first plans since ops before n given standing cursor now
+    → (line : List Character)
+    × Talk Does first plans (carried_out ops (new_answers before given))
+    (new_answers before given) standing cursor.rest line × Hears since line now
+has_talk Does first plans since ops before n given standing cursor now have =
+    let same = carried_here Does first plans since ops before n given standing cursor now have in
+    let replies = new_are before have.replies given have.given_is in (
+      have.come.line,
+      subst (λ os. Talk Does first plans os (new_answers before given) standing cursor.rest
+          have.come.line) (sym same)
+          (subst (λ rs. Talk Does first plans have.done rs standing cursor.rest have.come.line)
+          (sym replies) have.come.talk),
+      have.come.hears,
+    )
+
+-- an item of a list, and those after it
+pub next_item : {X : Type 0} (xs : List X) (n : ℕ) (x : X) → n < length xs
+    → x ≡ slice_index_or xs n x → drop n xs ≡ x ∷ drop (n + 1) xs
+next_item [] n x lt is = absurd (omega (arith, lt))
+next_item (y ∷ ys) zero x lt is = ap (λ z. z ∷ ys) (sym is)
+next_item (y ∷ ys) (suc n) x lt is =
+    let e : suc (n + 1) ≡ suc n + 1 = omega arith in
+    subst (λ k. drop n ys ≡ x ∷ drop k (y ∷ ys)) e (next_item ys n x (omega (arith, lt)) is)

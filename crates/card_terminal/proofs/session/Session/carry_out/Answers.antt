@@ -1,0 +1,38 @@
+use Rattle.std.proofs.Common.{[], ◌∷◌, refl, sym, ap, subst}
+use Rattle.object_card.specs.OneStep.{Select, Get}
+use Rattle.card_terminal.specs.Agreed.{IsAgreed}
+use Rattle.card_terminal.specs.Operations.{operation_of}
+use Rattle.card_terminal.proofs.RunLemmas.{agreed_select, agreed_get, keeps_to, talked, talked_as}
+use Rattle.card_terminal.proofs.session.Session.carry_out.Goals as goal
+
+pub send-requires : goal.send-requires
+send-requires g c =
+    let card = g.C.TpduCard in
+    let own = g.met.C.DataCard in
+    subst (λ x. IsAgreed card.MayReceive card.MaySend x) (sym c.select_command.ensures.command)
+    (agreed_select card.MayReceive card.MaySend
+    (keeps_to card.MayReceive card.MaySend own.receives own.sends) c.in-Select.aid
+    c.select_command.ensures.aid)
+
+pub returns-in-Select-clause-talk : goal.returns-in-Select-clause-talk
+returns-in-Select-clause-talk g c =
+    let card = g.C.TpduCard in
+    let hearing = g.W.Watch.hearing in
+    talked_as card.Does _ c.args.plans.now.rest (hearing c.args.watch.now) _ _ _
+    (Select c.in-Select.aid) _ c.send.result (sym (ap operation_of c.in-Select.is))
+    (talked card.Does _ c.args.plans.now.rest (hearing c.args.watch.now) _ _ _
+    (c.select_command.result ∷ []) (Select c.in-Select.aid) c.send.result
+    (c.select_command.ensures.aid, ap (λ x. x ∷ []) c.select_command.ensures.command)
+    c.send.ensures.exchange)
+
+pub returns-in-Get-clause-talk : goal.returns-in-Get-clause-talk
+returns-in-Get-clause-talk g c =
+    let card = g.C.TpduCard in
+    let hearing = g.W.Watch.hearing in
+    let (p1, p2, names, same) = c.get_command.ensures in
+    talked_as card.Does _ c.args.plans.now.rest (hearing c.args.watch.now) _ _ _
+    (Get c.in-Get.tag) _ c.send-in-Get.result (sym (ap operation_of c.in-Get.is))
+    (talked card.Does _ c.args.plans.now.rest (hearing c.args.watch.now) _ _ _
+    (c.get_command.result ∷ []) (Get c.in-Get.tag) c.send-in-Get.result
+    (p1, p2, names, ap (λ x. x ∷ []) same)
+    c.send-in-Get.ensures.exchange)

@@ -1,0 +1,96 @@
+use Rattle.std.proofs.Common.{◌≡◌, refl, sym, ap, subst, ◌∙◌}
+use Rattle.object_card.specs.State.{IsCardState}
+use Rattle.card_terminal.proofs.SessionLemmas.{begins, over_turn}
+use Rattle.card_terminal.proofs.RunLemmas.{never_caused, stays_sound, sound_at, ok_unless, when_ok, done_sends_nothing, over_then, gone_from}
+use Rattle.card_terminal.proofs.session.Session.converse.Goals as goal
+
+pub converse-requires : goal.converse-requires
+converse-requires g c =
+    let card = g.C.TpduCard in
+    let now = g.W.Watch.hearing c.args.watch.now in
+    let (command, agreed, way) = c.requires.begun in (
+      command,
+      card.standing c.self.inside.end.card,
+      c.args.plans.now.rest,
+      now,
+      begins card.Does card.MayReceive card.MaySend c.args.plans.now.rest now command _ _
+          c.self.inside.end.stage c.args.exchange.now c.args.plans.now agreed c.self.invariant way refl,
+    )
+
+pub unwrap-requires : goal.unwrap-requires
+unwrap-requires g c =
+    let card = g.C.TpduCard in
+    let m = g.met.C.DataCard.means in
+    let now = g.W.Watch.hearing c.args.watch.now in
+    let plans = c.args.plans.now in
+    let first = card.standing c.self.inside.end.card in
+    let (command, agreed, way) = c.requires.begun in
+    ok_unless c.converse.result _ _ (c.converse.ensures command first plans.rest now
+    (begins card.Does card.MayReceive card.MaySend plans.rest now command _ _
+    c.self.inside.end.stage c.args.exchange.now plans agreed c.self.invariant way refl))
+    (λ fault. never_caused card.Does card.after_reset m.0 m.2 first _ plans.rest now _ command _
+    fault (sound_at m.0 g.C.DataCard.state card.standing m.1 c.self.inside.end.card
+    c.args.self.now c.self.view_is c.requires.sound))
+
+pub unreachable-requires : goal.unreachable-requires
+unreachable-requires g c =
+    let card = g.C.TpduCard in
+    let now = g.W.Watch.hearing c.args.watch.now in
+    let plans = c.args.plans.now in
+    let first = card.standing c.self.inside.end.card in
+    let (command, agreed, way) = c.requires.begun in
+    let over = when_ok c.converse.result c.unwrap.result _ _ c.unwrap.ensures
+    (c.converse.ensures command first plans.rest now
+    (begins card.Does card.MayReceive card.MaySend plans.rest now command _ _
+    c.self.inside.end.stage c.args.exchange.now plans agreed c.self.invariant way refl)) in
+    c.in_default.not-Done over.status (c.next.ensures.turn
+    ∙ over_turn command c.converse.new.exchange over.units over.status over.terminal)
+
+pub invariant_of-self : goal.invariant_of-self
+invariant_of-self g c =
+    let card = g.C.TpduCard in
+    let now = g.W.Watch.hearing c.args.watch.now in
+    let plans = c.args.plans.now in
+    let first = card.standing c.self.inside.end.card in
+    let (command, agreed, way) = c.requires.begun in
+    let over = when_ok c.converse.result c.unwrap.result _ _ c.unwrap.ensures
+    (c.converse.ensures command first plans.rest now
+    (begins card.Does card.MayReceive card.MaySend plans.rest now command _ _
+    c.self.inside.end.stage c.args.exchange.now plans agreed c.self.invariant way refl)) in
+    over.at_rest
+
+pub returns-clause-over : goal.returns-clause-over
+returns-clause-over g c = λ command agreed way.
+    let card = g.C.TpduCard in
+    let now = g.W.Watch.hearing c.args.watch.now in
+    let plans = c.args.plans.now in
+    let first = card.standing c.self.inside.end.card in
+    let over = when_ok c.converse.result c.unwrap.result _ _ c.unwrap.ensures
+    (c.converse.ensures command first plans.rest now
+    (begins card.Does card.MayReceive card.MaySend plans.rest now command _ _
+    c.self.inside.end.stage c.args.exchange.now plans agreed c.self.invariant way refl)) in (
+      over.units,
+      over_then command c.converse.new.exchange c.next.new.self over.units over.status
+          c.in-Done.status over.terminal
+          (c.in-Done.ensures.stays (λ byte. done_sends_nothing c.in-Done.status byte))
+          c.in-Done.ensures.turn,
+      gone_from card.Does first (card.standing c.args.self.now) plans.rest now _ _ _ _
+          (ap card.standing c.self.view_is) over.gone,
+    )
+
+pub returns-clause-sound : goal.returns-clause-sound
+returns-clause-sound g c =
+    let card = g.C.TpduCard in
+    let m = g.met.C.DataCard.means in
+    let now = g.W.Watch.hearing c.args.watch.now in
+    let plans = c.args.plans.now in
+    let first = card.standing c.self.inside.end.card in
+    let (command, agreed, way) = c.requires.begun in
+    let over = when_ok c.converse.result c.unwrap.result _ _ c.unwrap.ensures
+    (c.converse.ensures command first plans.rest now
+    (begins card.Does card.MayReceive card.MaySend plans.rest now command _ _
+    c.self.inside.end.stage c.args.exchange.now plans agreed c.self.invariant way refl)) in
+    subst IsCardState (m.1 c.converse.new.end.card)
+    (stays_sound card.Does card.after_reset m.0 m.2 first _ plans.rest now _ _ _
+    (sound_at m.0 g.C.DataCard.state card.standing m.1 c.self.inside.end.card c.args.self.now
+    c.self.view_is c.requires.sound) over.gone)

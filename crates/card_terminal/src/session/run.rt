@@ -1,0 +1,250 @@
+//! Operations, carried out with a card of data objects.
+ghost use Rattle.std.specs.Prelude.{◌≡◌, ℕ, ◌<◌, ◌++◌, List, [], ◌∷◌, None, length, true, MatchResult, OnErr, IfOk};
+ghost use Rattle.std.specs.List.{AllByRecursion, flat_map};
+ghost use Rattle.apdu_core.specs.CommandBytes as spec;
+ghost use Rattle.tlv_core.specs.Address.{NamesTag};
+ghost use Rattle.t0_core.specs.Character.{Character};
+ghost use Rattle.t0_core.specs.Front.{fresh};
+ghost use Rattle.t0_core.specs.Watch.{Hears};
+ghost use Rattle.object_card.specs.Tables.{IsAid};
+ghost use Rattle.object_card.specs.State.{IsCardState, is_idle};
+ghost use Rattle.object_card.specs.OneStep.{Put, AnswersAll};
+ghost use Rattle.card_terminal.specs.declared.session_fault.SessionFault.TheVariants.{OutOfMemory};
+ghost use Rattle.card_terminal.specs.Gathered.{UnitOf, dialogues_of};
+ghost use Rattle.card_terminal.specs.Agreed.{IsAgreed};
+ghost use Rattle.card_terminal.specs.ExchangeSide.{UnderWay, IsOver};
+ghost use Rattle.card_terminal.specs.Talk.{AreExchangesOf, IsTalkOf, Talk, talk_dialogues};
+ghost use Rattle.card_terminal.specs.Talk as talk;
+ghost use Rattle.card_terminal.specs.Operations.{operation_of};
+ghost use Rattle.card_terminal.specs.Conversing.{HaveGone};
+ghost use Rattle.card_terminal.specs.Running.{new_answers, carried_out};
+
+use super::{Session, converse};
+use crate::answer::Answer;
+use crate::answers::Answers;
+use crate::exchange::Exchange;
+use crate::operation::Op;
+use crate::session_fault::SessionFault;
+use apdu_core::{Command, Header, Pieces, Status, pieces};
+use object_card::{Aid, DataCard};
+use std::alloc::{AllocError, Allocator};
+use t0_core::{HostTurn, Plans, Watch};
+use tlv_core::ObjectTag;
+
+impl<C: DataCard> Session<C> {
+    /// Whether no chain is pending at the card: `run` may be called.
+    pub fn is_idle(&self) -> bool
+        ensures idle { result ≡ is_idle (C.state self.now).pending }
+        ensures sound { IsCardState (C.state self.now) }
+    {
+        self.end.card().is_idle()
+    }
+
+    /// Carries out the operations in turn, and appends an answer for each to `out`.
+    ///
+    /// The only fault is `OutOfMemory`, before the first character of an operation, which is not
+    /// begun. Those before it stand, with their answers, and no chain is pending.
+    pub fn run<A: Allocator + Copy, B: Allocator, V: Allocator, W: Watch>(
+        &mut self,
+        alloc: A,
+        ops: &[Op<V>],
+        plans: &mut Plans<B>,
+        watch: &mut W,
+        out: &mut Answers<A>,
+    ) -> Result<(), SessionFault>
+        requires { is_idle (C.state self.old).pending ≡ true }
+
+        // Each operation has its answer, after those that were there; or the memory for one is
+        // wanting, and then it and those after it have none.
+        ensures answered { let answers = new_answers out.old.given out.new.given in
+            (out.new.given ≡ out.old.given ++ answers)
+            × MatchResult result (λ _. length answers ≡ length ops.now)
+            (λ fault. (fault ≡ OutOfMemory) × (length answers < length ops.now)) }
+
+        // The answers and the tables are those of the card that answers each in one step.
+        ensures one_step { let answers = new_answers out.old.given out.new.given in
+            AnswersAll (C.state self.old) (carried_out ops.now answers) answers
+            (C.state self.new) }
+
+        // What the watch heard is a talk of these operations under the plans that were left, with
+        // these answers and states; the cursor stands past the plans used.
+        ensures talk { let answers = new_answers out.old.given out.new.given in
+            (line : List Character)
+            × Talk C.Does (C.standing self.old) plans.old.rest (carried_out ops.now answers)
+            answers (C.standing self.new) plans.new.rest line
+            × Hears (W.hearing watch.old) line (W.hearing watch.new) }
+        ensures idle { is_idle (C.state self.new).pending ≡ true }
+    {
+        let idle = self.is_idle();
+        prove!(idle);
+        for op in ops {
+            out.make_room()?;
+            let answer = self.carry_out(alloc, op, plans, watch)?;
+            out.append(answer);
+        }
+        Ok(())
+    }
+
+    /// Carries out a command that is agreed with the card, as `transmit` does. A card of data
+    /// objects neither stalls nor brings more than there is room for, so the only error is want of
+    /// memory, before the first character, and then nothing has changed.
+    pub fn send<A: Allocator, B: Allocator, W: Watch>(
+        &mut self,
+        alloc: A,
+        command: Command,
+        plans: &mut Plans<B>,
+        watch: &mut W,
+    ) -> Result<Answer<A>, AllocError>
+        requires { IsAgreed C.MayReceive C.MaySend command }
+        ensures memory { OnErr result ((self.new ≡ self.old) × (plans.new ≡ plans.old)
+            × (W.hearing watch.new ≡ W.hearing watch.old)) }
+        ensures exchange { IfOk result (λ answer. (exchanges : List (List UnitOf))
+            × AreExchangesOf (command.entry ∷ []) exchanges answer
+            × HaveGone C.Does (C.standing self.old) plans.old.rest (W.hearing watch.old)
+            (talk_dialogues exchanges) (C.standing self.new) plans.new (W.hearing watch.new)) }
+    {
+        let _is_sound = self.is_idle();
+        let mut exchange = Exchange::start(alloc, command)?;
+        self.converse(&mut exchange, plans, watch);
+        Ok(exchange.into_answer().unwrap())
+    }
+
+    /// Carries out one operation. Its error is want of memory, and then nothing has changed.
+    fn carry_out<A: Allocator, B: Allocator, V: Allocator, W: Watch>(
+        &mut self,
+        alloc: A,
+        op: &Op<V>,
+        plans: &mut Plans<B>,
+        watch: &mut W,
+    ) -> Result<Answer<A>, AllocError>
+        requires { IsCardState (C.state self.old) }
+        ensures memory { OnErr result ((self.new ≡ self.old) × (plans.new ≡ plans.old)
+            × (W.hearing watch.new ≡ W.hearing watch.old)) }
+        ensures talk { IfOk result (λ answer. (exchanges : List (List UnitOf))
+            × IsTalkOf (operation_of op.now) exchanges answer
+            × HaveGone C.Does (C.standing self.old) plans.old.rest (W.hearing watch.old)
+            (talk_dialogues exchanges) (C.standing self.new) plans.new (W.hearing watch.new)) }
+    {
+        match op {
+            Op::Select(aid) => self.send(alloc, select_command(aid), plans, watch),
+            Op::Get(tag) => self.send(alloc, get_command(*tag), plans, watch),
+            Op::Put(tag, value) => self.put(alloc, *tag, value.bytes(), plans, watch),
+        }
+    }
+
+    /// Puts a value under a tag. Its error is want of memory, and then nothing has changed.
+    fn put<A: Allocator, B: Allocator, W: Watch>(
+        &mut self,
+        alloc: A,
+        tag: ObjectTag,
+        value: &[u8],
+        plans: &mut Plans<B>,
+        watch: &mut W,
+    ) -> Result<Answer<A>, AllocError>
+        requires { IsCardState (C.state self.old) }
+        ensures memory { OnErr result ((self.new ≡ self.old) × (plans.new ≡ plans.old)
+            × (W.hearing watch.new ≡ W.hearing watch.old)) }
+        ensures talk { IfOk result (λ answer. (exchanges : List (List UnitOf))
+            × IsTalkOf (Put tag value.now) exchanges answer
+            × HaveGone C.Does (C.standing self.old) plans.old.rest (W.hearing watch.old)
+            (talk_dialogues exchanges) (C.standing self.new) plans.new (W.hearing watch.new)) }
+    {
+        let (p1, p2) = tag.p1p2();
+        let header = Header {
+            cla: 0x00,
+            ins: 0xDA,
+            p1,
+            p2,
+        };
+        let mut commands = pieces(header, value);
+        let Some(first) = commands.next() else {
+            unreachable!()
+        };
+        self.chain(alloc, first, commands, plans, watch)
+    }
+
+    /// Carries out a command and those after it, up to the first that is answered with another
+    /// status than `9000`, all in one room. Its error is want of memory, and then nothing has
+    /// changed.
+    fn chain<'v, A: Allocator, B: Allocator, W: Watch>(
+        &mut self,
+        alloc: A,
+        first: Command<'v>,
+        others: Pieces<'v>,
+        plans: &mut Plans<B>,
+        watch: &mut W,
+    ) -> Result<Answer<A>, AllocError>
+        requires sound { IsCardState (C.state self.old) }
+        requires agreed { IsAgreed C.MayReceive C.MaySend first
+            × AllByRecursion (λ c. IsAgreed C.MayReceive C.MaySend c) others }
+        ensures memory { OnErr result ((self.new ≡ self.old) × (plans.new ≡ plans.old)
+            × (W.hearing watch.new ≡ W.hearing watch.old)) }
+        ensures exchanges { IfOk result (λ answer. (exchanges : List (List UnitOf))
+            × AreExchangesOf (first.entry ∷ others.entry) exchanges answer
+            × HaveGone C.Does (C.standing self.old) plans.old.rest (W.hearing watch.old)
+            (talk_dialogues exchanges) (C.standing self.new) plans.new (W.hearing watch.new)) }
+    {
+        let mut exchange = Exchange::start(alloc, first)?;
+        let mut status = self.converse(&mut exchange, plans, watch);
+        'pieces: for command in others {
+            if !status.is_ok() {
+                break;
+            }
+            exchange = exchange.again(command);
+            status = self.converse(&mut exchange, plans, watch);
+        }
+        Ok(exchange.into_answer().unwrap())
+    }
+
+    /// Passes the characters of an exchange that is begun until it is over, and answers its status.
+    fn converse<A: Allocator, B: Allocator, W: Watch>(
+        &mut self,
+        exchange: &mut Exchange<'_, A>,
+        plans: &mut Plans<B>,
+        watch: &mut W,
+    ) -> Status
+        requires sound { IsCardState (C.state self.old) }
+        requires begun { (c : spec.Command) × IsAgreed C.MayReceive C.MaySend c
+            × UnderWay c exchange.old [] None fresh }
+        ensures over { (c : spec.Command) → IsAgreed C.MayReceive C.MaySend c →
+            UnderWay c exchange.old [] None fresh →
+            (units : List UnitOf) × IsOver c exchange.new units result
+            × HaveGone C.Does (C.standing self.old) plans.old.rest (W.hearing watch.old)
+            (flat_map dialogues_of units) (C.standing self.new) plans.new (W.hearing watch.new) }
+        ensures sound { IsCardState (C.state self.new) }
+    {
+        converse(exchange, &mut self.end, plans, watch).unwrap();
+        let HostTurn::Done(status) = exchange.next() else {
+            unreachable!()
+        };
+        status
+    }
+}
+
+/// SELECT by identifier, with Le `00` (ISO/IEC 7816-4, SELECT).
+fn select_command(aid: &Aid) -> Command<'_>
+    ensures command { result ≡ talk.select_command aid.now }
+    ensures aid { IsAid aid.now }
+{
+    let header = Header {
+        cla: 0x00,
+        ins: 0xA4,
+        p1: 0x04,
+        p2: 0x00,
+    };
+    Command::new(header, aid.bytes(), Some(256)).unwrap()
+}
+
+/// GET DATA of a tag, with Le `00` (ISO/IEC 7816-4, GET DATA).
+fn get_command(tag: ObjectTag) -> Command<'static>
+    ensures { (p1 p2 : ℕ) × NamesTag tag p1 p2 × (result ≡ talk.get_command p1 p2) }
+{
+    let (p1, p2) = tag.p1p2();
+    let header = Header {
+        cla: 0x00,
+        ins: 0xCA,
+        p1,
+        p2,
+    };
+    Command::new(header, &[], Some(256)).unwrap()
+}

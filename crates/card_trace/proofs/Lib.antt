@@ -1,6 +1,14 @@
-pub mod FirstCardLemmas
-pub mod ExchangeLemmas
-pub mod ConversingLemmas
-pub mod GetLemmas
 pub mod TraceLemmas
-mod Vectors
+pub mod TableLemmas
+pub mod ObjectsLemmas
+pub mod CommandLineLemmas
+pub mod ScriptWordLemmas
+pub mod ScriptFieldLemmas
+pub mod ScriptKeywordLemmas
+pub mod ScriptRefusalLemmas
+pub mod ScriptTableLemmas
+pub mod ScriptPlayLemmas
+pub mod ScriptCardLemmas
+mod TextVectors
+mod PlayLemmas
+mod CardLemmas

@@ -7,7 +7,8 @@ use Rattle.hex.specs.Hex.{encode_upper, encode_with}
 use Rattle.t0_core.specs.declared.end.End.{End}
 use Rattle.t0_core.specs.declared.end.End.TheVariants.{Terminal, Card}
 use Rattle.t0_core.specs.Character.{Character}
-use Rattle.card_trace.specs.TraceText.{is_same, RunOf, joined, runs_of, newline, sign, line_of, characters_text}
+use Rattle.card_trace.specs.LineText.{newline}
+use Rattle.card_trace.specs.TraceText.{is_same, RunOf, joined, runs_of, sign, line_of, characters_text}
 use Rattle.card_trace.specs.LineBreaks.{break_before, break_after}
 
 -- the digits of a byte and of those behind it

@@ -2,7 +2,8 @@
 use Rattle.std.specs.Prelude.{ℕ, List, [], ◌++◌, Option, Some, None}
 use Rattle.t0_core.specs.declared.end.End.{End}
 use Rattle.t0_core.specs.declared.end.End.TheVariants.{Terminal, Card}
-use Rattle.card_trace.specs.TraceText.{newline, sign}
+use Rattle.card_trace.specs.LineText.{newline}
+use Rattle.card_trace.specs.TraceText.{sign}
 
 abbrev pub break_before : Option End → End → List ℕ
 break_before None from = sign from

@@ -1,32 +1,29 @@
-ghost use Rattle.std.specs.Prelude.{◌≡◌};
-ghost use Rattle.card_trace.specs.FaultText.{fault_text};
-
+use crate::script::reason::Reason;
 use std::alloc::AllocError;
 use thiserror::Error;
 
-/// Why a trace was not written.
-#[derive(Debug, Drop, Error)]
-#[error("{}", self.text())]
+/// Why a script was not carried out to its end.
+#[derive(Debug, Drop, PartialEq, Eq, Error)]
 pub enum PlayFault {
+    /// A line, counted from 1, is refused; those before it were carried out.
+    #[error("line {line}: {reason}")]
+    Script { line: usize, reason: Reason },
+    /// The reader failed; nothing was written.
+    #[error("read fault")]
+    Read,
     /// The writer failed; how much it took is not known.
+    #[error("write fault")]
     Write,
-    /// Memory was wanting; nothing was written.
+    /// The script has more bytes than a script may have; nothing was written.
+    #[error("input too long")]
+    InputTooLong,
+    /// Memory was wanting; what lines before wrote stands.
+    #[error("out of memory")]
     OutOfMemory,
 }
 
-impl PlayFault {
-    /// What is told of the fault, without a line end.
-    pub fn text(&self) -> &'static str
-        ensures { result.now ≡ fault_text self.now }
-    {
-        match self {
-            PlayFault::Write => "write fault",
-            PlayFault::OutOfMemory => "out of memory",
-        }
-    }
-}
-
 impl From<AllocError> for PlayFault {
+    ghost use Rattle.std.specs.Prelude.{◌≡◌};
     ghost use Rattle.card_trace.specs.declared.play_fault.PlayFault.TheVariants.{OutOfMemory};
 
     ghost from_gives = { λ _ fault. fault ≡ OutOfMemory };

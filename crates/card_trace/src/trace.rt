@@ -1,24 +1,39 @@
+//! The text of operations.
 ghost use Rattle.std.specs.Prelude.{◌≡◌, ◌++◌, OnOk, IfOk};
-ghost use Rattle.hex.specs.Hex.{encode_upper};
-ghost use Rattle.card_trace.specs.TraceText.{characters_text, answer_text, trace_text};
-ghost use Rattle.card_trace.specs.LineBreaks.{break_before, break_after};
+ghost use Rattle.card_trace.specs.TraceText.{spaced, characters_text, answer_text, operation_text as text_of_operation, handed_out_text as text_handed_out};
+ghost use Rattle.card_trace.specs.LineBreaks.{break_before};
 
-use crate::answer::Answer;
+use crate::text::push_hex;
+use card_terminal::Answer;
 use std::alloc::{AllocError, Allocator};
 use t0_core::End;
 
-/// The trace of these characters and this answer: a line for each longest run of characters from one
-/// end, `> ` and `< ` before its bytes, and a line `= ` for the answer.
-pub fn trace<A: Allocator + Copy, B: Allocator>(
+/// The lines of an operation: one for each longest run of characters from one end, `> ` and `< `
+/// before its bytes, and `= ` with status and data. The error is want of memory.
+pub fn operation_text<A: Allocator + Copy, B: Allocator>(
     alloc: A,
     heard: &[(End, u8)],
     answer: &Answer<B>,
 ) -> Result<Vec<u8, A>, AllocError>
-    ensures { IfOk result (λ text. text.items ≡ trace_text heard.now answer.now) }
+    ensures { IfOk result (λ text. text.items ≡ text_of_operation heard.now answer.now) }
 {
     let mut text = Vec::new(alloc);
     push_characters(alloc, &mut text, heard)?;
     push_answer(alloc, &mut text, answer)?;
+    Ok(text)
+}
+
+/// The line of characters that a card's end hands out, `<` alone where there are none. The error is
+/// want of memory.
+pub fn handed_out_text<A: Allocator + Copy>(
+    alloc: A,
+    characters: &[u8],
+) -> Result<Vec<u8, A>, AllocError>
+    ensures { IfOk result (λ text. text.items ≡ text_handed_out characters.now) }
+{
+    let mut text = Vec::from_slice(alloc, b"<")?;
+    push_spaced(alloc, &mut text, characters)?;
+    text.push(b'\n')?;
     Ok(text)
 }
 
@@ -66,18 +81,21 @@ fn push_answer<A: Allocator + Copy, B: Allocator>(
     let status = answer.status();
     text.extend_from_slice(b"= ")?;
     push_hex(alloc, text, &[status.sw1(), status.sw2()])?;
-    let data = answer.data();
-    if !data.is_empty() {
-        text.extend_from_slice(b" ")?;
-        push_hex(alloc, text, data)?;
-    }
+    push_spaced(alloc, text, answer.data())?;
     text.extend_from_slice(b"\n")
 }
 
-/// Adds bytes as hexadecimal digits in upper case.
-fn push_hex<A: Allocator>(alloc: A, text: &mut Vec<u8, A>, bytes: &[u8]) -> Result<(), AllocError>
-    ensures { OnOk result (text.new.items ≡ text.old.items ++ encode_upper bytes.now) }
+/// Adds a space and the bytes, where there are any.
+fn push_spaced<A: Allocator + Copy>(
+    alloc: A,
+    text: &mut Vec<u8, A>,
+    bytes: &[u8],
+) -> Result<(), AllocError>
+    ensures { OnOk result (text.new.items ≡ text.old.items ++ spaced bytes.now) }
 {
-    let digits = hex::encode_upper(alloc, bytes)?;
-    text.extend_from_slice(digits.as_bytes())
+    if bytes.is_empty() {
+        return Ok(());
+    }
+    text.push(b' ')?;
+    push_hex(alloc, text, bytes)
 }

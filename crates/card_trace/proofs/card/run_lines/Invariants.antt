@@ -1,0 +1,9 @@
+use Rattle.card_trace.specs.CardScripts.{Writes}
+use Rattle.card_trace.proofs.CardLemmas.{GoesThrough}
+use Rattle.card_trace.proofs.card.run_lines.Given as goal
+
+-- what is written is that of the lines so far
+abbrev pub invariant-loop-line : goal.invariant-loop-line
+invariant-loop-line g l =
+    Writes (GoesThrough l.initial.line-iterator l.line-iterator) l.initial.end l.end
+    (g.W.Write.contents l.initial.writer) (g.W.Write.contents l.writer)

@@ -1,0 +1,27 @@
+use Rattle.std.proofs.Common.{refl, sym, ap, ◌∙◌}
+use Rattle.t0_core.specs.Plan.{Cursor}
+use Rattle.card_trace.proofs.PlayLemmas.{then_ok, was_busy, ran}
+use Rattle.card_trace.proofs.player.Running.operate.Goals as goal
+
+pub returns-then-not-is_idle : goal.returns-then-not-is_idle
+returns-then-not-is_idle g c =
+    then_ok c.write_fixed.result _ _ c.write_fixed.ensures.written (λ adds. (
+      _,
+      adds,
+      was_busy _ _ _ _ (sym c.is_idle.ensures.idle ∙ c.if-not-is_idle.true) c.clear.ensures.items,
+    ))
+
+pub returns : goal.returns
+returns g c =
+    then_ok c.write_first.result _ _ c.write_first.ensures (λ wrote. (
+      _,
+      wrote.3,
+      ran c.args.self.now.session.state c.run.new.self.state c.args.self.now.plans.items
+          c.over-cursor.result.rest _ c.clear-in-Ok.new.self.items c.args.op
+          c.deref-2.result.now c.new-answers.result.given _ wrote.0 c.new-recorder.result _
+          (c.deref-2.ensures.value ∙ c.in_ok-ops.ensures)
+          (ap (λ (p : Cursor). p.rest) c.over-cursor.ensures ∙ c.deref.ensures.value)
+          c.new-answers.ensures c.clear-in-Ok.ensures.items c.new-recorder.ensures
+          (sym c.is_idle.ensures.idle ∙ c.if-not-is_idle.false) c.in-Ok.ensures.answered.1
+          wrote.1 c.in-Ok.ensures.talk wrote.2,
+    ))

@@ -1,0 +1,92 @@
+-- The command line, as `clap` reads it: the command with its subcommands, and what is asked for.
+use Rattle.std.specs.Prelude.{◌≡◌, ◌≢◌, ℕ, List, [], ◌∷◌, codes, Option, Some, None, true, if◌then◌else◌, unwrap_or, Ok, ◌⊎◌}
+use Rattle.std.specs.Str.{bytes_eq}
+use Rattle.std.specs.Io.KnownBytes.{Appends}
+use Rattle.hex.specs.Hex.{decode_of}
+use Rattle.clap.specs.Walk.{Text, Row, Rule, first_of}
+use Rattle.clap.specs.Simple.{App, Shape, new_app, new_rule, new_shape, on_top, with_subcommand}
+use Rattle.clap.specs.Kinds.{Kinds, IsAmong}
+use Rattle.clap.specs.declared.error.kind.ErrorKind.{ErrorKind}
+use Rattle.clap.specs.declared.error.kind.ErrorKind.TheVariants as kind
+use Rattle.tlv_core.specs.Spelling.{Forest, Spells}
+use Rattle.card_trace.specs.ForestText.{forest_text}
+use Rattle.card_trace.specs.Scripts.{PlayWrites}
+use Rattle.card_trace.specs.CardScripts.{CardWrites}
+use Rattle.card_trace.specs.declared.command_line.Request.{Request}
+use Rattle.card_trace.specs.declared.command_line.Request.TheVariants as request
+
+-- the argument of `objects`, which is required
+abbrev pub hex_rule : Rule
+hex_rule = record (new_rule (codes "HEX")) { required = true }
+
+abbrev pub play_shape : Shape
+play_shape = new_shape (codes "play")
+
+abbrev pub card_shape : Shape
+card_shape = new_shape (codes "card")
+
+abbrev pub objects_shape : Shape
+objects_shape = record (new_shape (codes "objects")) { rules = hex_rule ∷ [] }
+
+-- a command of which a subcommand is required
+abbrev pub program : App
+program = with_subcommand (with_subcommand
+    (with_subcommand (on_top (λ s. record s { subcommand_required = true })
+    (new_app (codes "card_trace"))) play_shape) card_shape) objects_shape
+
+-- what can be asked for
+pub data Asked : Type 0 where
+  Play : Asked
+  Card : Asked
+  Objects : (digits : List ℕ) → Asked
+
+-- what the subcommand of this name asks for, with these digits
+abbrev pub request_named : Text → Text → Option Asked
+request_named name digits =
+    if bytes_eq name (codes "play") then Some Play
+    else if bytes_eq name (codes "card") then Some Card
+    else if bytes_eq name (codes "objects") then Some (Objects digits)
+    else None
+
+-- what a subcommand with its matches asks for
+abbrev pub request_in : Option (Text × List Row) → Option Asked
+request_in None = None
+request_in (Some found) = request_named found.0 (unwrap_or (first_of (codes "HEX") found.1) [])
+
+abbrev pub asked_by : Request → Asked
+asked_by request.Play = Play
+asked_by request.Card = Card
+asked_by (request.Objects digits) = Objects digits.now
+
+-- the tree of the bytes that the digits spell, at least one, is written
+pub record PrintsTree (digits : List ℕ) (old new : Option (List ℕ)) : Type 0 where
+  pub bytes : List ℕ
+  pub forest : Forest
+  pub some_digits : digits ≢ []
+  pub spelled : decode_of digits ≡ Ok bytes
+  pub objects : Spells forest bytes 1
+  pub written : Appends old new (forest_text forest)
+
+-- what is written for a script or for digits, where no fault comes up
+abbrev pub Does : Asked → Option (List ℕ) → Option (List ℕ) → Option (List ℕ) → Type 0
+Does Play script old new = PlayWrites script old new
+Does Card script old new = CardWrites script old new
+Does (Objects digits) script old new = PrintsTree digits old new
+
+-- what is asked for by a subcommand with its matches is done
+abbrev pub Runs : Option (Text × List Row) → Option (List ℕ) → Option (List ℕ) → Option (List ℕ)
+    → Type 0
+Runs found script old new = (asked : Asked) × (request_in found ≡ Some asked)
+    × Does asked script old new
+
+-- a call for help or for the version
+abbrev pub IsCall : ErrorKind → Type 0
+IsCall k = (k ≡ kind.DisplayHelp) ⊎ (k ≡ kind.DisplayVersion)
+
+-- the words are a call for help
+abbrev pub AreCall : Kinds → Type 0
+AreCall kinds = (k : ErrorKind) × IsAmong k kinds × IsCall k
+
+-- the words are refused for a mistake in them
+abbrev pub AreRefused : Kinds → Type 0
+AreRefused kinds = (k : ErrorKind) × IsAmong k kinds × ¬ IsCall k × (k ≢ kind.OutOfMemory)

@@ -1,0 +1,56 @@
+-- What the lines of a script say that both programs have.
+use Rattle.std.specs.Prelude.{◌≡◌, ℕ, List, [], ◌∷◌, Bool, false}
+use Rattle.t0_core.specs.Plan.{Course}
+use Rattle.card_trace.specs.declared.script.keyword.TableWord.{TableWord}
+use Rattle.card_trace.specs.declared.script.keyword.TableWord.TheVariants as word
+use Rattle.card_trace.specs.declared.script.section.Section.{Section}
+use Rattle.card_trace.specs.declared.script.section.Section.TheVariants as section
+use Rattle.card_trace.specs.declared.script.table_line.TableLine.{TableLine}
+use Rattle.card_trace.specs.declared.script.table_line.TableLine.TheVariants as line
+use Rattle.card_trace.specs.ScriptFields.{IsAidText, IsTagText, IsValueText, IsPlanText}
+
+-- what a table line adds: an application, or an entry of the last one
+pub data Addition : Type 0 where
+  App : (aid : List ℕ) → Addition
+  Object : (tag value : List ℕ) → Addition
+  Locked : (tag value : List ℕ) → Addition
+
+abbrev pub addition_of : {A : Type 0} → TableLine A → Addition
+addition_of (line.App aid) = App aid
+addition_of (line.Object tag value) = Object tag value
+addition_of (line.Locked tag value) = Locked tag value
+
+-- one field, of which this is known
+abbrev pub OneField : List (List ℕ) → (List ℕ → Type 0) → Type 0
+OneField fields P = (text : List ℕ) × (fields ≡ text ∷ []) × P text
+
+-- TAG and VALUE
+pub record AreEntryFields (fields : List (List ℕ)) (tag value : List ℕ) : Type 0 where
+  pub tag_text : List ℕ
+  pub value_text : List ℕ
+  pub two : fields ≡ tag_text ∷ value_text ∷ []
+  pub is_tag : IsTagText tag_text tag
+  pub is_value : IsValueText value_text value
+
+-- STEPS and CUT
+pub record ArePlanFields (fields : List (List ℕ)) (plan : Course) : Type 0 where
+  pub steps_text : List ℕ
+  pub cut_text : List ℕ
+  pub two : fields ≡ steps_text ∷ cut_text ∷ []
+  pub is_plan : IsPlanText steps_text cut_text plan
+
+-- the word of the line that adds this, and its fields
+abbrev pub table_word : Addition → TableWord
+table_word (App aid) = word.App
+table_word (Object tag value) = word.Object
+table_word (Locked tag value) = word.Locked
+
+abbrev pub AreTableFields : Addition → List (List ℕ) → Type 0
+AreTableFields (App aid) fields = OneField fields (λ text. IsAidText text aid)
+AreTableFields (Object tag value) fields = AreEntryFields fields tag value
+AreTableFields (Locked tag value) fields = AreEntryFields fields tag value
+
+-- whether a line may stand in a section: behind the first run line no table line stands
+abbrev pub MayStandIn : Section → Bool → Type 0
+MayStandIn section.Table is_table_line = Unit {0}
+MayStandIn section.Run is_table_line = is_table_line ≡ false

@@ -1,0 +1,115 @@
+-- What a script of `play` stands for: its lines are carried out in order, and print text.
+use Rattle.std.specs.Prelude.{◌≡◌, ◌⊎◌, ℕ, List, [], ◌∷◌, ◌++◌, Option, IfSome, true, false}
+use Rattle.std.specs.List.{AllByRecursion, flat_map}
+use Rattle.std.specs.Str.Lines.{lines}
+use Rattle.std.specs.Io.KnownBytes.{Appends}
+use Rattle.apdu_core.specs.CommandBytes.{Command, IsCommand, command_bytes}
+use Rattle.t0_core.specs.Character.{Character}
+use Rattle.t0_core.specs.Dialogue.{IsDialogue, characters}
+use Rattle.t0_core.specs.Meaning.{Runs}
+use Rattle.t0_core.specs.Plan.{Course, FollowInTurn}
+use Rattle.object_card.specs.Tables.{Application}
+use Rattle.object_card.specs.State.{CardState, is_idle, after_reset}
+use Rattle.object_card.specs.OneStep.{Operation, Reply}
+use Rattle.object_card.specs.CardMeaning.{Does}
+use Rattle.object_card.specs.Builder.{TakesApplication, TakesObject, with_application, with_last_entry, new_card}
+use Rattle.card_terminal.specs.Gathered.{UnitOf}
+use Rattle.card_terminal.specs.Talk.{AreExchangesOf, Talk, talk_dialogues}
+use Rattle.card_trace.specs.declared.fixed_line.FixedLine.TheVariants as fixed
+use Rattle.card_trace.specs.declared.script.section.Section.{Section}
+use Rattle.card_trace.specs.declared.script.section.Section.TheVariants as section
+use Rattle.card_trace.specs.FixedText.{fixed_text}
+use Rattle.card_trace.specs.TableText.{table_text}
+use Rattle.card_trace.specs.TraceText.{operation_text}
+use Rattle.card_trace.specs.ScriptWords.{words_of}
+use Rattle.card_trace.specs.ScriptTable.{Addition, App, Object, Locked}
+use Rattle.card_trace.specs.ScriptPlay.{PlayMeaning, Adds, Plan, Run, Send, Reset, Table, IsPlayLine}
+
+-- Before the first run line there are the tables of the card that is built, and from then on the
+-- card, and the plans since the last operation.
+pub data PlayState : Type 0 where
+  Building : (tables : List Application) → PlayState
+  Running : (card : CardState) (plans : List Course) → PlayState
+
+abbrev pub section_of : PlayState → Section
+section_of (Building tables) = section.Table
+section_of (Running card plans) = section.Run
+
+-- the card that runs, at the first run line that which has been built
+abbrev pub card_in : PlayState → CardState
+card_in (Building tables) = (new_card tables).state
+card_in (Running card plans) = card
+
+abbrev pub plans_in : PlayState → List Course
+plans_in (Building tables) = []
+plans_in (Running card plans) = plans
+
+-- the tables with what a table line adds, which they can take
+abbrev pub IsAdded : List Application → Addition → List Application → Type 0
+IsAdded old (App aid) new = TakesApplication aid old × (new ≡ with_application aid old)
+IsAdded old (Object tag value) new =
+    TakesObject tag value old × (new ≡ with_last_entry tag value false old)
+IsAdded old (Locked tag value) new =
+    TakesObject tag value old × (new ≡ with_last_entry tag value true old)
+
+-- An operation: its talk with the card under the plans, and its answer. A card with a chain pending
+-- is sent nothing. Either way the plans are gone.
+pub data IsRun (card : CardState) (plans : List Course) (operation : Operation)
+    : List ℕ → PlayState → Type 0 where
+  talks : (reply : Reply) (after : CardState) (left : List Course) (line : List Character)
+      → is_idle card.pending ≡ true
+      → Talk Does card plans (operation ∷ []) (reply ∷ []) after left line
+      → IsRun card plans operation (operation_text line reply) (Running after [])
+  is_busy : is_idle card.pending ≡ false
+      → IsRun card plans operation (fixed_text fixed.CardBusy) (Running card [])
+
+-- one command alone: its exchange with the card under the plans, and its answer
+pub record IsSent (card : CardState) (plans : List Course) (bytes text : List ℕ)
+    (new : PlayState) : Type 0 where
+  pub command : Command
+  pub is_command : IsCommand command
+  pub bytes_are : bytes ≡ command_bytes command
+  pub exchanges : List (List UnitOf)
+  pub reply : Reply
+  pub are_exchanges : AreExchangesOf (command ∷ []) exchanges reply
+  pub after : CardState
+  pub are_dialogues : AllByRecursion IsDialogue (talk_dialogues exchanges)
+  pub follow : FollowInTurn (talk_dialogues exchanges) plans
+  pub runs : Runs Does card (talk_dialogues exchanges) plans after
+  pub text_is : text ≡ operation_text (flat_map characters (talk_dialogues exchanges)) reply
+  pub new_is : new ≡ Running after []
+
+-- a line is carried out, and prints this text
+abbrev pub Plays : PlayState → PlayMeaning → List ℕ → PlayState → Type 0
+Plays (Building tables) (Adds addition) text new =
+    (text ≡ []) × (after : List Application) × IsAdded tables addition after
+    × (new ≡ Building after)
+Plays (Running card plans) (Adds addition) text new = ⊥
+Plays old (Plan plan) text new =
+    (text ≡ []) × (new ≡ Running (card_in old) (plans_in old ++ plan ∷ []))
+Plays old (Run operation) text new = IsRun (card_in old) (plans_in old) operation text new
+Plays old (Send bytes) text new = IsSent (card_in old) (plans_in old) bytes text new
+Plays old Reset text new = (text ≡ fixed_text fixed.Reset)
+    × (new ≡ Running (after_reset (card_in old)) (plans_in old))
+Plays old Table text new = (text ≡ table_text (card_in old).applications)
+    × (new ≡ Running (card_in old) (plans_in old))
+
+-- the line says something that is carried out, or it is passed over
+abbrev pub PlaysLine : PlayState → List ℕ → List ℕ → PlayState → Type 0
+PlaysLine old line text new =
+    ((words_of line ≡ []) × (text ≡ []) × (new ≡ old))
+    ⊎ ((meaning : PlayMeaning) × IsPlayLine (section_of old) (words_of line) meaning
+    × Plays old meaning text new)
+
+-- lines one after another
+abbrev pub PlaysAll : PlayState → List (List ℕ) → List ℕ → PlayState → Type 0
+PlaysAll old [] text new = (text ≡ []) × (new ≡ old)
+PlaysAll old (line ∷ others) text new =
+    (first rest : List ℕ) × (mid : PlayState) × PlaysLine old line first mid
+    × (text ≡ first ++ rest) × PlaysAll mid others rest new
+
+-- what `play` writes for the bytes that it reads
+abbrev pub PlayWrites : Option (List ℕ) → Option (List ℕ) → Option (List ℕ) → Type 0
+PlayWrites script old new = (text : List ℕ) × Appends old new text
+    × IfSome script (λ bytes. (end : PlayState)
+    × PlaysAll (Building []) (lines bytes) text end)

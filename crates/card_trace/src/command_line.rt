@@ -1,0 +1,82 @@
+//! The command line.
+ghost use Rattle.std.specs.Prelude.{◌≡◌, [], map, false, IfOk, IfErr, Some, option_map, string_bytes};
+ghost use Rattle.clap.specs.declared.builder.command.Command.TheViews.{out-Command};
+ghost use Rattle.clap.specs.Words.{app_of, new_app, subcommand_of, fault_of, HasKind};
+ghost use Rattle.card_trace.specs.CommandLine.{objects_shape, program, request_in, request_named, asked_by};
+
+use crate::help;
+use clap::{Arg, Command, Error};
+use std::alloc::{AllocError, Global};
+
+/// What the words ask for.
+#[derive(Clone, Copy)]
+pub enum Request<'a> {
+    /// A script for both ends.
+    Play,
+    /// A script for the card's end alone.
+    Card,
+    /// The tree of these hexadecimal digits.
+    Objects(&'a str),
+}
+
+/// What the words, of which the first is the program's name, ask for. The error is the parser's:
+/// a call for help, a mistake in the words, or want of memory.
+pub fn parsed<'a>(alloc: Global, words: &'a [String]) -> Result<Request<'a>, Error>
+    ensures ok { IfOk result (λ request. (fault_of program (map string_bytes words.entry.now) ≡ [])
+        × (request_in (subcommand_of program (map string_bytes words.entry.now))
+        ≡ Some (asked_by request))) }
+    ensures err { IfErr result (HasKind (fault_of program (map string_bytes words.entry.now))) }
+{
+    let matches = command(alloc)?.try_get_matches_from(words)?;
+    let (name, found) = matches.subcommand().unwrap();
+    let digits = found.get_str("HEX").unwrap_or("");
+    Ok(named(name, digits).unwrap())
+}
+
+/// What the subcommand of this name asks for, with these digits.
+fn named<'a>(name: &str, digits: &'a str) -> Option<Request<'a>>
+    ensures { option_map asked_by result ≡ request_named name.now digits.entry.now }
+{
+    match name {
+        "play" => Some(Request::Play),
+        "card" => Some(Request::Card),
+        "objects" => Some(Request::Objects(digits)),
+        _ => None,
+    }
+}
+
+/// The program with its three subcommands, one of which is required.
+fn command<'a>(alloc: Global) -> Result<Command<'a>, AllocError>
+    ensures { IfOk result (λ command. app_of command ≡ program) }
+{
+    let objects = of_objects(alloc)?;
+    let command = Command::new(alloc, "card_trace")
+        .about(help::PROGRAM)
+        .after_help(help::PROGRAM_EXAMPLE)
+        .subcommand_required(true);
+    command
+        .subcommand(of_scripts(alloc, "play", help::PLAY, help::PLAY_SCRIPT))?
+        .subcommand(of_scripts(alloc, "card", help::CARD, help::CARD_SCRIPT))?
+        .subcommand(objects)
+}
+
+/// A subcommand that reads a script.
+fn of_scripts<'a>(alloc: Global, name: &'a str, about: &'a str, script: &'a str) -> Command<'a>
+    ensures app { app_of result ≡ new_app name.entry.now }
+    ensures local { (out-Command result).has_globals ≡ false }
+{
+    Command::new(alloc, name).about(about).after_help(script)
+}
+
+/// The subcommand that takes digits.
+fn of_objects<'a>(alloc: Global) -> Result<Command<'a>, AllocError>
+    ensures app { IfOk result (λ command. app_of command
+        ≡ record { top = objects_shape; subs = [] }) }
+    ensures local { IfOk result (λ command. (out-Command command).has_globals ≡ false) }
+{
+    let digits = Arg::new(alloc, "HEX").required(true).help(help::HEX);
+    Command::new(alloc, "objects")
+        .about(help::OBJECTS)
+        .after_help(help::OBJECTS_EXAMPLE)
+        .arg(digits)
+}

@@ -1,0 +1,128 @@
+//! The program over any reader and writers.
+ghost use Rattle.std.specs.Prelude.{◌≡◌, ◌≢◌, ◌≤◌, ◌⊎◌, [], map, Ok, IsErr, IsErrOf, IfOk, OnOk, OnErr, string_bytes};
+ghost use Rattle.hex.specs.Hex.{decode_of};
+ghost use Rattle.clap.specs.Words.{kind_of, subcommand_of, fault_of};
+ghost use Rattle.card_trace.specs.CommandLine.{program, asked_by, Does, Runs, IsCall, AreCall, AreRefused};
+
+use crate::card::card_lines;
+use crate::command_line::{Request, parsed};
+use crate::objects::print_objects;
+use crate::play::play_lines;
+use crate::program_fault::ProgramFault;
+use clap::Error;
+use clap::error::ErrorKind;
+use hex::FromHexError;
+use std::alloc::Global;
+use std::io::{Read, Write};
+
+/// Runs the program on its words, of which the first is its name, and answers its exit status.
+///
+/// 0: the subcommand ended well, or help was asked for, which goes to `output`. 1: a fault, which is
+/// told on `faults`. 2: the words were refused, as `faults` tells. That `faults` fails changes no
+/// status.
+pub fn main_status<R: Read, W: Write, F: Write>(
+    alloc: Global,
+    words: &[String],
+    input: &mut R,
+    output: &mut W,
+    faults: &mut F,
+) -> u8
+    ensures status { result ≤ 2 }
+    ensures runs { fault_of program (map string_bytes words.now) ≡ [] → result ≡ 0 →
+        Runs (subcommand_of program (map string_bytes words.now)) (R.remaining input.old)
+        (W.contents output.old) (W.contents output.new) }
+    ensures taken { fault_of program (map string_bytes words.now) ≡ [] → result ≢ 2 }
+    ensures called { fault_of program (map string_bytes words.now) ≢ [] → result ≡ 0 →
+        AreCall (fault_of program (map string_bytes words.now)) }
+    ensures refused { result ≡ 2 → AreRefused (fault_of program (map string_bytes words.now)) }
+    ensures quiet { result ≡ 0 → F.contents faults.new ≡ F.contents faults.old }
+    ensures unwritten { result ≡ 2 → W.contents output.new ≡ W.contents output.old }
+    ensures unread { fault_of program (map string_bytes words.now) ≢ [] →
+        R.remaining input.new ≡ R.remaining input.old }
+{
+    match parsed(alloc, words) {
+        Ok(request) => told(&run(alloc, request, input, output), faults),
+        Err(error) => answered(&error, output, faults),
+    }
+}
+
+/// Carries out what was asked for.
+fn run<R: Read, W: Write>(
+    alloc: Global,
+    request: Request<'_>,
+    input: &mut R,
+    output: &mut W,
+) -> Result<(), ProgramFault>
+    ensures { OnOk result (Does (asked_by request.entry) (R.remaining input.old) (W.contents output.old)
+        (W.contents output.new)) }
+{
+    match request {
+        Request::Play => play_lines(alloc, input, output)?,
+        Request::Card => card_lines(alloc, input, output)?,
+        Request::Objects(digits) => {
+            let bytes = bytes_of(alloc, digits)?;
+            print_objects(alloc, bytes.as_slice(), output)?;
+        }
+    }
+    Ok(())
+}
+
+/// The bytes that the digits spell, at least one.
+fn bytes_of(alloc: Global, digits: &str) -> Result<Vec<u8>, ProgramFault>
+    ensures spelled { IfOk result (λ bytes. (digits.now ≢ [])
+        × (decode_of digits.now ≡ Ok bytes.items)) }
+    ensures bad { IsErrOf result ProgramFault.BadHex → (digits.now ≡ [])
+        ⊎ IsErr (decode_of digits.now) }
+{
+    if digits.is_empty() {
+        return Err(ProgramFault::BadHex);
+    }
+    match hex::decode(alloc, digits) {
+        Ok(bytes) => Ok(bytes),
+        Err(FromHexError::OutOfMemory) => Err(ProgramFault::OutOfMemory),
+        Err(_) => Err(ProgramFault::BadHex),
+    }
+}
+
+/// The status for what the parser answered in place of matches. Help goes to `output`, and a refusal
+/// to `faults`.
+fn answered<W: Write, F: Write>(error: &Error, output: &mut W, faults: &mut F) -> u8
+    ensures status { result ≤ 2 }
+    ensures memory { kind_of error.now ≡ ErrorKind.OutOfMemory → result ≡ 1 }
+    ensures mistake { ¬ IsCall (kind_of error.now) →
+        kind_of error.now ≢ ErrorKind.OutOfMemory → result ≡ 2 }
+    ensures called { result ≡ 0 → IsCall (kind_of error.now) }
+    ensures quiet { result ≡ 0 → F.contents faults.new ≡ F.contents faults.old }
+    ensures refused { result ≡ 2 → ¬ IsCall (kind_of error.now)
+        × (kind_of error.now ≢ ErrorKind.OutOfMemory)
+        × (W.contents output.new ≡ W.contents output.old) }
+{
+    match error.kind() {
+        ErrorKind::OutOfMemory => told(&Err(ProgramFault::OutOfMemory), faults),
+        ErrorKind::DisplayHelp | ErrorKind::DisplayVersion => told(&shown(error, output), faults),
+        _ => {
+            let _ = faults.write_fmt(error);
+            2
+        }
+    }
+}
+
+/// Writes the help.
+fn shown<W: Write>(error: &Error, output: &mut W) -> Result<(), ProgramFault> {
+    output.write_fmt(error).map_err(|_| ProgramFault::Write)
+}
+
+/// The status for an outcome: 0, or 1 for a fault, which is told on `faults` in one line.
+fn told<F: Write>(outcome: &Result<(), ProgramFault>, faults: &mut F) -> u8
+    ensures success { OnOk outcome.now (result ≡ 0) }
+    ensures silent { OnOk outcome.now (F.contents faults.new ≡ F.contents faults.old) }
+    ensures fault { OnErr outcome.now (result ≡ 1) }
+{
+    match outcome {
+        Ok(()) => 0,
+        Err(fault) => {
+            let _ = faults.writeln(fault);
+            1
+        }
+    }
+}

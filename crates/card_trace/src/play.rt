@@ -1,0 +1,34 @@
+//! Scripts of `play`.
+ghost use Rattle.std.specs.Prelude.{OnOk};
+ghost use Rattle.card_trace.specs.Scripts.{PlayWrites};
+
+use crate::play_fault::PlayFault;
+use crate::player::Player;
+use crate::script::lines::Lines;
+use crate::script::reading::read_script;
+use std::alloc::Allocator;
+use std::io::{Read, Write};
+
+/// Carries out a script: builds its card, runs its operations on both ends, and writes what its lines
+/// print.
+///
+/// `Read` and `InputTooLong` come before anything is written. `Script` is the first line that is
+/// refused; what the lines before it wrote stands, as it does after `OutOfMemory`. After `Write` it
+/// is not known how much went out.
+pub fn play_lines<A: Allocator + Copy, R: Read, W: Write>(
+    alloc: A,
+    reader: &mut R,
+    writer: &mut W,
+) -> Result<(), PlayFault>
+    ensures { OnOk result
+        (PlayWrites (R.remaining reader.old) (W.contents writer.old) (W.contents writer.new)) }
+{
+    let script = read_script(alloc, reader)?;
+    let mut player = Player::new(alloc);
+    let mut number: usize = 0;
+    for line in Lines::of(script.as_slice()) {
+        number = number.saturating_add(1);
+        player = player.play(alloc, line, number, writer)?;
+    }
+    Ok(())
+}

@@ -1,0 +1,484 @@
+//! How scripts of `play` end in faults, and what is printed before.
+
+use crate::play::play_lines;
+use crate::play_fault::PlayFault;
+use crate::script::reading::SCRIPT_LIMIT;
+use crate::test_io::{Failing, lines};
+use crate::test_script::{CARD, Case, GOT, SELECT, SELECTED, expanded, plays};
+use linked_list_allocator::LocalHeap;
+use std::alloc::Global;
+use std::io;
+use std::io::Read;
+use std::process::Abort;
+use std::test::Fail;
+
+/// A script that prints nothing, and the fault that ends it.
+#[derive(Clone, Copy)]
+struct Refused {
+    script: &'static str,
+    fault: &'static str,
+}
+
+fn is_refused(rt: &impl Abort, alloc: Global, row: &Refused) -> Result<(), Fail> {
+    let case = Case {
+        script: row.script,
+        prints: "",
+        fault: row.fault,
+    };
+    plays(rt, alloc, &case)
+}
+
+#[test]
+fn refused_table_lines(rt: HostRuntime) -> Result<(), Fail> {
+    for row in [
+        Refused {
+            script: "app A0000000/",
+            fault: "line 1: bad aid",
+        },
+        Refused {
+            script: "object 50 41/",
+            fault: "line 1: no app",
+        },
+        Refused {
+            script: "locked 50 41/",
+            fault: "line 1: no app",
+        },
+        Refused {
+            script: "object 50 41*65535/",
+            fault: "line 1: no app",
+        },
+        Refused {
+            script: "app A000000003/app A000000003/",
+            fault: "line 2: aid twice",
+        },
+        Refused {
+            script: "app A000000003/object 50 41*8193/",
+            fault: "line 2: value too long",
+        },
+        Refused {
+            script: "app A000000003/locked 50 41*8193/",
+            fault: "line 2: value too long",
+        },
+        Refused {
+            script: "app A000000003/object 70 500541/",
+            fault: "line 2: not objects",
+        },
+        Refused {
+            script: "app A000000003/object 3E 41*65535/",
+            fault: "line 2: bad tag",
+        },
+    ] {
+        is_refused(&rt, rt.alloc(), &row)?;
+    }
+    Ok(())
+}
+
+#[test]
+fn refused_run_lines(rt: HostRuntime) -> Result<(), Fail> {
+    for row in [
+        Refused {
+            script: "get 3E/",
+            fault: "line 1: bad tag",
+        },
+        Refused {
+            script: "get 5F2/",
+            fault: "line 1: bad hex",
+        },
+        Refused {
+            script: "plan nx 256/",
+            fault: "line 1: bad plan",
+        },
+        Refused {
+            script: "plan n 257/",
+            fault: "line 1: bad plan",
+        },
+        Refused {
+            script: "put 50 41*16321/",
+            fault: "line 1: value too long",
+        },
+        Refused {
+            script: "put 3E 41*65535/",
+            fault: "line 1: bad tag",
+        },
+        Refused {
+            script: "select A0000000/",
+            fault: "line 1: bad aid",
+        },
+    ] {
+        is_refused(&rt, rt.alloc(), &row)?;
+    }
+    Ok(())
+}
+
+#[test]
+fn refused_commands(rt: HostRuntime) -> Result<(), Fail> {
+    for row in [
+        Refused {
+            script: "send 00A404/",
+            fault: "line 1: command too short",
+        },
+        Refused {
+            script: "send 00A404000000/",
+            fault: "line 1: bad command length",
+        },
+        Refused {
+            script: "send 00CA5F200141/",
+            fault: "line 1: bad command length",
+        },
+        Refused {
+            script: "send 006000000101020304/",
+            fault: "line 1: bad command length",
+        },
+        Refused {
+            script: "send 0060000000/",
+            fault: "line 1: invalid INS",
+        },
+    ] {
+        is_refused(&rt, rt.alloc(), &row)?;
+    }
+    Ok(())
+}
+
+/// Words are compared byte for byte, and only an LF with at most one CR before it ends a line.
+#[test]
+fn refused_words(rt: HostRuntime) -> Result<(), Fail> {
+    for row in [
+        Refused {
+            script: "walk/",
+            fault: "line 1: unknown word",
+        },
+        Refused {
+            script: "TABLE/",
+            fault: "line 1: unknown word",
+        },
+        Refused {
+            script: " # x/",
+            fault: "line 1: unknown word",
+        },
+        Refused {
+            script: "# x//\r/walk",
+            fault: "line 4: unknown word",
+        },
+        Refused {
+            script: "reset\r",
+            fault: "line 1: unknown word",
+        },
+        Refused {
+            script: "reset\r\r/",
+            fault: "line 1: unknown word",
+        },
+        Refused {
+            script: "get\t50/",
+            fault: "line 1: unknown word",
+        },
+        Refused {
+            script: "> 00CA5F2000/",
+            fault: "line 1: unknown word",
+        },
+        Refused {
+            script: "app/",
+            fault: "line 1: wrong number of words",
+        },
+    ] {
+        is_refused(&rt, rt.alloc(), &row)?;
+    }
+    Ok(())
+}
+
+/// What the lines before the refused one printed stands.
+#[test]
+fn lines_before_a_refused_one(rt: HostRuntime) -> Result<(), Fail> {
+    for case in [
+        Case {
+            script: "reset/app A000000003/",
+            prints: "reset/",
+            fault: "line 2: table line after the first run line",
+        },
+        Case {
+            script: "reset/locked 50 41/",
+            prints: "reset/",
+            fault: "line 2: table line after the first run line",
+        },
+        Case {
+            script: "plan n 256/object 50 41/",
+            prints: "",
+            fault: "line 2: table line after the first run line",
+        },
+        Case {
+            script: "get 5F20/send 00CA5F200141/get 5F20/",
+            prints: "> 00CA5F2000/< 6985/= 6985/",
+            fault: "line 2: bad command length",
+        },
+        Case {
+            script: "reset/walk/reset/",
+            prints: "reset/",
+            fault: "line 2: unknown word",
+        },
+    ] {
+        plays(&rt, rt.alloc(), &case)?;
+    }
+    Ok(())
+}
+
+/// A script that is cut inside its third line.
+#[test]
+fn truncated_scripts(rt: HostRuntime) -> Result<(), Fail> {
+    for row in [
+        Refused {
+            script: "app A0000000031010/object 5F20 4A4F45/selec",
+            fault: "line 3: unknown word",
+        },
+        Refused {
+            script: "app A0000000031010/object 5F20 4A4F45/select",
+            fault: "line 3: wrong number of words",
+        },
+        Refused {
+            script: "app A0000000031010/object 5F20 4A4F45/select A0000000",
+            fault: "line 3: bad aid",
+        },
+        Refused {
+            script: "app A0000000031010/object 5F20 4A4F45/select A0000000031",
+            fault: "line 3: bad hex",
+        },
+    ] {
+        is_refused(&rt, rt.alloc(), &row)?;
+    }
+    Ok(())
+}
+
+/// Eight applications, one more, and one of them again.
+#[test]
+fn too_many_applications(rt: HostRuntime) -> Result<(), Fail> {
+    let alloc = rt.alloc();
+    let mut eight = String::new(alloc);
+    for number in 1..=8_u8 {
+        eight.push_str(format!(in alloc; "app A00000000{number}/")?.as_str())?;
+    }
+    for (ninth, fault) in [
+        ("app A000000009/", "line 9: too many apps"),
+        ("app A000000001/", "line 9: aid twice"),
+    ] {
+        let script = format!(in alloc; "{eight}{ninth}")?;
+        let case = Case {
+            script: script.as_str(),
+            prints: "",
+            fault,
+        };
+        plays(&rt, alloc, &case)?;
+    }
+    Ok(())
+}
+
+/// Sixty-four entries, and one more; but one of them again is taken.
+#[test]
+fn too_many_entries(rt: HostRuntime) -> Result<(), Fail> {
+    let alloc = rt.alloc();
+    let mut full = String::from_str(alloc, "app A000000003/")?;
+    for number in 1..=64_u8 {
+        full.push_str(format!(in alloc; "object DF{number:02X} 01/")?.as_str())?;
+    }
+    for (last, fault) in [
+        ("object DF41 01/", "line 66: table full"),
+        ("locked DF41 01/", "line 66: table full"),
+        ("object 70 500541/", "line 66: not objects"),
+        ("object DF40 02/", ""),
+    ] {
+        let script = format!(in alloc; "{full}{last}")?;
+        let case = Case {
+            script: script.as_str(),
+            prints: "",
+            fault,
+        };
+        plays(&rt, alloc, &case)?;
+    }
+    Ok(())
+}
+
+/// The script that a reader and a writer fail in, and what it prints.
+fn read_script_and_text(alloc: Global) -> Result<(Vec<u8>, Vec<u8>), Fail> {
+    let script = format!(in alloc; "{CARD}{SELECT}get 5F20/")?;
+    let text = format!(in alloc; "{SELECTED}{GOT}")?;
+    Ok((lines(alloc, script.as_str())?, lines(alloc, text.as_str())?))
+}
+
+/// A reader that gives bytes, a few at a time, and then fails.
+#[derive(Drop)]
+struct CutOff<'a> {
+    left: &'a [u8],
+}
+
+impl<'a> Read for CutOff<'a> {
+    fn read(&mut self, buf: &mut [u8]) -> io::Result<usize> {
+        if self.left.is_empty() {
+            return Err(io::Error::from(io::ErrorKind::Other));
+        }
+        self.left.read(buf)
+    }
+}
+
+/// A reader that fails after so many bytes: nothing is printed, also where the script is whole.
+#[test]
+fn failing_readers(rt: HostRuntime) -> Result<(), Fail> {
+    let (script, _) = read_script_and_text(rt.alloc())?;
+    for size in 0..=script.len() {
+        let mut reader = CutOff {
+            left: script.as_slice().get(..size).ok_or("a size")?,
+        };
+        let mut printed = Vec::new(rt.alloc());
+        let outcome = play_lines(rt.alloc(), &mut reader, &mut printed);
+        assert_eq!(rt; outcome, Err(PlayFault::Read));
+        assert!(rt; printed.is_empty());
+    }
+    Ok(())
+}
+
+/// Each write fails in turn; where none does all is written.
+#[test]
+fn failing_writers(rt: HostRuntime) -> Result<(), Fail> {
+    let (script, text) = read_script_and_text(rt.alloc())?;
+    for after in 0..text.len() {
+        let outcome = play_lines(rt.alloc(), &mut script.as_slice(), &mut Failing { after });
+        assert_eq!(rt; outcome, Err(PlayFault::Write));
+    }
+    let mut writer = Failing { after: text.len() };
+    let outcome = play_lines(rt.alloc(), &mut script.as_slice(), &mut writer);
+    assert_eq!(rt; outcome, Ok(()));
+    assert_eq!(rt; writer.after, 0);
+    Ok(())
+}
+
+/// The longest script is one comment; one byte more is too long.
+#[test]
+fn the_longest_script(rt: HostRuntime) -> Result<(), Fail> {
+    for (size, wanted) in [
+        (SCRIPT_LIMIT, Ok(())),
+        (SCRIPT_LIMIT + 1, Err(PlayFault::InputTooLong)),
+    ] {
+        let script = vec![in rt.alloc(); b'#'; size]?;
+        let mut printed = Vec::new(rt.alloc());
+        let outcome = play_lines(rt.alloc(), &mut script.as_slice(), &mut printed);
+        assert_eq!(rt; outcome, wanted);
+        assert!(rt; printed.is_empty());
+    }
+    Ok(())
+}
+
+/// What a script came to on a heap.
+#[derive(PartialEq, Eq)]
+enum Came {
+    /// To want of memory, after whole lines or none.
+    Short,
+    /// To an answer of the card that memory is wanting, and the object as it was.
+    Refused,
+    /// To its end.
+    Whole,
+}
+
+/// The script on a heap of this size.
+fn played_on_a_heap(
+    rt: &impl Abort,
+    alloc: Global,
+    size: usize,
+    script: &[u8],
+    texts: (&[u8], &[u8]),
+) -> Result<Came, Fail> {
+    let heap = LocalHeap::new(alloc, size)?;
+    let mut printed = Vec::new(alloc);
+    let mut reader = script;
+    match play_lines(&heap, &mut reader, &mut printed) {
+        Err(fault) => {
+            assert_eq!(rt; fault, PlayFault::OutOfMemory);
+            let printed = printed.as_slice();
+            assert!(rt;
+                texts.0.starts_with(printed) || texts.1.starts_with(printed),
+                "{size}"
+            );
+            Ok(Came::Short)
+        }
+        Ok(()) if printed.as_slice() == texts.0 => Ok(Came::Whole),
+        Ok(()) => {
+            assert_eq!(rt; printed.as_slice(), texts.1, "{size}");
+            Ok(Came::Refused)
+        }
+    }
+}
+
+/// How often a script came to what, on heaps of ever more bytes.
+#[derive(Drop)]
+struct Times {
+    short: usize,
+    refused: usize,
+    whole: usize,
+}
+
+/// The script on heaps of so many bytes at most, each with so many more than the one before.
+fn counted(
+    rt: &impl Abort,
+    alloc: Global,
+    (most, step): (usize, usize),
+    script: &[u8],
+    texts: (&[u8], &[u8]),
+) -> Result<Times, Fail> {
+    let (mut short, mut refused, mut whole) = (0_usize, 0_usize, 0_usize);
+    for size in (0..=most).step_by(step) {
+        match played_on_a_heap(rt, alloc, size, script, texts)? {
+            Came::Short => short = short.saturating_add(1),
+            Came::Refused => refused = refused.saturating_add(1),
+            Came::Whole => whole = whole.saturating_add(1),
+        }
+    }
+    Ok(Times {
+        short,
+        refused,
+        whole,
+    })
+}
+
+/// Each growth of a select, a get and a put is refused in turn.
+#[test]
+fn refused_growths(rt: HostRuntime) -> Result<(), Fail> {
+    let alloc = rt.alloc();
+    let script = format!(in alloc; "{CARD}{SELECT}get 5F20/put 5F20 42*256/get 5F20/")?;
+    let script = lines(alloc, script.as_str())?;
+    let pieces = "> 10DA5F20FF/< DA/> [42*255]/< 9000/> 00DA5F2001/< DA/> 42/";
+    let stored = format!(in alloc;
+        "{SELECTED}{GOT}{pieces}< 9000/= 9000/> 00CA5F2000/< CA5F20820100[42*251]6105/\
+         > 00C0000005/< C042424242429000/= 9000 5F20820100[42*256]/"
+    )?;
+    let stored = expanded(alloc, stored.as_str())?;
+    let kept = format!(in alloc; "{SELECTED}{GOT}{pieces}< 6581/= 6581/{GOT}")?;
+    let kept = expanded(alloc, kept.as_str())?;
+    let texts = (stored.as_slice(), kept.as_slice());
+    let times = counted(&rt, alloc, (32_768, 16), script.as_slice(), texts)?;
+    assert!(rt; times.short > 1_600, "{} sizes were too small", times.short);
+    assert!(rt; times.whole > 10, "{} sizes were enough", times.whole);
+    Ok(())
+}
+
+/// The last command of a chain whose pieces came one by one: where there is no memory for the value
+/// the card says so, and the object is as it was.
+#[test]
+fn a_value_that_is_refused_memory(rt: HostRuntime) -> Result<(), Fail> {
+    let alloc = rt.alloc();
+    let script = format!(in alloc;
+        "{CARD}{SELECT}[send 10DA5F20FF[42*255]/*12]send 00DA5F200142/get 5F20/"
+    )?;
+    let script = expanded(alloc, script.as_str())?;
+    let pieces = "[> 10DA5F20FF/< DA/> [42*255]/< 9000/= 9000/*12]> 00DA5F2001/< DA/> 42/";
+    let stored = format!(in alloc;
+        "{SELECTED}{pieces}< 9000/= 9000/> 00CA5F2000/< CA5F20820BF5[42*251]6100/\
+         [> 00C0000000/< C0[42*256]6100/*9]> 00C0000000/< C0[42*256]61FA/\
+         > 00C00000FA/< C0[42*250]9000/= 9000 5F20820BF5[42*3061]/"
+    )?;
+    let stored = expanded(alloc, stored.as_str())?;
+    let kept = format!(in alloc; "{SELECTED}{pieces}< 6581/= 6581/{GOT}")?;
+    let kept = expanded(alloc, kept.as_str())?;
+    let texts = (stored.as_slice(), kept.as_slice());
+    let times = counted(&rt, alloc, (65_536, 512), script.as_slice(), texts)?;
+    assert!(rt;
+        times.refused > 0,
+        "{} sizes had no room for the value",
+        times.refused
+    );
+    Ok(())
+}

@@ -1,0 +1,15 @@
+//! Scripts: their lines, the words of a line, and what a line says.
+pub mod card_line;
+pub mod fields;
+pub mod keyword;
+pub mod lines;
+mod places;
+pub mod play_line;
+pub mod reading;
+pub mod reason;
+pub mod refusal;
+pub mod section;
+pub mod table_line;
+#[cfg(test)]
+mod tests;
+pub mod words;

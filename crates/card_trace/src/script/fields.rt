@@ -1,0 +1,187 @@
+//! The fields of a line: hexadecimal text, tags, identifiers, values, plans, numbers and commands.
+ghost use Rattle.std.specs.Prelude.{◌≡◌, ◌↔◌, ℕ, List, IsTrue, IfOk, IfErr, MatchOption, MatchResult};
+ghost use Rattle.t0_core.specs.declared.plan.Step.{Step};
+ghost use Rattle.t0_core.specs.Plan.{Course};
+ghost use Rattle.tlv_core.specs.Address.{IsAddressable};
+ghost use Rattle.apdu_core.specs.CommandBytes.{IsCommand, command_bytes};
+ghost use Rattle.card_terminal.specs.Agreed.{IsAgreed};
+ghost use Rattle.card_trace.specs.ScriptReasons.{OnReason};
+ghost use Rattle.card_trace.specs.ScriptFields.{IsHexText, IsAidText, IsTagText, IsNumberText, IsRepeatedText, IsValueText, IsStepsText, IsPlanText, MayReceive, MaySend, AreOfAgreedCommand, IsCommandText};
+
+use crate::script::places::place_of;
+use crate::script::reason::Reason;
+use crate::script::refusal::Refusal;
+use apdu_core::Command;
+use card_terminal::Bytes;
+use hex::{FromHex, FromHexError};
+use object_card::Aid;
+use std::alloc::{AllocError, Allocator};
+use t0_core::{Plan, Step};
+use tlv_core::{ObjectTag, Tag};
+
+/// The bytes of HEX: an even number of hexadecimal digits, at least two, in either case. `BadHex`
+/// for every other text.
+pub fn read_hex<A: Allocator>(alloc: A, text: &[u8]) -> Result<Vec<u8, A>, Refusal>
+    ensures ok { IfOk result (λ bytes. IsHexText text.now bytes.items) }
+    ensures refused { IfErr result (λ refusal. OnReason refusal (λ _.
+        (bytes : List ℕ) → ¬ IsHexText text.now bytes)) }
+{
+    if text.is_empty() {
+        return Err(Refusal::Line(Reason::BadHex));
+    }
+    match hex::decode(alloc, text) {
+        Ok(bytes) => Ok(bytes),
+        Err(FromHexError::OutOfMemory) => Err(Refusal::OutOfMemory),
+        Err(_) => Err(Refusal::Line(Reason::BadHex)),
+    }
+}
+
+/// The application identifier of HEX. `BadHex`, and then `BadAid` where there are not 5 to 16
+/// bytes.
+pub fn read_aid<A: Allocator>(alloc: A, text: &[u8]) -> Result<Aid, Refusal>
+    ensures ok { IfOk result (λ aid. IsAidText text.now aid) }
+    ensures refused { IfErr result (λ refusal. OnReason refusal (λ _.
+        (aid : List ℕ) → ¬ IsAidText text.now aid)) }
+{
+    let bytes = read_hex(alloc, text)?;
+    let aid = Aid::new(bytes.as_slice()).ok_or(Reason::BadAid)?;
+    Ok(aid)
+}
+
+/// The tag of TAG. `BadHex`, and then `BadTag` where the bytes are no tag that can be addressed.
+pub fn read_tag<A: Allocator>(alloc: A, text: &[u8]) -> Result<ObjectTag, Refusal>
+    ensures ok { IfOk result (λ tag. IsTagText text.now tag) }
+    ensures refused { IfErr result (λ refusal. OnReason refusal (λ _.
+        (tag : List ℕ) → ¬ IsTagText text.now tag)) }
+{
+    let bytes = read_hex(alloc, text)?;
+    let tag = object_tag(bytes.as_slice()).ok_or(Reason::BadTag)?;
+    Ok(tag)
+}
+
+/// The tag that can be addressed and that the bytes are, all of them; `None` where they are none.
+fn object_tag(bytes: &[u8]) -> Option<ObjectTag>
+    ensures { MatchOption result (¬ IsAddressable bytes.now)
+        (λ tag. (tag ≡ bytes.now) × IsAddressable bytes.now) }
+{
+    let (tag, size) = Tag::read(bytes).ok()?;
+    if size == bytes.len() {
+        ObjectTag::new(tag)
+    } else {
+        None
+    }
+}
+
+/// The bytes of VALUE: `-` for none, HEX, or `HH*N` for the byte HH N times. `BadHex` for every
+/// other text.
+pub fn read_value<A: Allocator>(alloc: A, text: &[u8]) -> Result<Vec<u8, A>, Refusal>
+    ensures ok { IfOk result (λ value. IsValueText text.now value.items) }
+    ensures refused { IfErr result (λ refusal. OnReason refusal (λ _.
+        (value : List ℕ) → ¬ IsValueText text.now value)) }
+{
+    match place_of(b'*', text) {
+        None if text == b"-".as_slice() => Ok(Vec::new(alloc)),
+        None => read_hex(alloc, text),
+        Some(star) => repeated(alloc, &text[..star], &text[star + 1..]),
+    }
+}
+
+/// The byte of two hexadecimal digits so many times. `BadHex` for other texts.
+fn repeated<A: Allocator>(alloc: A, digits: &[u8], times: &[u8]) -> Result<Vec<u8, A>, Refusal>
+    ensures ok { IfOk result (λ value. IsRepeatedText digits.now times.now value.items) }
+    ensures refused { IfErr result (λ refusal. OnReason refusal (λ _.
+        (value : List ℕ) → ¬ IsRepeatedText digits.now times.now value)) }
+{
+    let Ok(byte) = <[u8; 1] as FromHex>::from_hex(digits) else {
+        return Err(Refusal::Line(Reason::BadHex));
+    };
+    let times = read_number(times).ok_or(Reason::BadHex)?;
+    let value = vec![in alloc; byte[0]; usize::from(times)]?;
+    Ok(value)
+}
+
+/// The number of a decimal text: 1 to 65,535, without a leading zero; `None` for every other text.
+pub fn read_number(text: &[u8]) -> Option<u16>
+    ensures { MatchOption result ((n : ℕ) → ¬ IsNumberText text.now n)
+        (λ n. IsNumberText text.now n) }
+{
+    match text {
+        [b'1'..=b'9', ..] => std::str::from_utf8(text).ok()?.parse::<u16>().ok(),
+        _ => None,
+    }
+}
+
+/// The plan of STEPS and CUT: `-` for no steps, or the letters `n`, `o` and `a`; and a number of 1
+/// to 256. `BadPlan` for every other text.
+pub fn read_plan<A: Allocator>(alloc: A, steps: &[u8], cut: &[u8]) -> Result<Plan<A>, Refusal>
+    ensures ok { IfOk result (λ plan. IsPlanText steps.now cut.now plan) }
+    ensures refused { IfErr result (λ refusal. OnReason refusal (λ _.
+        (plan : Course) → ¬ IsPlanText steps.now cut.now plan)) }
+{
+    let steps = read_steps(alloc, steps)?;
+    let cut = read_number(cut).ok_or(Reason::BadPlan)?;
+    let plan = Plan::new(steps, cut).ok_or(Reason::BadPlan)?;
+    Ok(plan)
+}
+
+/// The steps of STEPS; `BadPlan` for every other text.
+fn read_steps<A: Allocator>(alloc: A, text: &[u8]) -> Result<Vec<Step, A>, Refusal>
+    ensures ok { IfOk result (λ steps. IsStepsText text.now steps.items) }
+    ensures refused { IfErr result (λ refusal. OnReason refusal (λ _.
+        (steps : List Step) → ¬ IsStepsText text.now steps)) }
+{
+    let mut steps = Vec::new(alloc);
+    if text == b"-".as_slice() {
+        return Ok(steps);
+    }
+    for letter in text {
+        let step = match letter {
+            b'n' => Step::Null,
+            b'o' => Step::One,
+            b'a' => Step::All,
+            _ => return Err(Refusal::Line(Reason::BadPlan)),
+        };
+        steps.push(step).map_err(AllocError::from)?;
+    }
+    Ok(steps)
+}
+
+/// The bytes of HEX that are a command, which is agreed with a card of data objects. `BadHex`, then
+/// `CommandTooShort`, `BadCommandLength` and `InvalidIns` as of a command that is read, and
+/// `BadCommandLength` for one that is not agreed.
+pub fn read_command<A: Allocator>(alloc: A, text: &[u8]) -> Result<Bytes<A>, Refusal>
+    ensures ok { IfOk result (λ bytes. IsCommandText text.now bytes) }
+    ensures refused { IfErr result (λ refusal. OnReason refusal (λ _.
+        (bytes : List ℕ) → ¬ IsCommandText text.now bytes)) }
+{
+    let bytes = read_hex(alloc, text)?;
+    agreed_command(bytes.as_slice())?;
+    Ok(Bytes::new(bytes))
+}
+
+/// The command that these bytes are, which is agreed; else why there is none.
+pub fn agreed_command(bytes: &[u8]) -> Result<Command<'_>, Reason>
+    ensures agreed { IfOk result (λ c. IsCommand c × (bytes.now ≡ command_bytes c)
+        × IsAgreed MayReceive MaySend c) }
+    ensures refused { IfErr result (λ _. ¬ AreOfAgreedCommand bytes.now) }
+{
+    let command = Command::read(bytes)?;
+    if is_agreed(&command) {
+        Ok(command)
+    } else {
+        Err(Reason::BadCommandLength)
+    }
+}
+
+/// Whether the command is agreed with a card of data objects: GET DATA and GET RESPONSE ask for
+/// data and send none, and SELECT and PUT DATA are no commands that only ask.
+fn is_agreed(command: &Command) -> bool
+    ensures { IsTrue result ↔ IsAgreed MayReceive MaySend command.now }
+{
+    let only_asks = command.data().is_empty() && command.le().is_some();
+    match command.header().ins {
+        0xA4 | 0xDA => !only_asks,
+        0xCA | 0xC0 => only_asks,
+        _ => true,
+    }
+}

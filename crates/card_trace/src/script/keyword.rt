@@ -1,0 +1,51 @@
+//! The words that a line may begin with.
+ghost use Rattle.std.specs.Prelude.{◌≡◌, ◌≢◌, MatchOption};
+ghost use Rattle.card_trace.specs.declared.script.keyword.Keyword.{Keyword};
+ghost use Rattle.card_trace.specs.ScriptKeywords.{keyword_text};
+
+/// The words of table lines.
+#[derive(Clone, Copy, Debug, PartialEq, Eq)]
+pub enum TableWord {
+    App,
+    Object,
+    Locked,
+}
+
+/// The first words of lines, those of both programs.
+#[derive(Clone, Copy, Debug, PartialEq, Eq)]
+pub enum Keyword {
+    Adds(TableWord),
+    Plan,
+    Select,
+    Get,
+    Put,
+    Send,
+    Take,
+    HandOut,
+    Reset,
+    Table,
+}
+
+impl Keyword {
+    /// The keyword that is written so; `None` for every other word.
+    pub fn of(word: &[u8]) -> Option<Keyword>
+        ensures { MatchOption result ((keyword : Keyword) → word.now ≢ keyword_text keyword)
+            (λ keyword. word.now ≡ keyword_text keyword) }
+    {
+        match word {
+            b"app" => Some(Keyword::Adds(TableWord::App)),
+            b"object" => Some(Keyword::Adds(TableWord::Object)),
+            b"locked" => Some(Keyword::Adds(TableWord::Locked)),
+            b"plan" => Some(Keyword::Plan),
+            b"select" => Some(Keyword::Select),
+            b"get" => Some(Keyword::Get),
+            b"put" => Some(Keyword::Put),
+            b"send" => Some(Keyword::Send),
+            b">" => Some(Keyword::Take),
+            b"<" => Some(Keyword::HandOut),
+            b"reset" => Some(Keyword::Reset),
+            b"table" => Some(Keyword::Table),
+            _ => None,
+        }
+    }
+}

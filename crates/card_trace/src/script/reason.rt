@@ -1,0 +1,88 @@
+use apdu_core::ApduFault;
+use std::error::Error;
+use std::fmt;
+
+/// Why a line of a script is refused.
+#[derive(Clone, Copy, Debug, PartialEq, Eq, Hash)]
+pub enum Reason {
+    /// The first word is none of the program's.
+    UnknownWord,
+    /// A table line stands behind a run line.
+    LateTableLine,
+    /// There are more or fewer words than the line has.
+    WrongWordCount,
+    /// A field is no hexadecimal text, or no value.
+    BadHex,
+    /// A field is hexadecimal text, and no tag that can be addressed.
+    BadTag,
+    /// A field is no list of steps, or no cut.
+    BadPlan,
+    /// A field is no number of 1 to 65,535.
+    BadNumber,
+    /// An application identifier has not 5 to 16 bytes.
+    BadAid,
+    /// A value has more bytes than a put, or an entry of the table, may have.
+    ValueTooLong,
+    /// A command has fewer than four bytes.
+    CommandTooShort,
+    /// A command's bytes fit none of the four cases, or not the one that goes with its INS.
+    BadCommandLength,
+    /// The INS of a command is `6X` or `9X`.
+    InvalidIns,
+    /// The identifier is that of an application before it.
+    AidTwice,
+    /// There are as many applications as a card may have.
+    TooManyApps,
+    /// There is no application to hold the entry.
+    NoApp,
+    /// The tag is that of a constructed object, and the value is no list of objects.
+    NotObjects,
+    /// The application has as many entries as it may have.
+    TableFull,
+}
+
+impl fmt::Display for Reason {
+    ghost use Rattle.std.specs.Prelude.{Some};
+    ghost use Rattle.card_trace.specs.ScriptReasons.{reason_text};
+
+    ghost output = { λ reason. Some (reason_text reason) };
+
+    fn fmt<W: fmt::Write>(&self, f: &mut fmt::Formatter<W>) -> fmt::Result {
+        f.write_str(match self {
+            Reason::UnknownWord => "unknown word",
+            Reason::LateTableLine => "table line after the first run line",
+            Reason::WrongWordCount => "wrong number of words",
+            Reason::BadHex => "bad hex",
+            Reason::BadTag => "bad tag",
+            Reason::BadPlan => "bad plan",
+            Reason::BadNumber => "bad number",
+            Reason::BadAid => "bad aid",
+            Reason::ValueTooLong => "value too long",
+            Reason::CommandTooShort => "command too short",
+            Reason::BadCommandLength => "bad command length",
+            Reason::InvalidIns => "invalid INS",
+            Reason::AidTwice => "aid twice",
+            Reason::TooManyApps => "too many apps",
+            Reason::NoApp => "no app",
+            Reason::NotObjects => "not objects",
+            Reason::TableFull => "table full",
+        })
+    }
+}
+
+impl Error for Reason {}
+
+impl From<ApduFault> for Reason {
+    ghost use Rattle.std.specs.Prelude.{◌≡◌};
+    ghost use Rattle.card_trace.specs.ScriptReasons.{reason_of_command};
+
+    ghost from_gives = { λ fault reason. reason ≡ reason_of_command fault };
+
+    fn from(fault: ApduFault) -> Reason {
+        match fault {
+            ApduFault::TooShort => Reason::CommandTooShort,
+            ApduFault::BadLength => Reason::BadCommandLength,
+            ApduFault::InvalidIns => Reason::InvalidIns,
+        }
+    }
+}

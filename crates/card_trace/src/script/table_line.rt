@@ -1,0 +1,68 @@
+//! The lines that build the table of a card.
+ghost use Rattle.std.specs.Prelude.{◌≡◌, ℕ, List, IfOk, IfErr};
+ghost use Rattle.card_trace.specs.ScriptReasons.{OnReason};
+ghost use Rattle.card_trace.specs.ScriptWords.{words_in};
+ghost use Rattle.card_trace.specs.ScriptTable.{Addition, addition_of, table_word, AreTableFields, AreEntryFields};
+
+use crate::script::fields::{read_aid, read_tag, read_value};
+use crate::script::keyword::TableWord;
+use crate::script::refusal::Refusal;
+use crate::script::words::{one_word, two_words};
+use card_terminal::Bytes;
+use object_card::Aid;
+use std::alloc::{Allocator, Global};
+use tlv_core::ObjectTag;
+
+/// A line of the table section.
+#[derive(Drop)]
+pub enum TableLine<A: Allocator = Global> {
+    /// Adds an application.
+    App(Aid),
+    /// Adds an entry to the last application.
+    Object(ObjectTag, Bytes<A>),
+    /// Adds a locked entry to the last application.
+    Locked(ObjectTag, Bytes<A>),
+}
+
+/// The table line with this first word, of which this is left.
+pub fn read_table_line<A: Allocator + Copy>(
+    alloc: A,
+    word: TableWord,
+    rest: &[u8],
+) -> Result<TableLine<A>, Refusal>
+    ensures ok { IfOk result (λ line. (table_word (addition_of line) ≡ word)
+        × AreTableFields (addition_of line) (words_in rest.now)) }
+    ensures refused { IfErr result (λ refusal. OnReason refusal (λ _.
+        (addition : Addition) → table_word addition ≡ word →
+        ¬ AreTableFields addition (words_in rest.now))) }
+{
+    match word {
+        TableWord::App => {
+            let aid = read_aid(alloc, one_word(rest)?)?;
+            Ok(TableLine::App(aid))
+        }
+        TableWord::Object => {
+            let (tag, value) = read_entry(alloc, rest)?;
+            Ok(TableLine::Object(tag, value))
+        }
+        TableWord::Locked => {
+            let (tag, value) = read_entry(alloc, rest)?;
+            Ok(TableLine::Locked(tag, value))
+        }
+    }
+}
+
+/// The TAG and the VALUE that are left of a line.
+pub fn read_entry<A: Allocator + Copy>(
+    alloc: A,
+    rest: &[u8],
+) -> Result<(ObjectTag, Bytes<A>), Refusal>
+    ensures ok { IfOk result (λ entry. AreEntryFields (words_in rest.now) entry.0 entry.1) }
+    ensures refused { IfErr result (λ refusal. OnReason refusal (λ _.
+        (tag value : List ℕ) → ¬ AreEntryFields (words_in rest.now) tag value)) }
+{
+    let (tag, value) = two_words(rest)?;
+    let tag = read_tag(alloc, tag)?;
+    let value = read_value(alloc, value)?;
+    Ok((tag, Bytes::new(value)))
+}

@@ -4,8 +4,7 @@ use crate::play::play_lines;
 use crate::play_fault::PlayFault;
 use crate::script::reading::SCRIPT_LIMIT;
 use crate::test_io::{Failing, lines};
-use crate::test_script::{CARD, Case, GOT, SELECT, SELECTED, expanded, plays};
-use linked_list_allocator::LocalHeap;
+use crate::test_script::{CARD, Case, GOT, SELECT, SELECTED, plays};
 use std::alloc::Global;
 use std::io;
 use std::io::Read;
@@ -360,125 +359,5 @@ fn the_longest_script(rt: HostRuntime) -> Result<(), Fail> {
         assert_eq!(rt; outcome, wanted);
         assert!(rt; printed.is_empty());
     }
-    Ok(())
-}
-
-/// What a script came to on a heap.
-#[derive(PartialEq, Eq)]
-enum Came {
-    /// To want of memory, after whole lines or none.
-    Short,
-    /// To an answer of the card that memory is wanting, and the object as it was.
-    Refused,
-    /// To its end.
-    Whole,
-}
-
-/// The script on a heap of this size.
-fn played_on_a_heap(
-    rt: &impl Abort,
-    alloc: Global,
-    size: usize,
-    script: &[u8],
-    texts: (&[u8], &[u8]),
-) -> Result<Came, Fail> {
-    let heap = LocalHeap::new(alloc, size)?;
-    let mut printed = Vec::new(alloc);
-    let mut reader = script;
-    match play_lines(&heap, &mut reader, &mut printed) {
-        Err(fault) => {
-            assert_eq!(rt; fault, PlayFault::OutOfMemory);
-            let printed = printed.as_slice();
-            assert!(rt;
-                texts.0.starts_with(printed) || texts.1.starts_with(printed),
-                "{size}"
-            );
-            Ok(Came::Short)
-        }
-        Ok(()) if printed.as_slice() == texts.0 => Ok(Came::Whole),
-        Ok(()) => {
-            assert_eq!(rt; printed.as_slice(), texts.1, "{size}");
-            Ok(Came::Refused)
-        }
-    }
-}
-
-/// How often a script came to what, on heaps of ever more bytes.
-#[derive(Drop)]
-struct Times {
-    short: usize,
-    refused: usize,
-    whole: usize,
-}
-
-/// The script on heaps of so many bytes at most, each with so many more than the one before.
-fn counted(
-    rt: &impl Abort,
-    alloc: Global,
-    (most, step): (usize, usize),
-    script: &[u8],
-    texts: (&[u8], &[u8]),
-) -> Result<Times, Fail> {
-    let (mut short, mut refused, mut whole) = (0_usize, 0_usize, 0_usize);
-    for size in (0..=most).step_by(step) {
-        match played_on_a_heap(rt, alloc, size, script, texts)? {
-            Came::Short => short = short.saturating_add(1),
-            Came::Refused => refused = refused.saturating_add(1),
-            Came::Whole => whole = whole.saturating_add(1),
-        }
-    }
-    Ok(Times {
-        short,
-        refused,
-        whole,
-    })
-}
-
-/// Each growth of a select, a get and a put is refused in turn.
-#[test]
-fn refused_growths(rt: HostRuntime) -> Result<(), Fail> {
-    let alloc = rt.alloc();
-    let script = format!(in alloc; "{CARD}{SELECT}get 5F20/put 5F20 42*256/get 5F20/")?;
-    let script = lines(alloc, script.as_str())?;
-    let pieces = "> 10DA5F20FF/< DA/> [42*255]/< 9000/> 00DA5F2001/< DA/> 42/";
-    let stored = format!(in alloc;
-        "{SELECTED}{GOT}{pieces}< 9000/= 9000/> 00CA5F2000/< CA5F20820100[42*251]6105/\
-         > 00C0000005/< C042424242429000/= 9000 5F20820100[42*256]/"
-    )?;
-    let stored = expanded(alloc, stored.as_str())?;
-    let kept = format!(in alloc; "{SELECTED}{GOT}{pieces}< 6581/= 6581/{GOT}")?;
-    let kept = expanded(alloc, kept.as_str())?;
-    let texts = (stored.as_slice(), kept.as_slice());
-    let times = counted(&rt, alloc, (32_768, 16), script.as_slice(), texts)?;
-    assert!(rt; times.short > 1_600, "{} sizes were too small", times.short);
-    assert!(rt; times.whole > 10, "{} sizes were enough", times.whole);
-    Ok(())
-}
-
-/// The last command of a chain whose pieces came one by one: where there is no memory for the value
-/// the card says so, and the object is as it was.
-#[test]
-fn a_value_that_is_refused_memory(rt: HostRuntime) -> Result<(), Fail> {
-    let alloc = rt.alloc();
-    let script = format!(in alloc;
-        "{CARD}{SELECT}[send 10DA5F20FF[42*255]/*12]send 00DA5F200142/get 5F20/"
-    )?;
-    let script = expanded(alloc, script.as_str())?;
-    let pieces = "[> 10DA5F20FF/< DA/> [42*255]/< 9000/= 9000/*12]> 00DA5F2001/< DA/> 42/";
-    let stored = format!(in alloc;
-        "{SELECTED}{pieces}< 9000/= 9000/> 00CA5F2000/< CA5F20820BF5[42*251]6100/\
-         [> 00C0000000/< C0[42*256]6100/*9]> 00C0000000/< C0[42*256]61FA/\
-         > 00C00000FA/< C0[42*250]9000/= 9000 5F20820BF5[42*3061]/"
-    )?;
-    let stored = expanded(alloc, stored.as_str())?;
-    let kept = format!(in alloc; "{SELECTED}{pieces}< 6581/= 6581/{GOT}")?;
-    let kept = expanded(alloc, kept.as_str())?;
-    let texts = (stored.as_slice(), kept.as_slice());
-    let times = counted(&rt, alloc, (65_536, 512), script.as_slice(), texts)?;
-    assert!(rt;
-        times.refused > 0,
-        "{} sizes had no room for the value",
-        times.refused
-    );
     Ok(())
 }

@@ -1,4 +1,4 @@
--- Worked texts, computed from the definitions, and near misses.
+-- Worked texts, computed from the definitions.
 use Rattle.std.proofs.Common.{◌≡◌, ℕ, List, [], ◌∷◌, ◌++◌, refl, true, false}
 use Rattle.std.specs.Prelude.{codes}
 use Rattle.hex.specs.Hex.{encode_with}

@@ -12,7 +12,7 @@ use tlv_core::{Obj, Objects};
 #[derive(Drop)]
 pub struct Answer<A: Allocator = Global> {
     status: Status,
-    gather: Gather<A>,
+    content: Vec<u8, A>,
 }
 
 impl<A: Allocator> Model for Answer<A> {
@@ -20,15 +20,18 @@ impl<A: Allocator> Model for Answer<A> {
 
     ghost Value = { Reply };
 
-    ghost view = { λ a. record { status = a.status; content = a.gather.bytes } };
+    ghost view = { λ a. record { status = a.status; content = a.content.items } };
 }
 
 impl<A: Allocator> Answer<A> {
-    /// An answer of these data.
+    /// An answer of these data, in memory of their size.
     pub(crate) fn new(status: Status, gather: Gather<A>) -> Answer<A>
         ensures { result ≡ record { status = status; content = gather.bytes } }
     {
-        Answer { status, gather }
+        Answer {
+            status,
+            content: gather.into_bytes(),
+        }
     }
 
     /// The status word.
@@ -42,7 +45,7 @@ impl<A: Allocator> Answer<A> {
     pub fn data(&self) -> &[u8]
         ensures { result.now ≡ self.now.content }
     {
-        self.gather.bytes()
+        self.content.as_slice()
     }
 
     /// The data as one object, if they are tag, length and value of one and nothing else.
@@ -50,7 +53,7 @@ impl<A: Allocator> Answer<A> {
         ensures some { IfSome result (λ object. IsOneObject self.now.content object) }
         ensures none { IfNone result ((object : Object) → IsOneObject self.now.content object → ⊥) }
     {
-        let data = self.gather.bytes();
+        let data = self.data();
         let Ok(mut objects) = Objects::over(data) else {
             return None;
         };

@@ -40,6 +40,15 @@ impl<A: Allocator> Gather<A> {
         self.bytes.as_slice()
     }
 
+    /// The bytes gathered. The room that they have not filled is given back.
+    pub fn into_bytes(self) -> Vec<u8, A>
+        ensures { result.items ≡ self.bytes }
+    {
+        let Gather { mut bytes, .. } = self;
+        bytes.shrink_to_fit();
+        bytes
+    }
+
     /// Drops the bytes, and keeps the room.
     pub fn clear(&mut self)
         ensures { self.new ≡ record { bytes = []; limit = self.old.limit } }

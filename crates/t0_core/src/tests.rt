@@ -184,6 +184,18 @@ fn no_room_for_a_gather(rt: HostRuntime) -> Result<(), Fail> {
     Ok(())
 }
 
+/// Data come out in memory of their size: the rest of the room can be taken again.
+#[test]
+fn unfilled_room_is_given_back(rt: HostRuntime) -> Result<(), Fail> {
+    let heap = LocalHeap::new(rt.alloc(), 384)?;
+    let mut gather = Gather::with_room(&heap, 256)?;
+    gather.push(0x41);
+    let bytes = gather.into_bytes();
+    assert_eq!(rt; bytes.as_slice(), [0x41].as_slice());
+    assert!(rt; Gather::with_room(&heap, 256).is_ok());
+    Ok(())
+}
+
 /// Each growth of the recorder is refused in turn: it keeps the front that it had noted until then.
 #[test]
 fn recorder_without_memory_has_lost_the_rest(rt: HostRuntime) -> Result<(), Fail> {

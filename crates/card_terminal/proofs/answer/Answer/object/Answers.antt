@@ -1,6 +1,5 @@
 use Rattle.std.proofs.Common.{ℕ, List, sym, subst, ◌∙◌, ap, length}
 use Rattle.tlv_core.specs.Object.{ObjectList}
-use Rattle.object_card.specs.OneStep.{Reply}
 use Rattle.card_terminal.specs.OneObject.{IsOneObject}
 use Rattle.card_terminal.proofs.ObjectLemmas.{first_is_all}
 use Rattle.card_terminal.proofs.answer.Answer.object.Goals as goal
@@ -8,7 +7,7 @@ use Rattle.card_terminal.proofs.answer.Answer.object.Goals as goal
 pub returns-else-size-data-clause-none : goal.returns-else-size-data-clause-none
 returns-else-size-data-clause-none g c = λ object one.
     let list = ap (λ (l : ObjectList). l.bytes) c.in-Ok.ensures.list in
-    let bytes = list ∙ c.bytes-data.ensures.value ∙ ap (λ (r : Reply). r.content) c.self.view_is in
+    let bytes = list ∙ c.data-data.ensures in
     let One : List ℕ → Type 0 = λ bs. IsOneObject bs object in
     let gives = c.in-Some.ensures.steps in
     let all = first_is_all c.in-Ok.objects.bytes gives.0.0 _ _ _ _ _ object gives.0.1

@@ -16,3 +16,4 @@ mod Vectors
 pub mod TalkVectors
 pub mod WholeLemmas
 mod RunLemmas
+mod OverLemmas

@@ -78,7 +78,7 @@ next_leads c came ex new byte sends goes_on (to_end units status over is) =
 next_leads c came ex new byte sends goes_on (to_stall units stall are failed is) =
     absurd (failed_sends_nothing byte (exchange_turn ex) failed sends)
 next_leads c came ex new byte sends goes_on
-    (to_fault units first front before b under failed is) =
+    (to_fault units first front before b fault under why final failed is) =
     absurd (failed_sends_nothing byte (exchange_turn ex) failed sends)
 
 -- ---- a character of the card
@@ -108,7 +108,7 @@ end_of c came ex (to_front units first front under is) = inl (units, first, fron
 end_of c came ex (to_end units status over is) =
     inr (inr (status, over_turn c ex units status over))
 end_of c came ex (to_stall units stall are failed is) = inr (inl failed)
-end_of c came ex (to_fault units first front before b under failed is) = inr (inl failed)
+end_of c came ex (to_fault units first front before b fault under why final failed is) = inr (inl failed)
 
 continues_leads : (c : Command) (came : List Character) (new : ExchangeOf) (units : List UnitOf)
     (first : Option Dialogue) (d : Dialogue)
@@ -180,11 +180,13 @@ stall_leads c came ex new byte going failed goes_on ends takes leads =
     ]
 
 pub fault_leads : (c : Command) (came : List Character) (ex new : ExchangeOf) (byte : ℕ)
-    → (IsAtEnd ex → ⊥) → exchange_turn new ≡ Failed → Leads c came ex
+    (fault : LineFault) → (IsAtEnd ex → ⊥) → fault_of ex.host ex.gather byte ≡ Some fault
+    → is_final fault ≡ true → exchange_turn new ≡ Failed → Leads c came ex
     → Leads c (came ++ (Card, byte) ∷ []) new
-fault_leads c came ex new byte going failed leads = elim (end_of c came ex leads) [
+fault_leads c came ex new byte fault going why final failed leads = elim (end_of c came ex leads) [
   | inl (units, first, front, under, is) ↦
-      to_fault units first front ex byte under failed (ap (λ cs. cs ++ (Card, byte) ∷ []) is)
+      to_fault units first front ex byte fault under why final failed
+      (ap (λ cs. cs ++ (Card, byte) ∷ []) is)
   | inr end ↦ absurd (going end)
 ]
 
@@ -232,7 +234,7 @@ end_leads c came ex status done (to_end units other over is) =
     (units, subst P same over.gathers, is)
 end_leads c came ex status done (to_stall units stall are failed is) =
     let e : Failed ≡ Done status = sym failed ∙ done in absurd (cc)
-end_leads c came ex status done (to_fault units first front before b under failed is) =
+end_leads c came ex status done (to_fault units first front before b fault under why final failed is) =
     let e : Failed ≡ Done status = sym failed ∙ done in absurd (cc)
 
 -- a room that is full has the most bytes of a response

@@ -172,5 +172,5 @@ led_begins c came ex (to_end units status over is) =
     inl (as_came c _ came is (whole_begins c units over.gathers.is_open over.are_dialogues))
 led_begins c came ex (to_stall units stall are failed is) =
     inl (as_came c _ came is (whole_begins c units stall.is_open are))
-led_begins c came ex (to_fault units first front before byte under failed is) =
+led_begins c came ex (to_fault units first front before byte fault under why final failed is) =
     inr (characters_to units first front, byte, is, front_begins c before units first front under)

@@ -1,15 +1,17 @@
 -- Which characters led to an exchange, whatever the card sent.
-use Rattle.std.specs.Prelude.{◌≡◌, ℕ, List, [], ◌∷◌, ◌++◌, Option}
+use Rattle.std.specs.Prelude.{◌≡◌, ℕ, List, [], ◌∷◌, ◌++◌, Option, Some, true}
 use Rattle.std.specs.List.{AllByRecursion, flat_map}
 use Rattle.apdu_core.specs.StatusWord.{StatusWord}
 use Rattle.apdu_core.specs.CommandBytes.{Command}
 use Rattle.t0_core.specs.declared.end.End.TheVariants.{Card}
 use Rattle.t0_core.specs.declared.host_end.HostTurn.TheVariants.{Failed}
+use Rattle.t0_core.specs.declared.line_fault.LineFault.{LineFault}
 use Rattle.t0_core.specs.Character.{Character}
 use Rattle.t0_core.specs.Dialogue.{Dialogue, characters, IsDialogue}
 use Rattle.t0_core.specs.Front.{Front, front_characters}
+use Rattle.t0_core.specs.HostSide.{fault_of}
 use Rattle.card_terminal.specs.Gathered.{UnitOf, dialogues_of, IsOpenExchange}
-use Rattle.card_terminal.specs.ExchangeSide.{ExchangeOf, UnderWay, IsOver, Stall, so_far, exchange_turn}
+use Rattle.card_terminal.specs.ExchangeSide.{ExchangeOf, UnderWay, IsOver, Stall, so_far, exchange_turn, is_final}
 
 -- the characters of units
 abbrev pub unit_characters : List UnitOf → List Character
@@ -22,7 +24,8 @@ characters_to units first front = flat_map characters (so_far units first) ++ fr
 
 -- These characters lead to the exchange as it is: to a front of a dialogue; to the end of a
 -- whole exchange; to that of
--- one that stalls; or a character came last that was none of an exchange, or too much.
+-- one that stalls; or a character came last that was refused for good at such a front: it was no
+-- procedure byte where one was due, or it was too much (`is_final`).
 pub data Leads (c : Command) (came : List Character) (ex : ExchangeOf) : Type 0 where
   to_front : (units : List UnitOf) (first : Option Dialogue) (front : Front)
       → UnderWay c ex units first front
@@ -33,8 +36,10 @@ pub data Leads (c : Command) (came : List Character) (ex : ExchangeOf) : Type 0 
       → AllByRecursion IsDialogue (flat_map dialogues_of units)
       → exchange_turn ex ≡ Failed → came ≡ unit_characters units → Leads c came ex
   to_fault : (units : List UnitOf) (first : Option Dialogue) (front : Front)
-      (before : ExchangeOf) (byte : ℕ)
-      → UnderWay c before units first front → exchange_turn ex ≡ Failed
+      (before : ExchangeOf) (byte : ℕ) (fault : LineFault)
+      → UnderWay c before units first front
+      → fault_of before.host before.gather byte ≡ Some fault → is_final fault ≡ true
+      → exchange_turn ex ≡ Failed
       → came ≡ characters_to units first front ++ (Card, byte) ∷ [] → Leads c came ex
 
 -- the characters are a front of those of an open exchange

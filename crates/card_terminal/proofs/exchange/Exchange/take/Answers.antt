@@ -3,9 +3,9 @@ use Rattle.std.specs.List.{flat_map}
 use Rattle.t0_core.specs.declared.end.End.TheVariants.{Card}
 use Rattle.t0_core.specs.Meaning.{received}
 use Rattle.t0_core.specs.Room.{Room}
-use Rattle.t0_core.specs.HostSide.{Hosting}
+use Rattle.t0_core.specs.HostSide.{Hosting, fault_of}
 use Rattle.t0_core.specs.HostLaws.{going, too_long}
-use Rattle.card_terminal.specs.ExchangeSide.{so_far}
+use Rattle.card_terminal.specs.ExchangeSide.{ExchangeOf, so_far}
 use Rattle.card_terminal.proofs.EndLemmas.{at_end, follows_as, asks_next, ends_over, ends_stalled, same_status}
 use Rattle.card_terminal.proofs.ExchangeLemmas.{goes_further, seen_under_way}
 use Rattle.std.proofs.lemmas.Result.{err_from_is_err_and}
@@ -191,10 +191,12 @@ pub returns-in_err-take-clause-led : goal.returns-in_err-take-clause-led
 returns-in_err-take-clause-led g c = λ command came leads.
     let p = err_from_is_err_and c.from_residual.result c.from_residual.ensures.1 in
     rw (p.1, p.2) (λ final.
-    fault_leads command came c.args.self.now _ c.args.byte
+    fault_leads command came c.args.self.now _ c.args.byte _
     (λ end. final_is_no_end _ final
     (some_fault _ AfterEnd (c.in_err-take.ensures.fault
     ∙ at_end_fault _ _ c.self.inside.gather c.args.byte c.self.view_is c.self.invariant end)))
+    (ap (λ (e : ExchangeOf). fault_of e.host e.gather c.args.byte) (sym c.self.view_is)
+    ∙ sym c.in_err-take.ensures.fault) final
     (failed_turn c.self.inside.stalled c.take.new.self
     (broken c.self.inside.end c.take.new.self _ c.in_err-take.ensures.refused.0 final)) leads)
 

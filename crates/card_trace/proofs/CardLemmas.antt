@@ -1,20 +1,23 @@
 -- What lines of a script of `card` come to, one after another.
-use Rattle.std.proofs.Common.{◌≡◌, ◌≢◌, ◌⊎◌, inl, inr, Result, Ok, Err, drop, length-append, ℕ, zero, suc, ◌+◌, ◌-◌, ◌<◌, ◌≤◌, List, [], ◌∷◌, ◌++◌, length, take, get_or, Option, Some, None, IfSome, Bool, true, false, nat_lt, ◌==◌, if◌then◌else◌, refl, sym, ap, subst, ◌∙◌, arith, append_assoc, append-nil, true≢false, rules}
-use Rattle.std.proofs.lemmas.Bool.{eqb-true, ltb-true, ltb-false}
+use Rattle.std.proofs.Common.{◌≡◌, ◌⊎◌, inl, inr, Result, Ok, Err, drop, length-append, ℕ, zero, suc, ◌+◌, ◌<◌, ◌≤◌, List, [], ◌∷◌, ◌++◌, length, take, Option, Some, None, IfSome, Bool, true, false, nat_lt, if◌then◌else◌, refl, sym, ap, subst, ◌∙◌, arith, append_assoc, append-nil, true≢false, rules}
+use Rattle.std.proofs.lemmas.Bool.{eqb-true, ltb-true, ltb-false, ne_eqb}
 use Rattle.std.proofs.KnownBytes.{Appends-nil, Appends-trans}
 use Rattle.std.specs.Io.KnownBytes.{Appends}
 use Rattle.std.specs.Str.Lines.{lines}
 use Rattle.std.specs.Prelude.{OnOk, OnErr, is_ok, is_err}
-use Rattle.std.proofs.lemmas.List.{take_more, take-append-drop}
+use Rattle.std.proofs.lemmas.List.{take-append-drop}
 use Rattle.t0_core.specs.declared.end.End.{End}
 use Rattle.t0_core.specs.declared.end.End.TheVariants.{Terminal, Card}
-use Rattle.t0_core.specs.Character.{sent_by}
-use Rattle.t0_core.specs.Plan.{Course, Cursor, advanced, plan_kept}
+use Rattle.t0_core.specs.Character.{Character, sent_by}
+use Rattle.t0_core.specs.Plan.{Course, Cursor, advanced, plain, plan_kept}
 use Rattle.t0_core.specs.History.{Event, Passed, passed}
 use Rattle.t0_core.specs.History as history
-use Rattle.t0_core.specs.CardSide.{Stage, EndOf, Taking_header, Refusing, Serving, Ending, listens, takes_plan, still_to_go}
+use Rattle.t0_core.specs.CardSide.{Stage, EndOf, Taking_header, Refusing, Serving, Ending, listens, takes_plan, with_character, still_to_go}
+use Rattle.t0_core.specs.CardHistory.{Leads, LeadsUnder, IsLast, under_way}
+use Rattle.t0_core.specs.CardLaws.{answers_on}
 use Rattle.object_card.specs.Tables.{Application}
-use Rattle.object_card.specs.State.{CardState}
+use Rattle.object_card.specs.State.{CardState, after_reset}
+use Rattle.object_card.specs.CardMeaning.{Does}
 use Rattle.object_card.specs.CardView.{CardView}
 use Rattle.object_card.specs.Builder.{new_card}
 use Rattle.card_trace.specs.declared.fixed_line.FixedLine.TheVariants as fixed
@@ -25,35 +28,262 @@ use Rattle.card_trace.specs.TraceText.{handed_out_text}
 use Rattle.card_trace.specs.ScriptWords.{words_of}
 use Rattle.card_trace.specs.ScriptTable.{MayStandIn}
 use Rattle.card_trace.specs.ScriptCard.{CardMeaning, Adds, Plan, Take, HandOut, Reset, Table, is_card_table_line, IsCardLine}
-use Rattle.card_trace.specs.CardScripts.{RunningEnd, CardRun, Building, Running, IsLed, end_at, Writes, Takes, HandsOut, IsEnough, RunsLine, DoesLine, DoesOrPasses, DoesAll, DoesFrom, CardWrites}
+use Rattle.card_trace.specs.CardScripts.{Past, heard, reset_to, no_past, RunningEnd, CardRun, Building, Running, TakeInTurn, IsFresh, AtWork, end_at, IsReady, IsReadyBy, LeadOn, Writes, Takes, HandsOut, IsEnough, RunsLine, DoesLine, DoesOrPasses, DoesAll, DoesFrom, CardWrites}
 
 -- ---- characters that pass
 
-passed_more : (from : End) (bytes : List ℕ) (byte : ℕ)
-    → passed (sent_by from (bytes ++ byte ∷ [])) ≡ passed (sent_by from bytes) ++ Passed (from, byte) ∷ []
-passed_more from [] byte = refl
-passed_more from (b ∷ bytes) byte = ap (λ l. Passed (from, b) ∷ l) (passed_more from bytes byte)
+sent_one_more : (from : End) (bytes : List ℕ) (byte : ℕ)
+    → sent_by from (bytes ++ byte ∷ []) ≡ sent_by from bytes ++ (from, byte) ∷ []
+sent_one_more from [] byte = refl
+sent_one_more from (b ∷ bytes) byte = ap (λ l. (from, b) ∷ l) (sent_one_more from bytes byte)
 
-pub one_passed : (from : End) (events : List Event) (bytes : List ℕ) (byte : ℕ)
-    → (events ++ passed (sent_by from bytes)) ++ Passed (from, byte) ∷ [] ≡ events ++ passed (sent_by from (bytes ++ byte ∷ []))
-one_passed from events bytes byte =
-    append_assoc events (passed (sent_by from bytes)) (Passed (from, byte) ∷ [])
-    ∙ ap (λ l. events ++ l) (sym (passed_more from bytes byte))
+passed_both : (a b : List Character) → passed (a ++ b) ≡ passed a ++ passed b
+passed_both [] b = refl
+passed_both (c ∷ a) b = ap (λ l. Passed c ∷ l) (passed_both a b)
+
+-- characters and plans, and then more of them
+ready_both : (past : Past) (a b : List Character) (p q : List Course) (now : AtWork)
+    → IsReady (heard (heard past a p) b q) now → IsReady (heard past (a ++ b) (p ++ q)) now
+ready_both past a b p q now ready =
+    let E : List Event → Type 0 = λ l. IsReady (record {
+      first = past.first;
+      events = l;
+      stood = past.stood;
+      came = (past.came ++ a) ++ b;
+      taken = (past.taken ++ p) ++ q;
+    }) now in
+    let C : List Character → Type 0 = λ l. IsReady (record {
+      first = past.first;
+      events = past.events ++ passed (a ++ b);
+      stood = past.stood;
+      came = l;
+      taken = (past.taken ++ p) ++ q;
+    }) now in
+    let T : List Course → Type 0 = λ l. IsReady (record {
+      first = past.first;
+      events = past.events ++ passed (a ++ b);
+      stood = past.stood;
+      came = past.came ++ (a ++ b);
+      taken = l;
+    }) now in
+    let events : (past.events ++ passed a) ++ passed b ≡ past.events ++ passed (a ++ b) =
+    append_assoc past.events (passed a) (passed b) ∙ ap (λ l. past.events ++ l) (sym (passed_both a b)) in
+    subst T (append_assoc past.taken p q)
+    (subst C (append_assoc past.came a b) (subst E events ready))
+
+in_turn_both : (left p mid q still : List Course) → TakeInTurn left p mid → TakeInTurn mid q still
+    → TakeInTurn left (p ++ q) still
+in_turn_both left [] mid q still same then_q =
+    let P : List Course → Type 0 = λ l. TakeInTurn l q still in subst P same then_q
+in_turn_both [] (x ∷ p) mid q still first then_q = (first.0, in_turn_both [] p mid q still first.1 then_q)
+in_turn_both (n ∷ left) (x ∷ p) mid q still first then_q = (first.0, in_turn_both left p mid q still first.1 then_q)
+
+lead_both : (old mid new : AtWork) (a b : List Character) → LeadOn old a mid → LeadOn mid b new → LeadOn old (a ++ b) new
+lead_both old mid new a b first second = λ past ready.
+    let f = first past ready in
+    let s = second (heard past a f.0) f.2 in (
+      f.0 ++ s.0,
+      in_turn_both old.1.rest f.0 mid.1.rest s.0 new.1.rest f.1 s.1,
+      ready_both past a b f.0 s.0 new s.2,
+    )
+
+ready_same : (past : Past) (now : AtWork) → IsReady past now → IsReady (heard past [] []) now
+ready_same past now ready =
+    let E : List Event → Type 0 = λ l. IsReady (record {
+      first = past.first;
+      events = l;
+      stood = past.stood;
+      came = past.came;
+      taken = past.taken;
+    }) now in
+    let C : List Character → Type 0 = λ l. IsReady (record {
+      first = past.first;
+      events = past.events ++ [];
+      stood = past.stood;
+      came = l;
+      taken = past.taken;
+    }) now in
+    let T : List Course → Type 0 = λ l. IsReady (record {
+      first = past.first;
+      events = past.events ++ [];
+      stood = past.stood;
+      came = past.came ++ [];
+      taken = l;
+    }) now in
+    subst T (sym (append-nil past.taken)) (subst C (sym (append-nil past.came)) (subst E (sym (append-nil past.events)) ready))
+
+-- by no characters
+pub lead_none : (now : AtWork) (none : List Character) → none ≡ [] → LeadOn now none now
+lead_none now none is =
+    let P : List Character → Type 0 = λ l. LeadOn now l now in
+    subst P (sym is) (λ past ready. ([], refl, ready_same past now ready))
+
+-- none is no more than are asked for
+pub none_within : (most : Option ℕ) (none : List ℕ) → none ≡ [] → IfSome most (λ n. length none ≤ n)
+none_within None none is = tt
+none_within (Some n) none is = let no_length : length none ≡ 0 = ap length is in omega (arith, no_length)
 
 -- one more character, of those that so far have passed
-pub led_by_one : (from : End) (first : CardState) (events : List Event) (bytes more : List ℕ) (byte : ℕ) (e : EndOf CardView)
-    → more ≡ bytes ++ byte ∷ []
-    → IsLed (end_at first ((events ++ passed (sent_by from bytes)) ++ Passed (from, byte) ∷ []) e)
-    → IsLed (end_at first (events ++ passed (sent_by from more)) e)
-led_by_one from first events bytes more byte e is led =
-    let P : List Event → Type 0 = λ l. IsLed (end_at first l e) in
-    subst P (one_passed from events bytes byte ∙ ap (λ l. events ++ passed (sent_by from l)) (sym is)) led
+pub lead_one_more : (from : End) (old mid new : AtWork) (bytes more : List ℕ) (byte : ℕ) → more ≡ bytes ++ byte ∷ []
+    → LeadOn old (sent_by from bytes) mid → LeadOn mid ((from, byte) ∷ []) new → LeadOn old (sent_by from more) new
+lead_one_more from old mid new bytes more byte is so_far one =
+    let P : List Character → Type 0 = λ l. LeadOn old l new in
+    subst P (sym (sent_one_more from bytes byte) ∙ ap (sent_by from) (sym is))
+    (lead_both old mid new (sent_by from bytes) ((from, byte) ∷ []) so_far one)
 
-pub led_by_none : (from : End) (first : CardState) (events : List Event) (bytes : List ℕ) (e : EndOf CardView)
-    → bytes ≡ [] → IsLed (end_at first events e) → IsLed (end_at first (events ++ passed (sent_by from bytes)) e)
-led_by_none from first events bytes e is led =
-    let P : List Event → Type 0 = λ l. IsLed (end_at first l e) in
-    subst P (sym (append-nil events) ∙ ap (λ l. events ++ passed (sent_by from l)) (sym is)) led
+-- ---- plans that are taken
+
+takes_next : (left : List Course) (kept : Option Course)
+    → TakeInTurn left (plan_kept (advanced (record { rest = left; kept = kept })) ∷ [])
+    (advanced (record { rest = left; kept = kept })).rest
+takes_next [] kept = (refl, refl)
+takes_next (p ∷ left) kept = (refl, refl)
+
+-- at its turn, with a plan taken before, the end is on the plan that is kept
+kept_is_last : (past : Past) (now : AtWork) → IsReady past now → listens now.0.stage ≡ false → takes_plan now.0.stage ≡ false
+    → IsLast (plan_kept now.1) past.taken
+kept_is_last past now ready silent none =
+    let under = ready.led.under_plans in
+    ready.keeps plain (answers_on Does now.0.card.state now.0.card.prepared now.0.stage under.plan.cut plain under.front
+    under.at_front.stands silent none)
+
+-- a character of the card
+pub lead_turn : (old new : EndOf CardView) (before after : Cursor) (byte : ℕ) → listens old.stage ≡ false
+    → after ≡ (if takes_plan old.stage then advanced before else before)
+    → ((first : CardState) (events : List Event)
+    → Leads Does after_reset first events old.card.state old.card.prepared old.stage
+    → Leads Does after_reset first (events ++ Passed (Card, byte) ∷ []) new.card.state new.card.prepared new.stage)
+    → ((first : CardState) (came : List Character) (taken : List Course)
+    → LeadsUnder Does first came taken old.card.state old.card.prepared old.stage
+    → (takes_plan old.stage ≡ false → IsLast (plan_kept before) taken)
+    → LeadsUnder Does first (came ++ (Card, byte) ∷ []) (if takes_plan old.stage then taken ++ plan_kept after ∷ [] else taken)
+    new.card.state new.card.prepared new.stage)
+    → LeadOn (old, before) ((Card, byte) ∷ []) (new, after)
+lead_turn old new before after byte silent is led led_under = λ past ready. by past ready (takes_plan old.stage) refl where
+  by : (past : Past) → IsReady past (old, before) → (v : Bool) → takes_plan old.stage ≡ v
+      → IsReadyBy past before.rest ((Card, byte) ∷ []) (new, after)
+  by past ready true e =
+      let is_next : after ≡ advanced before = rw e at is in
+      let T : Cursor → Type 0 = λ c. TakeInTurn before.rest (plan_kept c ∷ []) c.rest in
+      let U : Bool → Type 0 = λ w. LeadsUnder Does past.stood (past.came ++ (Card, byte) ∷ [])
+      (if w then past.taken ++ plan_kept after ∷ [] else past.taken) new.card.state new.card.prepared new.stage in (
+        plan_kept after ∷ [],
+        subst T (sym is_next) (takes_next before.rest before.kept),
+        record {
+          led = record {
+            by_all = led past.first past.events ready.led.by_all;
+            under_plans = subst U e (led_under past.stood past.came past.taken ready.led.under_plans
+                (λ none. kept_is_last past (old, before) ready silent none));
+          };
+          keeps = λ plan has. (past.taken, refl);
+        },
+      )
+  by past ready false e =
+      let same : after ≡ before = rw e at is in
+      let U : Bool → Type 0 = λ w. LeadsUnder Does past.stood (past.came ++ (Card, byte) ∷ [])
+      (if w then past.taken ++ plan_kept after ∷ [] else past.taken) new.card.state new.card.prepared new.stage in
+      let N : List Course → Type 0 = λ l. LeadsUnder Does past.stood (past.came ++ (Card, byte) ∷ []) l
+      new.card.state new.card.prepared new.stage in
+      let last : IsLast (plan_kept before) past.taken = kept_is_last past (old, before) ready silent e in (
+        [],
+        ap (λ c. c.rest) same,
+        record {
+          led = record {
+            by_all = led past.first past.events ready.led.by_all;
+            under_plans = subst N (sym (append-nil past.taken))
+                (subst U e (led_under past.stood past.came past.taken ready.led.under_plans (λ none. last)));
+          };
+          keeps = λ plan has. (
+            last.0,
+            append-nil past.taken ∙ last.1 ∙ ap (λ c. last.0 ++ plan_kept c ∷ []) (sym same),
+          );
+        },
+      )
+
+-- before the card's turn no plan is taken
+no_plan_yet : (stage : Stage) → listens stage ≡ true → takes_plan stage ≡ false
+no_plan_yet (Taking_header bytes) listening =
+    let few : length bytes < 5 = ltb-true (length bytes) 5 listening in ne_eqb (length bytes) 5 (λ e. absurd (omega (arith, few, e)))
+no_plan_yet (Refusing h p3 status done) listening = refl
+no_plan_yet (Serving s came) listening = refl
+no_plan_yet (Ending status) listening = refl
+
+-- the end listens, and nothing changes
+pub lead_listens : (start : AtWork) (characters : List Character) (old new : EndOf CardView) (before after : Cursor)
+    → listens old.stage ≡ true → new ≡ old → after ≡ (if takes_plan old.stage then advanced before else before)
+    → LeadOn start characters (old, before) → LeadOn start characters (new, after)
+lead_listens start characters old new before after listening same is led =
+    let still : after ≡ before = rw (no_plan_yet old.stage listening) at is in
+    let E : EndOf CardView → Type 0 = λ e. LeadOn start characters (e, after) in
+    let C : Cursor → Type 0 = λ c. LeadOn start characters (old, c) in
+    subst E (sym same) (subst C (sym still) led)
+
+keeps_with : (stage : Stage) (byte : ℕ) (cursor : Cursor) (taken : List Course)
+    → ((plan : Course) → under_way stage plan ≡ plan ∷ [] → IsLast (plan_kept cursor) taken)
+    → (plan : Course) → under_way (with_character stage byte) plan ≡ plan ∷ [] → IsLast (plan_kept cursor) taken
+keeps_with (Taking_header bytes) byte cursor taken keeps = keeps
+keeps_with (Refusing h p3 status done) byte cursor taken keeps = keeps
+keeps_with (Serving s came) byte cursor taken keeps = keeps
+keeps_with (Ending status) byte cursor taken keeps = keeps
+
+-- a character of the terminal
+pub lead_take : (old new : EndOf CardView) (byte : ℕ) → new ≡ record old { stage = with_character old.stage byte }
+    → ((first : CardState) (events : List Event)
+    → Leads Does after_reset first events old.card.state old.card.prepared old.stage
+    → Leads Does after_reset first (events ++ Passed (Terminal, byte) ∷ []) new.card.state new.card.prepared new.stage)
+    → ((first : CardState) (came : List Character) (taken : List Course)
+    → LeadsUnder Does first came taken old.card.state old.card.prepared old.stage
+    → LeadsUnder Does first (came ++ (Terminal, byte) ∷ []) taken new.card.state new.card.prepared new.stage)
+    → (plans : Cursor) → LeadOn (old, plans) ((Terminal, byte) ∷ []) (new, plans)
+lead_take old new byte is led led_under plans = λ past ready.
+    let N : List Course → Type 0 = λ l. LeadsUnder Does past.stood (past.came ++ (Terminal, byte) ∷ []) l
+    new.card.state new.card.prepared new.stage in
+    let K : Stage → Type 0 = λ s. (plan : Course) → under_way s plan ≡ plan ∷ [] → IsLast (plan_kept plans) past.taken in
+    let L : List Course → Type 0 = λ l. (plan : Course) → under_way new.stage plan ≡ plan ∷ [] → IsLast (plan_kept plans) l in (
+      [],
+      refl,
+      record {
+        led = record {
+          by_all = led past.first past.events ready.led.by_all;
+          under_plans = subst N (sym (append-nil past.taken)) (led_under past.stood past.came past.taken ready.led.under_plans);
+        };
+        keeps = subst L (sym (append-nil past.taken))
+            (subst K (sym (ap (λ e. e.stage) is)) (keeps_with old.stage byte plans past.taken ready.keeps));
+      },
+    )
+
+-- what holds of a result that is no error
+pub where_ok : {T E : Type 0} (r : Result T E) (P : Type 0) → is_err r ≡ false → OnOk r P → P
+where_ok (Ok x) P fine holds = holds
+where_ok (Err x) P fine holds = absurd (true≢false fine)
+
+-- before a header nothing has been taken
+keeps_none : (stage : Stage) (cursor : Cursor) (taken : List Course) → stage ≡ Taking_header []
+    → (plan : Course) → under_way stage plan ≡ plan ∷ [] → IsLast (plan_kept cursor) taken
+keeps_none stage cursor taken is plan has =
+    let none : [] ≡ plan ∷ [] = rw is at has in absurd (cc)
+
+-- a reset
+pub ready_reset : (old new : EndOf CardView) (plans : Cursor) → new.stage ≡ Taking_header []
+    → ((first : CardState) (events : List Event)
+    → Leads Does after_reset first events old.card.state old.card.prepared old.stage
+    → Leads Does after_reset first (events ++ history.Reset ∷ []) new.card.state new.card.prepared new.stage)
+    → LeadsUnder Does new.card.state [] [] new.card.state new.card.prepared new.stage
+    → (past : Past) → IsReady past (old, plans) → IsReady (reset_to past new.card.state) (new, plans)
+ready_reset old new plans stage led led_under past ready = record {
+  led = record { by_all = led past.first past.events ready.led.by_all; under_plans = led_under };
+  keeps = keeps_none new.stage plans [] stage;
+}
+
+-- a card's end that is made
+ready_made : (state : CardState) (made : EndOf CardView) (plans : Cursor) → made.stage ≡ Taking_header []
+    → Leads Does after_reset state [] made.card.state made.card.prepared made.stage
+    → LeadsUnder Does state [] [] made.card.state made.card.prepared made.stage
+    → IsReady (no_past state) (made, plans)
+ready_made state made plans stage led led_under = record {
+  led = record { by_all = led; under_plans = led_under };
+  keeps = keeps_none made.stage plans [] stage;
+}
 
 -- ---- how much a card's end may still hand out
 
@@ -161,45 +391,45 @@ pub on_ok : {T E : Type 0} (r : Result T E) (P Q : Type 0) → (P → Q) → OnO
 on_ok (Ok x) P Q f h = f h
 on_ok (Err e) P Q f h = tt
 
-pub writes_handed : (old new : EndOf CardView) (most : Option ℕ) (handed shown : List ℕ) (before after : Option (List ℕ))
+pub writes_handed : (old new : AtWork) (most : Option ℕ) (handed shown : List ℕ) (before after : Option (List ℕ))
     → shown ≡ handed
-    → IsEnough most (length handed) new.stage
-    → ((first : CardState) (events : List Event) → IsLed (end_at first events old)
-    → IsLed (end_at first (events ++ passed (sent_by Card handed)) new))
+    → IsEnough most (length handed) new.0.stage
+    → LeadOn old (sent_by Card handed) new
     → Appends before after (handed_out_text shown)
     → Writes (λ o text n. HandsOut o most text n) old new before after
-writes_handed old new most handed shown before after is enough led appends = λ first events h. (
-  handed_out_text handed,
-  events ++ passed (sent_by Card handed),
-  led first events h,
-  record {
-    handed = handed;
-    goes_on = record { same_first = refl; events_are = refl; is_led = led first events h };
-    is_enough = enough;
-    prints = refl;
-  },
-  subst (λ (bytes : List ℕ). Appends before after (handed_out_text bytes)) is appends,
-)
+writes_handed old new most handed shown before after is enough led appends = λ past ready.
+    let l = led past ready in (
+      handed_out_text handed,
+      heard past (sent_by Card handed) l.0,
+      l.2,
+      record {
+        handed = handed;
+        goes_on = record { taken = l.0; past_is = refl; in_turn = l.1; is_led = l.2.led };
+        is_enough = enough;
+        prints = refl;
+      },
+      subst (λ (bytes : List ℕ). Appends before after (handed_out_text bytes)) is appends,
+    )
 
-pub writes_taken : (old new : EndOf CardView) (bytes taken : List ℕ) (before after : Option (List ℕ))
+pub writes_taken : (old new : AtWork) (bytes taken : List ℕ) (before after : Option (List ℕ))
     → taken ≡ bytes
-    → ((first : CardState) (events : List Event) → IsLed (end_at first events old)
-    → IsLed (end_at first (events ++ passed (sent_by Terminal taken)) new))
+    → LeadOn old (sent_by Terminal taken) new
     → after ≡ before
     → Writes (λ o text n. Takes o bytes text n) old new before after
-writes_taken old new bytes taken before after is led same = λ first events h. (
-  [],
-  events ++ passed (sent_by Terminal taken),
-  led first events h,
-  record {
-    taken = taken;
-    refused = [];
-    all = sym is ∙ sym (append-nil taken);
-    goes_on = record { same_first = refl; events_are = refl; is_led = led first events h };
-    prints = inl (refl, refl);
-  },
-  subst (λ (w : Option (List ℕ)). Appends before w []) (sym same) (Appends-nil before),
-)
+writes_taken old new bytes taken before after is led same = λ past ready.
+    let l = led past ready in (
+      [],
+      heard past (sent_by Terminal taken) l.0,
+      l.2,
+      record {
+        taken = taken;
+        refused = [];
+        all = sym is ∙ sym (append-nil taken);
+        goes_on = record { taken = l.0; past_is = refl; in_turn = l.1; is_led = l.2.led };
+        prints = inl (refl, refl);
+      },
+      subst (λ (w : Option (List ℕ)). Appends before w []) (sym same) (Appends-nil before),
+    )
 
 -- all of it
 pub whole : (i : ℕ) (bytes : List ℕ) → length bytes ≤ i → take i bytes ≡ bytes
@@ -214,56 +444,58 @@ pub refused_end : {T E : Type 0} (r : Result T E) (old new : EndOf CardView) →
 refused_end (Ok x) old new e l same = absurd (true≢false (sym e))
 refused_end (Err x) old new e l same = (same, sym l)
 
-pub writes_refused : (start old new : EndOf CardView) (bytes : List ℕ) (i : ℕ) (w before after : Option (List ℕ))
+pub writes_refused : (start : AtWork) (old new : EndOf CardView) (plans : Cursor) (bytes : List ℕ) (i : ℕ)
+    (w before after : Option (List ℕ))
     → (new ≡ old) × (listens old.stage ≡ false) → before ≡ w
-    → ((first : CardState) (events : List Event) → IsLed (end_at first events start)
-    → IsLed (end_at first (events ++ passed (sent_by Terminal (take i bytes))) old))
+    → LeadOn start (sent_by Terminal (take i bytes)) (old, plans)
     → Appends before after (fixed_text fixed.NotListening)
-    → Writes (λ o text n. Takes o bytes text n) start new w after
-writes_refused start old new bytes i w before after refused unwritten led appends =
-    let P : EndOf CardView → Type 0 = λ e. Writes (λ o text n. Takes o bytes text n) start e w after in
-    subst P (sym refused.0) (λ first events h. (
+    → Writes (λ o text n. Takes o bytes text n) start (new, plans) w after
+writes_refused start old new plans bytes i w before after refused unwritten led appends =
+    let P : EndOf CardView → Type 0 = λ e. Writes (λ o text n. Takes o bytes text n) start (e, plans) w after in
+    subst P (sym refused.0) (λ past ready.
+    let l = led past ready in (
       fixed_text fixed.NotListening,
-      events ++ passed (sent_by Terminal (take i bytes)),
-      led first events h,
+      heard past (sent_by Terminal (take i bytes)) l.0,
+      l.2,
       record {
         taken = take i bytes;
         refused = drop i bytes;
         all = sym (take-append-drop i bytes);
-        goes_on = record { same_first = refl; events_are = refl; is_led = led first events h };
+        goes_on = record { taken = l.0; past_is = refl; in_turn = l.1; is_led = l.2.led };
         prints = inr (refused.1, refl);
       },
       subst (λ (x : Option (List ℕ)). Appends x after (fixed_text fixed.NotListening)) unwritten appends,
     ))
 
 -- what a line says is this
-pub runs_as : (meaning other : CardMeaning) (old new : EndOf CardView) (before after : Option (List ℕ)) → meaning ≡ other
+pub runs_as : (meaning other : CardMeaning) (old new : AtWork) (before after : Option (List ℕ)) → meaning ≡ other
     → Writes (λ o text n. RunsLine o other text n) old new before after → is_card_table_line meaning ≡ false
     → Writes (λ o text n. RunsLine o meaning text n) old new before after
 runs_as meaning other old new before after is writes _ =
     let P : CardMeaning → Type 0 = λ m. Writes (λ o text n. RunsLine o m text n) old new before after in
     subst P (sym is) writes
 
-pub writes_reset : (old new : EndOf CardView) (before after : Option (List ℕ))
-    → ((first : CardState) (events : List Event) → IsLed (end_at first events old)
-    → IsLed (end_at first (events ++ history.Reset ∷ []) new))
+pub writes_reset : (old new : EndOf CardView) (plans : Cursor) (before after : Option (List ℕ))
+    → new.card.state ≡ after_reset old.card.state
+    → ((past : Past) → IsReady past (old, plans) → IsReady (reset_to past new.card.state) (new, plans))
     → Appends before after (fixed_text fixed.Reset)
-    → Writes (λ o text n. RunsLine o Reset text n) old new before after
-writes_reset old new before after led appends = λ first events h. (
-  fixed_text fixed.Reset,
-  events ++ history.Reset ∷ [],
-  led first events h,
-  (record { same_first = refl; events_are = refl; is_led = led first events h }, refl),
-  appends,
-)
+    → Writes (λ o text n. RunsLine o Reset text n) (old, plans) (new, plans) before after
+writes_reset old new plans before after state anew appends = λ past ready.
+    let r = anew past ready in (
+      fixed_text fixed.Reset,
+      reset_to past new.card.state,
+      r,
+      (record { past_is = refl; same_left = refl; standing_is = state; is_led = r.led }, refl),
+      appends,
+    )
 
-pub writes_table : (old : EndOf CardView) (before after : Option (List ℕ))
-    → Appends before after (table_text old.card.state.applications)
+pub writes_table : (old : AtWork) (before after : Option (List ℕ))
+    → Appends before after (table_text old.0.card.state.applications)
     → Writes (λ o text n. RunsLine o Table text n) old old before after
-writes_table old before after appends = λ first events h. (
-  table_text old.card.state.applications,
-  events,
-  h,
+writes_table old before after appends = λ past ready. (
+  table_text old.0.card.state.applications,
+  past,
+  ready,
   (refl, refl),
   appends,
 )
@@ -271,9 +503,9 @@ writes_table old before after appends = λ first events h. (
 -- ---- a line, and lines one after another
 
 -- a line that is passed over
-pub writes_passed : (old : EndOf CardView) (line : List ℕ) (w : Option (List ℕ)) → words_of line ≡ []
+pub writes_passed : (old : AtWork) (line : List ℕ) (w : Option (List ℕ)) → words_of line ≡ []
     → Writes (λ o text n. DoesOrPasses (Running o) line text (Running n)) old old w w
-writes_passed old line w none = λ first events h. ([], events, h, inl (none, refl, refl), Appends-nil w)
+writes_passed old line w none = λ past h. ([], past, h, inl (none, refl, refl), Appends-nil w)
 
 run_line_is : (meaning : CardMeaning) → MayStandIn section.Run (is_card_table_line meaning) → is_card_table_line meaning ≡ false
 run_line_is (Adds addition) h = search rules
@@ -283,16 +515,16 @@ run_line_is (HandOut most) h = refl
 run_line_is Reset h = refl
 run_line_is Table h = refl
 
-pub writes_line : (old new : EndOf CardView) (line : List ℕ) (meaning : CardMeaning) (before after : Option (List ℕ))
+pub writes_line : (old new : AtWork) (line : List ℕ) (meaning : CardMeaning) (before after : Option (List ℕ))
     → IsCardLine section.Run (words_of line) meaning
     → (is_card_table_line meaning ≡ false → Writes (λ o text n. RunsLine o meaning text n) old new before after)
     → Writes (λ o text n. DoesOrPasses (Running o) line text (Running n)) old new before after
-writes_line old new line meaning before after is writes = λ first events h.
-    let done = writes (run_line_is meaning is.stands) first events h in (
+writes_line old new line meaning before after is writes = λ past h.
+    let done = writes (run_line_is meaning is.stands) past h in (
       done.0,
       done.1,
       done.2,
-      inr (meaning, is, (end_at first done.1 new, done.3, refl)),
+      inr (meaning, is, (end_at done.1 new, done.3, refl)),
       done.4,
     )
 
@@ -301,41 +533,41 @@ abbrev pub GoesThrough : List (List ℕ) → List (List ℕ) → RunningEnd → 
 GoesThrough all left old text new =
     (rest : List ℕ) (last : CardRun) → DoesAll (Running new) left rest last → DoesAll (Running old) all (text ++ rest) last
 
-pub writes_none : (end : EndOf CardView) (all : List (List ℕ)) (w : Option (List ℕ))
+pub writes_none : (end : AtWork) (all : List (List ℕ)) (w : Option (List ℕ))
     → Writes (GoesThrough all all) end end w w
-writes_none end all w = λ first events h. ([], events, h, λ rest last does. does, Appends-nil w)
+writes_none end all w = λ past h. ([], past, h, λ rest last does. does, Appends-nil w)
 
-pub writes_one_more : (start old new : EndOf CardView) (all left others : List (List ℕ)) (line : List ℕ)
+pub writes_one_more : (start old new : AtWork) (all left others : List (List ℕ)) (line : List ℕ)
     (w before after : Option (List ℕ)) → left ≡ line ∷ others
     → Writes (GoesThrough all left) start old w before
     → Writes (λ o text n. DoesOrPasses (Running o) line text (Running n)) old new before after
     → Writes (GoesThrough all others) start new w after
-writes_one_more start old new all left others line w before after is so_far one = λ first events h.
-    let a = so_far first events h in
-    let b = one first a.1 a.2 in (
+writes_one_more start old new all left others line w before after is so_far one = λ past h.
+    let a = so_far past h in
+    let b = one a.1 a.2 in (
       a.0 ++ b.0,
       b.1,
       b.2,
       λ rest last does.
-          let P : List (List ℕ) → Type 0 = λ l. DoesAll (Running (end_at first a.1 old)) l (b.0 ++ rest) last in
-          let Q : List ℕ → Type 0 = λ t. DoesAll (Running (end_at first events start)) all t last in
+          let P : List (List ℕ) → Type 0 = λ l. DoesAll (Running (end_at a.1 old)) l (b.0 ++ rest) last in
+          let Q : List ℕ → Type 0 = λ t. DoesAll (Running (end_at past start)) all t last in
           subst Q (sym (append_assoc a.0 b.0 rest))
-          (a.3 (b.0 ++ rest) last (subst P (sym is) (b.0, rest, Running (end_at first b.1 new), b.3, refl, does))),
+          (a.3 (b.0 ++ rest) last (subst P (sym is) (b.0, rest, Running (end_at b.1 new), b.3, refl, does))),
       Appends-trans w before after a.0 b.0 a.4 b.4,
     )
 
-pub writes_all : (start end : EndOf CardView) (these all left : List (List ℕ)) (before after : Option (List ℕ)) → all ≡ these
+pub writes_all : (start end : AtWork) (these all left : List (List ℕ)) (before after : Option (List ℕ)) → all ≡ these
     → left ≡ [] → Writes (GoesThrough all left) start end before after
     → Writes (λ o text n. DoesAll (Running o) these text (Running n)) start end before after
-writes_all start end these all left before after same is so_far = λ first events h.
-    let a = so_far first events h in
-    let P : List (List ℕ) → Type 0 = λ l. DoesAll (Running (end_at first a.1 end)) l [] (Running (end_at first a.1 end)) in
-    let Q : List ℕ → Type 0 = λ t. DoesAll (Running (end_at first events start)) all t (Running (end_at first a.1 end)) in
-    let L : List (List ℕ) → Type 0 = λ l. DoesAll (Running (end_at first events start)) l a.0 (Running (end_at first a.1 end)) in (
+writes_all start end these all left before after same is so_far = λ past h.
+    let a = so_far past h in
+    let P : List (List ℕ) → Type 0 = λ l. DoesAll (Running (end_at a.1 end)) l [] (Running (end_at a.1 end)) in
+    let Q : List ℕ → Type 0 = λ t. DoesAll (Running (end_at past start)) all t (Running (end_at a.1 end)) in
+    let L : List (List ℕ) → Type 0 = λ l. DoesAll (Running (end_at past start)) l a.0 (Running (end_at a.1 end)) in (
       a.0,
       a.1,
       a.2,
-      subst L same (subst Q (append-nil a.0) (a.3 [] (Running (end_at first a.1 end)) (subst P (sym is) (refl, refl)))),
+      subst L same (subst Q (append-nil a.0) (a.3 [] (Running (end_at a.1 end)) (subst P (sym is) (refl, refl)))),
       a.4,
     )
 
@@ -370,20 +602,24 @@ goes_from start tables now plans these all left others line meaning is same same
     so_far text end (subst P (sym is) (d.0, d.1, d.2, inr (meaning, is_line, d.3), d.4, d.5))
 
 first_does : (tables : List Application) (plans : List Course) (meaning : CardMeaning) (first next : RunningEnd) (text : List ℕ)
-    → is_card_table_line meaning ≡ false → first.first ≡ (new_card tables).state → first.events ≡ [] → IsLed first
+    → is_card_table_line meaning ≡ false → IsFresh tables plans first
     → RunsLine first meaning text next → DoesLine (Building tables plans) meaning text (Running next)
-first_does tables plans (Adds addition) first next text other a b led runs = cc other
-first_does tables plans (Plan plan) first next text other a b led runs = cc other
-first_does tables plans (Take bytes) first next text other a b led runs = (first, next, (a, b, led), runs, refl)
-first_does tables plans (HandOut most) first next text other a b led runs = (first, next, (a, b, led), runs, refl)
-first_does tables plans Reset first next text other a b led runs = (first, next, (a, b, led), runs, refl)
-first_does tables plans Table first next text other a b led runs = (first, next, (a, b, led), runs, refl)
+first_does tables plans (Adds addition) first next text other fresh runs = cc other
+first_does tables plans (Plan plan) first next text other fresh runs = cc other
+first_does tables plans (Take bytes) first next text other fresh runs = (first, next, fresh, runs, refl)
+first_does tables plans (HandOut most) first next text other fresh runs = (first, next, fresh, runs, refl)
+first_does tables plans Reset first next text other fresh runs = (first, next, fresh, runs, refl)
+first_does tables plans Table first next text other fresh runs = (first, next, fresh, runs, refl)
 
 -- the end of the card that is built
-pub is_made : (tables : List Application) (card : CardView) (made : EndOf CardView) → card ≡ new_card tables
-    → IsLed (end_at card.state [] made) → IsLed (end_at (new_card tables).state [] made)
-is_made tables card made is led =
-    let P : CardView → Type 0 = λ v. IsLed (end_at v.state [] made) in subst P is led
+pub is_made : (tables : List Application) (card : CardView) (made : EndOf CardView) (plans : Cursor) → card ≡ new_card tables
+    → made.stage ≡ Taking_header []
+    → Leads Does after_reset card.state [] made.card.state made.card.prepared made.stage
+    → LeadsUnder Does card.state [] [] made.card.state made.card.prepared made.stage
+    → IsReady (no_past (new_card tables).state) (made, plans)
+is_made tables card made plans is stage led led_under =
+    let P : CardView → Type 0 = λ v. IsReady (no_past v.state) (made, plans) in
+    subst P is (ready_made card.state made plans stage led led_under)
 
 -- from no tables and no plans, over the lines of the script
 pub goes_at : (none : List Application) (no_plans : List Course) (script : List ℕ) (all : List (List ℕ)) (text : List ℕ)
@@ -397,25 +633,25 @@ goes_at none no_plans script all text end e p l does =
 
 -- a whole script, of which this is the first run line
 pub writes_script : (script : List ℕ) (tables : List Application) (plans : List Course) (others : List (List ℕ))
-    (meaning : CardMeaning) (made old new : EndOf CardView) (w before after : Option (List ℕ))
+    (meaning : CardMeaning) (made old new : AtWork) (w before after : Option (List ℕ))
     → is_card_table_line meaning ≡ false
     → ((text : List ℕ) (end : CardRun) → DoesFrom (Building tables plans) meaning others text end
     → DoesAll (Building [] []) (lines script) text end)
-    → IsLed (end_at (new_card tables).state [] made)
+    → IsReady (no_past (new_card tables).state) made → made.1.rest ≡ plans
     → (is_card_table_line meaning ≡ false → Writes (λ o text n. RunsLine o meaning text n) made old w before)
     → Writes (λ o text n. DoesAll (Running o) others text (Running n)) old new before after
     → CardWrites (Some script) w after
-writes_script script tables plans others meaning made old new w before after other goes led one rest =
-    let start = (new_card tables).state in
-    let a = one other start [] led in
-    let b = rest start a.1 a.2 in
-    let first = first_does tables plans meaning (end_at start [] made) (end_at start a.1 old) a.0 other refl refl led a.3 in (
+writes_script script tables plans others meaning made old new w before after other goes ready all_left one rest =
+    let start = no_past (new_card tables).state in
+    let a = one other start ready in
+    let b = rest a.1 a.2 in
+    let fresh : IsFresh tables plans (end_at start made) = record { past_is = refl; all_left = all_left; is_led = ready.led } in
+    let first = first_does tables plans meaning (end_at start made) (end_at a.1 old) a.0 other fresh a.3 in (
       a.0 ++ b.0,
       Appends-trans w before after a.0 b.0 a.4 b.4,
       (
-        Running (end_at start b.1 new),
-        goes (a.0 ++ b.0) (Running (end_at start b.1 new))
-            (a.0, b.0, Running (end_at start a.1 old), first, refl, b.3),
+        Running (end_at b.1 new),
+        goes (a.0 ++ b.0) (Running (end_at b.1 new)) (a.0, b.0, Running (end_at a.1 old), first, refl, b.3),
       ),
     )
 

@@ -1,25 +1,22 @@
 -- What a script of `card` stands for: its lines are carried out in order on the card's end alone, and
 -- print text.
-use Rattle.std.specs.Prelude.{◌≡◌, ◌≤◌, ◌⊎◌, ℕ, List, [], ◌∷◌, ◌++◌, map, length, Option, Some, None, IfSome, Bool, true, false}
+use Rattle.std.specs.Prelude.{◌≡◌, ◌≤◌, ◌⊎◌, ℕ, List, [], ◌∷◌, ◌++◌, length, Option, Some, None, IfSome, true, false}
 use Rattle.std.specs.Str.Lines.{lines}
 use Rattle.std.specs.Io.KnownBytes.{Appends}
-use Rattle.t0_core.specs.declared.end.End.{End}
 use Rattle.t0_core.specs.declared.end.End.TheVariants.{Terminal, Card}
-use Rattle.t0_core.specs.Character.{sent_by}
+use Rattle.t0_core.specs.Character.{Character, sent_by}
 use Rattle.t0_core.specs.Meaning.{Prepared}
-use Rattle.t0_core.specs.Plan.{Course}
+use Rattle.t0_core.specs.Plan.{Course, Cursor, plain, plan_kept}
 use Rattle.t0_core.specs.History as history
 use Rattle.t0_core.specs.History.{Event, passed}
 use Rattle.t0_core.specs.CardSide.{Stage, EndOf, listens}
-use Rattle.t0_core.specs.CardHistory.{Leads}
+use Rattle.t0_core.specs.CardHistory.{Leads, LeadsUnder, under_way, IsLast}
 use Rattle.object_card.specs.Tables.{Application}
 use Rattle.object_card.specs.State.{CardState, after_reset}
 use Rattle.object_card.specs.CardMeaning.{Does}
 use Rattle.object_card.specs.CardView.{CardView}
 use Rattle.object_card.specs.Builder.{new_card}
 use Rattle.card_trace.specs.declared.fixed_line.FixedLine.TheVariants as fixed
-use Rattle.card_trace.specs.declared.play_fault.PlayFault.{PlayFault}
-use Rattle.card_trace.specs.declared.play_fault.PlayFault.TheVariants as fault
 use Rattle.card_trace.specs.declared.script.section.Section.{Section}
 use Rattle.card_trace.specs.declared.script.section.Section.TheVariants as section
 use Rattle.card_trace.specs.FixedText.{fixed_text}
@@ -29,17 +26,39 @@ use Rattle.card_trace.specs.ScriptWords.{words_of}
 use Rattle.card_trace.specs.ScriptCard.{CardMeaning, Adds, Plan, Take, HandOut, Reset, Table, IsCardLine}
 use Rattle.card_trace.specs.Scripts.{IsAdded}
 
--- A card's end that runs: the events that led to it from the card that was built, the state that
--- stands, and how far it is with the TPDU under way.
-pub record RunningEnd : Type 0 where
+-- What led to a card's end: all events since the card was built, whose state was the first; and since
+-- the end was made, or reset last, the state that stood then, the characters, and the plans that
+-- TPDUs have taken.
+pub record Past : Type 0 where
   pub first : CardState
   pub events : List Event
+  pub stood : CardState
+  pub came : List Character
+  pub taken : List Course
+
+-- A card's end that runs: what led to it, the plans of the script that no TPDU has taken yet, the
+-- state that stands, and how far it is with the TPDU under way.
+pub record RunningEnd : Type 0 where
+  pub past : Past
+  pub left : List Course
   pub standing : CardState
   pub prepared : Prepared CardState
   pub stage : Stage
 
-abbrev pub IsLed : RunningEnd → Type 0
-IsLed e = Leads Does after_reset e.first e.events e.standing e.prepared e.stage
+-- All events, under some plans, led to the end; and the characters since the last reset did, under
+-- the plans taken: each TPDU took one with the card's first character after its header.
+pub record IsLed (e : RunningEnd) : Type 0 where
+  pub by_all : Leads Does after_reset e.past.first e.past.events e.standing e.prepared e.stage
+  pub under_plans :
+      LeadsUnder Does e.past.stood e.past.came e.past.taken e.standing e.prepared e.stage
+
+-- TPDUs take these plans of those that are left: the next ones in order, and when they are used up
+-- the plan without steps and with the cut 256.
+abbrev pub TakeInTurn : List Course → List Course → List Course → Type 0
+TakeInTurn left [] still_left = still_left ≡ left
+TakeInTurn [] (plan ∷ taken) still_left = (plan ≡ plain) × TakeInTurn [] taken still_left
+TakeInTurn (next ∷ left) (plan ∷ taken) still_left =
+    (plan ≡ next) × TakeInTurn left taken still_left
 
 -- Before the first run line there are the tables of the card that is built, and the plans; from then
 -- on its end.
@@ -51,10 +70,39 @@ abbrev pub section_of : CardRun → Section
 section_of (Building tables plans) = section.Table
 section_of (Running end) = section.Run
 
--- the same card's end, after these events
-pub record GoesOnBy (old : RunningEnd) (events : List Event) (new : RunningEnd) : Type 0 where
-  pub same_first : new.first ≡ old.first
-  pub events_are : new.events ≡ old.events ++ events
+-- with these characters, for which these plans were taken
+abbrev pub heard : Past → List Character → List Course → Past
+heard past characters taken = record {
+  first = past.first;
+  events = past.events ++ passed characters;
+  stood = past.stood;
+  came = past.came ++ characters;
+  taken = past.taken ++ taken;
+}
+
+-- with a reset, after which this state stands
+abbrev pub reset_to : Past → CardState → Past
+reset_to past state = record {
+  first = past.first;
+  events = past.events ++ history.Reset ∷ [];
+  stood = state;
+  came = [];
+  taken = [];
+}
+
+-- the same card's end, after these characters
+pub record GoesOnBy (old : RunningEnd) (characters : List Character) (new : RunningEnd) : Type 0
+  where
+    pub taken : List Course
+    pub past_is : new.past ≡ heard old.past characters taken
+    pub in_turn : TakeInTurn old.left taken new.left
+    pub is_led : IsLed new
+
+-- The same card's end after a reset. The plans that are left stay.
+pub record IsReset (old new : RunningEnd) : Type 0 where
+  pub past_is : new.past ≡ reset_to old.past new.standing
+  pub same_left : new.left ≡ old.left
+  pub standing_is : new.standing ≡ after_reset old.standing
   pub is_led : IsLed new
 
 -- The end takes a front of the characters: all, or as many as come before one at which the next
@@ -63,7 +111,7 @@ pub record Takes (old : RunningEnd) (bytes text : List ℕ) (new : RunningEnd) :
   pub taken : List ℕ
   pub refused : List ℕ
   pub all : bytes ≡ taken ++ refused
-  pub goes_on : GoesOnBy old (passed (sent_by Terminal taken)) new
+  pub goes_on : GoesOnBy old (sent_by Terminal taken) new
   pub prints : ((refused ≡ []) × (text ≡ []))
       ⊎ ((listens new.stage ≡ false) × (text ≡ fixed_text fixed.NotListening))
 
@@ -76,7 +124,7 @@ IsEnough (Some most) n stage = (n ≤ most) × ((listens stage ≡ true) ⊎ (n 
 pub record HandsOut (old : RunningEnd) (most : Option ℕ) (text : List ℕ) (new : RunningEnd)
     : Type 0 where
   pub handed : List ℕ
-  pub goes_on : GoesOnBy old (passed (sent_by Card handed)) new
+  pub goes_on : GoesOnBy old (sent_by Card handed) new
   pub is_enough : IsEnough most (length handed) new.stage
   pub prints : text ≡ handed_out_text handed
 
@@ -86,13 +134,18 @@ RunsLine old (Adds addition) text new = ⊥
 RunsLine old (Plan plan) text new = ⊥
 RunsLine old (Take bytes) text new = Takes old bytes text new
 RunsLine old (HandOut most) text new = HandsOut old most text new
-RunsLine old Reset text new = GoesOnBy old (history.Reset ∷ []) new
-    × (text ≡ fixed_text fixed.Reset)
+RunsLine old Reset text new = IsReset old new × (text ≡ fixed_text fixed.Reset)
 RunsLine old Table text new = (new ≡ old) × (text ≡ table_text old.standing.applications)
 
--- the end of a card with these tables, which has heard nothing yet
-abbrev pub IsFresh : List Application → RunningEnd → Type 0
-IsFresh tables e = (e.first ≡ (new_card tables).state) × (e.events ≡ []) × IsLed e
+-- nothing has come to a card in this state
+abbrev pub no_past : CardState → Past
+no_past state = record { first = state; events = []; stood = state; came = []; taken = [] }
+
+-- the end of a card with these tables, which has heard nothing yet, and all plans of the script
+pub record IsFresh (tables : List Application) (plans : List Course) (e : RunningEnd) : Type 0 where
+  pub past_is : e.past ≡ no_past (new_card tables).state
+  pub all_left : e.left ≡ plans
+  pub is_led : IsLed e
 
 -- a line is carried out, and prints this text
 abbrev pub DoesLine : CardRun → CardMeaning → List ℕ → CardRun → Type 0
@@ -102,7 +155,7 @@ DoesLine (Building tables plans) (Adds addition) text new =
 DoesLine (Building tables plans) (Plan plan) text new =
     (text ≡ []) × (new ≡ Building tables (plans ++ plan ∷ []))
 DoesLine (Building tables plans) meaning text new =
-    (first next : RunningEnd) × IsFresh tables first × RunsLine first meaning text next
+    (first next : RunningEnd) × IsFresh tables plans first × RunsLine first meaning text next
     × (new ≡ Running next)
 DoesLine (Running end) meaning text new =
     (next : RunningEnd) × RunsLine end meaning text next × (new ≡ Running next)
@@ -133,29 +186,41 @@ CardWrites script old new = (text : List ℕ) × Appends old new text
     × IfSome script (λ bytes. (end : CardRun)
     × DoesAll (Building [] []) (lines bytes) text end)
 
--- the card's end as it is, after these events
-abbrev pub end_at : CardState → List Event → EndOf CardView → RunningEnd
-end_at first events e = record {
-  first = first;
-  events = events;
-  standing = e.card.state;
-  prepared = e.card.prepared;
-  stage = e.stage;
+-- a card's end, and the cursor over the plans that it is given
+abbrev pub AtWork : Type 0
+AtWork = EndOf CardView × Cursor
+
+-- the card's end as it is, after this
+abbrev pub end_at : Past → AtWork → RunningEnd
+end_at past now = record {
+  past = past;
+  left = now.1.rest;
+  standing = now.0.card.state;
+  prepared = now.0.card.prepared;
+  stage = now.0.stage;
 }
 
--- Whatever events led to the end as it was, more of them lead to it as it is, and the text between
--- the two is written.
-abbrev pub Writes : (RunningEnd → List ℕ → RunningEnd → Type 0) → EndOf CardView → EndOf CardView
+-- this led to the end as it is, and the cursor keeps the plan of the TPDU under way, if that has one
+pub record IsReady (past : Past) (now : AtWork) : Type 0 where
+  pub led : IsLed (end_at past now)
+  pub keeps : (plan : Course) → under_way now.0.stage plan ≡ plan ∷ [] →
+      IsLast (plan_kept now.1) past.taken
+
+-- with these characters the end is as it is, and the next of the plans were taken
+abbrev pub IsReadyBy : Past → List Course → List Character → AtWork → Type 0
+IsReadyBy past left characters now =
+    (taken : List Course) × TakeInTurn left taken now.1.rest × IsReady (heard past characters taken) now
+
+-- whatever led to the end as it was, these characters lead on to it as it is
+abbrev pub LeadOn : AtWork → List Character → AtWork → Type 0
+LeadOn old characters new =
+    (past : Past) → IsReady past old → IsReadyBy past old.1.rest characters new
+
+-- Whatever led to the end as it was, more of it leads to it as it is, and the text between the two
+-- is written.
+abbrev pub Writes : (RunningEnd → List ℕ → RunningEnd → Type 0) → AtWork → AtWork
     → Option (List ℕ) → Option (List ℕ) → Type 0
 Writes Between old new before after =
-    (first : CardState) (events : List Event) → IsLed (end_at first events old) →
-    (text : List ℕ) × (more : List Event) × IsLed (end_at first more new)
-    × Between (end_at first events old) text (end_at first more new) × Appends before after text
-
--- the faults once the script is read
-abbrev pub IsFaultOfLines : PlayFault → Type 0
-IsFaultOfLines (fault.Script line reason) = Unit {0}
-IsFaultOfLines fault.Write = Unit {0}
-IsFaultOfLines fault.OutOfMemory = Unit {0}
-IsFaultOfLines fault.Read = ⊥
-IsFaultOfLines fault.InputTooLong = ⊥
+    (past : Past) → IsReady past old →
+    (text : List ℕ) × (more : Past) × IsReady more new
+    × Between (end_at past old) text (end_at more new) × Appends before after text

@@ -1,6 +1,5 @@
 -- The first words of lines.
 use Rattle.std.specs.Prelude.{ℕ, List, codes}
-use Rattle.card_trace.specs.declared.script.keyword.TableWord.{TableWord}
 use Rattle.card_trace.specs.declared.script.keyword.TableWord.TheVariants.{App, Object, Locked}
 use Rattle.card_trace.specs.declared.script.keyword.Keyword.{Keyword}
 use Rattle.card_trace.specs.declared.script.keyword.Keyword.TheVariants.{Adds, Plan, Select, Get, Put, Send, Take, HandOut, Reset, Table}

@@ -2,14 +2,14 @@
 ghost use Rattle.std.specs.Prelude.{◌≡◌, ◌⊎◌, ◌++◌, ℕ, List, [], length, Some, None, nat_lt, true, false, OnOk, IfOk, IfErr, IsErrOf, MatchOption};
 ghost use Rattle.t0_core.specs.declared.end.End.TheVariants.{Card};
 ghost use Rattle.t0_core.specs.Character.{sent_by};
-ghost use Rattle.t0_core.specs.History.{Event, passed};
-ghost use Rattle.object_card.specs.State.{CardState};
+ghost use Rattle.t0_core.specs.Plan.{Cursor};
 ghost use Rattle.card_trace.specs.declared.script.section.Section.TheVariants as section;
 ghost use Rattle.card_trace.specs.ScriptWords.{words_of};
 ghost use Rattle.card_trace.specs.ScriptCard.{card_meaning, is_card_table_line, IsCardLine};
 ghost use Rattle.card_trace.specs.ScriptTable.{addition_of};
 ghost use Rattle.card_trace.specs.Scripts.{IsAdded};
-ghost use Rattle.card_trace.specs.CardScripts.{CardRun, Building, Running, IsLed, IsEnough, HandsOut, Takes, RunsLine, DoesOrPasses, DoesAll, DoesFrom, CardWrites, end_at, Writes, IsFaultOfLines};
+ghost use Rattle.card_trace.specs.CardScripts.{CardRun, Building, Running, IsEnough, HandsOut, Takes, RunsLine, DoesOrPasses, DoesAll, DoesFrom, CardWrites, LeadOn, Writes};
+ghost use Rattle.card_trace.specs.ScriptReading.{IsFaultOfLines};
 
 use crate::fixed_line::FixedLine;
 use crate::lines::{write_fixed, write_handed_out, write_table};
@@ -163,7 +163,8 @@ fn run_lines<A: Allocator + Copy, B: Allocator, W: Write>(
 ) -> Result<(), PlayFault>
     ensures written { OnOk result (Writes
         (λ old text new. DoesAll (Running old) lines.entry text (Running new))
-        end.old end.new (W.contents writer.old) (W.contents writer.new)) }
+        (end.old, plans.old) (end.new, plans.new)
+        (W.contents writer.old) (W.contents writer.new)) }
     ensures fault { IfErr result IsFaultOfLines }
 {
     for line in lines {
@@ -184,7 +185,8 @@ fn run_line<A: Allocator + Copy, B: Allocator, W: Write>(
 ) -> Result<(), PlayFault>
     ensures written { OnOk result (Writes
         (λ old text new. DoesOrPasses (Running old) line.now text (Running new))
-        end.old end.new (W.contents writer.old) (W.contents writer.new)) }
+        (end.old, plans.old) (end.new, plans.new)
+        (W.contents writer.old) (W.contents writer.new)) }
     ensures fault { IfErr result IsFaultOfLines }
 {
     match read_card_line(alloc, line, Section::Run) {
@@ -204,7 +206,8 @@ fn carry_out<A: Allocator + Copy, B: Allocator, W: Write>(
 ) -> Result<(), PlayFault>
     ensures written { OnOk result (is_card_table_line (card_meaning said) ≡ false →
         Writes (λ old text new. RunsLine old (card_meaning said) text new)
-        end.old end.new (W.contents writer.old) (W.contents writer.new)) }
+        (end.old, plans.old) (end.new, plans.new)
+        (W.contents writer.old) (W.contents writer.new)) }
     ensures fault { IfErr result IsFaultOfLines }
 {
     match said {
@@ -225,9 +228,9 @@ fn take<A: Allocator + Copy, W: Write>(
     characters: &[u8],
     writer: &mut W,
 ) -> Result<(), PlayFault>
-    ensures written { OnOk result (Writes
+    ensures written { OnOk result ((plans : Cursor) → Writes
         (λ old text new. Takes old characters.now text new)
-        end.old end.new (W.contents writer.old) (W.contents writer.new)) }
+        (end.old, plans) (end.new, plans) (W.contents writer.old) (W.contents writer.new)) }
     ensures fault { IfErr result IsFaultOfLines }
 {
     for character in characters {
@@ -249,7 +252,8 @@ fn hand_out<A: Allocator + Copy, B: Allocator, W: Write>(
 ) -> Result<(), PlayFault>
     ensures written { OnOk result (Writes
         (λ old text new. HandsOut old most text new)
-        end.old end.new (W.contents writer.old) (W.contents writer.new)) }
+        (end.old, plans.old) (end.new, plans.new)
+        (W.contents writer.old) (W.contents writer.new)) }
     ensures fault { IfErr result IsFaultOfLines }
 {
     let text = handed_out(alloc, end, plans, most)?;
@@ -264,9 +268,8 @@ fn handed_out<A: Allocator + Copy, B: Allocator>(
     most: Option<u16>,
 ) -> Result<Vec<u8, A>, AllocError>
     ensures enough { IfOk result (λ handed. IsEnough most (length handed.items) end.new.stage) }
-    ensures led { IfOk result (λ handed. (first : CardState) (events : List Event) →
-        IsLed (end_at first events end.old) →
-        IsLed (end_at first (events ++ passed (sent_by Card handed.items)) end.new)) }
+    ensures led { IfOk result (λ handed.
+        LeadOn (end.old, plans.old) (sent_by Card handed.items) (end.new, plans.new)) }
 {
     let mut characters = Vec::new(alloc);
     'turns: while wants_more(most, characters.len()) {

@@ -1,15 +1,14 @@
-use Rattle.std.proofs.Common.{◌≡◌, ◌++◌, List, take}
+use Rattle.std.proofs.Common.{◌≡◌, take}
 use Rattle.t0_core.specs.declared.end.End.TheVariants.{Terminal}
 use Rattle.t0_core.specs.Character.{sent_by}
-use Rattle.t0_core.specs.History.{Event, passed}
-use Rattle.object_card.specs.State.{CardState}
-use Rattle.card_trace.specs.CardScripts.{IsLed, end_at}
+use Rattle.t0_core.specs.Plan.{Cursor}
+use Rattle.card_trace.specs.CardScripts.{LeadOn}
 use Rattle.card_trace.proofs.card.take.Given as goal
 
--- whatever led to the end leads to it with the characters so far, and nothing is written
+-- the characters so far lead on to the end, whatever its plans are, and nothing is written
 abbrev pub invariant-loop-character : goal.invariant-loop-character
 invariant-loop-character g l = record {
-  led : (first : CardState) (events : List Event) → IsLed (end_at first events l.initial.end)
-      → IsLed (end_at first (events ++ passed (sent_by Terminal (take l.character-index l.characters))) l.end);
+  led : (plans : Cursor)
+      → LeadOn (l.initial.end, plans) (sent_by Terminal (take l.character-index l.characters)) (l.end, plans);
   unwritten : l.writer ≡ l.initial.writer;
 }

@@ -1,4 +1,4 @@
-use Rattle.std.proofs.Common.{◌≡◌, ℕ, List}
+use Rattle.std.proofs.Common.{ℕ, List}
 use Rattle.card_trace.specs.CardScripts.{CardRun, Building, DoesAll}
 use Rattle.card_trace.proofs.card.Table.build.Given as goal
 

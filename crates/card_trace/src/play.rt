@@ -1,5 +1,5 @@
 //! Scripts of `play`.
-ghost use Rattle.std.specs.Prelude.{OnOk};
+ghost use Rattle.std.specs.Prelude.{◌≡◌, ◌⊎◌, OnOk, IsErrOf};
 ghost use Rattle.card_trace.specs.Scripts.{PlayWrites};
 
 use crate::play_fault::PlayFault;
@@ -20,8 +20,10 @@ pub fn play_lines<A: Allocator + Copy, R: Read, W: Write>(
     reader: &mut R,
     writer: &mut W,
 ) -> Result<(), PlayFault>
-    ensures { OnOk result
+    ensures written { OnOk result
         (PlayWrites (R.remaining reader.old) (W.contents writer.old) (W.contents writer.new)) }
+    ensures unread { IsErrOf result PlayFault.Read ⊎ IsErrOf result PlayFault.InputTooLong →
+        W.contents writer.new ≡ W.contents writer.old }
 {
     let script = read_script(alloc, reader)?;
     let mut player = Player::new(alloc);

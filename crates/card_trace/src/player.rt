@@ -1,5 +1,5 @@
 //! What a script is played on.
-ghost use Rattle.std.specs.Prelude.{◌≡◌, ℕ, List, [], ◌∷◌, ◌++◌, Some, false, slice_get, OnOk, IfOk};
+ghost use Rattle.std.specs.Prelude.{◌≡◌, ℕ, List, [], ◌∷◌, ◌++◌, Some, false, slice_get, OnOk, IfOk, IfErr};
 ghost use Rattle.std.specs.Io.KnownBytes.{Appends};
 ghost use Rattle.object_card.specs.OneStep.{Reply};
 ghost use Rattle.card_terminal.specs.Operations.{operation_of};
@@ -9,6 +9,7 @@ ghost use Rattle.card_trace.specs.ScriptPlay.{Adds, play_meaning};
 ghost use Rattle.card_trace.specs.Scripts as script;
 ghost use Rattle.card_trace.specs.Scripts.{section_of, card_in, plans_in, IsRun, IsSent, Plays, PlaysLine};
 ghost use Rattle.card_trace.specs.Playing.{state_of, running_of};
+ghost use Rattle.card_trace.specs.ScriptReading.{IsFaultOfLines};
 
 use crate::fixed_line::FixedLine;
 use crate::lines::{write_fixed, write_operation, write_table};
@@ -66,9 +67,10 @@ impl<A: Allocator + Copy> Player<A> {
         number: usize,
         writer: &mut W,
     ) -> Result<Player<A>, PlayFault>
-        ensures { IfOk result (λ player. (text : List ℕ)
+        ensures played { IfOk result (λ player. (text : List ℕ)
             × Appends (W.contents writer.old) (W.contents writer.new) text
             × PlaysLine (state_of self) line.now text (state_of player)) }
+        ensures fault { IfErr result IsFaultOfLines }
     {
         match read_play_line(alloc, line, self.section()) {
             Err(refusal) => Err(refusal.at(number)),
@@ -85,9 +87,10 @@ impl<A: Allocator + Copy> Player<A> {
         number: usize,
         writer: &mut W,
     ) -> Result<Player<A>, PlayFault>
-        ensures { IfOk result (λ player. (text : List ℕ)
+        ensures played { IfOk result (λ player. (text : List ℕ)
             × Appends (W.contents writer.old) (W.contents writer.new) text
             × Plays (state_of self) (play_meaning said) text (state_of player)) }
+        ensures fault { IfErr result IsFaultOfLines }
     {
         match said {
             PlayLine::Adds(addition) => match self.add(addition) {
@@ -168,10 +171,11 @@ impl<A: Allocator + Copy> Running<A> {
 
     /// Carries out an operation under the plans, which are then gone.
     fn operate<W: Write>(&mut self, alloc: A, op: Op<A>, writer: &mut W) -> Result<(), PlayFault>
-        ensures { OnOk result ((text : List ℕ)
+        ensures played { OnOk result ((text : List ℕ)
             × Appends (W.contents writer.old) (W.contents writer.new) text
             × IsRun self.old.session.state self.old.plans.items (operation_of op) text
             (running_of self.new)) }
+        ensures fault { IfErr result IsFaultOfLines }
     {
         if !self.session.is_idle() {
             self.plans.clear();
@@ -201,10 +205,11 @@ impl<A: Allocator + Copy> Running<A> {
         number: usize,
         writer: &mut W,
     ) -> Result<(), PlayFault>
-        ensures { OnOk result ((text : List ℕ)
+        ensures played { OnOk result ((text : List ℕ)
             × Appends (W.contents writer.old) (W.contents writer.new) text
             × IsSent self.old.session.state self.old.plans.items bytes.now text
             (running_of self.new)) }
+        ensures fault { IfErr result IsFaultOfLines }
     {
         let command = match agreed_command(bytes) {
             Ok(command) => command,
@@ -242,10 +247,11 @@ fn write_first<A: Allocator + Copy, W: Write>(
     answers: &Answers<A>,
     writer: &mut W,
 ) -> Result<(), PlayFault>
-    ensures { OnOk result ((reply : Reply) × (slice_get answers.now.given 0 ≡ Some reply)
+    ensures written { OnOk result ((reply : Reply) × (slice_get answers.now.given 0 ≡ Some reply)
         × (recorder.now.lost ≡ false)
         × Appends (W.contents writer.old) (W.contents writer.new)
         (operation_text recorder.now.heard reply)) }
+    ensures fault { IfErr result IsFaultOfLines }
 {
     match answers.get(0) {
         Some(answer) if !recorder.lost() => {

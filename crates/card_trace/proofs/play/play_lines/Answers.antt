@@ -10,13 +10,13 @@ loop-line-init g c =
 
 pub loop-line-preserved : goal.loop-line-preserved
 loop-line-preserved g c =
-    let (text, appends, plays) = c.in_ok-player.ensures in
+    let (text, appends, plays) = c.in_ok-player.ensures.played in
     goes_on_more (Building []) _ _ _ _ _ _ c.in-Some.line.now c.next.new.self text
     (goes_on_at (Building []) _ _ _ _ _ _ c.in-Some.ensures.steps c.loop-line.invariant) appends
     plays
 
-pub returns : goal.returns
-returns g c =
+pub returns-clause-written : goal.returns-clause-written
+returns-clause-written g c =
     writes_all _ c.in_ok-script.script.items c.into_iter-line-iterator.result _ _
     c.in_ok-script.ensures.whole
     (c.into_iter-line-iterator.ensures.into_iter_gives ∙ c.of-line-items.ensures

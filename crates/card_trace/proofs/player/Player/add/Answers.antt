@@ -1,5 +1,4 @@
-use Rattle.std.proofs.Common.{false, true, sym, ap, subst, ◌∙◌}
-use Rattle.object_card.specs.Builder.{TakesObject, with_last_entry}
+use Rattle.std.proofs.Common.{false, true, ap, ◌∙◌}
 use Rattle.card_trace.specs.ScriptTable.{addition_of, App, Object, Locked}
 use Rattle.card_trace.proofs.PlayLemmas.{added, added_as}
 use Rattle.card_trace.proofs.player.Player.add.Goals as goal

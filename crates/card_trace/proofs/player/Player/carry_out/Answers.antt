@@ -5,15 +5,15 @@ use Rattle.card_trace.specs.Playing.{state_of, running_of}
 use Rattle.card_trace.proofs.PlayLemmas.{plays_as, planned}
 use Rattle.card_trace.proofs.player.Player.carry_out.Goals as goal
 
-pub returns-in-Ok : goal.returns-in-Ok
-returns-in-Ok g c = (
+pub returns-in-Ok-clause-played : goal.returns-in-Ok-clause-played
+returns-in-Ok-clause-played g c = (
   [],
   Appends-nil _,
   plays_as _ _ _ _ [] (ap play_meaning c.in-Adds.is) c.in-Ok.ensures,
 )
 
-pub returns-in_ok-keep-in-Plan : goal.returns-in_ok-keep-in-Plan
-returns-in_ok-keep-in-Plan g c = (
+pub returns-in_ok-keep-in-Plan-clause-played : goal.returns-in_ok-keep-in-Plan-clause-played
+returns-in_ok-keep-in-Plan-clause-played g c = (
   [],
   Appends-nil _,
   plays_as _ _ _ _ [] (ap play_meaning c.in-Plan.is)

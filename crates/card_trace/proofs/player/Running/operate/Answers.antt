@@ -1,19 +1,19 @@
-use Rattle.std.proofs.Common.{refl, sym, ap, ◌∙◌}
+use Rattle.std.proofs.Common.{sym, ap, ◌∙◌}
 use Rattle.t0_core.specs.Plan.{Cursor}
 use Rattle.card_trace.proofs.PlayLemmas.{then_ok, was_busy, ran}
 use Rattle.card_trace.proofs.player.Running.operate.Goals as goal
 
-pub returns-then-not-is_idle : goal.returns-then-not-is_idle
-returns-then-not-is_idle g c =
+pub returns-then-not-is_idle-clause-played : goal.returns-then-not-is_idle-clause-played
+returns-then-not-is_idle-clause-played g c =
     then_ok c.write_fixed.result _ _ c.write_fixed.ensures.written (λ adds. (
       _,
       adds,
       was_busy _ _ _ _ (sym c.is_idle.ensures.idle ∙ c.if-not-is_idle.true) c.clear.ensures.items,
     ))
 
-pub returns : goal.returns
-returns g c =
-    then_ok c.write_first.result _ _ c.write_first.ensures (λ wrote. (
+pub returns-clause-played : goal.returns-clause-played
+returns-clause-played g c =
+    then_ok c.write_first.result _ _ c.write_first.ensures.written (λ wrote. (
       _,
       wrote.3,
       ran c.args.self.now.session.state c.run.new.self.state c.args.self.now.plans.items

@@ -13,6 +13,8 @@ mod lines;
 #[cfg(test)]
 mod lines_tests;
 mod main_status;
+#[cfg(test)]
+mod memory_tests;
 mod objects;
 mod objects_fault;
 #[cfg(test)]

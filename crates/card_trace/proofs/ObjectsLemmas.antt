@@ -1,5 +1,5 @@
 -- The lines of objects, written one object after another.
-use Rattle.std.proofs.Common.{◌≡◌, ℕ, zero, suc, ◌+◌, ◌≤◌, List, [], ◌∷◌, ◌++◌, true, false, Some, None, refl, sym, ap, ◌∙◌, subst, add-one, append-nil, append_assoc, arith}
+use Rattle.std.proofs.Common.{◌≡◌, ℕ, zero, suc, ◌+◌, ◌≤◌, List, ◌++◌, true, false, Some, None, refl, sym, ap, ◌∙◌, subst, add-one, append-nil, append_assoc, arith}
 use Rattle.std.specs.Prelude.{codes}
 use Rattle.hex.specs.Hex.{encode_upper}
 use Rattle.tlv_core.specs.TagForm.{is_constructed}

@@ -1,5 +1,5 @@
 -- What a player does, line after line.
-use Rattle.std.proofs.Common.{MatchOption, Result, Ok, Err, OnOk, IfSome, Bool, ◌≡◌, ℕ, List, [], ◌∷◌, ◌++◌, length, drop, take, map, Option, Some, None, true, false, refl, sym, ap, subst, ◌∙◌, append-nil, append_assoc, inl, inr, arith, slice_get}
+use Rattle.std.proofs.Common.{MatchOption, Result, Ok, Err, OnOk, IfSome, Bool, ◌≡◌, ℕ, List, [], ◌∷◌, ◌++◌, length, Option, Some, None, true, false, refl, sym, ap, subst, ◌∙◌, append-nil, append_assoc, arith, slice_get}
 use Rattle.std.specs.Str.Lines.{lines}
 use Rattle.std.specs.Io.KnownBytes.{Appends}
 use Rattle.std.proofs.KnownBytes.{Appends-nil, Appends-trans}

@@ -1,11 +1,11 @@
 -- What a line of `card` says, where its word is known.
-use Rattle.std.proofs.Common.{◌≡◌, ◌≢◌, ℕ, List, [], ◌∷◌, Option, Some, None, true, false, refl, sym, ap, subst, ◌∙◌, true≢false}
+use Rattle.std.proofs.Common.{◌≡◌, ◌≢◌, ℕ, List, [], ◌∷◌, Option, true, false, refl, sym, ap, subst, ◌∙◌, true≢false}
 use Rattle.t0_core.specs.Plan.{Course}
 use Rattle.card_trace.specs.declared.script.keyword.TableWord.{TableWord}
 use Rattle.card_trace.specs.declared.script.keyword.Keyword.{Keyword}
 use Rattle.card_trace.specs.declared.script.keyword.Keyword.TheVariants as keyword
 use Rattle.card_trace.specs.declared.script.section.Section.{Section}
-use Rattle.card_trace.specs.ScriptFields.{IsHexText, IsNumberText}
+use Rattle.card_trace.specs.ScriptFields.{IsHexText}
 use Rattle.card_trace.specs.ScriptKeywords.{keyword_text}
 use Rattle.card_trace.specs.ScriptTable.{Addition, OneField, ArePlanFields, table_word, AreTableFields, MayStandIn}
 use Rattle.card_trace.specs.ScriptCard.{CardMeaning, Adds, Plan, Take, HandOut, Reset, Table, IsMostText, card_keyword, AreCardFields, is_card_table_line, IsCardLine}

@@ -1,17 +1,15 @@
 -- Fields: a text stands for one thing, and which texts stand for none.
 use Rattle.std.proofs.Common.{◌≡◌, ◌≢◌, ℕ, zero, suc, ◌+◌, ◌*◌, ◌^◌, ◌<◌, ◌≤◌, ◌==◌, List, [], ◌∷◌, ◌++◌, length, take, drop, get_or, map, replicate, Bool, true, false, Option, Some, None, Result, Ok, Err, refl, sym, ap, subst, ◌∙◌, inl, inr, arith, codes, ◌⊎◌}
-use Rattle.std.specs.Prelude.{slice_index, IsTrue, IsSome, IfSome, IfOk, ◌↔◌, MatchOption, is_some}
+use Rattle.std.specs.Prelude.{slice_index, IsSome, IfSome, IfOk, ◌↔◌, MatchOption}
 use Rattle.std.specs.Result.{result_ok}
 use Rattle.std.specs.Str.{bytes_eq}
 use Rattle.std.proofs.lemmas.Slice.Eq.{bytes_eq-Decides}
 use Rattle.std.proofs.lemmas.Bool.{lt-ltb, eqb-true}
 use Rattle.std.proofs.lemmas.List.Sums.{split_at_first}
 use Rattle.t0_core.specs.Plan.{Course}
-use Rattle.std.specs.Result.{OkIff}
 use Rattle.std.specs.Str.{IsAscii, IsUtf8}
 use Rattle.std.specs.Str.Parse.{IsNumeral, AllDigits, digits_value, without_leading_plus, ParsesUnsigned}
-use Rattle.std.specs.Char.{digit_value}
-use Rattle.std.specs.List.{position, AllPass}
+use Rattle.std.specs.List.{position}
 use Rattle.std.proofs.lemmas.Str.{IsUtf8-from_ascii}
 use Rattle.hex.specs.Hex.{decode_of, decode_sized, is_hex_digit}
 use Rattle.hex.proofs.HexLemmas.{decode_of-same, decode_of-ok, decode_sized-ok, decode_sized-twice}
@@ -29,7 +27,7 @@ use Rattle.tlv_core.specs.AddressLaws.{named_is_tag}
 use Rattle.t0_core.specs.declared.plan.Step.{Step}
 use Rattle.t0_core.specs.declared.plan.Step.TheVariants.{Null, One, All}
 use Rattle.card_trace.proofs.ScriptWordLemmas.{first_place, no_place}
-use Rattle.card_trace.specs.ScriptFields.{IsHexText, IsAidText, IsTagText, IsNumberText, IsRepeatedText, IsValueText, no_bytes, plain, repeated, letter_of, IsStepsText, IsPlanText}
+use Rattle.card_trace.specs.ScriptFields.{IsHexText, IsNumberText, IsRepeatedText, IsValueText, no_bytes, plain, repeated, letter_of, IsStepsText, IsPlanText}
 
 -- a text is hexadecimal text of one list of bytes
 pub same_bytes : (text a b : List ℕ) → IsHexText text a → IsHexText text b → a ≡ b

@@ -1,7 +1,6 @@
 -- The fields of lines, where the words are known.
-use Rattle.std.proofs.Common.{◌≡◌, ◌≢◌, ℕ, List, [], ◌∷◌, Bool, true, false, refl, sym, ap, subst, ◌∙◌, true≢false}
+use Rattle.std.proofs.Common.{◌≡◌, ◌≢◌, ℕ, List, [], ◌∷◌, Bool, true, false, refl, sym, subst, ◌∙◌, true≢false}
 use Rattle.t0_core.specs.Plan.{Course}
-use Rattle.card_trace.specs.declared.script.keyword.TableWord.{TableWord}
 use Rattle.card_trace.specs.declared.script.keyword.TableWord.TheVariants as word
 use Rattle.card_trace.specs.declared.script.section.Section.{Section}
 use Rattle.card_trace.specs.declared.script.section.Section.TheVariants as section

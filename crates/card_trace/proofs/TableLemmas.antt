@@ -1,13 +1,13 @@
 -- The lines of a table, written one entry and one application after another.
-use Rattle.std.proofs.Common.{◌≡◌, ◌≢◌, ℕ, List, [], ◌∷◌, ◌++◌, refl, sym, ap, ap₂, ◌∙◌, subst, Bool, true, false, Option, Some, None, map, append-nil, append_assoc}
+use Rattle.std.proofs.Common.{◌≡◌, ◌≢◌, ℕ, List, [], ◌∷◌, ◌++◌, refl, sym, ap, ap₂, ◌∙◌, subst, Bool, true, false, Some, map, append-nil, append_assoc}
 use Rattle.std.specs.Prelude.{codes}
 use Rattle.std.specs.List.{AllByRecursion, flat_map}
 use Rattle.std.proofs.lemmas.Slice.Eq.{bytes_eq-Decides}
 use Rattle.hex.specs.Hex.{encode_upper}
 use Rattle.object_card.specs.Tables.{Entry, Application, AreApplications, AreDistinct, IsApplication, same_bytes, is_locked, entries_in}
-use Rattle.card_trace.specs.LineText.{newline, value_text}
-use Rattle.card_trace.specs.TableText.{mark, entry_line, application_text, table_text}
-use Rattle.card_trace.specs.MarkedLines.{entry_among, marked_lines}
+use Rattle.card_trace.specs.LineText.{newline}
+use Rattle.card_trace.specs.TableText.{entry_line, application_text, table_text}
+use Rattle.card_trace.specs.MarkedLines.{marked_lines}
 
 same_self : (x : List ℕ) → same_bytes x x ≡ true
 same_self x = (bytes_eq-Decides x x).1 refl

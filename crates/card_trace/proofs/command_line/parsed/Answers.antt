@@ -1,8 +1,8 @@
-use Rattle.std.proofs.Common.{◌≡◌, ◌∙◌, sym, ap, subst, map, refl, [], List, Option}
+use Rattle.std.proofs.Common.{◌∙◌, sym, ap, subst, map, refl}
 use Rattle.std.specs.Prelude.{codes, string_bytes, option_map}
-use Rattle.clap.specs.Walk.{Row, Text, rows_of}
+use Rattle.clap.specs.Walk.{rows_of}
 use Rattle.clap.specs.Matches.{found_of}
-use Rattle.clap.specs.Simple.{app_of, subcommand_rows_of}
+use Rattle.clap.specs.Simple.{app_of}
 use Rattle.clap.specs.declared.parser.matches.ArgMatches.TheViews.{out-ArgMatches}
 use Rattle.clap.proofs.WalkLemmas.{first_value-rows}
 use Rattle.card_trace.specs.CommandLine.{asked_by, request_in, request_named}

@@ -1,7 +1,6 @@
 -- The tag at the front is all of the bytes.
-use Rattle.std.proofs.Common.{◌≡◌, length, true, false, sym, ap, ◌∙◌, true≢false}
+use Rattle.std.proofs.Common.{sym, ap, ◌∙◌, true≢false}
 use Rattle.std.specs.Prelude.{is_some}
-use Rattle.tlv_core.specs.TagForm.{IsTag}
 use Rattle.card_trace.proofs.ScriptFieldLemmas.{named_starts, whole_tag, named_tag, was_ok}
 use Rattle.card_trace.proofs.script.fields.object_tag.Goals as goal
 

@@ -1,9 +1,8 @@
 -- A plan has steps and a cut.
-use Rattle.std.proofs.Common.{◌≡◌, List}
+use Rattle.std.proofs.Common.{List}
 use Rattle.t0_core.specs.declared.plan.Step.{Step}
 use Rattle.t0_core.specs.Plan.{Course}
 use Rattle.card_trace.specs.declared.script.reason.Reason.{Reason}
-use Rattle.card_trace.specs.declared.script.reason.Reason.TheVariants.{BadPlan}
 use Rattle.card_trace.specs.ScriptFields.{IsNumberText, IsStepsText, IsPlanText}
 use Rattle.card_trace.proofs.ScriptFieldLemmas.{some_of, none_of, no_plan}
 use Rattle.card_trace.proofs.ScriptRefusalLemmas.{passed_on, refused_for}

@@ -1,5 +1,5 @@
 -- Another letter is of no step.
-use Rattle.std.proofs.Common.{◌≡◌, sym, ◌∙◌, arith}
+use Rattle.std.proofs.Common.{sym, ◌∙◌, arith}
 use Rattle.card_trace.proofs.ScriptFieldLemmas.{differs, no_steps}
 use Rattle.card_trace.proofs.script.fields.read_steps.Goals as goal
 

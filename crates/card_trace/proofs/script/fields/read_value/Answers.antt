@@ -1,5 +1,5 @@
 -- A value is cut at its star, if it has one.
-use Rattle.std.proofs.Common.{◌≡◌, ◌+◌, ℕ, List, take, drop, sym, subst, ◌∙◌}
+use Rattle.std.proofs.Common.{◌+◌, ℕ, List, take, sym, subst, ◌∙◌}
 use Rattle.card_trace.specs.declared.script.reason.Reason.{Reason}
 use Rattle.card_trace.specs.ScriptFields.{IsHexText, IsRepeatedText, IsValueText}
 use Rattle.card_trace.proofs.ScriptWordLemmas.{rest_whole}

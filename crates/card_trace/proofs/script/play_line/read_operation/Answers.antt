@@ -1,7 +1,6 @@
 -- A put has the fields of an entry, whose value is not too long.
-use Rattle.std.proofs.Common.{◌≡◌, ℕ, List, length, arith, sym, ap, ◌∙◌}
+use Rattle.std.proofs.Common.{◌≡◌, ℕ, List, length, arith, ap, ◌∙◌}
 use Rattle.object_card.specs.OneStep.{Operation}
-use Rattle.card_trace.specs.declared.script.keyword.Keyword.TheVariants as keyword
 use Rattle.card_trace.specs.declared.script.reason.Reason.{Reason}
 use Rattle.card_trace.specs.ScriptWords.{words_in}
 use Rattle.card_trace.specs.ScriptTable.{AreEntryFields}

@@ -1,5 +1,5 @@
 -- A line is its keyword and its fields.
-use Rattle.std.proofs.Common.{◌≡◌, ◌≢◌, ℕ, List, [], ◌∷◌, true, sym, ap, subst, ◌∙◌, refl}
+use Rattle.std.proofs.Common.{◌≡◌, true, sym, ap, subst, ◌∙◌, refl}
 use Rattle.card_trace.specs.declared.script.keyword.Keyword.TheVariants as keyword
 use Rattle.card_trace.specs.ScriptWords.{words_in, words_of}
 use Rattle.card_trace.specs.ScriptKeywords.{keyword_text}

@@ -1,5 +1,5 @@
 -- An entry is a tag and a value.
-use Rattle.std.proofs.Common.{◌≡◌, ℕ, List, sym, subst}
+use Rattle.std.proofs.Common.{ℕ, List, sym, subst}
 use Rattle.card_trace.specs.declared.script.reason.Reason.{Reason}
 use Rattle.card_trace.specs.ScriptWords.{words_in}
 use Rattle.card_trace.specs.ScriptFields.{IsValueText}

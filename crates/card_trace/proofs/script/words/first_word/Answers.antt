@@ -1,5 +1,5 @@
 -- What stands before the first space is a word, and the others are behind it.
-use Rattle.std.proofs.Common.{◌≡◌, ◌≢◌, ◌+◌, ◌<◌, ◌∷◌, length, take, arith, sym, ap, ◌∙◌}
+use Rattle.std.proofs.Common.{◌≢◌, ◌+◌, ◌∷◌, length, take, arith, sym, ap, ◌∙◌}
 use Rattle.std.proofs.lemmas.Bool.{eqb-false}
 use Rattle.card_trace.specs.ScriptWords.{words_in}
 use Rattle.card_trace.proofs.ScriptWordLemmas.{last_word, word_then, rest_whole}

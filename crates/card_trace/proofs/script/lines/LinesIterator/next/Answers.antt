@@ -1,5 +1,5 @@
 -- The line before the first LF, and the others behind it.
-use Rattle.std.proofs.Common.{◌≡◌, ◌≢◌, ◌+◌, ◌<◌, ◌∷◌, length, drop, arith, sym, ap, ◌∙◌}
+use Rattle.std.proofs.Common.{◌≢◌, ◌+◌, ◌∷◌, length, drop, arith, sym, ap, ◌∙◌}
 use Rattle.std.specs.Str.Lines.{lines}
 use Rattle.std.proofs.lemmas.Bool.{eqb-false}
 use Rattle.card_trace.proofs.ScriptWordLemmas.{last_line, line_then, rest_whole, makes_progress}

@@ -8,6 +8,8 @@ mod attempt;
 mod bytes;
 #[cfg(test)]
 mod counting_card;
+#[cfg(test)]
+mod data_objects;
 mod exchange;
 #[cfg(test)]
 mod exchange_tests;
@@ -15,6 +17,8 @@ pub mod laws;
 #[cfg(test)]
 mod memory_tests;
 mod operation;
+#[cfg(test)]
+mod run_memory_tests;
 #[cfg(test)]
 mod run_tests;
 mod session;

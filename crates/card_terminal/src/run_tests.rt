@@ -1,117 +1,46 @@
 //! Operations over the card of data objects, with what goes over the line.
 
 use crate::counting_card::CountingCard;
-use crate::trace::{bytes, characters, plans, word};
-use crate::{Answers, Bytes, Op, Session};
+use crate::data_objects::{NAME, are_answered, card, full, holds, operations, selected};
+use crate::trace::{characters, plans, word};
+use crate::{Answers, Op, Session};
 use apdu_core::{Command, Header};
-use object_card::{Aid, CardBuilder, ObjectCard};
+use object_card::ObjectCard;
 use std::alloc::Global;
 use std::process::Abort;
 use std::test::Fail;
 use t0_core::{CardEnd, End, Plans, Recorder, Silent};
-use tlv_core::{ObjectTag, Tag};
 
 /// What a session has before it, and what it is asked.
 #[derive(Clone, Copy)]
-struct Row {
-    /// Tag and value of each object of the application: `5F20 4A4F45; 50 41*253`.
-    objects: &'static str,
+struct Row<'a> {
+    /// The objects of the application: `5F20 4A4F45; 50 41*253`.
+    objects: &'a str,
     /// The plans of the second and later operations.
-    plans: &'static str,
+    plans: &'a str,
     /// The operations after the application is selected: `get 5F20; put 5F20 41`.
-    operations: &'static str,
+    operations: &'a str,
     /// What they make on the line.
-    heard: &'static str,
+    heard: &'a str,
     /// Status and data of each answer: `9000 5F20034A4F45; 6A88`.
-    answers: &'static str,
+    answers: &'a str,
 }
 
-const AID: &str = "A0000000031010";
-
-/// SELECT of the application, with all that goes over the line.
-const SELECTED: &str = "> 00A4040007 < A4 > A0000000031010 < 610B > 00C000000B \
-    < C06F098407A00000000310109000";
-
-const NAME: &str = "5F20 4A4F45";
-
-fn aid(alloc: Global, text: &str) -> Result<Aid, Fail> {
-    Ok(Aid::new(&bytes(alloc, text)?).ok_or("no identifier")?)
-}
-
-fn tag(alloc: Global, text: &str) -> Result<ObjectTag, Fail> {
-    let (tag, _) = Tag::read(&bytes(alloc, text)?).ok().ok_or("no tag")?;
-    Ok(ObjectTag::new(tag).ok_or("no address")?)
-}
-
-/// A tag and a value, of which `-` is the empty one.
-fn object(alloc: Global, text: &str) -> Result<(ObjectTag, Vec<u8>), Fail> {
-    let (name, value) = text.split_once(' ').ok_or("no value")?;
-    let value = if value == "-" { "" } else { value };
-    Ok((tag(alloc, name)?, bytes(alloc, value)?))
-}
-
-fn card(alloc: Global, objects: &str) -> Result<ObjectCard<Global>, Fail> {
-    let mut builder = CardBuilder::new(alloc);
-    builder.app(aid(alloc, AID)?)?;
-    for text in objects.split(';') {
-        let (tag, value) = object(alloc, text.trim())?;
-        builder.object(tag, &value)?;
+/// The characters of a trace in which `32: > 10DA5F20FF |` stands for 32 times what is between.
+fn repeated(alloc: Global, trace: &str) -> Result<Vec<(End, u8)>, Fail> {
+    let mut all = Vec::new(alloc);
+    for group in trace.split('|') {
+        let (times, passed) = group.split_once(':').unwrap_or(("1", group));
+        for _ in 0..times.trim().parse::<u32>()? {
+            all.extend_from_slice(&characters(alloc, passed)?)?;
+        }
     }
-    Ok(builder.finish()?)
-}
-
-fn operations(alloc: Global, text: &str) -> Result<Vec<Op>, Fail> {
-    let mut ops = Vec::new(alloc);
-    for line in text.split(';') {
-        let (name, rest) = line.trim().split_once(' ').ok_or("no operation")?;
-        ops.push(match name {
-            "select" => Op::Select(aid(alloc, rest)?),
-            "get" => Op::Get(tag(alloc, rest)?),
-            _ => {
-                let (tag, value) = object(alloc, rest)?;
-                Op::Put(tag, Bytes::new(value))
-            }
-        })?;
-    }
-    Ok(ops)
-}
-
-/// The answers are these, status and data.
-fn are_answered(rt: &impl Abort, alloc: Global, out: &Answers, text: &str) -> Result<(), Fail> {
-    let mut at: usize = 0;
-    for line in text.split(';') {
-        let answer = out.get(at).ok_or("no answer")?;
-        let (status, rest) = line.trim().split_once(' ').unwrap_or((line.trim(), ""));
-        let word = [answer.status().sw1(), answer.status().sw2()];
-        assert_eq!(rt; bytes(alloc, status)?.as_slice(), word.as_slice(), "{line}");
-        assert_eq!(rt; answer.data(), bytes(alloc, rest)?.as_slice(), "{line}");
-        at = at.saturating_add(1);
-    }
-    assert_eq!(rt; out.len(), at);
-    Ok(())
-}
-
-/// A session with the card of these objects, in which the application is selected.
-fn selected(alloc: Global, objects: &str) -> Result<Session<ObjectCard<Global>>, Fail> {
-    let mut session = Session::new(CardEnd::new(card(alloc, objects)?));
-    let mut out = Answers::new(alloc);
-    if !session.is_idle() {
-        return Err("busy".into());
-    }
-    let select = operations(alloc, "select A0000000031010")?;
-    session.run(
-        alloc,
-        &select,
-        &mut Plans::<Global>::over(&[]),
-        &mut Silent,
-        &mut out,
-    )?;
-    Ok(session)
+    Ok(all)
 }
 
 /// The operations of a row make these characters, and have these answers.
-fn is_run(rt: &impl Abort, alloc: Global, row: &Row) -> Result<(), Fail> {
-    let mut session = selected(alloc, row.objects)?;
+fn is_run(rt: &impl Abort, alloc: Global, row: &Row<'_>) -> Result<Session<ObjectCard>, Fail> {
+    let mut session = selected(alloc, alloc, row.objects)?;
     let plans = plans(alloc, row.plans)?;
     let ops = operations(alloc, row.operations)?;
     let mut recorder = Recorder::new(alloc);
@@ -126,10 +55,11 @@ fn is_run(rt: &impl Abort, alloc: Global, row: &Row) -> Result<(), Fail> {
         &mut recorder,
         &mut out,
     )?;
-    let heard = characters(alloc, row.heard)?;
-    assert_eq!(rt; recorder.heard(), heard.as_slice(), "{}", row.heard);
+    let heard = repeated(alloc, row.heard)?;
+    assert!(rt; recorder.heard() == heard.as_slice(), "{}", row.operations);
     assert!(rt; !recorder.lost());
-    are_answered(rt, alloc, &out, row.answers)
+    are_answered(rt, alloc, &out, row.answers)?;
+    Ok(session)
 }
 
 /// One operation of each kind, of which the first finds a NULL in its plan.
@@ -145,7 +75,7 @@ const EACH_ANSWERED: &str = "9000 6F098407A0000000031010; 9000 5F20034A4F45; 900
 fn operations_in_turn(rt: HostRuntime) -> Result<(), Fail> {
     let plans = plans(rt.alloc(), "n:256")?;
     let ops = operations(rt.alloc(), EACH)?;
-    let mut session = Session::new(CardEnd::new(card(rt.alloc(), NAME)?));
+    let mut session = Session::new(CardEnd::new(card(rt.alloc(), rt.alloc(), NAME)?));
     let mut recorder = Recorder::new(rt.alloc());
     let mut out = Answers::new(rt.alloc());
     let mut cursor = Plans::over(&plans);
@@ -163,7 +93,7 @@ fn operations_in_turn(rt: HostRuntime) -> Result<(), Fail> {
 fn each_answer_comes_over_the_line(rt: HostRuntime) -> Result<(), Fail> {
     let plans = plans(rt.alloc(), "n:256")?;
     let ops = operations(rt.alloc(), EACH)?;
-    let counting = CountingCard::new(card(rt.alloc(), NAME)?);
+    let counting = CountingCard::new(card(rt.alloc(), rt.alloc(), NAME)?);
     let mut session = Session::new(CardEnd::new(counting));
     let mut recorder = Recorder::new(rt.alloc());
     let mut out = Answers::new(rt.alloc());
@@ -178,11 +108,9 @@ fn each_answer_comes_over_the_line(rt: HostRuntime) -> Result<(), Fail> {
     are_answered(&rt, rt.alloc(), &out, EACH_ANSWERED)
 }
 
-/// A piece of a chain makes the card busy. Any other command, refused, ends that.
-#[test]
-fn a_chain_is_pending(rt: HostRuntime) -> Result<(), Fail> {
-    let mut session = selected(rt.alloc(), NAME)?;
-    let mut cursor = Plans::<Global>::over(&[]);
+/// The card has taken the piece `AA` of a chain for `5F20`, and is busy.
+fn with_a_chain(rt: &impl Abort, alloc: Global) -> Result<Session<ObjectCard>, Fail> {
+    let mut session = selected(alloc, alloc, NAME)?;
     let piece = Header {
         cla: 0x10,
         ins: 0xDA,
@@ -190,9 +118,17 @@ fn a_chain_is_pending(rt: HostRuntime) -> Result<(), Fail> {
         p2: 0x20,
     };
     let command = Command::new(piece, &[0xAA], None).unwrap();
-    let answer = session.transmit(rt.alloc(), command, &mut cursor, &mut Silent)?;
+    let mut cursor = Plans::<Global>::over(&[]);
+    let answer = session.transmit(alloc, command, &mut cursor, &mut Silent)?;
     assert_eq!(rt; word(answer.status()), 0x9000);
     assert!(rt; !session.is_idle());
+    Ok(session)
+}
+
+/// Any other command, refused, ends a chain.
+#[test]
+fn a_chain_is_pending(rt: HostRuntime) -> Result<(), Fail> {
+    let mut session = with_a_chain(&rt, rt.alloc())?;
     let get = Header {
         cla: 0x00,
         ins: 0xCA,
@@ -200,16 +136,33 @@ fn a_chain_is_pending(rt: HostRuntime) -> Result<(), Fail> {
         p2: 0x20,
     };
     let command = Command::new(get, &[], Some(256)).unwrap();
+    let mut cursor = Plans::<Global>::over(&[]);
     let answer = session.transmit(rt.alloc(), command, &mut cursor, &mut Silent)?;
     assert_eq!(rt; word(answer.status()), 0x6883);
     assert!(rt; session.is_idle());
-    Ok(())
+    holds(&rt, rt.alloc(), session.card(), NAME)
+}
+
+#[test]
+fn a_chain_does_not_outlive_a_reset(rt: HostRuntime) -> Result<(), Fail> {
+    let mut session = with_a_chain(&rt, rt.alloc())?;
+    session.reset();
+    let ops = operations(rt.alloc(), "get 5F20; select A0000000031010; put 5F20 BB")?;
+    let mut out = Answers::new(rt.alloc());
+    let mut cursor = Plans::<Global>::over(&[]);
+    if !session.is_idle() {
+        return Err("busy".into());
+    }
+    session.run(rt.alloc(), &ops, &mut cursor, &mut Silent, &mut out)?;
+    let answers = "6985; 9000 6F098407A0000000031010; 9000";
+    are_answered(&rt, rt.alloc(), &out, answers)?;
+    holds(&rt, rt.alloc(), session.card(), "5F20 BB")
 }
 
 #[test]
 fn no_operations(rt: HostRuntime) -> Result<(), Fail> {
     let plans = plans(rt.alloc(), "n:256")?;
-    let mut session = selected(rt.alloc(), NAME)?;
+    let mut session = selected(rt.alloc(), rt.alloc(), NAME)?;
     let mut recorder = Recorder::new(rt.alloc());
     let mut out = Answers::new(rt.alloc());
     let mut cursor = Plans::over(&plans);
@@ -342,49 +295,79 @@ fn puts(rt: HostRuntime) -> Result<(), Fail> {
     Ok(())
 }
 
-/// What goes over the line for a value of 8,192 bytes or more: so many whole pieces, and the last.
-fn chained(alloc: Global, pieces: u32, last: &str) -> Result<Vec<(End, u8)>, Fail> {
-    let mut all = Vec::new(alloc);
-    for _ in 0..pieces {
-        all.extend_from_slice(&characters(alloc, "> 10DA5F20FF < DA > 42*255 < 9000")?)?;
-    }
-    all.extend_from_slice(&characters(alloc, last)?)?;
-    Ok(all)
-}
-
-fn is_put_as(
-    rt: &impl Abort,
-    alloc: Global,
-    operation: &str,
-    last: &str,
-    answer: &str,
-) -> Result<(), Fail> {
-    let mut session = selected(alloc, NAME)?;
-    let ops = operations(alloc, operation)?;
-    let mut recorder = Recorder::new(alloc);
-    let mut out = Answers::new(alloc);
-    if !session.is_idle() {
-        return Err("busy".into());
-    }
-    let mut cursor = Plans::<Global>::over(&[]);
-    session.run(alloc, &ops, &mut cursor, &mut recorder, &mut out)?;
-    let heard = chained(alloc, 32, last)?;
-    assert!(rt; recorder.heard() == heard.as_slice(), "{operation}");
-    are_answered(rt, alloc, &out, answer)
-}
-
 #[test]
-fn the_largest_value_and_larger_ones(rt: HostRuntime) -> Result<(), Fail> {
-    for (operation, last, answer) in [
-        (
-            "put 5F20 42*8192",
-            "> 00DA5F2020 < DA > 42*32 < 9000",
-            "9000",
-        ),
-        ("put 5F20 42*8193", "> 00DA5F2021 < 6700", "6700"),
-        ("put 5F20 42*16320", "> 10DA5F20FF < 6700", "6700"),
+fn long_values(rt: HostRuntime) -> Result<(), Fail> {
+    for row in [
+        Row {
+            objects: NAME,
+            plans: "",
+            operations: "put 5F20 42*2048; get 5F20",
+            heard: "8: > 10DA5F20FF < DA > 42*255 < 9000 | > 00DA5F2008 < DA > 42*8 < 9000 \
+                    > 00CA5F2000 < CA 5F20820800 42*251 6100 \
+                    | 6: > 00C0000000 < C0 42*256 6100 \
+                    | > 00C0000000 < C0 42*256 6105 > 00C0000005 < C0 42*5 9000",
+            answers: "9000; 9000 5F20820800 42*2048",
+        },
+        Row {
+            objects: NAME,
+            plans: "",
+            operations: "put 5F20 42*2049",
+            heard: "8: > 10DA5F20FF < DA > 42*255 < 9000 | > 00DA5F2009 < DA > 42*9 < 9000",
+            answers: "9000",
+        },
+        Row {
+            objects: NAME,
+            plans: "",
+            operations: "put 5F20 42*8192; get 5F20",
+            heard: "32: > 10DA5F20FF < DA > 42*255 < 9000 | > 00DA5F2020 < DA > 42*32 < 9000 \
+                    > 00CA5F2000 < CA 5F20822000 42*251 6100 \
+                    | 30: > 00C0000000 < C0 42*256 6100 \
+                    | > 00C0000000 < C0 42*256 6105 > 00C0000005 < C0 42*5 9000",
+            answers: "9000; 9000 5F20822000 42*8192",
+        },
     ] {
-        is_put_as(&rt, rt.alloc(), operation, last, answer)?;
+        is_run(&rt, rt.alloc(), &row)?;
     }
     Ok(())
+}
+
+/// The piece that passes what the card holds is refused, and no other follows.
+#[test]
+fn values_that_are_too_long(rt: HostRuntime) -> Result<(), Fail> {
+    for row in [
+        Row {
+            objects: NAME,
+            plans: "",
+            operations: "put 5F20 42*8193",
+            heard: "32: > 10DA5F20FF < DA > 42*255 < 9000 | > 00DA5F2021 < 6700",
+            answers: "6700",
+        },
+        Row {
+            objects: NAME,
+            plans: "",
+            operations: "put 5F20 42*16320",
+            heard: "32: > 10DA5F20FF < DA > 42*255 < 9000 | > 10DA5F20FF < 6700",
+            answers: "6700",
+        },
+    ] {
+        let session = is_run(&rt, rt.alloc(), &row)?;
+        holds(&rt, rt.alloc(), session.card(), NAME)?;
+    }
+    Ok(())
+}
+
+/// The 65th tag finds no place. One of the 64 has its value replaced in its place.
+#[test]
+fn a_full_table_takes_no_new_tag(rt: HostRuntime) -> Result<(), Fail> {
+    let full = full(rt.alloc())?;
+    let row = Row {
+        objects: &full,
+        plans: "",
+        operations: "put DF41 01; put DF01 02",
+        heard: "> 00DADF4101 < DA > 01 < 6A84 > 00DADF0101 < DA > 02 < 9000",
+        answers: "6A84; 9000",
+    };
+    let session = is_run(&rt, rt.alloc(), &row)?;
+    let after = format!(in rt.alloc(); "{full}; DF01 02")?;
+    holds(&rt, rt.alloc(), session.card(), &after)
 }

@@ -1,0 +1,265 @@
+//! Operations of which each growth is refused in turn, by heaps of ever more bytes: at the terminal,
+//! at the card, and at the watch.
+
+use crate::data_objects::{NAME, are_answered, card, full, holds, operations, selected};
+use crate::trace::{characters, word};
+use crate::{Answers, Session, SessionFault};
+use linked_list_allocator::LocalHeap;
+use std::alloc::{AllocError, Allocator, Global};
+use std::process::Abort;
+use std::test::Fail;
+use t0_core::{CardEnd, End, Plans, Recorder};
+
+/// Bytes that are enough at either end, for a full table too.
+const AMPLE: usize = 32_768;
+
+/// Takes all that is left of a heap but so many bytes at its end.
+fn all_but(
+    alloc: Global,
+    heap: &LocalHeap,
+    left: usize,
+) -> Result<Vec<Vec<u8, &LocalHeap>>, AllocError> {
+    let mut taken = Vec::new(alloc);
+    for _ in 0..AMPLE / 16 {
+        match Vec::with_capacity(heap, 16) {
+            Ok(block) => taken.push(block)?,
+            Err(_) => break,
+        }
+    }
+    taken.truncate(taken.len().saturating_sub(left / 16));
+    Ok(taken)
+}
+
+/// A put to the selected card, and what comes of it where no memory is wanting.
+#[derive(Clone, Copy)]
+struct Put<'a> {
+    /// The objects before it.
+    objects: &'a str,
+    operation: &'a str,
+    /// What is heard up to the status.
+    heard: &'a str,
+    status: u16,
+    /// The objects after it.
+    after: &'a str,
+}
+
+/// What came of a put.
+#[derive(Clone, Copy, Debug, PartialEq, Eq)]
+enum Outcome {
+    /// The terminal wanted memory, and nothing was heard.
+    NotBegun,
+    /// The card wanted memory, and answered `6581`.
+    Failed,
+    /// All is as where no memory is wanting.
+    AsEver,
+}
+
+/// Puts with so many bytes at the terminal, and so many that are left at the card.
+fn puts(
+    rt: &impl Abort,
+    alloc: Global,
+    put: &Put<'_>,
+    at_terminal: usize,
+    at_card: usize,
+) -> Result<Outcome, Fail> {
+    let terminal = LocalHeap::new(alloc, at_terminal)?;
+    let memory = LocalHeap::new(alloc, AMPLE)?;
+    let mut session = selected(&memory, alloc, put.objects)?;
+    let taken = all_but(alloc, &memory, at_card)?;
+    let ops = operations(alloc, put.operation)?;
+    let mut plans = Plans::<Global>::over(&[]);
+    let mut recorder = Recorder::new(alloc);
+    let mut out = Answers::new(&terminal);
+    if !session.is_idle() {
+        return Err("busy".into());
+    }
+    let ran = session.run(&terminal, &ops, &mut plans, &mut recorder, &mut out);
+    drop(taken);
+    assert!(rt; session.is_idle());
+    let outcome = match ran {
+        Err(fault) => {
+            assert_eq!(rt; fault, SessionFault::OutOfMemory);
+            assert_eq!(rt; out.len(), 0);
+            Outcome::NotBegun
+        }
+        Ok(()) => answered(rt, put, &out)?,
+    };
+    is_heard(rt, alloc, put, outcome, &recorder)?;
+    let objects = if outcome == Outcome::AsEver {
+        put.after
+    } else {
+        put.objects
+    };
+    holds(rt, alloc, session.card(), objects)?;
+    Ok(outcome)
+}
+
+/// What the one answer says.
+fn answered<A: Allocator>(
+    rt: &impl Abort,
+    put: &Put<'_>,
+    out: &Answers<A>,
+) -> Result<Outcome, Fail> {
+    assert_eq!(rt; out.len(), 1);
+    let answer = out.get(0).ok_or("no answer")?;
+    assert_eq!(rt; answer.data().len(), 0);
+    match word(answer.status()) {
+        status if status == put.status => Ok(Outcome::AsEver),
+        0x6581 => Ok(Outcome::Failed),
+        _ => Err("another status".into()),
+    }
+}
+
+/// This was heard, with the status that the outcome has.
+fn is_heard<A: Allocator>(
+    rt: &impl Abort,
+    alloc: Global,
+    put: &Put<'_>,
+    outcome: Outcome,
+    recorder: &Recorder<A>,
+) -> Result<(), Fail> {
+    let status = match outcome {
+        Outcome::NotBegun => {
+            assert!(rt; recorder.heard().is_empty());
+            return Ok(());
+        }
+        Outcome::Failed => 0x6581u16,
+        Outcome::AsEver => put.status,
+    };
+    let mut heard = characters(alloc, put.heard)?;
+    for byte in status.to_be_bytes() {
+        heard.push((End::Card, byte))?;
+    }
+    assert!(rt; recorder.heard() == heard.as_slice(), "{}", put.operation);
+    Ok(())
+}
+
+/// Where the terminal wants memory for an answer or a response the put is not begun. Else it is as
+/// ever.
+fn is_begun_or_not(rt: &impl Abort, alloc: Global, put: &Put<'_>) -> Result<(), Fail> {
+    let mut not_begun = false;
+    let mut begun = false;
+    for size in (0..=17_408).step_by(64) {
+        match puts(rt, alloc, put, size, AMPLE)? {
+            Outcome::NotBegun => not_begun = true,
+            Outcome::AsEver => begun = true,
+            Outcome::Failed => return Err("the card has memory".into()),
+        }
+    }
+    assert!(rt; not_begun && begun, "{}", put.operation);
+    Ok(())
+}
+
+const REPLACED: Put<'static> = Put {
+    objects: NAME,
+    operation: "put 5F20 42*256",
+    heard: "> 10DA5F20FF < DA > 42*255 < 9000 > 00DA5F2001 < DA > 42",
+    status: 0x9000,
+    after: "5F20 42*256",
+};
+
+/// The card finds that memory is wanting only after the last piece.
+#[test]
+fn a_put_that_is_refused_memory(rt: HostRuntime) -> Result<(), Fail> {
+    is_begun_or_not(&rt, rt.alloc(), &REPLACED)?;
+    let mut failed = false;
+    let mut stored = false;
+    for size in (0..=1_024).step_by(16) {
+        match puts(&rt, rt.alloc(), &REPLACED, AMPLE, size)? {
+            Outcome::Failed => failed = true,
+            Outcome::AsEver => stored = true,
+            Outcome::NotBegun => return Err("the terminal has memory".into()),
+        }
+    }
+    assert!(rt; failed && stored);
+    Ok(())
+}
+
+/// What the card refuses needs no memory of it.
+#[test]
+fn a_put_that_is_refused_for_what_it_is(rt: HostRuntime) -> Result<(), Fail> {
+    let full = full(rt.alloc())?;
+    for put in [
+        Put {
+            objects: NAME,
+            operation: "put 70 500541",
+            heard: "> 00DA007003 < DA > 500541",
+            status: 0x6A80,
+            after: NAME,
+        },
+        Put {
+            objects: &full,
+            operation: "put DF41 01",
+            heard: "> 00DADF4101 < DA > 01",
+            status: 0x6A84,
+            after: &full,
+        },
+    ] {
+        is_begun_or_not(&rt, rt.alloc(), &put)?;
+        for size in (0..=1_024).step_by(16) {
+            let outcome = puts(&rt, rt.alloc(), &put, AMPLE, size)?;
+            assert_eq!(rt; outcome, Outcome::AsEver, "{}", put.operation);
+        }
+    }
+    Ok(())
+}
+
+/// Selects with so many bytes at the terminal, and so many at the watch. The answer is whether the
+/// selection was begun, and whether all of it was heard then.
+fn selects(
+    rt: &impl Abort,
+    alloc: Global,
+    at_terminal: usize,
+    at_watch: usize,
+) -> Result<(bool, bool), Fail> {
+    let terminal = LocalHeap::new(alloc, at_terminal)?;
+    let watch = LocalHeap::new(alloc, at_watch)?;
+    let mut session = Session::new(CardEnd::new(card(alloc, alloc, NAME)?));
+    let ops = operations(alloc, "select A0000000031010")?;
+    let mut plans = Plans::<Global>::over(&[]);
+    let mut recorder = Recorder::new(&watch);
+    let mut out = Answers::new(&terminal);
+    if !session.is_idle() {
+        return Err("busy".into());
+    }
+    let ran = session.run(&terminal, &ops, &mut plans, &mut recorder, &mut out);
+    if let Err(fault) = ran {
+        assert_eq!(rt; fault, SessionFault::OutOfMemory);
+        assert_eq!(rt; out.len(), 0);
+        assert!(rt; recorder.heard().is_empty());
+        return Ok((false, false));
+    }
+    are_answered(rt, alloc, &out, "9000 6F098407A0000000031010")?;
+    let heard = "> 00A4040007 < A4 > A0000000031010 < 610B > 00C000000B \
+        < C06F098407A00000000310109000";
+    let heard = characters(alloc, heard)?;
+    assert!(rt; heard.as_slice().starts_with(recorder.heard()));
+    assert_eq!(rt; recorder.lost(), recorder.heard().len() < heard.len());
+    Ok((true, !recorder.lost()))
+}
+
+/// A watch that wants memory hears a front, says so, and changes nothing else.
+#[test]
+fn a_selection_that_is_refused_memory(rt: HostRuntime) -> Result<(), Fail> {
+    let mut begun = false;
+    let mut not_begun = false;
+    for size in (0..=17_408).step_by(64) {
+        match selects(&rt, rt.alloc(), size, AMPLE)? {
+            (true, true) => begun = true,
+            (true, false) => return Err("the watch has memory".into()),
+            (false, _) => not_begun = true,
+        }
+    }
+    assert!(rt; begun && not_begun);
+    let mut lost = false;
+    let mut heard = false;
+    for size in (0..=512).step_by(16) {
+        match selects(&rt, rt.alloc(), AMPLE, size)? {
+            (true, true) => heard = true,
+            (true, false) => lost = true,
+            (false, _) => return Err("the terminal has memory".into()),
+        }
+    }
+    assert!(rt; lost && heard);
+    Ok(())
+}

@@ -15,14 +15,13 @@ use Rattle.t0_core.specs.declared.plan.Step.{Step}
 use Rattle.t0_core.specs.Character.{Character}
 use Rattle.t0_core.specs.Dialogue.{Body, Dialogue, IsDialogue, characters, foreseen, moves}
 use Rattle.t0_core.specs.Front.{Front, In_header, In_body, After_first, GoesOn, IsFront, EndInLast, brought, from_card}
-use Rattle.t0_core.specs.FrontLaws.{moves-within, goes_on}
+use Rattle.t0_core.specs.FrontLaws.{moves-within}
 use Rattle.t0_core.specs.HostSide.{Hosting, IsOpenedBy, HostStandsAt}
 use Rattle.t0_core.specs.HostLaws.{opened}
 use Rattle.t0_core.specs.Meaning.{Tpdu, Runs, received}
 use Rattle.t0_core.specs.Plan.{Course, Cursor, FollowInTurn}
 use Rattle.t0_core.specs.Watch.{Hearing, Hears}
 use Rattle.t0_core.specs.WatchLaws.{hears_more, hears_nothing}
-use Rattle.object_card.specs.declared.limits.TheConstants.{VALUE_LIMIT, HEAD_LIMIT}
 use Rattle.object_card.specs.Tables.{IsAid}
 use Rattle.object_card.specs.State.{CardState, IsCardState, is_idle}
 use Rattle.object_card.specs.CardMeaning.{Does}
@@ -32,8 +31,8 @@ use Rattle.card_terminal.specs.declared.operation.Op.{Op}
 use Rattle.card_terminal.specs.Agreed.{IsAgreed}
 use Rattle.card_terminal.specs.Gathered.{Gathers, Opening, By_command, By_fetch, UnitOf, dialogues_of, repeated_with}
 use Rattle.card_terminal.specs.declared.wanted.Wanted.{Wanted}
-use Rattle.card_terminal.specs.ExchangeSide.{ExchangeOf, exchange_turn, HostOpensBy, UnderWay, IsOver, IsOpenedAs, so_far, response_limit}
-use Rattle.card_terminal.specs.Conversing.{HaveGone, HasStalled, HasOverflown, IsCaused}
+use Rattle.card_terminal.specs.ExchangeSide.{ExchangeOf, exchange_turn, HostOpensBy, IsOver, IsOpenedAs, so_far}
+use Rattle.card_terminal.specs.Conversing.{HaveGone, HasOverflown, IsCaused}
 use Rattle.card_terminal.specs.Talk.{HaveCuts, Talk, AreCommandsOf, AreExchangesOf, IsTalkOf, talk_dialogues, select_command, get_command}
 use Rattle.card_terminal.specs.Operations.{operation_of}
 use Rattle.card_terminal.specs.Running.{new_answers, carried_out}

@@ -1,5 +1,5 @@
 -- Rows of exchanges, as instances of the definitions, and near misses.
-use Rattle.std.proofs.Common.{◌≡◌, ℕ, List, [], ◌∷◌, ◌++◌, refl, sym, ◌∙◌, arith, lit<, Some, None}
+use Rattle.std.proofs.Common.{◌≡◌, ℕ, List, [], ◌∷◌, ◌++◌, refl, sym, ◌∙◌, arith, lit<, Option, Some, None}
 use Rattle.apdu_core.specs.declared.header.Header.{Header}
 use Rattle.apdu_core.specs.StatusWord.{StatusWord}
 use Rattle.apdu_core.specs.CommandBytes.{Command}
@@ -94,7 +94,8 @@ corrected_twice = record {
 
 -- one that a 6CXX asks for is not left out
 no_correction_ignored : IsUnit Everything (Single (refused get_data 0 (0x6C, 0x06))) → ⊥
-no_correction_ignored none = let e : Some 6 ≡ None = none in absurd (cc)
+no_correction_ignored none =
+    let six : Option ℕ = Some 6 in let e : six ≡ None = none in absurd (cc)
 
 -- no more is fetched than is wanted
 two_are_wanted : Gathers (get 2)

@@ -1,5 +1,5 @@
 -- What a session has carried out of a list of operations.
-use Rattle.std.specs.Prelude.{ℕ, List, length, take, drop, map}
+use Rattle.std.specs.Prelude.{List, length, take, drop, map}
 use Rattle.object_card.specs.OneStep.{Operation, Reply}
 use Rattle.card_terminal.specs.declared.operation.Op.{Op}
 use Rattle.card_terminal.specs.Operations.{operation_of}

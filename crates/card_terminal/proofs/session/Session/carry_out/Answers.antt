@@ -1,8 +1,8 @@
-use Rattle.std.proofs.Common.{[], ◌∷◌, refl, sym, ap, subst}
+use Rattle.std.proofs.Common.{[], ◌∷◌, sym, ap, subst}
 use Rattle.object_card.specs.OneStep.{Select, Get}
 use Rattle.card_terminal.specs.Agreed.{IsAgreed}
 use Rattle.card_terminal.specs.Operations.{operation_of}
-use Rattle.card_terminal.proofs.RunLemmas.{agreed_select, agreed_get, keeps_to, talked, talked_as}
+use Rattle.card_terminal.proofs.RunLemmas.{agreed_select, keeps_to, talked, talked_as}
 use Rattle.card_terminal.proofs.session.Session.carry_out.Goals as goal
 
 pub send-requires : goal.send-requires

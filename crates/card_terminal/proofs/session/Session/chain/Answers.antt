@@ -1,7 +1,7 @@
-use Rattle.std.proofs.Common.{[], inl, inr, refl, sym, subst}
+use Rattle.std.proofs.Common.{inl, inr, sym, subst}
 use Rattle.std.specs.List.{AllByRecursion}
 use Rattle.card_terminal.specs.Agreed.{IsAgreed}
-use Rattle.card_terminal.proofs.RunLemmas.{HaveBeen, first_has_been, next_has_been, all_have_been, told, as_left, never_both}
+use Rattle.card_terminal.proofs.RunLemmas.{first_has_been, next_has_been, all_have_been, told, as_left, never_both}
 use Rattle.card_terminal.proofs.session.Session.chain.Goals as goal
 use Rattle.card_terminal.proofs.session.Session.chain.Goals.{in-None, in-Some+then-not-is_ok}
 

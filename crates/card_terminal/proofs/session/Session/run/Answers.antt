@@ -1,4 +1,4 @@
-use Rattle.std.proofs.Common.{refl, sym, ap, ◌∙◌}
+use Rattle.std.proofs.Common.{refl, ap}
 use Rattle.card_terminal.proofs.RunLemmas.{none_answered, still_answered, one_more_answered, has_one_step, has_talk, next_item}
 use Rattle.card_terminal.proofs.session.Session.run.Goals as goal
 

@@ -108,6 +108,38 @@ fn each_answer_comes_over_the_line(rt: HostRuntime) -> Result<(), Fail> {
     are_answered(&rt, rt.alloc(), &out, EACH_ANSWERED)
 }
 
+/// Two commands bring the two parts of an object. The second, a GET RESPONSE of its own, is
+/// corrected and repeated as any other.
+#[test]
+fn an_object_in_two_parts(rt: HostRuntime) -> Result<(), Fail> {
+    let mut session = selected(rt.alloc(), rt.alloc(), NAME)?;
+    let mut recorder = Recorder::new(rt.alloc());
+    let mut cursor = Plans::<Global>::over(&[]);
+    let get = Header {
+        cla: 0x00,
+        ins: 0xCA,
+        p1: 0x5F,
+        p2: 0x20,
+    };
+    let command = Command::new(get, &[], Some(2)).unwrap();
+    let answer = session.transmit(rt.alloc(), command, &mut cursor, &mut recorder)?;
+    assert_eq!(rt; word(answer.status()), 0x6104);
+    assert_eq!(rt; answer.data(), [0x5F, 0x20].as_slice());
+    let rest = Header {
+        cla: 0x00,
+        ins: 0xC0,
+        p1: 0x00,
+        p2: 0x00,
+    };
+    let command = Command::new(rest, &[], Some(255)).unwrap();
+    let answer = session.transmit(rt.alloc(), command, &mut cursor, &mut recorder)?;
+    assert_eq!(rt; word(answer.status()), 0x9000);
+    assert_eq!(rt; answer.data(), [0x03, 0x4A, 0x4F, 0x45].as_slice());
+    let heard = "> 00CA5F2002 < CA5F206104 > 00C00000FF < 6C04 > 00C0000004 < C0034A4F459000";
+    assert_eq!(rt; recorder.heard(), characters(rt.alloc(), heard)?.as_slice());
+    Ok(())
+}
+
 /// The card has taken the piece `AA` of a chain for `5F20`, and is busy.
 fn with_a_chain(rt: &impl Abort, alloc: Global) -> Result<Session<ObjectCard>, Fail> {
     let mut session = selected(alloc, alloc, NAME)?;
@@ -230,9 +262,10 @@ fn gets(rt: HostRuntime) -> Result<(), Fail> {
         Row {
             objects: NAME,
             plans: "nna:256",
-            operations: "get 9F36; select A0000000041010",
-            heard: "> 00CA9F3600 < 60606A88 > 00A4040007 < A4 > A0000000041010 < 6A82",
-            answers: "6A88; 6A82",
+            operations: "get 9F36; select A0000000041010; get 5F20",
+            heard: "> 00CA9F3600 < 60606A88 > 00A4040007 < A4 > A0000000041010 < 6A82 \
+                    > 00CA5F2000 < 6C06 > 00CA5F2006 < CA5F20034A4F459000",
+            answers: "6A88; 6A82; 9000 5F20034A4F45",
         },
     ] {
         is_run(&rt, rt.alloc(), &row)?;

@@ -204,14 +204,23 @@ fn a_put_that_is_refused_for_what_it_is(rt: HostRuntime) -> Result<(), Fail> {
     Ok(())
 }
 
-/// Selects with so many bytes at the terminal, and so many at the watch. The answer is whether the
-/// selection was begun, and whether all of it was heard then.
+/// What came of a selection.
+#[derive(Clone, Copy, Debug, PartialEq, Eq)]
+enum Selection {
+    /// The terminal wanted memory, and nothing was heard.
+    NotBegun,
+    /// The watch wanted memory, and heard a front.
+    PartlyHeard,
+    Heard,
+}
+
+/// Selects with so many bytes at the terminal, and so many at the watch.
 fn selects(
     rt: &impl Abort,
     alloc: Global,
     at_terminal: usize,
     at_watch: usize,
-) -> Result<(bool, bool), Fail> {
+) -> Result<Selection, Fail> {
     let terminal = LocalHeap::new(alloc, at_terminal)?;
     let watch = LocalHeap::new(alloc, at_watch)?;
     let mut session = Session::new(CardEnd::new(card(alloc, alloc, NAME)?));
@@ -227,37 +236,40 @@ fn selects(
         assert_eq!(rt; fault, SessionFault::OutOfMemory);
         assert_eq!(rt; out.len(), 0);
         assert!(rt; recorder.heard().is_empty());
-        return Ok((false, false));
+        return Ok(Selection::NotBegun);
     }
     are_answered(rt, alloc, &out, "9000 6F098407A0000000031010")?;
     let heard = "> 00A4040007 < A4 > A0000000031010 < 610B > 00C000000B \
         < C06F098407A00000000310109000";
     let heard = characters(alloc, heard)?;
-    assert!(rt; heard.as_slice().starts_with(recorder.heard()));
-    assert_eq!(rt; recorder.lost(), recorder.heard().len() < heard.len());
-    Ok((true, !recorder.lost()))
+    if recorder.lost() {
+        assert!(rt; heard.as_slice().starts_with(recorder.heard()));
+        return Ok(Selection::PartlyHeard);
+    }
+    assert!(rt; recorder.heard() == heard.as_slice());
+    Ok(Selection::Heard)
 }
 
-/// A watch that wants memory hears a front, says so, and changes nothing else.
+/// A watch that wants memory says so, and changes nothing else.
 #[test]
 fn a_selection_that_is_refused_memory(rt: HostRuntime) -> Result<(), Fail> {
-    let mut begun = false;
     let mut not_begun = false;
+    let mut begun = false;
     for size in (0..=17_408).step_by(64) {
         match selects(&rt, rt.alloc(), size, AMPLE)? {
-            (true, true) => begun = true,
-            (true, false) => return Err("the watch has memory".into()),
-            (false, _) => not_begun = true,
+            Selection::NotBegun => not_begun = true,
+            Selection::PartlyHeard => return Err("the watch has memory".into()),
+            Selection::Heard => begun = true,
         }
     }
-    assert!(rt; begun && not_begun);
+    assert!(rt; not_begun && begun);
     let mut lost = false;
     let mut heard = false;
     for size in (0..=512).step_by(16) {
         match selects(&rt, rt.alloc(), AMPLE, size)? {
-            (true, true) => heard = true,
-            (true, false) => lost = true,
-            (false, _) => return Err("the terminal has memory".into()),
+            Selection::NotBegun => return Err("the terminal has memory".into()),
+            Selection::PartlyHeard => lost = true,
+            Selection::Heard => heard = true,
         }
     }
     assert!(rt; lost && heard);

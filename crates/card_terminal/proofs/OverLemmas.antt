@@ -5,7 +5,7 @@ use Rattle.apdu_core.specs.StatusWord.{StatusWord}
 use Rattle.apdu_core.specs.CommandBytes.{Command}
 use Rattle.t0_core.specs.Dialogue.{Dialogue}
 use Rattle.card_terminal.specs.declared.wanted.Wanted.{Wanted}
-use Rattle.card_terminal.specs.Gathered.{wanted_by, after_unit, repeated_with, fetched_after, Opening, By_command, By_fetch, UnitOf, Single, last_of, IsUnit, IsFollowed, AreFollowed, Gathers}
+use Rattle.card_terminal.specs.Gathered.{wanted_by, after_unit, repeated_with, fetched_after, Opening, By_command, By_fetch, UnitOf, last_of, IsUnit, IsFollowed, AreFollowed, Gathers}
 use Rattle.card_terminal.specs.ExchangeSide.{ExchangeOf, ended_with, IsOver, Stall, Continues}
 use Rattle.card_terminal.proofs.UnitLemmas.{followed_left}
 

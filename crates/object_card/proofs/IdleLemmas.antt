@@ -1,9 +1,9 @@
 -- Whether a card is idle is seen from its fields.
-use Rattle.std.proofs.Common.{◌≡◌, ◌∙◌, ℕ, ◌≤◌, ◌+◌, List, length, Option, Some, None, Bool, true, false, refl, sym, ap, arith}
+use Rattle.std.proofs.Common.{◌≡◌, ◌∙◌, ℕ, ◌≤◌, List, length, Option, Some, None, Bool, true, false, refl, sym, ap, arith}
 use Rattle.std.specs.Prelude.{IsSome, is_some, is_none, not, ◌||◌}
 use Rattle.apdu_core.specs.declared.header.Header.{Header}
 use Rattle.apdu_core.specs.Chaining.{ChainState}
-use Rattle.object_card.specs.declared.limits.TheConstants.{VALUE_LIMIT, HEAD_LIMIT, RESPONSE_LIMIT}
+use Rattle.object_card.specs.declared.limits.TheConstants.{RESPONSE_LIMIT}
 use Rattle.object_card.specs.declared.response.Response.{Response}
 use Rattle.object_card.specs.declared.ready.Ready.{Ready}
 use Rattle.object_card.specs.declared.ready.Ready.TheVariants as ready

@@ -1,5 +1,4 @@
-use Rattle.std.proofs.Common.{◌≡◌, ◌<◌, refl, sym, ◌∙◌, ap, subst, length, List, ℕ, Some}
-use Rattle.std.specs.Prelude.{slice_get}
+use Rattle.std.proofs.Common.{◌≡◌, ◌<◌, refl, sym, ◌∙◌, ap, subst, length, List, Some}
 use Rattle.std.proofs.lemmas.Option.{slice_get_read}
 use Rattle.object_card.specs.Tables.{entries_in}
 use Rattle.object_card.specs.Refusals.{is_locked_among}

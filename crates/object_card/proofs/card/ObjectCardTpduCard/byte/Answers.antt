@@ -1,4 +1,4 @@
-use Rattle.std.proofs.Common.{◌≡◌, ◌<◌, List, ℕ, Some, length, subst}
+use Rattle.std.proofs.Common.{◌≡◌, ◌<◌, List, Some, length, subst}
 use Rattle.std.specs.Prelude.{slice_get}
 use Rattle.t0_core.specs.Meaning.{IsSending}
 use Rattle.object_card.specs.Held.{Held, entries_at, left_of}

@@ -2,7 +2,7 @@
 
 use crate::card::card_lines;
 use crate::play_fault::PlayFault;
-use crate::test_io::lines;
+use crate::test_io::{Failing, lines};
 use std::alloc::Global;
 use std::process::Abort;
 use std::test::Fail;
@@ -220,5 +220,22 @@ fn refused_table_lines(rt: HostRuntime) -> Result<(), Fail> {
     ] {
         check_refused(&rt, rt.alloc(), &[script], "", fault)?;
     }
+    Ok(())
+}
+
+/// Each write fails in turn; where none does all is written.
+#[test]
+fn failing_writers(rt: HostRuntime) -> Result<(), Fail> {
+    let script = joined(rt.alloc(), &[TABLE, SELECTED, "reset/table/"])?;
+    let prints = [SELECTED_PRINTS, "reset/app A0000000031010/  5F20 4A4F45/"];
+    let size = joined(rt.alloc(), &prints)?.len();
+    for after in 0..size {
+        let outcome = card_lines(rt.alloc(), &mut script.as_slice(), &mut Failing { after });
+        assert_eq!(rt; outcome, Err(PlayFault::Write));
+    }
+    let mut writer = Failing { after: size };
+    let outcome = card_lines(rt.alloc(), &mut script.as_slice(), &mut writer);
+    assert_eq!(rt; outcome, Ok(()));
+    assert_eq!(rt; writer.after, 0);
     Ok(())
 }

@@ -3,7 +3,7 @@
 use crate::play::play_lines;
 use crate::play_fault::PlayFault;
 use crate::script::reading::SCRIPT_LIMIT;
-use crate::test_io::{Failing, lines};
+use crate::test_io::{Endless, Failing, lines};
 use crate::test_script::{CARD, Case, GOT, SELECT, SELECTED, plays};
 use std::alloc::Global;
 use std::io;
@@ -359,5 +359,18 @@ fn the_longest_script(rt: HostRuntime) -> Result<(), Fail> {
         assert_eq!(rt; outcome, wanted);
         assert!(rt; printed.is_empty());
     }
+    Ok(())
+}
+
+/// A reader that never ends gives too long a script.
+#[test]
+fn an_endless_script(rt: HostRuntime) -> Result<(), Fail> {
+    let mut reader = Endless {
+        before_error: usize::MAX,
+    };
+    let mut printed = Vec::new(rt.alloc());
+    let outcome = play_lines(rt.alloc(), &mut reader, &mut printed);
+    assert_eq!(rt; outcome, Err(PlayFault::InputTooLong));
+    assert!(rt; printed.is_empty());
     Ok(())
 }

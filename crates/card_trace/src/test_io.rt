@@ -38,6 +38,24 @@ impl Read for Nothing {
     }
 }
 
+/// A reader that gives `#` so often, and then fails or goes on for ever.
+#[derive(Drop)]
+pub struct Endless {
+    pub before_error: usize,
+}
+
+impl Read for Endless {
+    fn read(&mut self, buf: &mut [u8]) -> io::Result<usize> {
+        if self.before_error == 0 {
+            return Err(io::Error::from(io::ErrorKind::Interrupted));
+        }
+        let count = buf.len().min(self.before_error);
+        self.before_error -= count;
+        buf[..count].fill(b'#');
+        Ok(count)
+    }
+}
+
 /// The bytes of hexadecimal digits; spaces among them are for reading.
 pub fn bytes(alloc: Global, digits: &str) -> Result<Vec<u8>, Fail> {
     let mut bytes = Vec::new(alloc);

@@ -7,10 +7,9 @@ use crate::script::reason::Reason;
 use crate::script::refusal::Refusal;
 use crate::script::section::Section;
 use crate::script::table_line::TableLine;
+use crate::test_io::Endless;
 use card_terminal::Op;
 use std::alloc::Global;
-use std::io;
-use std::io::{Error, ErrorKind, Read};
 use std::process::Abort;
 use std::test::Fail;
 
@@ -358,24 +357,6 @@ fn lines_are_cut(rt: HostRuntime) -> Result<(), Fail> {
         b"|a\rb|".as_slice()
     );
     Ok(())
-}
-
-/// A reader that gives `#` so often, and then fails or goes on for ever.
-#[derive(Drop)]
-struct Endless {
-    before_error: usize,
-}
-
-impl Read for Endless {
-    fn read(&mut self, buf: &mut [u8]) -> io::Result<usize> {
-        if self.before_error == 0 {
-            return Err(Error::from(ErrorKind::Interrupted));
-        }
-        let count = buf.len().min(self.before_error);
-        self.before_error -= count;
-        buf[..count].fill(b'#');
-        Ok(count)
-    }
 }
 
 /// What is read of a script of so many bytes `#`.

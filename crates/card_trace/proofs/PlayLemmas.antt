@@ -1,5 +1,5 @@
 -- What a player does, line after line.
-use Rattle.std.proofs.Common.{MatchOption, Result, Ok, Err, OnOk, IfSome, Bool, ◌≡◌, ℕ, List, [], ◌∷◌, ◌++◌, length, Option, Some, None, true, false, refl, sym, ap, subst, ◌∙◌, append-nil, append_assoc, arith, slice_get}
+use Rattle.std.proofs.Common.{MatchOption, Result, Ok, Err, OnOk, IfSome, ◌≡◌, ℕ, List, [], ◌∷◌, ◌++◌, length, Option, Some, None, true, false, refl, sym, ap, subst, ◌∙◌, append-nil, append_assoc, arith, slice_get}
 use Rattle.std.specs.Str.Lines.{lines}
 use Rattle.std.specs.Io.KnownBytes.{Appends}
 use Rattle.std.proofs.KnownBytes.{Appends-nil, Appends-trans}
@@ -9,7 +9,6 @@ use Rattle.t0_core.specs.Watch.{Hearing, Hears}
 use Rattle.object_card.specs.Tables.{Application}
 use Rattle.object_card.specs.State.{CardState, is_idle}
 use Rattle.object_card.specs.CardMeaning.{Does}
-use Rattle.object_card.specs.Builder.{TakesObject, with_last_entry}
 use Rattle.object_card.specs.OneStep.{Operation, Reply}
 use Rattle.card_terminal.specs.declared.operation.Op.{Op}
 use Rattle.card_terminal.specs.Operations.{operation_of}
@@ -25,13 +24,11 @@ use Rattle.card_trace.specs.ScriptPlay.{PlayMeaning, Adds, Plan}
 use Rattle.card_trace.specs.Scripts.{PlayState, Building, Running, card_in, plans_in, IsAdded, IsRun, talks, is_busy, Plays, PlaysLine, PlaysAll, PlayWrites}
 use Rattle.card_trace.specs.Playing.{state_of}
 
-pub added : {A : Type 0} (self : Player A) (before after : List Application) (a b : Addition)
-    → self ≡ player.Building before → a ≡ b → IsAdded before b after
-    → Plays (state_of self) (Adds a) [] (Building after)
-added self before after a b is same adds =
-    subst (λ s. Plays s (Adds a) [] (Building after)) (sym (ap state_of is))
-    (subst (λ x. Plays (Building before) (Adds x) [] (Building after)) (sym same)
-    (refl, after, adds, refl))
+pub added : {A : Type 0} (self : Player A) (before after : List Application) (addition : Addition)
+    → self ≡ player.Building before → IsAdded before addition after
+    → Plays (state_of self) (Adds addition) [] (Building after)
+added self before after addition is adds =
+    subst (λ s. Plays s (Adds addition) [] (Building after)) (sym (ap state_of is)) (refl, after, adds, refl)
 
 -- a recorder that has lost nothing has heard the whole line
 heard_whole : (line : List Character) (now : Hearing) → now.lost ≡ false
@@ -88,16 +85,6 @@ ran card after plans used rest left op ops before given r since now ops_are used
     (sym cleared)
     (subst (λ h. IsRun card plans (operation_of op) (operation_text h r) (Running after []))
     (sym heard) (talks r after rest line idle of))
-
--- the value that is added is that of the line
-pub added_as : (tag : List ℕ) (locked : Bool) (before after seen : List Application)
-    (bytes value : List ℕ) → bytes ≡ value → after ≡ seen
-    → TakesObject tag bytes before × (seen ≡ with_last_entry tag bytes locked before)
-    → TakesObject tag value before × (after ≡ with_last_entry tag value locked before)
-added_as tag locked before after seen bytes value is same (takes, adds) = (
-  subst (λ v. TakesObject tag v before) is takes,
-  same ∙ adds ∙ ap (λ v. with_last_entry tag v locked before) is,
-)
 
 -- ---- lines one after another
 

@@ -12,15 +12,20 @@ use Rattle.object_card.specs.Tables.{Application}
 use Rattle.object_card.specs.State.{CardState, is_idle, after_reset}
 use Rattle.object_card.specs.OneStep.{Operation, Reply}
 use Rattle.object_card.specs.CardMeaning.{Does}
-use Rattle.object_card.specs.Builder.{TakesApplication, TakesObject, with_application, with_last_entry, new_card}
+use Rattle.object_card.specs.declared.builder_fault.BuilderFault.{BuilderFault}
+use Rattle.object_card.specs.Builder.{TakesApplication, TakesObject, RefusesApplication, RefusesObject, with_application, with_last_entry, new_card}
 use Rattle.card_terminal.specs.Gathered.{UnitOf}
 use Rattle.card_terminal.specs.Talk.{AreExchangesOf, Talk, talk_dialogues}
 use Rattle.card_trace.specs.declared.fixed_line.FixedLine.TheVariants as fixed
 use Rattle.card_trace.specs.declared.script.section.Section.{Section}
 use Rattle.card_trace.specs.declared.script.section.Section.TheVariants as section
+use Rattle.card_trace.specs.declared.script.reason.Reason.TheVariants.{LateTableLine}
+use Rattle.card_trace.specs.declared.script.refusal.Refusal.{Refusal}
+use Rattle.card_trace.specs.declared.script.refusal.Refusal.TheVariants.{Line}
 use Rattle.card_trace.specs.FixedText.{fixed_text}
 use Rattle.card_trace.specs.TableText.{table_text}
 use Rattle.card_trace.specs.TraceText.{operation_text}
+use Rattle.card_trace.specs.ScriptReasons.{refusal_of_builder}
 use Rattle.card_trace.specs.ScriptWords.{words_of}
 use Rattle.card_trace.specs.ScriptTable.{Addition, App, Object, Locked}
 use Rattle.card_trace.specs.ScriptPlay.{PlayMeaning, Adds, Plan, Run, Send, Reset, Table, IsPlayLine}
@@ -51,6 +56,22 @@ IsAdded old (Object tag value) new =
     TakesObject tag value old × (new ≡ with_last_entry tag value false old)
 IsAdded old (Locked tag value) new =
     TakesObject tag value old × (new ≡ with_last_entry tag value true old)
+
+-- the builder's reason not to add it
+abbrev pub Refuses : List Application → Addition → BuilderFault → Type 0
+Refuses old (App aid) fault = RefusesApplication aid old fault
+Refuses old (Object tag value) fault = RefusesObject tag value old fault
+Refuses old (Locked tag value) fault = RefusesObject tag value old fault
+
+-- what a table line adds is not added, and for this the line is refused
+abbrev pub IsNotAdded : List Application → Addition → Refusal → Type 0
+IsNotAdded old addition refusal =
+    (fault : BuilderFault) × Refuses old addition fault × (refusal ≡ refusal_of_builder fault)
+
+-- What a table line adds is refused: by the builder, or as the table section is over.
+abbrev pub IsRefused : PlayState → Addition → Refusal → Type 0
+IsRefused (Building tables) addition refusal = IsNotAdded tables addition refusal
+IsRefused (Running card plans) addition refusal = refusal ≡ Line LateTableLine
 
 -- An operation: its talk with the card under the plans, and its answer. A card with a chain pending
 -- is sent nothing. Either way the plans are gone.

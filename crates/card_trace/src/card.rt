@@ -6,8 +6,6 @@ ghost use Rattle.t0_core.specs.Plan.{Cursor};
 ghost use Rattle.card_trace.specs.declared.script.section.Section.TheVariants as section;
 ghost use Rattle.card_trace.specs.ScriptWords.{words_of};
 ghost use Rattle.card_trace.specs.ScriptCard.{card_meaning, is_card_table_line, IsCardLine};
-ghost use Rattle.card_trace.specs.ScriptTable.{addition_of};
-ghost use Rattle.card_trace.specs.Scripts.{IsAdded};
 ghost use Rattle.card_trace.specs.CardScripts.{CardRun, Building, Running, IsEnough, HandsOut, Takes, RunsLine, DoesOrPasses, DoesAll, DoesFrom, CardWrites, LeadOn, Writes};
 ghost use Rattle.card_trace.specs.ScriptReading.{IsFaultOfLines};
 
@@ -19,7 +17,7 @@ use crate::script::lines::Lines;
 use crate::script::reading::read_script;
 use crate::script::refusal::Refusal;
 use crate::script::section::Section;
-use crate::script::table_line::TableLine;
+use crate::script::table_line::add;
 use object_card::{CardBuilder, ObjectCard};
 use std::alloc::{AllocError, Allocator};
 use std::io::{Read, Write};
@@ -135,21 +133,6 @@ impl<A: Allocator + Copy> Table<A> {
             Some(said) => Ok(Some(said)),
         }
     }
-}
-
-/// Adds what a table line says.
-fn add<A: Allocator + Copy>(
-    builder: &mut CardBuilder<A>,
-    addition: TableLine<A>,
-) -> Result<(), Refusal>
-    ensures { OnOk result (IsAdded builder.old (addition_of addition) builder.new) }
-{
-    match addition {
-        TableLine::App(aid) => builder.app(aid)?,
-        TableLine::Object(tag, value) => builder.object(tag, value.bytes())?,
-        TableLine::Locked(tag, value) => builder.locked(tag, value.bytes())?,
-    }
-    Ok(())
 }
 
 /// Carries out the lines behind the first run line, the first of which has the number after this.

@@ -7,7 +7,7 @@ ghost use Rattle.card_trace.specs.TraceText.{operation_text};
 ghost use Rattle.card_trace.specs.ScriptTable.{addition_of};
 ghost use Rattle.card_trace.specs.ScriptPlay.{Adds, play_meaning};
 ghost use Rattle.card_trace.specs.Scripts as script;
-ghost use Rattle.card_trace.specs.Scripts.{section_of, card_in, plans_in, IsRun, IsSent, Plays, PlaysLine};
+ghost use Rattle.card_trace.specs.Scripts.{section_of, card_in, plans_in, IsRun, IsSent, IsRefused, Plays, PlaysLine};
 ghost use Rattle.card_trace.specs.Playing.{state_of, running_of};
 ghost use Rattle.card_trace.specs.ScriptReading.{IsFaultOfLines};
 
@@ -18,7 +18,7 @@ use crate::script::fields::agreed_command;
 use crate::script::play_line::{PlayLine, read_play_line};
 use crate::script::refusal::Refusal;
 use crate::script::section::Section;
-use crate::script::table_line::TableLine;
+use crate::script::table_line::{TableLine, add};
 use card_terminal::{Answers, Op, Session};
 use object_card::{CardBuilder, ObjectCard};
 use std::alloc::{AllocError, Allocator};
@@ -128,18 +128,15 @@ impl<A: Allocator + Copy> Player<A> {
 
     /// The card with what a table line adds.
     fn add(self, addition: TableLine<A>) -> Result<Player<A>, Refusal>
-        ensures { IfOk result (λ player.
+        ensures added { IfOk result (λ player.
             Plays (state_of self) (Adds (addition_of addition)) []
             (state_of player)) }
+        ensures refused { IfErr result (IsRefused (state_of self) (addition_of addition)) }
     {
         match self {
             Player::Running(_) => Err(Refusal::Line(crate::script::reason::Reason::LateTableLine)),
             Player::Building(mut builder) => {
-                match addition {
-                    TableLine::App(aid) => builder.app(aid)?,
-                    TableLine::Object(tag, value) => builder.object(tag, value.bytes())?,
-                    TableLine::Locked(tag, value) => builder.locked(tag, value.bytes())?,
-                }
+                add(&mut builder, addition)?;
                 Ok(Player::Building(builder))
             }
         }

@@ -1,15 +1,16 @@
 //! The lines that build the table of a card.
-ghost use Rattle.std.specs.Prelude.{◌≡◌, ℕ, List, IfOk, IfErr};
+ghost use Rattle.std.specs.Prelude.{◌≡◌, ℕ, List, OnOk, IfOk, IfErr};
 ghost use Rattle.card_trace.specs.ScriptReasons.{OnReason};
 ghost use Rattle.card_trace.specs.ScriptWords.{words_in};
 ghost use Rattle.card_trace.specs.ScriptTable.{Addition, addition_of, table_word, AreTableFields, AreEntryFields};
+ghost use Rattle.card_trace.specs.Scripts.{IsAdded, IsNotAdded};
 
 use crate::script::fields::{read_aid, read_tag, read_value};
 use crate::script::keyword::TableWord;
 use crate::script::refusal::Refusal;
 use crate::script::words::{one_word, two_words};
 use card_terminal::Bytes;
-use object_card::Aid;
+use object_card::{Aid, CardBuilder};
 use std::alloc::{Allocator, Global};
 use tlv_core::ObjectTag;
 
@@ -65,4 +66,21 @@ pub fn read_entry<A: Allocator + Copy>(
     let tag = read_tag(alloc, tag)?;
     let value = read_value(alloc, value)?;
     Ok((tag, Bytes::new(value)))
+}
+
+/// Adds what a table line says to the card that is built. What the builder refuses is refused for its
+/// reason.
+pub fn add<A: Allocator + Copy>(
+    builder: &mut CardBuilder<A>,
+    addition: TableLine<A>,
+) -> Result<(), Refusal>
+    ensures added { OnOk result (IsAdded builder.old (addition_of addition) builder.new) }
+    ensures refused { IfErr result (IsNotAdded builder.old (addition_of addition)) }
+{
+    match addition {
+        TableLine::App(aid) => builder.app(aid)?,
+        TableLine::Object(tag, value) => builder.object(tag, value.bytes())?,
+        TableLine::Locked(tag, value) => builder.locked(tag, value.bytes())?,
+    }
+    Ok(())
 }

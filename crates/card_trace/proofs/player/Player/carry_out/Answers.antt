@@ -9,7 +9,7 @@ pub returns-in-Ok-clause-played : goal.returns-in-Ok-clause-played
 returns-in-Ok-clause-played g c = (
   [],
   Appends-nil _,
-  plays_as _ _ _ _ [] (ap play_meaning c.in-Adds.is) c.in-Ok.ensures,
+  plays_as _ _ _ _ [] (ap play_meaning c.in-Adds.is) c.in-Ok.ensures.added,
 )
 
 pub returns-in_ok-keep-in-Plan-clause-played : goal.returns-in_ok-keep-in-Plan-clause-played

@@ -5,7 +5,7 @@ use crate::data_objects::{NAME, are_answered, card, full, holds, operations, sel
 use crate::trace::{characters, plans, word};
 use crate::{Answers, Op, Session};
 use apdu_core::{Command, Header};
-use object_card::ObjectCard;
+use object_card::{DataCard, ObjectCard};
 use std::alloc::Global;
 use std::process::Abort;
 use std::test::Fail;
@@ -16,9 +16,9 @@ use t0_core::{CardEnd, End, Plans, Recorder, Silent};
 struct Row<'a> {
     /// The objects of the application: `5F20 4A4F45; 50 41*253`.
     objects: &'a str,
-    /// The plans of the second and later operations.
+    /// The plans of the session's next TPDUs.
     plans: &'a str,
-    /// The operations after the application is selected: `get 5F20; put 5F20 41`.
+    /// The operations: `get 5F20; put 5F20 41`.
     operations: &'a str,
     /// What they make on the line.
     heard: &'a str,
@@ -38,74 +38,61 @@ fn repeated(alloc: Global, trace: &str) -> Result<Vec<(End, u8)>, Fail> {
     Ok(all)
 }
 
-/// The operations of a row make these characters, and have these answers.
-fn is_run(rt: &impl Abort, alloc: Global, row: &Row<'_>) -> Result<Session<ObjectCard>, Fail> {
-    let mut session = selected(alloc, alloc, row.objects)?;
+/// The session carries out the operations of a row, with these characters and these answers.
+fn carries_out<C: DataCard>(
+    rt: &impl Abort,
+    alloc: Global,
+    session: &mut Session<C>,
+    row: &Row<'_>,
+) -> Result<(), Fail> {
     let plans = plans(alloc, row.plans)?;
     let ops = operations(alloc, row.operations)?;
+    let mut cursor = Plans::over(&plans);
     let mut recorder = Recorder::new(alloc);
     let mut out = Answers::new(alloc);
     if !session.is_idle() {
         return Err("busy".into());
     }
-    session.run(
-        alloc,
-        &ops,
-        &mut Plans::over(&plans),
-        &mut recorder,
-        &mut out,
-    )?;
+    session.run(alloc, &ops, &mut cursor, &mut recorder, &mut out)?;
     let heard = repeated(alloc, row.heard)?;
     assert!(rt; recorder.heard() == heard.as_slice(), "{}", row.operations);
     assert!(rt; !recorder.lost());
-    are_answered(rt, alloc, &out, row.answers)?;
+    are_answered(rt, alloc, &out, row.answers)
+}
+
+/// A session in which the application is selected does so.
+fn is_run(rt: &impl Abort, alloc: Global, row: &Row<'_>) -> Result<Session<ObjectCard>, Fail> {
+    let mut session = selected(alloc, alloc, row.objects)?;
+    carries_out(rt, alloc, &mut session, row)?;
     Ok(session)
 }
 
 /// One operation of each kind, of which the first finds a NULL in its plan.
-const EACH: &str = "select A0000000031010; get 5F20; put 9F36 01";
-
-const EACH_HEARD: &str = "> 00A4040007 < 60A4 > A0000000031010 < 610B > 00C000000B \
-    < C06F098407A00000000310109000 > 00CA5F2000 < 6C06 > 00CA5F2006 \
-    < CA5F20034A4F459000 > 00DA9F3601 < DA > 01 < 9000";
-
-const EACH_ANSWERED: &str = "9000 6F098407A0000000031010; 9000 5F20034A4F45; 9000";
+const EACH: Row<'static> = Row {
+    objects: NAME,
+    plans: "n:256",
+    operations: "select A0000000031010; get 5F20; put 9F36 01",
+    heard: "> 00A4040007 < 60A4 > A0000000031010 < 610B > 00C000000B \
+            < C06F098407A00000000310109000 > 00CA5F2000 < 6C06 > 00CA5F2006 \
+            < CA5F20034A4F459000 > 00DA9F3601 < DA > 01 < 9000",
+    answers: "9000 6F098407A0000000031010; 9000 5F20034A4F45; 9000",
+};
 
 #[test]
 fn operations_in_turn(rt: HostRuntime) -> Result<(), Fail> {
-    let plans = plans(rt.alloc(), "n:256")?;
-    let ops = operations(rt.alloc(), EACH)?;
-    let mut session = Session::new(CardEnd::new(card(rt.alloc(), rt.alloc(), NAME)?));
-    let mut recorder = Recorder::new(rt.alloc());
-    let mut out = Answers::new(rt.alloc());
-    let mut cursor = Plans::over(&plans);
-    if !session.is_idle() {
-        return Err("busy".into());
-    }
-    session.run(rt.alloc(), &ops, &mut cursor, &mut recorder, &mut out)?;
-    let heard = characters(rt.alloc(), EACH_HEARD)?;
-    assert_eq!(rt; recorder.heard(), heard.as_slice());
-    are_answered(&rt, rt.alloc(), &out, EACH_ANSWERED)
+    let mut session = Session::new(CardEnd::new(card(rt.alloc(), rt.alloc(), EACH.objects)?));
+    carries_out(&rt, rt.alloc(), &mut session, &EACH)?;
+    holds(&rt, rt.alloc(), session.card(), "5F20 4A4F45; 9F36 01")
 }
 
 /// Any card of data objects will do. This one has answered five TPDUs then.
 #[test]
 fn each_answer_comes_over_the_line(rt: HostRuntime) -> Result<(), Fail> {
-    let plans = plans(rt.alloc(), "n:256")?;
-    let ops = operations(rt.alloc(), EACH)?;
-    let counting = CountingCard::new(card(rt.alloc(), rt.alloc(), NAME)?);
+    let counting = CountingCard::new(card(rt.alloc(), rt.alloc(), EACH.objects)?);
     let mut session = Session::new(CardEnd::new(counting));
-    let mut recorder = Recorder::new(rt.alloc());
-    let mut out = Answers::new(rt.alloc());
-    let mut cursor = Plans::over(&plans);
-    if !session.is_idle() {
-        return Err("busy".into());
-    }
-    session.run(rt.alloc(), &ops, &mut cursor, &mut recorder, &mut out)?;
-    let heard = characters(rt.alloc(), EACH_HEARD)?;
-    assert_eq!(rt; recorder.heard(), heard.as_slice());
+    carries_out(&rt, rt.alloc(), &mut session, &EACH)?;
     assert_eq!(rt; session.card().answered(), 5);
-    are_answered(&rt, rt.alloc(), &out, EACH_ANSWERED)
+    Ok(())
 }
 
 /// Two commands bring the two parts of an object. The second, a GET RESPONSE of its own, is

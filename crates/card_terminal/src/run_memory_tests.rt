@@ -3,8 +3,9 @@
 
 use crate::data_objects::{NAME, are_answered, card, full, holds, operations, selected};
 use crate::trace::{characters, word};
-use crate::{Answers, Session, SessionFault};
+use crate::{Answers, Op, Session, SessionFault};
 use linked_list_allocator::LocalHeap;
+use object_card::DataCard;
 use std::alloc::{AllocError, Allocator, Global};
 use std::process::Abort;
 use std::test::Fail;
@@ -54,6 +55,31 @@ enum Outcome {
     AsEver,
 }
 
+/// Carries out an operation. Its answer is whether it was begun: where the terminal wants memory
+/// nothing is heard, and there is no answer.
+fn is_begun<A: Allocator + Copy, B: Allocator, C: DataCard>(
+    rt: &impl Abort,
+    session: &mut Session<C>,
+    ops: &[Op],
+    memory: A,
+    recorder: &mut Recorder<B>,
+    out: &mut Answers<A>,
+) -> Result<bool, Fail> {
+    let mut plans = Plans::<Global>::over(&[]);
+    if !session.is_idle() {
+        return Err("busy".into());
+    }
+    let ran = session.run(memory, ops, &mut plans, recorder, out);
+    assert!(rt; session.is_idle());
+    let Err(fault) = ran else {
+        return Ok(true);
+    };
+    assert_eq!(rt; fault, SessionFault::OutOfMemory);
+    assert_eq!(rt; out.len(), 0);
+    assert!(rt; recorder.heard().is_empty());
+    Ok(false)
+}
+
 /// Puts with so many bytes at the terminal, and so many that are left at the card.
 fn puts(
     rt: &impl Abort,
@@ -67,24 +93,15 @@ fn puts(
     let mut session = selected(&memory, alloc, put.objects)?;
     let taken = all_but(alloc, &memory, at_card)?;
     let ops = operations(alloc, put.operation)?;
-    let mut plans = Plans::<Global>::over(&[]);
     let mut recorder = Recorder::new(alloc);
     let mut out = Answers::new(&terminal);
-    if !session.is_idle() {
-        return Err("busy".into());
-    }
-    let ran = session.run(&terminal, &ops, &mut plans, &mut recorder, &mut out);
+    let begun = is_begun(rt, &mut session, &ops, &terminal, &mut recorder, &mut out)?;
     drop(taken);
-    assert!(rt; session.is_idle());
-    let outcome = match ran {
-        Err(fault) => {
-            assert_eq!(rt; fault, SessionFault::OutOfMemory);
-            assert_eq!(rt; out.len(), 0);
-            Outcome::NotBegun
-        }
-        Ok(()) => answered(rt, put, &out)?,
+    let outcome = if begun {
+        answered(rt, alloc, put, &out, &recorder)?
+    } else {
+        Outcome::NotBegun
     };
-    is_heard(rt, alloc, put, outcome, &recorder)?;
     let objects = if outcome == Outcome::AsEver {
         put.after
     } else {
@@ -94,44 +111,28 @@ fn puts(
     Ok(outcome)
 }
 
-/// What the one answer says.
-fn answered<A: Allocator>(
+/// What the one answer says. It was heard after all the rest.
+fn answered<A: Allocator, B: Allocator>(
     rt: &impl Abort,
+    alloc: Global,
     put: &Put<'_>,
     out: &Answers<A>,
+    recorder: &Recorder<B>,
 ) -> Result<Outcome, Fail> {
     assert_eq!(rt; out.len(), 1);
     let answer = out.get(0).ok_or("no answer")?;
     assert_eq!(rt; answer.data().len(), 0);
-    match word(answer.status()) {
-        status if status == put.status => Ok(Outcome::AsEver),
-        0x6581 => Ok(Outcome::Failed),
-        _ => Err("another status".into()),
-    }
-}
-
-/// This was heard, with the status that the outcome has.
-fn is_heard<A: Allocator>(
-    rt: &impl Abort,
-    alloc: Global,
-    put: &Put<'_>,
-    outcome: Outcome,
-    recorder: &Recorder<A>,
-) -> Result<(), Fail> {
-    let status = match outcome {
-        Outcome::NotBegun => {
-            assert!(rt; recorder.heard().is_empty());
-            return Ok(());
-        }
-        Outcome::Failed => 0x6581u16,
-        Outcome::AsEver => put.status,
-    };
+    let status = word(answer.status());
     let mut heard = characters(alloc, put.heard)?;
     for byte in status.to_be_bytes() {
         heard.push((End::Card, byte))?;
     }
     assert!(rt; recorder.heard() == heard.as_slice(), "{}", put.operation);
-    Ok(())
+    match status {
+        _ if status == put.status => Ok(Outcome::AsEver),
+        0x6581 => Ok(Outcome::Failed),
+        _ => Err("another status".into()),
+    }
 }
 
 /// Where the terminal wants memory for an answer or a response the put is not begun. Else it is as
@@ -225,17 +226,9 @@ fn selects(
     let watch = LocalHeap::new(alloc, at_watch)?;
     let mut session = Session::new(CardEnd::new(card(alloc, alloc, NAME)?));
     let ops = operations(alloc, "select A0000000031010")?;
-    let mut plans = Plans::<Global>::over(&[]);
     let mut recorder = Recorder::new(&watch);
     let mut out = Answers::new(&terminal);
-    if !session.is_idle() {
-        return Err("busy".into());
-    }
-    let ran = session.run(&terminal, &ops, &mut plans, &mut recorder, &mut out);
-    if let Err(fault) = ran {
-        assert_eq!(rt; fault, SessionFault::OutOfMemory);
-        assert_eq!(rt; out.len(), 0);
-        assert!(rt; recorder.heard().is_empty());
+    if !is_begun(rt, &mut session, &ops, &terminal, &mut recorder, &mut out)? {
         return Ok(Selection::NotBegun);
     }
     are_answered(rt, alloc, &out, "9000 6F098407A0000000031010")?;

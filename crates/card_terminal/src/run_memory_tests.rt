@@ -232,9 +232,18 @@ fn selects(
         return Ok(Selection::NotBegun);
     }
     are_answered(rt, alloc, &out, "9000 6F098407A0000000031010")?;
-    let heard = "> 00A4040007 < A4 > A0000000031010 < 610B > 00C000000B \
+    hears(rt, alloc, &recorder)
+}
+
+/// The watch has heard the selection, or a front of it and says that it has lost the rest.
+fn hears<A: Allocator>(
+    rt: &impl Abort,
+    alloc: Global,
+    recorder: &Recorder<A>,
+) -> Result<Selection, Fail> {
+    let trace = "> 00A4040007 < A4 > A0000000031010 < 610B > 00C000000B \
         < C06F098407A00000000310109000";
-    let heard = characters(alloc, heard)?;
+    let heard = characters(alloc, trace)?;
     if recorder.lost() {
         assert!(rt; heard.as_slice().starts_with(recorder.heard()));
         return Ok(Selection::PartlyHeard);

@@ -38,7 +38,29 @@ fn repeated(alloc: Global, trace: &str) -> Result<Vec<(End, u8)>, Fail> {
     Ok(all)
 }
 
-/// The session carries out the operations of a row, with these characters and these answers.
+/// The session carries out operations under these plans, with these characters and the answers that
+/// it gives.
+fn passes<C: DataCard>(
+    rt: &impl Abort,
+    alloc: Global,
+    session: &mut Session<C>,
+    ops: &[Op],
+    plans: &mut Plans<'_>,
+    trace: &str,
+) -> Result<Answers, Fail> {
+    let mut recorder = Recorder::new(alloc);
+    let mut out = Answers::new(alloc);
+    if !session.is_idle() {
+        return Err("busy".into());
+    }
+    session.run(alloc, ops, plans, &mut recorder, &mut out)?;
+    let heard = repeated(alloc, trace)?;
+    assert!(rt; recorder.heard() == heard.as_slice(), "{trace}");
+    assert!(rt; !recorder.lost());
+    Ok(out)
+}
+
+/// The session carries out the operations of a row, with its characters and answers.
 fn carries_out<C: DataCard>(
     rt: &impl Abort,
     alloc: Global,
@@ -47,16 +69,14 @@ fn carries_out<C: DataCard>(
 ) -> Result<(), Fail> {
     let plans = plans(alloc, row.plans)?;
     let ops = operations(alloc, row.operations)?;
-    let mut cursor = Plans::over(&plans);
-    let mut recorder = Recorder::new(alloc);
-    let mut out = Answers::new(alloc);
-    if !session.is_idle() {
-        return Err("busy".into());
-    }
-    session.run(alloc, &ops, &mut cursor, &mut recorder, &mut out)?;
-    let heard = repeated(alloc, row.heard)?;
-    assert!(rt; recorder.heard() == heard.as_slice(), "{}", row.operations);
-    assert!(rt; !recorder.lost());
+    let out = passes(
+        rt,
+        alloc,
+        session,
+        &ops,
+        &mut Plans::over(&plans),
+        row.heard,
+    )?;
     are_answered(rt, alloc, &out, row.answers)
 }
 
@@ -178,25 +198,18 @@ fn a_chain_does_not_outlive_a_reset(rt: HostRuntime) -> Result<(), Fail> {
     holds(&rt, rt.alloc(), session.card(), "5F20 BB")
 }
 
+/// The plan is left for the operation that comes then.
 #[test]
 fn no_operations(rt: HostRuntime) -> Result<(), Fail> {
     let plans = plans(rt.alloc(), "n:256")?;
-    let mut session = selected(rt.alloc(), rt.alloc(), NAME)?;
-    let mut recorder = Recorder::new(rt.alloc());
-    let mut out = Answers::new(rt.alloc());
-    let mut cursor = Plans::over(&plans);
-    let none: [Op; 0] = [];
-    if !session.is_idle() {
-        return Err("busy".into());
-    }
-    session.run(rt.alloc(), &none, &mut cursor, &mut recorder, &mut out)?;
-    assert_eq!(rt; out.len(), 0);
-    assert!(rt; recorder.heard().is_empty());
     let get = operations(rt.alloc(), "get 9F36")?;
-    session.run(rt.alloc(), &get, &mut cursor, &mut recorder, &mut out)?;
-    let heard = characters(rt.alloc(), "> 00CA9F3600 < 606A88")?;
-    assert_eq!(rt; recorder.heard(), heard.as_slice());
-    Ok(())
+    let mut session = selected(rt.alloc(), rt.alloc(), NAME)?;
+    let mut cursor = Plans::over(&plans);
+    let out = passes(&rt, rt.alloc(), &mut session, &[], &mut cursor, "")?;
+    assert_eq!(rt; out.len(), 0);
+    let trace = "> 00CA9F3600 < 606A88";
+    let out = passes(&rt, rt.alloc(), &mut session, &get, &mut cursor, trace)?;
+    are_answered(&rt, rt.alloc(), &out, "6A88")
 }
 
 #[test]

@@ -1,5 +1,5 @@
 -- What lines of a script of `card` come to, one after another.
-use Rattle.std.proofs.Common.{◌≡◌, ◌⊎◌, inl, inr, Result, Ok, Err, drop, length-append, ℕ, zero, suc, ◌+◌, ◌<◌, ◌≤◌, List, [], ◌∷◌, ◌++◌, length, take, Option, Some, None, IfSome, Bool, true, false, nat_lt, if◌then◌else◌, refl, sym, ap, subst, ◌∙◌, arith, append_assoc, append-nil, true≢false, rules}
+use Rattle.std.proofs.Common.{◌≡◌, ◌⊎◌, inl, inr, Result, Ok, Err, drop, length-append, ℕ, zero, suc, ◌+◌, ◌<◌, ◌≤◌, List, [], ◌∷◌, ◌++◌, length, take, min, ◌-◌, ◌^◌, Option, Some, None, IfSome, Bool, true, false, nat_lt, if◌then◌else◌, refl, sym, ap, subst, ◌∙◌, arith, append_assoc, append-nil, true≢false, rules}
 use Rattle.std.proofs.lemmas.Bool.{eqb-true, ltb-true, ltb-false, ne_eqb}
 use Rattle.std.proofs.KnownBytes.{Appends-nil, Appends-trans}
 use Rattle.std.specs.Io.KnownBytes.{Appends}
@@ -26,9 +26,18 @@ use Rattle.card_trace.specs.FixedText.{fixed_text}
 use Rattle.card_trace.specs.TableText.{table_text}
 use Rattle.card_trace.specs.TraceText.{handed_out_text}
 use Rattle.card_trace.specs.ScriptWords.{words_of}
-use Rattle.card_trace.specs.ScriptTable.{MayStandIn}
+use Rattle.card_trace.specs.declared.play_fault.PlayFault.{PlayFault}
+use Rattle.card_trace.specs.declared.play_fault.PlayFault.TheVariants.{Script, Read, Write, InputTooLong, OutOfMemory as NoMemory}
+use Rattle.card_trace.specs.declared.script.refusal.Refusal.{Refusal}
+use Rattle.card_trace.specs.declared.script.refusal.Refusal.TheVariants.{Line, OutOfMemory}
+use Rattle.card_trace.specs.ScriptReasons.{fault_at, OnReason}
+use Rattle.card_trace.specs.ScriptFaults.{SaysNothing, LinesStop, IsFaultOfLine, IsWritingFault}
+use Rattle.card_trace.proofs.ScriptFaultLemmas.{next_behind, cut_behind, few_lines}
+use Rattle.card_trace.specs.declared.script.reading.TheConstants.{SCRIPT_LIMIT}
+use Rattle.card_trace.specs.ScriptTable.{Addition, MayStandIn}
+use Rattle.card_trace.specs.Scripts.{IsNotAdded}
 use Rattle.card_trace.specs.ScriptCard.{CardMeaning, Adds, Plan, Take, HandOut, Reset, Table, is_card_table_line, IsCardLine}
-use Rattle.card_trace.specs.CardScripts.{Past, heard, reset_to, no_past, RunningEnd, CardRun, Building, Running, TakeInTurn, IsFresh, AtWork, end_at, IsReady, IsReadyBy, LeadOn, Writes, Takes, HandsOut, IsEnough, RunsLine, DoesLine, DoesOrPasses, DoesAll, DoesFrom, CardWrites}
+use Rattle.card_trace.specs.CardScripts.{Past, heard, reset_to, no_past, RunningEnd, CardRun, Building, Running, TakeInTurn, IsFresh, AtWork, end_at, IsReady, IsReadyBy, LeadOn, Writes, Takes, HandsOut, IsEnough, RunsLine, DoesLine, DoesOrPasses, DoesAll, IsFirstRunLine, RefusesCardLine, CardWrites}
 
 -- ---- characters that pass
 
@@ -528,78 +537,239 @@ writes_line old new line meaning before after is writes = λ past h.
       done.4,
     )
 
--- where the lines that are left are done, all are
-abbrev pub GoesThrough : List (List ℕ) → List (List ℕ) → RunningEnd → List ℕ → RunningEnd → Type 0
-GoesThrough all left old text new =
-    (rest : List ℕ) (last : CardRun) → DoesAll (Running new) left rest last → DoesAll (Running old) all (text ++ rest) last
+does_both : (start mid end : CardRun) (before others : List (List ℕ)) (text more : List ℕ)
+    → DoesAll start before text mid → DoesAll mid others more end
+    → DoesAll start (before ++ others) (text ++ more) end
+does_both start mid end [] others text more (none, same) does =
+    let P : CardRun → Type 0 = λ s. DoesAll s others more end in
+    let Q : List ℕ → Type 0 = λ t. DoesAll start others (t ++ more) end in
+    subst Q (sym none) (subst P same does)
+does_both start mid end (b ∷ before) others text more (first, rest, next, one, is, others_do) does = (
+  first,
+  rest ++ more,
+  next,
+  one,
+  ap (λ t. t ++ more) is ∙ append_assoc first rest more,
+  does_both next mid end before others rest more others_do does,
+)
 
-pub writes_none : (end : AtWork) (all : List (List ℕ)) (w : Option (List ℕ))
-    → Writes (GoesThrough all all) end end w w
-writes_none end all w = λ past h. ([], past, h, λ rest last does. does, Appends-nil w)
+does_one : (old new : CardRun) (line text : List ℕ) → DoesOrPasses old line text new
+    → DoesAll old (line ∷ []) text new
+does_one old new line text one = (text, [], new, one, sym (append-nil text), (refl, refl))
 
-pub writes_one_more : (start old new : AtWork) (all left others : List (List ℕ)) (line : List ℕ)
-    (w before after : Option (List ℕ)) → left ≡ line ∷ others
-    → Writes (GoesThrough all left) start old w before
+-- Run lines are carried out up to some place, so many, and those that are left are still to come.
+pub record AreRun (start now : AtWork) (all left : List (List ℕ)) (passed number : ℕ)
+    (old new : Option (List ℕ)) : Type 0 where
+  pub before : List (List ℕ)
+  pub is_cut : all ≡ before ++ left
+  pub is_number : number ≡ length before + passed
+  pub writes : Writes (λ o text n. DoesAll (Running o) before text (Running n)) start now old new
+
+pub none_run : (now : AtWork) (all left : List (List ℕ)) (passed number : ℕ) (w : Option (List ℕ))
+    → left ≡ all → number ≡ passed → AreRun now now all left passed number w w
+none_run now all left passed number w same counted = record {
+  before = [];
+  is_cut = sym same;
+  is_number = counted ∙ sym (zero_plus passed);
+  writes = λ past ready. ([], past, ready, (refl, refl), Appends-nil w);
+} where
+  zero_plus : (n : ℕ) → 0 + n ≡ n
+  zero_plus n = omega arith
+
+pub one_more_run : (start old new : AtWork) (all left others : List (List ℕ)) (line : List ℕ)
+    (passed m number : ℕ) (w before after : Option (List ℕ)) → left ≡ line ∷ others
+    → length all + passed < 2 ^ 63 → number ≡ min (m + 1) (2 ^ 64 - 1)
+    → AreRun start old all left passed m w before
     → Writes (λ o text n. DoesOrPasses (Running o) line text (Running n)) old new before after
-    → Writes (GoesThrough all others) start new w after
-writes_one_more start old new all left others line w before after is so_far one = λ past h.
-    let a = so_far past h in
-    let b = one a.1 a.2 in (
-      a.0 ++ b.0,
-      b.1,
-      b.2,
-      λ rest last does.
-          let P : List (List ℕ) → Type 0 = λ l. DoesAll (Running (end_at a.1 old)) l (b.0 ++ rest) last in
-          let Q : List ℕ → Type 0 = λ t. DoesAll (Running (end_at past start)) all t last in
-          subst Q (sym (append_assoc a.0 b.0 rest))
-          (a.3 (b.0 ++ rest) last (subst P (sym is) (b.0, rest, Running (end_at b.1 new), b.3, refl, does))),
-      Appends-trans w before after a.0 b.0 a.4 b.4,
-    )
+    → AreRun start new all others passed number w after
+one_more_run start old new all left others line passed m number w before after is few saturated so_far one =
+    let cut : all ≡ so_far.before ++ line ∷ others = so_far.is_cut ∙ ap (λ l. so_far.before ++ l) is in
+    let counted = next_behind all so_far.before others line passed m number cut so_far.is_number few saturated in
+    let both = length-append so_far.before (line ∷ []) in record {
+      before = so_far.before ++ line ∷ [];
+      is_cut = cut_behind all so_far.before others line cut;
+      is_number = counted ∙ ap (λ n. n + passed) (sym both);
+      writes = λ past ready.
+          let a = so_far.writes past ready in
+          let b = one a.1 a.2 in (
+            a.0 ++ b.0,
+            b.1,
+            b.2,
+            does_both (Running (end_at past start)) (Running (end_at a.1 old)) (Running (end_at b.1 new))
+                so_far.before (line ∷ []) a.0 b.0 a.3
+                (does_one (Running (end_at a.1 old)) (Running (end_at b.1 new)) line b.0 b.3),
+            Appends-trans w before after a.0 b.0 a.4 b.4,
+          );
+    }
 
-pub writes_all : (start end : AtWork) (these all left : List (List ℕ)) (before after : Option (List ℕ)) → all ≡ these
-    → left ≡ [] → Writes (GoesThrough all left) start end before after
+pub all_run : (start end : AtWork) (these all left : List (List ℕ)) (passed number : ℕ)
+    (before after : Option (List ℕ)) → all ≡ these → left ≡ []
+    → AreRun start end all left passed number before after
     → Writes (λ o text n. DoesAll (Running o) these text (Running n)) start end before after
-writes_all start end these all left before after same is so_far = λ past h.
-    let a = so_far past h in
-    let P : List (List ℕ) → Type 0 = λ l. DoesAll (Running (end_at a.1 end)) l [] (Running (end_at a.1 end)) in
-    let Q : List ℕ → Type 0 = λ t. DoesAll (Running (end_at past start)) all t (Running (end_at a.1 end)) in
-    let L : List (List ℕ) → Type 0 = λ l. DoesAll (Running (end_at past start)) l a.0 (Running (end_at a.1 end)) in (
+all_run start end these all left passed number before after same none so_far = λ past ready.
+    let a = so_far.writes past ready in
+    let whole : so_far.before ≡ these =
+    sym (append-nil so_far.before) ∙ ap (λ l. so_far.before ++ l) (sym none) ∙ sym so_far.is_cut ∙ same in
+    let P : List (List ℕ) → Type 0 = λ l. DoesAll (Running (end_at past start)) l a.0 (Running (end_at a.1 end)) in
+    (a.0, a.1, a.2, subst P whole a.3, a.4)
+
+-- a run line that is refused, for its words, or for want of memory
+pub run_stops : (start now : AtWork) (these all left others : List (List ℕ)) (line : List ℕ)
+    (passed m number : ℕ) (w before after : Option (List ℕ)) (fault : PlayFault) → all ≡ these
+    → left ≡ line ∷ others → length all + passed < 2 ^ 63 → number ≡ min (m + 1) (2 ^ 64 - 1)
+    → AreRun start now all left passed m w before
+    → IsFaultOfLine (λ _. SaysNothing (IsCardLine section.Run) line) number before after fault
+    → (past : Past) → IsReady past start
+    → LinesStop (DoesAll (Running (end_at past start))) RefusesCardLine these passed w after fault
+run_stops start now these all left others line passed m number w before after (Script n reason) same is few
+    saturated so_far (at, nothing, unwritten) = λ past ready.
+    let a = so_far.writes past ready in
+    let cut : all ≡ so_far.before ++ line ∷ others = so_far.is_cut ∙ ap (λ l. so_far.before ++ l) is in
+    let counted = next_behind all so_far.before others line passed m number cut so_far.is_number few saturated in
+    let A : Option (List ℕ) → Type 0 = λ x. Appends w x a.0 in (
       a.0,
-      a.1,
-      a.2,
-      subst L same (subst Q (append-nil a.0) (a.3 [] (Running (end_at a.1 end)) (subst P (sym is) (refl, refl)))),
-      a.4,
+      subst A (sym unwritten) a.4,
+      length so_far.before + 1,
+      at ∙ counted,
+      record {
+        before = so_far.before;
+        line = line;
+        others = others;
+        is_cut = sym same ∙ cut;
+        is_number = refl;
+        state = Running (end_at a.1 now);
+        does = a.3;
+        refuses = inl nothing;
+      },
     )
+run_stops start now these all left others line passed m number w before after NoMemory same is few saturated
+    so_far unwritten = λ past ready.
+    let a = so_far.writes past ready in
+    let A : Option (List ℕ) → Type 0 = λ x. Appends w x a.0 in (
+      a.0,
+      subst A (sym unwritten) a.4,
+      record {
+        before = so_far.before;
+        others = left;
+        is_cut = sym same ∙ so_far.is_cut;
+        state = Running (end_at a.1 now);
+        does = a.3;
+      },
+    )
+run_stops start now these all left others line passed m number w before after Write same is few saturated
+    so_far unknown = λ past ready. tt
+run_stops start now these all left others line passed m number w before after Read same is few saturated
+    so_far never = absurd never
+run_stops start now these all left others line passed m number w before after InputTooLong same is few
+    saturated so_far never = absurd never
 
 -- ---- lines of the table
 
--- where the lines that are left are done, all are
-abbrev pub GoesOver : CardRun → List (List ℕ) → CardRun → List (List ℕ) → Type 0
-GoesOver old all new left = (text : List ℕ) (end : CardRun) → DoesAll new left text end → DoesAll old all text end
+-- Table lines are carried out up to some place, so many, and those that are left are still to come.
+pub record AreBuilt (start now : CardRun) (all left : List (List ℕ)) (passed number : ℕ) : Type 0
+  where
+    pub before : List (List ℕ)
+    pub is_cut : all ≡ before ++ left
+    pub is_number : number ≡ length before + passed
+    pub does : DoesAll start before [] now
 
-pub adds_one_more : (start old new : CardRun) (all left others : List (List ℕ)) (line : List ℕ) → left ≡ line ∷ others
-    → DoesOrPasses old line [] new → GoesOver start all old left → GoesOver start all new others
-adds_one_more start old new all left others line is one so_far = λ text end does.
-    let P : List (List ℕ) → Type 0 = λ l. DoesAll old l text end in
-    so_far text end (subst P (sym is) ([], text, new, one, refl, does))
+pub none_built : (start : CardRun) (all : List (List ℕ)) (passed : ℕ)
+    → AreBuilt start start all all passed passed
+none_built start all passed =
+    let counted : passed ≡ 0 + passed = omega arith in
+    record { before = []; is_cut = refl; is_number = counted; does = (refl, refl) }
 
-pub adds_all : (start end : CardRun) (all left : List (List ℕ)) → left ≡ [] → GoesOver start all end left
-    → DoesAll start all [] end
-adds_all start end all left is so_far =
-    let P : List (List ℕ) → Type 0 = λ l. DoesAll end l [] end in
-    so_far [] end (subst P (sym is) (refl, refl))
+pub one_more_built : (start old new : CardRun) (all left others : List (List ℕ)) (line : List ℕ)
+    (passed m number : ℕ) → left ≡ line ∷ others → length all + passed < 2 ^ 63
+    → number ≡ min (m + 1) (2 ^ 64 - 1) → AreBuilt start old all left passed m
+    → DoesOrPasses old line [] new → AreBuilt start new all others passed number
+one_more_built start old new all left others line passed m number is few saturated so_far one =
+    let cut : all ≡ so_far.before ++ line ∷ others = so_far.is_cut ∙ ap (λ l. so_far.before ++ l) is in
+    let counted = next_behind all so_far.before others line passed m number cut so_far.is_number few saturated in
+    let both = length-append so_far.before (line ∷ []) in record {
+      before = so_far.before ++ line ∷ [];
+      is_cut = cut_behind all so_far.before others line cut;
+      is_number = counted ∙ ap (λ n. n + passed) (sym both);
+      does = does_both start old new so_far.before (line ∷ []) [] [] so_far.does (does_one old new line [] one);
+    }
 
--- the first run line, and what is behind it
-pub goes_from : (start : CardRun) (tables now : List Application) (plans these : List Course) (all left others : List (List ℕ))
-    (line : List ℕ) (meaning : CardMeaning) → left ≡ line ∷ others → now ≡ tables → these ≡ plans
-    → IsCardLine section.Table (words_of line) meaning → GoesOver start all (Building tables plans) left
-    → (text : List ℕ) (end : CardRun) → DoesFrom (Building now these) meaning others text end → DoesAll start all text end
-goes_from start tables now plans these all left others line meaning is same same_plans is_line so_far text end does =
-    let P : List (List ℕ) → Type 0 = λ l. DoesAll (Building tables plans) l text end in
-    let T : List Application → Type 0 = λ t. DoesFrom (Building t these) meaning others text end in
-    let C : List Course → Type 0 = λ p. DoesFrom (Building tables p) meaning others text end in
-    let d : DoesFrom (Building tables plans) meaning others text end = subst C same_plans (subst T same does) in
-    so_far text end (subst P (sym is) (d.0, d.1, d.2, inr (meaning, is_line, d.3), d.4, d.5))
+pub all_built : (start end : CardRun) (all left : List (List ℕ)) (passed number : ℕ) → left ≡ []
+    → AreBuilt start end all left passed number → DoesAll start all [] end
+all_built start end all left passed number none so_far =
+    let whole : so_far.before ≡ all =
+    sym (append-nil so_far.before) ∙ ap (λ l. so_far.before ++ l) (sym none) ∙ sym so_far.is_cut in
+    let P : List (List ℕ) → Type 0 = λ l. DoesAll start l [] end in subst P whole so_far.does
+
+-- the first run line
+pub first_found : (start : CardRun) (tables now : List Application) (plans these : List Course)
+    (all left others : List (List ℕ)) (line : List ℕ) (passed m number : ℕ) (meaning : CardMeaning)
+    → left ≡ line ∷ others → length all + passed < 2 ^ 63 → number ≡ min (m + 1) (2 ^ 64 - 1)
+    → AreBuilt start (Building tables plans) all left passed m → now ≡ tables → these ≡ plans
+    → IsCardLine section.Table (words_of line) meaning → is_card_table_line meaning ≡ false
+    → IsFirstRunLine start (Building now these) all others passed number meaning
+first_found start tables now plans these all left others line passed m number meaning is few saturated so_far
+    same same_plans is_line runs =
+    let cut : all ≡ so_far.before ++ line ∷ others = so_far.is_cut ∙ ap (λ l. so_far.before ++ l) is in
+    let T : List Application → Type 0 = λ t. DoesAll start so_far.before [] (Building t plans) in
+    let C : List Course → Type 0 = λ p. DoesAll start so_far.before [] (Building now p) in record {
+      before = so_far.before;
+      line = line;
+      is_cut = cut;
+      is_number = next_behind all so_far.before others line passed m number cut so_far.is_number few saturated;
+      does = subst C (sym same_plans) (subst T (sym same) so_far.does);
+      is_line = is_line;
+      is_run_line = runs;
+    }
+
+-- before any line memory is wanting
+pub stops_at_once : (start : CardRun) (all : List (List ℕ)) (passed : ℕ) (written : Option (List ℕ))
+    → LinesStop (DoesAll start) RefusesCardLine all passed written written NoMemory
+stops_at_once start all passed written = (
+  [],
+  Appends-nil written,
+  record { before = []; others = all; is_cut = refl; state = start; does = (refl, refl) },
+)
+
+-- what the builder does not take
+pub not_added : (tables : List Application) (plans : List Course) (line : List ℕ)
+    (meaning : CardMeaning) (addition : Addition) (refusal : Refusal) → meaning ≡ Adds addition
+    → IsCardLine section.Table (words_of line) meaning → IsNotAdded tables addition refusal
+    → OnReason refusal (RefusesCardLine (Building tables plans) line)
+not_added tables plans line meaning addition (Line reason) is says refused =
+    inr (addition, subst (λ (m : CardMeaning). IsCardLine section.Table (words_of line) m) is says, refused)
+not_added tables plans line meaning addition OutOfMemory is says refused = tt
+
+-- a table line that is refused, or that wants memory
+pub build_stops : (start now : CardRun) (all left others : List (List ℕ)) (line : List ℕ)
+    (passed m number : ℕ) (refusal : Refusal) (fault : PlayFault) → left ≡ line ∷ others
+    → length all + passed < 2 ^ 63 → number ≡ min (m + 1) (2 ^ 64 - 1)
+    → AreBuilt start now all left passed m → fault ≡ fault_at number refusal
+    → OnReason refusal (RefusesCardLine now line) → (written : Option (List ℕ))
+    → LinesStop (DoesAll start) RefusesCardLine all passed written written fault
+build_stops start now all left others line passed m number (Line reason) fault is few saturated so_far at
+    refuses = λ written.
+    let cut : all ≡ so_far.before ++ line ∷ others = so_far.is_cut ∙ ap (λ l. so_far.before ++ l) is in
+    let P : PlayFault → Type 0 = λ f. LinesStop (DoesAll start) RefusesCardLine all passed written written f in
+    subst P (sym at) (
+      [],
+      Appends-nil written,
+      length so_far.before + 1,
+      next_behind all so_far.before others line passed m number cut so_far.is_number few saturated,
+      record {
+        before = so_far.before;
+        line = line;
+        others = others;
+        is_cut = cut;
+        is_number = refl;
+        state = now;
+        does = so_far.does;
+        refuses = refuses;
+      },
+    )
+build_stops start now all left others line passed m number OutOfMemory fault is few saturated so_far at
+    refuses = λ written.
+    let P : PlayFault → Type 0 = λ f. LinesStop (DoesAll start) RefusesCardLine all passed written written f in
+    subst P (sym at) (stops_at_once start all passed written)
 
 first_does : (tables : List Application) (plans : List Course) (meaning : CardMeaning) (first next : RunningEnd) (text : List ℕ)
     → is_card_table_line meaning ≡ false → IsFresh tables plans first
@@ -621,39 +791,165 @@ is_made tables card made plans is stage led led_under =
     let P : CardView → Type 0 = λ v. IsReady (no_past v.state) (made, plans) in
     subst P is (ready_made card.state made plans stage led led_under)
 
--- from no tables and no plans, over the lines of the script
-pub goes_at : (none : List Application) (no_plans : List Course) (script : List ℕ) (all : List (List ℕ)) (text : List ℕ)
-    (end : CardRun) → none ≡ [] → no_plans ≡ [] → all ≡ lines script → DoesAll (Building none no_plans) all text end
-    → DoesAll (Building [] []) (lines script) text end
-goes_at none no_plans script all text end e p l does =
-    let T : List Application → Type 0 = λ t. DoesAll (Building t no_plans) all text end in
-    let C : List Course → Type 0 = λ c. DoesAll (Building [] c) all text end in
-    let L : List (List ℕ) → Type 0 = λ x. DoesAll (Building [] []) x text end in
-    subst L l (subst C p (subst T e does))
+-- ---- a whole script
 
--- a whole script, of which this is the first run line
-pub writes_script : (script : List ℕ) (tables : List Application) (plans : List Course) (others : List (List ℕ))
-    (meaning : CardMeaning) (made old new : AtWork) (w before after : Option (List ℕ))
-    → is_card_table_line meaning ≡ false
-    → ((text : List ℕ) (end : CardRun) → DoesFrom (Building tables plans) meaning others text end
-    → DoesAll (Building [] []) (lines script) text end)
+pub empty_table : (none : List Application) (no_plans : List Course) → none ≡ [] → no_plans ≡ []
+    → Building none no_plans ≡ Building [] []
+empty_table none no_plans e p = ap (λ t. Building t no_plans) e ∙ ap (λ l. Building [] l) p
+
+pub few_at_first : (all : List (List ℕ)) (script : List ℕ) → all ≡ lines script
+    → length script ≤ SCRIPT_LIMIT → length all + 0 < 2 ^ 63
+few_at_first all script is fits = let few = few_lines all script is fits in omega (arith, few)
+
+pub few_behind : (start now : CardRun) (all others : List (List ℕ)) (number : ℕ)
+    (meaning : CardMeaning) → IsFirstRunLine start now all others 0 number meaning
+    → length all + 0 < 2 ^ 63 → length others + number < 2 ^ 63
+few_behind start now all others number meaning f few =
+    let whole : length all ≡ length f.before + length (f.line ∷ others) =
+    ap (λ l. length l) f.is_cut ∙ length-append f.before (f.line ∷ others) in
+    let counted = f.is_number in omega (arith, whole, few, counted)
+
+-- A script is begun: so many lines are carried out, the last of which is its first run line.
+pub record IsBegun (script : List ℕ) (others : List (List ℕ)) (number : ℕ) (now : AtWork)
+    (old new : Option (List ℕ)) : Type 0 where
+  pub before : List (List ℕ)
+  pub is_cut : lines script ≡ before ++ others
+  pub is_number : number ≡ length before
+  pub text : List ℕ
+  pub past : Past
+  pub ready : IsReady past now
+  pub does : DoesAll (Building [] []) before text (Running (end_at past now))
+  pub appends : Appends old new text
+
+counted_to : (before : List (List ℕ)) (line : List ℕ) (n : ℕ) → n ≡ length before + 1 + 0
+    → n ≡ length (before ++ line ∷ [])
+counted_to before line n is = let both = length-append before (line ∷ []) in omega (arith, is, both)
+
+none_more : (n : ℕ) → n ≡ n + 0
+none_more n = omega arith
+
+-- the first run line is carried out, behind those of the table
+pub first_done : (script : List ℕ) (all others : List (List ℕ)) (start : CardRun)
+    (tables : List Application) (plans : List Course) (number : ℕ) (meaning : CardMeaning)
+    (made old : AtWork) (w before : Option (List ℕ)) → all ≡ lines script → start ≡ Building [] []
+    → (f : IsFirstRunLine start (Building tables plans) all others 0 number meaning)
     → IsReady (no_past (new_card tables).state) made → made.1.rest ≡ plans
-    → (is_card_table_line meaning ≡ false → Writes (λ o text n. RunsLine o meaning text n) made old w before)
+    → (is_card_table_line meaning ≡ false
+    → Writes (λ o text n. RunsLine o meaning text n) made old w before)
+    → IsBegun script others number old w before
+first_done script all others start tables plans number meaning made old w before is empty f ready all_left one =
+    let a = one f.is_run_line (no_past (new_card tables).state) ready in
+    let fresh : IsFresh tables plans (end_at (no_past (new_card tables).state) made) =
+    record { past_is = refl; all_left = all_left; is_led = ready.led } in
+    let does = first_does tables plans meaning (end_at (no_past (new_card tables).state) made)
+    (end_at a.1 old) a.0 f.is_run_line fresh a.3 in
+    let P : CardRun → Type 0 = λ s. DoesAll s f.before [] (Building tables plans) in record {
+      before = f.before ++ f.line ∷ [];
+      is_cut = sym is ∙ cut_behind all f.before others f.line f.is_cut;
+      is_number = counted_to f.before f.line number f.is_number;
+      text = a.0;
+      past = a.1;
+      ready = a.2;
+      does = does_both (Building [] []) (Building tables plans) (Running (end_at a.1 old)) f.before
+          (f.line ∷ []) [] a.0 (subst P empty f.does)
+          (does_one (Building tables plans) (Running (end_at a.1 old)) f.line a.0
+          (inr (meaning, f.is_line, does)));
+      appends = a.4;
+    }
+
+pub writes_script : (script : List ℕ) (others : List (List ℕ)) (number : ℕ) (old new : AtWork)
+    (w before after : Option (List ℕ)) → IsBegun script others number old w before
     → Writes (λ o text n. DoesAll (Running o) others text (Running n)) old new before after
     → CardWrites (Some script) w after
-writes_script script tables plans others meaning made old new w before after other goes ready all_left one rest =
-    let start = no_past (new_card tables).state in
-    let a = one other start ready in
-    let b = rest a.1 a.2 in
-    let fresh : IsFresh tables plans (end_at start made) = record { past_is = refl; all_left = all_left; is_led = ready.led } in
-    let first = first_does tables plans meaning (end_at start made) (end_at a.1 old) a.0 other fresh a.3 in (
-      a.0 ++ b.0,
-      Appends-trans w before after a.0 b.0 a.4 b.4,
+writes_script script others number old new w before after begun rest =
+    let b = rest begun.past begun.ready in
+    let P : List (List ℕ) → Type 0 = λ l. DoesAll (Building [] []) l (begun.text ++ b.0) (Running (end_at b.1 new)) in (
+      begun.text ++ b.0,
+      Appends-trans w before after begun.text b.0 begun.appends b.4,
       (
         Running (end_at b.1 new),
-        goes (a.0 ++ b.0) (Running (end_at b.1 new)) (a.0, b.0, Running (end_at a.1 old), first, refl, b.3),
+        subst P (sym begun.is_cut)
+            (does_both (Building [] []) (Running (end_at begun.past old)) (Running (end_at b.1 new)) begun.before
+            others begun.text b.0 begun.does b.3),
       ),
     )
+
+pub script_left : (script : List ℕ) (others : List (List ℕ)) (number : ℕ) (old : AtWork)
+    (w before after : Option (List ℕ)) (fault : PlayFault) → IsBegun script others number old w before
+    → ((past : Past) → IsReady past old
+    → LinesStop (DoesAll (Running (end_at past old))) RefusesCardLine others number before after fault)
+    → LinesStop (DoesAll (Building [] [])) RefusesCardLine (lines script) 0 w after fault
+script_left script others number old w before after (Script n reason) begun stops =
+    let (text, appends, k, at, r) = stops begun.past begun.ready in
+    let both = length-append begun.before r.before in
+    let counted : n ≡ length (begun.before ++ r.before) + 1 = omega (arith, at, r.is_number, begun.is_number, both) in (
+      begun.text ++ text,
+      Appends-trans w before after begun.text text begun.appends appends,
+      n,
+      none_more n,
+      record {
+        before = begun.before ++ r.before;
+        line = r.line;
+        others = r.others;
+        is_cut = begun.is_cut ∙ ap (λ l. begun.before ++ l) r.is_cut ∙ sym (append_assoc begun.before r.before (r.line ∷ r.others));
+        is_number = counted;
+        state = r.state;
+        does = does_both (Building [] []) (Running (end_at begun.past old)) r.state begun.before r.before
+            begun.text text begun.does r.does;
+        refuses = r.refuses;
+      },
+    )
+script_left script others number old w before after NoMemory begun stops =
+    let (text, appends, r) = stops begun.past begun.ready in (
+      begun.text ++ text,
+      Appends-trans w before after begun.text text begun.appends appends,
+      record {
+        before = begun.before ++ r.before;
+        others = r.others;
+        is_cut = begun.is_cut ∙ ap (λ l. begun.before ++ l) r.is_cut ∙ sym (append_assoc begun.before r.before r.others);
+        state = r.state;
+        does = does_both (Building [] []) (Running (end_at begun.past old)) r.state begun.before r.before
+            begun.text text begun.does r.does;
+      },
+    )
+script_left script others number old w before after Write begun stops = tt
+script_left script others number old w before after Read begun stops = absurd (stops begun.past begun.ready)
+script_left script others number old w before after InputTooLong begun stops = absurd (stops begun.past begun.ready)
+
+-- where the first run line can't be written, or wants memory
+pub first_left : (script : List ℕ) (w after : Option (List ℕ)) (fault : PlayFault)
+    → IsWritingFault w after fault
+    → LinesStop (DoesAll (Building [] [])) RefusesCardLine (lines script) 0 w after fault
+first_left script w after NoMemory unwritten =
+    let P : Option (List ℕ) → Type 0 = λ x. LinesStop (DoesAll (Building [] [])) RefusesCardLine (lines script) 0 w x NoMemory in
+    subst P (sym unwritten) (stops_at_once (Building [] []) (lines script) 0 w)
+first_left script w after Write unknown = tt
+first_left script w after (Script n reason) never = absurd never
+first_left script w after Read never = absurd never
+first_left script w after InputTooLong never = absurd never
+
+-- where the table can't be built
+pub table_left : (script : List ℕ) (all : List (List ℕ)) (none : List Application)
+    (no_plans : List Course) (w : Option (List ℕ)) (fault : PlayFault) → all ≡ lines script
+    → none ≡ [] → no_plans ≡ []
+    → LinesStop (DoesAll (Building none no_plans)) RefusesCardLine all 0 w w fault
+    → LinesStop (DoesAll (Building [] [])) RefusesCardLine (lines script) 0 w w fault
+table_left script all none no_plans w fault l e p stops =
+    let T : List Application → Type 0 = λ t. LinesStop (DoesAll (Building t no_plans)) RefusesCardLine all 0 w w fault in
+    let C : List Course → Type 0 = λ c. LinesStop (DoesAll (Building [] c)) RefusesCardLine all 0 w w fault in
+    let L : List (List ℕ) → Type 0 = λ x. LinesStop (DoesAll (Building [] [])) RefusesCardLine x 0 w w fault in
+    subst L l (subst C p (subst T e stops))
+
+-- a script of table lines alone
+pub only_built : (script : List ℕ) (all : List (List ℕ)) (none tables : List Application)
+    (no_plans plans : List Course) (w : Option (List ℕ)) → all ≡ lines script → none ≡ []
+    → no_plans ≡ [] → DoesAll (Building none no_plans) all [] (Building tables plans)
+    → CardWrites (Some script) w w
+only_built script all none tables no_plans plans w l e p does =
+    let T : List Application → Type 0 = λ t. DoesAll (Building t no_plans) all [] (Building tables plans) in
+    let C : List Course → Type 0 = λ c. DoesAll (Building [] c) all [] (Building tables plans) in
+    let L : List (List ℕ) → Type 0 = λ x. DoesAll (Building [] []) x [] (Building tables plans) in
+    ([], Appends-nil w, (Building tables plans, subst L l (subst C p (subst T e does))))
 
 -- what is read, where that is known, is the script
 pub writes_read : (read : Option (List ℕ)) (items shown : List ℕ) (before after : Option (List ℕ))

@@ -10,5 +10,6 @@ pub mod ScriptTableLemmas
 pub mod ScriptPlayLemmas
 pub mod ScriptCardLemmas
 mod TextVectors
+mod ScriptFaultLemmas
 mod PlayLemmas
 mod CardLemmas

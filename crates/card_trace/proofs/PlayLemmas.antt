@@ -1,8 +1,9 @@
 -- What a player does, line after line.
-use Rattle.std.proofs.Common.{MatchOption, Result, Ok, Err, OnOk, IfSome, ◌≡◌, ℕ, List, [], ◌∷◌, ◌++◌, length, Option, Some, None, true, false, refl, sym, ap, subst, ◌∙◌, append-nil, append_assoc, arith, slice_get}
+use Rattle.std.proofs.Common.{MatchOption, Result, Ok, Err, OnOk, IfErr, IfSome, inl, inr, ◌≡◌, ◌<◌, ◌+◌, ◌-◌, ◌^◌, min, ℕ, List, [], ◌∷◌, ◌++◌, length, Option, Some, None, true, false, refl, sym, ap, subst, ◌∙◌, append-nil, append_assoc, arith, slice_get}
 use Rattle.std.specs.Str.Lines.{lines}
 use Rattle.std.specs.Io.KnownBytes.{Appends}
 use Rattle.std.proofs.KnownBytes.{Appends-nil, Appends-trans}
+use Rattle.std.proofs.lemmas.List.{length-append}
 use Rattle.t0_core.specs.Character.{Character}
 use Rattle.t0_core.specs.Plan.{Course}
 use Rattle.t0_core.specs.Watch.{Hearing, Hears}
@@ -20,9 +21,16 @@ use Rattle.card_trace.specs.declared.fixed_line.FixedLine.TheVariants as fixed
 use Rattle.card_trace.specs.FixedText.{fixed_text}
 use Rattle.card_trace.specs.TraceText.{operation_text}
 use Rattle.card_trace.specs.ScriptTable.{Addition}
-use Rattle.card_trace.specs.ScriptPlay.{PlayMeaning, Adds, Plan}
-use Rattle.card_trace.specs.Scripts.{PlayState, Building, Running, card_in, plans_in, IsAdded, IsRun, talks, is_busy, Plays, PlaysLine, PlaysAll, PlayWrites}
-use Rattle.card_trace.specs.Playing.{state_of}
+use Rattle.card_trace.specs.ScriptPlay.{PlayMeaning, Adds, Plan, Run, Send, Reset, Table, IsPlayLine}
+use Rattle.card_trace.specs.Scripts.{PlayState, Building, Running, section_of, card_in, plans_in, IsAdded, IsRun, talks, is_busy, Plays, PlaysLine, PlaysAll, PlayWrites, RefusesPlayLine, PlayStops}
+use Rattle.card_trace.specs.Playing.{state_of, RefusesSaid}
+use Rattle.card_trace.specs.ScriptWords.{words_of}
+use Rattle.card_trace.specs.declared.script.reason.Reason.{Reason}
+use Rattle.card_trace.specs.declared.script.section.Section.{Section}
+use Rattle.card_trace.specs.declared.play_fault.PlayFault.{PlayFault}
+use Rattle.card_trace.specs.declared.play_fault.PlayFault.TheVariants.{Script, Read, Write, InputTooLong, OutOfMemory}
+use Rattle.card_trace.specs.ScriptFaults.{SaysNothing, IsRefusedAt, IsLeftAfter, IsFaultOfLine}
+use Rattle.card_trace.proofs.ScriptFaultLemmas.{of_script, next_number, cut_behind, faults_more, of_line_more}
 
 pub added : {A : Type 0} (self : Player A) (before after : List Application) (addition : Addition)
     → self ≡ player.Building before → IsAdded before addition after
@@ -88,67 +96,153 @@ ran card after plans used rest left op ops before given r since now ops_are used
 
 -- ---- lines one after another
 
--- All lines are played from the start as far as a state, and what is left is played from there.
-abbrev pub GoesOn : PlayState → List (List ℕ) → Option (List ℕ) → Option (List ℕ) → PlayState
-    → List (List ℕ) → Type 0
-GoesOn start all old new state left = (text : List ℕ) × Appends old new text
-    × ((rest : List ℕ) (end : PlayState) → PlaysAll state left rest end
-    → PlaysAll start all (text ++ rest) end)
+-- Lines are played up to some place, so many, and those that are left are still to come.
+pub record ArePlayed (all : List (List ℕ)) (old new : Option (List ℕ)) (state : PlayState)
+    (left : List (List ℕ)) (number : ℕ) : Type 0 where
+  pub before : List (List ℕ)
+  pub text : List ℕ
+  pub is_cut : all ≡ before ++ left
+  pub is_number : number ≡ length before
+  pub appends : Appends old new text
+  pub plays : PlaysAll (Building []) before text state
 
-pub goes_on_from : (start : PlayState) (all : List (List ℕ)) (old : Option (List ℕ))
-    → GoesOn start all old old start all
-goes_on_from start all old = ([], Appends-nil old, λ rest end plays. plays)
+pub none_played : (all left : List (List ℕ)) (old : Option (List ℕ)) (state : PlayState)
+    (number : ℕ) → state ≡ Building [] → left ≡ all → number ≡ 0
+    → ArePlayed all old old state left number
+none_played all left old state number is same zero_is = record {
+  before = [];
+  text = [];
+  is_cut = sym same;
+  is_number = zero_is;
+  appends = Appends-nil old;
+  plays = (refl, is);
+}
 
-pub goes_on_more : (start : PlayState) (all : List (List ℕ)) (old mid new : Option (List ℕ))
-    (state next : PlayState) (line : List ℕ) (left : List (List ℕ)) (more : List ℕ)
-    → GoesOn start all old mid state (line ∷ left) → Appends mid new more
-    → PlaysLine state line more next → GoesOn start all old new next left
-goes_on_more start all old mid new state next line left more (text, appends, goes) adds plays = (
-  text ++ more,
-  Appends-trans old mid new text more appends adds,
-  λ rest end others. subst (λ t. PlaysAll start all t end) (sym (append_assoc text more rest))
-      (goes (more ++ rest) end (more, rest, next, plays, refl, others)),
+plays_one_more : (start mid end : PlayState) (before : List (List ℕ)) (line text more : List ℕ)
+    → PlaysAll start before text mid → PlaysLine mid line more end
+    → PlaysAll start (before ++ line ∷ []) (text ++ more) end
+plays_one_more start mid end [] line text more (none, same) plays = (
+  more,
+  [],
+  end,
+  subst (λ s. PlaysLine s line more end) same plays,
+  ap (λ t. t ++ more) none ∙ sym (append-nil more),
+  (refl, refl),
 )
+plays_one_more start mid end (b ∷ before) line text more (first, rest, next, played, is, others) plays = (
+  first,
+  rest ++ more,
+  next,
+  played,
+  ap (λ t. t ++ more) is ∙ append_assoc first rest more,
+  plays_one_more next mid end before line rest more others plays,
+)
+
+pub one_more_played : (all left others : List (List ℕ)) (line more : List ℕ)
+    (old mid new : Option (List ℕ)) (state next : PlayState) (m number : ℕ)
+    → ArePlayed all old mid state left m → left ≡ line ∷ others → length all < 2 ^ 63
+    → number ≡ min (m + 1) (2 ^ 64 - 1) → Appends mid new more → PlaysLine state line more next
+    → ArePlayed all old new next others number
+one_more_played all left others line more old mid new state next m number so_far is few saturated adds
+    plays =
+    let cut : all ≡ so_far.before ++ line ∷ others = so_far.is_cut ∙ ap (λ l. so_far.before ++ l) is in
+    let counted = next_number all so_far.before others line m number cut so_far.is_number few saturated in
+    let both = length-append so_far.before (line ∷ []) in record {
+      before = so_far.before ++ line ∷ [];
+      text = so_far.text ++ more;
+      is_cut = cut_behind all so_far.before others line cut;
+      is_number = counted ∙ sym both;
+      appends = Appends-trans old mid new so_far.text more so_far.appends adds;
+      plays = plays_one_more (Building []) state next so_far.before line so_far.text more so_far.plays plays;
+    }
 
 -- at the end all are played
-pub all_played : (start : PlayState) (all : List (List ℕ)) (old new : Option (List ℕ))
-    (state : PlayState) (left : List (List ℕ)) → left ≡ []
-    → GoesOn start all old new state left
-    → (text : List ℕ) × Appends old new text × ((end : PlayState) × PlaysAll start all text end)
-all_played start all old new state left none (text, appends, goes) = (
-  text,
-  appends,
-  (
-    state,
-    subst (λ t. PlaysAll start all t state) (append-nil text)
-        (goes [] state (subst (λ ls. PlaysAll state ls [] state) (sym none) (refl, refl))),
-  ),
-)
+pub all_played : (all left : List (List ℕ)) (old new : Option (List ℕ)) (state : PlayState)
+    (number : ℕ) (script : Option (List ℕ)) (items : List ℕ)
+    → IfSome script (λ bytes. items ≡ bytes) → all ≡ lines items → left ≡ []
+    → ArePlayed all old new state left number → PlayWrites script old new
+all_played all left old new state number script items read is none so_far =
+    let whole : lines items ≡ so_far.before =
+    sym is ∙ so_far.is_cut ∙ ap (λ l. so_far.before ++ l) none ∙ append-nil so_far.before in (
+      so_far.text,
+      so_far.appends,
+      of_script script items (λ bytes. (end : PlayState) × PlaysAll (Building []) (lines bytes) so_far.text end)
+          read (state, subst (λ ls. PlaysAll (Building []) ls so_far.text state) (sym whole) so_far.plays),
+    )
 
-pub goes_on_as : (start state : PlayState) (all left : List (List ℕ)) (old : Option (List ℕ))
-    → state ≡ start → left ≡ all → GoesOn start all old old state left
-goes_on_as start state all left old is same =
-    subst (λ s. GoesOn start all old old s left) (sym is)
-    (subst (λ ls. GoesOn start all old old start ls) (sym same) (goes_on_from start all old))
+-- where a line is not played, those before it are
+pub stops_at : (all left others : List (List ℕ)) (line : List ℕ) (old mid new : Option (List ℕ))
+    (state : PlayState) (m number : ℕ) (script : Option (List ℕ)) (items : List ℕ)
+    (fault : PlayFault) → IfSome script (λ bytes. items ≡ bytes) → all ≡ lines items
+    → ArePlayed all old mid state left m → left ≡ line ∷ others → length all < 2 ^ 63
+    → number ≡ min (m + 1) (2 ^ 64 - 1)
+    → IsFaultOfLine (RefusesPlayLine state line) number mid new fault → PlayStops script old new fault
+stops_at all left others line old mid new state m number script items (Script n reason) read is so_far
+    at_line few saturated (same, refuses, unwritten) =
+    let cut : all ≡ so_far.before ++ line ∷ others = so_far.is_cut ∙ ap (λ l. so_far.before ++ l) at_line in (
+      so_far.text,
+      subst (λ w. Appends old w so_far.text) (sym unwritten) so_far.appends,
+      of_script script items
+          (λ bytes. IsRefusedAt (PlaysAll (Building [])) RefusesPlayLine (lines bytes) so_far.text n reason)
+          read
+          (record {
+            before = so_far.before;
+            line = line;
+            others = others;
+            is_cut = sym is ∙ cut;
+            is_number = same ∙ next_number all so_far.before others line m number cut so_far.is_number few saturated;
+            state = state;
+            does = so_far.plays;
+            refuses = refuses;
+          }),
+    )
+stops_at all left others line old mid new state m number script items OutOfMemory read is so_far
+    at_line few saturated unwritten = (
+      so_far.text,
+      subst (λ w. Appends old w so_far.text) (sym unwritten) so_far.appends,
+      of_script script items (λ bytes. IsLeftAfter (PlaysAll (Building [])) (lines bytes) so_far.text) read
+          (record {
+            before = so_far.before;
+            others = left;
+            is_cut = sym is ∙ so_far.is_cut;
+            state = state;
+            does = so_far.plays;
+          }),
+    )
+stops_at all left others line old mid new state m number script items Write read is so_far at_line few
+    saturated unknown = tt
+stops_at all left others line old mid new state m number script items Read read is so_far at_line few
+    saturated never = absurd never
+stops_at all left others line old mid new state m number script items InputTooLong read is so_far
+    at_line few saturated never = absurd never
 
-pub goes_on_at : (start : PlayState) (all : List (List ℕ)) (old new : Option (List ℕ))
-    (state : PlayState) (left others : List (List ℕ)) → left ≡ others
-    → GoesOn start all old new state left → GoesOn start all old new state others
-goes_on_at start all old new state left others is goes =
-    subst (λ ls. GoesOn start all old new state ls) is goes
+-- what is refused of what a line says is refused of the line
+said_refused : (state : PlayState) (line : List ℕ) (meaning : PlayMeaning) (reason : Reason)
+    → IsPlayLine (section_of state) (words_of line) meaning → RefusesSaid state meaning reason
+    → RefusesPlayLine state line reason
+said_refused state line (Adds addition) reason is refused = inr (addition, is, refused)
+said_refused state line (Send bytes) reason is refused = absurd (refused is.are_fields.2.command)
+said_refused state line (Plan plan) reason is refused = absurd refused
+said_refused state line (Run operation) reason is refused = absurd refused
+said_refused state line Reset reason is refused = absurd refused
+said_refused state line Table reason is refused = absurd refused
 
--- what is written for the bytes that were read
-pub writes_all : (given : Option (List ℕ)) (items : List ℕ) (all : List (List ℕ))
-    (old new : Option (List ℕ)) → IfSome given (λ bytes. items ≡ bytes) → all ≡ lines items
-    → ((text : List ℕ) × Appends old new text
-    × ((end : PlayState) × PlaysAll (Building []) all text end))
-    → PlayWrites given old new
-writes_all None items all old new same is (text, appends, played) = (text, appends, tt)
-writes_all (Some bytes) items all old new same is (text, appends, played) = (
-  text,
-  appends,
-  (played.0, subst (λ ls. PlaysAll (Building []) ls text played.0) (is ∙ ap lines same) played.1),
-)
+pub line_refused : {T : Type 0} (r : Result T PlayFault) (state : PlayState) (line : List ℕ)
+    (meaning : PlayMeaning) (number : ℕ) (old new : Option (List ℕ)) (section : Section)
+    → section ≡ section_of state → IsPlayLine section (words_of line) meaning
+    → IfErr r (IsFaultOfLine (RefusesSaid state meaning) number old new)
+    → IfErr r (IsFaultOfLine (RefusesPlayLine state line) number old new)
+line_refused r state line meaning number old new section same is faults =
+    let here = subst (λ s. IsPlayLine s (words_of line) meaning) same is in
+    faults_more r _ _
+    (λ f. of_line_more (RefusesSaid state meaning) (RefusesPlayLine state line) number old new f
+    (λ reason. said_refused state line meaning reason here)) faults
+
+pub says_nothing : (state : PlayState) (line : List ℕ) (section : Section) (reason : Reason)
+    → section ≡ section_of state → SaysNothing (IsPlayLine section) line
+    → RefusesPlayLine state line reason
+says_nothing state line section reason same nothing =
+    inl (subst (λ s. SaysNothing (IsPlayLine s) line) same nothing)
 
 pub plays_as : (old new : PlayState) (a b : PlayMeaning) (text : List ℕ) → b ≡ a
     → Plays old a text new → Plays old b text new

@@ -1,6 +1,6 @@
 -- What a script of `card` stands for: its lines are carried out in order on the card's end alone, and
 -- print text.
-use Rattle.std.specs.Prelude.{◌≡◌, ◌≤◌, ◌⊎◌, ℕ, List, [], ◌∷◌, ◌++◌, length, Option, Some, None, IfSome, true, false}
+use Rattle.std.specs.Prelude.{◌≡◌, ◌≤◌, ◌+◌, ◌⊎◌, ℕ, List, [], ◌∷◌, ◌++◌, length, Option, Some, None, IfSome, true, false}
 use Rattle.std.specs.Str.Lines.{lines}
 use Rattle.std.specs.Io.KnownBytes.{Appends}
 use Rattle.t0_core.specs.declared.end.End.TheVariants.{Terminal, Card}
@@ -17,14 +17,19 @@ use Rattle.object_card.specs.CardMeaning.{Does}
 use Rattle.object_card.specs.CardView.{CardView}
 use Rattle.object_card.specs.Builder.{new_card}
 use Rattle.card_trace.specs.declared.fixed_line.FixedLine.TheVariants as fixed
+use Rattle.card_trace.specs.declared.play_fault.PlayFault.{PlayFault}
+use Rattle.card_trace.specs.declared.script.reason.Reason.{Reason}
+use Rattle.card_trace.specs.declared.script.refusal.Refusal.TheVariants.{Line}
 use Rattle.card_trace.specs.declared.script.section.Section.{Section}
 use Rattle.card_trace.specs.declared.script.section.Section.TheVariants as section
 use Rattle.card_trace.specs.FixedText.{fixed_text}
 use Rattle.card_trace.specs.TableText.{table_text}
 use Rattle.card_trace.specs.TraceText.{handed_out_text}
 use Rattle.card_trace.specs.ScriptWords.{words_of}
-use Rattle.card_trace.specs.ScriptCard.{CardMeaning, Adds, Plan, Take, HandOut, Reset, Table, IsCardLine}
-use Rattle.card_trace.specs.Scripts.{IsAdded}
+use Rattle.card_trace.specs.ScriptCard.{CardMeaning, Adds, Plan, Take, HandOut, Reset, Table, is_card_table_line, IsCardLine}
+use Rattle.card_trace.specs.ScriptFaults.{SaysNothing, Stops}
+use Rattle.card_trace.specs.ScriptTable.{Addition}
+use Rattle.card_trace.specs.Scripts.{IsAdded, IsNotAdded}
 
 -- What led to a card's end: all events since the card was built, whose state was the first; and since
 -- the end was made, or reset last, the state that stood then, the characters, and the plans that
@@ -174,17 +179,40 @@ DoesAll old (line ∷ others) text new =
     (first rest : List ℕ) × (mid : CardRun) × DoesOrPasses old line first mid
     × (text ≡ first ++ rest) × DoesAll mid others rest new
 
--- the line that says this, and those behind it
-abbrev pub DoesFrom : CardRun → CardMeaning → List (List ℕ) → List ℕ → CardRun → Type 0
-DoesFrom old meaning others text new =
-    (first rest : List ℕ) × (mid : CardRun) × DoesLine old meaning first mid
-    × (text ≡ first ++ rest) × DoesAll mid others rest new
+-- the first run line, behind those that build the card, and which it is; the others are behind it
+pub record IsFirstRunLine (old new : CardRun) (all others : List (List ℕ)) (passed number : ℕ)
+    (meaning : CardMeaning) : Type 0 where
+  pub before : List (List ℕ)
+  pub line : List ℕ
+  pub is_cut : all ≡ before ++ line ∷ others
+  pub is_number : number ≡ length before + 1 + passed
+  pub does : DoesAll old before [] new
+  pub is_line : IsCardLine section.Table (words_of line) meaning
+  pub is_run_line : is_card_table_line meaning ≡ false
 
 -- what `card` writes for the bytes that it reads
 abbrev pub CardWrites : Option (List ℕ) → Option (List ℕ) → Option (List ℕ) → Type 0
 CardWrites script old new = (text : List ℕ) × Appends old new text
     × IfSome script (λ bytes. (end : CardRun)
     × DoesAll (Building [] []) (lines bytes) text end)
+
+-- what a table line adds is refused for this reason
+abbrev pub RefusesAddition : CardRun → Addition → Reason → Type 0
+RefusesAddition (Building tables plans) addition reason = IsNotAdded tables addition (Line reason)
+RefusesAddition (Running end) addition reason = ⊥
+
+-- A line is refused: its words say nothing that may stand there, or what it adds is refused for this
+-- reason.
+abbrev pub RefusesCardLine : CardRun → List ℕ → Reason → Type 0
+RefusesCardLine run line reason =
+    SaysNothing (IsCardLine (section_of run)) line
+    ⊎ ((addition : Addition) × IsCardLine (section_of run) (words_of line) (Adds addition)
+    × RefusesAddition run addition reason)
+
+-- where `card` stops at a fault
+abbrev pub CardStops : Option (List ℕ) → Option (List ℕ) → Option (List ℕ) → PlayFault → Type 0
+CardStops script old new fault =
+    Stops (DoesAll (Building [] [])) RefusesCardLine script old new fault
 
 -- a card's end, and the cursor over the plans that it is given
 abbrev pub AtWork : Type 0

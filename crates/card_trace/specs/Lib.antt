@@ -5,6 +5,7 @@ pub mod TableText
 pub mod MarkedLines
 pub mod ForestText
 pub mod FixedText
+pub mod ScriptFaults
 pub mod Scripts
 pub mod CommandLine
 pub mod ScriptReasons

@@ -1,4 +1,4 @@
--- The faults of reading a script, and those of its lines.
+-- The faults of reading a script.
 use Rattle.card_trace.specs.declared.play_fault.PlayFault.{PlayFault}
 use Rattle.card_trace.specs.declared.play_fault.PlayFault.TheVariants.{Script, Read, Write, InputTooLong, OutOfMemory}
 
@@ -9,11 +9,3 @@ IsReadingFault InputTooLong = Unit {0}
 IsReadingFault OutOfMemory = Unit {0}
 IsReadingFault (Script line reason) = ⊥
 IsReadingFault Write = ⊥
-
--- the faults once the script is read
-abbrev pub IsFaultOfLines : PlayFault → Type 0
-IsFaultOfLines (Script line reason) = Unit {0}
-IsFaultOfLines Write = Unit {0}
-IsFaultOfLines OutOfMemory = Unit {0}
-IsFaultOfLines Read = ⊥
-IsFaultOfLines InputTooLong = ⊥

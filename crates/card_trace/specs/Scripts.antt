@@ -19,6 +19,8 @@ use Rattle.card_terminal.specs.Talk.{AreExchangesOf, Talk, talk_dialogues}
 use Rattle.card_trace.specs.declared.fixed_line.FixedLine.TheVariants as fixed
 use Rattle.card_trace.specs.declared.script.section.Section.{Section}
 use Rattle.card_trace.specs.declared.script.section.Section.TheVariants as section
+use Rattle.card_trace.specs.declared.play_fault.PlayFault.{PlayFault}
+use Rattle.card_trace.specs.declared.script.reason.Reason.{Reason}
 use Rattle.card_trace.specs.declared.script.reason.Reason.TheVariants.{LateTableLine}
 use Rattle.card_trace.specs.declared.script.refusal.Refusal.{Refusal}
 use Rattle.card_trace.specs.declared.script.refusal.Refusal.TheVariants.{Line}
@@ -26,6 +28,7 @@ use Rattle.card_trace.specs.FixedText.{fixed_text}
 use Rattle.card_trace.specs.TableText.{table_text}
 use Rattle.card_trace.specs.TraceText.{operation_text}
 use Rattle.card_trace.specs.ScriptReasons.{refusal_of_builder}
+use Rattle.card_trace.specs.ScriptFaults.{SaysNothing, Stops}
 use Rattle.card_trace.specs.ScriptWords.{words_of}
 use Rattle.card_trace.specs.ScriptTable.{Addition, App, Object, Locked}
 use Rattle.card_trace.specs.ScriptPlay.{PlayMeaning, Adds, Plan, Run, Send, Reset, Table, IsPlayLine}
@@ -134,3 +137,16 @@ abbrev pub PlayWrites : Option (List ℕ) → Option (List ℕ) → Option (List
 PlayWrites script old new = (text : List ℕ) × Appends old new text
     × IfSome script (λ bytes. (end : PlayState)
     × PlaysAll (Building []) (lines bytes) text end)
+
+-- A line is refused: its words say nothing that may stand there, or what it adds is refused for this
+-- reason.
+abbrev pub RefusesPlayLine : PlayState → List ℕ → Reason → Type 0
+RefusesPlayLine state line reason =
+    SaysNothing (IsPlayLine (section_of state)) line
+    ⊎ ((addition : Addition) × IsPlayLine (section_of state) (words_of line) (Adds addition)
+    × IsRefused state addition (Line reason))
+
+-- where `play` stops at a fault
+abbrev pub PlayStops : Option (List ℕ) → Option (List ℕ) → Option (List ℕ) → PlayFault → Type 0
+PlayStops script old new fault =
+    Stops (PlaysAll (Building [])) RefusesPlayLine script old new fault

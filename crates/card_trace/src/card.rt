@@ -1,20 +1,22 @@
 //! Scripts of `card`.
-ghost use Rattle.std.specs.Prelude.{◌≡◌, ◌⊎◌, ◌++◌, ℕ, List, [], length, Some, None, nat_lt, true, false, OnOk, IfOk, IfErr, IsErrOf, MatchOption};
+ghost use Rattle.std.specs.Prelude.{◌≡◌, ◌<◌, ◌≤◌, ◌+◌, ◌^◌, ℕ, List, [], length, Option, Some, None, nat_lt, true, false, OnOk, IfOk, IfErr, MatchOption};
+ghost use Rattle.std.specs.Str.Lines.{lines};
 ghost use Rattle.t0_core.specs.declared.end.End.TheVariants.{Card};
 ghost use Rattle.t0_core.specs.Character.{sent_by};
 ghost use Rattle.t0_core.specs.Plan.{Cursor};
 ghost use Rattle.card_trace.specs.declared.script.section.Section.TheVariants as section;
 ghost use Rattle.card_trace.specs.ScriptWords.{words_of};
 ghost use Rattle.card_trace.specs.ScriptCard.{card_meaning, is_card_table_line, IsCardLine};
-ghost use Rattle.card_trace.specs.CardScripts.{CardRun, Building, Running, IsEnough, HandsOut, Takes, RunsLine, DoesOrPasses, DoesAll, DoesFrom, CardWrites, LeadOn, Writes};
-ghost use Rattle.card_trace.specs.ScriptReading.{IsFaultOfLines};
+ghost use Rattle.card_trace.specs.CardScripts.{Past, Building, Running, IsEnough, HandsOut, Takes, RunsLine, DoesOrPasses, DoesAll, IsFirstRunLine, RefusesCardLine, CardWrites, CardStops, IsReady, end_at, LeadOn, Writes};
+ghost use Rattle.card_trace.specs.ScriptReasons.{OnReason};
+ghost use Rattle.card_trace.specs.ScriptFaults.{SaysNothing, LinesStop, IsWritingFault, IsFaultOfLine};
 
 use crate::fixed_line::FixedLine;
 use crate::lines::{write_fixed, write_handed_out, write_table};
 use crate::play_fault::PlayFault;
 use crate::script::card_line::{CardLine, read_card_line};
 use crate::script::lines::Lines;
-use crate::script::reading::read_script;
+use crate::script::reading::{SCRIPT_LIMIT, read_script};
 use crate::script::refusal::Refusal;
 use crate::script::section::Section;
 use crate::script::table_line::add;
@@ -33,8 +35,8 @@ pub fn card_lines<A: Allocator + Copy, R: Read, W: Write>(
 ) -> Result<(), PlayFault>
     ensures written { OnOk result
         (CardWrites (R.remaining reader.old) (W.contents writer.old) (W.contents writer.new)) }
-    ensures unread { IsErrOf result PlayFault.Read ⊎ IsErrOf result PlayFault.InputTooLong →
-        W.contents writer.new ≡ W.contents writer.old }
+    ensures stops { IfErr result
+        (CardStops (R.remaining reader.old) (W.contents writer.old) (W.contents writer.new)) }
 {
     let script = read_script(alloc, reader)?;
     carry_out_lines(alloc, script.as_slice(), writer)
@@ -46,9 +48,11 @@ fn carry_out_lines<A: Allocator + Copy, W: Write>(
     script: &[u8],
     writer: &mut W,
 ) -> Result<(), PlayFault>
+    requires { length script.now ≤ SCRIPT_LIMIT }
     ensures written { OnOk result
         (CardWrites (Some script.now) (W.contents writer.old) (W.contents writer.new)) }
-    ensures fault { IfErr result IsFaultOfLines }
+    ensures stops { IfErr result (LinesStop (DoesAll (Building [] [])) RefusesCardLine
+        (lines script.now) 0 (W.contents writer.old) (W.contents writer.new)) }
 {
     let mut table = Table::new(alloc);
     let mut lines = Lines::of(script);
@@ -89,15 +93,16 @@ impl<A: Allocator + Copy> Table<A> {
         lines: &mut Lines<'_>,
         number: &mut usize,
     ) -> Result<Option<CardLine<A>>, PlayFault>
+        requires { length lines.now + number.now < 2 ^ 63 }
         ensures ok { IfOk result (λ said. MatchOption said
             (DoesAll (Building self.old.builder self.old.plans.items) lines.old []
             (Building self.new.builder self.new.plans.items))
-            (λ said. (is_card_table_line (card_meaning said) ≡ false)
-            × ((text : List ℕ) (end : CardRun) →
-            DoesFrom (Building self.new.builder self.new.plans.items) (card_meaning said) lines.new
-            text end →
-            DoesAll (Building self.old.builder self.old.plans.items) lines.old text end))) }
-        ensures fault { IfErr result IsFaultOfLines }
+            (λ said. IsFirstRunLine (Building self.old.builder self.old.plans.items)
+            (Building self.new.builder self.new.plans.items) lines.old lines.new number.old number.new
+            (card_meaning said))) }
+        ensures stops { IfErr result (λ fault. (written : Option (List ℕ)) →
+            LinesStop (DoesAll (Building self.old.builder self.old.plans.items)) RefusesCardLine
+            lines.old number.old written written fault) }
     {
         while let Some(line) = lines.next() {
             *number = number.saturating_add(1);
@@ -112,13 +117,15 @@ impl<A: Allocator + Copy> Table<A> {
 
     /// Adds what a table line says; what a run line says is handed back.
     fn take(&mut self, alloc: A, line: &[u8]) -> Result<Option<CardLine<A>>, Refusal>
-        ensures { IfOk result (λ said. MatchOption said
+        ensures ok { IfOk result (λ said. MatchOption said
             (DoesOrPasses (Building self.old.builder self.old.plans.items) line.now []
             (Building self.new.builder self.new.plans.items))
             (λ said. (is_card_table_line (card_meaning said) ≡ false)
             × IsCardLine section.Table (words_of line.now) (card_meaning said)
             × (self.new.builder ≡ self.old.builder)
             × (self.new.plans.items ≡ self.old.plans.items))) }
+        ensures refused { IfErr result (λ refusal. OnReason refusal
+            (RefusesCardLine (Building self.old.builder self.old.plans.items) line.now)) }
     {
         match read_card_line(alloc, line, Section::Table)? {
             None => Ok(None),
@@ -144,11 +151,14 @@ fn run_lines<A: Allocator + Copy, B: Allocator, W: Write>(
     mut number: usize,
     writer: &mut W,
 ) -> Result<(), PlayFault>
+    requires { length lines + number < 2 ^ 63 }
     ensures written { OnOk result (Writes
         (λ old text new. DoesAll (Running old) lines.entry text (Running new))
         (end.old, plans.old) (end.new, plans.new)
         (W.contents writer.old) (W.contents writer.new)) }
-    ensures fault { IfErr result IsFaultOfLines }
+    ensures stops { IfErr result (λ fault. (past : Past) → IsReady past (end.old, plans.old) →
+        LinesStop (DoesAll (Running (end_at past (end.old, plans.old)))) RefusesCardLine
+        lines.entry number (W.contents writer.old) (W.contents writer.new) fault) }
 {
     for line in lines {
         number = number.saturating_add(1);
@@ -170,7 +180,8 @@ fn run_line<A: Allocator + Copy, B: Allocator, W: Write>(
         (λ old text new. DoesOrPasses (Running old) line.now text (Running new))
         (end.old, plans.old) (end.new, plans.new)
         (W.contents writer.old) (W.contents writer.new)) }
-    ensures fault { IfErr result IsFaultOfLines }
+    ensures fault { IfErr result (IsFaultOfLine (λ _. SaysNothing (IsCardLine section.Run) line.now)
+        number (W.contents writer.old) (W.contents writer.new)) }
 {
     match read_card_line(alloc, line, Section::Run) {
         Err(refusal) => Err(refusal.at(number)),
@@ -191,7 +202,7 @@ fn carry_out<A: Allocator + Copy, B: Allocator, W: Write>(
         Writes (λ old text new. RunsLine old (card_meaning said) text new)
         (end.old, plans.old) (end.new, plans.new)
         (W.contents writer.old) (W.contents writer.new)) }
-    ensures fault { IfErr result IsFaultOfLines }
+    ensures fault { IfErr result (IsWritingFault (W.contents writer.old) (W.contents writer.new)) }
 {
     match said {
         CardLine::Adds(_) | CardLine::Plan(_) => Ok(()),
@@ -214,7 +225,7 @@ fn take<A: Allocator + Copy, W: Write>(
     ensures written { OnOk result ((plans : Cursor) → Writes
         (λ old text new. Takes old characters.now text new)
         (end.old, plans) (end.new, plans) (W.contents writer.old) (W.contents writer.new)) }
-    ensures fault { IfErr result IsFaultOfLines }
+    ensures fault { IfErr result (IsWritingFault (W.contents writer.old) (W.contents writer.new)) }
 {
     for character in characters {
         if end.take(*character).is_err() {
@@ -237,7 +248,7 @@ fn hand_out<A: Allocator + Copy, B: Allocator, W: Write>(
         (λ old text new. HandsOut old most text new)
         (end.old, plans.old) (end.new, plans.new)
         (W.contents writer.old) (W.contents writer.new)) }
-    ensures fault { IfErr result IsFaultOfLines }
+    ensures fault { IfErr result (IsWritingFault (W.contents writer.old) (W.contents writer.new)) }
 {
     let text = handed_out(alloc, end, plans, most)?;
     write_handed_out(alloc, &text, writer)

@@ -1,9 +1,10 @@
 //! Writing the lines of a run.
-ghost use Rattle.std.specs.Prelude.{◌≡◌, ◌⊎◌, OnOk, IfErr, IsErrOf};
+ghost use Rattle.std.specs.Prelude.{◌≡◌, OnOk, IfErr};
 ghost use Rattle.std.specs.Io.KnownBytes.{Appends};
 ghost use Rattle.card_trace.specs.TraceText.{operation_text as text_of_operation, handed_out_text as text_handed_out};
 ghost use Rattle.card_trace.specs.TableText.{table_text as text_of_table};
 ghost use Rattle.card_trace.specs.FixedText.{fixed_text};
+ghost use Rattle.card_trace.specs.ScriptFaults.{IsWritingFault};
 
 use crate::fixed_line::FixedLine;
 use crate::play_fault::PlayFault;
@@ -26,10 +27,7 @@ pub fn write_operation<A: Allocator + Copy, B: Allocator, W: Write>(
 ) -> Result<(), PlayFault>
     ensures written { OnOk result (Appends (W.contents writer.old) (W.contents writer.new)
         (text_of_operation heard.now answer.now)) }
-    ensures unwritten { IsErrOf result PlayFault.OutOfMemory →
-        W.contents writer.new ≡ W.contents writer.old }
-    ensures faults { IfErr result (λ fault. (fault ≡ PlayFault.Write)
-        ⊎ (fault ≡ PlayFault.OutOfMemory)) }
+    ensures fault { IfErr result (IsWritingFault (W.contents writer.old) (W.contents writer.new)) }
 {
     let text = operation_text(alloc, heard, answer)?;
     write_text(text.as_slice(), writer)
@@ -45,10 +43,7 @@ pub fn write_handed_out<A: Allocator + Copy, W: Write>(
 ) -> Result<(), PlayFault>
     ensures written { OnOk result (Appends (W.contents writer.old) (W.contents writer.new)
         (text_handed_out characters.now)) }
-    ensures unwritten { IsErrOf result PlayFault.OutOfMemory →
-        W.contents writer.new ≡ W.contents writer.old }
-    ensures faults { IfErr result (λ fault. (fault ≡ PlayFault.Write)
-        ⊎ (fault ≡ PlayFault.OutOfMemory)) }
+    ensures fault { IfErr result (IsWritingFault (W.contents writer.old) (W.contents writer.new)) }
 {
     let text = handed_out_text(alloc, characters)?;
     write_text(text.as_slice(), writer)
@@ -64,10 +59,7 @@ pub fn write_table<A: Allocator + Copy, B: Allocator, W: Write>(
 ) -> Result<(), PlayFault>
     ensures written { OnOk result (Appends (W.contents writer.old) (W.contents writer.new)
         (text_of_table card.now.state.applications)) }
-    ensures unwritten { IsErrOf result PlayFault.OutOfMemory →
-        W.contents writer.new ≡ W.contents writer.old }
-    ensures faults { IfErr result (λ fault. (fault ≡ PlayFault.Write)
-        ⊎ (fault ≡ PlayFault.OutOfMemory)) }
+    ensures fault { IfErr result (IsWritingFault (W.contents writer.old) (W.contents writer.new)) }
 {
     let text = table_text(alloc, card)?;
     write_text(text.as_slice(), writer)

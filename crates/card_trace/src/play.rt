@@ -1,6 +1,6 @@
 //! Scripts of `play`.
-ghost use Rattle.std.specs.Prelude.{◌≡◌, ◌⊎◌, OnOk, IsErrOf};
-ghost use Rattle.card_trace.specs.Scripts.{PlayWrites};
+ghost use Rattle.std.specs.Prelude.{OnOk, IfErr};
+ghost use Rattle.card_trace.specs.Scripts.{PlayWrites, PlayStops};
 
 use crate::play_fault::PlayFault;
 use crate::player::Player;
@@ -22,8 +22,8 @@ pub fn play_lines<A: Allocator + Copy, R: Read, W: Write>(
 ) -> Result<(), PlayFault>
     ensures written { OnOk result
         (PlayWrites (R.remaining reader.old) (W.contents writer.old) (W.contents writer.new)) }
-    ensures unread { IsErrOf result PlayFault.Read ⊎ IsErrOf result PlayFault.InputTooLong →
-        W.contents writer.new ≡ W.contents writer.old }
+    ensures stops { IfErr result
+        (PlayStops (R.remaining reader.old) (W.contents writer.old) (W.contents writer.new)) }
 {
     let script = read_script(alloc, reader)?;
     let mut player = Player::new(alloc);

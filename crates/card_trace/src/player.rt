@@ -7,9 +7,10 @@ ghost use Rattle.card_trace.specs.TraceText.{operation_text};
 ghost use Rattle.card_trace.specs.ScriptTable.{addition_of};
 ghost use Rattle.card_trace.specs.ScriptPlay.{Adds, play_meaning};
 ghost use Rattle.card_trace.specs.Scripts as script;
-ghost use Rattle.card_trace.specs.Scripts.{section_of, card_in, plans_in, IsRun, IsSent, IsRefused, Plays, PlaysLine};
-ghost use Rattle.card_trace.specs.Playing.{state_of, running_of};
-ghost use Rattle.card_trace.specs.ScriptReading.{IsFaultOfLines};
+ghost use Rattle.card_trace.specs.Scripts.{section_of, card_in, plans_in, IsRun, IsSent, IsRefused, Plays, PlaysLine, RefusesPlayLine};
+ghost use Rattle.card_trace.specs.Playing.{state_of, running_of, RefusesSaid};
+ghost use Rattle.card_trace.specs.ScriptFields.{AreOfAgreedCommand};
+ghost use Rattle.card_trace.specs.ScriptFaults.{IsFaultOfLine, IsWritingFault};
 
 use crate::fixed_line::FixedLine;
 use crate::lines::{write_fixed, write_operation, write_table};
@@ -70,7 +71,8 @@ impl<A: Allocator + Copy> Player<A> {
         ensures played { IfOk result (λ player. (text : List ℕ)
             × Appends (W.contents writer.old) (W.contents writer.new) text
             × PlaysLine (state_of self) line.now text (state_of player)) }
-        ensures fault { IfErr result IsFaultOfLines }
+        ensures fault { IfErr result (IsFaultOfLine (RefusesPlayLine (state_of self) line.now) number
+            (W.contents writer.old) (W.contents writer.new)) }
     {
         match read_play_line(alloc, line, self.section()) {
             Err(refusal) => Err(refusal.at(number)),
@@ -90,7 +92,8 @@ impl<A: Allocator + Copy> Player<A> {
         ensures played { IfOk result (λ player. (text : List ℕ)
             × Appends (W.contents writer.old) (W.contents writer.new) text
             × Plays (state_of self) (play_meaning said) text (state_of player)) }
-        ensures fault { IfErr result IsFaultOfLines }
+        ensures fault { IfErr result (IsFaultOfLine (RefusesSaid (state_of self) (play_meaning said)) number
+            (W.contents writer.old) (W.contents writer.new)) }
     {
         match said {
             PlayLine::Adds(addition) => match self.add(addition) {
@@ -172,7 +175,7 @@ impl<A: Allocator + Copy> Running<A> {
             × Appends (W.contents writer.old) (W.contents writer.new) text
             × IsRun self.old.session.state self.old.plans.items (operation_of op) text
             (running_of self.new)) }
-        ensures fault { IfErr result IsFaultOfLines }
+        ensures fault { IfErr result (IsWritingFault (W.contents writer.old) (W.contents writer.new)) }
     {
         if !self.session.is_idle() {
             self.plans.clear();
@@ -206,7 +209,8 @@ impl<A: Allocator + Copy> Running<A> {
             × Appends (W.contents writer.old) (W.contents writer.new) text
             × IsSent self.old.session.state self.old.plans.items bytes.now text
             (running_of self.new)) }
-        ensures fault { IfErr result IsFaultOfLines }
+        ensures fault { IfErr result (IsFaultOfLine (λ _. ¬ AreOfAgreedCommand bytes.now) number
+            (W.contents writer.old) (W.contents writer.new)) }
     {
         let command = match agreed_command(bytes) {
             Ok(command) => command,
@@ -248,7 +252,7 @@ fn write_first<A: Allocator + Copy, W: Write>(
         × (recorder.now.lost ≡ false)
         × Appends (W.contents writer.old) (W.contents writer.new)
         (operation_text recorder.now.heard reply)) }
-    ensures fault { IfErr result IsFaultOfLines }
+    ensures fault { IfErr result (IsWritingFault (W.contents writer.old) (W.contents writer.new)) }
 {
     match answers.get(0) {
         Some(answer) if !recorder.lost() => {

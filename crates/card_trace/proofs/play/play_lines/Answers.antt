@@ -1,24 +1,56 @@
-use Rattle.std.proofs.Common.{[], refl, ap, ◌∙◌}
+use Rattle.std.proofs.Common.{[], Err, refl, ap, ◌≡◌, ◌∙◌}
 use Rattle.std.specs.Str.Lines.{lines}
-use Rattle.card_trace.specs.Scripts.{Building}
-use Rattle.card_trace.proofs.PlayLemmas.{goes_on_as, goes_on_at, goes_on_more, all_played, writes_all}
+use Rattle.card_trace.specs.Scripts.{Building, PlaysAll, RefusesPlayLine, PlayStops}
+use Rattle.card_trace.proofs.ScriptFaultLemmas.{few_lines, fault_passed, stops_unread}
+use Rattle.card_trace.proofs.PlayLemmas.{none_played, one_more_played, all_played, stops_at}
 use Rattle.card_trace.proofs.play.play_lines.Goals as goal
 
 pub loop-line-init : goal.loop-line-init
 loop-line-init g c =
-    goes_on_as (Building []) _ c.into_iter-line-iterator.result _ _ c.new-player.ensures refl
+    none_played _ _ _ _ _ c.new-player.ensures refl refl
 
 pub loop-line-preserved : goal.loop-line-preserved
 loop-line-preserved g c =
+    let items = c.in_ok-script.script.items in
+    let are_lines : c.into_iter-line-iterator.result ≡ lines items =
+    c.into_iter-line-iterator.ensures.into_iter_gives ∙ c.of-line-items.ensures
+    ∙ ap lines c.as_slice.ensures.value in
     let (text, appends, plays) = c.in_ok-player.ensures.played in
-    goes_on_more (Building []) _ _ _ _ _ _ c.in-Some.line.now c.next.new.self text
-    (goes_on_at (Building []) _ _ _ _ _ _ c.in-Some.ensures.steps c.loop-line.invariant) appends
-    plays
+    one_more_played _ _ _ c.in-Some.line.now text _ _ _ _ _ _ _ c.loop-line.invariant
+    c.in-Some.ensures.steps (few_lines _ items are_lines c.in_ok-script.ensures.fits)
+    c.saturating_add-number.ensures appends plays
 
 pub returns-clause-written : goal.returns-clause-written
 returns-clause-written g c =
-    writes_all _ c.in_ok-script.script.items c.into_iter-line-iterator.result _ _
-    c.in_ok-script.ensures.whole
-    (c.into_iter-line-iterator.ensures.into_iter_gives ∙ c.of-line-items.ensures
-    ∙ ap lines c.as_slice.ensures.value)
-    (all_played (Building []) _ _ _ _ _ c.in-None.ensures.steps.0 c.loop-line.invariant)
+    let items = c.in_ok-script.script.items in
+    let are_lines : c.into_iter-line-iterator.result ≡ lines items =
+    c.into_iter-line-iterator.ensures.into_iter_gives ∙ c.of-line-items.ensures
+    ∙ ap lines c.as_slice.ensures.value in
+    all_played _ _ _ _ _ _ _ items c.in_ok-script.ensures.whole are_lines c.in-None.ensures.steps.0
+    c.loop-line.invariant
+
+pub returns-in_err-player-clause-stops : goal.returns-in_err-player-clause-stops
+returns-in_err-player-clause-stops g c =
+    let items = c.in_ok-script.script.items in
+    let are_lines : c.into_iter-line-iterator.result ≡ lines items =
+    c.into_iter-line-iterator.ensures.into_iter_gives ∙ c.of-line-items.ensures
+    ∙ ap lines c.as_slice.ensures.value in
+    let script = g.R.Read.remaining c.args.reader.now in
+    let old = g.W.Write.contents c.args.writer.now in
+    let new = g.W.Write.contents c.play.new.writer in
+    fault_passed c.from_residual-in_err-player.result c.in_err-player.field-0.0 (PlayStops script old new)
+    c.from_residual-in_err-player.ensures.1
+    (stops_at _ _ _ c.in-Some.line.now old _ new _ _ _ script items c.in_err-player.field-0.0
+    c.in_ok-script.ensures.whole are_lines c.loop-line.invariant c.in-Some.ensures.steps
+    (few_lines _ items are_lines c.in_ok-script.ensures.fits) c.saturating_add-number.ensures
+    c.in_err-player.ensures.fault)
+
+pub returns-in_err-script-clause-stops : goal.returns-in_err-script-clause-stops
+returns-in_err-script-clause-stops g c =
+    let script = g.R.Read.remaining c.args.reader.now in
+    let old = g.W.Write.contents c.args.writer.now in
+    fault_passed c.from_residual.result c.in_err-script.field-0.0 (PlayStops script old old)
+    c.from_residual.ensures.1
+    (stops_unread (PlaysAll (Building [])) RefusesPlayLine (Building []) (refl, refl) script old
+    c.in_err-script.field-0.0 c.in_err-script.ensures.fault
+    (λ same. c.in_err-script.ensures.too_long (ap (λ f. Err f) same)))

@@ -1,10 +1,9 @@
-use Rattle.std.proofs.Common.{ℕ, List}
-use Rattle.card_trace.specs.CardScripts.{CardRun, Building, DoesAll}
+use Rattle.card_trace.specs.CardScripts.{Building}
+use Rattle.card_trace.proofs.CardLemmas.{AreBuilt}
 use Rattle.card_trace.proofs.card.Table.build.Given as goal
 
--- where the lines that are left are done, all are
+-- the lines so far have been added, and the others are still to come
 abbrev pub invariant-loop-line : goal.invariant-loop-line
 invariant-loop-line g l =
-    (text : List ℕ) (end : CardRun)
-    → DoesAll (Building l.self.builder l.self.plans.items) l.lines text end
-    → DoesAll (Building l.initial.self.builder l.initial.self.plans.items) l.initial.lines text end
+    AreBuilt (Building l.initial.self.builder l.initial.self.plans.items)
+    (Building l.self.builder l.self.plans.items) l.initial.lines l.lines l.initial.number l.number

@@ -1,0 +1,158 @@
+-- The lines of a script so far, how many they are, and where they stop.
+use Rattle.std.proofs.Common.{◌≡◌, ◌≤◌, ◌<◌, ◌+◌, ◌-◌, ◌^◌, ◌∙◌, min, ℕ, List, [], ◌∷◌, ◌++◌, length, Option, Some, None, IfSome, ◌==◌, Bool, true, false, refl, sym, ap, subst, arith, append_assoc, Result, Ok, Err, IfErr, IsErrAnd}
+use Rattle.std.proofs.Math.Nat.{min-eq_left}
+use Rattle.std.proofs.lemmas.List.{length-append}
+use Rattle.std.proofs.lemmas.List.Splits.{length-slice_split}
+use Rattle.std.proofs.lemmas.List.Sums.{count_by-le-length}
+use Rattle.std.specs.List.{slice_split}
+use Rattle.std.specs.Str.Lines.{lines, lines_of_parts}
+use Rattle.std.proofs.KnownBytes.{Appends-nil}
+use Rattle.card_trace.specs.declared.play_fault.PlayFault.{PlayFault}
+use Rattle.card_trace.specs.declared.play_fault.PlayFault.TheVariants.{Script, Read, Write, InputTooLong, OutOfMemory}
+use Rattle.card_trace.specs.declared.script.reason.Reason.{Reason}
+use Rattle.card_trace.specs.declared.script.reading.TheConstants.{SCRIPT_LIMIT}
+use Rattle.card_trace.specs.declared.script.refusal.Refusal.{Refusal}
+use Rattle.card_trace.specs.declared.script.refusal.Refusal.TheVariants.{Line, OutOfMemory as NoMemory}
+use Rattle.card_trace.specs.ScriptReasons.{fault_at, OnReason}
+use Rattle.card_trace.specs.ScriptReading.{IsReadingFault}
+use Rattle.card_trace.specs.ScriptFaults.{IsRefusedAt, IsLeftAfter, Stops, LinesStop, IsFaultOfLine, IsWritingFault}
+
+-- of bytes that are the script's
+pub of_script : (script : Option (List ℕ)) (items : List ℕ) (P : List ℕ → Type 0)
+    → IfSome script (λ bytes. items ≡ bytes) → P items → IfSome script P
+of_script None items P same holds = tt
+of_script (Some bytes) items P same holds = subst P same holds
+
+-- ---- there are not many lines
+
+parts_fit : (parts : List (List ℕ)) → length (lines_of_parts parts) ≤ length parts
+parts_fit [] = omega arith
+parts_fit (x ∷ []) = by (length x == 0) refl where
+  by : (v : Bool) → (length x == 0) ≡ v → length (lines_of_parts (x ∷ [])) ≤ length (x ∷ [])
+  by true e = rw e (omega arith)
+  by false e = rw e (omega arith)
+parts_fit (x ∷ y ∷ more) = let rest = parts_fit (y ∷ more) in omega (arith, rest)
+
+pub lines_fit : (bytes : List ℕ) → length (lines bytes) ≤ length bytes + 1
+lines_fit bytes =
+    let parts = parts_fit (slice_split (λ b. b == 10) bytes) in
+    let count = length-slice_split (λ (b : ℕ). b == 10) bytes in
+    let few = count_by-le-length (λ (b : ℕ). b == 10) bytes in omega (arith, parts, count, few)
+
+-- the number of the next line, behind those that are passed, which is not too large
+pub next_behind : (all before others : List (List ℕ)) (line : List ℕ) (passed m number : ℕ)
+    → all ≡ before ++ line ∷ others → m ≡ length before + passed → length all + passed < 2 ^ 63
+    → number ≡ min (m + 1) (2 ^ 64 - 1) → number ≡ length before + 1 + passed
+next_behind all before others line passed m number cut is few next =
+    let whole : length all ≡ length before + length (line ∷ others) =
+    ap length cut ∙ length-append before (line ∷ others) in
+    let within : m + 1 ≤ 2 ^ 64 - 1 = omega (arith, whole, is, few) in
+    let one_more : m + 1 ≡ length before + 1 + passed = omega (arith, is) in
+    next ∙ min-eq_left within ∙ one_more
+
+pub next_number : (all before others : List (List ℕ)) (line : List ℕ) (m number : ℕ)
+    → all ≡ before ++ line ∷ others → m ≡ length before → length all < 2 ^ 63
+    → number ≡ min (m + 1) (2 ^ 64 - 1) → number ≡ length before + 1
+next_number all before others line m number cut is few next =
+    let counted : m ≡ length before + 0 = omega (arith, is) in
+    let few_behind : length all + 0 < 2 ^ 63 = omega (arith, few) in
+    let at = next_behind all before others line 0 m number cut counted few_behind next in omega (arith, at)
+
+-- one line more stands before the others
+pub cut_behind : (all before others : List (List ℕ)) (line : List ℕ) → all ≡ before ++ line ∷ others
+    → all ≡ (before ++ line ∷ []) ++ others
+cut_behind all before others line cut = cut ∙ sym (append_assoc before (line ∷ []) others)
+
+pub few_lines : (all : List (List ℕ)) (items : List ℕ) → all ≡ lines items
+    → length items ≤ SCRIPT_LIMIT → length all < 2 ^ 63
+few_lines all items is fits =
+    let same : length all ≡ length (lines items) = ap (λ l. length l) is in
+    let fit = lines_fit items in omega (arith, same, fit, fits)
+
+-- ---- a fault, handed on
+
+pub fault_passed : {T E : Type 0} (r : Result T E) (e : E) (Q : E → Type 0)
+    → IsErrAnd r (λ x. x ≡ e) → Q e → IfErr r Q
+fault_passed (Ok x) e Q same h = absurd same
+fault_passed (Err f) e Q same h = subst Q (sym same) h
+
+pub faults_more : {T E : Type 0} (r : Result T E) (P Q : E → Type 0) → ((e : E) → P e → Q e)
+    → IfErr r P → IfErr r Q
+faults_more (Ok x) P Q f h = tt
+faults_more (Err e) P Q f h = f e h
+
+pub of_line_more : (R S : Reason → Type 0) (number : ℕ) (old new : Option (List ℕ))
+    (fault : PlayFault) → ((reason : Reason) → R reason → S reason)
+    → IsFaultOfLine R number old new fault → IsFaultOfLine S number old new fault
+of_line_more R S number old new (Script n reason) f (same, refuses, unwritten) = (same, f reason refuses, unwritten)
+of_line_more R S number old new OutOfMemory f h = h
+of_line_more R S number old new Write f h = h
+of_line_more R S number old new Read f h = h
+of_line_more R S number old new InputTooLong f h = h
+
+pub of_writing : (R : Reason → Type 0) (number : ℕ) (old new : Option (List ℕ)) (fault : PlayFault)
+    → IsWritingFault old new fault → IsFaultOfLine R number old new fault
+of_writing R number old new (Script n reason) h = absurd h
+of_writing R number old new OutOfMemory h = h
+of_writing R number old new Write h = h
+of_writing R number old new Read h = h
+of_writing R number old new InputTooLong h = h
+
+-- a refusal of the line, before which nothing is written
+pub of_refusal : (R S : Reason → Type 0) (number : ℕ) (written : Option (List ℕ))
+    (refusal : Refusal) (fault : PlayFault) → fault ≡ fault_at number refusal
+    → ((reason : Reason) → R reason → S reason) → OnReason refusal R
+    → IsFaultOfLine S number written written fault
+of_refusal R S number written (Line reason) fault is f h =
+    subst (λ x. IsFaultOfLine S number written written x) (sym is) (refl, f reason h, refl)
+of_refusal R S number written NoMemory fault is f h =
+    subst (λ x. IsFaultOfLine S number written written x) (sym is) refl
+
+-- where nothing was read, nothing is written
+pub stops_unread : {State : Type 0} (Does : List (List ℕ) → List ℕ → State → Type 0)
+    (Refuses : State → List ℕ → Reason → Type 0) (start : State) → Does [] [] start
+    → (script old : Option (List ℕ)) (fault : PlayFault) → IsReadingFault fault
+    → (fault ≡ InputTooLong → IfSome script (λ bytes. SCRIPT_LIMIT < length bytes))
+    → Stops Does Refuses script old old fault
+stops_unread Does Refuses start none script old Read is long = refl
+stops_unread Does Refuses start none script old InputTooLong is long = (refl, long refl)
+stops_unread Does Refuses start none script old OutOfMemory is long = ([], Appends-nil old, of script) where
+  of : (s : Option (List ℕ)) → IfSome s (λ bytes. IsLeftAfter Does (lines bytes) [])
+  of None = tt
+  of (Some bytes) = record {
+    before = [];
+    others = lines bytes;
+    is_cut = refl;
+    state = start;
+    does = none;
+  }
+stops_unread Does Refuses start none script old (Script line reason) is long = absurd is
+stops_unread Does Refuses start none script old Write is long = absurd is
+
+-- lines that stop are those of the script
+pub script_stops : {State : Type 0} (Does : List (List ℕ) → List ℕ → State → Type 0)
+    (Refuses : State → List ℕ → Reason → Type 0) (script : Option (List ℕ)) (items : List ℕ)
+    (old new : Option (List ℕ)) (fault : PlayFault) → IfSome script (λ bytes. items ≡ bytes)
+    → LinesStop Does Refuses (lines items) 0 old new fault → Stops Does Refuses script old new fault
+script_stops Does Refuses script items old new (Script n reason) read (text, appends, number, is, refused) = (
+  text,
+  appends,
+  of_script script items (λ bytes. IsRefusedAt Does Refuses (lines bytes) text n reason) read
+      (subst (λ k. IsRefusedAt Does Refuses (lines items) text k reason) (same_number number n is) refused),
+) where
+  same_number : (k m : ℕ) → m ≡ k + 0 → k ≡ m
+  same_number k m e = omega (arith, e)
+script_stops Does Refuses script items old new OutOfMemory read (text, appends, left) = (
+  text,
+  appends,
+  of_script script items (λ bytes. IsLeftAfter Does (lines bytes) text) read left,
+)
+script_stops Does Refuses script items old new Write read unknown = tt
+script_stops Does Refuses script items old new Read read never = absurd never
+script_stops Does Refuses script items old new InputTooLong read never = absurd never
+
+-- a writer that fails
+pub write_fails : {T : Type 0} (r : Result T PlayFault) (old new : Option (List ℕ))
+    → IfErr r (λ fault. fault ≡ Write) → IfErr r (IsWritingFault old new)
+write_fails r old new fails =
+    faults_more r _ _ (λ f is. subst (λ x. IsWritingFault old new x) (sym is) tt) fails

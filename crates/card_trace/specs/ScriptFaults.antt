@@ -1,0 +1,85 @@
+-- Where a script is not carried out to its end: which line is refused, and what stands.
+use Rattle.std.specs.Prelude.{◌≡◌, ◌≢◌, ◌<◌, ◌+◌, ℕ, List, [], ◌∷◌, ◌++◌, length, Option, IfSome}
+use Rattle.std.specs.Str.Lines.{lines}
+use Rattle.std.specs.Io.KnownBytes.{Appends}
+use Rattle.card_trace.specs.declared.play_fault.PlayFault.{PlayFault}
+use Rattle.card_trace.specs.declared.play_fault.PlayFault.TheVariants.{Script, Read, Write, InputTooLong, OutOfMemory}
+use Rattle.card_trace.specs.declared.script.reading.TheConstants.{SCRIPT_LIMIT}
+use Rattle.card_trace.specs.declared.script.reason.Reason.{Reason}
+use Rattle.card_trace.specs.ScriptWords.{words_of}
+
+-- the line has words, and they say nothing
+abbrev pub SaysNothing : {Meaning : Type 0} → (List (List ℕ) → Meaning → Type 0) → List ℕ → Type 0
+SaysNothing {Meaning} Says line =
+    (words_of line ≢ []) × ((meaning : Meaning) → ¬ Says (words_of line) meaning)
+
+-- The line of this number, counted from 1, is refused for this reason: the lines before it are
+-- carried out and print this text, and it is refused where they have led.
+pub record IsRefusedAt {State : Type 0} (Does : List (List ℕ) → List ℕ → State → Type 0)
+    (Refuses : State → List ℕ → Reason → Type 0) (all : List (List ℕ)) (text : List ℕ)
+    (number : ℕ) (reason : Reason) : Type 0 where
+  pub before : List (List ℕ)
+  pub line : List ℕ
+  pub others : List (List ℕ)
+  pub is_cut : all ≡ before ++ line ∷ others
+  pub is_number : number ≡ length before + 1
+  pub state : State
+  pub does : Does before text state
+  pub refuses : Refuses state line reason
+
+-- The lines up to some place are carried out, and print this text.
+pub record IsLeftAfter {State : Type 0} (Does : List (List ℕ) → List ℕ → State → Type 0)
+    (all : List (List ℕ)) (text : List ℕ) : Type 0 where
+  pub before : List (List ℕ)
+  pub others : List (List ℕ)
+  pub is_cut : all ≡ before ++ others
+  pub state : State
+  pub does : Does before text state
+
+-- What stands after a fault: what the lines before a refused one print, and before want of memory
+-- what the lines up to some place print. Where the reader fails or never ends, nothing is written,
+-- and where the writer fails, it is not known how much is.
+abbrev pub Stops : {State : Type 0} → (List (List ℕ) → List ℕ → State → Type 0)
+    → (State → List ℕ → Reason → Type 0)
+    → Option (List ℕ) → Option (List ℕ) → Option (List ℕ) → PlayFault → Type 0
+Stops Does Refuses script old new (Script line reason) =
+    (text : List ℕ) × Appends old new text
+    × IfSome script (λ bytes. IsRefusedAt Does Refuses (lines bytes) text line reason)
+Stops Does Refuses script old new OutOfMemory =
+    (text : List ℕ) × Appends old new text
+    × IfSome script (λ bytes. IsLeftAfter Does (lines bytes) text)
+Stops Does Refuses script old new Read = new ≡ old
+Stops Does Refuses script old new InputTooLong =
+    (new ≡ old) × IfSome script (λ bytes. SCRIPT_LIMIT < length bytes)
+Stops Does Refuses script old new Write = Unit {0}
+
+-- the same of lines that stand behind so many
+abbrev pub LinesStop : {State : Type 0} → (List (List ℕ) → List ℕ → State → Type 0)
+    → (State → List ℕ → Reason → Type 0)
+    → List (List ℕ) → ℕ → Option (List ℕ) → Option (List ℕ) → PlayFault → Type 0
+LinesStop Does Refuses all passed old new (Script line reason) =
+    (text : List ℕ) × Appends old new text
+    × (number : ℕ) × (line ≡ number + passed) × IsRefusedAt Does Refuses all text number reason
+LinesStop Does Refuses all passed old new OutOfMemory =
+    (text : List ℕ) × Appends old new text × IsLeftAfter Does all text
+LinesStop Does Refuses all passed old new Write = Unit {0}
+LinesStop Does Refuses all passed old new Read = ⊥
+LinesStop Does Refuses all passed old new InputTooLong = ⊥
+
+-- a fault of writing: before want of memory nothing is written
+abbrev pub IsWritingFault : Option (List ℕ) → Option (List ℕ) → PlayFault → Type 0
+IsWritingFault old new OutOfMemory = new ≡ old
+IsWritingFault old new Write = Unit {0}
+IsWritingFault old new (Script line reason) = ⊥
+IsWritingFault old new Read = ⊥
+IsWritingFault old new InputTooLong = ⊥
+
+-- a fault of the line of this number, which writes nothing where it is refused
+abbrev pub IsFaultOfLine : (Reason → Type 0) → ℕ → Option (List ℕ) → Option (List ℕ) → PlayFault
+    → Type 0
+IsFaultOfLine Refuses number old new (Script line reason) =
+    (line ≡ number) × Refuses reason × (new ≡ old)
+IsFaultOfLine Refuses number old new OutOfMemory = new ≡ old
+IsFaultOfLine Refuses number old new Write = Unit {0}
+IsFaultOfLine Refuses number old new Read = ⊥
+IsFaultOfLine Refuses number old new InputTooLong = ⊥

@@ -15,7 +15,7 @@ use Rattle.card_trace.specs.declared.script.refusal.Refusal.{Refusal}
 use Rattle.card_trace.specs.declared.script.refusal.Refusal.TheVariants.{Line, OutOfMemory as NoMemory}
 use Rattle.card_trace.specs.ScriptReasons.{fault_at, OnReason}
 use Rattle.card_trace.specs.ScriptReading.{IsReadingFault}
-use Rattle.card_trace.specs.ScriptFaults.{IsRefusedAt, IsLeftAfter, Stops, LinesStop, IsFaultOfLine, IsWritingFault}
+use Rattle.card_trace.specs.ScriptFaults.{IsRefusedAt, IsLeftAfter, Stops, LinesStop, IsNotBegun, IsFaultOfLine, IsWritingFault}
 
 -- of bytes that are the script's
 pub of_script : (script : Option (List ℕ)) (items : List ℕ) (P : List ℕ → Type 0)
@@ -128,6 +128,21 @@ stops_unread Does Refuses start none script old OutOfMemory is long = ([], Appen
   }
 stops_unread Does Refuses start none script old (Script line reason) is long = absurd is
 stops_unread Does Refuses start none script old Write is long = absurd is
+
+pub not_begun : {T : Type 0} (r : Result T PlayFault) (fault : PlayFault)
+    (script old : Option (List ℕ)) → IsErrAnd r (λ e. e ≡ fault) → IsReadingFault fault
+    → IfSome script (λ bytes. SCRIPT_LIMIT < length bytes → IsNotBegun r old old)
+not_begun r fault None old same is = tt
+not_begun (Ok x) fault (Some bytes) old same is = λ long. absurd same
+not_begun (Err e) fault (Some bytes) old same is = λ long. (subst IsReadingFault (sym same) is, refl)
+
+-- a script that was read has no more bytes than one may have
+pub within_limit : (script : Option (List ℕ)) (items : List ℕ) (P : Type 0)
+    → IfSome script (λ bytes. items ≡ bytes) → length items ≤ SCRIPT_LIMIT
+    → IfSome script (λ bytes. SCRIPT_LIMIT < length bytes → P)
+within_limit script items P read fits =
+    of_script script items (λ bytes. SCRIPT_LIMIT < length bytes → P) read
+    (λ long. absurd (omega (arith, long, fits)))
 
 -- lines that stop are those of the script
 pub script_stops : {State : Type 0} (Does : List (List ℕ) → List ℕ → State → Type 0)

@@ -5,6 +5,7 @@ pub mod TableText
 pub mod MarkedLines
 pub mod ForestText
 pub mod FixedText
+pub mod ScriptReading
 pub mod ScriptFaults
 pub mod Scripts
 pub mod CommandLine
@@ -15,6 +16,5 @@ pub mod ScriptFields
 pub mod ScriptTable
 pub mod ScriptPlay
 pub mod ScriptCard
-pub mod ScriptReading
 pub mod Playing
 pub mod CardScripts

@@ -1,11 +1,12 @@
 -- Where a script is not carried out to its end: which line is refused, and what stands.
-use Rattle.std.specs.Prelude.{◌≡◌, ◌≢◌, ◌<◌, ◌+◌, ℕ, List, [], ◌∷◌, ◌++◌, length, Option, IfSome}
+use Rattle.std.specs.Prelude.{◌≡◌, ◌≢◌, ◌<◌, ◌+◌, ℕ, List, [], ◌∷◌, ◌++◌, length, Option, IfSome, Result, IsErrAnd}
 use Rattle.std.specs.Str.Lines.{lines}
 use Rattle.std.specs.Io.KnownBytes.{Appends}
 use Rattle.card_trace.specs.declared.play_fault.PlayFault.{PlayFault}
 use Rattle.card_trace.specs.declared.play_fault.PlayFault.TheVariants.{Script, Read, Write, InputTooLong, OutOfMemory}
 use Rattle.card_trace.specs.declared.script.reading.TheConstants.{SCRIPT_LIMIT}
 use Rattle.card_trace.specs.declared.script.reason.Reason.{Reason}
+use Rattle.card_trace.specs.ScriptReading.{IsReadingFault}
 use Rattle.card_trace.specs.ScriptWords.{words_of}
 
 -- the line has words, and they say nothing
@@ -53,7 +54,12 @@ Stops Does Refuses script old new InputTooLong =
     (new ≡ old) × IfSome script (λ bytes. SCRIPT_LIMIT < length bytes)
 Stops Does Refuses script old new Write = Unit {0}
 
--- the same of lines that stand behind so many
+-- The script was not read, and nothing is written.
+abbrev pub IsNotBegun : {T : Type 0} → Result T PlayFault → Option (List ℕ) → Option (List ℕ)
+    → Type 0
+IsNotBegun result old new = IsErrAnd result IsReadingFault × (new ≡ old)
+
+-- `Stops` of lines that stand behind so many
 abbrev pub LinesStop : {State : Type 0} → (List (List ℕ) → List ℕ → State → Type 0)
     → (State → List ℕ → Reason → Type 0)
     → List (List ℕ) → ℕ → Option (List ℕ) → Option (List ℕ) → PlayFault → Type 0

@@ -1,5 +1,5 @@
 //! Scripts of `card`.
-ghost use Rattle.std.specs.Prelude.{◌≡◌, ◌<◌, ◌≤◌, ◌+◌, ◌^◌, ℕ, List, [], length, Option, Some, None, nat_lt, true, false, OnOk, IfOk, IfErr, MatchOption};
+ghost use Rattle.std.specs.Prelude.{◌≡◌, ◌<◌, ◌≤◌, ◌+◌, ◌^◌, ℕ, List, [], length, Option, Some, None, nat_lt, true, false, OnOk, IfOk, IfErr, IfSome, MatchOption};
 ghost use Rattle.std.specs.Str.Lines.{lines};
 ghost use Rattle.t0_core.specs.declared.end.End.TheVariants.{Card};
 ghost use Rattle.t0_core.specs.Character.{sent_by};
@@ -9,7 +9,7 @@ ghost use Rattle.card_trace.specs.ScriptWords.{words_of};
 ghost use Rattle.card_trace.specs.ScriptCard.{card_meaning, is_card_table_line, IsCardLine};
 ghost use Rattle.card_trace.specs.CardScripts.{Past, Building, Running, IsEnough, HandsOut, Takes, RunsLine, DoesOrPasses, DoesAll, IsFirstRunLine, RefusesCardLine, CardWrites, CardStops, IsReady, end_at, LeadOn, Writes};
 ghost use Rattle.card_trace.specs.ScriptReasons.{OnReason};
-ghost use Rattle.card_trace.specs.ScriptFaults.{SaysNothing, LinesStop, IsWritingFault, IsFaultOfLine};
+ghost use Rattle.card_trace.specs.ScriptFaults.{IsNotBegun, SaysNothing, LinesStop, IsWritingFault, IsFaultOfLine};
 
 use crate::fixed_line::FixedLine;
 use crate::lines::{write_fixed, write_handed_out, write_table};
@@ -37,6 +37,8 @@ pub fn card_lines<A: Allocator + Copy, R: Read, W: Write>(
         (CardWrites (R.remaining reader.old) (W.contents writer.old) (W.contents writer.new)) }
     ensures stops { IfErr result
         (CardStops (R.remaining reader.old) (W.contents writer.old) (W.contents writer.new)) }
+    ensures limited { IfSome (R.remaining reader.old) (λ bytes. SCRIPT_LIMIT < length bytes →
+        IsNotBegun result (W.contents writer.old) (W.contents writer.new)) }
 {
     let script = read_script(alloc, reader)?;
     carry_out_lines(alloc, script.as_slice(), writer)

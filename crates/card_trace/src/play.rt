@@ -1,11 +1,12 @@
 //! Scripts of `play`.
-ghost use Rattle.std.specs.Prelude.{OnOk, IfErr};
+ghost use Rattle.std.specs.Prelude.{◌<◌, length, OnOk, IfErr, IfSome};
+ghost use Rattle.card_trace.specs.ScriptFaults.{IsNotBegun};
 ghost use Rattle.card_trace.specs.Scripts.{PlayWrites, PlayStops};
 
 use crate::play_fault::PlayFault;
 use crate::player::Player;
 use crate::script::lines::Lines;
-use crate::script::reading::read_script;
+use crate::script::reading::{SCRIPT_LIMIT, read_script};
 use std::alloc::Allocator;
 use std::io::{Read, Write};
 
@@ -24,6 +25,8 @@ pub fn play_lines<A: Allocator + Copy, R: Read, W: Write>(
         (PlayWrites (R.remaining reader.old) (W.contents writer.old) (W.contents writer.new)) }
     ensures stops { IfErr result
         (PlayStops (R.remaining reader.old) (W.contents writer.old) (W.contents writer.new)) }
+    ensures limited { IfSome (R.remaining reader.old) (λ bytes. SCRIPT_LIMIT < length bytes →
+        IsNotBegun result (W.contents writer.old) (W.contents writer.new)) }
 {
     let script = read_script(alloc, reader)?;
     let mut player = Player::new(alloc);

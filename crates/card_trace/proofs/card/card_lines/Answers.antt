@@ -1,6 +1,6 @@
 use Rattle.std.proofs.Common.{◌≡◌, ℕ, List, [], Err, IfSome, refl, sym, ap, subst}
 use Rattle.card_trace.specs.CardScripts.{Building, DoesAll, RefusesCardLine, CardStops}
-use Rattle.card_trace.proofs.ScriptFaultLemmas.{fault_passed, faults_more, stops_unread, script_stops}
+use Rattle.card_trace.proofs.ScriptFaultLemmas.{fault_passed, faults_more, stops_unread, not_begun, within_limit, script_stops}
 use Rattle.card_trace.proofs.CardLemmas.{on_ok, writes_read}
 use Rattle.card_trace.proofs.card.card_lines.Goals as goal
 
@@ -29,3 +29,12 @@ returns-clause-stops g c =
     faults_more c.carry_out_lines.result _ _
     (λ fault. script_stops (DoesAll (Building [] [])) RefusesCardLine _ shown _ _ fault read)
     c.carry_out_lines.ensures.stops
+
+pub returns-in_err-script-clause-limited : goal.returns-in_err-script-clause-limited
+returns-in_err-script-clause-limited g c =
+    not_begun c.from_residual.result c.in_err-script.field-0.0 _ _ c.from_residual.ensures.1
+    c.in_err-script.ensures.fault
+
+pub returns-clause-limited : goal.returns-clause-limited
+returns-clause-limited g c =
+    within_limit _ c.in_ok-script.script.items _ c.in_ok-script.ensures.whole c.in_ok-script.ensures.fits

@@ -1,7 +1,7 @@
 use Rattle.std.proofs.Common.{[], Err, refl, ap, ◌≡◌, ◌∙◌}
 use Rattle.std.specs.Str.Lines.{lines}
 use Rattle.card_trace.specs.Scripts.{Building, PlaysAll, RefusesPlayLine, PlayStops}
-use Rattle.card_trace.proofs.ScriptFaultLemmas.{few_lines, fault_passed, stops_unread}
+use Rattle.card_trace.proofs.ScriptFaultLemmas.{few_lines, fault_passed, stops_unread, not_begun, within_limit}
 use Rattle.card_trace.proofs.PlayLemmas.{none_played, one_more_played, all_played, stops_at}
 use Rattle.card_trace.proofs.play.play_lines.Goals as goal
 
@@ -54,3 +54,16 @@ returns-in_err-script-clause-stops g c =
     (stops_unread (PlaysAll (Building [])) RefusesPlayLine (Building []) (refl, refl) script old
     c.in_err-script.field-0.0 c.in_err-script.ensures.fault
     (λ same. c.in_err-script.ensures.too_long (ap (λ f. Err f) same)))
+
+pub returns-in_err-script-clause-limited : goal.returns-in_err-script-clause-limited
+returns-in_err-script-clause-limited g c =
+    not_begun c.from_residual.result c.in_err-script.field-0.0 _ _ c.from_residual.ensures.1
+    c.in_err-script.ensures.fault
+
+pub returns-in_err-player-clause-limited : goal.returns-in_err-player-clause-limited
+returns-in_err-player-clause-limited g c =
+    within_limit _ c.in_ok-script.script.items _ c.in_ok-script.ensures.whole c.in_ok-script.ensures.fits
+
+pub returns-clause-limited : goal.returns-clause-limited
+returns-clause-limited g c =
+    within_limit _ c.in_ok-script.script.items _ c.in_ok-script.ensures.whole c.in_ok-script.ensures.fits

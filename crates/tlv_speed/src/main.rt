@@ -2,10 +2,12 @@
 #![tactic(auto)]
 
 mod measure;
+mod repeated;
 mod shapes;
 
 use measure::{Reading, count_objects, nanoseconds};
-use shapes::{SHAPES, repeated};
+use repeated::repeated;
+use shapes::SHAPES;
 use std::num::nearest_usize_to_f64;
 use std::{env, io};
 

@@ -1,9 +1,7 @@
 //! Lists of objects to be read, as they come on cards.
 
-use std::alloc::{AllocError, Allocator};
-
 /// About how many bytes each list has.
-const SIZE: usize = 65_536;
+pub const SIZE: usize = 65_536;
 
 /// Four objects of ten bytes.
 const FLAT: [u8; 40] = [
@@ -45,12 +43,3 @@ pub const SHAPES: [(&str, &[u8]); 4] = [
     ("sixteen deep", &SIXTEEN_DEEP),
     ("padded", &PADDED),
 ];
-
-/// The pattern again and again.
-pub fn repeated<A: Allocator>(alloc: A, pattern: &[u8]) -> Result<Vec<u8, A>, AllocError> {
-    let mut bytes = Vec::new(alloc);
-    for _ in 0..SIZE / pattern.len().max(1) {
-        bytes.extend_from_slice(pattern)?;
-    }
-    Ok(bytes)
-}

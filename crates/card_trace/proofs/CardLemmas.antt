@@ -31,7 +31,8 @@ use Rattle.card_trace.specs.declared.play_fault.PlayFault.TheVariants.{Script, R
 use Rattle.card_trace.specs.declared.script.refusal.Refusal.{Refusal}
 use Rattle.card_trace.specs.declared.script.refusal.Refusal.TheVariants.{Line, OutOfMemory}
 use Rattle.card_trace.specs.ScriptReasons.{fault_at, OnReason}
-use Rattle.card_trace.specs.ScriptFaults.{SaysNothing, LinesStop, IsFaultOfLine, IsWritingFault}
+use Rattle.card_trace.specs.ScriptFaults.{SaysNothing}
+use Rattle.card_trace.specs.LineFaults.{LinesStop, IsFaultOfLine, IsWritingFault}
 use Rattle.card_trace.proofs.ScriptFaultLemmas.{next_behind, cut_behind, few_lines}
 use Rattle.card_trace.specs.declared.script.reading.TheConstants.{SCRIPT_LIMIT}
 use Rattle.card_trace.specs.ScriptTable.{Addition, MayStandIn}

@@ -29,7 +29,8 @@ use Rattle.card_trace.specs.declared.script.reason.Reason.{Reason}
 use Rattle.card_trace.specs.declared.script.section.Section.{Section}
 use Rattle.card_trace.specs.declared.play_fault.PlayFault.{PlayFault}
 use Rattle.card_trace.specs.declared.play_fault.PlayFault.TheVariants.{Script, Read, Write, InputTooLong, OutOfMemory}
-use Rattle.card_trace.specs.ScriptFaults.{SaysNothing, IsRefusedAt, IsLeftAfter, IsFaultOfLine}
+use Rattle.card_trace.specs.ScriptFaults.{SaysNothing, IsRefusedAt, IsLeftAfter}
+use Rattle.card_trace.specs.LineFaults.{IsFaultOfLine}
 use Rattle.card_trace.proofs.ScriptFaultLemmas.{of_script, next_number, cut_behind, faults_more, of_line_more}
 
 pub added : {A : Type 0} (self : Player A) (before after : List Application) (addition : Addition)

@@ -15,7 +15,8 @@ use Rattle.card_trace.specs.declared.script.refusal.Refusal.{Refusal}
 use Rattle.card_trace.specs.declared.script.refusal.Refusal.TheVariants.{Line, OutOfMemory as NoMemory}
 use Rattle.card_trace.specs.ScriptReasons.{fault_at, OnReason}
 use Rattle.card_trace.specs.ScriptReading.{IsReadingFault}
-use Rattle.card_trace.specs.ScriptFaults.{IsRefusedAt, IsLeftAfter, Stops, LinesStop, IsNotBegun, IsFaultOfLine, IsWritingFault}
+use Rattle.card_trace.specs.ScriptFaults.{IsRefusedAt, IsLeftAfter, Stops, IsNotBegun}
+use Rattle.card_trace.specs.LineFaults.{LinesStop, IsFaultOfLine, IsWritingFault}
 
 -- of bytes that are the script's
 pub of_script : (script : Option (List ℕ)) (items : List ℕ) (P : List ℕ → Type 0)

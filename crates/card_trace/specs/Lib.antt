@@ -7,6 +7,7 @@ pub mod ForestText
 pub mod FixedText
 pub mod ScriptReading
 pub mod ScriptFaults
+pub mod LineFaults
 pub mod Scripts
 pub mod CommandLine
 pub mod ScriptReasons

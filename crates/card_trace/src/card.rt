@@ -9,7 +9,8 @@ ghost use Rattle.card_trace.specs.ScriptWords.{words_of};
 ghost use Rattle.card_trace.specs.ScriptCard.{card_meaning, is_card_table_line, IsCardLine};
 ghost use Rattle.card_trace.specs.CardScripts.{Past, Building, Running, IsEnough, HandsOut, Takes, RunsLine, DoesOrPasses, DoesAll, IsFirstRunLine, RefusesCardLine, CardWrites, CardStops, IsReady, end_at, LeadOn, Writes};
 ghost use Rattle.card_trace.specs.ScriptReasons.{OnReason};
-ghost use Rattle.card_trace.specs.ScriptFaults.{IsNotBegun, SaysNothing, LinesStop, IsWritingFault, IsFaultOfLine};
+ghost use Rattle.card_trace.specs.ScriptFaults.{IsNotBegun, SaysNothing};
+ghost use Rattle.card_trace.specs.LineFaults.{LinesStop, IsWritingFault, IsFaultOfLine};
 
 use crate::fixed_line::FixedLine;
 use crate::lines::{write_fixed, write_handed_out, write_table};

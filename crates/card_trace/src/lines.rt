@@ -4,7 +4,7 @@ ghost use Rattle.std.specs.Io.KnownBytes.{Appends};
 ghost use Rattle.card_trace.specs.TraceText.{operation_text as text_of_operation, handed_out_text as text_handed_out};
 ghost use Rattle.card_trace.specs.TableText.{table_text as text_of_table};
 ghost use Rattle.card_trace.specs.FixedText.{fixed_text};
-ghost use Rattle.card_trace.specs.ScriptFaults.{IsWritingFault};
+ghost use Rattle.card_trace.specs.LineFaults.{IsWritingFault};
 
 use crate::fixed_line::FixedLine;
 use crate::play_fault::PlayFault;

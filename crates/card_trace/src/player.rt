@@ -10,7 +10,7 @@ ghost use Rattle.card_trace.specs.Scripts as script;
 ghost use Rattle.card_trace.specs.Scripts.{section_of, card_in, plans_in, IsRun, IsSent, IsRefused, Plays, PlaysLine, RefusesPlayLine};
 ghost use Rattle.card_trace.specs.Playing.{state_of, running_of, RefusesSaid};
 ghost use Rattle.card_trace.specs.ScriptFields.{AreOfAgreedCommand};
-ghost use Rattle.card_trace.specs.ScriptFaults.{IsFaultOfLine, IsWritingFault};
+ghost use Rattle.card_trace.specs.LineFaults.{IsFaultOfLine, IsWritingFault};
 
 use crate::fixed_line::FixedLine;
 use crate::lines::{write_fixed, write_operation, write_table};

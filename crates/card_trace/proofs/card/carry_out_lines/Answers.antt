@@ -3,7 +3,7 @@ use Rattle.std.specs.Str.Lines.{lines}
 use Rattle.t0_core.specs.Plan.{Cursor}
 use Rattle.card_trace.specs.declared.play_fault.PlayFault.TheVariants.{OutOfMemory}
 use Rattle.card_trace.specs.ScriptCard.{card_meaning}
-use Rattle.card_trace.specs.ScriptFaults.{LinesStop}
+use Rattle.card_trace.specs.LineFaults.{LinesStop}
 use Rattle.card_trace.specs.CardScripts.{Building, DoesAll, RefusesCardLine}
 use Rattle.card_trace.proofs.ScriptFaultLemmas.{fault_passed, faults_more}
 use Rattle.card_trace.proofs.CardLemmas.{on_ok, is_made, empty_table, few_at_first, few_behind, first_done, writes_script, script_left, first_left, table_left, only_built, stops_at_once}

@@ -2,7 +2,7 @@ use Rattle.std.proofs.Common.{[], ap, ◌≡◌, ◌∙◌, sym, subst}
 use Rattle.std.proofs.KnownBytes.{Appends-nil}
 use Rattle.card_trace.specs.ScriptPlay.{PlayMeaning, Send, play_meaning}
 use Rattle.card_trace.specs.Playing.{state_of, running_of, RefusesSaid}
-use Rattle.card_trace.specs.ScriptFaults.{IsFaultOfLine}
+use Rattle.card_trace.specs.LineFaults.{IsFaultOfLine}
 use Rattle.card_trace.proofs.ScriptFaultLemmas.{fault_passed, of_writing, of_line_more}
 use Rattle.card_trace.proofs.PlayLemmas.{plays_as, planned}
 use Rattle.card_trace.proofs.player.Player.carry_out.Goals as goal

@@ -14,6 +14,44 @@ use std::test::Fail;
 use t0_core::{End, HostTurn};
 use tlv_core::{ObjectTag, Tag};
 
+/// The exchange takes one step with a card that has these characters left, which is heard. The answer
+/// is whether there was one to take.
+fn steps(
+    exchange: &mut Exchange<'_>,
+    from_card: &mut std::slice::Iter<'_, u8>,
+    heard: &mut Vec<(End, u8)>,
+) -> Result<bool, Fail> {
+    match exchange.next() {
+        HostTurn::Sends(byte) => {
+            heard.push((End::Terminal, byte))?;
+            Ok(true)
+        }
+        HostTurn::Listens => {
+            let byte = from_card.next().ok_or("the card is silent")?;
+            exchange.take(*byte)?;
+            heard.push((End::Card, *byte))?;
+            Ok(true)
+        }
+        HostTurn::Done(_) | HostTurn::Failed => Ok(false),
+    }
+}
+
+/// What is heard of an exchange with a card with these characters, and its answer.
+fn gone_through(
+    alloc: Global,
+    mut exchange: Exchange<'_>,
+    from_card: &[u8],
+) -> Result<(Vec<(End, u8)>, Answer), Fail> {
+    let mut from_card = from_card.iter();
+    let mut heard = Vec::new(alloc);
+    for _ in 0..200 {
+        if !steps(&mut exchange, &mut from_card, &mut heard)? {
+            break;
+        }
+    }
+    Ok((heard, exchange.into_answer().ok_or("no answer")?))
+}
+
 /// A command that meets a card with these characters: what is heard, and the answer.
 fn exchanged(
     alloc: Global,
@@ -21,23 +59,9 @@ fn exchanged(
     from_card: &str,
 ) -> Result<(Vec<(End, u8)>, Answer), Fail> {
     let command = bytes(alloc, command)?;
-    let command = Command::read(command.as_slice())?;
     let from_card = bytes(alloc, from_card)?;
-    let mut from_card = from_card.iter();
-    let mut heard = Vec::new(alloc);
-    let mut exchange = Exchange::start(alloc, command)?;
-    for _ in 0..200 {
-        match exchange.next() {
-            HostTurn::Sends(byte) => heard.push((End::Terminal, byte))?,
-            HostTurn::Listens => {
-                let byte = from_card.next().ok_or("the card is silent")?;
-                exchange.take(*byte)?;
-                heard.push((End::Card, *byte))?;
-            }
-            HostTurn::Done(_) | HostTurn::Failed => break,
-        }
-    }
-    Ok((heard, exchange.into_answer().ok_or("no answer")?))
+    let exchange = Exchange::start(alloc, Command::read(command.as_slice())?)?;
+    gone_through(alloc, exchange, from_card.as_slice())
 }
 
 #[test]

@@ -4,18 +4,28 @@ use crate::objects::print_objects;
 use crate::objects_fault::ObjectsFault;
 use crate::test_io::{Failing, bytes, lines};
 use linked_list_allocator::LocalHeap;
-use std::alloc::Global;
+use std::alloc::{Allocator, Global};
+use std::io::Write;
 use std::process::Abort;
 use std::test::Fail;
 
 /// An FCI: a template with one object in it.
 const FCI: &str = "6F098407A0000000031010";
 
+/// Prints objects. Without a clause, which these tests have no use for.
+fn printed<A: Allocator + Copy, W: Write>(
+    alloc: A,
+    bytes: &[u8],
+    writer: &mut W,
+) -> Result<(), ObjectsFault> {
+    print_objects(alloc, bytes, writer)
+}
+
 /// The bytes are printed as these lines, or refused with this fault and nothing is written.
 fn prints(rt: &impl Abort, alloc: Global, digits: &str, wanted: &str) -> Result<(), Fail> {
     let bytes = bytes(alloc, digits)?;
     let mut text = Vec::new(alloc);
-    match print_objects(alloc, bytes.as_slice(), &mut text) {
+    match printed(alloc, bytes.as_slice(), &mut text) {
         Ok(()) => assert_eq!(rt; text, lines(alloc, wanted)?, "{digits}"),
         Err(fault) => {
             assert_eq!(rt; format!(in alloc; "{fault}")?.as_str(), wanted, "{digits}");
@@ -144,10 +154,10 @@ fn failing_writes_of_objects(rt: HostRuntime) -> Result<(), Fail> {
     let bytes = bytes(rt.alloc(), FCI)?;
     let size = "6F/  84 A0000000031010/".len();
     for after in 0..size {
-        let outcome = print_objects(rt.alloc(), bytes.as_slice(), &mut Failing { after });
+        let outcome = printed(rt.alloc(), bytes.as_slice(), &mut Failing { after });
         assert_eq!(rt; outcome, Err(ObjectsFault::Write));
     }
-    let outcome = print_objects(rt.alloc(), bytes.as_slice(), &mut Failing { after: size });
+    let outcome = printed(rt.alloc(), bytes.as_slice(), &mut Failing { after: size });
     assert_eq!(rt; outcome, Ok(()));
     Ok(())
 }
@@ -160,7 +170,7 @@ fn refused_growths_of_objects(rt: HostRuntime) -> Result<(), Fail> {
     for size in (0..=1024).step_by(16) {
         let heap = LocalHeap::new(rt.alloc(), size)?;
         let mut text = Vec::new(rt.alloc());
-        match print_objects(&heap, bytes.as_slice(), &mut text) {
+        match printed(&heap, bytes.as_slice(), &mut text) {
             Ok(()) => {
                 assert_eq!(rt; text, lines(rt.alloc(), "6F/  84 A0000000031010/")?);
                 assert!(rt; refused > 2, "{refused} sizes were refused");

@@ -1,10 +1,9 @@
 //! How scripts of `play` end in faults, and what is printed before.
 
-use crate::play::play_lines;
 use crate::play_fault::PlayFault;
 use crate::script::reading::SCRIPT_LIMIT;
 use crate::test_io::{Endless, Failing, lines};
-use crate::test_script::{CARD, Case, GOT, SELECT, SELECTED, plays};
+use crate::test_script::{CARD, Case, GOT, SELECT, SELECTED, played, plays};
 use std::alloc::Global;
 use std::io;
 use std::io::Read;
@@ -245,50 +244,57 @@ fn truncated_scripts(rt: HostRuntime) -> Result<(), Fail> {
     Ok(())
 }
 
-/// Eight applications, one more, and one of them again.
-#[test]
-fn too_many_applications(rt: HostRuntime) -> Result<(), Fail> {
-    let alloc = rt.alloc();
+/// Table lines and one more end with this fault, if with one.
+fn ends(rt: &impl Abort, alloc: Global, table: &str, last: &str, fault: &str) -> Result<(), Fail> {
+    let script = format!(in alloc; "{table}{last}")?;
+    let case = Case {
+        script: script.as_str(),
+        prints: "",
+        fault,
+    };
+    plays(rt, alloc, &case)
+}
+
+fn eight_applications(alloc: Global) -> Result<String, Fail> {
     let mut eight = String::new(alloc);
     for number in 1..=8_u8 {
         eight.push_str(format!(in alloc; "app A00000000{number}/")?.as_str())?;
     }
+    Ok(eight)
+}
+
+/// Eight applications, one more, and one of them again.
+#[test]
+fn too_many_applications(rt: HostRuntime) -> Result<(), Fail> {
+    let eight = eight_applications(rt.alloc())?;
     for (ninth, fault) in [
         ("app A000000009/", "line 9: too many apps"),
         ("app A000000001/", "line 9: aid twice"),
     ] {
-        let script = format!(in alloc; "{eight}{ninth}")?;
-        let case = Case {
-            script: script.as_str(),
-            prints: "",
-            fault,
-        };
-        plays(&rt, alloc, &case)?;
+        ends(&rt, rt.alloc(), eight.as_str(), ninth, fault)?;
     }
     Ok(())
+}
+
+fn sixty_four_entries(alloc: Global) -> Result<String, Fail> {
+    let mut full = String::from_str(alloc, "app A000000003/")?;
+    for number in 1..=64_u8 {
+        full.push_str(format!(in alloc; "object DF{number:02X} 01/")?.as_str())?;
+    }
+    Ok(full)
 }
 
 /// Sixty-four entries, and one more; but one of them again is taken.
 #[test]
 fn too_many_entries(rt: HostRuntime) -> Result<(), Fail> {
-    let alloc = rt.alloc();
-    let mut full = String::from_str(alloc, "app A000000003/")?;
-    for number in 1..=64_u8 {
-        full.push_str(format!(in alloc; "object DF{number:02X} 01/")?.as_str())?;
-    }
+    let full = sixty_four_entries(rt.alloc())?;
     for (last, fault) in [
         ("object DF41 01/", "line 66: table full"),
         ("locked DF41 01/", "line 66: table full"),
         ("object 70 500541/", "line 66: not objects"),
         ("object DF40 02/", ""),
     ] {
-        let script = format!(in alloc; "{full}{last}")?;
-        let case = Case {
-            script: script.as_str(),
-            prints: "",
-            fault,
-        };
-        plays(&rt, alloc, &case)?;
+        ends(&rt, rt.alloc(), full.as_str(), last, fault)?;
     }
     Ok(())
 }
@@ -324,7 +330,7 @@ fn failing_readers(rt: HostRuntime) -> Result<(), Fail> {
             left: script.as_slice().get(..size).ok_or("a size")?,
         };
         let mut printed = Vec::new(rt.alloc());
-        let outcome = play_lines(rt.alloc(), &mut reader, &mut printed);
+        let outcome = played(rt.alloc(), &mut reader, &mut printed);
         assert_eq!(rt; outcome, Err(PlayFault::Read));
         assert!(rt; printed.is_empty());
     }
@@ -336,11 +342,11 @@ fn failing_readers(rt: HostRuntime) -> Result<(), Fail> {
 fn failing_writers(rt: HostRuntime) -> Result<(), Fail> {
     let (script, text) = read_script_and_text(rt.alloc())?;
     for after in 0..text.len() {
-        let outcome = play_lines(rt.alloc(), &mut script.as_slice(), &mut Failing { after });
+        let outcome = played(rt.alloc(), &mut script.as_slice(), &mut Failing { after });
         assert_eq!(rt; outcome, Err(PlayFault::Write));
     }
     let mut writer = Failing { after: text.len() };
-    let outcome = play_lines(rt.alloc(), &mut script.as_slice(), &mut writer);
+    let outcome = played(rt.alloc(), &mut script.as_slice(), &mut writer);
     assert_eq!(rt; outcome, Ok(()));
     assert_eq!(rt; writer.after, 0);
     Ok(())
@@ -355,7 +361,7 @@ fn the_longest_script(rt: HostRuntime) -> Result<(), Fail> {
     ] {
         let script = vec![in rt.alloc(); b'#'; size]?;
         let mut printed = Vec::new(rt.alloc());
-        let outcome = play_lines(rt.alloc(), &mut script.as_slice(), &mut printed);
+        let outcome = played(rt.alloc(), &mut script.as_slice(), &mut printed);
         assert_eq!(rt; outcome, wanted);
         assert!(rt; printed.is_empty());
     }
@@ -369,7 +375,7 @@ fn an_endless_script(rt: HostRuntime) -> Result<(), Fail> {
         before_error: usize::MAX,
     };
     let mut printed = Vec::new(rt.alloc());
-    let outcome = play_lines(rt.alloc(), &mut reader, &mut printed);
+    let outcome = played(rt.alloc(), &mut reader, &mut printed);
     assert_eq!(rt; outcome, Err(PlayFault::InputTooLong));
     assert!(rt; printed.is_empty());
     Ok(())

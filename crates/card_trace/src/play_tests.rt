@@ -429,25 +429,30 @@ fn entries(alloc: Global, before: &str, behind: &str) -> Result<String, Fail> {
     Ok(entries)
 }
 
-/// An application with sixty-four entries takes no further one, but new values for its own.
-#[test]
-fn a_full_application(rt: HostRuntime) -> Result<(), Fail> {
-    let alloc = rt.alloc();
-    let table = entries(alloc, "object ", " 01")?;
-    let script = format!(in alloc;
-        "app A0000000031010/{table}{SELECT}put DF41 01/put DF01 02/put DF40 02/get DF01/table/"
-    )?;
-    let printed = entries(alloc, "  ", " 01")?;
-    let middle = printed
+/// The table of an application with sixty-four entries, once the first and the last have new values.
+fn table_of_new_values(alloc: Global) -> Result<String, Fail> {
+    let entries = entries(alloc, "  ", " 01")?;
+    let middle = entries
         .as_str()
         .strip_prefix("  DF01 01/")
         .and_then(|text| text.strip_suffix("  DF40 01/"))
         .ok_or("the first entry and the last")?;
+    Ok(format!(in alloc; "app A0000000031010/  DF01 02/{middle}  DF40 02/")?)
+}
+
+/// An application with sixty-four entries takes no further one, but new values for its own.
+#[test]
+fn a_full_application(rt: HostRuntime) -> Result<(), Fail> {
+    let alloc = rt.alloc();
+    let entries = entries(alloc, "object ", " 01")?;
+    let table = table_of_new_values(alloc)?;
+    let script = format!(in alloc;
+        "app A0000000031010/{entries}{SELECT}put DF41 01/put DF01 02/put DF40 02/get DF01/table/"
+    )?;
     let prints = format!(in alloc;
         "{SELECTED}> 00DADF4101/< DA/> 01/< 6A84/= 6A84/> 00DADF0101/< DA/> 02/< 9000/= 9000/\
          > 00DADF4001/< DA/> 02/< 9000/= 9000/\
-         > 00CADF0100/< 6C04/> 00CADF0104/< CADF0101029000/= 9000 DF010102/\
-         app A0000000031010/  DF01 02/{middle}  DF40 02/"
+         > 00CADF0100/< 6C04/> 00CADF0104/< CADF0101029000/= 9000 DF010102/{table}"
     )?;
     let case = Case {
         script: script.as_str(),

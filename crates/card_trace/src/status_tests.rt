@@ -20,41 +20,47 @@ fn words(alloc: Global, line: &str) -> Result<Vec<String>, Fail> {
 }
 
 /// What the program does on the words: its status, and what it writes.
+#[derive(Drop)]
 struct Outcome {
     status: u8,
     output: Vec<u8>,
     faults: Vec<u8>,
 }
 
-fn ran(alloc: Global, line: &str) -> Result<Outcome, Fail> {
+/// What the program does on these words, where its input is empty and both its outputs take all.
+fn ran_on(alloc: Global, words: &[String]) -> Outcome {
     let mut output = Vec::new(alloc);
     let mut faults = Vec::new(alloc);
-    let words = words(alloc, line)?;
-    let status = main_status(
-        alloc,
-        words.as_slice(),
-        &mut Nothing,
-        &mut output,
-        &mut faults,
-    );
-    Ok(Outcome {
+    let status = main_status(alloc, words, &mut Nothing, &mut output, &mut faults);
+    Outcome {
         status,
         output,
         faults,
-    })
+    }
+}
+
+fn ran(alloc: Global, line: &str) -> Result<Outcome, Fail> {
+    let words = words(alloc, line)?;
+    Ok(ran_on(alloc, words.as_slice()))
+}
+
+/// The outcome has this status, output and faults.
+fn is_outcome(
+    rt: &impl Abort,
+    alloc: Global,
+    line: &str,
+    outcome: &Outcome,
+    wanted: (u8, &str, &str),
+) -> Result<(), Fail> {
+    assert_eq!(rt; outcome.status, wanted.0, "{line}");
+    assert_eq!(rt; outcome.output, lines(alloc, wanted.1)?, "{line}");
+    assert_eq!(rt; outcome.faults, lines(alloc, wanted.2)?, "{line}");
+    Ok(())
 }
 
 /// The words give this status, output and faults.
 fn gives(rt: &impl Abort, alloc: Global, line: &str, wanted: (u8, &str, &str)) -> Result<(), Fail> {
-    let Outcome {
-        status,
-        output,
-        faults,
-    } = ran(alloc, line)?;
-    assert_eq!(rt; status, wanted.0, "{line}");
-    assert_eq!(rt; output, lines(alloc, wanted.1)?, "{line}");
-    assert_eq!(rt; faults, lines(alloc, wanted.2)?, "{line}");
-    Ok(())
+    is_outcome(rt, alloc, line, &ran(alloc, line)?, wanted)
 }
 
 #[test]
@@ -88,22 +94,20 @@ fn objects_on_the_command_line(rt: HostRuntime) -> Result<(), Fail> {
 fn no_digits(rt: HostRuntime) -> Result<(), Fail> {
     let mut words = words(rt.alloc(), "objects")?;
     words.push(String::new(rt.alloc()))?;
-    let mut output = Vec::new(rt.alloc());
-    let mut faults = Vec::new(rt.alloc());
-    let status = main_status(
-        rt.alloc(),
-        words.as_slice(),
-        &mut Nothing,
-        &mut output,
-        &mut faults,
-    );
-    assert_eq!(rt; status, 1);
-    assert!(rt; output.is_empty());
-    assert_eq!(rt; faults, lines(rt.alloc(), "bad hex/")?);
-    Ok(())
+    let outcome = ran_on(rt.alloc(), words.as_slice());
+    is_outcome(&rt, rt.alloc(), "objects ''", &outcome, (1, "", "bad hex/"))
 }
 
-/// Words that are refused: nothing is written but the parser's text.
+/// The words were refused: nothing was written but the parser's text, which begins so.
+fn was_refused(rt: &impl Abort, line: &str, outcome: &Outcome, begin: &str) {
+    assert_eq!(rt; outcome.status, 2, "{line}");
+    assert!(rt; outcome.output.is_empty(), "{line}");
+    assert!(rt;
+        outcome.faults.as_slice().starts_with(begin.as_bytes()),
+        "{line}"
+    );
+}
+
 #[test]
 fn refused_words(rt: HostRuntime) -> Result<(), Fail> {
     for (line, begin) in [
@@ -122,19 +126,21 @@ fn refused_words(rt: HostRuntime) -> Result<(), Fail> {
         ("card -v", "error: unexpected argument '-v' found"),
         ("--version", "error: unexpected argument '--version' found"),
     ] {
-        let Outcome {
-            status,
-            output,
-            faults,
-        } = ran(rt.alloc(), line)?;
-        assert_eq!(rt; status, 2, "{line}");
-        assert!(rt; output.is_empty(), "{line}");
-        assert!(rt; faults.as_slice().starts_with(begin.as_bytes()), "{line}");
+        was_refused(&rt, line, &ran(rt.alloc(), line)?, begin);
     }
     Ok(())
 }
 
-/// Help goes to the output: what the program does, what a script looks like, and an example.
+/// Help went to the output, with this in it.
+fn was_helped(rt: &impl Abort, line: &str, outcome: &Outcome, part: &str) -> Result<(), Fail> {
+    assert_eq!(rt; outcome.status, 0, "{line}");
+    assert!(rt; outcome.faults.is_empty(), "{line}");
+    let text = str::from_utf8(outcome.output.as_slice())?;
+    assert!(rt; text.contains(part), "{line}");
+    Ok(())
+}
+
+/// What the program does, what a script looks like, and an example.
 #[test]
 fn help_is_printed(rt: HostRuntime) -> Result<(), Fail> {
     for (line, part) in [
@@ -149,47 +155,53 @@ fn help_is_printed(rt: HostRuntime) -> Result<(), Fail> {
             "card_trace objects 6F098407A0000000031010",
         ),
     ] {
-        let Outcome {
-            status,
-            output,
-            faults,
-        } = ran(rt.alloc(), line)?;
-        assert_eq!(rt; status, 0, "{line}");
-        assert!(rt; faults.is_empty(), "{line}");
-        let text = str::from_utf8(output.as_slice())?;
-        assert!(rt; text.contains(part), "{line}");
+        was_helped(&rt, line, &ran(rt.alloc(), line)?, part)?;
     }
     Ok(())
+}
+
+/// The status where no fault can be told.
+fn status_untold(alloc: Global, line: &str) -> Result<u8, Fail> {
+    let words = words(alloc, line)?;
+    let mut output = Vec::new(alloc);
+    let mut faults = Failing { after: 2 };
+    Ok(main_status(
+        alloc,
+        words.as_slice(),
+        &mut Nothing,
+        &mut output,
+        &mut faults,
+    ))
+}
+
+/// What the program does where its output fails.
+fn ran_unwritten(alloc: Global, line: &str) -> Result<Outcome, Fail> {
+    let words = words(alloc, line)?;
+    let mut output = Failing { after: 2 };
+    let mut faults = Vec::new(alloc);
+    let status = main_status(
+        alloc,
+        words.as_slice(),
+        &mut Nothing,
+        &mut output,
+        &mut faults,
+    );
+    Ok(Outcome {
+        status,
+        output: Vec::new(alloc),
+        faults,
+    })
 }
 
 /// That the faults can't be told changes no status; that the output can't be written is a fault.
 #[test]
 fn failing_outputs(rt: HostRuntime) -> Result<(), Fail> {
     for (line, status) in [("objects 50", 1), ("objects 5", 1), ("walk", 2), ("", 2)] {
-        let words = words(rt.alloc(), line)?;
-        let mut output = Vec::new(rt.alloc());
-        let mut faults = Failing { after: 2 };
-        let answered = main_status(
-            rt.alloc(),
-            words.as_slice(),
-            &mut Nothing,
-            &mut output,
-            &mut faults,
-        );
-        assert_eq!(rt; answered, status, "{line}");
+        assert_eq!(rt; status_untold(rt.alloc(), line)?, status, "{line}");
     }
     for line in ["objects 5000", "--help", "play --help"] {
-        let words = words(rt.alloc(), line)?;
-        let mut faults = Vec::new(rt.alloc());
-        let answered = main_status(
-            rt.alloc(),
-            words.as_slice(),
-            &mut Nothing,
-            &mut Failing { after: 2 },
-            &mut faults,
-        );
-        assert_eq!(rt; answered, 1, "{line}");
-        assert_eq!(rt; faults, lines(rt.alloc(), "write fault/")?, "{line}");
+        let outcome = ran_unwritten(rt.alloc(), line)?;
+        is_outcome(&rt, rt.alloc(), line, &outcome, (1, "", "write fault/"))?;
     }
     Ok(())
 }

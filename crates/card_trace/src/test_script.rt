@@ -4,7 +4,8 @@ use crate::card::card_lines;
 use crate::play::play_lines;
 use crate::play_fault::PlayFault;
 use crate::test_io::lines;
-use std::alloc::Global;
+use std::alloc::{Allocator, Global};
+use std::io::{Read, Write};
 use std::process::Abort;
 use std::test::Fail;
 
@@ -29,11 +30,30 @@ pub struct Case<'a> {
     pub fault: &'a str,
 }
 
+/// Carries out a script of `play`. Without a clause: what is proved of scripts is nothing that a test
+/// has to know, and costs each proof that has it at hand.
+pub fn played<A: Allocator + Copy, R: Read, W: Write>(
+    alloc: A,
+    reader: &mut R,
+    writer: &mut W,
+) -> Result<(), PlayFault> {
+    play_lines(alloc, reader, writer)
+}
+
+/// Carries out a script of `card`, likewise.
+pub fn served<A: Allocator + Copy, R: Read, W: Write>(
+    alloc: A,
+    reader: &mut R,
+    writer: &mut W,
+) -> Result<(), PlayFault> {
+    card_lines(alloc, reader, writer)
+}
+
 /// The script of `play` prints this, all of it, and ends so.
 pub fn plays(rt: &impl Abort, alloc: Global, case: &Case<'_>) -> Result<(), Fail> {
     let script = lines(alloc, case.script)?;
     let mut printed = Vec::new(alloc);
-    let outcome = play_lines(alloc, &mut script.as_slice(), &mut printed);
+    let outcome = played(alloc, &mut script.as_slice(), &mut printed);
     comes_to(rt, alloc, case, outcome, printed.as_slice())
 }
 
@@ -41,7 +61,7 @@ pub fn plays(rt: &impl Abort, alloc: Global, case: &Case<'_>) -> Result<(), Fail
 pub fn serves(rt: &impl Abort, alloc: Global, case: &Case<'_>) -> Result<(), Fail> {
     let script = lines(alloc, case.script)?;
     let mut printed = Vec::new(alloc);
-    let outcome = card_lines(alloc, &mut script.as_slice(), &mut printed);
+    let outcome = served(alloc, &mut script.as_slice(), &mut printed);
     comes_to(rt, alloc, case, outcome, printed.as_slice())
 }
 

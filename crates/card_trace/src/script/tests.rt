@@ -13,39 +13,42 @@ use std::alloc::Global;
 use std::process::Abort;
 use std::test::Fail;
 
-/// What a line of `play` is refused for, as text; nothing where it is not.
-fn play_reason(alloc: Global, line: &str, section: Section) -> Result<String, Fail> {
-    match read_play_line(alloc, line.as_bytes(), section) {
-        Ok(_) => Ok(String::new(alloc)),
-        Err(Refusal::Line(reason)) => Ok(reason.to_string(alloc)?),
-        Err(Refusal::OutOfMemory) => Err("out of memory".into()),
+/// Whose lines are read.
+#[derive(Clone, Copy)]
+enum Program {
+    Play,
+    Card,
+}
+
+/// What a line is refused for, as text; nothing where it is not.
+fn reason_of(
+    alloc: Global,
+    program: Program,
+    line: &str,
+    section: Section,
+) -> Result<String, Fail> {
+    let refusal = match program {
+        Program::Play => read_play_line(alloc, line.as_bytes(), section).err(),
+        Program::Card => read_card_line(alloc, line.as_bytes(), section).err(),
+    };
+    match refusal {
+        None => Ok(String::new(alloc)),
+        Some(Refusal::Line(reason)) => Ok(reason.to_string(alloc)?),
+        Some(Refusal::OutOfMemory) => Err("out of memory".into()),
     }
 }
 
-/// What a line of `card` is refused for, as text; nothing where it is not.
-fn card_reason(alloc: Global, line: &str, section: Section) -> Result<String, Fail> {
-    match read_card_line(alloc, line.as_bytes(), section) {
-        Ok(_) => Ok(String::new(alloc)),
-        Err(Refusal::Line(reason)) => Ok(reason.to_string(alloc)?),
-        Err(Refusal::OutOfMemory) => Err("out of memory".into()),
-    }
-}
-
-/// Each row is a line of `play` and its reason.
-fn check_play(rt: &impl Abort, alloc: Global, rows: &str, section: Section) -> Result<(), Fail> {
+/// Each row is a line and its reason.
+fn check(
+    rt: &impl Abort,
+    alloc: Global,
+    program: Program,
+    rows: &str,
+    section: Section,
+) -> Result<(), Fail> {
     for row in rows.lines() {
         let (line, wanted) = row.split_once(" => ").ok_or("a row")?;
-        let reason = play_reason(alloc, line, section)?;
-        assert_eq!(rt; reason.as_str(), wanted, "{line}");
-    }
-    Ok(())
-}
-
-/// Each row is a line of `card` and its reason.
-fn check_card(rt: &impl Abort, alloc: Global, rows: &str, section: Section) -> Result<(), Fail> {
-    for row in rows.lines() {
-        let (line, wanted) = row.split_once(" => ").ok_or("a row")?;
-        let reason = card_reason(alloc, line, section)?;
+        let reason = reason_of(alloc, program, line, section)?;
         assert_eq!(rt; reason.as_str(), wanted, "{line}");
     }
     Ok(())
@@ -108,7 +111,7 @@ send 006000000141 => invalid INS";
 
 #[test]
 fn fields_in_their_order(rt: HostRuntime) -> Result<(), Fail> {
-    check_play(&rt, rt.alloc(), FIELD_ROWS, Section::Table)
+    check(&rt, rt.alloc(), Program::Play, FIELD_ROWS, Section::Table)
 }
 
 const WORD_ROWS: &str = "walk => unknown word
@@ -141,7 +144,7 @@ table all => wrong number of words";
 
 #[test]
 fn words_in_their_order(rt: HostRuntime) -> Result<(), Fail> {
-    check_play(&rt, rt.alloc(), WORD_ROWS, Section::Table)
+    check(&rt, rt.alloc(), Program::Play, WORD_ROWS, Section::Table)
 }
 
 const LATE_ROWS: &str = "app A000000003 => table line after the first run line
@@ -154,7 +157,7 @@ get => wrong number of words";
 
 #[test]
 fn table_lines_come_first(rt: HostRuntime) -> Result<(), Fail> {
-    check_play(&rt, rt.alloc(), LATE_ROWS, Section::Run)
+    check(&rt, rt.alloc(), Program::Play, LATE_ROWS, Section::Run)
 }
 
 const CARD_ROWS: &str = "get 50 => unknown word
@@ -182,7 +185,7 @@ object 3E 41 => bad tag";
 
 #[test]
 fn lines_of_a_card_alone(rt: HostRuntime) -> Result<(), Fail> {
-    check_card(&rt, rt.alloc(), CARD_ROWS, Section::Table)
+    check(&rt, rt.alloc(), Program::Card, CARD_ROWS, Section::Table)
 }
 
 const LATE_CARD_ROWS: &str = "plan n 256 => table line after the first run line
@@ -193,7 +196,7 @@ locked 50 41 => table line after the first run line";
 
 #[test]
 fn plans_of_a_card_come_first(rt: HostRuntime) -> Result<(), Fail> {
-    check_card(&rt, rt.alloc(), LATE_CARD_ROWS, Section::Run)
+    check(&rt, rt.alloc(), Program::Card, LATE_CARD_ROWS, Section::Run)
 }
 
 const TAKEN: &str = "app A000000003
@@ -228,7 +231,7 @@ table
 #[test]
 fn lines_that_are_taken(rt: HostRuntime) -> Result<(), Fail> {
     for line in TAKEN.lines() {
-        let reason = play_reason(rt.alloc(), line, Section::Table)?;
+        let reason = reason_of(rt.alloc(), Program::Play, line, Section::Table)?;
         assert_eq!(rt; reason.as_str(), "", "{line}");
     }
     Ok(())
@@ -250,10 +253,15 @@ fn put_value(alloc: Global, line: &[u8]) -> Result<(usize, u8), Fail> {
 
 #[test]
 fn values_are_read(rt: HostRuntime) -> Result<(), Fail> {
-    assert_eq!(rt; put_value(rt.alloc(), b"put 50 -")?, (0, 0));
-    assert_eq!(rt; put_value(rt.alloc(), b"put 50 4141")?, (2, 0x41));
-    assert_eq!(rt; put_value(rt.alloc(), b"put 50 aB*3")?, (3, 0xAB));
-    assert_eq!(rt; put_value(rt.alloc(), b"put 50 41*16320")?, (16_320, 0x41));
+    for (line, wanted) in [
+        ("put 50 -", (0, 0)),
+        ("put 50 4141", (2, 0x41)),
+        ("put 50 aB*3", (3, 0xAB)),
+        ("put 50 41*16320", (16_320, 0x41)),
+    ] {
+        let value = put_value(rt.alloc(), line.as_bytes())?;
+        assert!(rt; value == wanted, "{line}");
+    }
     Ok(())
 }
 

@@ -212,6 +212,20 @@ fn locked_entries_in_the_table(rt: HostRuntime) -> Result<(), Fail> {
     on_the_card(&rt, rt.alloc(), &row)
 }
 
+/// Where the writer takes only so many bytes, the script ends in its fault.
+fn is_cut_off(rt: &impl Abort, alloc: Global, mut script: &[u8], after: usize) {
+    let outcome = served(alloc, &mut script, &mut Failing { after });
+    assert_eq!(rt; outcome, Err(PlayFault::Write));
+}
+
+/// The script ends well, once the writer has taken so many bytes.
+fn is_written(rt: &impl Abort, alloc: Global, mut script: &[u8], size: usize) {
+    let mut writer = Failing { after: size };
+    let outcome = served(alloc, &mut script, &mut writer);
+    assert_eq!(rt; outcome, Ok(()));
+    assert_eq!(rt; writer.after, 0);
+}
+
 /// Each write fails in turn; where none does all is written.
 #[test]
 fn failing_writers(rt: HostRuntime) -> Result<(), Fail> {
@@ -219,12 +233,8 @@ fn failing_writers(rt: HostRuntime) -> Result<(), Fail> {
     let script = lines(rt.alloc(), script.as_str())?;
     let size = SELECTED.len() + "reset/app A0000000031010/  5F20 4A4F45/".len();
     for after in 0..size {
-        let outcome = served(rt.alloc(), &mut script.as_slice(), &mut Failing { after });
-        assert_eq!(rt; outcome, Err(PlayFault::Write));
+        is_cut_off(&rt, rt.alloc(), script.as_slice(), after);
     }
-    let mut writer = Failing { after: size };
-    let outcome = served(rt.alloc(), &mut script.as_slice(), &mut writer);
-    assert_eq!(rt; outcome, Ok(()));
-    assert_eq!(rt; writer.after, 0);
+    is_written(&rt, rt.alloc(), script.as_slice(), size);
     Ok(())
 }

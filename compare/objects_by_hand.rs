@@ -1,7 +1,8 @@
 //! Objects checked and walked by code written by hand in Rust, over the same bytes and timed in the
 //! same way as `crates/tlv_speed` times the proved reader.
 //!
-//!     rustc -O -C target-cpu=x86-64-v2 compare/objects_by_hand.rs -o /tmp/by_hand && /tmp/by_hand
+//!     mkdir -p out && rustc --edition 2021 -O -C target-cpu=x86-64-v2 compare/objects_by_hand.rs \
+//!         -o out/by_hand && out/by_hand
 
 use std::hint::black_box;
 use std::time::Instant;

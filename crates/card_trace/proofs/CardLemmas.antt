@@ -1,5 +1,5 @@
 -- What lines of a script of `card` come to, one after another.
-use Rattle.std.proofs.Common.{◌≡◌, ◌⊎◌, inl, inr, Result, Ok, Err, drop, length-append, ℕ, zero, suc, ◌+◌, ◌<◌, ◌≤◌, List, [], ◌∷◌, ◌++◌, length, take, min, ◌-◌, ◌^◌, Option, Some, None, IfSome, Bool, true, false, nat_lt, if◌then◌else◌, refl, sym, ap, subst, ◌∙◌, arith, append_assoc, append-nil, true≢false, rules}
+use Rattle.std.proofs.Common.{◌≡◌, ◌≢◌, ◌⊎◌, inl, inr, Result, Ok, Err, drop, length-append, ℕ, zero, suc, ◌+◌, ◌<◌, ◌≤◌, List, [], ◌∷◌, ◌++◌, length, take, min, ◌-◌, ◌^◌, Option, Some, None, IfSome, Bool, true, false, nat_lt, if◌then◌else◌, refl, sym, ap, subst, ◌∙◌, arith, append_assoc, append-nil, true≢false, rules}
 use Rattle.std.proofs.lemmas.Bool.{eqb-true, ltb-true, ltb-false, ne_eqb}
 use Rattle.std.proofs.KnownBytes.{Appends-nil, Appends-trans}
 use Rattle.std.specs.Io.KnownBytes.{Appends}
@@ -454,13 +454,19 @@ pub refused_end : {T E : Type 0} (r : Result T E) (old new : EndOf CardView) →
 refused_end (Ok x) old new e l same = absurd (true≢false (sym e))
 refused_end (Err x) old new e l same = (same, sym l)
 
+some_left : (i : ℕ) (bytes : List ℕ) → i < length bytes → drop i bytes ≢ []
+some_left zero [] within none = omega (arith, within)
+some_left zero (b ∷ bytes) within none = cc none
+some_left (suc i) [] within none = omega (arith, within)
+some_left (suc i) (b ∷ bytes) within none = some_left i bytes (omega (arith, within)) none
+
 pub writes_refused : (start : AtWork) (old new : EndOf CardView) (plans : Cursor) (bytes : List ℕ) (i : ℕ)
     (w before after : Option (List ℕ))
-    → (new ≡ old) × (listens old.stage ≡ false) → before ≡ w
+    → i < length bytes → (new ≡ old) × (listens old.stage ≡ false) → before ≡ w
     → LeadOn start (sent_by Terminal (take i bytes)) (old, plans)
     → Appends before after (fixed_text fixed.NotListening)
     → Writes (λ o text n. Takes o bytes text n) start (new, plans) w after
-writes_refused start old new plans bytes i w before after refused unwritten led appends =
+writes_refused start old new plans bytes i w before after within refused unwritten led appends =
     let P : EndOf CardView → Type 0 = λ e. Writes (λ o text n. Takes o bytes text n) start (e, plans) w after in
     subst P (sym refused.0) (λ past ready.
     let l = led past ready in (
@@ -472,7 +478,7 @@ writes_refused start old new plans bytes i w before after refused unwritten led 
         refused = drop i bytes;
         all = sym (take-append-drop i bytes);
         goes_on = record { taken = l.0; past_is = refl; in_turn = l.1; is_led = l.2.led };
-        prints = inr (refused.1, refl);
+        prints = inr (some_left i bytes within, refused.1, refl);
       },
       subst (λ (x : Option (List ℕ)). Appends x after (fixed_text fixed.NotListening)) unwritten appends,
     ))

@@ -1,5 +1,5 @@
 -- What a player does, line after line.
-use Rattle.std.proofs.Common.{MatchOption, Result, Ok, Err, OnOk, IfErr, IfSome, inl, inr, ◌≡◌, ◌<◌, ◌+◌, ◌-◌, ◌^◌, min, ℕ, List, [], ◌∷◌, ◌++◌, length, Option, Some, None, true, false, refl, sym, ap, subst, ◌∙◌, append-nil, append_assoc, arith, slice_get}
+use Rattle.std.proofs.Common.{true≢false, MatchOption, Result, Ok, Err, OnOk, IfErr, IfSome, inl, inr, ◌≡◌, ◌<◌, ◌+◌, ◌-◌, ◌^◌, min, ℕ, List, [], ◌∷◌, ◌++◌, length, Option, Some, None, true, false, refl, sym, ap, subst, ◌∙◌, append-nil, append_assoc, arith, slice_get}
 use Rattle.std.specs.Str.Lines.{lines}
 use Rattle.std.specs.Io.KnownBytes.{Appends}
 use Rattle.std.proofs.KnownBytes.{Appends-nil, Appends-trans}
@@ -221,7 +221,8 @@ stops_at all left others line old mid new state m number script items InputTooLo
 said_refused : (state : PlayState) (line : List ℕ) (meaning : PlayMeaning) (reason : Reason)
     → IsPlayLine (section_of state) (words_of line) meaning → RefusesSaid state meaning reason
     → RefusesPlayLine state line reason
-said_refused state line (Adds addition) reason is refused = inr (addition, is, refused)
+said_refused (Building tables) line (Adds addition) reason is refused = inr (addition, is, refused)
+said_refused (Running card plans) line (Adds addition) reason is refused = absurd (true≢false is.stands)
 said_refused state line (Send bytes) reason is refused = absurd (refused is.are_fields.2.command)
 said_refused state line (Plan plan) reason is refused = absurd refused
 said_refused state line (Run operation) reason is refused = absurd refused

@@ -1,6 +1,6 @@
 -- What a script of `card` stands for: its lines are carried out in order on the card's end alone, and
 -- print text.
-use Rattle.std.specs.Prelude.{◌≡◌, ◌≤◌, ◌+◌, ◌⊎◌, ℕ, List, [], ◌∷◌, ◌++◌, length, Option, Some, None, IfSome, true, false}
+use Rattle.std.specs.Prelude.{◌≡◌, ◌≢◌, ◌≤◌, ◌+◌, ◌⊎◌, ℕ, List, [], ◌∷◌, ◌++◌, length, Option, Some, None, IfSome, true, false}
 use Rattle.std.specs.Str.Lines.{lines}
 use Rattle.std.specs.Io.KnownBytes.{Appends}
 use Rattle.t0_core.specs.declared.end.End.TheVariants.{Terminal, Card}
@@ -110,15 +110,15 @@ pub record IsReset (old new : RunningEnd) : Type 0 where
   pub standing_is : new.standing ≡ after_reset old.standing
   pub is_led : IsLed new
 
--- The end takes a front of the characters: all, or as many as come before one at which the next
--- character is the card's.
+-- The end takes a front of the characters: all, and then nothing is printed, or as many as come
+-- before one that is refused since the next character is the card's, which is told.
 pub record Takes (old : RunningEnd) (bytes text : List ℕ) (new : RunningEnd) : Type 0 where
   pub taken : List ℕ
   pub refused : List ℕ
   pub all : bytes ≡ taken ++ refused
   pub goes_on : GoesOnBy old (sent_by Terminal taken) new
   pub prints : ((refused ≡ []) × (text ≡ []))
-      ⊎ ((listens new.stage ≡ false) × (text ≡ fixed_text fixed.NotListening))
+      ⊎ ((refused ≢ []) × (listens new.stage ≡ false) × (text ≡ fixed_text fixed.NotListening))
 
 -- no more than are asked for, and fewer only where the end listens then
 abbrev pub IsEnough : Option ℕ → ℕ → Stage → Type 0

@@ -14,7 +14,7 @@ IsWritingFault old new (Script line reason) = ⊥
 IsWritingFault old new Read = ⊥
 IsWritingFault old new InputTooLong = ⊥
 
--- a fault of the line of this number, which writes nothing where it is refused
+-- A fault of the line of this number, which writes nothing where it is refused or wants memory.
 abbrev pub IsFaultOfLine : (Reason → Type 0) → ℕ → Option (List ℕ) → Option (List ℕ) → PlayFault
     → Type 0
 IsFaultOfLine Refuses number old new (Script line reason) =

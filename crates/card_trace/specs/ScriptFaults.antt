@@ -38,8 +38,8 @@ pub record IsLeftAfter {State : Type 0} (Does : List (List ℕ) → List ℕ →
   pub does : Does before text state
 
 -- What stands after a fault: what the lines before a refused one print, and before want of memory
--- what the lines up to some place print. Where the reader fails or never ends, nothing is written,
--- and where the writer fails, it is not known how much is.
+-- what the lines up to some place print. Where the reader fails or gives too much, nothing is
+-- written, and where the writer fails, it is not known how much is.
 abbrev pub Stops : {State : Type 0} → (List (List ℕ) → List ℕ → State → Type 0)
     → (State → List ℕ → Reason → Type 0)
     → Option (List ℕ) → Option (List ℕ) → Option (List ℕ) → PlayFault → Type 0
@@ -54,7 +54,7 @@ Stops Does Refuses script old new InputTooLong =
     (new ≡ old) × IfSome script (λ bytes. SCRIPT_LIMIT < length bytes)
 Stops Does Refuses script old new Write = Unit {0}
 
--- The script was not read, and nothing is written.
+-- The script was not read to its end, and nothing is written.
 abbrev pub IsNotBegun : {T : Type 0} → Result T PlayFault → Option (List ℕ) → Option (List ℕ)
     → Type 0
 IsNotBegun result old new = IsErrAnd result IsReadingFault × (new ≡ old)

@@ -30,12 +30,13 @@ play_meaning (line.Send command) = Send command
 play_meaning line.Reset = Reset
 play_meaning line.Table = Table
 
--- the word of an operation, and its fields: a put has no more bytes than a session puts
+-- the word of an operation
 abbrev pub operation_keyword : Operation → Keyword
 operation_keyword (Select aid) = keyword.Select
 operation_keyword (Get tag) = keyword.Get
 operation_keyword (Put tag value) = keyword.Put
 
+-- its fields: the value of a put has no more bytes than one may have
 abbrev pub AreOperationFields : Operation → List (List ℕ) → Type 0
 AreOperationFields (Select aid) fields = OneField fields (λ text. IsAidText text aid)
 AreOperationFields (Get tag) fields = OneField fields (λ text. IsTagText text tag)

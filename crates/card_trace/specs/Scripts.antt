@@ -138,13 +138,18 @@ PlayWrites script old new = (text : List ℕ) × Appends old new text
     × IfSome script (λ bytes. (end : PlayState)
     × PlaysAll (Building []) (lines bytes) text end)
 
+-- what a table line adds is refused for this reason
+abbrev pub RefusesAddition : PlayState → Addition → Reason → Type 0
+RefusesAddition (Building tables) addition reason = IsNotAdded tables addition (Line reason)
+RefusesAddition (Running card plans) addition reason = ⊥
+
 -- A line is refused: its words say nothing that may stand there, or what it adds is refused for this
 -- reason.
 abbrev pub RefusesPlayLine : PlayState → List ℕ → Reason → Type 0
 RefusesPlayLine state line reason =
     SaysNothing (IsPlayLine (section_of state)) line
     ⊎ ((addition : Addition) × IsPlayLine (section_of state) (words_of line) (Adds addition)
-    × IsRefused state addition (Line reason))
+    × RefusesAddition state addition reason)
 
 -- where `play` stops at a fault
 abbrev pub PlayStops : Option (List ℕ) → Option (List ℕ) → Option (List ℕ) → PlayFault → Type 0

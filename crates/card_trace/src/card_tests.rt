@@ -52,7 +52,7 @@ fn a_reset_drops_part_of_a_header(rt: HostRuntime) -> Result<(), Fail> {
 }
 
 #[test]
-fn nothing_is_handed_out_before_all_data(rt: HostRuntime) -> Result<(), Fail> {
+fn no_status_comes_before_all_data(rt: HostRuntime) -> Result<(), Fail> {
     let row = Row {
         lines: "> 00DA5F2002/</> BB/</table/",
         prints: "< DA/</app A0000000031010/  5F20 4A4F45/",

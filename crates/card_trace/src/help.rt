@@ -4,7 +4,7 @@
 pub const PROGRAM: &str = "A smart card and a terminal that talk over the T=0 protocol, and the \
     trace of what they say";
 
-/// What stands behind it.
+/// What follows the list of subcommands.
 pub const PROGRAM_EXAMPLE: &str = "\
 A script is lines of words on standard input; `card_trace play --help` and `card_trace card --help`
 list them. Example:
@@ -15,7 +15,7 @@ list them. Example:
 /// Of `play`.
 pub const PLAY: &str = "Runs a script of operations, and prints each character and each answer";
 
-/// The lines of a script.
+/// The lines of a script of `play`.
 pub const PLAY_SCRIPT: &str = "\
 The script stands on standard input. Its first lines say what the card holds:
 
@@ -28,8 +28,8 @@ The lines behind them are carried out in order:
   select HEX         selects the application
   get TAG            reads a data object
   put TAG VALUE      stores a data object
-  send HEX           sends one command, whatever it is
-  plan STEPS CUT     how the card is to answer the next command
+  send HEX           sends one command, of the case that goes with its INS
+  plan STEPS CUT     how the card is to answer one TPDU of the next operation
   reset              resets the card
   table              prints what the card holds
 
@@ -38,7 +38,7 @@ letters n (a NULL), o (one byte) and a (all bytes that are left); CUT, 1 to 256,
 the card announces at a time. Empty lines, and lines that start with #, are passed over.
 
 Characters of the terminal are printed behind `> `, those of the card behind `< `, and each answer
-behind `= `, its status first. A script that ends with a fault is told as `line N: reason`.
+behind `= `, its status first. A line that is refused ends the script, as `line N: reason`.
 
 Example:
 
@@ -50,14 +50,14 @@ Example:
 /// Of `card`.
 pub const CARD: &str = "Sends a script of characters to the card alone, and prints its characters";
 
-/// The lines of a script.
+/// The lines of a script of `card`.
 pub const CARD_SCRIPT: &str = "\
 The script stands on standard input. Its first lines say what the card holds:
 
   app HEX            an application with this identifier, of 5 to 16 bytes
   object TAG VALUE   a data object of the application above
   locked TAG VALUE   the same, and no command changes it
-  plan STEPS CUT     how the card is to answer the next command
+  plan STEPS CUT     how the card is to answer one TPDU; plans serve them in order
 
 The lines behind them are carried out in order:
 
@@ -83,10 +83,10 @@ Example:
 /// Of `objects`.
 pub const OBJECTS: &str = "Prints data objects as a tree";
 
-/// What stands behind it.
+/// How the tree is printed, with an example.
 pub const OBJECTS_EXAMPLE: &str = "\
 Each object has a line of its own: two spaces for each level that it lies inside others, its tag,
-and where it holds no objects its value, or `-` for no bytes. Example:
+and where it is no template its value, or `-` for no bytes. Example:
 
   card_trace objects 6F098407A0000000031010
 

@@ -98,7 +98,8 @@ fn serves_after_refusals<F: Fn(&LocalHeap, &mut Vec<u8>) -> Result<(), PlayFault
     Err("65,536 bytes are not enough".into())
 }
 
-/// An object is read, put in two pieces, and read again.
+/// An object is read, put in two pieces, and read again. That the card has no memory for the value is
+/// allowed, and need not come up.
 #[test]
 fn a_script_of_both_ends(rt: HostRuntime) -> Result<(), Fail> {
     let alloc = rt.alloc();
@@ -142,7 +143,7 @@ fn a_card_without_memory_for_its_first_object(rt: HostRuntime) -> Result<(), Fai
     Ok(())
 }
 
-/// An object is put, character by character.
+/// An object is put, character by character, likewise.
 #[test]
 fn a_script_of_the_card_alone(rt: HostRuntime) -> Result<(), Fail> {
     let alloc = rt.alloc();
@@ -156,6 +157,20 @@ fn a_script_of_the_card_alone(rt: HostRuntime) -> Result<(), Fail> {
         &["< A4/", "< 610B/", "< DA/", "< 6581/"],
         |heap, printed| served(heap, &mut script.as_slice(), printed),
     )?;
+    Ok(())
+}
+
+/// A plan serves a command that is sent alone: memory for both is refused, too.
+#[test]
+fn a_plan_and_a_command(rt: HostRuntime) -> Result<(), Fail> {
+    let alloc = rt.alloc();
+    let script = format!(in alloc; "{CARD}plan nn 256/send 00CA5F2000/")?;
+    let script = lines(alloc, script.as_str())?;
+    let prints = ["> 00CA5F2000/< 60606985/= 6985/"];
+    let not_put = serves_after_refusals(&rt, alloc, &prints, &prints, |heap, printed| {
+        played(heap, &mut script.as_slice(), printed)
+    })?;
+    assert!(rt; !not_put);
     Ok(())
 }
 

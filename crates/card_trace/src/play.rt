@@ -13,7 +13,8 @@ use std::io::{Read, Write};
 /// Carries out a script: builds its card, runs its operations on both ends, and writes what its lines
 /// print.
 ///
-/// `Read` and `InputTooLong` come before anything is written. `Script` is the first line that is
+/// `InputTooLong` is a script of more than `SCRIPT_LIMIT` bytes, which is not begun, and `Read` a
+/// fault of the reader: both come before anything is written. `Script` is the first line that is
 /// refused; what the lines before it wrote stands, as it does after `OutOfMemory`. After `Write` it
 /// is not known how much went out.
 pub fn play_lines<A: Allocator + Copy, R: Read, W: Write>(

@@ -26,46 +26,48 @@ fn is_refused(rt: &impl Abort, alloc: Global, row: &Refused) -> Result<(), Fail>
     plays(rt, alloc, &case)
 }
 
+const TABLE_ROWS: [Refused; 9] = [
+    Refused {
+        script: "app A0000000/",
+        fault: "line 1: bad aid",
+    },
+    Refused {
+        script: "object 50 41/",
+        fault: "line 1: no app",
+    },
+    Refused {
+        script: "locked 50 41/",
+        fault: "line 1: no app",
+    },
+    Refused {
+        script: "object 50 41*65535/",
+        fault: "line 1: no app",
+    },
+    Refused {
+        script: "app A000000003/app A000000003/",
+        fault: "line 2: aid twice",
+    },
+    Refused {
+        script: "app A000000003/object 50 41*8193/",
+        fault: "line 2: value too long",
+    },
+    Refused {
+        script: "app A000000003/locked 50 41*8193/",
+        fault: "line 2: value too long",
+    },
+    Refused {
+        script: "app A000000003/object 70 500541/",
+        fault: "line 2: not objects",
+    },
+    Refused {
+        script: "app A000000003/object 3E 41*65535/",
+        fault: "line 2: bad tag",
+    },
+];
+
 #[test]
 fn refused_table_lines(rt: HostRuntime) -> Result<(), Fail> {
-    for row in [
-        Refused {
-            script: "app A0000000/",
-            fault: "line 1: bad aid",
-        },
-        Refused {
-            script: "object 50 41/",
-            fault: "line 1: no app",
-        },
-        Refused {
-            script: "locked 50 41/",
-            fault: "line 1: no app",
-        },
-        Refused {
-            script: "object 50 41*65535/",
-            fault: "line 1: no app",
-        },
-        Refused {
-            script: "app A000000003/app A000000003/",
-            fault: "line 2: aid twice",
-        },
-        Refused {
-            script: "app A000000003/object 50 41*8193/",
-            fault: "line 2: value too long",
-        },
-        Refused {
-            script: "app A000000003/locked 50 41*8193/",
-            fault: "line 2: value too long",
-        },
-        Refused {
-            script: "app A000000003/object 70 500541/",
-            fault: "line 2: not objects",
-        },
-        Refused {
-            script: "app A000000003/object 3E 41*65535/",
-            fault: "line 2: bad tag",
-        },
-    ] {
+    for row in TABLE_ROWS {
         is_refused(&rt, rt.alloc(), &row)?;
     }
     Ok(())
@@ -137,47 +139,49 @@ fn refused_commands(rt: HostRuntime) -> Result<(), Fail> {
     Ok(())
 }
 
+const WORD_ROWS: [Refused; 9] = [
+    Refused {
+        script: "walk/",
+        fault: "line 1: unknown word",
+    },
+    Refused {
+        script: "TABLE/",
+        fault: "line 1: unknown word",
+    },
+    Refused {
+        script: " # x/",
+        fault: "line 1: unknown word",
+    },
+    Refused {
+        script: "# x//\r/walk",
+        fault: "line 4: unknown word",
+    },
+    Refused {
+        script: "reset\r",
+        fault: "line 1: unknown word",
+    },
+    Refused {
+        script: "reset\r\r/",
+        fault: "line 1: unknown word",
+    },
+    Refused {
+        script: "get\t50/",
+        fault: "line 1: unknown word",
+    },
+    Refused {
+        script: "> 00CA5F2000/",
+        fault: "line 1: unknown word",
+    },
+    Refused {
+        script: "app/",
+        fault: "line 1: wrong number of words",
+    },
+];
+
 /// Words are compared byte for byte, and only an LF with at most one CR before it ends a line.
 #[test]
 fn refused_words(rt: HostRuntime) -> Result<(), Fail> {
-    for row in [
-        Refused {
-            script: "walk/",
-            fault: "line 1: unknown word",
-        },
-        Refused {
-            script: "TABLE/",
-            fault: "line 1: unknown word",
-        },
-        Refused {
-            script: " # x/",
-            fault: "line 1: unknown word",
-        },
-        Refused {
-            script: "# x//\r/walk",
-            fault: "line 4: unknown word",
-        },
-        Refused {
-            script: "reset\r",
-            fault: "line 1: unknown word",
-        },
-        Refused {
-            script: "reset\r\r/",
-            fault: "line 1: unknown word",
-        },
-        Refused {
-            script: "get\t50/",
-            fault: "line 1: unknown word",
-        },
-        Refused {
-            script: "> 00CA5F2000/",
-            fault: "line 1: unknown word",
-        },
-        Refused {
-            script: "app/",
-            fault: "line 1: wrong number of words",
-        },
-    ] {
+    for row in WORD_ROWS {
         is_refused(&rt, rt.alloc(), &row)?;
     }
     Ok(())
@@ -300,13 +304,13 @@ fn too_many_entries(rt: HostRuntime) -> Result<(), Fail> {
 }
 
 /// The script that a reader and a writer fail in, and what it prints.
-fn read_script_and_text(alloc: Global) -> Result<(Vec<u8>, Vec<u8>), Fail> {
+fn script_and_text(alloc: Global) -> Result<(Vec<u8>, Vec<u8>), Fail> {
     let script = format!(in alloc; "{CARD}{SELECT}get 5F20/")?;
     let text = format!(in alloc; "{SELECTED}{GOT}")?;
     Ok((lines(alloc, script.as_str())?, lines(alloc, text.as_str())?))
 }
 
-/// A reader that gives bytes, a few at a time, and then fails.
+/// A reader that gives bytes, three at most at a time, and then fails.
 #[derive(Drop)]
 struct CutOff<'a> {
     left: &'a [u8],
@@ -317,14 +321,15 @@ impl<'a> Read for CutOff<'a> {
         if self.left.is_empty() {
             return Err(io::Error::from(io::ErrorKind::Other));
         }
-        self.left.read(buf)
+        let count = buf.len().min(3);
+        self.left.read(&mut buf[..count])
     }
 }
 
 /// A reader that fails after so many bytes: nothing is printed, also where the script is whole.
 #[test]
 fn failing_readers(rt: HostRuntime) -> Result<(), Fail> {
-    let (script, _) = read_script_and_text(rt.alloc())?;
+    let (script, _) = script_and_text(rt.alloc())?;
     for size in 0..=script.len() {
         let mut reader = CutOff {
             left: script.as_slice().get(..size).ok_or("a size")?,
@@ -340,7 +345,7 @@ fn failing_readers(rt: HostRuntime) -> Result<(), Fail> {
 /// Each write fails in turn; where none does all is written.
 #[test]
 fn failing_writers(rt: HostRuntime) -> Result<(), Fail> {
-    let (script, text) = read_script_and_text(rt.alloc())?;
+    let (script, text) = script_and_text(rt.alloc())?;
     for after in 0..text.len() {
         let outcome = played(rt.alloc(), &mut script.as_slice(), &mut Failing { after });
         assert_eq!(rt; outcome, Err(PlayFault::Write));

@@ -17,6 +17,7 @@ use crate::lines::{write_fixed, write_operation, write_table};
 use crate::play_fault::PlayFault;
 use crate::script::fields::agreed_command;
 use crate::script::play_line::{PlayLine, read_play_line};
+use crate::script::reason::Reason;
 use crate::script::refusal::Refusal;
 use crate::script::section::Section;
 use crate::script::table_line::{TableLine, add};
@@ -60,7 +61,8 @@ impl<A: Allocator + Copy> Player<A> {
         }
     }
 
-    /// Carries out the line of this number.
+    /// Carries out the line of this number. A fault ends the script, and the player with it: `Script`
+    /// where the line is refused, and `OutOfMemory`, with nothing written of it, or `Write`.
     pub fn play<W: Write>(
         self,
         alloc: A,
@@ -137,7 +139,7 @@ impl<A: Allocator + Copy> Player<A> {
         ensures refused { IfErr result (IsRefused (state_of self) (addition_of addition)) }
     {
         match self {
-            Player::Running(_) => Err(Refusal::Line(crate::script::reason::Reason::LateTableLine)),
+            Player::Running(_) => Err(Refusal::Line(Reason::LateTableLine)),
             Player::Building(mut builder) => {
                 add(&mut builder, addition)?;
                 Ok(Player::Building(builder))

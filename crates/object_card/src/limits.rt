@@ -12,5 +12,5 @@ pub const APPLICATION_LIMIT: usize = 8;
 /// The most bytes of a tag that a command can name, and of a value's length, together.
 pub const HEAD_LIMIT: usize = 5;
 
-/// The most bytes of a response, all parts together, that a terminal gathers.
+/// The most bytes of a response, all parts together, that a card has to hand out.
 pub const RESPONSE_LIMIT: usize = 16_384;

@@ -33,7 +33,7 @@ pub struct Load {
     pub rounds: usize,
 }
 
-/// A name of three bytes is asked for twice, since `6C06` tells how many bytes it has. A value of 8,192
+/// A name of three bytes is asked for twice, since `6C06` tells how many bytes the object has. A value of 8,192
 /// bytes goes to the card in 33 pieces of up to 255 bytes, and comes from it in 33 of up to 256, since
 /// tag and length come with it.
 pub const LOADS: [Load; 3] = [

@@ -1,4 +1,4 @@
-//! A terminal and a card of data objects that hold one small and one large value.
+//! A terminal, and a card of data objects that holds one small and one large value.
 
 use crate::load::{LARGE, Load, NAME, large_value, tag};
 use anyhow::Context;
@@ -41,6 +41,9 @@ pub fn characters_of_one(
     ops.push(load.operation(alloc)?).map_err(AllocError::from)?;
     let mut recorder = Recorder::new(alloc);
     run(alloc, session, &ops, &mut recorder)?;
+    if recorder.lost() {
+        anyhow::bail!("no memory for what was heard");
+    }
     Ok(recorder.heard().len())
 }
 

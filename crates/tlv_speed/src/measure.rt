@@ -10,7 +10,7 @@ const ROUNDS: u32 = 20;
 /// How many times so; the fastest counts.
 const TRIES: u32 = 200;
 
-/// The most levels that objects have.
+/// How far below the first list is looked: at least as many levels as objects have.
 const LEVELS: u8 = 16;
 
 /// What is done with a list.
@@ -46,7 +46,7 @@ fn walked(objects: Objects<'_>, levels: u8) -> (usize, usize) {
     (count, bytes)
 }
 
-/// Reads the bytes from here on once. Gives a number that depends on all that was read.
+/// Reads the bytes once. Gives a number that depends on all that was read.
 fn read(reading: Reading, bytes: &[u8]) -> usize {
     match reading {
         Reading::Check => Objects::over(bytes).map_or(0, |_| bytes.len()),
@@ -55,7 +55,7 @@ fn read(reading: Reading, bytes: &[u8]) -> usize {
 }
 
 /// How many nanoseconds one reading takes. Each second one leaves out the first `part` bytes, so
-/// that no two in a row are the same.
+/// that no two in a row are the same. 0 where nothing was read.
 pub fn nanoseconds(
     clock: &impl Clock,
     reading: Reading,

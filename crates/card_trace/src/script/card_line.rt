@@ -32,8 +32,8 @@ pub enum CardLine<A: Allocator = Global> {
     Table,
 }
 
-/// What a line of `card` says; `None` for one that is passed over. The reasons are in the order of
-/// `read_play_line`; a plan is a table line here.
+/// What a line of `card` says; `None` for one that is passed over. The refusals are those of
+/// `read_play_line`, in its order; a plan is a table line here.
 pub fn read_card_line<A: Allocator + Copy>(
     alloc: A,
     line: &[u8],

@@ -1,4 +1,5 @@
 //! The fields of a line: hexadecimal text, tags, identifiers, values, plans, numbers and commands.
+//! What owns memory, or is decoded from HEX, may be refused as `OutOfMemory` besides.
 ghost use Rattle.std.specs.Prelude.{◌≡◌, ◌↔◌, ℕ, List, IsTrue, IfOk, IfErr, MatchOption, MatchResult};
 ghost use Rattle.t0_core.specs.declared.plan.Step.{Step};
 ghost use Rattle.t0_core.specs.Plan.{Course};

@@ -24,7 +24,7 @@ pub enum PlayLine<A: Allocator = Global> {
     Adds(TableLine<A>),
     /// A plan for the next operation.
     Plan(Plan<A>),
-    /// An operation by `run`.
+    /// An operation.
     Run(Op<A>),
     /// The bytes of a command that is transmitted alone.
     Send(Bytes<A>),
@@ -37,7 +37,8 @@ pub enum PlayLine<A: Allocator = Global> {
 /// What a line of `play` says; `None` for one that is passed over.
 ///
 /// The first reason that holds is given: an unknown word, a table line in the run section, a wrong
-/// number of words, and then those of the fields from left to right.
+/// number of words, and then those of the fields from left to right. `OutOfMemory` where memory is
+/// wanting for a field.
 pub fn read_play_line<A: Allocator + Copy>(
     alloc: A,
     line: &[u8],

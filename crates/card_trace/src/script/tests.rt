@@ -319,23 +319,28 @@ fn meanings_of_card_lines(rt: HostRuntime) -> Result<(), Fail> {
     Ok(())
 }
 
-/// Whether a line is passed over by both programs.
-fn is_passed_over(alloc: Global, line: &[u8]) -> bool {
-    matches!(read_play_line(alloc, line, Section::Run), Ok(None))
-        && matches!(read_card_line(alloc, line, Section::Run), Ok(None))
+/// Which programs pass a line over: `play`, and `card`.
+fn passed_over(alloc: Global, line: &[u8]) -> (bool, bool) {
+    (
+        matches!(read_play_line(alloc, line, Section::Run), Ok(None)),
+        matches!(read_card_line(alloc, line, Section::Run), Ok(None)),
+    )
 }
 
 #[test]
 fn lines_that_are_passed_over(rt: HostRuntime) {
-    assert!(rt; is_passed_over(rt.alloc(), b""));
-    assert!(rt; is_passed_over(rt.alloc(), b"   "));
-    assert!(rt; is_passed_over(rt.alloc(), b"# app"));
-    assert!(rt; is_passed_over(rt.alloc(), b"#"));
-    assert!(rt; !is_passed_over(rt.alloc(), b" #"));
-    assert!(rt; !is_passed_over(rt.alloc(), b"\t"));
-    assert!(rt; !is_passed_over(rt.alloc(), b"\r"));
-    assert!(rt; !is_passed_over(rt.alloc(), b"reset\r"));
-    assert!(rt; !is_passed_over(rt.alloc(), b"reset\t"));
+    for line in ["", "   ", "# app", "#"] {
+        assert!(rt;
+            passed_over(rt.alloc(), line.as_bytes()) == (true, true),
+            "{line}"
+        );
+    }
+    for line in [" #", "\t", "\r", "reset\r", "reset\t"] {
+        assert!(rt;
+            passed_over(rt.alloc(), line.as_bytes()) == (false, false),
+            "{line}"
+        );
+    }
 }
 
 /// The lines of a script, each between bars.

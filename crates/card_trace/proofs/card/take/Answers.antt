@@ -22,9 +22,11 @@ loop-character-preserved g c =
 
 pub returns-then-is_err-clause-written : goal.returns-then-is_err-clause-written
 returns-then-is_err-clause-written g c =
+    let within : c.loop-character.character-index < length c.args.characters.now =
+    omega (arith, c.loop-character-test.true) in
     on_ok c.write_fixed.result _ _
     (λ h plans. writes_refused (c.args.end.now, plans) c.loop-character.end c.take.new.self plans c.args.characters.now
-    c.loop-character.character-index _ _ _
+    c.loop-character.character-index _ _ _ within
     (refused_end c.take.result c.loop-character.end c.take.new.self (sym c.is_err.ensures.value ∙ c.if-is_err.true)
     c.take.ensures.listening c.take.ensures.refused)
     (ap g.W.Write.contents c.loop-character.invariant.unwritten) (c.loop-character.invariant.led plans) h)

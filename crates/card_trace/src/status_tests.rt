@@ -160,6 +160,49 @@ fn help_is_printed(rt: HostRuntime) -> Result<(), Fail> {
     Ok(())
 }
 
+/// What a subcommand does on a script: its status, and what it writes.
+fn ran_script(alloc: Global, subcommand: &str, script: &str) -> Result<Outcome, Fail> {
+    let words = words(alloc, subcommand)?;
+    let script = lines(alloc, script)?;
+    let mut output = Vec::new(alloc);
+    let mut faults = Vec::new(alloc);
+    let status = main_status(
+        alloc,
+        words.as_slice(),
+        &mut script.as_slice(),
+        &mut output,
+        &mut faults,
+    );
+    Ok(Outcome {
+        status,
+        output,
+        faults,
+    })
+}
+
+/// What the lines before a refused one printed stands.
+#[test]
+fn scripts_on_the_input(rt: HostRuntime) -> Result<(), Fail> {
+    for (subcommand, script, wanted) in [
+        ("play", "app A000000003/table/", (0, "app A000000003/", "")),
+        (
+            "play",
+            "app A000000003/table/walk/",
+            (1, "app A000000003/", "line 3: unknown word/"),
+        ),
+        ("card", "app A000000003/> 00CA5F2000/</", (0, "< 6985/", "")),
+        (
+            "card",
+            "app A000000003/</get 50/",
+            (1, "</", "line 3: unknown word/"),
+        ),
+    ] {
+        let outcome = ran_script(rt.alloc(), subcommand, script)?;
+        is_outcome(&rt, rt.alloc(), script, &outcome, wanted)?;
+    }
+    Ok(())
+}
+
 /// The status where no fault can be told.
 fn status_untold(alloc: Global, line: &str) -> Result<u8, Fail> {
     let words = words(alloc, line)?;

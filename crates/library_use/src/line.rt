@@ -1,0 +1,30 @@
+use apdu_core::Status;
+use object_card::ObjectCard;
+use std::alloc::Allocator;
+use t0_core::{CardEnd, Gather, HostEnd, HostTurn, Plans, Turn};
+
+/// The line failed, or the card sent NULLs without end.
+#[derive(Clone, Copy, Debug, PartialEq, Eq)]
+pub struct LineFailed;
+
+/// One TPDU between a terminal's end and a card's, character by character.
+pub fn talk<A: Allocator, B: Allocator>(
+    mut terminal: HostEnd<'_>,
+    card: &mut CardEnd<ObjectCard>,
+    plans: &mut Plans<A>,
+    gather: &mut Gather<B>,
+) -> Result<Status, LineFailed> {
+    for _ in 0..u64::MAX {
+        match terminal.next() {
+            HostTurn::Sends(byte) => card.take(byte).map_err(|_| LineFailed)?,
+            HostTurn::Listens => {
+                if let Turn::Sends(byte) = card.turn(plans) {
+                    terminal.take(byte, gather).map_err(|_| LineFailed)?;
+                }
+            }
+            HostTurn::Done(status) => return Ok(status),
+            HostTurn::Failed => return Err(LineFailed),
+        }
+    }
+    Err(LineFailed)
+}

@@ -110,6 +110,7 @@ impl<'a, A: Allocator> Exchange<'a, A> {
     }
 
     /// What the terminal does now. A character to send is handed out; nothing else changes anything.
+    #[inline(always)]
     pub fn next(&mut self) -> HostTurn
         ensures turn { result ≡ exchange_turn self.old }
         ensures stays { ((byte : ℕ) → result ≡ HostTurn.Sends byte → ⊥) → self.new ≡ self.old }

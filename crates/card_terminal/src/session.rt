@@ -101,6 +101,7 @@ impl<C: TpduCard> Session<C> {
 
 /// Passes one character from the end whose turn it is to the other, and tells the watch. The answer is
 /// whether there was one.
+#[inline(always)]
 fn pass_character<A: Allocator, B: Allocator, C: TpduCard, W: Watch>(
     exchange: &mut Exchange<'_, A>,
     end: &mut CardEnd<C>,
@@ -154,6 +155,7 @@ fn pass_character<A: Allocator, B: Allocator, C: TpduCard, W: Watch>(
 }
 
 /// Passes characters until the exchange is over, or has failed.
+#[inline(always)]
 fn converse<A: Allocator, B: Allocator, C: TpduCard, W: Watch>(
     exchange: &mut Exchange<'_, A>,
     end: &mut CardEnd<C>,

@@ -152,6 +152,7 @@ impl<A: Allocator + Copy> TpduCard for ObjectCard<A> {
         taken.status
     }
 
+    #[inline(always)]
     fn byte(&self, at: u16) -> u8 {
         match self.ready {
             Ready::Sends { response, .. } => response.byte(&self.applications, self.selected, at),

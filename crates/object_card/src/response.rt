@@ -79,6 +79,7 @@ impl Response {
     }
 
     /// The byte at this place among those left.
+    #[inline(always)]
     pub(crate) fn byte<A: Allocator>(
         self,
         applications: &[Application<A>],
@@ -100,6 +101,7 @@ impl Response {
     }
 
     /// The value that follows the front.
+    #[inline(always)]
     fn value<'a, A: Allocator>(
         self,
         applications: &'a [Application<A>],

@@ -144,6 +144,7 @@ impl<C: TpduCard> CardEnd<C> {
 
     /// Takes a character of the terminal. It is refused exactly where the next character is the
     /// card's, and then nothing changes.
+    #[inline(always)]
     pub fn take(&mut self, byte: u8) -> Result<(), NotListening>
         ensures listening { is_ok result ≡ listens self.old.stage }
         ensures refused { OnErr result (self.new ≡ self.old) }
@@ -184,6 +185,7 @@ impl<C: TpduCard> CardEnd<C> {
     /// With the first character after a header the next of the plans is taken. The steps done are
     /// counted, and the end goes on from that count in the plan that the cursor keeps. With the second
     /// status character the card's state changes.
+    #[inline(always)]
     pub fn turn<A: Allocator>(&mut self, plans: &mut Plans<A>) -> Turn
         ensures whose { (result ≡ Turn.Listens) ↔ (listens self.old.stage ≡ true) }
         ensures listens { result ≡ Turn.Listens → self.new ≡ self.old }
@@ -244,6 +246,7 @@ const FRESH: Phase = Phase::Opening {
 };
 
 /// Drops the data of a TPDU that is over.
+#[inline(always)]
 fn forget_data(phase: &Phase, came: &mut [u8; 255])
     ensures stage { stage_of phase.now came.new ≡ stage_of phase.now came.old }
     ensures gone { (bytes : List ℕ) (taken : ℕ) → phase.now ≡ Phase.Opening bytes taken →
@@ -255,6 +258,7 @@ fn forget_data(phase: &Phase, came: &mut [u8; 255])
 }
 
 /// Whether the next character is the terminal's.
+#[inline(always)]
 fn is_listening(phase: &Phase) -> bool
     requires { IsHeld phase.now }
     ensures { (came : List ℕ) → result ≡ listens (stage_of phase.now came) }
@@ -267,6 +271,7 @@ fn is_listening(phase: &Phase) -> bool
 }
 
 /// The phase with one more character of the terminal. A data character goes to its place in `came`.
+#[inline(always)]
 fn phase_with(phase: Phase, byte: u8, came: &mut [u8; 255]) -> Result<Phase, NotListening>
     requires held { IsHeld phase }
     requires room { length came.old ≡ 255 }
@@ -298,6 +303,7 @@ fn phase_with(phase: Phase, byte: u8, came: &mut [u8; 255]) -> Result<Phase, Not
 }
 
 /// The card's next character, and the phase after it.
+#[inline(always)]
 fn hand_out<C: TpduCard, A: Allocator>(
     card: &mut C,
     phase: Phase,
@@ -376,6 +382,7 @@ fn judged<C: TpduCard>(card: &mut C, bytes: [u8; 5], cut: u16) -> Phase
 }
 
 /// The card's next character after its verdict, and the phase after it.
+#[inline(always)]
 fn go_on<C: TpduCard>(card: &mut C, phase: Phase, came: &[u8; 255], steps: &[Step]) -> (Phase, u8)
     requires judged { IsJudged phase }
     requires fits { Fits (C.prepared card.old) phase }

@@ -57,6 +57,7 @@ impl<A: Allocator> Gather<A> {
     }
 
     /// Whether there is no room for one more byte.
+    #[inline(always)]
     pub(crate) fn is_full(&self) -> bool
         ensures { result ≡ (length self.now.bytes == self.now.limit) }
     {
@@ -64,6 +65,7 @@ impl<A: Allocator> Gather<A> {
     }
 
     /// Adds a byte, for which there is room.
+    #[inline(always)]
     pub(crate) fn push(&mut self, byte: u8)
         requires { (length self.old.bytes == self.old.limit) ≡ false }
         ensures { self.new ≡ record {

@@ -119,6 +119,7 @@ impl<'a> HostEnd<'a> {
     }
 
     /// What the end does now. A character to send is handed out; nothing else changes anything.
+    #[inline(always)]
     pub fn next(&mut self) -> HostTurn
         ensures turn { result ≡ turn_of self.old }
         ensures after { self.new ≡ at_stage self.old (after_turn self.old) }
@@ -153,6 +154,7 @@ impl<'a> HostEnd<'a> {
     /// full: then the end has failed (this project's profile). `AfterEnd` comes where the TPDU has
     /// ended or the end has failed, `NotListening` where it has characters to send: these change
     /// nothing. No fault changes the gather.
+    #[inline(always)]
     pub fn take<A: Allocator>(&mut self, byte: u8, gather: &mut Gather<A>) -> Result<(), LineFault>
         ensures fault { result_err result ≡ fault_of self.old gather.old byte }
         ensures refused { IfErr result
@@ -196,6 +198,7 @@ impl<'a> HostEnd<'a> {
 }
 
 /// What an end at this stage does.
+#[inline(always)]
 fn turn_at(request: Request, stage: HostStage) -> HostTurn
     requires { IsInRange (host_of request stage) }
     ensures { result ≡ turn_of (host_of request.entry stage) }
@@ -212,6 +215,7 @@ fn turn_at(request: Request, stage: HostStage) -> HostTurn
 }
 
 /// What an end does while data move.
+#[inline(always)]
 fn turn_in_data(transfer: Transfer, moved: u16) -> HostTurn
     requires { direction_of transfer ≡ ToCard → moved < length (content_of transfer) }
     ensures { result ≡ data_turn (direction_of transfer.entry) (content_of transfer.entry) moved }
@@ -223,6 +227,7 @@ fn turn_in_data(transfer: Transfer, moved: u16) -> HostTurn
 }
 
 /// The stage after that turn.
+#[inline(always)]
 fn stage_after(request: Request, stage: HostStage) -> HostStage
     requires { IsInRange (host_of request stage) }
     ensures value { result ≡ after_turn (host_of request.entry stage) }
@@ -242,6 +247,7 @@ fn stage_after(request: Request, stage: HostStage) -> HostStage
 }
 
 /// Data characters move up to this place, if they are not there yet.
+#[inline(always)]
 fn stage_moving(moved: u16, until: u16) -> HostStage
     ensures value { result ≡ moving moved until }
     ensures range { (n : ℕ) → moved ≤ until → until ≤ n → IsStage n result }
@@ -254,6 +260,7 @@ fn stage_moving(moved: u16, until: u16) -> HostStage
 }
 
 /// The stage after a character of the card, or the fault that it is.
+#[inline(always)]
 fn stage_with<A: Allocator>(
     request: Request,
     stage: HostStage,
@@ -301,6 +308,7 @@ fn after_procedure_byte(request: Request, moved: u16, byte: u8) -> Result<HostSt
 }
 
 /// Takes a data character of the card, where data move.
+#[inline(always)]
 fn take_data<A: Allocator>(
     transfer: Transfer,
     byte: u8,

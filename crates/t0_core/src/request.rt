@@ -25,6 +25,7 @@ pub struct Request<'a> {
 }
 
 /// One of the five characters that open a TPDU: CLA INS P1 P2 P3.
+#[inline(always)]
 pub(crate) fn opening_character(header: Header, p3: u8, at: usize) -> u8
     requires { at < 5 }
     ensures { result ≡ slice_index (header_bytes header ++ p3 ∷ []) at }

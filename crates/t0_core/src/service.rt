@@ -54,6 +54,7 @@ impl Service {
     }
 
     /// How many data characters have moved.
+    #[inline(always)]
     pub(crate) fn moved(self) -> u16
         ensures { result ≡ self.moved }
     {
@@ -61,6 +62,7 @@ impl Service {
     }
 
     /// Whether the next character is a data character of the terminal.
+    #[inline(always)]
     pub(crate) fn is_listening(self) -> bool
         ensures { result ≡ (comes_from_terminal self.direction && nat_lt self.moved self.until) }
     {
@@ -68,6 +70,7 @@ impl Service {
     }
 
     /// One data character more has moved.
+    #[inline(always)]
     pub(crate) fn one_moved(self) -> Service
         requires { self.moved < 256 }
         ensures { result ≡ one_moved self }
@@ -103,6 +106,7 @@ impl Service {
 
 /// The card's next character, and the phase after it: a data character, the next procedure byte, or
 /// SW1. `came` begins with the data characters that have come from the terminal.
+#[inline(always)]
 pub(crate) fn serve<C: TpduCard>(
     card: &mut C,
     service: Service,

@@ -1,30 +1,49 @@
-//! What a session is asked again and again.
+//! What a session is asked again and again. The session by hand (`compare/`) is asked the same.
 
-use anyhow::Context;
-use card_terminal::{Bytes, Op};
-use object_card::VALUE_LIMIT;
-use std::alloc::{AllocError, Global};
-use tlv_core::{ObjectTag, Tag};
-
-/// The tag of the small object, a cardholder's name.
-pub const NAME: [u8; 2] = [0x5F, 0x20];
-
-/// The tag of the object with the largest value.
-pub const LARGE: [u8; 1] = [0x50];
-
-/// One operation.
+/// A data object of the card: its tag, and how many bytes its value has.
 #[derive(Clone, Copy)]
-pub enum Task {
-    GetName,
-    PutLarge,
-    GetLarge,
+pub struct Object {
+    pub tag: &'static [u8],
+    pub size: usize,
 }
 
-/// A task, in lists of operations that are carried out one after another.
+/// A cardholder's name.
+const NAME: Object = Object {
+    tag: &[0x5F, 0x20],
+    size: 3,
+};
+
+/// An issuer's address.
+const ADDRESS: Object = Object {
+    tag: &[0x5F, 0x50],
+    size: 20,
+};
+
+/// An object with the largest value that a card stores.
+const LARGE: Object = Object {
+    tag: &[0x50],
+    size: 8_192,
+};
+
+/// What the card holds.
+pub const OBJECTS: [Object; 3] = [NAME, ADDRESS, LARGE];
+
+/// Each byte of each value.
+pub const CONTENT: u8 = 0x42;
+
+/// What is done with an object.
+#[derive(Clone, Copy)]
+pub enum Task {
+    Get,
+    Put,
+}
+
+/// An operation, in lists of it that are carried out one after another.
 #[derive(Clone, Copy)]
 pub struct Load {
     pub name: &'static str,
     pub task: Task,
+    pub object: Object,
     /// The TPDUs of one operation.
     pub tpdus: usize,
     /// How many operations a list has.
@@ -33,30 +52,49 @@ pub struct Load {
     pub rounds: usize,
 }
 
-/// A name of three bytes is asked for twice, since `6C06` tells how many bytes the object has. A value of 8,192
-/// bytes goes to the card in 33 pieces of up to 255 bytes, and comes from it in 33 of up to 256, since
-/// tag and length come with it.
-pub const LOADS: [Load; 3] = [
+/// A small object is asked for twice, since `6CXX` tells how many bytes it has. A value of 8,192 bytes
+/// goes to the card in 33 pieces of up to 255 bytes, and comes from it in 33 of up to 256, since tag
+/// and length come with it.
+pub const LOADS: [Load; 5] = [
     Load {
         name: "get of 3 bytes",
-        task: Task::GetName,
+        task: Task::Get,
+        object: NAME,
         tpdus: 2,
         length: 1000,
         rounds: 1000,
     },
     Load {
+        name: "get of 20 bytes",
+        task: Task::Get,
+        object: ADDRESS,
+        tpdus: 2,
+        length: 1000,
+        rounds: 500,
+    },
+    Load {
+        name: "put of 20 bytes",
+        task: Task::Put,
+        object: ADDRESS,
+        tpdus: 1,
+        length: 1000,
+        rounds: 1000,
+    },
+    Load {
         name: "put of 8,192 bytes",
-        task: Task::PutLarge,
+        task: Task::Put,
+        object: LARGE,
         tpdus: 33,
         length: 100,
-        rounds: 10,
+        rounds: 20,
     },
     Load {
         name: "get of 8,192 bytes",
-        task: Task::GetLarge,
+        task: Task::Get,
+        object: LARGE,
         tpdus: 33,
         length: 100,
-        rounds: 10,
+        rounds: 20,
     },
 ];
 
@@ -65,33 +103,4 @@ impl Load {
     pub fn operations(&self) -> usize {
         self.length.saturating_mul(self.rounds)
     }
-
-    /// The list of operations.
-    pub fn list(&self, alloc: Global) -> anyhow::Result<Vec<Op>> {
-        let mut ops = Vec::new(alloc);
-        for _ in 0..self.length {
-            ops.push(self.operation(alloc)?).map_err(AllocError::from)?;
-        }
-        Ok(ops)
-    }
-
-    /// One operation of the list.
-    pub fn operation(&self, alloc: Global) -> anyhow::Result<Op> {
-        Ok(match self.task {
-            Task::GetName => Op::Get(tag(&NAME)?),
-            Task::GetLarge => Op::Get(tag(&LARGE)?),
-            Task::PutLarge => Op::Put(tag(&LARGE)?, Bytes::new(large_value(alloc)?)),
-        })
-    }
-}
-
-/// A value of as many bytes as a card stores.
-pub fn large_value(alloc: Global) -> Result<Vec<u8>, AllocError> {
-    vec![in alloc; 0x42; VALUE_LIMIT]
-}
-
-/// The tag that these bytes are.
-pub fn tag(bytes: &[u8]) -> anyhow::Result<ObjectTag> {
-    let (tag, _) = Tag::read(bytes).ok().context("no tag")?;
-    ObjectTag::new(tag).context("no tag of a data object")
 }

@@ -3,6 +3,7 @@
 #![tactic(auto)]
 
 mod load;
+mod operation;
 mod session;
 
 use load::{LOADS, Load};
@@ -25,9 +26,9 @@ fn main(rt: HostRuntime) -> anyhow::Result<()> {
             let seconds = seconds(&rt, rt.alloc(), &mut session, load)?;
             let rate = nearest_usize_to_f64(load.operations()) / seconds;
             let tpdus = rate * nearest_usize_to_f64(load.tpdus) / 1e6;
-            let megabytes = rate * nearest_usize_to_f64(characters) / 1e6;
+            let each = 1e9 / (rate * nearest_usize_to_f64(characters));
             println!(rt;
-                "  {} times in {seconds:.2} s: {tpdus:.2} million TPDUs and {megabytes:.1} MB a second",
+                "  {} times in {seconds:.2} s: {tpdus:.2} million TPDUs a second, {each:.2} ns a character",
                 load.operations()
             )?;
         }
@@ -42,7 +43,7 @@ fn seconds(
     session: &mut ObjectSession,
     load: &Load,
 ) -> anyhow::Result<f64> {
-    let ops = load.list(alloc)?;
+    let ops = operation::list(alloc, load)?;
     let start = Instant::now(clock)?;
     for _ in 0..load.rounds {
         session::carry_out(alloc, session, &ops)?;

@@ -1,6 +1,7 @@
-//! A terminal, and a card of data objects that holds one small and one large value.
+//! A terminal, and a card of data objects that holds small values and a large one.
 
-use crate::load::{LARGE, Load, NAME, large_value, tag};
+use crate::load::{Load, OBJECTS};
+use crate::operation::{operation, tag_of, value_of};
 use anyhow::Context;
 use card_terminal::{Answers, Op, Session};
 use object_card::{Aid, CardBuilder, ObjectCard};
@@ -17,8 +18,9 @@ pub fn selected(alloc: Global) -> anyhow::Result<ObjectSession> {
     let aid = Aid::new(&AID).context("no identifier")?;
     let mut builder = CardBuilder::new(alloc);
     builder.app(aid)?;
-    builder.object(tag(&NAME)?, b"JOE")?;
-    builder.object(tag(&LARGE)?, &large_value(alloc)?)?;
+    for object in &OBJECTS {
+        builder.object(tag_of(object)?, &value_of(alloc, object)?)?;
+    }
     let mut session = Session::new(CardEnd::new(builder.finish()?));
     let mut ops = Vec::new(alloc);
     ops.push(Op::Select(aid)).map_err(AllocError::from)?;
@@ -38,7 +40,7 @@ pub fn characters_of_one(
     load: &Load,
 ) -> anyhow::Result<usize> {
     let mut ops = Vec::new(alloc);
-    ops.push(load.operation(alloc)?).map_err(AllocError::from)?;
+    ops.push(operation(alloc, load)?).map_err(AllocError::from)?;
     let mut recorder = Recorder::new(alloc);
     run(alloc, session, &ops, &mut recorder)?;
     if recorder.lost() {

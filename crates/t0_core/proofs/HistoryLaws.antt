@@ -1,11 +1,10 @@
 -- Events have one cutting into dialogues and resets, but for a direction that nobody saw.
-use Rattle.std.proofs.Common.{◌≡◌, ℕ, zero, suc, ◌-◌, ◌<◌, List, [], ◌∷◌, ◌++◌, length, take, drop, refl, sym, subst, ◌∙◌, ap, arith, inl, inr, lit<, ◌⊎◌, true, false, Bool, Some, None, append-nil, append_assoc}
+use Rattle.std.proofs.Common.{◌≡◌, ℕ, zero, suc, ◌-◌, ◌<◌, List, [], ◌∷◌, ◌++◌, length, take, drop, refl, sym, subst, ◌∙◌, ap, arith, inl, inr, lit<, ◌⊎◌, true, false, Bool, append-nil, append_assoc}
 use Rattle.std.specs.List.{AllByRecursion, flat_map}
 use Rattle.std.proofs.lemmas.List.{length-drop, length-take-le, take-append-drop}
 use Rattle.apdu_core.specs.declared.header.Header.{Header}
 use Rattle.apdu_core.specs.HeaderBytes.{ins_is_valid}
-use Rattle.apdu_core.specs.StatusWord.{IsStatusWord, is_first_status}
-use Rattle.t0_core.specs.declared.end.End.{End}
+use Rattle.apdu_core.specs.StatusWord.{IsStatusWord}
 use Rattle.t0_core.specs.declared.end.End.TheVariants.{Terminal, Card}
 use Rattle.t0_core.specs.declared.plan.Step.{Step}
 use Rattle.t0_core.specs.declared.plan.Step.TheVariants.{Null, One, All}
@@ -16,8 +15,8 @@ use Rattle.t0_core.specs.Dialogue.{Dialogue, characters, segment_characters, pro
 use Rattle.t0_core.specs.Plan.{Course, Follows, segments_of}
 use Rattle.t0_core.specs.CardSide.{Starts, IsFrugal}
 use Rattle.t0_core.specs.History.{Event, Reset, Item, Whole, Cut_off, IsPart, IsItem, IsUnderPlan, AreAlike, AreAlikeInTurn, IsByteEvent, events_of, passed}
-use Rattle.t0_core.specs.HostSide.{step_of}
-use Rattle.t0_core.proofs.HostLemmas.{step_is, status_is_no_step}
+use Rattle.t0_core.specs.ProcedureLaws.{Apart, apart_where_valid, apart_where_invalid}
+use Rattle.t0_core.specs.CuttingLaws.{none_left, byte_is, sent_prefix, stripped, tail_of}
 
 -- ---- segments, data and status
 
@@ -28,37 +27,11 @@ moves_some One zero real starts = absurd (omega (arith, starts))
 moves_some One (suc k) real starts = lit< tt
 moves_some All k real starts = starts
 
-none_left : (m : List ℕ) → length m ≡ 0 → m ≡ []
-none_left [] e = refl
-none_left (a ∷ m) e = absurd (omega (arith, e))
-
-byte_is : (from : End) (a b : ℕ) → let x : Character = (from, a) in let y : Character = (from, b) in
-    x ≡ y → a ≡ b
-byte_is from a b e = ap (λ (c : Character). c.1) e
-
 same_sender : (x y : Direction) → data_sender x ≡ data_sender y → x ≡ y
 same_sender ToCard ToCard e = refl
 same_sender FromCard FromCard e = refl
 same_sender ToCard FromCard e = absurd (cc)
 same_sender FromCard ToCard e = absurd (cc)
-
--- as many characters of one end, and what follows them
-sent_prefix : (from : End) (p q : List ℕ) (r s : List Character) → length p ≡ length q
-    → sent_by from p ++ r ≡ sent_by from q ++ s → (p ≡ q) × (r ≡ s)
-sent_prefix from [] [] r s same e = (refl, e)
-sent_prefix from [] (b ∷ q) r s same e = absurd (omega (arith, same))
-sent_prefix from (a ∷ p) [] r s same e = absurd (omega (arith, same))
-sent_prefix from (a ∷ p) (b ∷ q) r s same e =
-    let x : Character = (from, a) in
-    let y : Character = (from, b) in
-    let first : x ≡ y = cc in
-    let others : sent_by from p ++ r ≡ sent_by from q ++ s = cc in
-    let rest = sent_prefix from p q r s (omega (arith, same)) others in
-    let head = byte_is from a b first in
-    let tail = rest.0 in (cc, rest.1)
-
-stripped : (c : Character) (r s : List Character) → c ∷ r ≡ c ∷ s → r ≡ s
-stripped c r s e = cc
 
 -- data that move after the same procedure byte come from the same end, and are the same
 moved_first : (x y : Direction) (p q : List ℕ) (r s : List Character) → 0 < length p → 0 < length q
@@ -86,20 +59,11 @@ record Alike (ds es : List Step) (m n : List ℕ) (a1 a2 b1 b2 : ℕ) (r q : Lis
   rest : r ≡ q
   way : (x ≡ y) ⊎ (m ≡ [])
 
--- how segments begin and status does, for the segments that an INS allows
-record Apart (ins : ℕ) (Allowed : Step → Type 0) : Type 0 where
-  steps : (s t : Step) → Allowed s → Allowed t → procedure_byte ins s ≡ procedure_byte ins t → s ≡ t
-  status : (s : Step) (byte : ℕ) → Allowed s → IsStatusWord (byte, 0) → byte ≡ procedure_byte ins s
-      → ⊥
-
 -- segments that are begun for something, with their data
 record IsTidy (Allowed : Step → Type 0) (ds : List Step) (k : ℕ) (m : List ℕ) : Type 0 where
   allowed : AllByRecursion Allowed ds
   frugal : IsFrugal ds k
   moved : length m ≡ all_moves ds k
-
-abbrev tail_of : ℕ → ℕ → List Character → List Character
-tail_of a b r = (Card, a) ∷ (Card, b) ∷ r
 
 tidy_rest : (Allowed : Step → Type 0) (s : Step) (ds : List Step) (k : ℕ) (m : List ℕ)
     → IsTidy Allowed (s ∷ ds) k m → IsTidy Allowed ds (k - moves s k) (drop (moves s k) m)
@@ -259,24 +223,6 @@ planned_is_frugal d plan follows =
 all_allowed : (segments : List Step) → AllByRecursion (λ _. Unit {0}) segments
 all_allowed [] = tt
 all_allowed (s ∷ segments) = (tt, all_allowed segments)
-
-apart_where_valid : (ins : ℕ) → ins_is_valid ins ≡ true → ins < 256 → Apart ins (λ _. Unit {0})
-apart_where_valid ins valid small = record {
-  steps = λ s t _ _ e. let h : Some s ≡ Some t = sym (step_is ins s valid small)
-      ∙ ap (step_of ins) e ∙ step_is ins t valid small in cc;
-  status = λ s byte _ first e.
-      let h : None ≡ Some s = sym (status_is_no_step ins byte valid small first)
-      ∙ ap (step_of ins) e ∙ step_is ins s valid small in absurd (cc);
-}
-
-apart_where_invalid : (ins : ℕ) → Apart ins (λ s. s ≡ Null)
-apart_where_invalid ins = record {
-  steps = λ s t a b e. a ∙ sym b;
-  status = λ s byte null first e.
-      let sixty : byte ≡ 0x60 = e ∙ ap (procedure_byte ins) null in
-      let First : ℕ → Type 0 = λ b. is_first_status b ≡ true in
-      let no : false ≡ true = subst First sixty first.0 in absurd (cc);
-}
 
 same_header : (a b : Header) → a.cla ≡ b.cla → a.ins ≡ b.ins → a.p1 ≡ b.p1 → a.p2 ≡ b.p2 → a ≡ b
 same_header a b cla ins p1 p2 =

@@ -1,19 +1,15 @@
 -- The terminal's end goes through each dialogue that it opened.
-use Rattle.std.proofs.Common.{◌≡◌, ℕ, zero, suc, ◌+◌, ◌-◌, ◌<◌, ◌≤◌, List, [], ◌∷◌, ◌++◌, length, take, refl, sym, subst, ◌∙◌, ap, arith, inl, inr, lit<, true, false, Bool, ◌==◌, ◌&&◌, ◌⊎◌, nat_lt, nat_le, if◌then◌else◌, Option, Some, None, ◌/◌, ◌%◌, eq-eqb, length-append, slice_index, bit_xor, bit_and}
-use Rattle.std.specs.Int.Bits.{xor_add_and}
-use Rattle.std.proofs.lemmas.Nat.{and_mask}
+use Rattle.std.proofs.Common.{◌≡◌, ℕ, zero, suc, ◌+◌, ◌-◌, ◌<◌, ◌≤◌, List, [], ◌∷◌, ◌++◌, length, take, refl, sym, subst, ◌∙◌, ap, arith, inl, inr, lit<, true, false, Bool, ◌==◌, nat_lt, if◌then◌else◌, Option, Some, None, length-append, slice_index}
 use Rattle.std.proofs.lemmas.List.{take_more}
-use Rattle.std.proofs.lemmas.Bool.{ltb-true, ltb-false, leb-true, ne_eqb, or_cases, and_parts}
+use Rattle.std.proofs.lemmas.Bool.{ltb-true, ltb-false}
 use Rattle.apdu_core.specs.declared.header.Header.{Header}
-use Rattle.apdu_core.specs.HeaderBytes.{ins_is_valid}
-use Rattle.apdu_core.specs.StatusWord.{IsStatusWord, is_first_status}
+use Rattle.apdu_core.specs.StatusWord.{IsStatusWord}
 use Rattle.t0_core.specs.declared.end.End.TheVariants.{Terminal, Card}
 use Rattle.t0_core.specs.declared.host_end.HostStage.{HostStage}
 use Rattle.t0_core.specs.declared.host_end.HostStage.TheVariants.{SendingHeader, Awaiting, Moving, AwaitingSecond, Ended, Broken}
 use Rattle.t0_core.specs.declared.host_end.HostTurn.{HostTurn}
 use Rattle.t0_core.specs.declared.host_end.HostTurn.TheVariants.{Sends, Listens, Done, Failed}
 use Rattle.t0_core.specs.declared.plan.Step.{Step}
-use Rattle.t0_core.specs.declared.plan.Step.TheVariants.{Null, One, All}
 use Rattle.t0_core.specs.declared.line_fault.LineFault.{LineFault}
 use Rattle.t0_core.specs.declared.line_fault.LineFault.TheVariants.{TooLong}
 use Rattle.t0_core.specs.declared.direction.Direction.{Direction}
@@ -23,6 +19,7 @@ use Rattle.t0_core.specs.Front.{Front, In_header, In_body, After_first, GoesOn, 
 use Rattle.t0_core.specs.HostSide.{Hosting, HostStandsAt, IsOpenedBy, AreOwn, IsInRange, at_stage, turn_of, after_turn, after_taking, step_of, fault_of}
 use Rattle.t0_core.specs.Room.{Room}
 use Rattle.t0_core.specs.FrontLaws.{all_moves-more}
+use Rattle.t0_core.specs.ProcedureLaws.{step_is, status_is_no_step}
 
 abbrev pub host_at : Header → ℕ → Direction → List ℕ → HostStage → Hosting
 host_at h p3 d content stage =
@@ -43,66 +40,6 @@ byte_of Failed d = d
 pub sends_is : (a b : ℕ) → Sends a ≡ Sends b → a ≡ b
 unfolding byte_of
 sends_is a b e = ap (λ t. byte_of t 0) e
-
--- INS xor FF
-flipped : (ins : ℕ) → ins < 256 → bit_xor ins 0xFF + ins ≡ 255
-flipped ins small =
-    let masked : bit_and ins 0xFF ≡ ins % 256 = and_mask ins 8 in
-    omega (arith, small, xor_add_and ins 0xFF, masked)
-
-no_six : (ins : ℕ) → ins / 16 ≡ 6 → ins_is_valid ins ≡ true → ⊥
-no_six ins six valid = let e : ins_is_valid ins ≡ false = rw six refl in absurd (cc)
-
-no_nine : (ins : ℕ) → ins / 16 ≡ 9 → ins_is_valid ins ≡ true → ⊥
-no_nine ins nine valid = let e : ins_is_valid ins ≡ false = rw nine refl in absurd (cc)
-
--- the three procedure bytes of an instruction are apart
-pub step_is : (ins : ℕ) (s : Step) → ins_is_valid ins ≡ true → ins < 256
-    → step_of ins (procedure_byte ins s) ≡ Some s
-step_is ins Null valid small = refl
-step_is ins All valid small =
-    rw (ne_eqb ins 0x60 (λ same. no_six ins (omega (arith, same)) valid), eq-eqb ins ins refl) refl
-step_is ins One valid small =
-    rw (
-      ne_eqb (bit_xor ins 0xFF) 0x60
-          (λ same. no_nine ins (omega (arith, same, flipped ins small)) valid),
-      ne_eqb (bit_xor ins 0xFF) ins (λ same. absurd (omega (arith, same, flipped ins small))),
-      eq-eqb (bit_xor ins 0xFF) (bit_xor ins 0xFF) refl,
-    ) refl
-
-first_is_in_range : (byte : ℕ) → is_first_status byte ≡ true
-    → ((0x61 ≤ byte) × (byte ≤ 0x6F)) ⊎ ((0x90 ≤ byte) × (byte ≤ 0x9F))
-first_is_in_range byte first =
-    elim (or_cases (nat_le 0x61 byte && nat_le byte 0x6F) (nat_le 0x90 byte && nat_le byte 0x9F)
-    first) [
-      | inl six ↦
-          let both = and_parts (nat_le 0x61 byte) (nat_le byte 0x6F) six in
-          inl (leb-true 0x61 byte both.0, leb-true byte 0x6F both.1)
-      | inr nine ↦
-          let both = and_parts (nat_le 0x90 byte) (nat_le byte 0x9F) nine in
-          inr (leb-true 0x90 byte both.0, leb-true byte 0x9F both.1)
-    ]
-
--- and a first status byte is none of them
-pub status_is_no_step : (ins byte : ℕ) → ins_is_valid ins ≡ true → ins < 256
-    → IsStatusWord (byte, 0) → step_of ins byte ≡ None
-status_is_no_step ins byte valid small status =
-    let range = first_is_in_range byte status.0 in
-    rw (
-      ne_eqb byte 0x60 (λ same. elim range [
-        | inl six ↦
-            absurd (omega (arith, same, six.0))
-        | inr nine ↦ absurd (omega (arith, same, nine.0))
-      ]),
-      ne_eqb byte ins (λ same. elim range [
-        | inl six ↦ no_six ins (omega (arith, same, six.0, six.1)) valid
-        | inr nine ↦ no_nine ins (omega (arith, same, nine.0, nine.1)) valid
-      ]),
-      ne_eqb byte (bit_xor ins 0xFF) (λ same. elim range [
-        | inl six ↦ no_nine ins (omega (arith, same, six.0, six.1, flipped ins small)) valid
-        | inr nine ↦ no_six ins (omega (arith, same, nine.0, nine.1, flipped ins small)) valid
-      ]),
-    ) refl
 
 -- the end stands where data move, or all of the segment have moved
 moves_on : (host : Hosting) (m u : ℕ) (b : Body) (v : Bool) → nat_lt m u ≡ v → m ≤ u

@@ -13,8 +13,9 @@ use Rattle.t0_core.specs.declared.plan.Step.{Step}
 use Rattle.t0_core.specs.declared.plan.Step.TheVariants.{Null, One, All}
 use Rattle.t0_core.specs.declared.direction.Direction.{Direction}
 use Rattle.t0_core.specs.declared.direction.Direction.TheVariants.{ToCard, FromCard}
-use Rattle.t0_core.specs.Dialogue.{Body, foreseen, moves, procedure_byte, to_move}
-use Rattle.t0_core.specs.Front.{Front, In_header, In_body, After_first, IsBetween}
+use Rattle.t0_core.specs.Dialogue.{Body, Dialogue, foreseen, moves, procedure_byte, to_move}
+use Rattle.t0_core.specs.Meaning.{received}
+use Rattle.t0_core.specs.Front.{Front, In_header, In_body, After_first, IsBetween, brought}
 use Rattle.t0_core.specs.Room.{Room}
 
 -- an end that opened a TPDU, with its data to the card, or with none where it asks for data
@@ -193,3 +194,8 @@ IsRequest host = (ins_is_valid host.header.ins ≡ true) × (host.header.ins < 2
 
 abbrev pub IsInRange : Hosting → Type 0
 IsInRange host = IsRequest host × IsStage (foreseen host.direction host.p3) host.stage
+
+-- what is still to come of a dialogue's data fits into the gather
+abbrev pub HasRoom : Room → Front → Dialogue → Type 0
+HasRoom gather front d =
+    length gather.bytes + (length (received d) - length (brought front)) ≤ gather.limit

@@ -13,6 +13,8 @@ pub mod HostSide
 pub mod HostView
 pub mod CardView
 pub mod FrontLaws
+pub mod ProcedureLaws
+pub mod CuttingLaws
 pub mod DialogueLaws
 pub mod WholeLaws
 pub mod WatchLaws

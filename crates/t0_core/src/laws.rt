@@ -1,10 +1,14 @@
 //! Laws of dialogues and their fronts, over the definitions alone.
 
-ghost use Rattle.std.specs.Prelude.{◌≡◌, ◌++◌, ◌∷◌, [], List};
+ghost use Rattle.std.specs.Prelude.{◌≡◌, ◌<◌, ◌++◌, ◌∷◌, [], ℕ, List, true};
 ghost use Rattle.std.specs.List.{AllByRecursion, flat_map};
 ghost use Rattle.t0_core.specs.Character.{Character};
 ghost use Rattle.t0_core.specs.Dialogue.{Dialogue, IsDialogue, characters};
-ghost use Rattle.t0_core.specs.HostSide.{Hosting, HostStandsAt, IsRequest};
+ghost use Rattle.apdu_core.specs.HeaderBytes.{ins_is_valid};
+ghost use Rattle.t0_core.specs.declared.end.End.TheVariants.{Terminal, Card};
+ghost use Rattle.t0_core.specs.declared.host_end.HostTurn.TheVariants.{Sends, Listens};
+ghost use Rattle.t0_core.specs.Room.{Room};
+ghost use Rattle.t0_core.specs.HostSide.{Hosting, HostStandsAt, HasRoom, IsOpenedBy, IsRequest, turn_of, fault_of};
 ghost use Rattle.t0_core.specs.OwnLaws.{BeginsOwn};
 ghost use Rattle.t0_core.specs.History.{Item, IsItem, IsPart, IsByteEvent, AreAlikeInTurn, events_of, passed};
 ghost use Rattle.t0_core.specs.Front.{Front, IsFront, GoesOn, Ends, GoesThrough, fresh, front_characters};
@@ -38,6 +42,35 @@ pub fn a_front_begins_its_own_dialogue()
 /// Each dialogue goes on, character by character, from nothing to its end.
 pub fn a_dialogue_is_gone_through()
     ensures { (d : Dialogue) → IsDialogue d → GoesThrough fresh (characters d) d }
+{}
+
+/// The talk leaves a terminal's end no choice. Where it stands at a front, and a dialogue that it opened
+/// goes on from there, it sends the character that is the terminal's; for one of the card it listens,
+/// and that is no fault, where the gather has room for the dialogue's data. A front is no whole dialogue.
+pub fn the_next_character_is_settled()
+    ensures sent { (host : Hosting) (front : Front) (d : Dialogue) (byte : ℕ)
+        (rest : List Character) → IsRequest host → HostStandsAt host front → IsFront front →
+        IsDialogue d → IsOpenedBy host d.body →
+        characters d ≡ front_characters front ++ (Terminal, byte) ∷ rest →
+        turn_of host ≡ Sends byte }
+    ensures taken { (host : Hosting) (front : Front) (d : Dialogue) (byte : ℕ)
+        (rest : List Character) (gather : Room) → IsRequest host → HostStandsAt host front →
+        IsFront front → IsDialogue d → IsOpenedBy host d.body →
+        characters d ≡ front_characters front ++ (Card, byte) ∷ rest →
+        (turn_of host ≡ Listens) × (HasRoom gather front d → fault_of host gather byte ≡ None) }
+    ensures unfinished { (host : Hosting) (front : Front) (d : Dialogue) (rest : List Character) →
+        IsRequest host → HostStandsAt host front → IsFront front → IsDialogue d →
+        IsOpenedBy host d.body → characters d ++ rest ≡ front_characters front → ⊥ }
+{}
+
+/// Dialogues with the same header, P3 and direction are the same where their characters begin one list,
+/// and so none begins another. It needs an INS that is valid.
+pub fn dialogues_opened_alike_have_one_cutting()
+    ensures { (d e : Dialogue) (after_d after_e : List Character) →
+        ins_is_valid d.body.header.ins ≡ true → d.body.header.ins < 256 →
+        IsDialogue d → IsDialogue e → d.body.header ≡ e.body.header → d.body.p3 ≡ e.body.p3 →
+        d.body.direction ≡ e.body.direction → characters d ++ after_d ≡ characters e ++ after_e →
+        (d ≡ e) × (after_d ≡ after_e) }
 {}
 
 /// Equal events have equal items, but for a direction that nobody saw since no data moved: there is one

@@ -93,18 +93,18 @@ record Later (ins : ℕ) (x : Direction) (bs ds : List Step) (k : ℕ) (bm m : L
 
 -- or the last of them goes on
 record Within (x : Direction) (bs : List Step) (k : ℕ) (bm m : List ℕ)
-    (rest : List Character) : Type 0 where
+    (tail rest : List Character) : Type 0 where
   some_left : length bm < all_moves bs k
   byte : ℕ
   others : List ℕ
   after : List Character
   moved_is : m ≡ bm ++ byte ∷ others
-  rest_is : rest ≡ (data_sender x, byte) ∷ after
+  rest_is : rest ≡ (data_sender x, byte) ∷ (after ++ tail)
 
 abbrev Comes : ℕ → Direction → List Step → List Step → ℕ → List ℕ → List ℕ → List Character
     → List Character → Type 0
 Comes ins x bs ds k bm m tail rest =
-    Later ins x bs ds k bm m tail rest ⊎ Within x bs k bm m rest
+    Later ins x bs ds k bm m tail rest ⊎ Within x bs k bm m tail rest
 
 -- a segment more before both
 grown : (ins : ℕ) (x : Direction) (s : Step) (bs ds : List Step) (k : ℕ) (bm m : List ℕ)
@@ -168,10 +168,13 @@ at_last ins x s ds k bm m tail rest le lm e =
             some_left = omega (arith, lt);
             byte = next.0;
             others = next.1 ++ drop j m;
-            after = _;
+            after = sent_by (data_sender x) next.1
+                ++ segment_characters ins x ds (k - j) (drop j m);
             moved_is = sym (take-append-drop j m) ∙ ap (λ z. z ++ drop j m) next.2
                 ∙ append_assoc bm (next.0 ∷ next.1) (drop j m);
-            rest_is = next.3;
+            rest_is = next.3 ∙ ap (λ z. (data_sender x, next.0) ∷ z)
+                (sym (append_assoc (sent_by (data_sender x) next.1)
+                (segment_characters ins x ds (k - j) (drop j m)) tail));
           })
     ]
   where
@@ -391,16 +394,18 @@ same_dialogue d e r s valid small is also header p3 direction equal =
 
 -- ---- the next character
 
--- the terminal's end does what the character asks of it: it sends it, or takes it
-abbrev pub Suits : Hosting → Front → Dialogue → Character → Type 0
-Suits host front d c =
+-- The terminal's end does what the character asks of it: it sends it, or takes it, where there is
+-- room or it is the last one.
+abbrev pub Suits : Hosting → Front → Dialogue → Character → List Character → Type 0
+Suits host front d c after =
     ((c.0 ≡ Terminal) × (turn_of host ≡ Sends c.1))
     ⊎ ((c.0 ≡ Card) × (turn_of host ≡ Listens)
-    × ((gather : Room) → HasRoom gather front d → fault_of host gather c.1 ≡ None))
+    × ((gather : Room) → HasRoom gather front d ⊎ (after ≡ [])
+    → fault_of host gather c.1 ≡ None))
 
 abbrev pub HasNext : Hosting → Front → Dialogue → List Character → Type 0
 HasNext host front d rest =
-    (c : Character) × (cs : List Character) × (rest ≡ c ∷ cs) × Suits host front d c
+    (c : Character) × (cs : List Character) × (rest ≡ c ∷ cs) × Suits host front d c cs
 
 header_next : (h : Header) (p3 : ℕ) (cs : List Character) (sent : ℕ) (rest : List Character)
     → sent < 5
@@ -467,10 +472,10 @@ room_left gather n k lt fits =
 
 in_data : (host : Hosting) (moved until : ℕ) (b : Body) (d : Dialogue) (x : Direction)
     (others : List ℕ) (after : List Character) (byte : ℕ) (rest : List Character)
-    → x ≡ host.direction → IsOpenedBy host b → IsOpenedBy host d.body → length b.moved ≡ moved
+    → (after ≡ [] → ⊥) → x ≡ host.direction → IsOpenedBy host b → IsOpenedBy host d.body → length b.moved ≡ moved
     → d.body.moved ≡ b.moved ++ byte ∷ others → rest ≡ (data_sender x, byte) ∷ after
     → HasNext (at_stage host (Moving moved until)) (In_body b) d rest
-in_data host moved until b d ToCard others after byte rest is of_b of_d n moved_is rest_is =
+in_data host moved until b d ToCard others after byte rest goes is of_b of_d n moved_is rest_is =
     let Own : Direction → Type 0 = λ x. AreOwn x host.content d.body.moved in
     let own : Own ToCard = subst Own (sym is) of_d.3 in (
       (Terminal, byte),
@@ -483,17 +488,21 @@ in_data host moved until b d ToCard others after byte rest is of_b of_d n moved_
             ∙ ap Sends (read_after host.content b.moved d.body.moved others byte own moved_is),
       ),
     )
-in_data host moved until b d FromCard others after byte rest is of_b of_d n moved_is rest_is = (
+in_data host moved until b d FromCard others after byte rest goes is of_b of_d n moved_is rest_is = (
   (Card, byte),
   after,
   rest_is,
   inr (
     refl,
     ap (λ x. data_turn x host.content moved) (sym is),
-    λ gather fits. ap (λ x. data_fault x gather) (sym is)
-        ∙ room_left gather (length d.body.moved) (length b.moved)
-        (omega (arith, ap length moved_is, length-append b.moved (byte ∷ others)))
-        (fitting gather fits),
+    λ gather fits. elim fits [
+      | inl room ↦
+          ap (λ x. data_fault x gather) (sym is)
+          ∙ room_left gather (length d.body.moved) (length b.moved)
+          (omega (arith, ap length moved_is, length-append b.moved (byte ∷ others)))
+          (fitting gather room)
+      | inr last ↦ absurd (goes last)
+    ],
   ),
 )
   where
@@ -509,6 +518,11 @@ in_data host moved until b d FromCard others after byte rest is of_b of_d n move
         ap (λ x. length (from_card x b.moved)) (of_b.2 ∙ sym is) in
         omega (arith, one, two, fits)
 
+more_comes : (before : List Character) (c : Character) (r : List Character) → before ++ c ∷ r ≡ []
+    → ⊥
+more_comes [] c r e = absurd (cc)
+more_comes (b ∷ before) c r e = absurd (cc)
+
 in_body : (host : Hosting) (moved until : ℕ) (b : Body) (d : Dialogue) (r rest : List Character)
     → IsOpenedBy host b → IsOpenedBy host d.body → length b.moved ≡ moved → moved < until
     → to_move b ≡ until → ComesAfter d b r rest
@@ -516,7 +530,9 @@ in_body : (host : Hosting) (moved until : ℕ) (b : Body) (d : Dialogue) (r rest
 in_body host moved until b d r rest of_b of_d n lt owed (inl l) =
     absurd (omega (arith, n, lt, owed, l.all_moved, same_owed host b d of_b of_d))
 in_body host moved until b d r rest of_b of_d n lt owed (inr w) =
-    in_data host moved until b d d.body.direction w.others w.after w.byte rest of_d.2 of_b of_d n
+    in_data host moved until b d d.body.direction w.others
+    (w.after ++ tail_of d.status.0 d.status.1 r) w.byte rest
+    (more_comes w.after (Card, d.status.0) ((Card, d.status.1) ∷ r)) of_d.2 of_b of_d n
     w.moved_is w.rest_is
 
 -- between segments the card begins the next, or its status
@@ -618,6 +634,16 @@ next_at host (AwaitingSecond sw1) (In_body b) d r rest request stands front_is i
 next_at host (Ended status) front d r rest request stands front_is is of_d e = absurd stands
 next_at host Broken front d r rest request stands front_is is of_d e = absurd stands
 
+-- there is one next character
+pub at_next : (host : Hosting) (front : Front) (d : Dialogue) (c e : Character)
+    (cs es : List Character) → c ∷ cs ≡ e ∷ es → Suits host front d e es → Suits host front d c cs
+at_next host front d c e cs es same is =
+    let first : c ≡ e = cc in
+    let others : cs ≡ es = cc in
+    let At : Character → Type 0 = λ k. Suits host front d k cs in
+    let After : List Character → Type 0 = λ ks. Suits host front d e ks in
+    subst At (sym first) (subst After (sym others) is)
+
 -- Where the end stands at a front, and characters that begin with a dialogue which it opened begin
 -- with that front, there is a next one, and it suits the end. A front is no whole dialogue.
 pub next_of : (host : Hosting) (front : Front) (d : Dialogue) (r rest : List Character)
@@ -627,19 +653,14 @@ pub next_of : (host : Hosting) (front : Front) (d : Dialogue) (r rest : List Cha
 next_of host front d r rest request stands front_is is of_d e =
     next_at host host.stage front d r rest request stands front_is is of_d e
 
-same_character : (c d : Character) (cs ds : List Character) → c ∷ cs ≡ d ∷ ds → c ≡ d
-same_character c d cs ds e = cc
-
 -- the character of a dialogue that has come to the front suits the end
 suits : (host : Hosting) (front : Front) (d : Dialogue) (c : Character) (rest : List Character)
     → IsRequest host → HostStandsAt host front → IsFront front → IsDialogue d
     → IsOpenedBy host d.body → characters d ≡ front_characters front ++ c ∷ rest
-    → Suits host front d c
+    → Suits host front d c rest
 suits host front d c rest request stands front_is is of_d e =
     let next = next_of host front d [] (c ∷ rest) request stands front_is is of_d
-    (append-nil (characters d) ∙ e) in
-    let At : Character → Type 0 = λ k. Suits host front d k in
-    subst At (sym (same_character c next.0 rest next.1 next.2)) next.3
+    (append-nil (characters d) ∙ e) in at_next host front d c next.0 rest next.1 next.2 next.3
 
 pub next_is_sent : (host : Hosting) (front : Front) (d : Dialogue) (byte : ℕ)
     (rest : List Character) → IsRequest host → HostStandsAt host front → IsFront front
@@ -659,7 +680,7 @@ pub next_is_taken : (host : Hosting) (front : Front) (d : Dialogue) (byte : ℕ)
 next_is_taken host front d byte rest gather request stands front_is is of_d e =
     elim (suits host front d (Card, byte) rest request stands front_is is of_d e) [
       | inl sends ↦ let other : Card ≡ Terminal = sends.0 in absurd (cc)
-      | inr takes ↦ (takes.1, takes.2 gather)
+      | inr takes ↦ (takes.1, λ room. takes.2 gather (inl room))
     ]
 
 pub unfinished : (host : Hosting) (front : Front) (d : Dialogue) (rest : List Character)

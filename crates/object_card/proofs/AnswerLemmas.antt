@@ -13,7 +13,7 @@ use Rattle.object_card.specs.State.{CardState, IsCardState, NothingPending, Resp
 use Rattle.object_card.specs.Refusals.{refusal, UnknownInstruction, MoreThanIsLeft, is_get, is_get_response, to_send}
 use Rattle.object_card.specs.CardMeaning.{Does, refuses, after_refusal}
 use Rattle.object_card.specs.declared.response.Response.{Response}
-use Rattle.object_card.specs.Held.{Held, IsResponse, entries_at, left_of, pending_in, chain_pending, state_of}
+use Rattle.object_card.specs.CardFields.{ApplicationView, IsResponse, entries_at, left_of, pending_in, chain_pending, state_of}
 use Rattle.object_card.specs.CardView.{IsStanding}
 use Rattle.object_card.specs.StateLaws.{stays_sound, none_holds}
 
@@ -36,13 +36,13 @@ pending_after entries chain (Some r) h status n = split (is_get_response h && (s
     split false = refl
 
 -- what a refusal leaves
-pub refused_next : (held : List Held) (selected : Option ℕ) (chain : ChainState) (response : Option Response) (h : Header) (status : StatusWord)
+pub refused_next : (held : List ApplicationView) (selected : Option ℕ) (chain : ChainState) (response : Option Response) (h : Header) (status : StatusWord)
     → with_pending (state_of held selected chain response) (after_refusal h status (state_of held selected chain response).pending)
     ≡ state_of held selected (idle chain.limit) (kept_after h status response)
 refused_next held selected chain response h status =
     ap (λ p. with_pending (state_of held selected chain response) p) (pending_after (entries_at held selected) chain response h status chain.limit)
 
-pub refused_does : (held : List Held) (selected : Option ℕ) (chain : ChainState) (response next : Option Response) (ask : Ask) (status : StatusWord)
+pub refused_does : (held : List ApplicationView) (selected : Option ℕ) (chain : ChainState) (response next : Option Response) (ask : Ask) (status : StatusWord)
     → refusal (state_of held selected chain response) ask.header ask.p3 ≡ Some status → next ≡ kept_after ask.header status response
     → Does (state_of held selected chain response) ask.cut (refused ask status) (state_of held selected (idle chain.limit) next)
 refused_does held selected chain response next ask status is leaves =
@@ -51,7 +51,7 @@ refused_does held selected chain response next ask status is leaves =
     (refuses ask.header ask.p3 status is)
 
 -- a next state without a chain stands
-pub leaves_standing : (held : List Held) (selected : Option ℕ) (chain : ChainState) (response next : Option Response)
+pub leaves_standing : (held : List ApplicationView) (selected : Option ℕ) (chain : ChainState) (response next : Option Response)
     → IsStanding held selected chain response → IfSome next (IsResponse (entries_at held selected))
     → IsCardState (state_of held selected (idle chain.limit) next) → IsStanding held selected (idle chain.limit) next
 leaves_standing held selected chain response next standing fits sound = record {
@@ -71,7 +71,7 @@ kept_fits P h status response next is fits = subst (λ r. IfSome r P) (sym is) (
     split true = fits
     split false = tt
 
-pub refused_standing : (held : List Held) (selected : Option ℕ) (chain : ChainState) (response next : Option Response) (ask : Ask) (status : StatusWord)
+pub refused_standing : (held : List ApplicationView) (selected : Option ℕ) (chain : ChainState) (response next : Option Response) (ask : Ask) (status : StatusWord)
     → IsStanding held selected chain response → refusal (state_of held selected chain response) ask.header ask.p3 ≡ Some status
     → next ≡ kept_after ask.header status response → IsStanding held selected (idle chain.limit) next
 refused_standing held selected chain response next ask status standing is leaves =

@@ -12,9 +12,9 @@ use Rattle.object_card.specs.declared.ready.Ready.{Ready}
 use Rattle.object_card.specs.declared.ready.Ready.TheVariants as ready
 use Rattle.object_card.specs.Tables.{Entry, AreDistinct, same_bytes, is_locked, with_entry, with_value, with_object}
 use Rattle.object_card.specs.State.{CardState, IsCardState, NothingPending}
-use Rattle.object_card.specs.Held.{Held, applications_of, aid_at, state_of}
+use Rattle.object_card.specs.CardFields.{ApplicationView, applications_of, aid_at, state_of}
 use Rattle.object_card.specs.CardView.{NewValue, IsStanding, IsCard, IsReady, settled_chain, selected_after, response_after, state_with, prepared_of}
-use Rattle.object_card.specs.Settling.{IsStored}
+use Rattle.object_card.specs.PutData.{IsStored}
 use Rattle.object_card.specs.TableLaws.{aids}
 use Rattle.object_card.proofs.SameTag.{itself}
 
@@ -31,7 +31,7 @@ entry_with tag value (e ∷ entries) free = split (same_bytes tag e.tag) refl (e
     split false s more = rw s (ap (λ es. e ∷ es) (more (subst (λ b. (if b then e.locked else is_locked tag entries) ≡ false) s free)))
 
 -- an identifier further on is another
-other_aid : (x : List ℕ) (held : List Held) (i : ℕ) (a : Held) → AllByRecursion (λ y. x ≢ y) (aids (applications_of held)) → slice_get held i ≡ Some a
+other_aid : (x : List ℕ) (held : List ApplicationView) (i : ℕ) (a : ApplicationView) → AllByRecursion (λ y. x ≢ y) (aids (applications_of held)) → slice_get held i ≡ Some a
     → same_bytes a.aid x ≡ false
 other_aid x [] i a all at_place = absurd (cc)
 other_aid x (h ∷ held) zero a all at_place = split (same_bytes a.aid x) refl
@@ -44,7 +44,7 @@ other_aid x (h ∷ held) zero a all at_place = split (same_bytes a.aid x) refl
 other_aid x (h ∷ held) (suc i) a all at_place = other_aid x held i a all.1 at_place
 
 -- a value that is put in an application's place is put under its identifier
-applications_with : (held : List Held) (i : ℕ) (a b : Held) (tag value : List ℕ) → AreDistinct (aids (applications_of held)) → slice_get held i ≡ Some a
+applications_with : (held : List ApplicationView) (i : ℕ) (a b : ApplicationView) (tag value : List ℕ) → AreDistinct (aids (applications_of held)) → slice_get held i ≡ Some a
     → b.aid ≡ a.aid → b.entries ≡ with_entry tag value false a.entries → is_locked tag a.entries ≡ false
     → applications_of (slice_set held i b) ≡ with_object a.aid tag value (applications_of held)
 applications_with [] i a b tag value distinct at_place aid entries free = absurd (cc)
@@ -60,7 +60,7 @@ applications_with (h ∷ held) (suc i) a b tag value distinct at_place aid entri
     (ap (λ xs. record { aid = h.aid; entries = h.entries } ∷ xs) (applications_with held i a b tag value distinct.1 at_place aid entries free))
 
 -- the state with the value that is stored
-state_stored : (held new : List Held) (i : ℕ) (a b : Held) (tag value : List ℕ) (chain : ChainState) (response : Option Response)
+state_stored : (held new : List ApplicationView) (i : ℕ) (a b : ApplicationView) (tag value : List ℕ) (chain : ChainState) (response : Option Response)
     → AreDistinct (aids (applications_of held)) → slice_get held i ≡ Some a → slice_get new i ≡ Some b → b.aid ≡ a.aid
     → b.entries ≡ with_entry tag value false a.entries → is_locked tag a.entries ≡ false → new ≡ slice_set held i b
     → state_of new (Some i) (idle chain.limit) None ≡ state_with (state_of held (Some i) chain response) (Some (tag, value))
@@ -74,12 +74,12 @@ state_stored held new i a b tag value chain response distinct before after aid e
     λ j. record { applications = applications j; selected = selected j; pending = NothingPending }
 
 -- what stands then is sound, and is what was decided
-pub record Settles (held new : List Held) (selected : Option ℕ) (chain : ChainState) (response : Option Response) (ready : Ready) (put : Option NewValue) : Type 0 where
+pub record Settles (held new : List ApplicationView) (selected : Option ℕ) (chain : ChainState) (response : Option Response) (ready : Ready) (put : Option NewValue) : Type 0 where
   pub standing : IsStanding new (selected_after ready selected) (settled_chain chain ready) (response_after ready)
   pub decided : prepared_of held selected chain response ready put
       ≡ Decided (state_of new (selected_after ready selected) (settled_chain chain ready) (response_after ready))
 
-stands_stored : (held new : List Held) (selected : Option ℕ) (chain : ChainState) (response : Option Response) (put : Option NewValue)
+stands_stored : (held new : List ApplicationView) (selected : Option ℕ) (chain : ChainState) (response : Option Response) (put : Option NewValue)
     → IsStanding held selected chain response → IsReady held selected chain response ready.Stores put → IsStored held selected put new
     → Settles held new selected chain response ready.Stores put
 stands_stored held new None chain response put standing fits stored = let no : None ≡ Some fits.0 = fits.3 in absurd (cc)
@@ -103,14 +103,14 @@ stands_stored held new (Some i) chain response put standing fits stored =
       decided = ap Decided (sym settled);
     }
   where
-    some_inj : {x y : Held} → Some x ≡ Some y → x ≡ y
+    some_inj : {x y : ApplicationView} → Some x ≡ Some y → x ≡ y
     some_inj e = cc
 
 -- with no value to put, the applications stay
-unchanged : (held new : List Held) (selected : Option ℕ) (put : Option NewValue) → put ≡ None → IsStored held selected put new → held ≡ new
+unchanged : (held new : List ApplicationView) (selected : Option ℕ) (put : Option NewValue) → put ≡ None → IsStored held selected put new → held ≡ new
 unchanged held new selected put none stored = sym (subst (λ p. IsStored held selected p new) none stored)
 
-pub settles : (held new : List Held) (selected : Option ℕ) (chain : ChainState) (response : Option Response) (ready : Ready) (put : Option NewValue)
+pub settles : (held new : List ApplicationView) (selected : Option ℕ) (chain : ChainState) (response : Option Response) (ready : Ready) (put : Option NewValue)
     → IsCard held selected chain response ready put → IsDecided (prepared_of held selected chain response ready put) → IsStored held selected put new
     → Settles held new selected chain response ready put
 settles held new selected chain response ready.Nothing put card decided stored = absurd decided
@@ -129,7 +129,7 @@ settles held new selected chain response ready.Stores put card decided stored =
     stands_stored held new selected chain response put card.standing card.fits stored
 
 -- the fields once the answer is handed out: they are sound, and what was decided stands
-pub handed_out : (held now new after : List Held) (selected selected_now : Option ℕ) (chain chain_now : ChainState) (response response_now : Option Response)
+pub handed_out : (held now new after : List ApplicationView) (selected selected_now : Option ℕ) (chain chain_now : ChainState) (response response_now : Option Response)
     (made : Ready) (put taken empty : Option NewValue)
     → IsCard held selected chain response made put → IsDecided (prepared_of held selected chain response made put) → IsStored now selected taken new
     → now ≡ held → taken ≡ put → after ≡ new → selected_now ≡ selected_after made selected → chain_now ≡ settled_chain chain made
@@ -140,7 +140,7 @@ handed_out held now new after selected selected_now chain chain_now response res
     let there : IsStored held selected put new = subst (λ p. IsStored held selected p new) taken_is (subst (λ h. IsStored h selected taken new) now_is stored) in
     let s = settles held new selected chain response made put card decided there in
     let old = prepared_of held selected chain response made put in
-    let A : List Held → Type 0 = λ x. IsStanding x (selected_after made selected) (settled_chain chain made) (response_after made) in
+    let A : List ApplicationView → Type 0 = λ x. IsStanding x (selected_after made selected) (settled_chain chain made) (response_after made) in
     let B : Option ℕ → Type 0 = λ x. IsStanding after x (settled_chain chain made) (response_after made) in
     let C : ChainState → Type 0 = λ x. IsStanding after selected_now x (response_after made) in
     let D : Option Response → Type 0 = λ x. IsStanding after selected_now chain_now x in

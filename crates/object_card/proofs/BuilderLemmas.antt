@@ -9,9 +9,9 @@ use Rattle.std.proofs.Math.Seq.{map-set_same}
 use Rattle.tlv_core.specs.Address.{IsAddressable}
 use Rattle.object_card.specs.declared.limits.TheConstants.{ENTRY_LIMIT}
 use Rattle.object_card.specs.Tables.{Entry, Application, IsAid, IsEntry, IsApplication, AreApplications, AreDistinct, IsValueOf, same_bytes, with_value, with_entry, entries_in}
-use Rattle.object_card.specs.Held.{Held, applications_of, aid_at}
+use Rattle.object_card.specs.CardFields.{ApplicationView, applications_of, aid_at}
 use Rattle.object_card.specs.Builder.{last_added, with_application, with_last_entry, TakesApplication, TakesEntry, TakesObject}
-use Rattle.object_card.proofs.HeldLemmas.{entries-in}
+use Rattle.object_card.proofs.CardFieldLemmas.{entries-in}
 use Rattle.object_card.specs.TableLaws.{tags, aids, tags_with, length_with, distinct_with_last}
 
 all_and_last : {T : Type 0} (P : T → Type 0) (xs : List T) (y : T) → AllByRecursion P xs → P y → AllByRecursion P (xs ++ y ∷ [])
@@ -136,10 +136,10 @@ last_set tag value locked (x ∷ y ∷ applications) (suc i) a last is =
     ap (λ xs. x ∷ xs) (last_set tag value locked (y ∷ applications) i a (omega (arith, last)) is)
 
 -- the application that one in memory is
-abbrev pub application_in : Held → Application
+abbrev pub application_in : ApplicationView → Application
 application_in h = record { aid = h.aid; entries = h.entries }
 
-module _ (held : List Held) (old : Held) (some : 0 < length held) (is : old ≡ slice_index_or held (length held - 1) old) where
+module _ (held : List ApplicationView) (old : ApplicationView) (some : 0 < length held) (is : old ≡ slice_index_or held (length held - 1) old) where
   at_last : slice_get (applications_of held) (length held - 1) ≡ Some (application_in old)
   at_last = slice_get-map application_in held (length held - 1)
       ∙ ap (option_map application_in) (slice_get_read held (length held) (length held - 1) old refl (omega (arith, some)) is)
@@ -150,7 +150,7 @@ module _ (held : List Held) (old : Held) (some : 0 < length held) (is : old ≡ 
   pub last_held : last_added (applications_of held) ≡ Some (application_in old)
   last_held = last_is (applications_of held) (length held - 1) (application_in old) last_place at_last
 
-  pub last_replaced : (tag value : List ℕ) (locked : Bool) (new : Held) → new.aid ≡ old.aid → new.entries ≡ with_entry tag value locked old.entries
+  pub last_replaced : (tag value : List ℕ) (locked : Bool) (new : ApplicationView) → new.aid ≡ old.aid → new.entries ≡ with_entry tag value locked old.entries
       → applications_of (slice_set held (length held - 1) new) ≡ with_last_entry tag value locked (applications_of held)
   last_replaced tag value locked new aid entries =
       map-set application_in held (length held - 1) new
@@ -158,7 +158,7 @@ module _ (held : List Held) (old : Held) (some : 0 < length held) (is : old ≡ 
       ∙ ap (λ es. slice_set (applications_of held) (length held - 1) (record { aid = old.aid; entries = es })) entries
       ∙ last_set tag value locked (applications_of held) (length held - 1) (application_in old) last_place at_last
 
-  pub last_stays : (new : Held) → new.aid ≡ old.aid → new.entries ≡ old.entries
+  pub last_stays : (new : ApplicationView) → new.aid ≡ old.aid → new.entries ≡ old.entries
       → applications_of (slice_set held (length held - 1) new) ≡ applications_of held
   last_stays new aid entries = map-set_same application_in held (length held - 1) new old
       (ap (λ x. record { aid = x; entries = new.entries }) aid ∙ ap (λ es. record { aid = old.aid; entries = es }) entries ∙ ap application_in is)
@@ -177,22 +177,22 @@ if_err (Ok x) f p = tt
 if_err (Err e) f p = f e p
 
 -- what a search for an application tells
-abbrev pub Finds : List ℕ → List Held → Option ℕ → Type 0
+abbrev pub Finds : List ℕ → List ApplicationView → Option ℕ → Type 0
 Finds aid held place = MatchOption place (entries_in aid (applications_of held) ≡ None)
     (λ place. (place < length held) × (aid_at held (Some place) ≡ Some aid))
 
-pub finds_in : (aid bytes : List ℕ) (held slice : List Held) (place : Option ℕ) → bytes ≡ aid → slice ≡ held → Finds bytes slice place → Finds aid held place
+pub finds_in : (aid bytes : List ℕ) (held slice : List ApplicationView) (place : Option ℕ) → bytes ≡ aid → slice ≡ held → Finds bytes slice place → Finds aid held place
 finds_in aid bytes held slice place same_aid same_held finds =
     let At : List ℕ → Type 0 = λ x. Finds x held place in
-    let In : List Held → Type 0 = λ x. Finds bytes x place in
+    let In : List ApplicationView → Type 0 = λ x. Finds bytes x place in
     subst At same_aid (subst In same_held finds)
 
-pub is_there : (aid : List ℕ) (held : List Held) (place : Option ℕ) → AreApplications (applications_of held) → Finds aid held place → is_some place ≡ true
+pub is_there : (aid : List ℕ) (held : List ApplicationView) (place : Option ℕ) → AreApplications (applications_of held) → Finds aid held place → is_some place ≡ true
     → is_some (entries_in aid (applications_of held)) ≡ true
 is_there aid held None are finds some = absurd (cc)
 is_there aid held (Some i) are finds some = at_place (slice_get held i) refl
   where
-    at_place : (o : Option Held) → slice_get held i ≡ o → is_some (entries_in aid (applications_of held)) ≡ true
+    at_place : (o : Option ApplicationView) → slice_get held i ≡ o → is_some (entries_in aid (applications_of held)) ≡ true
     at_place None e = let no : None ≡ Some aid = sym (ap (option_map (λ a. a.aid)) e) ∙ finds.1 in absurd (cc)
     at_place (Some a) e =
         let is : Some a.aid ≡ Some aid = sym (ap (option_map (λ a. a.aid)) e) ∙ finds.1 in
@@ -200,13 +200,13 @@ is_there aid held (Some i) are finds some = at_place (slice_get held i) refl
         let IsThere : List ℕ → Type 0 = λ x. is_some (entries_in x (applications_of held)) ≡ true in
         subst IsThere same (ap is_some (entries-in held i a are.distinct_aids e))
 
-pub is_not_there : (aid : List ℕ) (held : List Held) (place : Option ℕ) → Finds aid held place → is_some place ≡ false
+pub is_not_there : (aid : List ℕ) (held : List ApplicationView) (place : Option ℕ) → Finds aid held place → is_some place ≡ false
     → entries_in aid (applications_of held) ≡ None
 is_not_there aid held None finds none = finds
 is_not_there aid held (Some i) finds none = absurd (cc)
 
 -- one more application in memory
-pub pushed : (held after : List Held) (new : Held) (aid : List ℕ) (done : Bool) → after ≡ (if done then held ++ new ∷ [] else held) → done ≡ true
+pub pushed : (held after : List ApplicationView) (new : ApplicationView) (aid : List ℕ) (done : Bool) → after ≡ (if done then held ++ new ∷ [] else held) → done ≡ true
     → new.aid ≡ aid → new.entries ≡ [] → applications_of after ≡ with_application aid (applications_of held)
 pushed held after new aid done is yes_done aid_is none =
     ap applications_of (subst (λ b. after ≡ (if b then held ++ new ∷ [] else held)) yes_done is) ∙ map-append application_in held (new ∷ [])

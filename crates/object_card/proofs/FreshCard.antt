@@ -10,7 +10,7 @@ use Rattle.object_card.specs.declared.response.Response.{Response}
 use Rattle.object_card.specs.declared.ready.Ready.{Ready}
 use Rattle.object_card.specs.declared.ready.Ready.TheVariants as ready
 use Rattle.object_card.specs.Tables.{AreApplications}
-use Rattle.object_card.specs.Held.{Held, applications_of, entries_at, left_of}
+use Rattle.object_card.specs.CardFields.{ApplicationView, applications_of, entries_at, left_of}
 use Rattle.object_card.specs.CardView.{IsCard, NewValue, chain_before, prepared_of, standing_chain}
 
 chain_limit : (chain : ChainState) (before : Option ℕ) → (chain_before chain before).limit ≡ chain.limit
@@ -27,7 +27,7 @@ standing_limit chain (ready.Selects application response) = refl
 standing_limit chain (ready.Joins before) = chain_limit chain before
 standing_limit chain ready.Stores = refl
 
-pub is_fresh : (held : List Held) (chain : ChainState) → AreApplications (applications_of held) → chain ≡ idle VALUE_LIMIT
+pub is_fresh : (held : List ApplicationView) (chain : ChainState) → AreApplications (applications_of held) → chain ≡ idle VALUE_LIMIT
     → IsCard held None chain None ready.Nothing None
 is_fresh held chain are is =
     let Fresh : ChainState → Type 0 = λ c. IsCard held None c None ready.Nothing None in
@@ -52,7 +52,7 @@ of_whole (b ∷ bytes) (suc n) zero byte lt is = is
 of_whole (b ∷ bytes) (suc n) (suc at) byte lt is = of_whole bytes n at byte (omega (arith, lt)) is
 
 -- the byte that is read is that of the data to send
-pub sends_byte : (held : List Held) (selected : Option ℕ) (chain : ChainState) (response : Option Response) (r : Ready)
+pub sends_byte : (held : List ApplicationView) (selected : Option ℕ) (chain : ChainState) (response : Option Response) (r : Ready)
     (put : Option NewValue) (h : Header) (p3 cut : ℕ) (sent : Response) (at byte : ℕ) → r ≡ ready.Sends h p3 cut sent
     → slice_get (left_of (entries_at held selected) sent) at ≡ Some byte
     → IsSending (prepared_of held selected chain response r put) (λ ask bytes. at < length bytes)

@@ -9,7 +9,7 @@ use Rattle.object_card.specs.declared.ready.Ready.{Ready}
 use Rattle.object_card.specs.declared.ready.Ready.TheVariants as ready
 use Rattle.object_card.specs.Tables.{Entry}
 use Rattle.object_card.specs.State.{Pending, NothingPending, ChainPending, ResponsePending, IsPending, is_idle, waiting}
-use Rattle.object_card.specs.Held.{chain_pending, pending_in}
+use Rattle.object_card.specs.CardFields.{chain_pending, pending_in}
 use Rattle.object_card.specs.CardView.{chain_before, standing_chain, stands_idle}
 
 of_chain : (pending : Option Header) (bytes : List ℕ) → is_idle (chain_pending pending bytes) ≡ not (is_some pending)

@@ -4,9 +4,9 @@ pub mod BuilderLemmas
 pub mod CardMethodLemmas
 pub mod EntryLaws
 pub mod FreshCard
-pub mod HeldLemmas
+pub mod CardFieldLemmas
 pub mod IdleLemmas
-pub mod JudgingLemmas
+pub mod HeaderRefusalLemmas
 pub mod OutcomeLaws
 pub mod PendingLaws
 pub mod PutDataLemmas
@@ -19,5 +19,5 @@ pub mod SendingLemmas
 pub mod ShownPutLemmas
 pub mod ShownVectors
 pub mod Stored
-pub mod TakingLemmas
+pub mod PutValueLemmas
 pub mod Vectors

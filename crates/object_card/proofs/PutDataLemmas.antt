@@ -15,12 +15,12 @@ use Rattle.object_card.specs.State.{CardState, IsCardState, NothingPending, Chai
 use Rattle.object_card.specs.OneStep.{Put, reply, Answers, PutStatus, stores, does_not_store, wants_memory, with_put}
 use Rattle.object_card.specs.Refusals.{refusal, breaks_chain, is_select, is_put, named_tag, class_is_known, is_locked_among, UnknownClass, WrongParameters, LockedEntry}
 use Rattle.object_card.specs.CardMeaning.{Does, chains, puts_value}
-use Rattle.object_card.specs.Held.{Held, IsResponse, applications_of, aid_at, entries_at, pending_in, chain_pending, state_of}
+use Rattle.object_card.specs.CardFields.{ApplicationView, IsResponse, applications_of, aid_at, entries_at, pending_in, chain_pending, state_of}
 use Rattle.object_card.specs.CardView.{IsStanding, IsAsked, chain_before, length_before}
-use Rattle.object_card.specs.Taking.{CanPut, DoesNotStore}
+use Rattle.object_card.specs.PutData.{CanPut, DoesNotStore}
 use Rattle.object_card.specs.StateLaws.{stays_sound, none_holds, keeps_to_limit, put_is_selected}
 use Rattle.object_card.specs.TagLaws.{names}
-use Rattle.object_card.proofs.HeldLemmas.{entries-in, selected-known, chained-bytes}
+use Rattle.object_card.proofs.CardFieldLemmas.{entries-in, selected-known, chained-bytes}
 
 -- the chain accepts what does not break it
 pub accepts : (entries : List Entry) (chain : ChainState) (response : Option Response) (h : Header) → (IsSome response → chain.pending ≡ None)
@@ -64,7 +64,7 @@ before_fits chain content = split chain.pending
     split (Some first) = omega (arith, length-append chain.bytes content)
 
 -- the limit of the chain is kept
-pub joins_room : (held : List Held) (selected : Option ℕ) (chain : ChainState) (response : Option Response) (h : Header) (p3 : ℕ)
+pub joins_room : (held : List ApplicationView) (selected : Option ℕ) (chain : ChainState) (response : Option Response) (h : Header) (p3 : ℕ)
     → IsStanding held selected chain response → IsChain chain → refusal (state_of held selected chain response) h p3 ≡ None → is_put h ≡ true
     → length chain.bytes + p3 ≤ VALUE_LIMIT
 joins_room held selected chain response h p3 standing is none put =
@@ -74,7 +74,7 @@ joins_room held selected chain response h p3 standing is none put =
       ap length (chained-bytes (entries_at held selected) chain response is standing.alone),
     )
 
-pub joins_does : (held : List Held) (selected : Option ℕ) (chain : ChainState) (response : Option Response) (h : Header) (cut : ℕ) (content : List ℕ) (status : StatusWord)
+pub joins_does : (held : List ApplicationView) (selected : Option ℕ) (chain : ChainState) (response : Option Response) (h : Header) (cut : ℕ) (content : List ℕ) (status : StatusWord)
     → IsStanding held selected chain response → IsChain chain → IsAsked (state_of held selected chain response) h (length content) cut → is_put h ≡ true
     → h.cla ≡ 0x10 → status ≡ ok
     → Does (state_of held selected chain response) cut (taken_with (record { header = h; p3 = length content; cut = cut }) content status)
@@ -87,7 +87,7 @@ joins_does held selected chain response h cut content status standing is asked p
     (with_pending s (ChainPending h.p1 h.p2 (bytes ++ content))) in
     subst Bytes (chained-bytes (entries_at held selected) chain response is standing.alone) (subst Answered (sym status_is) (chains h content asked.taken put cla))
 
-pub joins_standing : (held : List Held) (selected : Option ℕ) (chain : ChainState) (response : Option Response) (h : Header) (cut : ℕ) (content : List ℕ) (status : StatusWord)
+pub joins_standing : (held : List ApplicationView) (selected : Option ℕ) (chain : ChainState) (response : Option Response) (h : Header) (cut : ℕ) (content : List ℕ) (status : StatusWord)
     → IsStanding held selected chain response → IsChain chain → IsAsked (state_of held selected chain response) h (length content) cut → is_put h ≡ true
     → h.cla ≡ 0x10 → status ≡ ok → IsStanding held selected (added chain h content) None
 joins_standing held selected chain response h cut content status standing is asked put cla status_is = record {
@@ -112,13 +112,13 @@ last_class s h p3 none put other =
     split false true = refl
     split false false = refl
 
-pub there : (held : List Held) (i : ℕ) → i < length held → (a : Held) × (slice_get held i ≡ Some a)
+pub there : (held : List ApplicationView) (i : ℕ) → i < length held → (a : ApplicationView) × (slice_get held i ≡ Some a)
 there [] i within = absurd (omega (arith, within))
 there (h ∷ held) zero within = (h, refl)
 there (h ∷ held) (suc i) within = there held i (omega (arith, within))
 
 -- a PUT DATA that is not refused can put its value
-pub can_put : (held : List Held) (i : ℕ) (chain : ChainState) (response : Option Response) (h : Header) (content : List ℕ)
+pub can_put : (held : List ApplicationView) (i : ℕ) (chain : ChainState) (response : Option Response) (h : Header) (content : List ℕ)
     → IsStanding held (Some i) chain response → IsChain chain → refusal (state_of held (Some i) chain response) h (length content) ≡ None → is_put h ≡ true
     → CanPut held i h (chain.bytes ++ content)
 can_put held i chain response h content standing is none put =
@@ -133,7 +133,7 @@ can_put held i chain response h content standing is none put =
     subst (λ es. is_locked_among (named_tag h.p1 h.p2) es ≡ false) selected free in
     split a at_place (named_tag h.p1 h.p2) refl named free_there
   where
-    split : (a : Held) → slice_get held i ≡ Some a → (v : Option (List ℕ)) → named_tag h.p1 h.p2 ≡ v → is_some v ≡ true → is_locked_among v (Some a.entries) ≡ false
+    split : (a : ApplicationView) → slice_get held i ≡ Some a → (v : Option (List ℕ)) → named_tag h.p1 h.p2 ≡ v → is_some v ≡ true → is_locked_among v (Some a.entries) ≡ false
         → CanPut held i h (chain.bytes ++ content)
     split a at_place None e some free = absurd (cc)
     split a at_place (Some tag) e some free = (
@@ -150,7 +150,7 @@ can_put held i chain response h content standing is none put =
     )
 
 -- other room changes no state
-same_applications : (held : List Held) (i : ℕ) (a b : Held) → slice_get held i ≡ Some a → b.aid ≡ a.aid → b.entries ≡ a.entries
+same_applications : (held : List ApplicationView) (i : ℕ) (a b : ApplicationView) → slice_get held i ≡ Some a → b.aid ≡ a.aid → b.entries ≡ a.entries
     → applications_of (slice_set held i b) ≡ applications_of held
 same_applications [] i a b at_place aid entries = refl
 same_applications (h ∷ held) zero a b at_place aid entries =
@@ -161,7 +161,7 @@ same_applications (h ∷ held) zero a b at_place aid entries =
 same_applications (h ∷ held) (suc i) a b at_place aid entries =
     ap (λ xs. record { aid = h.aid; entries = h.entries } ∷ xs) (same_applications held i a b at_place aid entries)
 
-pub same_state : (held new : List Held) (i : ℕ) (a b : Held) (chain : ChainState) (response : Option Response) → slice_get held i ≡ Some a → slice_get new i ≡ Some b
+pub same_state : (held new : List ApplicationView) (i : ℕ) (a b : ApplicationView) (chain : ChainState) (response : Option Response) → slice_get held i ≡ Some a → slice_get new i ≡ Some b
     → b.aid ≡ a.aid → b.entries ≡ a.entries → new ≡ slice_set held i b → state_of new (Some i) chain response ≡ state_of held (Some i) chain response
 same_state held new i a b chain response before after aid entries is =
     let applications : applications_of new ≡ applications_of held = ap applications_of is ∙ same_applications held i a b before aid entries in
@@ -170,12 +170,12 @@ same_state held new i a b chain response before after aid entries is =
     ap (λ v. unwrap_or (option_map (λ a. a.entries) v) []) after ∙ entries ∙ sym (ap (λ v. unwrap_or (option_map (λ a. a.entries) v) []) before) in
     λ j. record { applications = applications j; selected = selected j; pending = pending_in (there_are j) chain response }
 
-pub same_entries : (held new : List Held) (i : ℕ) (a b : Held) → slice_get held i ≡ Some a → slice_get new i ≡ Some b → b.entries ≡ a.entries
+pub same_entries : (held new : List ApplicationView) (i : ℕ) (a b : ApplicationView) → slice_get held i ≡ Some a → slice_get new i ≡ Some b → b.entries ≡ a.entries
     → entries_at new (Some i) ≡ entries_at held (Some i)
 same_entries held new i a b before after entries =
     ap (λ v. unwrap_or (option_map (λ a. a.entries) v) []) after ∙ entries ∙ sym (ap (λ v. unwrap_or (option_map (λ a. a.entries) v) []) before)
 
-pub same_standing : (held new : List Held) (i : ℕ) (a b : Held) (chain : ChainState) (response : Option Response) → slice_get held i ≡ Some a → slice_get new i ≡ Some b
+pub same_standing : (held new : List ApplicationView) (i : ℕ) (a b : ApplicationView) (chain : ChainState) (response : Option Response) → slice_get held i ≡ Some a → slice_get new i ≡ Some b
     → b.aid ≡ a.aid → b.entries ≡ a.entries → new ≡ slice_set held i b → IsStanding held (Some i) chain response → IsStanding new (Some i) chain response
 same_standing held new i a b chain response before after aid entries is standing = record {
   sound = subst IsCardState (sym (same_state held new i a b chain response before after aid entries is)) standing.sound;
@@ -190,7 +190,7 @@ abbrev pub state_put : CardState → List ℕ → List ℕ → CardState
 state_put s tag value = with_pending (with_put s (unwrap_or s.selected []) tag value) NothingPending
 
 -- the value of a PUT DATA, and what it is answered
-put_answered : (held : List Held) (i : ℕ) (chain : ChainState) (response : Option Response) (h : Header) (cut : ℕ) (content tag : List ℕ) (status : StatusWord) (new : CardState)
+put_answered : (held : List ApplicationView) (i : ℕ) (chain : ChainState) (response : Option Response) (h : Header) (cut : ℕ) (content tag : List ℕ) (status : StatusWord) (new : CardState)
     → IsStanding held (Some i) chain response → IsChain chain → IsAsked (state_of held (Some i) chain response) h (length content) cut → is_put h ≡ true
     → h.cla ≡ 0x00 → named_tag h.p1 h.p2 ≡ Some tag
     → Answers (state_of held (Some i) chain response) (Put tag (chain.bytes ++ content)) (reply status) new
@@ -201,7 +201,7 @@ put_answered held i chain response h cut content tag status new standing is aske
     puts_value h content tag (reply status) new asked.taken put cla (names tag h.p1 h.p2 named)
     (subst Value (sym (chained-bytes (entries_at held (Some i)) chain response is standing.alone)) answers)
 
-pub stores_does : (held : List Held) (i : ℕ) (a : Held) (chain : ChainState) (response : Option Response) (h : Header) (cut : ℕ) (content tag : List ℕ) (status : StatusWord)
+pub stores_does : (held : List ApplicationView) (i : ℕ) (a : ApplicationView) (chain : ChainState) (response : Option Response) (h : Header) (cut : ℕ) (content tag : List ℕ) (status : StatusWord)
     → IsStanding held (Some i) chain response → IsChain chain → IsAsked (state_of held (Some i) chain response) h (length content) cut → is_put h ≡ true
     → h.cla ≡ 0x00 → named_tag h.p1 h.p2 ≡ Some tag → slice_get held i ≡ Some a → PutStatus a.entries tag (chain.bytes ++ content) ok → status ≡ ok
     → Does (state_of held (Some i) chain response) cut (taken_with (record { header = h; p3 = length content; cut = cut }) content status)
@@ -218,7 +218,7 @@ stores_does held i a chain response h cut content tag status standing is asked p
     subst New (sym (ap (λ v. unwrap_or v []) selected))
     (put_answered held i chain response h cut content tag status (with_put s a.aid tag value) standing is asked put cla named answers)
 
-pub does_not_does : (held : List Held) (i : ℕ) (a : Held) (chain : ChainState) (response : Option Response) (h : Header) (cut : ℕ) (content tag : List ℕ) (status : StatusWord)
+pub does_not_does : (held : List ApplicationView) (i : ℕ) (a : ApplicationView) (chain : ChainState) (response : Option Response) (h : Header) (cut : ℕ) (content tag : List ℕ) (status : StatusWord)
     → IsStanding held (Some i) chain response → IsChain chain → IsAsked (state_of held (Some i) chain response) h (length content) cut → is_put h ≡ true
     → h.cla ≡ 0x00 → named_tag h.p1 h.p2 ≡ Some tag → slice_get held i ≡ Some a → DoesNotStore a.entries tag (chain.bytes ++ content) status
     → Does (state_of held (Some i) chain response) cut (taken_with (record { header = h; p3 = length content; cut = cut }) content status)
@@ -236,7 +236,7 @@ does_not_does held i a chain response h cut content tag status standing is asked
 pub not_select : (h : Header) → (is_select h || is_put h) ≡ true → h.ins ≢ 0xA4 → is_put h ≡ true
 not_select h toward other = subst (λ v. v ≡ true) (rw (ne_eqb h.ins 0xA4 other) refl) toward
 
-pub selected_there : (held : List Held) (selected : Option ℕ) (chain : ChainState) (response : Option Response) (h : Header) (p3 : ℕ)
+pub selected_there : (held : List ApplicationView) (selected : Option ℕ) (chain : ChainState) (response : Option Response) (h : Header) (p3 : ℕ)
     → refusal (state_of held selected chain response) h p3 ≡ None → is_put h ≡ true → IsSome selected
 selected_there held None chain response h p3 none put = put_is_selected (state_of held None chain response) h p3 none put
 selected_there held (Some i) chain response h p3 none put = refl

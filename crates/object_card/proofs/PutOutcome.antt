@@ -11,9 +11,9 @@ use Rattle.object_card.specs.Tables.{Entry, is_locked}
 use Rattle.object_card.specs.OneStep.{PutStatus, not_allowed, wrong_length, wrong_data, no_space, stored}
 use Rattle.object_card.specs.Refusals.{is_put}
 use Rattle.object_card.specs.CardMeaning.{Does}
-use Rattle.object_card.specs.Held.{Held, state_of}
+use Rattle.object_card.specs.CardFields.{ApplicationView, state_of}
 use Rattle.object_card.specs.CardView.{NewValue, IsStanding, IsAsked, IsCard, prepared_of, standing_chain}
-use Rattle.object_card.specs.Taking.{IsPut}
+use Rattle.object_card.specs.PutData.{IsPut}
 use Rattle.object_card.specs.StateLaws.{stays_sound}
 use Rattle.object_card.proofs.AnswerLemmas.{leaves_standing}
 use Rattle.object_card.proofs.PutDataLemmas.{last_class, same_state, same_standing, stores_does, does_not_does, state_put}
@@ -26,14 +26,14 @@ stored_free entries tag value status (no_space free fits kind none full) is = fr
 stored_free entries tag value status (stored free fits kind room) is = free
 
 -- what is to show of what is ready then
-abbrev pub Comes : List Held → List Held → ℕ → ChainState → Option Response → Header → ℕ → ℕ → List ℕ → StatusWord → Ready → Option NewValue → Type 0
+abbrev pub Comes : List ApplicationView → List ApplicationView → ℕ → ChainState → Option Response → Header → ℕ → ℕ → List ℕ → StatusWord → Ready → Option NewValue → Type 0
 Comes held new i chain response h p3 cut content status next put =
     Decides Does (state_of held (Some i) chain response) cut (taken_with (record { header = h; p3 = p3; cut = cut }) content status)
     (prepared_of new (Some i) chain response next put)
     × IsCard new (Some i) chain response next put
     × (state_of new (Some i) (standing_chain chain next) response ≡ state_of held (Some i) chain response)
 
-comes_whole : (held new : List Held) (i : ℕ) (chain : ChainState) (response : Option Response) (h : Header) (cut : ℕ) (content : List ℕ) (status : StatusWord)
+comes_whole : (held new : List ApplicationView) (i : ℕ) (chain : ChainState) (response : Option Response) (h : Header) (cut : ℕ) (content : List ℕ) (status : StatusWord)
     (next : Ready) (put : Option NewValue) → IsStanding held (Some i) chain response → IsAsked (state_of held (Some i) chain response) h (length content) cut
     → is_put h ≡ true → IsChain chain → h.cla ≢ 0x10 → IsPut held i h (chain.bytes ++ content) new status next put
     → Comes held new i chain response h (length content) cut content status next put
@@ -69,7 +69,7 @@ comes_whole held new i chain response h cut content status next put standing ask
           subst (λ p. Goal next p) (sym does_not.1) (subst (λ n. Goal n None) (sym does_not.0) here)
     ]
 
-pub comes : (held new : List Held) (i : ℕ) (chain : ChainState) (response : Option Response) (h : Header) (p3 cut : ℕ) (content : List ℕ) (status : StatusWord)
+pub comes : (held new : List ApplicationView) (i : ℕ) (chain : ChainState) (response : Option Response) (h : Header) (p3 cut : ℕ) (content : List ℕ) (status : StatusWord)
     (next : Ready) (put : Option NewValue) → IsStanding held (Some i) chain response → IsAsked (state_of held (Some i) chain response) h p3 cut
     → is_put h ≡ true → length content ≡ p3 → IsChain chain → h.cla ≢ 0x10 → IsPut held i h (chain.bytes ++ content) new status next put
     → Comes held new i chain response h p3 cut content status next put

@@ -12,12 +12,12 @@ use Rattle.object_card.specs.State.{ResponsePending, with_pending, with_selected
 use Rattle.object_card.specs.OneStep.{control_information}
 use Rattle.object_card.specs.Refusals.{is_select}
 use Rattle.object_card.specs.CardMeaning.{Does, selects_application, misses_application, announcing}
-use Rattle.object_card.specs.Held.{Held, IsWhole, IsResponse, applications_of, aid_at, entries_at, left_of, state_of}
+use Rattle.object_card.specs.CardFields.{ApplicationView, IsWhole, IsResponse, applications_of, aid_at, entries_at, left_of, state_of}
 use Rattle.object_card.specs.CardView.{IsStanding, IsAsked}
 use Rattle.object_card.specs.StateLaws.{stays_sound}
-use Rattle.object_card.proofs.HeldLemmas.{entries-in, whole_left}
+use Rattle.object_card.proofs.CardFieldLemmas.{entries-in, whole_left}
 
-pub misses_does : (held : List Held) (selected : Option ℕ) (chain : ChainState) (response : Option Response) (h : Header) (cut : ℕ) (aid : List ℕ) (status : StatusWord)
+pub misses_does : (held : List ApplicationView) (selected : Option ℕ) (chain : ChainState) (response : Option Response) (h : Header) (cut : ℕ) (aid : List ℕ) (status : StatusWord)
     → IsAsked (state_of held selected chain response) h (length aid) cut → is_select h ≡ true → entries_in aid (applications_of held) ≡ None
     → status ≡ (0x6A, 0x82)
     → Does (state_of held selected chain response) cut (taken_with (record { header = h; p3 = length aid; cut = cut }) aid status)
@@ -39,8 +39,8 @@ whole_response entries r front whole = record {
   begun = omega (arith, whole.unsent);
 }
 
-pub selects_does : (held : List Held) (selected : Option ℕ) (chain : ChainState) (response : Option Response) (h : Header) (cut : ℕ) (aid : List ℕ)
-    (i : ℕ) (a : Held) (r : Response) (status : StatusWord) → IsStanding held selected chain response
+pub selects_does : (held : List ApplicationView) (selected : Option ℕ) (chain : ChainState) (response : Option Response) (h : Header) (cut : ℕ) (aid : List ℕ)
+    (i : ℕ) (a : ApplicationView) (r : Response) (status : StatusWord) → IsStanding held selected chain response
     → IsAsked (state_of held selected chain response) h (length aid) cut → is_select h ≡ true → slice_get held i ≡ Some a → a.aid ≡ aid
     → left_of (entries_at held (Some i)) r ≡ control_information aid → status ≡ announcing (control_information aid) cut
     → Does (state_of held selected chain response) cut (taken_with (record { header = h; p3 = length aid; cut = cut }) aid status)
@@ -58,8 +58,8 @@ selects_does held selected chain response h cut aid i a r status standing asked 
     (record { applications = applications_of held; selected = x; pending = ResponsePending (left_of (entries_at held (Some i)) r) }) in
     subst Chosen (sym chosen) (subst Pending (sym whole) (subst Answered (sym is) (selects_application h aid asked.taken select (ap is_some found))))
 
-pub selects_standing : (held : List Held) (selected : Option ℕ) (chain : ChainState) (response : Option Response) (h : Header) (cut : ℕ) (aid : List ℕ)
-    (i : ℕ) (a : Held) (r : Response) (status : StatusWord) → IsStanding held selected chain response
+pub selects_standing : (held : List ApplicationView) (selected : Option ℕ) (chain : ChainState) (response : Option Response) (h : Header) (cut : ℕ) (aid : List ℕ)
+    (i : ℕ) (a : ApplicationView) (r : Response) (status : StatusWord) → IsStanding held selected chain response
     → IsAsked (state_of held selected chain response) h (length aid) cut → is_select h ≡ true → slice_get held i ≡ Some a → a.aid ≡ aid
     → left_of (entries_at held (Some i)) r ≡ control_information aid → status ≡ announcing (control_information aid) cut
     → i < length held → IsResponse (entries_at held (Some i)) r

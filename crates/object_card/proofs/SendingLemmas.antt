@@ -16,10 +16,10 @@ use Rattle.object_card.specs.Tables.{Entry, IsEntry}
 use Rattle.object_card.specs.State.{CardState, IsCardState, ResponsePending, pending_of, with_pending}
 use Rattle.object_card.specs.Refusals.{is_get, is_get_response, to_send}
 use Rattle.object_card.specs.CardMeaning.{Does, sends, announcing}
-use Rattle.object_card.specs.Held.{Held, IsResponse, held_at, entries_at, value_at, whole_of, left_of, pending_in, state_of}
+use Rattle.object_card.specs.CardFields.{ApplicationView, IsResponse, held_at, entries_at, value_at, whole_of, left_of, pending_in, state_of}
 use Rattle.object_card.specs.CardView.{IsStanding, IsAsked}
 use Rattle.object_card.specs.StateLaws.{stays_sound}
-use Rattle.object_card.proofs.HeldLemmas.{entries-sound, entries-known}
+use Rattle.object_card.proofs.CardFieldLemmas.{entries-sound, entries-known}
 use Rattle.object_card.proofs.AnswerLemmas.{leaves_standing, enough_left}
 
 abbrev pub next_at : ℕ → Response → Option Response
@@ -34,15 +34,15 @@ value_fits : (entries : List Entry) (place : Option ℕ) → AllByRecursion IsEn
 value_fits entries None all = omega arith
 value_fits entries (Some i) all = value_few entries i all
 
-all_sound : (held : List Held) (selected : Option ℕ) (chain : ChainState) (response : Option Response) → IsCardState (state_of held selected chain response)
+all_sound : (held : List ApplicationView) (selected : Option ℕ) (chain : ChainState) (response : Option Response) → IsCardState (state_of held selected chain response)
     → AllByRecursion IsEntry (entries_at held selected)
 all_sound held selected chain response is = split (held_at held selected) refl
   where
-    split : (v : Option Held) → held_at held selected ≡ v → AllByRecursion IsEntry (entries_at held selected)
+    split : (v : Option ApplicationView) → held_at held selected ≡ v → AllByRecursion IsEntry (entries_at held selected)
     split None e = subst (λ v. AllByRecursion IsEntry (unwrap_or (option_map (λ a. a.entries) v) [])) (sym e) tt
     split (Some a) e = subst (AllByRecursion IsEntry) (sym (entries-known held selected a e)) (entries-sound held selected chain response a is e)
 
-pub sent_few : (held : List Held) (selected : Option ℕ) (chain : ChainState) (response : Option Response) (r : Response)
+pub sent_few : (held : List ApplicationView) (selected : Option ℕ) (chain : ChainState) (response : Option Response) (r : Response)
     → IsStanding held selected chain response → IsResponse (entries_at held selected) r → r.sent ≤ 20 + VALUE_LIMIT
 sent_few held selected chain response r standing fits =
     omega (
@@ -57,7 +57,7 @@ sent_few held selected chain response r standing fits =
 pub count_few : (p3 : ℕ) → p3 < 256 → count p3 ≤ 256
 count_few p3 small = elim (eqb_tells p3 0) [ inl none ↦ rw none.0 (omega arith) | inr some ↦ rw some.0 (omega (arith, small)) ]
 
-pub enough : (held : List Held) (selected : Option ℕ) (chain : ChainState) (response : Option Response) (h : Header) (p3 cut : ℕ) (r : Response)
+pub enough : (held : List ApplicationView) (selected : Option ℕ) (chain : ChainState) (response : Option Response) (h : Header) (p3 cut : ℕ) (r : Response)
     → IsAsked (state_of held selected chain response) h p3 cut → (is_get h || is_get_response h) ≡ true
     → left_of (entries_at held selected) r ≡ to_send (state_of held selected chain response) h
     → count p3 ≤ length (left_of (entries_at held selected) r)
@@ -83,7 +83,7 @@ next_pending entries (b ∷ xs) rest next n is left =
     let some : (length (b ∷ xs) == 0) ≡ false = ne_eqb (length (b ∷ xs)) 0 (λ e. omega (arith, e)) in
     ap (λ r. pending_in entries (idle n) r) (is ∙ ap (λ v. if v then None else Some rest) some) ∙ ap (λ l. ResponsePending l) left
 
-pub sends_does : (held : List Held) (selected : Option ℕ) (chain : ChainState) (response : Option Response) (h : Header) (p3 cut : ℕ) (r rest : Response)
+pub sends_does : (held : List ApplicationView) (selected : Option ℕ) (chain : ChainState) (response : Option Response) (h : Header) (p3 cut : ℕ) (r rest : Response)
     (next : Option Response) (status : StatusWord)
     → IsAsked (state_of held selected chain response) h p3 cut → (is_get h || is_get_response h) ≡ true
     → left_of (entries_at held selected) r ≡ to_send (state_of held selected chain response) h
@@ -113,7 +113,7 @@ next_fits P n rest next is fits = subst (λ r. IfSome r P) (sym is) (split (n ==
     split true = tt
     split false = fits
 
-pub sends_standing : (held : List Held) (selected : Option ℕ) (chain : ChainState) (response : Option Response) (h : Header) (p3 cut : ℕ) (r rest : Response)
+pub sends_standing : (held : List ApplicationView) (selected : Option ℕ) (chain : ChainState) (response : Option Response) (h : Header) (p3 cut : ℕ) (r rest : Response)
     (next : Option Response) (status : StatusWord) → IsStanding held selected chain response
     → IsAsked (state_of held selected chain response) h p3 cut → (is_get h || is_get_response h) ≡ true
     → left_of (entries_at held selected) r ≡ to_send (state_of held selected chain response) h

@@ -5,7 +5,7 @@ use Rattle.std.specs.Map.{lookup, values_of}
 use Rattle.std.proofs.lemmas.Option.{slice_get-map}
 use Rattle.indexmap.specs.IndexMap.{insert_entry}
 use Rattle.object_card.specs.Tables.{Entry, same_bytes, value_under, is_locked, with_entry}
-use Rattle.object_card.specs.Held.{value_at}
+use Rattle.object_card.specs.CardFields.{value_at}
 
 module _ {V : Type 0} (value : V → List ℕ) (locked : V → Bool) where
   -- the entry that a pair of the map is

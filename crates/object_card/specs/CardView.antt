@@ -12,7 +12,7 @@ use Rattle.object_card.specs.State.{CardState, IsCardState, NothingPending, with
 use Rattle.object_card.specs.OneStep.{with_put}
 use Rattle.object_card.specs.Tables.{is_locked}
 use Rattle.object_card.specs.Refusals.{refusal, is_select, is_put, is_get, is_get_response, to_send}
-use Rattle.object_card.specs.Held.{Held, HasPlace, IsResponse, held_at, entries_at, left_of, state_of}
+use Rattle.object_card.specs.CardFields.{ApplicationView, HasPlace, IsResponse, held_at, entries_at, left_of, state_of}
 
 -- the state that stands, and what is made ready
 pub record CardView : Type 0 where
@@ -92,7 +92,7 @@ state_with state (Some value) =
     with_pending (with_put state (unwrap_or state.selected []) value.0 value.1) NothingPending
 
 -- what is prepared, where this is the state that stands
-abbrev pub prepared_of : List Held → Option ℕ → ChainState → Option Response → Ready
+abbrev pub prepared_of : List ApplicationView → Option ℕ → ChainState → Option Response → Ready
     → Option NewValue → Prepared CardState
 prepared_of held selected chain response ready.Nothing put = Nothing
 prepared_of held selected chain response (ready.Receives h p3 cut) put =
@@ -109,7 +109,7 @@ prepared_of held selected chain response (ready.Joins before) put =
 prepared_of held selected chain response ready.Stores put =
     Decided (state_with (state_of held selected chain response) put)
 
-abbrev pub view_of : List Held → Option ℕ → ChainState → Option Response → Ready → Option NewValue
+abbrev pub view_of : List ApplicationView → Option ℕ → ChainState → Option Response → Ready → Option NewValue
     → CardView
 view_of held selected chain response ready put = record {
   state = state_of held selected (standing_chain chain ready) response;
@@ -118,7 +118,7 @@ view_of held selected chain response ready put = record {
 
 -- The fields, apart from what is ready: a sound state; a chain of PUT DATA alone; a response that
 -- is held, where no chain is pending.
-pub record IsStanding (held : List Held) (selected : Option ℕ) (chain : ChainState)
+pub record IsStanding (held : List ApplicationView) (selected : Option ℕ) (chain : ChainState)
     (response : Option Response) : Type 0 where
   pub sound : IsCardState (state_of held selected chain response)
   pub selected_is : IfSome selected (λ place. place < length held)
@@ -135,7 +135,7 @@ pub record IsAsked (state : CardState) (h : Header) (p3 cut : ℕ) : Type 0 wher
   pub cut_to : cut ≤ 256
 
 -- what is ready fits what stands
-abbrev pub IsReady : List Held → Option ℕ → ChainState → Option Response → Ready → Option NewValue
+abbrev pub IsReady : List ApplicationView → Option ℕ → ChainState → Option Response → Ready → Option NewValue
     → Type 0
 IsReady held selected chain response ready.Nothing put = put ≡ None
 IsReady held selected chain response (ready.Receives h p3 cut) put =
@@ -155,13 +155,13 @@ IsReady held selected chain response (ready.Joins before) put =
     IsStanding held selected chain None × IfSome before (λ len. len ≤ length chain.bytes)
     × (put ≡ None)
 IsReady held selected chain response ready.Stores put =
-    (a : Held) × (tag value : List ℕ) × (held_at held selected ≡ Some a) × (put ≡ Some (tag, value))
+    (a : ApplicationView) × (tag value : List ℕ) × (held_at held selected ≡ Some a) × (put ≡ Some (tag, value))
     × HasPlace a tag
     × (is_locked tag a.entries ≡ false)
     × IsCardState (state_with (state_of held selected chain response) put)
 
 -- what the fields keep
-pub record IsCard (held : List Held) (selected : Option ℕ) (chain : ChainState)
+pub record IsCard (held : List ApplicationView) (selected : Option ℕ) (chain : ChainState)
     (response : Option Response) (ready : Ready) (put : Option NewValue) : Type 0 where
   pub standing : IsStanding held selected (standing_chain chain ready) response
   pub fits : IsReady held selected chain response ready put

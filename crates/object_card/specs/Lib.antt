@@ -4,11 +4,11 @@ pub mod OneStep
 pub mod Refusals
 pub mod CardMeaning
 pub mod DataCard
-pub mod Held
+pub mod CardFields
 pub mod CardView
-pub mod Judging
-pub mod Taking
-pub mod Settling
+pub mod HeaderReasons
+pub mod PutData
+pub mod PendingChain
 pub mod Builder
 pub mod AidForm
 pub mod ShownPuts

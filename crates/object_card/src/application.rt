@@ -1,7 +1,7 @@
 ghost use Rattle.std.specs.Prelude.{◌≡◌, ◌<◌, [], length, map, Some, IfSome, IfOk, OnOk};
 ghost use Rattle.std.specs.Option.{option_map};
 ghost use Rattle.object_card.specs.Tables.{value_under, is_locked, with_entry};
-ghost use Rattle.object_card.specs.Held.{HasPlace, value_at};
+ghost use Rattle.object_card.specs.CardFields.{HasPlace, value_at};
 
 use crate::aid::Aid;
 use indexmap::IndexMap;
@@ -12,12 +12,12 @@ use tlv_core::ObjectTag;
 
 /// What an application holds under a tag.
 #[derive(Drop)]
-pub(crate) struct Held<A: Allocator> {
+pub(crate) struct Stored<A: Allocator> {
     value: Vec<u8, A>,
     locked: bool,
 }
 
-impl<A: Allocator> Held<A> {
+impl<A: Allocator> Stored<A> {
     pub(crate) fn value(&self) -> &[u8]
         ensures { result.now ≡ self.now.value.items }
     {
@@ -26,7 +26,7 @@ impl<A: Allocator> Held<A> {
 }
 
 /// The data objects of an application, in the order in which their tags were first stored.
-pub(crate) type Objects<A> = IndexMap<ObjectTag, Held<A>, BuildHasherDefault<FoldHasher>, A>;
+pub(crate) type Objects<A> = IndexMap<ObjectTag, Stored<A>, BuildHasherDefault<FoldHasher>, A>;
 
 /// An application: its identifier, and its data objects.
 #[derive(Drop)]
@@ -38,9 +38,9 @@ pub(crate) struct Application<A: Allocator> {
 impl<A: Allocator> Model for Application<A> {
     ghost use Rattle.std.specs.Prelude.{map};
     ghost use Rattle.indexmap.specs.IndexMap.{spare};
-    ghost use Rattle.object_card.specs.Held as held;
+    ghost use Rattle.object_card.specs.CardFields as fields;
 
-    ghost Value = { held.Held };
+    ghost Value = { fields.ApplicationView };
 
     ghost view = { λ a. record {
       aid = a.aid;
@@ -133,6 +133,6 @@ impl<A: Allocator> Application<A> {
         ensures aid { self.new.aid ≡ self.old.aid }
         ensures entries { self.new.entries ≡ with_entry tag value.items locked self.old.entries }
     {
-        let _ = self.objects.insert(tag, Held { value, locked }).unwrap();
+        let _ = self.objects.insert(tag, Stored { value, locked }).unwrap();
     }
 }

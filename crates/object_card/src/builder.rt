@@ -1,7 +1,7 @@
 ghost use Rattle.std.specs.Prelude.{◌≡◌, List, [], length, None, true, false, OnOk, OnErr, IfOk, IfErr};
 ghost use Rattle.tlv_core.specs.Address.{IsAddressable};
 ghost use Rattle.object_card.specs.Tables.{with_entry};
-ghost use Rattle.object_card.specs.Held.{applications_of};
+ghost use Rattle.object_card.specs.CardFields.{applications_of};
 ghost use Rattle.object_card.specs.Builder.{TakesApplication, RefusesApplication, TakesEntry, RefusesEntry, TakesObject, RefusesObject, with_application, with_last_entry, new_card};
 
 use crate::aid::Aid;
@@ -9,7 +9,7 @@ use crate::application::Application;
 use crate::builder_fault::BuilderFault;
 use crate::card::ObjectCard;
 use crate::limits::{APPLICATION_LIMIT, ENTRY_LIMIT, VALUE_LIMIT};
-use crate::taking::find;
+use crate::select_command::find;
 use apdu_core::Chain;
 use std::alloc::{AllocError, Allocator, Global};
 use std::marker::Model;
@@ -27,7 +27,7 @@ impl<A: Allocator> Model for CardBuilder<A> {
     ghost use Rattle.std.specs.Prelude.{List};
     ghost use Rattle.object_card.specs.Tables as tables;
     ghost use Rattle.object_card.specs.Tables.{AreApplications};
-    ghost use Rattle.object_card.specs.Held.{applications_of};
+    ghost use Rattle.object_card.specs.CardFields.{applications_of};
 
     ghost Value = { List tables.Application };
 

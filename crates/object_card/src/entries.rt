@@ -3,7 +3,7 @@ ghost use Rattle.std.specs.Prelude.{◌≡◌, map};
 ghost use Rattle.std.specs.Iterator.{YieldsFirst, YieldsFirstBy, item_count};
 
 use crate::aid::Aid;
-use crate::application::{Application, Held};
+use crate::application::{Application, Stored};
 use std::alloc::{Allocator, Global};
 use std::marker::Model;
 use tlv_core::ObjectTag;
@@ -48,7 +48,7 @@ impl<'a, A: Allocator> Iterator for Apps<'a, A> {
 /// Contracts see the list of these pairs.
 #[derive(Drop)]
 pub struct Entries<'a, A: Allocator = Global> {
-    objects: indexmap::map::Iter<'a, ObjectTag, Held<A>>,
+    objects: indexmap::map::Iter<'a, ObjectTag, Stored<A>>,
 }
 
 impl<'a, A: Allocator> Model for Entries<'a, A> {

@@ -47,34 +47,38 @@
 #![tactic(auto)]
 
 mod aid;
-mod answering;
 mod application;
 mod builder;
 mod builder_fault;
 #[cfg(test)]
 mod builder_tests;
 mod card;
+mod command_data;
 mod data_card;
-mod deciding;
 mod entries;
-mod judging;
+mod header_refusals;
+mod instructions;
 pub mod laws;
 mod limits;
 #[cfg(test)]
 mod line_tests;
 #[cfg(test)]
 mod memory_tests;
+mod pending_chain;
+mod put_data;
 mod ready;
 mod response;
-mod selecting;
-mod settling;
+mod select_command;
+mod sent_response;
 #[cfg(test)]
 mod simulator;
-mod taking;
+mod status_words;
 #[cfg(test)]
 mod tests;
 #[cfg(test)]
 mod trace;
+mod verdict;
+mod view;
 
 pub use aid::Aid;
 pub use builder::CardBuilder;

@@ -1,7 +1,7 @@
 //! A response, as a place in what the card holds.
 ghost use Rattle.std.specs.Prelude.{◌≡◌, ◌+◌, ◌<◌, ◌≤◌, ◌++◌, length, take, slice_get, Some, None, IfSome};
 ghost use Rattle.object_card.specs.OneStep.{control_information};
-ghost use Rattle.object_card.specs.Held.{IsResponse, IsWhole, entries_at, left_of, value_at};
+ghost use Rattle.object_card.specs.CardFields.{IsResponse, IsWhole, entries_at, left_of, value_at};
 
 use crate::aid::Aid;
 use crate::application::Application;

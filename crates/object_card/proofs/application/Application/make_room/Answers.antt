@@ -1,12 +1,12 @@
 use Rattle.std.proofs.Common.{sym, ◌∙◌, subst, inl}
 use Rattle.tlv_core.specs.contracts.object_tag.ObjectTagPartialEq.TheImpl.{eq-value}
-use Rattle.object_card.specs.Held.{Held, HasPlace}
+use Rattle.object_card.specs.CardFields.{ApplicationView, HasPlace}
 use Rattle.object_card.proofs.SameTag.{same_tag}
 use Rattle.object_card.proofs.Stored as stored
 use Rattle.object_card.proofs.application.Application.make_room.Goals as goal
 
 pub returns-then-contains_key-clause-ok : goal.returns-then-contains_key-clause-ok
 returns-then-contains_key-clause-ok g c =
-    let Goal : Held → Type 0 = λ a. HasPlace a c.args.tag in
+    let Goal : ApplicationView → Type 0 = λ a. HasPlace a c.args.tag in
     subst Goal c.self.view_is (inl (stored.is_under (λ h. h.value.items) (λ h. h.locked) eq-value.it same_tag c.args.tag c.self.inside.objects.entries
     ∙ sym c.contains_key.ensures ∙ c.if-contains_key.true))

@@ -2,7 +2,7 @@ use Rattle.std.proofs.Common.{◌≡◌, ◌∙◌, sym, subst, ap, arith, List,
 use Rattle.std.specs.Prelude.{is_some, is_ok}
 use Rattle.std.proofs.lemmas.List.{length-map}
 use Rattle.object_card.specs.Tables.{Application, AreApplications, entries_in}
-use Rattle.object_card.specs.Held.{applications_of}
+use Rattle.object_card.specs.CardFields.{applications_of}
 use Rattle.object_card.specs.Builder.{TakesApplication, with_application}
 use Rattle.object_card.proofs.BuilderLemmas.{Finds, finds_in, is_there, is_not_there, pushed, application_in, application_added}
 use Rattle.object_card.proofs.builder.CardBuilder.app.Goals as goal

@@ -1,7 +1,7 @@
 use Rattle.std.proofs.Common.{◌∙◌, sym, subst, ap, true}
 use Rattle.std.proofs.lemmas.List.{with_items_is}
 use Rattle.object_card.specs.Tables.{AreApplications}
-use Rattle.object_card.specs.Held.{applications_of}
+use Rattle.object_card.specs.CardFields.{applications_of}
 use Rattle.object_card.proofs.BuilderLemmas as builder
 use Rattle.object_card.proofs.builder.CardBuilder.locked.Goals as goal
 

@@ -1,7 +1,7 @@
 use Rattle.std.proofs.Common.{◌∙◌, ◌≤◌, ap, subst, length}
 use Rattle.object_card.specs.declared.limits.TheConstants.{RESPONSE_LIMIT}
 use Rattle.object_card.specs.State.{IsCardState, is_idle, waiting}
-use Rattle.object_card.specs.Held.{entries_at}
+use Rattle.object_card.specs.CardFields.{entries_at}
 use Rattle.object_card.specs.CardView.{CardView, stands_idle}
 use Rattle.object_card.proofs.IdleLemmas.{idle_seen, few_wait, same_test}
 use Rattle.object_card.proofs.card.ObjectCardDataCard.is_idle.Goals as goal

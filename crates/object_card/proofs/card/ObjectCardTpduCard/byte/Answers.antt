@@ -1,7 +1,7 @@
 use Rattle.std.proofs.Common.{◌≡◌, ◌<◌, List, Some, length, subst}
 use Rattle.std.specs.Prelude.{slice_get}
 use Rattle.t0_core.specs.Meaning.{IsSending}
-use Rattle.object_card.specs.Held.{Held, entries_at, left_of}
+use Rattle.object_card.specs.CardFields.{ApplicationView, entries_at, left_of}
 use Rattle.object_card.specs.CardView.{CardView}
 use Rattle.object_card.proofs.FreshCard.{sends_byte}
 use Rattle.object_card.proofs.card.ObjectCardTpduCard.byte.Goals as goal
@@ -10,7 +10,7 @@ pub returns : goal.returns
 returns g c =
     let i = c.self.inside in
     let s = c.in-Sends in
-    let Read : List Held → Type 0 = λ hs. slice_get (left_of (entries_at hs i.selected) s.response) c.args.at ≡ Some c.byte.result in
+    let Read : List ApplicationView → Type 0 = λ hs. slice_get (left_of (entries_at hs i.selected) s.response) c.args.at ≡ Some c.byte.result in
     let read = subst Read c.deref.ensures.value c.byte.ensures in
     let Reads : CardView → Type 0 = λ v. IsSending v.prepared (λ ask bytes. c.args.at < length bytes)
     → IsSending v.prepared (λ ask bytes. slice_get bytes c.args.at ≡ Some c.byte.result) in

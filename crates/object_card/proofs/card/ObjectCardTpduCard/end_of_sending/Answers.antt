@@ -4,7 +4,7 @@ use Rattle.apdu_core.specs.Chaining.{ChainState}
 use Rattle.t0_core.specs.Meaning.{Ask, IsSending, Decides, Prepared, answered_with}
 use Rattle.object_card.specs.State.{CardState}
 use Rattle.object_card.specs.CardMeaning.{Does}
-use Rattle.object_card.specs.Held.{Held, state_of}
+use Rattle.object_card.specs.CardFields.{ApplicationView, state_of}
 use Rattle.object_card.specs.CardView.{CardView, NewValue, IsReady, IsStanding, prepared_of}
 use Rattle.object_card.proofs.CardMethodLemmas as lemmas
 use Rattle.object_card.proofs.card.ObjectCardTpduCard.end_of_sending.Goals as goal
@@ -17,7 +17,7 @@ invariant_of-self g c =
     let Sends : CardView → Type 0 = λ v. IsSending v.prepared Any in
     let sends = subst Sends (sym c.self.view_is) c.requires in
     let Stands : ChainState → Type 0 = λ x. IsStanding held c.self.inside.selected x c.self.inside.response in
-    let Fits : List Held → Type 0 = λ xs. IsReady xs c.self.inside.selected c.self.inside.chain c.self.inside.response c.sent-ready.result.0 None in
+    let Fits : List ApplicationView → Type 0 = λ xs. IsReady xs c.self.inside.selected c.self.inside.chain c.self.inside.response c.sent-ready.result.0 None in
     let Puts : Option NewValue → Type 0 = λ v. IsReady held c.self.inside.selected c.self.inside.chain c.self.inside.response c.sent-ready.result.0 v in
     let none = lemmas.sends_put held c.self.inside.selected c.self.inside.chain c.self.inside.response c.self.inside.ready put Any c.self.invariant sends in
     record {
@@ -44,9 +44,9 @@ returns-clause-decided g c =
     let Sends : CardView → Type 0 = λ v. IsSending v.prepared Any in
     let sends = subst Sends (sym c.self.view_is) c.requires in
     let none = lemmas.sends_put held c.self.inside.selected c.self.inside.chain c.self.inside.response c.self.inside.ready put Any c.self.invariant sends in
-    let after : List Held → Option NewValue → Prepared CardState = λ xs v. prepared_of xs c.self.inside.selected c.self.inside.chain c.self.inside.response c.sent-ready.result.0 v in
+    let after : List ApplicationView → Option NewValue → Prepared CardState = λ xs v. prepared_of xs c.self.inside.selected c.self.inside.chain c.self.inside.response c.sent-ready.result.0 v in
     let Decided : CardState → Prepared CardState → Ask → List ℕ → Type 0 = λ s p ask bytes. Decides Does s ask.cut (answered_with ask bytes c.sent-ready.result.1) p in
-    let Was : List Held → Type 0 = λ xs. IsSending (prepared_of xs c.self.inside.selected c.self.inside.chain c.self.inside.response c.self.inside.ready None)
+    let Was : List ApplicationView → Type 0 = λ xs. IsSending (prepared_of xs c.self.inside.selected c.self.inside.chain c.self.inside.response c.self.inside.ready None)
     (Decided (state_of xs c.self.inside.selected c.self.inside.chain c.self.inside.response) (after xs None)) in
     let State : CardState → Type 0 = λ s. IsSending (prepared_of held c.self.inside.selected c.self.inside.chain c.self.inside.response c.self.inside.ready None) (Decided s (after held None)) in
     let Puts : Option NewValue → Type 0 = λ v. IsSending c.args.self.now.prepared (Decided c.args.self.now.state (after held v)) in

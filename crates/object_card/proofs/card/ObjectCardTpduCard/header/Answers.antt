@@ -5,7 +5,7 @@ use Rattle.t0_core.specs.Meaning.{Ask, Prepared}
 use Rattle.t0_core.specs.CardContract.{Judges}
 use Rattle.object_card.specs.State.{CardState}
 use Rattle.object_card.specs.CardMeaning.{Does}
-use Rattle.object_card.specs.Held.{Held, state_of}
+use Rattle.object_card.specs.CardFields.{ApplicationView, state_of}
 use Rattle.object_card.specs.CardView.{CardView, IsReady, IsStanding, prepared_of}
 use Rattle.object_card.proofs.CardMethodLemmas as lemmas
 use Rattle.object_card.proofs.card.ObjectCardTpduCard.header.Goals as goal
@@ -18,13 +18,13 @@ give_up-requires g c =
 pub judged-verdict-requires-clause-standing : goal.judged-verdict-requires-clause-standing
 judged-verdict-requires-clause-standing g c =
     let Stands : ChainState → Type 0 = λ x. IsStanding c.self.inside.applications.items c.self.inside.selected x c.self.inside.response in
-    let Held_here : List Held → Type 0 = λ xs. IsStanding xs c.self.inside.selected c.give_up.new.chain c.self.inside.response in
+    let Held_here : List ApplicationView → Type 0 = λ xs. IsStanding xs c.self.inside.selected c.give_up.new.chain c.self.inside.response in
     subst Held_here (sym c.deref.ensures.value) (subst Stands (sym c.give_up.ensures) c.self.invariant.standing)
 
 pub invariant_of-self : goal.invariant_of-self
 invariant_of-self g c =
     let Stands : ChainState → Type 0 = λ x. IsStanding c.self.inside.applications.items c.self.inside.selected x c.self.inside.response in
-    let Fits : List Held → Type 0 = λ xs. IsReady xs c.self.inside.selected c.give_up.new.chain c.self.inside.response c.judged-verdict.result.1 None in
+    let Fits : List ApplicationView → Type 0 = λ xs. IsReady xs c.self.inside.selected c.give_up.new.chain c.self.inside.response c.judged-verdict.result.1 None in
     record {
       standing = subst Stands (sym (c.judged-verdict.ensures.keeps ∙ c.give_up.ensures)) c.self.invariant.standing;
       fits = subst Fits c.deref.ensures.value c.judged-verdict.ensures.fits;
@@ -38,8 +38,8 @@ returns-clause-stands g c =
 pub returns-clause-judged : goal.returns-clause-judged
 returns-clause-judged g c =
     let ask : Ask = record { header = c.args.header; p3 = c.args.p3; cut = c.args.cut } in
-    let after : List Held → Prepared CardState = λ xs. prepared_of xs c.self.inside.selected c.give_up.new.chain c.self.inside.response c.judged-verdict.result.1 None in
-    let Was : List Held → Type 0 = λ xs. Judges Does (state_of xs c.self.inside.selected c.give_up.new.chain c.self.inside.response) ask c.judged-verdict.result.0 (after xs) in
+    let after : List ApplicationView → Prepared CardState = λ xs. prepared_of xs c.self.inside.selected c.give_up.new.chain c.self.inside.response c.judged-verdict.result.1 None in
+    let Was : List ApplicationView → Type 0 = λ xs. Judges Does (state_of xs c.self.inside.selected c.give_up.new.chain c.self.inside.response) ask c.judged-verdict.result.0 (after xs) in
     let Here : ChainState → Type 0 = λ x. Judges Does (state_of c.self.inside.applications.items c.self.inside.selected x c.self.inside.response) ask c.judged-verdict.result.0 (after c.self.inside.applications.items) in
     let Seen : CardView → Type 0 = λ v. Judges Does v.state ask c.judged-verdict.result.0 (after c.self.inside.applications.items) in
     subst Seen c.self.view_is (subst Here c.give_up.ensures (subst Was c.deref.ensures.value c.judged-verdict.ensures.judged))

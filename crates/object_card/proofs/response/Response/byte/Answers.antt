@@ -1,6 +1,6 @@
 use Rattle.std.proofs.Common.{◌≡◌, ℕ, List, Some, arith, subst, sym, take, length, ◌++◌, ◌≤◌, ◌+◌, ◌-◌}
 use Rattle.std.specs.Prelude.{slice_get, slice_index_or}
-use Rattle.object_card.specs.Held.{entries_at, left_of}
+use Rattle.object_card.specs.CardFields.{entries_at, left_of}
 use Rattle.object_card.proofs.Responses.{byte-front, byte-value, begun-small}
 use Rattle.object_card.proofs.response.Response.byte.Goals as goal
 

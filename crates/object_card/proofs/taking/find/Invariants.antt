@@ -1,9 +1,0 @@
-use Rattle.std.proofs.Common.{◌≡◌, drop}
-use Rattle.object_card.specs.Tables.{entries_in}
-use Rattle.object_card.specs.Held.{applications_of}
-use Rattle.object_card.proofs.taking.find.Given as goal
-
--- the identifier is none of those that were passed
-abbrev pub invariant-loop-place : goal.invariant-loop-place
-invariant-loop-place g l =
-    entries_in l.aid (applications_of l.applications) ≡ entries_in l.aid (applications_of (drop l.place l.applications))

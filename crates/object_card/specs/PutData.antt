@@ -1,0 +1,53 @@
+-- How a value is put: when it can be, with which answer, and where it stands then.
+use Rattle.std.specs.Prelude.{◌≡◌, ◌≢◌, ℕ, ◌≤◌, ◌<◌, List, length, Option, Some, None, false, ◌⊎◌, slice_get, slice_set}
+use Rattle.apdu_core.specs.declared.header.Header.{Header}
+use Rattle.apdu_core.specs.StatusWord.{StatusWord, ok}
+use Rattle.object_card.specs.declared.limits.TheConstants.{VALUE_LIMIT}
+use Rattle.object_card.specs.declared.ready.Ready.{Ready}
+use Rattle.object_card.specs.declared.ready.Ready.TheVariants as ready
+use Rattle.object_card.specs.Tables.{Entry, is_locked, with_entry}
+use Rattle.object_card.specs.Refusals.{named_tag}
+use Rattle.object_card.specs.CardFields.{ApplicationView, HasPlace}
+use Rattle.object_card.specs.CardView.{NewValue}
+use Rattle.object_card.specs.OneStep.{PutStatus}
+
+-- the status of a refusal, or that of want of memory for a value that would be stored
+abbrev pub DoesNotStore : List Entry → List ℕ → List ℕ → StatusWord → Type 0
+DoesNotStore entries tag value status =
+    ((status ≢ ok) × PutStatus entries tag value status)
+    ⊎ ((status ≡ (0x65, 0x81)) × PutStatus entries tag value ok)
+
+-- the application in this place is there, the header names a tag that is not locked in it, and the
+-- value keeps to the limit
+abbrev pub CanPut : List ApplicationView → ℕ → Header → List ℕ → Type 0
+CanPut held selected h value = (a : ApplicationView) × (tag : List ℕ) × (slice_get held selected ≡ Some a)
+    × (named_tag h.p1 h.p2 ≡ Some tag)
+    × (is_locked tag a.entries ≡ false) × (length value ≤ VALUE_LIMIT)
+
+-- The application in this place is the same but for its room; and the value is ready to be stored,
+-- or why it is not is answered.
+abbrev pub IsPut : List ApplicationView → ℕ → Header → List ℕ → List ApplicationView → StatusWord → Ready
+    → Option NewValue → Type 0
+IsPut held selected h value new status next put = (a b : ApplicationView) × (tag : List ℕ)
+    × (slice_get held selected ≡ Some a)
+    × (named_tag h.p1 h.p2 ≡ Some tag) × (slice_get new selected ≡ Some b) × (b.aid ≡ a.aid)
+    × (b.entries ≡ a.entries)
+    × (new ≡ slice_set held selected b)
+    × (((next ≡ ready.Stores) × (put ≡ Some (tag, value)) × (status ≡ ok) × HasPlace b tag
+    × PutStatus a.entries tag value ok)
+    ⊎ ((next ≡ ready.Leaves None) × (put ≡ None) × DoesNotStore a.entries tag value status))
+
+-- there is a place for the value that is put, if one is
+abbrev pub CanBeStored : List ApplicationView → Option ℕ → Option NewValue → Type 0
+CanBeStored held selected None = Unit {0}
+CanBeStored held None (Some value) = ⊥
+CanBeStored held (Some i) (Some value) = (a : ApplicationView) × (slice_get held i ≡ Some a)
+    × (i < length held) × HasPlace a value.0
+
+-- the value stands in its place, or last
+abbrev pub IsStored : List ApplicationView → Option ℕ → Option NewValue → List ApplicationView → Type 0
+IsStored held selected None new = new ≡ held
+IsStored held None (Some value) new = ⊥
+IsStored held (Some i) (Some value) new = (a b : ApplicationView) × (slice_get held i ≡ Some a)
+    × (slice_get new i ≡ Some b) × (b.aid ≡ a.aid)
+    × (b.entries ≡ with_entry value.0 value.1 false a.entries) × (new ≡ slice_set held i b)

@@ -1,0 +1,77 @@
+//! The data of a SELECT or a PUT DATA, and the answer that is decided on them.
+ghost use Rattle.std.specs.Prelude.{◌≡◌, None, length};
+ghost use Rattle.t0_core.specs.Meaning.{Decides, IsReceiving, taken_with};
+ghost use Rattle.object_card.specs.CardMeaning.{Does};
+ghost use Rattle.object_card.specs.CardFields.{state_of};
+ghost use Rattle.object_card.specs.CardView.{IsReady, IsStanding, prepared_of, standing_chain, IsCard};
+ghost use Rattle.std.specs.Option.{option_map};
+
+use crate::application::Application;
+use crate::instructions::{CHAINED, SELECT};
+use crate::pending_chain::{join, pending_len, restore};
+use crate::put_data::put_value;
+use crate::ready::{Put, Ready};
+use crate::response::Response;
+use crate::select_command::select;
+use crate::status_words::status;
+use crate::view::View;
+use apdu_core::{Chain, Status};
+use std::alloc::Allocator;
+
+/// What is decided on the data to the card.
+#[derive(Drop)]
+pub(crate) struct Taken<A: Allocator> {
+    pub(crate) status: Status,
+    pub(crate) ready: Ready,
+    pub(crate) put: Option<Put<A>>,
+}
+
+/// Takes the data of a SELECT or a PUT DATA, and decides the answer. The refusals of a put are decided
+/// before any memory is taken, and what it needs is taken here.
+pub(crate) fn take_data<A: Allocator + Copy>(
+    applications: &mut [Application<A>],
+    selected: Option<usize>,
+    chain: &mut Chain<A>,
+    response: Option<Response>,
+    ready: Ready,
+    content: &[u8],
+) -> Taken<A>
+    requires standing { IsStanding applications.old selected chain.old response }
+    requires fits { IsReady applications.old selected chain.old response ready None }
+    requires receives { IsReceiving (prepared_of applications.old selected chain.old response ready None) (λ ask. length content.now ≡ ask.p3) }
+    ensures decided { IsReceiving (prepared_of applications.old selected chain.old response ready None) (λ ask.
+        Decides Does (state_of applications.old selected chain.old response) ask.cut (taken_with ask content.now result.status)
+        (prepared_of applications.new selected chain.new response result.ready (option_map (λ put. (put.tag, put.value.items)) result.put))) }
+    ensures fits { IsCard applications.new selected chain.new response result.ready (option_map (λ put. (put.tag, put.value.items)) result.put) }
+    ensures keeps { state_of applications.new selected (standing_chain chain.new result.ready) response ≡ state_of applications.old selected chain.old response }
+{
+    let Ready::Receives { header, cut, .. } = ready else {
+        unreachable!()
+    };
+    if header.ins == SELECT {
+        let view = View {
+            applications,
+            selected,
+            chain,
+            response,
+        };
+        let (ready, status) = select(&view, header, content, cut);
+        return Taken {
+            status,
+            ready,
+            put: None,
+        };
+    }
+    let before = pending_len(chain);
+    join(chain, header, content);
+    if header.cla == CHAINED {
+        return Taken {
+            status: status(0x90, 0x00),
+            ready: Ready::Joins { before },
+            put: None,
+        };
+    }
+    let taken = put_value(applications, selected.unwrap(), header, chain.bytes());
+    restore(chain, before);
+    taken
+}

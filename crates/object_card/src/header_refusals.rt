@@ -1,0 +1,184 @@
+//! The refusals of a header.
+ghost use Rattle.std.specs.Prelude.{◌≡◌, Some, None, if◌then◌else◌, true, IfSome, ℕ, nat_lt};
+ghost use Rattle.object_card.specs.CardFields.{state_of, IsResponse, entries_at, held_at, left_of};
+ghost use Rattle.object_card.specs.CardView.{IsStanding};
+ghost use Rattle.std.specs.Option.{option_map, option_copied};
+ghost use Rattle.object_card.specs.Refusals.{named_tag, class_is_known, instruction_is_known, parameters_fit, first_of_them, object_asked, refusal};
+ghost use Rattle.apdu_core.specs.StatusWord.{count};
+ghost use Rattle.apdu_core.specs.declared.header.Header.{Header};
+ghost use Rattle.object_card.specs.State.{CardState};
+ghost use Rattle.object_card.specs.HeaderReasons.{of_form, of_state};
+
+use crate::application::Application;
+use crate::instructions::{CHAINED, GET_DATA, GET_RESPONSE, PUT_DATA, SELECT};
+use crate::limits::VALUE_LIMIT;
+use crate::response::Response;
+use crate::status_words::status;
+use crate::view::View;
+use apdu_core::{Header, Status, count};
+use std::alloc::Allocator;
+use tlv_core::{ObjectTag, head};
+
+/// The status with which a header is refused, if it is.
+pub(crate) fn refusal<A: Allocator>(view: &View<A>, header: Header, p3: u8) -> Option<Status>
+    requires { IsStanding view.now.applications.now view.now.selected view.now.chain.now view.now.response }
+    ensures { result ≡ refusal (state_of view.now.applications.now view.now.selected view.now.chain.now view.now.response) header p3 }
+{
+    if !view.chain.accepts(header) {
+        return Some(status(0x68, 0x83));
+    }
+    if let Some(status) = form_refusal(header) {
+        return Some(status);
+    }
+    if header.ins == SELECT {
+        select_refusal(p3)
+    } else if header.ins == PUT_DATA {
+        put_refusal(view, header, p3)
+    } else if header.ins == GET_DATA {
+        get_refusal(view, header, p3)
+    } else {
+        get_response_refusal(view, header, p3)
+    }
+}
+
+/// The refusals of a header by its form alone.
+fn form_refusal(header: Header) -> Option<Status>
+    ensures { (state : CardState) (p3 : ℕ) → result ≡ first_of_them state header p3 of_form }
+{
+    if !class_is_known(header) {
+        return Some(status(0x6E, 0x00));
+    }
+    if !instruction_is_known(header) {
+        return Some(status(0x6D, 0x00));
+    }
+    if header.cla == CHAINED && header.ins != PUT_DATA {
+        return Some(status(0x68, 0x84));
+    }
+    if !parameters_fit(header) {
+        return Some(status(0x6A, 0x86));
+    }
+    None
+}
+
+fn class_is_known(header: Header) -> bool
+    ensures { result ≡ class_is_known header }
+{
+    match header.cla {
+        0x00 | CHAINED => true,
+        0x80 => header.ins == GET_DATA,
+        _ => false,
+    }
+}
+
+fn instruction_is_known(header: Header) -> bool
+    ensures { result ≡ instruction_is_known header }
+{
+    matches!(header.ins, SELECT | GET_DATA | PUT_DATA | GET_RESPONSE)
+}
+
+fn parameters_fit(header: Header) -> bool
+    ensures { result ≡ parameters_fit header }
+{
+    match header.ins {
+        SELECT => header.p1 == 0x04 && header.p2 == 0x00,
+        GET_RESPONSE => header.p1 == 0x00 && header.p2 == 0x00,
+        _ => named(header).is_some(),
+    }
+}
+
+/// The tag that P1-P2 name.
+pub(crate) fn named(header: Header) -> Option<ObjectTag>
+    ensures { result ≡ named_tag header.p1 header.p2 }
+{
+    ObjectTag::from_p1p2(header.p1, header.p2)
+}
+
+fn select_refusal(p3: u8) -> Option<Status>
+    ensures { (state : CardState) (header : Header) → header.ins ≡ 0xA4 → result ≡ first_of_them state header p3 of_state }
+{
+    if p3 < 5 || p3 > 16 {
+        Some(status(0x67, 0x00))
+    } else {
+        None
+    }
+}
+
+fn put_refusal<A: Allocator>(view: &View<A>, header: Header, p3: u8) -> Option<Status>
+    requires standing { IsStanding view.now.applications.now view.now.selected view.now.chain.now view.now.response }
+    requires ins { header.ins ≡ 0xDA }
+    requires fits { parameters_fit header ≡ true }
+    ensures { result ≡ first_of_them (state_of view.now.applications.now view.now.selected view.now.chain.now view.now.response) header p3 of_state }
+{
+    let Some(application) = chosen(view.applications, view.selected) else {
+        return Some(status(0x69, 0x85));
+    };
+    let tag = named(header).unwrap();
+    if application.is_locked(tag) {
+        return Some(status(0x69, 0x82));
+    }
+    if view.chain.len() + p3 as usize > VALUE_LIMIT {
+        return Some(status(0x67, 0x00));
+    }
+    None
+}
+
+fn get_refusal<A: Allocator>(view: &View<A>, header: Header, p3: u8) -> Option<Status>
+    requires standing { IsStanding view.now.applications.now view.now.selected view.now.chain.now view.now.response }
+    requires ins { header.ins ≡ 0xCA }
+    ensures { result ≡ first_of_them (state_of view.now.applications.now view.now.selected view.now.chain.now view.now.response) header p3 of_state }
+{
+    if chosen(view.applications, view.selected).is_none() {
+        return Some(status(0x69, 0x85));
+    }
+    let Some(response) = object_asked(view, header) else {
+        return Some(status(0x6A, 0x88));
+    };
+    too_much(response.left(view.applications, view.selected), p3)
+}
+
+fn get_response_refusal<A: Allocator>(view: &View<A>, header: Header, p3: u8) -> Option<Status>
+    requires standing { IsStanding view.now.applications.now view.now.selected view.now.chain.now view.now.response }
+    requires ins { header.ins ≡ 0xC0 }
+    ensures { result ≡ first_of_them (state_of view.now.applications.now view.now.selected view.now.chain.now view.now.response) header p3 of_state }
+{
+    let Some(response) = view.response else {
+        return Some(status(0x69, 0x85));
+    };
+    too_much(response.left(view.applications, view.selected), p3)
+}
+
+/// The refusal where more bytes are asked for than are left.
+fn too_much(left: usize, p3: u8) -> Option<Status>
+    ensures { result ≡ (if nat_lt left (count p3) then Some (0x6C, left) else None) }
+{
+    if left < count(p3) as usize {
+        Some(status(0x6C, left as u8))
+    } else {
+        None
+    }
+}
+
+/// The application that is selected.
+pub(crate) fn chosen<'a, A: Allocator>(
+    applications: &'a [Application<A>],
+    selected: Option<usize>,
+) -> Option<&'a Application<A>>
+    ensures { option_copied result ≡ held_at applications.now selected }
+{
+    applications.get(selected?)
+}
+
+/// The data object that a GET DATA asks for, whole.
+pub(crate) fn object_asked<A: Allocator>(view: &View<A>, header: Header) -> Option<Response>
+    requires standing { IsStanding view.now.applications.now view.now.selected view.now.chain.now view.now.response }
+    ensures response { IfSome result (IsResponse (entries_at view.now.applications.now view.now.selected)) }
+    ensures asked { option_map (left_of (entries_at view.now.applications.now view.now.selected)) result ≡ object_asked (state_of view.now.applications.now view.now.selected view.now.chain.now view.now.response) header }
+{
+    let application = chosen(view.applications, view.selected)?;
+    let tag = named(header)?;
+    let Some(place) = application.find(tag) else {
+        return None;
+    };
+    let len = application.value(place).len();
+    Some(Response::object(head(tag.tag(), len as u16).bytes(), place))
+}

@@ -1,0 +1,57 @@
+//! SELECT: the application with an identifier, and the answer.
+ghost use Rattle.std.specs.Prelude.{◌≡◌, Some, None, ◌<◌, length, true, MatchOption};
+ghost use Rattle.t0_core.specs.Meaning.{Decides, taken_with};
+ghost use Rattle.object_card.specs.CardMeaning.{Does};
+ghost use Rattle.object_card.specs.CardFields.{state_of, applications_of, aid_at};
+ghost use Rattle.object_card.specs.CardView.{IsReady, IsStanding, prepared_of, standing_chain, IsAsked};
+ghost use Rattle.object_card.specs.Refusals.{is_select};
+ghost use Rattle.object_card.specs.Tables.{entries_in};
+
+use crate::application::Application;
+use crate::ready::Ready;
+use crate::response::Response;
+use crate::status_words::{announcing, status};
+use crate::view::View;
+use apdu_core::{Header, Status};
+use std::alloc::Allocator;
+
+/// The answer to a SELECT of this identifier, and what is then ready.
+pub(crate) fn select<A: Allocator>(
+    view: &View<A>,
+    header: Header,
+    aid: &[u8],
+    cut: u16,
+) -> (Ready, Status)
+    requires standing { IsStanding view.now.applications.now view.now.selected view.now.chain.now view.now.response }
+    requires asked { IsAsked (state_of view.now.applications.now view.now.selected view.now.chain.now view.now.response) header (length aid.now) cut }
+    requires select { is_select header ≡ true }
+    ensures decided { Decides Does (state_of view.now.applications.now view.now.selected view.now.chain.now view.now.response) cut
+        (taken_with (record { header = header; p3 = length aid.now; cut = cut }) aid.now result.1)
+        (prepared_of view.now.applications.now view.now.selected view.now.chain.now view.now.response result.0 None) }
+    ensures fits { IsReady view.now.applications.now view.now.selected view.now.chain.now view.now.response result.0 None }
+    ensures keeps { standing_chain view.now.chain.now result.0 ≡ view.now.chain.now }
+{
+    let Some(application) = find(view.applications, aid) else {
+        return (Ready::Leaves { response: None }, status(0x6A, 0x82));
+    };
+    let response = Response::information(view.applications[application].aid());
+    let left = response.left(view.applications, Some(application));
+    let ready = Ready::Selects {
+        application,
+        response,
+    };
+    (ready, announcing(left, cut))
+}
+
+/// The place of the application with this identifier.
+pub(crate) fn find<A: Allocator>(applications: &[Application<A>], aid: &[u8]) -> Option<usize>
+    ensures { MatchOption result (entries_in aid.now (applications_of applications.now) ≡ None)
+        (λ place. (place < length applications.now) × (aid_at applications.now (Some place) ≡ Some aid.now)) }
+{
+    for place in 0..applications.len() {
+        if aid == applications[place].aid().bytes() {
+            return Some(place);
+        }
+    }
+    None
+}

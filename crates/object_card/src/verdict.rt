@@ -1,0 +1,75 @@
+//! The verdict on a header.
+ghost use Rattle.std.specs.Prelude.{◌≡◌, None, if◌then◌else◌, ◌==◌, ◌≤◌, false, IfSome, ◌&&◌, ◌⊎◌, [], unwrap_or};
+ghost use Rattle.object_card.specs.CardMeaning.{Does};
+ghost use Rattle.object_card.specs.CardFields.{state_of, IsResponse, entries_at, left_of};
+ghost use Rattle.object_card.specs.CardView.{IsReady, IsStanding, prepared_of, standing_chain};
+ghost use Rattle.std.specs.Option.{option_map};
+ghost use Rattle.apdu_core.specs.HeaderBytes.{ins_is_valid};
+ghost use Rattle.t0_core.specs.CardContract.{IsRefusal, Judges, Permits};
+ghost use Rattle.object_card.specs.Refusals.{is_get_response, to_send};
+
+use crate::header_refusals::{object_asked, refusal};
+use crate::instructions::{GET_RESPONSE, PUT_DATA, SELECT};
+use crate::ready::Ready;
+use crate::response::Response;
+use crate::view::View;
+use apdu_core::{Header, Status};
+use std::alloc::Allocator;
+use t0_core::Verdict;
+
+/// The verdict on a header, and what is then ready.
+pub(crate) fn judged<A: Allocator>(
+    view: &View<A>,
+    header: Header,
+    p3: u8,
+    cut: u16,
+) -> (Verdict, Ready)
+    requires standing { IsStanding view.now.applications.now view.now.selected view.now.chain.now view.now.response }
+    requires cut { (1 ≤ cut) × (cut ≤ 256) }
+    ensures judged { Judges Does (state_of view.now.applications.now view.now.selected view.now.chain.now view.now.response)
+        (record { header = header; p3 = p3; cut = cut }) result.0 (prepared_of view.now.applications.now view.now.selected view.now.chain.now view.now.response result.1 None) }
+    ensures fits { IsReady view.now.applications.now view.now.selected view.now.chain.now view.now.response result.1 None }
+    ensures keeps { standing_chain view.now.chain.now result.1 ≡ view.now.chain.now }
+    ensures invalid { ins_is_valid header.ins ≡ false → IsRefusal result.0 }
+    ensures permitted { Permits (λ ins. (ins ≡ 0xA4) ⊎ (ins ≡ 0xDA)) (λ ins. (ins ≡ 0xCA) ⊎ (ins ≡ 0xC0)) header.ins result.0 }
+{
+    if let Some(status) = refusal(view, header, p3) {
+        let response = kept(view.response, header, &status);
+        return (Verdict::Refuse(status), Ready::Leaves { response });
+    }
+    if header.ins == SELECT || header.ins == PUT_DATA {
+        return (Verdict::Receive, Ready::Receives { header, p3, cut });
+    }
+    let response = to_send(view, header).unwrap();
+    let ready = Ready::Sends {
+        header,
+        p3,
+        cut,
+        response,
+    };
+    (Verdict::Send, ready)
+}
+
+/// What is pending after a refusal: a response, after `6CXX` to a GET RESPONSE.
+fn kept(response: Option<Response>, header: Header, status: &Status) -> Option<Response>
+    ensures { result ≡ (if is_get_response header && (status.now.0 == 0x6C) then response else None) }
+{
+    if header.ins == GET_RESPONSE && status.sw1() == 0x6C {
+        response
+    } else {
+        None
+    }
+}
+
+/// What a GET DATA or a GET RESPONSE has to send.
+pub(crate) fn to_send<A: Allocator>(view: &View<A>, header: Header) -> Option<Response>
+    requires standing { IsStanding view.now.applications.now view.now.selected view.now.chain.now view.now.response }
+    ensures response { IfSome result (IsResponse (entries_at view.now.applications.now view.now.selected)) }
+    ensures left { unwrap_or (option_map (left_of (entries_at view.now.applications.now view.now.selected)) result) [] ≡ to_send (state_of view.now.applications.now view.now.selected view.now.chain.now view.now.response) header }
+{
+    if header.ins == GET_RESPONSE {
+        view.response
+    } else {
+        object_asked(view, header)
+    }
+}

@@ -203,11 +203,11 @@ came_whole came whole front byte d is ends =
     ∙ sym (append-nil (flat_map characters (whole ++ d ∷ [])))
 
 -- the same of events
-passed_more : (cs : List Character) (c : Character)
+pub passed_more : (cs : List Character) (c : Character)
     → passed (cs ++ c ∷ []) ≡ passed cs ++ Passed c ∷ []
 passed_more cs c = map-append (λ x. Passed x) cs (c ∷ [])
 
-events_with : (events : List Event) (items : List Item) (front new : Front) (c : Character)
+pub events_with : (events : List Event) (items : List Item) (front new : Front) (c : Character)
     → events ≡ flat_map events_of items ++ passed (front_characters front)
     → front_characters new ≡ front_characters front ++ c ∷ []
     → events ++ Passed c ∷ [] ≡ flat_map events_of items ++ passed (front_characters new)
@@ -218,7 +218,7 @@ events_with events items front new c is grown =
     (sym (ap passed grown ∙ passed_more (front_characters front) c))
 
 -- the items with one more, whose last event this is
-events_item : (events : List Event) (items : List Item) (before : List Event) (e : Event)
+pub events_item : (events : List Event) (items : List Item) (before : List Event) (e : Event)
     (item : Item) → events ≡ flat_map events_of items ++ before → events_of item ≡ before ++ e ∷ []
     → events ++ e ∷ [] ≡ flat_map events_of (items ++ item ∷ []) ++ passed (front_characters fresh)
 events_item events items before e item is last =

@@ -35,7 +35,7 @@ choice false true r s e = inr (inl (refl, cc))
 choice false false true s e = inr (inr (refl, cc))
 choice false false false s e = absurd (cc)
 
-step_tells : (ins byte : ℕ) (s : Step) → step_of ins byte ≡ Some s → byte ≡ procedure_byte ins s
+pub step_tells : (ins byte : ℕ) (s : Step) → step_of ins byte ≡ Some s → byte ≡ procedure_byte ins s
 step_tells ins byte s e =
     elim (choice (byte == 0x60) (byte == ins) (byte == bit_xor ins 0xFF) s e) [
       | inl null ↦ eqb-true byte 0x60 null.0 ∙ ap (procedure_byte ins) (sym null.1)

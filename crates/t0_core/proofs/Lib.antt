@@ -6,3 +6,4 @@ pub mod HistoryLemmas
 mod Vectors
 pub mod PlannedFront
 pub mod HistoryLaws
+pub mod TapLemmas

@@ -23,3 +23,6 @@ pub mod EndsLaws
 pub mod HostLaws
 pub mod OwnLaws
 pub mod FaultText
+pub mod TapSide
+pub mod TapView
+pub mod TapHistory

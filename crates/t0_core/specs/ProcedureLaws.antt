@@ -36,7 +36,7 @@ step_is ins One valid small =
       eq-eqb (bit_xor ins 0xFF) (bit_xor ins 0xFF) refl,
     ) refl
 
-first_is_in_range : (byte : ℕ) → is_first_status byte ≡ true
+pub first_is_in_range : (byte : ℕ) → is_first_status byte ≡ true
     → ((0x61 ≤ byte) × (byte ≤ 0x6F)) ⊎ ((0x90 ≤ byte) × (byte ≤ 0x9F))
 first_is_in_range byte first =
     elim (or_cases (nat_le 0x61 byte && nat_le byte 0x6F) (nat_le 0x90 byte && nat_le byte 0x9F)

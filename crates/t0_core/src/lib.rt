@@ -5,6 +5,7 @@ mod card_end;
 mod direction;
 mod end;
 mod gather;
+mod heard;
 mod host_end;
 pub mod laws;
 mod line_fault;
@@ -13,21 +14,29 @@ mod procedure;
 mod recorder;
 mod request;
 mod service;
+mod tap;
 mod tpdu_card;
+mod unheard;
 mod watch;
 
 pub use card_end::{CardEnd, NotListening, Turn};
+pub use direction::Direction;
 pub use end::End;
 pub use gather::Gather;
+pub use heard::{Due, Heard, Said};
 pub use host_end::{HostEnd, HostTurn};
 pub use line_fault::LineFault;
 pub use plan::{Plan, Plans, Step};
 pub use recorder::Recorder;
+pub use tap::Tap;
 pub use tpdu_card::{TpduCard, Verdict};
+pub use unheard::Unheard;
 pub use watch::{Silent, Watch};
 
 #[cfg(test)]
 mod card_tests;
+#[cfg(test)]
+mod tap_tests;
 #[cfg(test)]
 mod test_card;
 #[cfg(test)]

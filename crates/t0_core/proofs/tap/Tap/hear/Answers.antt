@@ -1,0 +1,40 @@
+use Rattle.std.proofs.Common.{sym, None, ◌∙◌, ap}
+use Rattle.t0_core.specs.declared.unheard.Unheard.TheVariants.{OutOfTurn}
+use Rattle.t0_core.specs.TapSide.{may_come_from}
+use Rattle.t0_core.specs.TapView.{place_of}
+use Rattle.t0_core.proofs.TapLemmas.{HearsOne, hears_none, hears_all, hears_of_one, hears_led, place_in_range, out_of_turn, in_turn}
+use Rattle.t0_core.proofs.tap.Tap.hear.Goals as goal
+
+pub returns-then-not-may_come_from-clause-goes_on :
+    goal.returns-then-not-may_come_from-clause-goes_on
+returns-then-not-may_come_from-clause-goes_on c = λ front new stands goes read.
+    let due = ap (λ x. may_come_from x c.args.from) (sym c.due_at.ensures)
+    ∙ sym c.may_come_from.ensures ∙ c.if-not-may_come_from.true in
+    absurd (hears_none _ _ c.args.from c.args.byte OutOfTurn c.self.view_is
+    (place_in_range c.self.inside.stage c.self.invariant)
+    (out_of_turn (place_of c.self.inside.stage) c.args.from c.args.byte due) front new stands goes
+    read)
+
+-- what the tap makes of the character
+hears_it : (c : goal.After-stage-2-1)
+    → HearsOne (place_of c.self.inside.stage) c.args.self.now c.args.from c.args.byte
+    c.in_ok-stage.heard (place_of c.in_ok-stage.stage)
+hears_it c = record {
+  seen_is = c.self.view_is;
+  range = place_in_range c.self.inside.stage c.self.invariant;
+  small = c.ranges.byte.fits;
+  none = in_turn (place_of c.self.inside.stage) c.args.from c.args.byte None
+      (ap (λ x. may_come_from x c.args.from) (sym c.due_at.ensures) ∙ sym c.may_come_from.ensures
+      ∙ c.if-not-may_come_from.false) (sym c.in_ok-stage.ensures.fault);
+  heard_is = c.in_ok-stage.ensures.taken.1;
+  next_is = c.in_ok-stage.ensures.taken.0;
+}
+
+pub returns-clause-goes_on : goal.returns-clause-goes_on
+returns-clause-goes_on c = hears_all _ _ _ _ _ _ (hears_it c)
+
+pub returns-clause-came : goal.returns-clause-came
+returns-clause-came c = hears_of_one _ _ _ _ _ _ (hears_it c)
+
+pub returns-clause-led : goal.returns-clause-led
+returns-clause-led c = hears_led _ _ _ _ _ _ (hears_it c)

@@ -1,0 +1,242 @@
+-- A tap, which hears both ends: how far it has heard, and which fronts of a dialogue led there.
+use Rattle.std.specs.Prelude.{◌≡◌, ℕ, ◌+◌, ◌-◌, ◌<◌, ◌≤◌, ◌⊎◌, List, [], ◌∷◌, ◌++◌, length, Option, Some, None, Bool, true, false, ◌==◌, not, nat_lt, if◌then◌else◌, codes}
+use Rattle.std.specs.List.{AllByRecursion}
+use Rattle.apdu_core.specs.declared.header.Header.{Header}
+use Rattle.apdu_core.specs.HeaderBytes.{ins_is_valid}
+use Rattle.apdu_core.specs.StatusWord.{IsStatusWord, is_first_status}
+use Rattle.t0_core.specs.declared.end.End.{End}
+use Rattle.t0_core.specs.declared.end.End.TheVariants.{Terminal, Card}
+use Rattle.t0_core.specs.declared.direction.Direction.{Direction}
+use Rattle.t0_core.specs.declared.direction.Direction.TheVariants.{ToCard, FromCard}
+use Rattle.t0_core.specs.declared.plan.Step.{Step}
+use Rattle.t0_core.specs.declared.plan.Step.TheVariants.{Null}
+use Rattle.t0_core.specs.declared.heard.Said.{Said}
+use Rattle.t0_core.specs.declared.heard.Heard.{Heard}
+use Rattle.t0_core.specs.declared.heard.Heard.TheVariants as heard
+use Rattle.t0_core.specs.declared.heard.Due.{Due}
+use Rattle.t0_core.specs.declared.heard.Due.TheVariants as due
+use Rattle.t0_core.specs.declared.unheard.Unheard.{Unheard}
+use Rattle.t0_core.specs.declared.unheard.Unheard.TheVariants.{OutOfTurn, BadProcedure}
+use Rattle.t0_core.specs.Character.{Character}
+use Rattle.t0_core.specs.Dialogue.{Body, Dialogue, foreseen, moves, to_move}
+use Rattle.t0_core.specs.Front.{Front, In_header, In_body, After_first, front_characters, GoesOn, Ends, IsBetween, IsFront, with_segment, with_moved}
+use Rattle.t0_core.specs.HostSide.{step_of}
+
+-- How far it has heard: some of CLA INS P1 P2 P3; up to where a procedure byte or SW1 is due; into
+-- data, which move up to a place; or SW1.
+pub data Place : Type 0 where
+  In_opening : (bytes : List ℕ) → Place
+  Between : (said : Said) → Place
+  In_data : (said : Said) (until : ℕ) → Place
+  After_sw1 : (said : Said) (sw1 : ℕ) → Place
+
+-- nothing of a dialogue has been heard
+abbrev pub afresh : Place
+afresh = In_opening []
+
+-- Which way data move shows when the first of them comes.
+abbrev pub Shows : Option Direction → Direction → List ℕ → Type 0
+Shows None direction moved = moved ≡ []
+Shows (Some seen) direction moved = (seen ≡ direction) × (0 < length moved)
+
+-- A tap reads P3 00 as 256 from the card where the card begins a transfer: to the card it would
+-- move nothing. So in what it reads none such begins one that moves nothing to the card.
+abbrev pub IsRead : Body → Type 0
+IsRead b = b.direction ≡ ToCard → b.p3 ≡ 0 → AllByRecursion (λ s. s ≡ Null) b.segments
+
+abbrev pub IsReadFront : Front → Type 0
+IsReadFront (In_header bytes) = Unit {0}
+IsReadFront (In_body b) = IsRead b
+IsReadFront (After_first b sw1) = IsRead b
+
+-- this has been said
+pub record SaysSo (said : Said) (b : Body) : Type 0 where
+  pub header_is : b.header ≡ said.header
+  pub p3_is : b.p3 ≡ said.p3
+  pub shows : Shows said.direction b.direction b.moved
+  pub moved_is : length b.moved ≡ said.moved
+  pub is_read : IsRead b
+
+-- The tap stands at this front of a dialogue. Where nobody has seen which way data move, it stands
+-- at the fronts of both ways.
+abbrev pub TapStandsAt : Place → Front → Type 0
+TapStandsAt (In_opening bytes) (In_header heard) = (heard ≡ bytes) × (length bytes < 5)
+TapStandsAt (Between said) (In_body b) = SaysSo said b × IsBetween b
+TapStandsAt (In_data said until) (In_body b) = SaysSo said b × (said.moved < until)
+    × (to_move b ≡ until)
+TapStandsAt (After_sw1 said sw1) (After_first b first) = SaysSo said b × (first ≡ sw1)
+    × IsBetween b
+TapStandsAt (In_opening bytes) (In_body b) = ⊥
+TapStandsAt (In_opening bytes) (After_first b first) = ⊥
+TapStandsAt (Between said) (In_header heard) = ⊥
+TapStandsAt (Between said) (After_first b first) = ⊥
+TapStandsAt (In_data said until) (In_header heard) = ⊥
+TapStandsAt (In_data said until) (After_first b first) = ⊥
+TapStandsAt (After_sw1 said sw1) (In_header heard) = ⊥
+TapStandsAt (After_sw1 said sw1) (In_body b) = ⊥
+
+-- the way in which an end's data move
+abbrev pub direction_from : End → Direction
+direction_from Terminal = ToCard
+direction_from Card = FromCard
+
+-- how many data characters P3 foresees, as the tap reads it
+abbrev pub foreseen_by : Option Direction → ℕ → ℕ
+foreseen_by None p3 = foreseen FromCard p3
+foreseen_by (Some seen) p3 = foreseen seen p3
+
+-- with P3 00 data are the card's
+abbrev pub way_of : Option Direction → ℕ → Option Direction
+way_of None p3 = if p3 == 0 then Some FromCard else None
+way_of (Some seen) p3 = Some seen
+
+-- what a dialogue goes on with
+abbrev pub due_at : Place → Due
+due_at (In_opening bytes) = due.Header
+due_at (Between said) = due.Procedure
+due_at (In_data said until) = due.Data (way_of said.direction said.p3)
+due_at (After_sw1 said sw1) = due.SecondStatus
+
+abbrev pub is_terminal : End → Bool
+is_terminal Terminal = true
+is_terminal Card = false
+
+abbrev pub goes_this_way : Direction → End → Bool
+goes_this_way ToCard from = is_terminal from
+goes_this_way FromCard from = not (is_terminal from)
+
+abbrev pub may_come_from : Due → End → Bool
+may_come_from due.Header from = is_terminal from
+may_come_from due.Procedure from = not (is_terminal from)
+may_come_from (due.Data None) from = true
+may_come_from (due.Data (Some direction)) from = goes_this_way direction from
+may_come_from due.SecondStatus from = not (is_terminal from)
+
+-- what a byte starts as a procedure byte, if it is one; where INS is no instruction NULL alone is
+abbrev pub begun_by : ℕ → ℕ → Option Step
+begun_by ins byte =
+    if ins_is_valid ins then step_of ins byte else (if byte == 0x60 then Some Null else None)
+
+-- a byte of the card that is neither a procedure byte nor SW1
+abbrev pub unheard_procedure : Option Step → ℕ → Option Unheard
+unheard_procedure (Some step) byte = None
+unheard_procedure None byte = if is_first_status byte then None else Some BadProcedure
+
+abbrev pub unheard_byte : Place → ℕ → Option Unheard
+unheard_byte (In_opening bytes) byte = None
+unheard_byte (Between said) byte = unheard_procedure (begun_by said.header.ins byte) byte
+unheard_byte (In_data said until) byte = None
+unheard_byte (After_sw1 said sw1) byte = None
+
+-- why a character is not taken, if it is not
+abbrev pub unheard_at : Place → End → ℕ → Option Unheard
+unheard_at place from byte =
+    if may_come_from (due_at place) from then unheard_byte place byte else Some OutOfTurn
+
+-- how the tap goes on with a character that it takes
+abbrev pub moved_to : Said → ℕ → Place
+moved_to said until = if nat_lt said.moved until then In_data said until else Between said
+
+abbrev pub begun_at : Option Step → Said → ℕ → Place
+begun_at (Some step) said byte =
+    moved_to said (said.moved + moves step (foreseen_by said.direction said.p3 - said.moved))
+begun_at None said byte = After_sw1 said byte
+
+abbrev pub with_data : Said → End → Said
+with_data said from = record {
+  header = said.header;
+  p3 = said.p3;
+  direction = Some (direction_from from);
+  moved = said.moved + 1;
+}
+
+abbrev pub opened : List ℕ → Place
+opened (cla ∷ ins ∷ p1 ∷ p2 ∷ p3 ∷ []) = Between (record {
+  header = record { cla = cla; ins = ins; p1 = p1; p2 = p2 };
+  p3 = p3;
+  direction = None;
+  moved = 0;
+})
+opened bytes = In_opening bytes
+
+abbrev pub after_hearing : Place → End → ℕ → Place
+after_hearing (In_opening bytes) from byte = opened (bytes ++ byte ∷ [])
+after_hearing (Between said) from byte = begun_at (begun_by said.header.ins byte) said byte
+after_hearing (In_data said until) from byte = moved_to (with_data said from) until
+after_hearing (After_sw1 said sw1) from byte = afresh
+
+-- and what it was
+abbrev pub heard_procedure : Option Step → Heard
+heard_procedure (Some step) = heard.Procedure step
+heard_procedure None = heard.FirstStatus
+
+abbrev pub heard_at : Place → End → ℕ → Heard
+heard_at (In_opening bytes) from byte = heard.Header
+heard_at (Between said) from byte = heard_procedure (begun_by said.header.ins byte)
+heard_at (In_data said until) from byte = heard.Data (direction_from from)
+heard_at (After_sw1 said sw1) from byte = heard.SecondStatus said (sw1, byte)
+
+-- What a character was is what it makes of the front: one more character of the header, a segment
+-- more, a data character more, SW1.
+abbrev pub Makes : Heard → Front → Character → Front → Type 0
+Makes heard.Header front c new = (bytes : List ℕ) × (front ≡ In_header bytes)
+Makes (heard.Procedure step) front c new =
+    (b : Body) × (front ≡ In_body b) × (new ≡ In_body (with_segment b step))
+Makes (heard.Data direction) front c new = (b : Body) × (front ≡ In_body b)
+    × (b.direction ≡ direction) × (new ≡ In_body (with_moved b c.1))
+Makes heard.FirstStatus front c new =
+    (b : Body) × (front ≡ In_body b) × (new ≡ After_first b c.1)
+Makes (heard.SecondStatus said status) front c new = ⊥
+
+-- SW2 ends the dialogue: what was said, and the status
+abbrev pub Concludes : Heard → Dialogue → Type 0
+Concludes (heard.SecondStatus said status) d = SaysSo said d.body × (d.status ≡ status)
+Concludes heard.Header d = ⊥
+Concludes (heard.Procedure step) d = ⊥
+Concludes (heard.Data direction) d = ⊥
+Concludes heard.FirstStatus d = ⊥
+
+-- From this front the dialogue goes on with the character, or ends with it, and the tap with it.
+abbrev pub TakesOn : Heard → Front → Character → Place → Type 0
+TakesOn heard front c place =
+    ((new : Front) × GoesOn front c new × Makes heard front c new × TapStandsAt place new)
+    ⊎ ((d : Dialogue) × Ends front c d × Concludes heard d × (place ≡ afresh))
+
+-- the same front, had the data gone this way
+abbrev pub turned_body : Direction → Body → Body
+turned_body way b = record {
+  header = b.header;
+  p3 = b.p3;
+  direction = way;
+  segments = b.segments;
+  moved = b.moved;
+}
+
+abbrev pub turned : Direction → Front → Front
+turned way (In_header bytes) = In_header bytes
+turned way (In_body b) = In_body (turned_body way b)
+turned way (After_first b sw1) = After_first (turned_body way b) sw1
+
+-- So it does from this front, or from the one with the same characters whose data go the other way.
+pub record Takes (heard : Heard) (front : Front) (c : Character) (place : Place) : Type 0 where
+  pub way : Direction
+  pub same : front_characters (turned way front) ≡ front_characters front
+  pub is_front : IsFront front → IsFront (turned way front)
+  pub goes : TakesOn heard (turned way front) c place
+
+-- what a place keeps within its ranges
+abbrev pub IsSaid : Said → Type 0
+IsSaid said = (said.header.ins < 256) × (said.p3 < 256)
+    × (said.moved ≤ foreseen_by said.direction said.p3) × (said.direction ≡ None → said.moved ≡ 0)
+
+abbrev pub IsPlace : Place → Type 0
+IsPlace (In_opening bytes) = length bytes < 5
+IsPlace (Between said) = IsSaid said
+IsPlace (In_data said until) = IsSaid said × (said.moved < until)
+    × (until ≤ foreseen_by said.direction said.p3)
+IsPlace (After_sw1 said sw1) = IsSaid said × IsStatusWord (sw1, 0)
+
+-- the texts of what is not taken
+abbrev pub unheard_text : Unheard → List ℕ
+unheard_text OutOfTurn = codes "character out of turn"
+unheard_text BadProcedure = codes "bad procedure byte"

@@ -1,0 +1,234 @@
+ghost use Rattle.std.specs.Prelude.{◌≡◌, ℕ, ◌+◌, ◌-◌, ◌≤◌, ◌<◌, ◌++◌, ◌∷◌, [], List, length, take, OnErr, OnOk, IfOk, MatchResult, true};
+ghost use Rattle.std.specs.Result.{result_err};
+ghost use Rattle.t0_core.specs.Front.{Front, GoesOn, Ends};
+ghost use Rattle.t0_core.specs.Dialogue.{Dialogue, moves};
+ghost use Rattle.t0_core.specs.TapSide.{TapStandsAt, Takes, Makes, Concludes, IsReadFront, IsPlace, IsSaid, In_opening, Between, In_data, foreseen_by, begun_by, begun_at, moved_to, opened, with_data, direction_from, due_at, unheard_at, unheard_byte, unheard_procedure, heard_at, heard_procedure, after_hearing, afresh, may_come_from};
+ghost use Rattle.t0_core.specs.TapHistory.{HasHeard};
+ghost use Rattle.t0_core.specs.History.{Event, Passed, Reset};
+ghost use Rattle.t0_core.specs.TapView.{place_of, IsHeldAt};
+
+use crate::direction::Direction;
+use crate::end::End;
+use crate::heard::{Due, Heard, Said};
+use crate::plan::Step;
+use crate::procedure::{moves, step_of};
+use crate::unheard::Unheard;
+use apdu_core::{Header, Status};
+use std::marker::Model;
+
+/// How far a tap has heard a TPDU.
+#[derive(Clone, Copy, Debug, PartialEq, Eq)]
+pub enum TapStage {
+    /// So many characters of CLA INS P1 P2 have come, 0 to 4.
+    Opening { bytes: [u8; 4], taken: usize },
+    /// A procedure byte or SW1 is due.
+    Awaiting { said: Said },
+    /// Data characters move, until so many have.
+    Moving { said: Said, until: u16 },
+    /// SW2 is due.
+    AwaitingSecond { said: Said, sw1: u8 },
+}
+
+/// A third party on the line, which hears both ends (ISO/IEC 7816-3, 10.3).
+///
+/// It knows neither what the terminal means to do nor what the card's plan is, and follows each
+/// dialogue by its characters alone. Which way data move it sees from who sends the first of them.
+/// Where INS or its complement may start data either way, what comes next decides; P3 `00` alone
+/// leaves no time for that, as it foresees 256 from the card and none to it: a tap takes it for data
+/// from the card.
+#[derive(Drop)]
+pub struct Tap {
+    stage: TapStage,
+}
+
+impl Model for Tap {
+    ghost use Rattle.t0_core.specs.TapSide.{Place};
+    ghost use Rattle.t0_core.specs.TapHistory.{HasHeard};
+    ghost use Rattle.t0_core.specs.History.{Event, Passed, Reset};
+    ghost use Rattle.t0_core.specs.TapView.{place_of, IsHeldAt};
+
+    ghost Value = { Place };
+
+    ghost view = { λ t. place_of t.stage };
+
+    ghost invariant = { λ t. IsHeldAt t.stage };
+}
+
+impl Tap {
+    /// A tap that has heard nothing yet.
+    pub fn new() -> Tap
+        ensures afresh { result ≡ afresh }
+        ensures led { HasHeard [] result }
+    {
+        Tap { stage: FRESH }
+    }
+
+    /// Which characters the dialogue under way goes on with.
+    pub fn due(&self) -> Due
+        ensures { result ≡ due_at self.now }
+    {
+        due_at(self.stage)
+    }
+
+    /// Hears a character and says what it was.
+    ///
+    /// `OutOfTurn` comes where the next character is the other end's, `BadProcedure` where a
+    /// procedure byte or SW1 is due and the byte is neither (this project's profile): exactly where
+    /// no dialogue goes on with the character. Then nothing changes.
+    pub fn hear(&mut self, from: End, byte: u8) -> Result<Heard, Unheard>
+        ensures fault { result_err result ≡ unheard_at self.old from byte }
+        ensures refused { OnErr result (self.new ≡ self.old) }
+        ensures taken { IfOk result (λ heard. (heard ≡ heard_at self.old from byte)
+            × (self.new ≡ after_hearing self.old from byte)) }
+
+        // It takes each dialogue that it reads so, and tells what each character is.
+        ensures goes_on { (front new : Front) → TapStandsAt self.old front
+            → GoesOn front (from, byte) new → IsReadFront new →
+            MatchResult result (λ heard. Makes heard front (from, byte) new) (λ _. ⊥)
+            × TapStandsAt self.new new }
+        ensures came { IfOk result (λ heard. (front : Front) → TapStandsAt self.old front →
+            Takes heard front (from, byte) self.new) }
+        ensures ends { (front : Front) (d : Dialogue) → TapStandsAt self.old front
+            → Ends front (from, byte) d →
+            MatchResult result (λ heard. Concludes heard d) (λ _. ⊥) × (self.new ≡ afresh) }
+
+        // Whatever it has heard it has heard with this character.
+        ensures led { (events : List Event) → HasHeard events self.old →
+            OnOk result (HasHeard (events ++ Passed (from, byte) ∷ []) self.new) }
+    {
+        if !due_at(self.stage).may_come_from(from) {
+            return Err(Unheard::OutOfTurn);
+        }
+        let (stage, heard) = after(self.stage, from, byte)?;
+        self.stage = stage;
+        Ok(heard)
+    }
+
+    /// Drops the dialogue under way.
+    pub fn reset(&mut self)
+        ensures afresh { self.new ≡ afresh }
+        ensures led { (events : List Event) → HasHeard events self.old →
+            HasHeard (events ++ Reset ∷ []) self.new }
+    {
+        self.stage = FRESH;
+    }
+}
+
+/// No character of a header has come.
+const FRESH: TapStage = TapStage::Opening {
+    bytes: [0; 4],
+    taken: 0,
+};
+
+/// What is due at this stage.
+fn due_at(stage: TapStage) -> Due
+    ensures { result ≡ due_at (place_of stage) }
+{
+    match stage {
+        TapStage::Opening { .. } => Due::Header,
+        TapStage::Awaiting { .. } => Due::Procedure,
+        TapStage::Moving { said, .. } => Due::Data(said.way()),
+        TapStage::AwaitingSecond { .. } => Due::SecondStatus,
+    }
+}
+
+/// The stage after a character of an end that may send one, and what it was.
+fn after(stage: TapStage, from: End, byte: u8) -> Result<(TapStage, Heard), Unheard>
+    requires held { IsHeldAt stage }
+    requires turn { may_come_from (due_at (place_of stage)) from ≡ true }
+    ensures fault { result_err result ≡ unheard_byte (place_of stage) byte }
+    ensures taken { IfOk result (λ next. (place_of next.0 ≡ after_hearing (place_of stage) from byte)
+        × (next.1 ≡ heard_at (place_of stage) from byte) × IsHeldAt next.0) }
+{
+    match stage {
+        TapStage::Opening { bytes, taken } => Ok((
+            after_opening(bytes, taken, byte),
+            Heard::Header,
+        )),
+        TapStage::Awaiting { said } => after_procedure_byte(said, byte),
+        TapStage::Moving { said, until } => {
+            let direction = Direction::from_sender(from);
+            Ok((
+                moving(said.with_data(direction), until),
+                Heard::Data(direction),
+            ))
+        }
+        TapStage::AwaitingSecond { said, sw1 } => {
+            let status = Status::new(sw1, byte).unwrap();
+            Ok((FRESH, Heard::SecondStatus { said, status }))
+        }
+    }
+}
+
+/// The stage after one more of CLA INS P1 P2 P3.
+fn after_opening(mut bytes: [u8; 4], taken: usize, byte: u8) -> TapStage
+    requires room { (length bytes ≡ 4) × (taken ≤ 4) }
+    ensures value { place_of result ≡ opened (take taken bytes ++ byte ∷ []) }
+    ensures held { IsHeldAt result }
+{
+    if taken < 4 {
+        bytes[taken] = byte;
+        return TapStage::Opening {
+            bytes,
+            taken: taken + 1,
+        };
+    }
+    let [cla, ins, p1, p2] = bytes;
+    TapStage::Awaiting {
+        said: Said {
+            header: Header { cla, ins, p1, p2 },
+            p3: byte,
+            direction: None,
+            moved: 0,
+        },
+    }
+}
+
+/// The stage after a character of the card where a procedure byte is due.
+fn after_procedure_byte(said: Said, byte: u8) -> Result<(TapStage, Heard), Unheard>
+    requires { IsSaid said }
+    ensures fault { result_err result ≡ unheard_procedure (begun_by said.header.ins byte) byte }
+    ensures taken { IfOk result (λ next.
+        (place_of next.0 ≡ begun_at (begun_by said.header.ins byte) said byte)
+        × (next.1 ≡ heard_procedure (begun_by said.header.ins byte)) × IsHeldAt next.0) }
+{
+    if let Some(step) = begun_by(said.header, byte) {
+        let until = said.moved + moves(step, said.foreseen() - said.moved);
+        return Ok((moving(said, until), Heard::Procedure(step)));
+    }
+    match byte {
+        0x61..=0x6F | 0x90..=0x9F => {
+            Ok((
+                TapStage::AwaitingSecond { said, sw1: byte },
+                Heard::FirstStatus,
+            ))
+        }
+        _ => Err(Unheard::BadProcedure),
+    }
+}
+
+/// What a byte starts as a procedure byte under this header. Where INS is no instruction, `6X` and
+/// `9X` are read as status, but for a NULL.
+fn begun_by(header: Header, byte: u8) -> Option<Step>
+    ensures { result ≡ begun_by header.ins byte }
+{
+    if header.ins_is_valid() {
+        step_of(header.ins, byte)
+    } else {
+        (byte == 0x60).then_some(Step::Null)
+    }
+}
+
+/// Data characters move up to this place, if they are not there yet.
+fn moving(said: Said, until: u16) -> TapStage
+    requires said { IsSaid said }
+    requires within { (said.moved ≤ until) × (until ≤ foreseen_by said.direction said.p3) }
+    ensures value { place_of result ≡ moved_to said until }
+    ensures held { IsHeldAt result }
+{
+    if said.moved < until {
+        TapStage::Moving { said, until }
+    } else {
+        TapStage::Awaiting { said }
+    }
+}

@@ -1,0 +1,28 @@
+use std::error::Error;
+use std::fmt;
+
+/// Why no dialogue goes on with a character (ISO/IEC 7816-3, 10.3).
+#[derive(Clone, Copy, Debug, PartialEq, Eq)]
+pub enum Unheard {
+    /// The next character is the other end's.
+    OutOfTurn,
+    /// A procedure byte or SW1 is due, and this byte is neither. Where INS is no instruction, NULL
+    /// alone is a procedure byte.
+    BadProcedure,
+}
+
+impl fmt::Display for Unheard {
+    ghost use Rattle.std.specs.Prelude.{Some};
+    ghost use Rattle.t0_core.specs.TapSide.{unheard_text};
+
+    ghost output = { λ fault. Some (unheard_text fault) };
+
+    fn fmt<W: fmt::Write>(&self, f: &mut fmt::Formatter<W>) -> fmt::Result {
+        match self {
+            Unheard::OutOfTurn => f.write_str("character out of turn"),
+            Unheard::BadProcedure => f.write_str("bad procedure byte"),
+        }
+    }
+}
+
+impl Error for Unheard {}

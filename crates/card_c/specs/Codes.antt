@@ -1,0 +1,69 @@
+-- The numbers of the codes that exports answer.
+use Rattle.std.specs.Prelude.{ℤ, pos, negsuc}
+use Rattle.object_card.specs.declared.builder_fault.BuilderFault as builder
+use Rattle.t0_core.specs.declared.line_fault.LineFault as line
+use Rattle.tlv_core.specs.declared.fault.Reason as reason
+use Rattle.apdu_core.specs.declared.command.ApduFault as command
+
+abbrev pub gt_ok : ℤ
+gt_ok = pos 0
+
+abbrev pub gt_sends : ℤ
+gt_sends = pos 1
+
+abbrev pub gt_done : ℤ
+gt_done = pos 2
+
+-- negsuc n is -(n + 1): -2, and so on
+abbrev pub gt_empty : ℤ
+gt_empty = negsuc 1
+
+abbrev pub gt_state : ℤ
+gt_state = negsuc 2
+
+abbrev pub gt_memory : ℤ
+gt_memory = negsuc 3
+
+abbrev pub gt_argument : ℤ
+gt_argument = negsuc 4
+
+abbrev pub gt_buffer : ℤ
+gt_buffer = negsuc 5
+
+abbrev pub gt_busy : ℤ
+gt_busy = negsuc 6
+
+abbrev pub gt_not_found : ℤ
+gt_not_found = negsuc 7
+
+abbrev pub gt_failed : ℤ
+gt_failed = negsuc 8
+
+abbrev pub builder_code : builder.BuilderFault → ℤ
+builder_code builder.TheVariants.OutOfMemory = gt_memory
+builder_code builder.TheVariants.Twice = negsuc 19
+builder_code builder.TheVariants.TooManyApps = negsuc 20
+builder_code builder.TheVariants.NoApp = negsuc 21
+builder_code builder.TheVariants.ValueTooLong = negsuc 22
+builder_code builder.TheVariants.NotObjects = negsuc 23
+builder_code builder.TheVariants.Full = negsuc 24
+
+abbrev pub line_code : line.LineFault → ℤ
+line_code line.TheVariants.NotListening = negsuc 29
+line_code (line.TheVariants.BadProcedure byte) = negsuc 30
+line_code line.TheVariants.TooLong = negsuc 31
+line_code line.TheVariants.Stalled = negsuc 32
+line_code line.TheVariants.AfterEnd = negsuc 33
+
+abbrev pub reason_code : reason.Reason → ℤ
+reason_code reason.TheVariants.TagCut = negsuc 39
+reason_code reason.TheVariants.TagForm = negsuc 40
+reason_code reason.TheVariants.LengthCut = negsuc 41
+reason_code reason.TheVariants.LengthForm = negsuc 42
+reason_code reason.TheVariants.ValueCut = negsuc 43
+reason_code reason.TheVariants.TooDeep = negsuc 44
+
+abbrev pub command_code : command.ApduFault → ℤ
+command_code command.TheVariants.TooShort = negsuc 49
+command_code command.TheVariants.BadLength = negsuc 50
+command_code command.TheVariants.InvalidIns = negsuc 51

@@ -1,0 +1,96 @@
+//! The codes that exports answer: one list, whose numbers are fixed. The header has it too.
+ghost use Rattle.std.specs.Prelude.{◌≡◌};
+ghost use Rattle.card_c.specs.Codes.{builder_code, command_code, line_code, reason_code};
+
+use apdu_core::ApduFault;
+use object_card::BuilderFault;
+use t0_core::LineFault;
+use tlv_core::Reason;
+
+/// It went well; of a turn, the end listens.
+pub const OK: i32 = 0;
+
+/// A character is handed out.
+pub const SENDS: i32 = 1;
+
+/// The exchange is over, and has an answer.
+pub const DONE: i32 = 2;
+
+// -1 is `GT_NULL`, which the header's functions answer.
+
+/// The handle holds nothing.
+pub const EMPTY: i32 = -2;
+
+/// Not now: the handle's state has no place for the call.
+pub const STATE: i32 = -3;
+
+/// Memory is wanting.
+pub const MEMORY: i32 = -4;
+
+/// An argument is out of its range.
+pub const ARGUMENT: i32 = -5;
+
+/// There is too little room for what is to be copied out.
+pub const BUFFER: i32 = -6;
+
+/// A chain is pending at the card.
+pub const BUSY: i32 = -7;
+
+/// What was asked for is not there.
+pub const NOT_FOUND: i32 = -8;
+
+/// The exchange has failed for good.
+pub const FAILED: i32 = -9;
+
+/// Why a builder refuses.
+pub fn of_builder(fault: BuilderFault) -> i32
+    ensures { result ≡ builder_code fault }
+{
+    match fault {
+        BuilderFault::OutOfMemory => MEMORY,
+        BuilderFault::Twice => -20,
+        BuilderFault::TooManyApps => -21,
+        BuilderFault::NoApp => -22,
+        BuilderFault::ValueTooLong => -23,
+        BuilderFault::NotObjects => -24,
+        BuilderFault::Full => -25,
+    }
+}
+
+/// Why a line refuses a character.
+pub fn of_line(fault: LineFault) -> i32
+    ensures { result ≡ line_code fault }
+{
+    match fault {
+        LineFault::NotListening => -30,
+        LineFault::BadProcedure(_) => -31,
+        LineFault::TooLong => -32,
+        LineFault::Stalled => -33,
+        LineFault::AfterEnd => -34,
+    }
+}
+
+/// Why no object stands at a place.
+pub fn of_reason(reason: Reason) -> i32
+    ensures { result ≡ reason_code reason }
+{
+    match reason {
+        Reason::TagCut => -40,
+        Reason::TagForm => -41,
+        Reason::LengthCut => -42,
+        Reason::LengthForm => -43,
+        Reason::ValueCut => -44,
+        Reason::TooDeep => -45,
+    }
+}
+
+/// Why bytes are no command.
+pub fn of_command(fault: ApduFault) -> i32
+    ensures { result ≡ command_code fault }
+{
+    match fault {
+        ApduFault::TooShort => -50,
+        ApduFault::BadLength => -51,
+        ApduFault::InvalidIns => -52,
+    }
+}

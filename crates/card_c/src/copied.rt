@@ -1,0 +1,19 @@
+//! Bytes that go out to C.
+ghost use Rattle.std.specs.Prelude.{◌≡◌, length};
+ghost use Rattle.card_c.specs.Copying.{IsCopied};
+
+use crate::code;
+
+/// Copies bytes out where there is room for them, and says how many there are in either case.
+pub fn copied(from: &[u8], to: &mut [u8], len: &mut usize) -> i32
+    ensures copied { IsCopied from.now to.old result to.new }
+    ensures counted { len.new ≡ length from.now }
+{
+    let count = from.len();
+    *len = count;
+    if count > to.len() {
+        return code::BUFFER;
+    }
+    to[..count].copy_from_slice(from);
+    code::OK
+}

@@ -1,0 +1,10 @@
+//! The library for C: the object reader, a terminal's exchange, a card and a session with it.
+//! `bindings/c/include/galliumtoad.h` declares it.
+//!
+//! Each export is named `galliumtoad_..`; the header's function `gt_..` of the same name tests for
+//! NULL, which nothing here can, and then calls it.
+#![tactic(auto)]
+
+mod code;
+mod copied;
+mod loose;

@@ -1,1 +1,2 @@
+pub mod HeldExchangeValues
 pub mod LooseValues

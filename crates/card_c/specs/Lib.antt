@@ -1,2 +1,4 @@
 pub mod Codes
 pub mod Copying
+pub mod ExchangeHandle
+pub mod HeldExchangeOwned

@@ -7,4 +7,8 @@
 
 mod code;
 mod copied;
+mod exchange;
+mod exchange_handle;
+mod held_exchange;
 mod loose;
+mod terminal_side;

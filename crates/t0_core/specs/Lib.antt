@@ -11,6 +11,7 @@ pub mod CardHistory
 pub mod CardContract
 pub mod HostSide
 pub mod HostView
+pub mod HostMark
 pub mod CardView
 pub mod FrontLaws
 pub mod ProcedureLaws

@@ -7,8 +7,11 @@ ghost use Rattle.t0_core.specs.declared.direction.Direction.TheVariants.{ToCard,
 ghost use Rattle.t0_core.specs.Room.{Room};
 ghost use Rattle.t0_core.specs.HostSide.{IsInRange, IsStage, turn_of, data_turn, after_turn, moving, fault_of, data_fault, after_fault, after_taking, data_in, gathered};
 ghost use Rattle.t0_core.specs.HostView.{host_of, direction_of, content_of};
+ghost use Rattle.t0_core.specs.HostMark.{HasOnly, with_data};
 
+use crate::direction::Direction;
 use crate::gather::Gather;
+use crate::host_mark::HostMark;
 use crate::line_fault::LineFault;
 use crate::procedure::{moves, step_of};
 use crate::request::{Request, Transfer, foreseen, opening_character};
@@ -73,6 +76,7 @@ impl<'a> HostEnd<'a> {
     ghost use Rattle.t0_core.specs.Dialogue.{Dialogue};
     ghost use Rattle.t0_core.specs.Front.{Front, GoesOn, Ends, brought, fresh};
     ghost use Rattle.t0_core.specs.HostSide.{at_stage, HostStandsAt, IsRequest};
+    ghost use Rattle.t0_core.specs.HostMark.{HasOnly, with_data};
 
     /// An end that sends the card these bytes, at most 255, under a header with a valid INS. P3 is
     /// their number.
@@ -115,6 +119,40 @@ impl<'a> HostEnd<'a> {
                 transfer: Transfer::Asking,
             },
             stage: HostStage::SendingHeader { sent: 0 },
+        }
+    }
+
+    /// How far the end has come, so that `at` makes it again over the same data.
+    pub fn mark(&self) -> HostMark
+        ensures again { (content : List ℕ) → HasOnly content self.now
+            → with_data result content ≡ self.now }
+        ensures range { IsInRange self.now }
+    {
+        mark_of(self.request, self.stage)
+    }
+
+    /// The end that has come so far in a TPDU, over the data of its command.
+    pub fn at(mark: HostMark, content: &'a [u8]) -> HostEnd<'a>
+        requires { IsInRange (with_data mark content.now) }
+        ensures { result ≡ with_data mark content.now }
+    {
+        let HostMark {
+            header,
+            p3,
+            direction,
+            stage,
+        } = mark;
+        let transfer = match direction {
+            Direction::ToCard => Transfer::Sending(content),
+            Direction::FromCard => Transfer::Asking,
+        };
+        HostEnd {
+            request: Request {
+                header,
+                p3,
+                transfer,
+            },
+            stage,
         }
     }
 
@@ -194,6 +232,28 @@ impl<'a> HostEnd<'a> {
                 Err(fault)
             }
         }
+    }
+}
+
+/// How far an end at this stage has come.
+fn mark_of(request: Request, stage: HostStage) -> HostMark
+    ensures { (content : List ℕ) → HasOnly content (host_of request.entry stage)
+        → with_data result content ≡ host_of request.entry stage }
+{
+    let Request {
+        header,
+        p3,
+        transfer,
+    } = request;
+    let direction = match transfer {
+        Transfer::Sending(_) => Direction::ToCard,
+        Transfer::Asking => Direction::FromCard,
+    };
+    HostMark {
+        header,
+        p3,
+        direction,
+        stage,
     }
 }
 

@@ -1,5 +1,5 @@
 -- The state of a card: what it holds, what is selected, and what a later command may go on with.
-use Rattle.std.specs.Prelude.{◌≡◌, ◌≢◌, ℕ, ◌+◌, ◌≤◌, List, [], ◌∷◌, length, Option, Some, None, IsSome, IfSome, Bool, true, false, is_some, option_and_then}
+use Rattle.std.specs.Prelude.{◌≡◌, ◌≢◌, ℕ, ◌+◌, ◌≤◌, List, [], ◌∷◌, length, Option, Some, None, IsSome, IfSome, Bool, true, false, is_some, option_and_then, slice_get}
 use Rattle.object_card.specs.declared.limits.TheConstants.{VALUE_LIMIT, HEAD_LIMIT}
 use Rattle.object_card.specs.Tables.{Application, Entry, AreApplications, entries_in}
 
@@ -72,3 +72,8 @@ after_reset state = record {
   selected = None;
   pending = NothingPending;
 }
+
+-- the entry at a place of the application at a place, from 0
+abbrev pub entry_at : ℕ → ℕ → CardState → Option Entry
+entry_at app place state = option_and_then (λ a. slice_get a.entries place)
+    (slice_get state.applications app)

@@ -1,4 +1,4 @@
-ghost use Rattle.std.specs.Prelude.{◌≡◌, ◌<◌, [], length, map, Some, IfSome, IfOk, OnOk};
+ghost use Rattle.std.specs.Prelude.{◌≡◌, ◌<◌, [], length, map, Some, None, MatchOption, IfSome, IfOk, OnOk, slice_get};
 ghost use Rattle.std.specs.Option.{option_map};
 ghost use Rattle.object_card.specs.Tables.{value_under, is_locked, with_entry};
 ghost use Rattle.object_card.specs.CardFields.{HasPlace, value_at};
@@ -113,6 +113,16 @@ impl<A: Allocator> Application<A> {
             Some(held) => held.locked,
             None => false,
         }
+    }
+
+    /// The data object at this place: its tag, its value, and whether it is locked.
+    pub(crate) fn at(&self, place: usize) -> Option<(ObjectTag, &[u8], bool)>
+        ensures { MatchOption result (slice_get self.now.entries place ≡ None)
+            (λ e. slice_get self.now.entries place
+            ≡ Some (record { tag = e.0; value = e.1.now; locked = e.2 })) }
+    {
+        let (tag, held) = self.objects.get_index(place)?;
+        Some((*tag, held.value(), held.locked))
     }
 
     /// Takes the place for a data object with this tag, where there is none.

@@ -1,4 +1,4 @@
-ghost use Rattle.std.specs.Prelude.{◌≡◌, List, [], length, None, true, false, OnOk, OnErr, IfOk, IfErr};
+ghost use Rattle.std.specs.Prelude.{◌≡◌, List, [], length, None, true, false, OnOk, OnErr, IfOk, IfErr, MatchResult};
 ghost use Rattle.tlv_core.specs.Address.{IsAddressable};
 ghost use Rattle.object_card.specs.Tables.{with_entry};
 ghost use Rattle.object_card.specs.CardFields.{applications_of};
@@ -106,12 +106,24 @@ impl<A: Allocator + Copy> CardBuilder<A> {
     pub fn finish(self) -> Result<ObjectCard<A>, AllocError>
         ensures { IfOk result (λ card. card ≡ new_card self) }
     {
+        self.try_finish().map_err(|_| AllocError)
+    }
+
+    /// A card, as `finish` makes one. Where memory is wanting the builder comes back as it was.
+    pub fn try_finish(self) -> Result<ObjectCard<A>, CardBuilder<A>>
+        ensures { MatchResult result (λ card. card ≡ new_card self) (λ builder. builder ≡ self) }
+    {
         let CardBuilder {
             alloc,
             applications,
         } = self;
-        let chain = Chain::with_room(alloc, VALUE_LIMIT)?;
-        Ok(ObjectCard::new(applications, chain))
+        match Chain::with_room(alloc, VALUE_LIMIT) {
+            Ok(chain) => Ok(ObjectCard::new(applications, chain)),
+            Err(_) => Err(CardBuilder {
+                alloc,
+                applications,
+            }),
+        }
     }
 }
 

@@ -1,9 +1,10 @@
-ghost use Rattle.std.specs.Prelude.{◌≡◌, ◌⊎◌, map, refl, Some};
+ghost use Rattle.std.specs.Prelude.{◌≡◌, ◌⊎◌, map, refl, Some, None, MatchOption, slice_get};
 ghost use Rattle.std.specs.Option.{option_map};
 ghost use Rattle.apdu_core.specs.Chaining.{idle};
 ghost use Rattle.object_card.specs.Builder.{new_card};
 ghost use Rattle.object_card.specs.CardFields.{applications_of};
 ghost use Rattle.object_card.specs.Refusals.{is_locked_among};
+ghost use Rattle.object_card.specs.State.{entry_at};
 ghost use Rattle.object_card.specs.Tables.{AreApplications, entries_in};
 
 use crate::aid::Aid;
@@ -85,6 +86,24 @@ impl<A: Allocator> ObjectCard<A> {
         ensures sound { AreApplications self.now.state.applications }
     {
         Apps::over(&self.applications)
+    }
+
+    /// The identifier of the application at this place, from 0, in the order of `apps`; `None` past
+    /// the last.
+    pub fn app_at(&self, place: usize) -> Option<Aid>
+        ensures { result ≡ option_map (λ a. a.aid) (slice_get self.now.state.applications place) }
+    {
+        Some(self.applications.get(place)?.aid())
+    }
+
+    /// The data object at a place, from 0, of the application at a place: its tag, its value, and
+    /// whether no command changes it. `None` past the last.
+    pub fn entry_at(&self, app: usize, place: usize) -> Option<(ObjectTag, &[u8], bool)>
+        ensures { MatchOption result (entry_at app place self.now.state ≡ None)
+            (λ e. entry_at app place self.now.state
+            ≡ Some (record { tag = e.0; value = e.1.now; locked = e.2 })) }
+    {
+        self.applications.get(app)?.at(place)
     }
 
     /// The data objects of an application, in the order in which their tags were first stored; `None`

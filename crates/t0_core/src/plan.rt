@@ -85,6 +85,7 @@ impl<'a, A: Allocator> Model for Plans<'a, A> {
 
 impl<'a, A: Allocator> Plans<'a, A> {
     ghost use Rattle.std.specs.Prelude.{None};
+    ghost use Rattle.std.specs.Option.{option_copied};
     ghost use Rattle.t0_core.specs.Plan.{advanced, plan_kept};
 
     /// A cursor before the first of these plans, which keeps none.
@@ -95,6 +96,14 @@ impl<'a, A: Allocator> Plans<'a, A> {
             rest: plans,
             kept: None,
         }
+    }
+
+    /// A cursor that keeps this plan, or none, and stands before the first of these others: for who
+    /// has the plans in a store of their own, and makes a cursor for each call.
+    pub fn keeping(kept: Option<&'a Plan<A>>, rest: &'a [Plan<A>]) -> Plans<'a, A>
+        ensures { result ≡ record { rest = rest.now; kept = option_copied kept.entry } }
+    {
+        Plans { rest, kept }
     }
 
     /// Takes the next plan, or none past the end of the list, and answers its cut.

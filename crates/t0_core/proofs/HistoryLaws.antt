@@ -347,7 +347,7 @@ same_dialogue d e p q r s is also small equal =
 -- nor a part of one
 no_part : (d : Dialogue) (p : Course) (part r : List Character) → IsUnderPlan d p
     → d.body.header.ins < 256 → IsPart part → part ≡ characters d ++ r → ⊥
-no_part d p part r is small (e, q, c, rest, also, e_is) begins =
+no_part d p part r is small (q, (e, c, rest, also, e_is)) begins =
     let equal : characters d ++ (r ++ c ∷ rest) ≡ characters e ++ [] =
     sym (append_assoc (characters d) r (c ∷ rest)) ∙ ap (λ cs. cs ++ c ∷ rest) (sym begins)
     ∙ sym e_is ∙ sym (append-nil (characters e)) in

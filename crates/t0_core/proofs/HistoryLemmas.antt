@@ -1,5 +1,5 @@
 -- What led to an end leads on with the next character.
-use Rattle.std.proofs.Common.{◌≡◌, ℕ, ◌+◌, ◌<◌, List, [], ◌∷◌, ◌++◌, length, refl, sym, subst, ◌∙◌, ap, arith, inl, inr, lit≤, true, false, Bool, ◌&&◌, nat_lt, append-nil, append_assoc, if◌then◌else◌, length-append, eq-eqb}
+use Rattle.std.proofs.Common.{◌≡◌, ℕ, ◌+◌, ◌<◌, List, [], ◌∷◌, ◌++◌, length, refl, sym, subst, ◌∙◌, ap, arith, inl, inr, lit<, lit≤, true, false, Bool, ◌&&◌, nat_lt, append-nil, append_assoc, if◌then◌else◌, length-append, eq-eqb}
 use Rattle.std.specs.List.{flat_map}
 use Rattle.std.proofs.lemmas.Bool.{ltb-true, ltb-false, lt-ltb}
 use Rattle.t0_core.specs.declared.end.End.TheVariants.{Terminal, Card}
@@ -14,9 +14,9 @@ use Rattle.t0_core.specs.Plan.{Course, IsCut, Cursor, advanced, plan_kept}
 use Rattle.t0_core.specs.Meaning.{Tpdu, tpdu_of, Prepared}
 use Rattle.t0_core.specs.Front.{Front, In_header, In_body, After_first, front_characters, GoesOn, Ends, fresh, header_only, with_moved}
 use Rattle.t0_core.specs.CardSide.{Stage, EndOf, Taking_header, Refusing, Serving, Ending, StandsAt, Advances, IsServed, IsOnPlan, SuitsFront, listens, with_character, takes_plan, comes_from_terminal, one_moved, ServesBy}
-use Rattle.t0_core.specs.History.{Event, Passed, Reset, Item, Whole, Cut_off, IsPart, IsUnderPlan, RunsOver, events_of, passed}
+use Rattle.t0_core.specs.History.{Event, Passed, Reset, Item, Whole, Cut_off, IsPart, IsPartUnder, IsUnderPlan, RunsOver, events_of, passed}
 use Rattle.t0_core.specs.CardHistory.{IsAt, Leads, AreDone, LeadsUnder, IsLast, under_way}
-use Rattle.t0_core.proofs.PlannedFront.{at_front, at_fresh}
+use Rattle.t0_core.proofs.PlannedFront.{at_front, at_fresh, planned_under}
 use Rattle.std.proofs.lemmas.List.{map-append}
 use Rattle.t0_core.specs.DialogueLaws.{flat_map_last, follow_each, all_more, runs_each, one_more_each, ends_with}
 use Rattle.t0_core.specs.FrontLaws.{goes_on}
@@ -37,6 +37,14 @@ leads_fresh Does after_reset standing prepared = record {
   at_front = at_fresh Does standing prepared 256 (lit≤ tt, lit≤ tt);
 }
 
+-- a dialogue under any plan begins with nothing
+begins_fresh : {State : Type 0} (Does : State → ℕ → Tpdu → State → Type 0) (standing : State)
+    (prepared : Prepared State) (plan : Course) → IsCut plan.cut
+    → IsPartUnder plan (front_characters fresh)
+begins_fresh Does standing prepared plan in_range =
+    planned_under Does standing prepared (Taking_header []) plan.cut plan fresh in_range (lit< tt)
+    (refl, lit< tt) tt
+
 pub leads_under_fresh : {State : Type 0} (Does : State → ℕ → Tpdu → State → Type 0)
     (standing : State) (prepared : Prepared State)
     → LeadsUnder Does standing [] [] standing prepared (Taking_header [])
@@ -50,6 +58,8 @@ leads_under_fresh Does standing prepared = record {
   done = record { one_each = refl; cuts = tt; are_dialogues = tt; follow = tt; runs = refl };
   at_front = at_fresh Does standing prepared 256 (lit≤ tt, lit≤ tt);
   on_plan = tt;
+  begins = begins_fresh Does standing prepared (record { steps = []; cut = 256 })
+      (lit≤ tt, lit≤ tt);
 }
 
 -- a character of the terminal comes where one is due
@@ -355,6 +365,8 @@ take_leads_under Does first standing prepared stage came taken byte due led =
       at_front = at_front Does standing prepared (with_character stage byte) cut next.0 grown.0
           led.at_front.in_range goes.0;
       on_plan = goes.1 led.plan led.on_plan;
+      begins = planned_under Does standing prepared (with_character stage byte) cut led.plan next.0
+          led.at_front.in_range grown.0 goes.0 (goes.1 led.plan led.on_plan);
     }
 
 -- a character that an end seen so takes
@@ -680,6 +692,8 @@ turn_leads_under {State = State} Does first old new kept before prepared at stag
       at_front = at_front Does new prepared stage kept.cut goes.0 grown.0 led.at_front.in_range
           goes.2;
       on_plan = goes.4 led.on_plan;
+      begins = planned_under Does new prepared stage kept.cut kept goes.0 led.at_front.in_range
+          grown.0 goes.2 (goes.4 led.on_plan);
     }
 turn_leads_under Does first old new kept before prepared at stage came taken byte led (inr ends) =
     let Rests : Stage → Type 0 = λ s. IsAt Does new prepared s kept.cut fresh
@@ -708,6 +722,7 @@ turn_leads_under Does first old new kept before prepared at stage came taken byt
       };
       at_front = rests.0;
       on_plan = rests.1;
+      begins = begins_fresh Does new prepared kept led.at_front.in_range;
     }
 
 -- under one cursor the plan that is kept is the one taken last

@@ -34,16 +34,46 @@ frugal_more (t ∷ segments) s n frugal starts =
     - all_moves segments (n - moves t n) = omega arith in
     (frugal.0, frugal_more segments s (n - moves t n) frugal.1 (subst (Starts s) same starts))
 
--- segments that move all data, and none in vain, are those of the plan that they are
+-- Segments of which none is begun in vain are those of the plan that they are, and where data are
+-- left one more "all" moves them.
+pub frugal_goes_on : (segments : List Step) (n : ℕ) → IsFrugal segments n
+    → segments_of segments n ≡ segments ++ segments_of [] (n - all_moves segments n)
+frugal_goes_on [] n frugal = let same : n - 0 ≡ n = omega arith in
+    ap (λ k. segments_of [] k) (sym same)
+frugal_goes_on (s ∷ segments) n frugal =
+    let left : (n - moves s n) - all_moves segments (n - moves s n) ≡ n
+    - (moves s n + all_moves segments (n - moves s n)) = omega arith in
+    carried_out s segments n frugal.0
+    ∙ ap (λ x. s ∷ x) (frugal_goes_on segments (n - moves s n) frugal.1)
+    ∙ ap (λ k. s ∷ (segments ++ segments_of [] k)) left
+
+-- where they move all data nothing more comes
 pub follows_itself : (segments : List Step) (n : ℕ) → IsFrugal segments n → all_moves segments n ≡ n
     → segments ≡ segments_of segments n
-follows_itself [] zero frugal all = refl
-follows_itself [] (suc n) frugal all = absurd (omega (arith, all))
-follows_itself (s ∷ segments) n frugal all =
-    let rest : all_moves segments (n - moves s n) ≡ n - moves s n =
-    omega (arith, all, moves-within s n) in
-    ap (λ x. s ∷ x) (follows_itself segments (n - moves s n) frugal.1 rest)
-    ∙ sym (carried_out s segments n frugal.0)
+follows_itself segments n frugal all =
+    let none : n - all_moves segments n ≡ 0 = omega (arith, all) in
+    sym (frugal_goes_on segments n frugal ∙ ap (λ k. segments ++ segments_of [] k) none
+    ∙ append-nil segments)
+
+-- the segments of a plan move all data
+pub moves_all : (steps : List Step) (n : ℕ) → all_moves (segments_of steps n) n ≡ n
+moves_all [] zero = refl
+moves_all [] (suc n) = omega arith
+moves_all (Null ∷ steps) n =
+    let same : n - 0 ≡ n = omega arith in rw same (omega (arith, moves_all steps n))
+moves_all (One ∷ steps) zero = moves_all steps zero
+moves_all (One ∷ steps) (suc n) =
+    let same : suc n - 1 ≡ n = omega arith in rw same (omega (arith, moves_all steps n))
+moves_all (All ∷ steps) zero = moves_all steps zero
+moves_all (All ∷ steps) (suc n) =
+    let none : suc n - suc n ≡ 0 = omega arith in rw none (omega (arith, moves_all steps 0))
+
+-- and where none are left, they are NULLs
+pub nulls_where_none_left : (steps : List Step) → AllByRecursion (λ s. s ≡ Null) (segments_of steps 0)
+nulls_where_none_left [] = tt
+nulls_where_none_left (Null ∷ steps) = (refl, nulls_where_none_left steps)
+nulls_where_none_left (One ∷ steps) = nulls_where_none_left steps
+nulls_where_none_left (All ∷ steps) = nulls_where_none_left steps
 
 -- NULLs alone
 pub nulls_follow : (segments : List Step) → AllByRecursion (λ s. s ≡ Null) segments

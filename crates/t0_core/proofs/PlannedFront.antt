@@ -1,5 +1,5 @@
--- The front at which a card's end stands is that of a dialogue that follows some plan.
-use Rattle.std.proofs.Common.{◌≡◌, ℕ, zero, suc, ◌+◌, ◌-◌, ◌<◌, List, [], ◌∷◌, ◌++◌, length, refl, sym, subst, ◌∙◌, ap, arith, inl, inr, lit<, lit≤, true, false, append_assoc, append-nil}
+-- The front at which a card's end stands is that of a dialogue that follows the plan it is on.
+use Rattle.std.proofs.Common.{◌≡◌, ℕ, zero, suc, ◌+◌, ◌-◌, ◌<◌, List, [], ◌∷◌, ◌++◌, length, drop, refl, sym, subst, ◌∙◌, ap, arith, inl, inr, lit<, lit≤, true, false, append_assoc, append-nil}
 use Rattle.std.specs.List.{AllByRecursion}
 use Rattle.apdu_core.specs.declared.header.Header.{Header}
 use Rattle.apdu_core.specs.HeaderBytes.{ins_is_valid}
@@ -10,93 +10,148 @@ use Rattle.t0_core.specs.declared.direction.Direction.{Direction}
 use Rattle.t0_core.specs.declared.direction.Direction.TheVariants.{FromCard}
 use Rattle.t0_core.specs.declared.service.Service.{Service}
 use Rattle.t0_core.specs.Character.{Character}
-use Rattle.t0_core.specs.Dialogue.{Body, Dialogue, body_characters, foreseen, all_moves, to_move}
-use Rattle.t0_core.specs.Plan.{Course, IsCut, Follows, segments_of}
-use Rattle.t0_core.specs.History.{IsPart}
+use Rattle.t0_core.specs.Dialogue.{Body, Dialogue, body_characters, foreseen, procedure_byte, to_move}
+use Rattle.t0_core.specs.Plan.{Course, IsCut, Follows, plain, segments_of}
+use Rattle.t0_core.specs.History.{IsPart, IsPartUnder}
 use Rattle.t0_core.specs.CardHistory.{IsAt}
 use Rattle.t0_core.specs.Meaning.{Tpdu, Prepared}
 use Rattle.t0_core.specs.Front.{Front, fresh, In_header, In_body, After_first, front_characters, GoesOn, IsBetween, IsBegun, IsFront, with_segment, header_only}
-use Rattle.t0_core.specs.CardSide.{Stage, Taking_header, Refusing, Serving, Ending, StandsAt, IsFrugal, IsServed, whole_of}
-use Rattle.t0_core.specs.FrontLaws.{goes_on, all_moves-more}
+use Rattle.t0_core.specs.CardSide.{Stage, Taking_header, Refusing, Serving, Ending, StandsAt, IsOnPlan, IsServed, whole_of}
+use Rattle.t0_core.specs.FrontLaws.{goes_on}
 use Rattle.t0_core.specs.DialogueLaws.{ends_with}
-use Rattle.t0_core.proofs.PlanLemmas.{frugal_more, follows_itself, nulls_follow, nulls_move_nothing}
+use Rattle.t0_core.proofs.PlanLemmas.{frugal_goes_on, nulls_follow, nulls_move_nothing, nulls_where_none_left, moves_all}
 use Rattle.t0_core.specs.WholeLaws.{Any, zeros, longer, closed, closed_is, head_of, owes}
 
 abbrev itself : List Step → Course
 itself steps = record { steps = steps; cut = 256 }
 
-prefix_of : (cs : List Character) (x : Body) (rest : List Character) → IsBegun x → IsBetween x
-    → Follows (closed x) (itself x.segments) → body_characters x ≡ cs ++ rest → IsPart cs
-prefix_of cs x rest begun between follows is =
-    let more = head_of rest (Card, 0x90) (Card, 0x00) in (
+-- a body with all of these segments, which begins with these characters
+record Reaches (cs : List Character) (b x : Body) (segments : List Step) : Type 0 where
+  pub header_is : x.header ≡ b.header
+  pub p3_is : x.p3 ≡ b.p3
+  pub direction_is : x.direction ≡ b.direction
+  pub segments_are : x.segments ≡ segments
+  pub begun : IsBegun x
+  pub between : IsBetween x
+  pub rest : List Character
+  pub characters_are : body_characters x ≡ cs ++ rest
+
+-- segments that are still to come, one by one, each with data
+extends : (cs : List Character) (x : Body) (later : List Step) (rest : List Character) → IsBegun x
+    → IsBetween x
+    → (ins_is_valid x.header.ins ≡ false → AllByRecursion (λ s. s ≡ Null) later)
+    → body_characters x ≡ cs ++ rest → (y : Body) × Reaches cs x y (x.segments ++ later)
+extends cs x [] rest begun between nulls is = (
+  x,
+  record {
+    header_is = refl;
+    p3_is = refl;
+    direction_is = refl;
+    segments_are = sym (append-nil x.segments);
+    begun = begun;
+    between = between;
+    rest = rest;
+    characters_are = is;
+  },
+)
+extends cs x (s ∷ later) rest begun between nulls is =
+    let c : Character = (Card, procedure_byte x.header.ins s) in
+    let grown = goes_on (In_body x) (In_body (with_segment x s)) c begun
+    (inr (inl (between, refl, (s, (λ invalid. (nulls invalid).0), refl, refl)))) in
+    let filled = longer Any (to_move (with_segment x s) - length x.moved) (with_segment x s)
+    (zeros (with_segment x s)) grown.0 tt (omega (arith, owes (with_segment x s) grown.0)) in
+    let y = filled.0 in
+    let l = filled.1 in
+    let came : body_characters y ≡ cs ++ (rest ++ c ∷ l.rest) =
+    l.characters_are ∙ ap (λ bs. bs ++ l.rest) grown.1
+    ∙ append_assoc (body_characters x) (c ∷ []) l.rest ∙ ap (λ bs. bs ++ c ∷ l.rest) is
+    ∙ append_assoc cs rest (c ∷ l.rest) in
+    let more = extends cs y later (rest ++ c ∷ l.rest) l.begun l.between
+    (λ invalid. (nulls (ap (λ (h : Header). ins_is_valid h.ins) (sym l.header_is) ∙ invalid)).1)
+    came in (
+      more.0,
+      record {
+        header_is = more.1.header_is ∙ l.header_is;
+        p3_is = more.1.p3_is ∙ l.p3_is;
+        direction_is = more.1.direction_is ∙ l.direction_is;
+        segments_are = more.1.segments_are ∙ ap (λ ss. ss ++ later) l.segments_are
+            ∙ append_assoc x.segments (s ∷ []) later;
+        begun = more.1.begun;
+        between = more.1.between;
+        rest = more.1.rest;
+        characters_are = more.1.characters_are;
+      },
+    )
+
+-- with a status it is a dialogue
+ended : (cs : List Character) (plan : Course) (b x : Body) (segments : List Step) → IsCut plan.cut
+    → Reaches cs b x segments → Follows (closed x) plan → IsPartUnder plan cs
+ended cs plan b x segments in_range reaches follows =
+    let more = head_of reaches.rest (Card, 0x90) (Card, 0x00) in (
       closed x,
-      itself x.segments,
       more.0,
       more.1,
       record {
-        is_dialogue = closed_is x begun between;
-        in_range = (lit≤ tt, lit≤ tt);
-        follows =
-            follows;
+        is_dialogue = closed_is x reaches.begun reaches.between;
+        in_range = in_range;
+        follows = follows;
       },
-      ap (λ bs. bs ++ (Card, 0x90) ∷ (Card, 0x00) ∷ []) is
-          ∙ append_assoc cs rest ((Card, 0x90) ∷ (Card, 0x00) ∷ []) ∙ ap (λ bs. cs ++ bs) more.2,
+      ap (λ bs. bs ++ (Card, 0x90) ∷ (Card, 0x00) ∷ []) reaches.characters_are
+          ∙ append_assoc cs reaches.rest ((Card, 0x90) ∷ (Card, 0x00) ∷ [])
+          ∙ ap (λ bs. cs ++ bs) more.2,
     )
 
--- all data have moved, and no segment was begun in vain
-all_moved : (x : Body) → IsBetween x → IsFrugal x.segments (foreseen x.direction x.p3)
-    → to_move x ≡ foreseen x.direction x.p3 → Follows (closed x) (itself x.segments)
-all_moved x between frugal all = record {
-  all_or_nothing = inr (between ∙ all);
-  step_by_step = follows_itself x.segments (foreseen x.direction x.p3) frugal all
-      ∙ ap (λ n. segments_of x.segments n) (sym (between ∙ all));
-}
+no_bytes : (bytes : List ℕ) → length bytes ≡ 0 → bytes ≡ []
+no_bytes [] none = refl
+no_bytes (x ∷ bytes) none = absurd (omega (arith, none))
 
--- where data are left one more "all" moves them
-served : (cs : List Character) (x : Body) (rest : List Character) (left : ℕ) → IsBegun x
-    → IsBetween x → ins_is_valid x.header.ins ≡ true
-    → IsFrugal x.segments (foreseen x.direction x.p3)
-    → to_move x + left ≡ foreseen x.direction x.p3 → body_characters x ≡ cs ++ rest → IsPart cs
-served cs x rest zero begun between valid frugal all is =
-    prefix_of cs x rest begun between (all_moved x between frugal (omega (arith, all))) is
-served cs x rest (suc left) begun between valid frugal all is =
-    let n = foreseen x.direction x.p3 in
-    let goes : GoesOn (In_body x) (Card, x.header.ins) (In_body (with_segment x All)) =
-    inr (inl (
-      between,
-      refl,
-      (All, (λ invalid. absurd (let e : true ≡ false = sym valid ∙ invalid in cc)), refl, refl),
-    ))
-    in
-    let grown = goes_on (In_body x) (In_body (with_segment x All)) (Card, x.header.ins) begun
-    goes in
-    let more : all_moves (x.segments ++ All ∷ []) n ≡ all_moves x.segments n
-    + (n - all_moves x.segments n) = all_moves-more x.segments All n in
-    let filled = longer Any (suc left) (with_segment x All) (zeros (with_segment x All)) grown.0 tt
-    (omega (arith, between, all, more)) in
-    let y = filled.0 in
+-- where no data move, NULLs alone are still to come
+no_data : (cs : List Character) (plan : Course) (b : Body) (later : List Step)
+    (rest : List Character) → IsCut plan.cut → IsBegun b → IsBetween b
+    → segments_of plan.steps 0 ≡ b.segments ++ later
+    → AllByRecursion (λ s. s ≡ Null) later → body_characters b ≡ cs ++ rest → IsPartUnder plan cs
+no_data cs plan b later rest in_range begun between on nulls is =
+    let reached = extends cs b later rest begun between (λ _. nulls) is in
+    let y = reached.0 in
+    let all : y.segments ≡ segments_of plan.steps 0 = reached.1.segments_are ∙ sym on in
+    let All_nulls : List Step → Type 0 = λ ss. AllByRecursion (λ s. s ≡ Null) ss in
+    let none : length y.moved ≡ 0 = reached.1.between
+    ∙ nulls_move_nothing y.segments (foreseen y.direction y.p3)
+    (subst All_nulls (sym all) (nulls_where_none_left plan.steps)) in
+    ended cs plan b y (b.segments ++ later) in_range reached.1
+    (record {
+      all_or_nothing = inl (no_bytes y.moved none);
+      step_by_step = all ∙ ap (λ n. segments_of plan.steps n) (sym none);
+    })
+
+-- in service the data are filled up, and then those of the segments that are still to come
+in_service : {State : Type 0} (prepared : Prepared State) (plan : Course) (s : Service)
+    (came : List ℕ) (cut : ℕ) (b : Body) (later : List Step)
+    → IsCut plan.cut → IsFront (In_body b) → IsServed prepared s came cut b
+    → segments_of plan.steps (whole_of s) ≡ b.segments ++ later
+    → IsPartUnder plan (body_characters b)
+in_service prepared plan s came cut b later in_range is at on =
+    let filled = longer Any (to_move b - length b.moved) b (zeros b) is tt
+    (omega (arith, owes b is)) in
+    let x = filled.0 in
     let l = filled.1 in
-    let Frugal : List Step → ℕ → Type 0 = λ s k. IsFrugal s k in
-    let same : foreseen y.direction y.p3 ≡ n = rw (l.direction_is, l.p3_is) refl in
-    let frugal_y : IsFrugal y.segments (foreseen y.direction y.p3) =
-    rw (l.segments_are, same) (frugal_more x.segments All n frugal (omega (arith, all))) in
-    let all_y : to_move y ≡ foreseen y.direction y.p3 =
-    rw (l.segments_are, same) (omega (arith, more, all)) in
-    prefix_of cs y (rest ++ (Card, x.header.ins) ∷ l.rest) l.begun l.between
-    (all_moved y l.between frugal_y all_y)
-    (l.characters_are ∙ ap (λ bs. bs ++ l.rest) grown.1
-    ∙ append_assoc (body_characters x) ((Card, x.header.ins) ∷ []) l.rest
-    ∙ ap (λ bs. bs ++ (Card, x.header.ins) ∷ l.rest) is
-    ∙ append_assoc cs rest ((Card, x.header.ins) ∷ l.rest))
-
-nothing_moved : (x : Body) → x.moved ≡ [] → AllByRecursion (λ s. s ≡ Null) x.segments
-    → Follows (closed x) (itself x.segments)
-nothing_moved x none nulls =
-    record {
-      all_or_nothing = inl none;
-      step_by_step = nulls_follow x.segments nulls
-          ∙ ap (λ bs. segments_of x.segments (length bs)) (sym none);
-    }
+    let valid : ins_is_valid x.header.ins ≡ true =
+    ap (λ (h : Header). ins_is_valid h.ins) (l.header_is ∙ at.header_is) ∙ at.valid in
+    let reached = extends (body_characters b) x later l.rest l.begun l.between
+    (λ invalid. absurd (let e : true ≡ false = sym valid ∙ invalid in cc)) l.characters_are in
+    let y = reached.0 in
+    let whole : foreseen y.direction y.p3 ≡ whole_of s =
+    rw (reached.1.direction_is, reached.1.p3_is, l.direction_is, l.p3_is, at.direction_is, at.p3_is)
+    refl in
+    let all : y.segments ≡ segments_of plan.steps (whole_of s) =
+    reached.1.segments_are ∙ ap (λ ss. ss ++ later) l.segments_are ∙ sym on in
+    let moved : length y.moved ≡ whole_of s =
+    reached.1.between ∙ rw (all, whole) (moves_all plan.steps (whole_of s)) in
+    ended (body_characters b) plan x y (x.segments ++ later) in_range reached.1
+    (record {
+      all_or_nothing = inr (moved ∙ sym whole);
+      step_by_step = all ∙ ap (λ n. segments_of plan.steps n) (sym moved);
+    })
 
 in_header : (bytes : List ℕ) → length bytes < 5 → (h : Header) × (rest : List Character)
     × (body_characters (header_only h 0 FromCard) ≡ front_characters (In_header bytes) ++ rest)
@@ -107,63 +162,96 @@ in_header (a ∷ b ∷ c ∷ []) lt = (record { cla = a; ins = b; p1 = c; p2 = 0
 in_header (a ∷ b ∷ c ∷ d ∷ []) lt = (record { cla = a; ins = b; p1 = c; p2 = d }, _, refl)
 in_header (a ∷ b ∷ c ∷ d ∷ e ∷ bytes) lt = absurd (omega (arith, lt))
 
-fresh_body : (cs : List Character) (h : Header) (p3 : ℕ) (d : Direction) (rest : List Character)
-    → body_characters (header_only h p3 d) ≡ cs ++ rest → IsPart cs
-fresh_body cs h p3 d rest is =
-    prefix_of cs (header_only h p3 d) rest (record { in_last = refl; only_nulls = λ _. tt }) refl
-    (nothing_moved (header_only h p3 d) refl tt) is
+fresh_body : (cs : List Character) (plan : Course) (h : Header) (p3 : ℕ) (d : Direction)
+    (rest : List Character) → IsCut plan.cut → body_characters (header_only h p3 d) ≡ cs ++ rest
+    → IsPartUnder plan cs
+fresh_body cs plan h p3 d rest in_range is =
+    no_data cs plan (header_only h p3 d) (segments_of plan.steps 0) rest in_range
+    (record { in_last = refl; only_nulls = λ _. tt }) refl refl
+    (nulls_where_none_left plan.steps) is
 
-in_service : {State : Type 0} (prepared : Prepared State) (s : Service) (came : List ℕ) (cut : ℕ)
-    (b : Body) → IsFront (In_body b) → IsServed prepared s came cut b → IsPart (body_characters b)
-in_service prepared s came cut b is at =
-    let n = foreseen b.direction b.p3 in
-    let same : n ≡ whole_of s = rw (at.direction_is, at.p3_is) refl in
-    let filled = longer Any (to_move b - length b.moved) b (zeros b) is tt
-    (omega (arith, owes b is)) in
-    let x = filled.0 in
-    let l = filled.1 in
-    let alike : foreseen x.direction x.p3 ≡ n = rw (l.direction_is, l.p3_is) refl in
-    let moved : to_move x ≡ to_move b = rw (l.segments_are, alike) refl in
-    served (body_characters b) x l.rest (n - to_move b) l.begun l.between
-    (ap (λ h. ins_is_valid h.ins) (l.header_is ∙ at.header_is) ∙ at.valid)
-    (rw (l.segments_are, alike, same) at.frugal)
-    (omega (arith, moved, alike, at.until_is, at.within, same)) l.characters_are
-
-pub planned : {State : Type 0} (Does : State → ℕ → Tpdu → State → Type 0) (standing : State)
-    (prepared : Prepared State) (stage : Stage) (cut : ℕ) (front : Front)
-    → IsFront front → StandsAt Does standing prepared stage cut front
-    → IsPart (front_characters front)
-planned Does standing prepared (Taking_header bytes) cut (In_header f) is at = let h =
-    in_header f is in fresh_body (front_characters (In_header f)) h.0 0 FromCard h.1 h.2
-planned Does standing prepared (Taking_header bytes) cut (In_body b) is at =
-    let P : Body → Type 0 = λ x. IsPart (body_characters x) in
-    subst P (sym at.1) (fresh_body (body_characters (header_only b.header b.p3 b.direction))
-    b.header b.p3 b.direction [] (sym (append-nil _)))
-planned Does standing prepared (Taking_header bytes) cut (After_first b sw1) is at = absurd at
-planned Does standing prepared (Refusing h p3 status done) cut (In_body b) is at =
+-- of the plan that it is on
+pub planned_under : {State : Type 0} (Does : State → ℕ → Tpdu → State → Type 0) (standing : State)
+    (prepared : Prepared State) (stage : Stage) (cut : ℕ) (plan : Course) (front : Front)
+    → IsCut plan.cut → IsFront front → StandsAt Does standing prepared stage cut front
+    → IsOnPlan stage plan front → IsPartUnder plan (front_characters front)
+planned_under Does standing prepared (Taking_header bytes) cut plan (In_header f) in_range is at
+    on = let h = in_header f is in
+    fresh_body (front_characters (In_header f)) plan h.0 0 FromCard h.1 in_range h.2
+planned_under Does standing prepared (Taking_header bytes) cut plan (In_body b) in_range is at on =
+    let P : Body → Type 0 = λ x. IsPartUnder plan (body_characters x) in
+    subst P (sym at.1) (fresh_body (body_characters (header_only b.header b.p3 b.direction)) plan
+    b.header b.p3 b.direction [] in_range (sym (append-nil _)))
+planned_under Does standing prepared (Taking_header bytes) cut plan (After_first b sw1) in_range is
+    at on = absurd at
+planned_under Does standing prepared (Refusing h p3 status done) cut plan (In_body b) in_range is at
+    on =
     let none : to_move b ≡ 0 = nulls_move_nothing b.segments (foreseen b.direction b.p3) at.nulls in
-    prefix_of (body_characters b) b [] is (ap length at.no_data ∙ sym none)
-    (nothing_moved b at.no_data at.nulls) (sym (append-nil (body_characters b)))
-planned Does standing prepared (Refusing h p3 status done) cut (In_header f) is at = absurd at
-planned Does standing prepared (Refusing h p3 status done) cut (After_first b sw1) is at = absurd at
-planned Does standing prepared (Serving s came) cut (In_body b) is at =
-    in_service prepared s came cut b is at
-planned Does standing prepared (Serving s came) cut (In_header f) is at = absurd at
-planned Does standing prepared (Serving s came) cut (After_first b sw1) is at = absurd at
-planned Does standing prepared (Ending status) cut (After_first b sw1) is at =
+    no_data (body_characters b) plan b (segments_of (drop done plan.steps) 0) [] in_range is
+    (ap length at.no_data ∙ sym none) on (nulls_where_none_left (drop done plan.steps))
+    (sym (append-nil (body_characters b)))
+planned_under Does standing prepared (Refusing h p3 status done) cut plan (In_header f) in_range is
+    at on = absurd at
+planned_under Does standing prepared (Refusing h p3 status done) cut plan (After_first b sw1)
+    in_range is at on = absurd at
+planned_under Does standing prepared (Serving s came) cut plan (In_body b) in_range is at on =
+    in_service prepared plan s came cut b
+    (segments_of (drop s.done plan.steps) (whole_of s - s.until)) in_range is at on
+planned_under Does standing prepared (Serving s came) cut plan (In_header f) in_range is at on =
+    absurd at
+planned_under Does standing prepared (Serving s came) cut plan (After_first b sw1) in_range is at
+    on = absurd at
+planned_under Does standing prepared (Ending status) cut plan (After_first b sw1) in_range is at
+    on =
     let d : Dialogue = record { body = b; status = status } in (
       d,
-      itself b.segments,
       (Card, status.1),
       [],
-      record {
-        is_dialogue = at.4;
-        in_range = (lit≤ tt, lit≤ tt);
-        follows = record { all_or_nothing = at.5.all_or_nothing; step_by_step = at.5.step_by_step };
-      },
+      record { is_dialogue = at.4; in_range = in_range; follows = on },
       ends_with (After_first b sw1) status.1 d
           (refl, at.4.is_status.1, ap (λ x. record { body = b; status = (x, status.1) }) at.0),
     )
+planned_under Does standing prepared (Ending status) cut plan (In_header f) in_range is at on =
+    absurd at
+planned_under Does standing prepared (Ending status) cut plan (In_body b) in_range is at on =
+    absurd at
+
+abbrev any_cut : IsCut 256
+any_cut = (lit≤ tt, lit≤ tt)
+
+-- of some plan in any case: of the one whose steps are its own segments
+planned : {State : Type 0} (Does : State → ℕ → Tpdu → State → Type 0) (standing : State)
+    (prepared : Prepared State) (stage : Stage) (cut : ℕ) (front : Front)
+    → IsFront front → StandsAt Does standing prepared stage cut front
+    → IsPart (front_characters front)
+planned Does standing prepared (Taking_header bytes) cut front is at = (
+  plain,
+  planned_under Does standing prepared (Taking_header bytes) cut plain front any_cut is at
+      tt,
+)
+planned Does standing prepared (Refusing h p3 status done) cut (In_body b) is at =
+    let none : to_move b ≡ 0 = nulls_move_nothing b.segments (foreseen b.direction b.p3) at.nulls in (
+      itself b.segments,
+      no_data (body_characters b) (itself b.segments) b [] [] any_cut is
+          (ap length at.no_data ∙ sym none)
+          (sym (nulls_follow b.segments at.nulls) ∙ sym (append-nil b.segments)) tt
+          (sym (append-nil (body_characters b))),
+    )
+planned Does standing prepared (Refusing h p3 status done) cut (In_header f) is at = absurd at
+planned Does standing prepared (Refusing h p3 status done) cut (After_first b sw1) is at = absurd at
+planned Does standing prepared (Serving s came) cut (In_body b) is at = (
+  itself b.segments,
+  in_service prepared (itself b.segments) s came cut b _ any_cut is at
+      (frugal_goes_on b.segments (whole_of s) at.frugal),
+)
+planned Does standing prepared (Serving s came) cut (In_header f) is at = absurd at
+planned Does standing prepared (Serving s came) cut (After_first b sw1) is at = absurd at
+planned Does standing prepared (Ending status) cut (After_first b sw1) is at = (
+  itself b.segments,
+  planned_under Does standing prepared (Ending status) cut (itself b.segments) (After_first b sw1)
+      any_cut is at
+      (record { all_or_nothing = at.5.all_or_nothing; step_by_step = at.5.step_by_step }),
+)
 planned Does standing prepared (Ending status) cut (In_header f) is at = absurd at
 planned Does standing prepared (Ending status) cut (In_body b) is at = absurd at
 

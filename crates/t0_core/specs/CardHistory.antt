@@ -7,7 +7,7 @@ use Rattle.t0_core.specs.Plan.{Course, IsCut, FollowInTurn}
 use Rattle.t0_core.specs.Meaning.{Tpdu, Prepared, Runs}
 use Rattle.t0_core.specs.Front.{Front, front_characters, IsFront}
 use Rattle.t0_core.specs.CardSide.{Stage, Taking_header, Refusing, Serving, Ending, StandsAt, IsOnPlan}
-use Rattle.t0_core.specs.History.{Event, Item, IsPart, RunsOver, events_of, passed}
+use Rattle.t0_core.specs.History.{Event, Item, IsPart, IsPartUnder, RunsOver, events_of, passed}
 
 -- the end stands at this front, with which a dialogue that follows some plan begins, under a cut in
 -- range
@@ -50,7 +50,8 @@ pub record AreDone {State : Type 0} (Does : State → ℕ → Tpdu → State →
   pub runs : Runs Does first whole plans standing
 
 -- Where each TPDU has one cursor throughout, the characters since a reset are whole dialogues that
--- follow the plans taken, in turn, and a front of one more, on the plan taken last.
+-- follow the plans taken, in turn, and a front of one more, with which a dialogue begins that follows
+-- the plan taken last.
 pub record LeadsUnder {State : Type 0} (Does : State → ℕ → Tpdu → State → Type 0) (first : State)
     (came : List Character)
     (taken : List Course) (standing : State) (prepared : Prepared State) (stage : Stage) : Type 0
@@ -64,6 +65,7 @@ pub record LeadsUnder {State : Type 0} (Does : State → ℕ → Tpdu → State 
     pub done : AreDone Does first whole plans standing
     pub at_front : IsAt Does standing prepared stage plan.cut front
     pub on_plan : IsOnPlan stage plan front
+    pub begins : IsPartUnder plan (front_characters front)
 
 -- the plan taken last
 abbrev pub IsLast : Course → List Course → Type 0

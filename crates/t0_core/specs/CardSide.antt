@@ -10,7 +10,7 @@ use Rattle.t0_core.specs.declared.direction.Direction.{Direction}
 use Rattle.t0_core.specs.declared.direction.Direction.TheVariants.{ToCard, FromCard}
 use Rattle.t0_core.specs.declared.end.End.TheVariants.{Card}
 use Rattle.t0_core.specs.declared.service.Service.{Service}
-use Rattle.t0_core.specs.Dialogue.{Body, Dialogue, foreseen, moves, to_move, IsDialogue}
+use Rattle.t0_core.specs.Dialogue.{Body, Dialogue, foreseen, moves, procedure_byte, to_move, IsDialogue}
 use Rattle.t0_core.specs.Plan.{Course, segments_of, Follows}
 use Rattle.t0_core.specs.Meaning.{Tpdu, tpdu_of, Ask, Prepared, Decided, Decides, IsReceiving, IsSending, refused}
 use Rattle.t0_core.specs.Front.{Front, In_header, In_body, After_first, header_only, GoesOn, Ends}
@@ -178,6 +178,32 @@ IsOnPlan (Ending status) plan (After_first b sw1) =
     Follows (record { body = b; status = status }) plan
 IsOnPlan (Ending status) plan (In_header front) = ⊥
 IsOnPlan (Ending status) plan (In_body b) = ⊥
+
+-- the segments that are still to come under a plan: those of its steps from the count on
+abbrev pub to_come : Stage → Course → List Step
+to_come (Taking_header bytes) plan = []
+to_come (Refusing header p3 status done) plan = segments_of (drop done plan.steps) 0
+to_come (Serving s came) plan = segments_of (drop s.done plan.steps) (whole_of s - s.until)
+to_come (Ending status) plan = []
+
+-- between segments the card begins the first that is still to come, or, where none is, its status
+abbrev pub BeginsNext : ℕ → Stage → Course → ℕ → Stage → Type 0
+BeginsNext ins before plan byte stage =
+    ((step : Step) × (to_come before plan ≡ step ∷ to_come stage plan)
+    × (byte ≡ procedure_byte ins step))
+    ⊎ ((to_come before plan ≡ []) × (status : StatusWord) × (byte ≡ status.0)
+    × (stage ≡ Ending status))
+
+-- The steps done are counted, and from that count on any plan is gone through, also one that the
+-- TPDU has not begun with.
+abbrev pub GoesByCount : Stage → Course → ℕ → Stage → Type 0
+GoesByCount (Taking_header bytes) plan byte stage = Unit {0}
+GoesByCount (Refusing header p3 status done) plan byte stage =
+    BeginsNext header.ins (Refusing header p3 status done) plan byte stage
+GoesByCount (Serving s came) plan byte stage =
+    ((s.moved < s.until) × (to_come stage plan ≡ to_come (Serving s came) plan))
+    ⊎ ((s.until ≤ s.moved) × BeginsNext s.header.ins (Serving s came) plan byte stage)
+GoesByCount (Ending status) plan byte stage = Unit {0}
 
 -- data move only under instructions to which the card may say so
 abbrev pub PermitsData : (ℕ → Type 0) → (ℕ → Type 0) → ℕ → Direction → Type 0

@@ -1,5 +1,5 @@
 -- How the fields of a card's end are seen.
-use Rattle.std.specs.Prelude.{◌≡◌, ℕ, ◌+◌, ◌-◌, ◌<◌, ◌≤◌, ◌⊎◌, List, [], ◌∷◌, length, take, drop, true}
+use Rattle.std.specs.Prelude.{◌≡◌, ℕ, ◌+◌, ◌-◌, ◌<◌, ◌≤◌, ◌⊎◌, List, [], ◌∷◌, length, take, drop, replicate, true}
 use Rattle.apdu_core.specs.HeaderBytes.{ins_is_valid}
 use Rattle.apdu_core.specs.StatusWord.{StatusWord, IsStatusWord, count}
 use Rattle.t0_core.specs.declared.card_end.Phase.{Phase}
@@ -41,7 +41,14 @@ Fits prepared (phase.Refused header p3 status done) = IsDecided prepared
 Fits prepared (phase.Accepted service) = IsInService prepared service
 Fits prepared (phase.SecondStatus status) = IsDecided prepared
 
--- the same, apart from the card
+-- between TPDUs no data are held: those of the last one are gone
+abbrev pub IsForgotten : Phase → List ℕ → Type 0
+IsForgotten (phase.Opening bytes taken) came = came ≡ replicate 255 0
+IsForgotten (phase.Refused header p3 status done) came = Unit {0}
+IsForgotten (phase.Accepted service) came = Unit {0}
+IsForgotten (phase.SecondStatus status) came = Unit {0}
+
+-- what fits the phase, apart from the card
 abbrev pub IsHeld : Phase → Type 0
 IsHeld (phase.Opening bytes taken) = (length bytes ≡ 5) × (taken ≤ 5)
 IsHeld (phase.Refused header p3 status done) = Unit {0}

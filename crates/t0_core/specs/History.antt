@@ -29,10 +29,14 @@ pub record IsUnderPlan (d : Dialogue) (plan : Course) : Type 0 where
   pub in_range : IsCut plan.cut
   pub follows : Follows d plan
 
--- a dialogue that follows some plan begins with these characters, and more of it is to come
-abbrev pub IsPart : List Character → Type 0
-IsPart part = (d : Dialogue) × (plan : Course) × (c : Character) × (rest : List Character)
+-- a dialogue that follows this plan begins with these characters, and more of it is to come
+abbrev pub IsPartUnder : Course → List Character → Type 0
+IsPartUnder plan part = (d : Dialogue) × (c : Character) × (rest : List Character)
     × IsUnderPlan d plan × (characters d ≡ part ++ c ∷ rest)
+
+-- the same of some plan
+abbrev pub IsPart : List Character → Type 0
+IsPart part = (plan : Course) × IsPartUnder plan part
 
 abbrev pub IsItem : Item → Type 0
 IsItem (Whole d) = (plan : Course) × IsUnderPlan d plan

@@ -1,9 +1,9 @@
-ghost use Rattle.std.specs.Prelude.{◌≡◌, ℕ, ◌+◌, ◌≤◌, ◌<◌, ◌++◌, List, replicate, [], ◌∷◌, length, take, true, is_ok, OnOk, OnErr, IsOk, if◌then◌else◌, slice_index, ◌==◌, IfOk, ◌↔◌, ◌⊎◌, false};
+ghost use Rattle.std.specs.Prelude.{◌≡◌, ℕ, ◌+◌, ◌≤◌, ◌<◌, ◌++◌, List, [], ◌∷◌, length, replicate, take, true, is_ok, OnOk, OnErr, IsOk, if◌then◌else◌, slice_index, ◌==◌, IfOk, ◌↔◌, ◌⊎◌, false};
 ghost use Rattle.apdu_core.specs.declared.header.Header.{Header};
 ghost use Rattle.apdu_core.specs.HeaderBytes.{header_bytes, ins_is_valid};
 ghost use Rattle.t0_core.specs.declared.service.Service.{Service};
-ghost use Rattle.t0_core.specs.CardView.{Fits, IsHeld, IsJudged, IsVerdict, IsAfter, KeepsDirection, Refuses, stage_of};
-ghost use Rattle.t0_core.specs.CardSide.{StandsAt, Advances, IsOnPlan, SuitsFront, IsPermitted, begins_with, listens, with_character, Taking_header, Serving, takes_plan, still_to_go};
+ghost use Rattle.t0_core.specs.CardView.{Fits, IsForgotten, IsHeld, IsJudged, IsVerdict, IsAfter, KeepsDirection, Refuses, stage_of};
+ghost use Rattle.t0_core.specs.CardSide.{StandsAt, Advances, GoesByCount, IsOnPlan, SuitsFront, IsPermitted, begins_with, listens, with_character, Taking_header, Serving, takes_plan, still_to_go};
 ghost use Rattle.t0_core.specs.History.{Event, Passed, Reset};
 ghost use Rattle.t0_core.specs.CardHistory.{Leads, LeadsUnder, IsLast};
 ghost use Rattle.t0_core.specs.Plan.{Course, IsCut, advanced, plan_kept};
@@ -85,13 +85,14 @@ pub struct CardEnd<C: TpduCard> {
 impl<C: TpduCard> Model for CardEnd<C> {
     ghost use Rattle.std.specs.Prelude.{◌≡◌, length};
     ghost use Rattle.t0_core.specs.CardSide.{EndOf};
-    ghost use Rattle.t0_core.specs.CardView.{Fits, stage_of};
+    ghost use Rattle.t0_core.specs.CardView.{Fits, IsForgotten, stage_of};
 
     ghost Value = { EndOf C };
 
     ghost view = { λ e. record { card = e.card; stage = stage_of e.phase e.came } };
 
-    ghost invariant = { λ e. Fits (C.prepared e.card) e.phase × (length e.came ≡ 255) };
+    ghost invariant = { λ e. Fits (C.prepared e.card) e.phase × (length e.came ≡ 255)
+        × IsForgotten e.phase e.came };
 }
 
 impl<C: TpduCard> CardEnd<C> {
@@ -119,6 +120,15 @@ impl<C: TpduCard> CardEnd<C> {
         ensures { result.now ≡ self.now.card }
     {
         &self.card
+    }
+
+    /// The characters held as data. Between TPDUs they are zeros: none of the last one's are left.
+    #[cfg(test)]
+    pub(crate) fn held(&self) -> &[u8; 255]
+        ensures { (bytes : List ℕ) → self.now.stage ≡ Taking_header bytes →
+            result.now ≡ replicate 255 0 }
+    {
+        &self.came
     }
 
     /// Resets the card, and drops the TPDU under way.
@@ -198,6 +208,10 @@ impl<C: TpduCard> CardEnd<C> {
             ⊎ (still_to_go self.new.stage (plan_kept plans.new)
             < still_to_go self.old.stage (plan_kept plans.new)) }
 
+        // It goes on from the count of steps done, in whatever plan the cursor keeps.
+        ensures counts { (byte : ℕ) → result ≡ Turn.Sends byte →
+            GoesByCount self.old.stage (plan_kept plans.new) byte self.new.stage }
+
         // To this instruction the card may give this verdict.
         ensures permitted { (header : Header) (p3 : ℕ) →
             self.old.stage ≡ Taking_header (begins_with header p3) →
@@ -249,8 +263,7 @@ const FRESH: Phase = Phase::Opening {
 #[inline(always)]
 fn forget_data(phase: &Phase, came: &mut [u8; 255])
     ensures stage { stage_of phase.now came.new ≡ stage_of phase.now came.old }
-    ensures gone { (bytes : List ℕ) (taken : ℕ) → phase.now ≡ Phase.Opening bytes taken →
-        came.new ≡ replicate 255 0 }
+    ensures gone { IsForgotten phase.now came.new }
 {
     if let Phase::Opening { .. } = phase {
         *came = [0; 255];
@@ -281,6 +294,7 @@ fn phase_with(phase: Phase, byte: u8, came: &mut [u8; 255]) -> Result<Phase, Not
     ensures room { length came.new ≡ 255 }
     ensures refused { OnErr result (came.new ≡ came.old) }
     ensures fits { IfOk result (λ new. IsAfter phase new) }
+    ensures none { IsForgotten phase came.old → IfOk result (λ new. IsForgotten new came.new) }
 {
     if !is_listening(&phase) {
         return Err(NotListening);
@@ -320,6 +334,8 @@ fn hand_out<C: TpduCard, A: Allocator>(
     ensures falls { (stage_of result.0 came.now ≡ Taking_header [])
         ⊎ (still_to_go (stage_of result.0 came.now) (plan_kept plans.new)
         < still_to_go (stage_of phase came.now) (plan_kept plans.new)) }
+    ensures counts { GoesByCount (stage_of phase came.now) (plan_kept plans.new) result.1
+        (stage_of result.0 came.now) }
     ensures permitted { (header : Header) (p3 : ℕ)
         → stage_of phase came.now ≡ Taking_header (begins_with header p3) →
         IsPermitted C.MayReceive C.MaySend header.ins (stage_of result.0 came.now) }
@@ -393,6 +409,8 @@ fn go_on<C: TpduCard>(card: &mut C, phase: Phase, came: &[u8; 255], steps: &[Ste
         → (stage_of result.0 came.now ≡ Taking_header [])
         ⊎ (still_to_go (stage_of result.0 came.now) plan < still_to_go (stage_of phase came.now)
         plan) }
+    ensures counts { (plan : Course) → plan.steps ≡ steps.now →
+        GoesByCount (stage_of phase came.now) plan result.1 (stage_of result.0 came.now) }
     ensures keeps { KeepsDirection (stage_of phase came.now) (stage_of result.0 came.now) }
     ensures advances { (cut : ℕ) (plan : Course) (front : Front) → plan.steps ≡ steps.now →
         StandsAt C.Does (C.standing card.old) (C.prepared card.old) (stage_of phase came.now) cut

@@ -161,3 +161,78 @@ fn reset_drops_a_tpdu(rt: HostRuntime) {
     ];
     passes(&rt, &mut end, &mut plans, &put);
 }
+
+/// The end takes these characters of the terminal.
+fn takes(rt: &impl Abort, end: &mut CardEnd<TestCard>, bytes: &[u8]) {
+    for &byte in bytes {
+        assert_eq!(rt; end.take(byte), Ok(()), "{bytes:?}");
+    }
+}
+
+/// The end hands out these characters of the card.
+fn hands_out<A: Allocator>(
+    rt: &impl Abort,
+    end: &mut CardEnd<TestCard>,
+    plans: &mut Plans<A>,
+    bytes: &[u8],
+) {
+    for &byte in bytes {
+        assert_eq!(rt; end.turn(plans), Turn::Sends(byte), "{bytes:?}");
+    }
+}
+
+/// A get of three characters, of whose plan null, one, null, all the first two steps are done.
+fn get_under_way(rt: &impl Abort, alloc: Global) -> Result<CardEnd<TestCard>, Fail> {
+    let steps = Vec::from_slice(alloc, &[Null, One, Null, All])?;
+    let plans = [Plan::new(steps, 256).ok_or("a plan")?];
+    let mut end = CardEnd::new(TestCard::new());
+    takes(rt, &mut end, b"\x00\xCA\x00\x00\x03");
+    hands_out(rt, &mut end, &mut Plans::over(&plans), b"\x60\x35\x01");
+    Ok(end)
+}
+
+#[test]
+fn another_cursor_goes_on_from_the_count(rt: HostRuntime) -> Result<(), Fail> {
+    let steps = Vec::from_slice(rt.alloc(), &[All, All, One, Null, One])?;
+    let plans = [Plan::new(steps, 1).ok_or("a plan")?];
+    let mut other = Plans::over(&plans);
+    let refused = [
+        (End::Terminal, b"\x00\x20\x00\x00\x00".as_slice()),
+        (End::Card, b"\x60\x6D\x00".as_slice()),
+    ];
+    passes(
+        &rt,
+        &mut CardEnd::new(TestCard::new()),
+        &mut other,
+        &refused,
+    );
+    let mut end = get_under_way(&rt, rt.alloc())?;
+    hands_out(&rt, &mut end, &mut other, b"\x35\x02\x60\x35\x03\x90\x00");
+    Ok(())
+}
+
+#[test]
+fn cursor_that_keeps_no_plan_moves_all_that_is_left(rt: HostRuntime) -> Result<(), Fail> {
+    let mut end = get_under_way(&rt, rt.alloc())?;
+    let mut other = Plans::<Global>::over(&[]);
+    hands_out(&rt, &mut end, &mut other, b"\xCA\x02\x03\x90\x00");
+    Ok(())
+}
+
+#[test]
+fn data_are_gone_when_a_tpdu_is_over(rt: HostRuntime) {
+    let mut end = CardEnd::new(TestCard::new());
+    let mut plans = Plans::<Global>::over(&[]);
+    for answered in [true, false] {
+        takes(&rt, &mut end, b"\x00\xDA\x00\x00\x02");
+        hands_out(&rt, &mut end, &mut plans, b"\xDA");
+        takes(&rt, &mut end, b"\x41\x42");
+        assert_eq!(rt; &end.held()[..3], b"\x41\x42\x00".as_slice());
+        if answered {
+            hands_out(&rt, &mut end, &mut plans, b"\x90\x00");
+        } else {
+            end.reset();
+        }
+        assert_eq!(rt; *end.held(), [0; 255]);
+    }
+}

@@ -3,7 +3,7 @@ ghost use Rattle.std.specs.Prelude.{◌≡◌, ℕ, ◌-◌, ◌<◌, ◌≤◌,
 ghost use Rattle.t0_core.specs.declared.plan.Step.{Step};
 ghost use Rattle.t0_core.specs.CardContract.{IsDecided};
 ghost use Rattle.t0_core.specs.CardView.{Fits, IsInService, IsNext, IsReadyFor, Concludes, KeepsDirection, stage_of};
-ghost use Rattle.t0_core.specs.CardSide.{comes_from_terminal, Advances, IsServed, Serving, listens, one_moved, still_to_go, whole_of};
+ghost use Rattle.t0_core.specs.CardSide.{comes_from_terminal, Advances, GoesByCount, IsServed, Serving, listens, one_moved, still_to_go, whole_of};
 ghost use Rattle.t0_core.specs.Dialogue as dialogue;
 ghost use Rattle.t0_core.specs.Dialogue.{Body};
 ghost use Rattle.t0_core.specs.Front.{In_body};
@@ -120,6 +120,9 @@ pub(crate) fn serve<C: TpduCard>(
     ensures falls { (plan : Course) → plan.steps ≡ steps.now →
         still_to_go (stage_of result.0 came.now) plan
         < still_to_go (Serving service (take service.moved came.now)) plan }
+    ensures counts { (plan : Course) → plan.steps ≡ steps.now →
+        GoesByCount (Serving service (take service.moved came.now)) plan result.1
+        (stage_of result.0 came.now) }
     ensures keeps { KeepsDirection (Serving service (take service.moved came.now))
         (stage_of result.0 came.now) }
     ensures advances { (cut : ℕ) (plan : Course) (b : Body) → plan.steps ≡ steps.now →

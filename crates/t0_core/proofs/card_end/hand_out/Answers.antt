@@ -57,6 +57,8 @@ returns-in-Refused g c =
           sym takes ∙ takes_none c.args.phase came judged in cc);
       falls = c.go_on-in-Refused.ensures.falls (plan_kept c.args.plans.now)
           (sym c.steps-in-Refused.ensures);
+      counts = c.go_on-in-Refused.ensures.counts (plan_kept c.args.plans.now)
+          (sym c.steps-in-Refused.ensures);
       permitted = λ h p3 is. absurd (no_header c.args.phase came _ judged is);
       advances = λ cut front taken stands. c.go_on-in-Refused.ensures.advances cut
           (plan_kept c.args.plans.now) front (sym c.steps-in-Refused.ensures) stands;

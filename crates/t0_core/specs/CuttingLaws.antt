@@ -464,11 +464,11 @@ read_after content before m others byte own is =
     ∙ ap (λ z. slice_index z (length before)) (sym own ∙ is)
     ∙ get_or-append_seam before byte others 0
 
-room_left : (gather : Room) (n k : ℕ) → k < n → length gather.bytes + (n - k) ≤ gather.limit
+room_left : (gather : Room) (n : ℕ) → 0 < n → length gather.bytes + n ≤ gather.limit
     → (if length gather.bytes == gather.limit then Some TooLong else None) ≡ None
-room_left gather n k lt fits =
+room_left gather n some fits =
     rw (ne_eqb (length gather.bytes) gather.limit
-    (λ same. absurd (omega (arith, same, lt, fits)))) refl
+    (λ same. absurd (omega (arith, same, some, fits)))) refl
 
 in_data : (host : Hosting) (moved until : ℕ) (b : Body) (d : Dialogue) (x : Direction)
     (others : List ℕ) (after : List Character) (byte : ℕ) (rest : List Character)
@@ -498,8 +498,7 @@ in_data host moved until b d FromCard others after byte rest goes is of_b of_d n
     λ gather fits. elim fits [
       | inl room ↦
           ap (λ x. data_fault x gather) (sym is)
-          ∙ room_left gather (length d.body.moved) (length b.moved)
-          (omega (arith, ap length moved_is, length-append b.moved (byte ∷ others)))
+          ∙ room_left gather (suc (length others)) (omega arith)
           (fitting gather room)
       | inr last ↦ absurd (goes last)
     ],
@@ -510,13 +509,14 @@ in_data host moved until b d FromCard others after byte rest goes is of_b of_d n
     of_dialogue f e = rw e refl
 
     fitting : (gather : Room) → HasRoom gather (In_body b) d
-        → length gather.bytes + (length d.body.moved - length b.moved) ≤ gather.limit
+        → length gather.bytes + suc (length others) ≤ gather.limit
     fitting gather fits =
         let one : length (received d) ≡ length d.body.moved =
         ap length (of_dialogue d (of_d.2 ∙ sym is)) in
         let two : length (from_card b.direction b.moved) ≡ length b.moved =
         ap (λ x. length (from_card x b.moved)) (of_b.2 ∙ sym is) in
-        omega (arith, one, two, fits)
+        fits (suc (length others))
+        (omega (arith, one, two, ap length moved_is, length-append b.moved (byte ∷ others)))
 
 more_comes : (before : List Character) (c : Character) (r : List Character) → before ++ c ∷ r ≡ []
     → ⊥

@@ -195,7 +195,8 @@ IsRequest host = (ins_is_valid host.header.ins ≡ true) × (host.header.ins < 2
 abbrev pub IsInRange : Hosting → Type 0
 IsInRange host = IsRequest host × IsStage (foreseen host.direction host.p3) host.stage
 
--- what is still to come of a dialogue's data fits into the gather
+-- where so many data of a dialogue are still to come, they fit into the gather
 abbrev pub HasRoom : Room → Front → Dialogue → Type 0
 HasRoom gather front d =
-    length gather.bytes + (length (received d) - length (brought front)) ≤ gather.limit
+    (still : ℕ) → length (received d) ≡ length (brought front) + still
+    → length gather.bytes + still ≤ gather.limit

@@ -14,6 +14,6 @@ pub mod TalkListLemmas
 pub mod ObjectLemmas
 mod Vectors
 pub mod TalkVectors
-pub mod WholeLemmas
 mod RunLemmas
 mod OverLemmas
+pub mod CuttingLemmas

@@ -3,7 +3,6 @@ use Rattle.std.proofs.Common.{◌≡◌, ℕ, List, [], ◌∷◌, ◌++◌, ref
 use Rattle.std.specs.List.{AllByRecursion, flat_map}
 use Rattle.apdu_core.specs.StatusWord.{StatusWord, count, corrects}
 use Rattle.apdu_core.specs.CommandBytes.{Command}
-use Rattle.t0_core.specs.declared.end.End.TheVariants.{Card}
 use Rattle.t0_core.specs.declared.direction.Direction.{Direction}
 use Rattle.t0_core.specs.declared.direction.Direction.TheVariants.{ToCard, FromCard}
 use Rattle.t0_core.specs.Character.{Character}
@@ -15,7 +14,7 @@ use Rattle.t0_core.specs.OwnLaws.{begins_own}
 use Rattle.card_terminal.specs.declared.wanted.Wanted.{Wanted}
 use Rattle.card_terminal.specs.Gathered.{Asks, wants_at_least, correction_of, repeated_with, after_dialogue, UnitOf, Repeated, dialogues_of, IsOpenExchange}
 use Rattle.card_terminal.specs.ExchangeSide.{ExchangeOf, UnderWay, so_far, ended_with}
-use Rattle.card_terminal.specs.ExchangeHistory.{unit_characters, characters_to, Leads, to_front, to_end, to_stall, to_fault, BeginsExchange}
+use Rattle.card_terminal.specs.ExchangeHistory.{unit_characters, characters_to, Leads, to_front, to_end, to_stall, to_fault, BeginsExchange, FaultCameLast}
 use Rattle.card_terminal.proofs.UnitLemmas.{unit_dialogues}
 use Rattle.card_terminal.proofs.EndLemmas.{again_of, unit_is, unit_opens, some_or_none}
 
@@ -164,13 +163,23 @@ whole_begins c units is_open are =
 
 -- but for a last character that ended it by a fault
 pub led_begins : (c : Command) (came : List Character) (ex : ExchangeOf) → Leads c came ex
-    → BeginsExchange c came ⊎ ((before : List Character) × (byte : ℕ)
-    × (came ≡ before ++ (Card, byte) ∷ []) × BeginsExchange c before)
+    → BeginsExchange c came ⊎ FaultCameLast c came ex
 led_begins c came ex (to_front units first front under is) =
     inl (as_came c _ came is (front_begins c ex units first front under))
 led_begins c came ex (to_end units status over is) =
     inl (as_came c _ came is (whole_begins c units over.gathers.is_open over.are_dialogues))
 led_begins c came ex (to_stall units stall are failed is) =
     inl (as_came c _ came is (whole_begins c units stall.is_open are))
-led_begins c came ex (to_fault units first front before byte fault under why final failed is) =
-    inr (characters_to units first front, byte, is, front_begins c before units first front under)
+led_begins c came ex (to_fault units first front prior byte fault under why final failed is) =
+    inr (record {
+      before = characters_to units first front;
+      byte = byte;
+      came_is = is;
+      begins = front_begins c prior units first front under;
+      prior = prior;
+      led = to_front units first front under refl;
+      fault = fault;
+      is_fault = why;
+      is_final = final;
+      failed = failed;
+    })

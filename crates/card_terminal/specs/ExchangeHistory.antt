@@ -1,10 +1,11 @@
 -- Which characters led to an exchange, whatever the card sent.
-use Rattle.std.specs.Prelude.{◌≡◌, ℕ, List, [], ◌∷◌, ◌++◌, Option, Some, true}
+use Rattle.std.specs.Prelude.{◌≡◌, ℕ, List, [], ◌∷◌, ◌++◌, Option, Some, None, true}
 use Rattle.std.specs.List.{AllByRecursion, flat_map}
 use Rattle.apdu_core.specs.StatusWord.{StatusWord}
 use Rattle.apdu_core.specs.CommandBytes.{Command}
-use Rattle.t0_core.specs.declared.end.End.TheVariants.{Card}
-use Rattle.t0_core.specs.declared.host_end.HostTurn.TheVariants.{Failed}
+use Rattle.t0_core.specs.declared.end.End.{End}
+use Rattle.t0_core.specs.declared.end.End.TheVariants.{Terminal, Card}
+use Rattle.t0_core.specs.declared.host_end.HostTurn.TheVariants.{Sends, Listens, Failed}
 use Rattle.t0_core.specs.declared.line_fault.LineFault.{LineFault}
 use Rattle.t0_core.specs.Character.{Character}
 use Rattle.t0_core.specs.Dialogue.{Dialogue, characters, IsDialogue}
@@ -49,3 +50,24 @@ pub record BeginsExchange (c : Command) (came : List Character) : Type 0 where
   pub are_dialogues : AllByRecursion IsDialogue (flat_map dialogues_of units)
   pub rest : List Character
   pub whole : unit_characters units ≡ came ++ rest
+
+-- the exchange does what this character asks of it: it sends it, or listens and finds no fault in it
+abbrev pub Expects : ExchangeOf → Character → Type 0
+Expects ex c = From c.0 where
+  From : End → Type 0
+  From Terminal = exchange_turn ex ≡ Sends c.1
+  From Card = (exchange_turn ex ≡ Listens) × (fault_of ex.host ex.gather c.1 ≡ None)
+
+-- A character that the card sent last was a fault, and ended the exchange for good: those before it
+-- led to one at which it was, and are a front of those of an open exchange.
+pub record FaultCameLast (c : Command) (came : List Character) (ex : ExchangeOf) : Type 0 where
+  pub before : List Character
+  pub byte : ℕ
+  pub came_is : came ≡ before ++ (Card, byte) ∷ []
+  pub begins : BeginsExchange c before
+  pub prior : ExchangeOf
+  pub led : Leads c before prior
+  pub fault : LineFault
+  pub is_fault : fault_of prior.host prior.gather byte ≡ Some fault
+  pub is_final : is_final fault ≡ true
+  pub failed : exchange_turn ex ≡ Failed

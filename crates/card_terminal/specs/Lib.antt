@@ -8,6 +8,5 @@ pub mod Talk
 pub mod AnswerList
 pub mod Operations
 pub mod OneObject
-pub mod WholeExchange
 pub mod FaultText
 pub mod Running

@@ -7,3 +7,4 @@ mod Vectors
 pub mod PlannedFront
 pub mod HistoryLaws
 pub mod TapLemmas
+pub mod TapLineLemmas

@@ -148,17 +148,17 @@ stands_on said until b true e le says all = (says, ltb-true said.moved until e, 
 stands_on said until b false e le says all =
     (says, omega (arith, says.moved_is, le, ltb-false said.moved until e, all))
 
-at_procedure : (said : Said) (from : End) (byte : ℕ) (b : Body) (s : Step) → IsSaid said
-    → SaysSo said b → IsBetween b → from ≡ Card → (ins_is_valid b.header.ins ≡ false → s ≡ Null)
+at_procedure : (said : Said) (from : End) (byte : ℕ) (b : Body) (s : Step)
+    → said.header.ins < 256 → SaysSo said b → IsBetween b → from ≡ Card → (ins_is_valid b.header.ins ≡ false → s ≡ Null)
     → byte ≡ procedure_byte b.header.ins s → IsRead (with_segment b s)
     → Took (Between said) from byte (In_body b) (In_body (with_segment b s))
-at_procedure said from byte b s range says between way nulls is read =
+at_procedure said from byte b s small says between way nulls is read =
     let header = says.header_is in
     let nulls_here : ins_is_valid said.header.ins ≡ false → s ≡ Null =
     λ invalid. nulls (ap (λ x. ins_is_valid x.ins) header ∙ invalid) in
     let begun : begun_by said.header.ins byte ≡ Some s =
     ap (begun_by said.header.ins) (is ∙ ap (λ x. procedure_byte x.ins s) header)
-    ∙ begun_is said.header.ins s (ins_is_valid said.header.ins) refl range.0 nulls_here in
+    ∙ begun_is said.header.ins s (ins_is_valid said.header.ins) refl small nulls_here in
     let until = said.moved + moves s (foreseen_by said.direction said.p3 - said.moved) in
     record {
       none = rw (way, begun) refl;
@@ -175,12 +175,12 @@ at_procedure said from byte b s range says between way nulls is read =
           (as_many said b s says read between));
     }
 
-at_status : (said : Said) (from : End) (byte : ℕ) (b : Body) → IsSaid said → SaysSo said b
+at_status : (said : Said) (from : End) (byte : ℕ) (b : Body) → said.header.ins < 256 → SaysSo said b
     → IsBetween b → from ≡ Card → IsStatusWord (byte, 0)
     → Took (Between said) from byte (In_body b) (After_first b byte)
-at_status said from byte b range says between way status =
+at_status said from byte b small says between way status =
     let none_begun =
-    status_begins_nothing said.header.ins byte (ins_is_valid said.header.ins) refl range.0 status in
+    status_begins_nothing said.header.ins byte (ins_is_valid said.header.ins) refl small status in
     record {
       none = rw (way, none_begun, status.0) refl;
       makes = rw none_begun (b, refl, refl);
@@ -249,7 +249,20 @@ in_data said until from byte b says lt all way =
           (one_more_said said from byte b says way) all;
     }
 
-pub takes_all : (place : Place) (from : End) (byte : ℕ) (front new : Front) → IsPlace place
+-- INS is a byte
+abbrev pub HasByte : Place → Type 0
+HasByte (In_opening bytes) = Unit {0}
+HasByte (Between said) = said.header.ins < 256
+HasByte (In_data said until) = Unit {0}
+HasByte (After_sw1 said sw1) = Unit {0}
+
+has_byte : (place : Place) → IsPlace place → HasByte place
+has_byte (In_opening bytes) range = tt
+has_byte (Between said) range = range.0
+has_byte (In_data said until) range = tt
+has_byte (After_sw1 said sw1) range = tt
+
+pub takes_all : (place : Place) (from : End) (byte : ℕ) (front new : Front) → HasByte place
     → TapStandsAt place front → GoesOn front (from, byte) new → IsReadFront new
     → Took place from byte front new
 takes_all (In_opening bytes) from byte (In_header heard) new range at goes read =
@@ -408,7 +421,7 @@ took_header bytes heard from byte same lt way =
     let next = header_goes heard byte (omega (arith, lt, ap length same)) in
     let Goes : End → Type 0 = λ x. GoesOn (In_header heard) (x, byte) next.0 in
     let goes = subst Goes (sym way) next.1 in
-    let took = takes_all (In_opening bytes) from byte (In_header heard) next.0 lt (same, lt) goes
+    let took = takes_all (In_opening bytes) from byte (In_header heard) next.0 tt (same, lt) goes
     next.2 in
     record {
       way = FromCard;
@@ -469,7 +482,8 @@ begins_segment : (b : Body) (from : End) (byte : ℕ) (s : Step) → IsBetween b
 begins_segment b from byte s between way nulls is =
     inr (inl (between, way, (s, nulls, is, refl)))
 
-took_step : (said : Said) (from : End) (byte : ℕ) (b : Body) (s : Step) → IsSaid said
+took_step : (said : Said) (from : End) (byte : ℕ) (b : Body) (s : Step)
+    → said.header.ins < 256
     → SaysSo said b → IsBetween b → from ≡ Card
     → (ins_is_valid b.header.ins ≡ false → s ≡ Null) → byte ≡ procedure_byte b.header.ins s
     → TakesBody (Between said) from byte b
@@ -504,7 +518,7 @@ took_step said from byte b s range says between way nulls is = by_count (b.p3 ==
     by_count false some = straight (λ to none. absurd (eqb-false b.p3 0 some none))
 
 took_between : (said : Said) (from : End) (byte : ℕ) (b : Body) (found : Option Step)
-    → begun_by said.header.ins byte ≡ found → IsSaid said
+    → begun_by said.header.ins byte ≡ found → said.header.ins < 256
     → SaysSo said b → IsBetween b → from ≡ Card → unheard_procedure found byte ≡ None
     → TakesBody (Between said) from byte b
 took_between said from byte b (Some s) begun range says between way none =
@@ -609,7 +623,7 @@ took place from byte front range small at none =
     at_place (In_opening bytes) (In_header heard) range at turn none =
         took_header bytes heard from byte at.0 at.1 (of_terminal from turn)
     at_place (Between said) (In_body b) range at turn none =
-        took_between said from byte b (begun_by said.header.ins byte) refl range at.0 at.1
+        took_between said from byte b (begun_by said.header.ins byte) refl range.0 at.0 at.1
         (of_card from turn) none
     at_place (In_data said until) (In_body b) range at turn none =
         took_data said until from byte b at.0 at.1 at.2 turn
@@ -636,7 +650,7 @@ pub hears_none : (p seen : Place) (from : End) (byte : ℕ) (fault : Unheard) �
     → unheard_at p from byte ≡ Some fault → (front new : Front) → TapStandsAt seen front
     → GoesOn front (from, byte) new → IsReadFront new → ⊥
 hears_none p seen from byte fault is range why front new stands goes read =
-    let none = (takes_all p from byte front new range (stands_inside p seen front is stands) goes
+    let none = (takes_all p from byte front new (has_byte p range) (stands_inside p seen front is stands) goes
     read).none in
     let no : None ≡ Some fault = sym none ∙ why in
     absurd (cc)
@@ -656,7 +670,7 @@ pub hears_all : (p seen : Place) (from : End) (byte : ℕ) (heard : Heard) (next
     → GoesOn front (from, byte) new → IsReadFront new
     → Makes heard front (from, byte) new × TapStandsAt next new
 hears_all p seen from byte heard next hears front new stands goes read =
-    let all = takes_all p from byte front new hears.range
+    let all = takes_all p from byte front new (has_byte p hears.range)
     (stands_inside p seen front hears.seen_is stands) goes read in
     rw (hears.heard_is, hears.next_is) (all.makes, all.stands)
 

@@ -9,6 +9,10 @@ ghost use Rattle.t0_core.specs.declared.end.End.TheVariants.{Terminal, Card};
 ghost use Rattle.t0_core.specs.declared.host_end.HostTurn.TheVariants.{Sends, Listens};
 ghost use Rattle.t0_core.specs.Room.{Room};
 ghost use Rattle.t0_core.specs.HostSide.{Hosting, HostStandsAt, HasRoom, IsOpenedBy, IsRequest, turn_of, fault_of};
+ghost use Rattle.t0_core.specs.declared.heard.Heard.{Heard};
+ghost use Rattle.t0_core.specs.Plan.{Course, FollowInTurn};
+ghost use Rattle.t0_core.specs.TapSide.{afresh};
+ghost use Rattle.t0_core.specs.TapLine.{HearsInTurn, AreTold};
 ghost use Rattle.t0_core.specs.OwnLaws.{BeginsOwn};
 ghost use Rattle.t0_core.specs.History.{Item, IsItem, IsPart, IsByteEvent, AreAlikeInTurn, events_of, passed};
 ghost use Rattle.t0_core.specs.Front.{Front, IsFront, GoesOn, Ends, GoesThrough, fresh, front_characters};
@@ -82,4 +86,13 @@ pub fn events_have_one_cutting()
         AllByRecursion IsByteEvent (flat_map events_of items ++ passed part) →
         flat_map events_of items ++ passed part ≡ flat_map events_of others ++ passed other →
         AreAlikeInTurn items others × (part ≡ other) }
+{}
+
+/// Dialogues that follow plans a tap takes to their end, whatever the plans, and tells each of them.
+pub fn a_tap_takes_dialogues_under_plans()
+    ensures { (dialogues : List Dialogue) (plans : List Course) →
+        AllByRecursion IsDialogue dialogues → FollowInTurn dialogues plans →
+        AllByRecursion IsByteEvent (passed (flat_map characters dialogues)) →
+        (told : List Heard) × HearsInTurn afresh (flat_map characters dialogues) told afresh
+        × AreTold told dialogues }
 {}

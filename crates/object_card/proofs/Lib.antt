@@ -7,6 +7,7 @@ pub mod FreshCard
 pub mod CardFieldLemmas
 pub mod IdleLemmas
 pub mod HeaderRefusalLemmas
+pub mod HistoryLemmas
 pub mod OutcomeLaws
 pub mod PendingLaws
 pub mod PutDataLemmas

@@ -1,5 +1,5 @@
 -- An operation has one reply and one next state, and a TPDU one outcome, where memory is not wanted.
-use Rattle.std.proofs.Common.{◌≡◌, ◌≢◌, ℕ, List, [], ◌++◌, take, drop, Some, None, true, false, refl, sym, ap, subst, ◌∙◌, arith, Option}
+use Rattle.std.proofs.Common.{◌≡◌, ◌≢◌, ℕ, List, [], ◌∷◌, ◌++◌, take, drop, Some, None, true, false, refl, sym, ap, subst, ◌∙◌, arith, Option}
 use Rattle.std.specs.Prelude.{is_some, option_and_then, ◌||◌, ◌==◌}
 use Rattle.std.proofs.lemmas.Bool.{true≢false, eqb-true}
 use Rattle.apdu_core.specs.StatusWord.{StatusWord, ok, count}
@@ -7,10 +7,11 @@ use Rattle.t0_core.specs.Meaning.{Tpdu}
 use Rattle.tlv_core.specs.Spelling.{object_bytes}
 use Rattle.object_card.specs.Tables.{Entry, entries_in, value_under}
 use Rattle.object_card.specs.State.{CardState, NothingPending, ChainPending, ResponsePending, chained, pending_of, with_pending, with_selected, selected_entries}
-use Rattle.object_card.specs.OneStep.{Operation, Put, Reply, reply, Answers, selects, finds_no_application, none_selected, finds_no_object, gives, stores, does_not_store, wants_memory, with_put, control_information, PutStatus, not_allowed, wrong_length, wrong_data, no_space, stored}
+use Rattle.object_card.specs.OneStep.{Operation, Put, Reply, reply, Answers, selects, finds_no_application, none_selected, finds_no_object, gives, stores, does_not_store, wants_memory, with_put, control_information, SameTables, PutStatus, not_allowed, wrong_length, wrong_data, no_space, stored}
 use Rattle.object_card.specs.Refusals.{is_select, is_get, is_put, is_get_response, refusal, to_send, named_tag}
 use Rattle.object_card.specs.CardMeaning.{Does, refuses, selects_application, misses_application, sends, chains, puts_value, after_refusal, announcing}
 use Rattle.object_card.specs.TagLaws.{named}
+use Rattle.object_card.specs.RefusalLaws.{is_refusing}
 use Rattle.object_card.specs.StepLaws.{refused_step, select_step, select_refused, is_selected, is_missed, put_step, put_refused, is_chained, is_ended, send_step, send_refused, is_sent}
 use Rattle.object_card.proofs.PutLaws.{one_status}
 
@@ -214,3 +215,31 @@ pub one_outcome : (old a b : CardState) (cut : ℕ) (t u : Tpdu) → Does old cu
     → t.status ≢ (0x65, 0x81) → u.status ≢ (0x65, 0x81) → (t.received ≡ u.received) × (t.status ≡ u.status) × (a ≡ b)
 one_outcome old a b cut t u first second header p3 sent served served2 =
     outcome old a b cut t u first second (record { header_is = header; p3_is = p3; sent_is = sent }) served served2
+
+-- An announcement tells no want of memory.
+none_announced : (left : List ℕ) (cut : ℕ) → ((announcing left cut).0 == 0x65) ≡ false
+none_announced [] cut = refl
+none_announced (b ∷ left) cut = refl
+
+-- Want of memory is told to the last PUT DATA of a chain alone, and changes no table.
+pub only_a_put_wants : (old new : CardState) (cut : ℕ) (t : Tpdu) → Does old cut t new
+    → t.status ≡ (0x65, 0x81) → (t.header.cla ≡ 0x00) × (t.header.ins ≡ 0xDA) × SameTables old new
+only_a_put_wants old new cut t (refuses h p3 status e) wants =
+    absurd (other_byte status (is_refusing old h p3 status e).not_memory wants)
+only_a_put_wants old new cut t (selects_application h aid e ins held) wants =
+    absurd (other_byte (announcing (control_information aid) cut)
+    (none_announced (control_information aid) cut) wants)
+only_a_put_wants old new cut t (misses_application h aid e ins none) wants =
+    absurd (other_byte (0x6A, 0x82) refl wants)
+only_a_put_wants old new cut t (sends h p3 e ins) wants =
+    absurd (other_byte (announcing (drop (count p3) (to_send old h)) cut)
+    (none_announced (drop (count p3) (to_send old h)) cut) wants)
+only_a_put_wants old new cut t (chains h bytes e ins cla) wants =
+    absurd (other_byte ok refl wants)
+only_a_put_wants old new cut t (puts_value h bytes tag answer next e ins cla named_by put) wants =
+    let stays = (wanting_memory old next (Put tag (chained old.pending ++ bytes)) answer put wants).0
+    in (
+      cla,
+      eqb-true h.ins 0xDA ins,
+      (sym (ap (λ s. s.applications) stays), sym (ap (λ s. s.selected) stays)),
+    )

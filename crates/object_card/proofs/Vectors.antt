@@ -1,6 +1,7 @@
 -- Worked rows, computed from the definitions or shown to be instances of them, and near misses.
 use Rattle.std.proofs.Common.{◌≡◌, ℕ, zero, suc, length, List, [], ◌∷◌, ◌++◌, Bool, true, false, refl, sym, ap, arith, subst, Option, Some, None, inl, inr, replicate}
 use Rattle.apdu_core.specs.declared.header.Header.{Header}
+use Rattle.apdu_core.specs.StatusWord.{StatusWord}
 use Rattle.t0_core.specs.Meaning.{Tpdu}
 use Rattle.std.specs.List.{All}
 use Rattle.std.proofs.lemmas.List.Elements.{All-nil, All-cons}
@@ -124,6 +125,33 @@ locked_entries value =
 
 abbrev guarded : Pending → CardState
 guarded pending = card (locked_entries (0x41 ∷ [])) (Some aid) pending
+
+abbrev first_byte : Option StatusWord → ℕ
+first_byte None = 0
+first_byte (Some status) = status.0
+
+-- an unknown instruction is told before that it is not chained, and that before wrong parameters
+chained_B0 : refusal ready (head 0x10 0xB0 0x00 0x00) 0 ≡ Some (0x6D, 0x00)
+chained_B0 = refl
+
+-- near miss
+chained_B0_is_not_6884 : refusal ready (head 0x10 0xB0 0x00 0x00) 0 ≡ Some (0x68, 0x84) → ⊥
+chained_B0_is_not_6884 e = let no : 0x6D ≡ 0x68 = ap first_byte e in omega (arith, no)
+
+chained_select_of_other_parameters : refusal ready (head 0x10 0xA4 0x00 0x00) 7 ≡ Some (0x68, 0x84)
+chained_select_of_other_parameters = refl
+
+-- near miss
+chained_select_is_not_6A86 : refusal ready (head 0x10 0xA4 0x00 0x00) 7 ≡ Some (0x6A, 0x86) → ⊥
+chained_select_is_not_6A86 e = let no : 0x68 ≡ 0x6A = ap first_byte e in omega (arith, no)
+
+-- parameters that name no tag are told before that nothing is selected
+no_tag_before_a_selection : refusal fresh (head 0x00 0xCA 0x00 0xFF) 0 ≡ Some (0x6A, 0x86)
+no_tag_before_a_selection = refl
+
+-- near miss
+no_tag_is_not_6985 : refusal fresh (head 0x00 0xCA 0x00 0xFF) 0 ≡ Some (0x69, 0x85) → ⊥
+no_tag_is_not_6985 e = let no : 0x6A ≡ 0x69 = ap first_byte e in omega (arith, no)
 
 none_selected_first : refusal (card (locked_entries (0x41 ∷ [])) None NothingPending) (head 0x00 0xDA 0x00 0x50) 1 ≡ Some (0x69, 0x85)
 none_selected_first = refl

@@ -8,28 +8,33 @@ use Rattle.apdu_core.specs.Chaining.{with_more}
 use Rattle.object_card.specs.declared.limits.TheConstants.{VALUE_LIMIT}
 use Rattle.object_card.specs.Tables.{Entry, is_locked}
 use Rattle.object_card.specs.State.{CardState, Pending, NothingPending, ChainPending, ResponsePending, is_idle, chained, selected_entries}
-use Rattle.object_card.specs.Refusals.{Reason, OtherThanItsChain, UnknownClass, UnknownInstruction, NotChained, WrongParameters, NoApplicationSelected, NoResponsePending, LockedEntry, NoSuchObject, ValueTooLong, NoIdentifier, MoreThanIsLeft, in_order, holds, first_of_them, status_for, refusal, breaks_chain, named_tag, is_locked_among, is_get_response}
+use Rattle.object_card.specs.Refusals.{Reason, OtherThanItsChain, UnknownClass, UnknownInstruction, NotChained, WrongParameters, NoApplicationSelected, NoResponsePending, LockedEntry, NoSuchObject, ValueTooLong, NoIdentifier, MoreThanIsLeft, in_order, holds, first_of_them, status_for, refusal, breaks_chain, named_tag, is_locked_among, is_get_response, to_send}
 use Rattle.object_card.specs.CardMeaning.{after_refusal}
 use Rattle.object_card.specs.CarryingOut.{put_header}
 
--- neither 9000 nor 61XX
+-- neither 9000, nor 61XX, nor 6581
 pub record IsRefusing (status : StatusWord) : Type 0 where
   pub not_ok : (status.0 == 0x90) ≡ false
   pub not_more : (status.0 == 0x61) ≡ false
+  pub not_memory : (status.0 == 0x65) ≡ false
+
+is_other : (status : StatusWord) → (status.0 == 0x90) ≡ false → (status.0 == 0x61) ≡ false
+    → (status.0 == 0x65) ≡ false → IsRefusing status
+is_other status ok more memory = record { not_ok = ok; not_more = more; not_memory = memory }
 
 each_is_refusing : (state : CardState) (h : Header) (r : Reason) → IsRefusing (status_for state h r)
-each_is_refusing state h OtherThanItsChain = record { not_ok = refl; not_more = refl }
-each_is_refusing state h UnknownClass = record { not_ok = refl; not_more = refl }
-each_is_refusing state h UnknownInstruction = record { not_ok = refl; not_more = refl }
-each_is_refusing state h NotChained = record { not_ok = refl; not_more = refl }
-each_is_refusing state h WrongParameters = record { not_ok = refl; not_more = refl }
-each_is_refusing state h NoApplicationSelected = record { not_ok = refl; not_more = refl }
-each_is_refusing state h NoResponsePending = record { not_ok = refl; not_more = refl }
-each_is_refusing state h LockedEntry = record { not_ok = refl; not_more = refl }
-each_is_refusing state h NoSuchObject = record { not_ok = refl; not_more = refl }
-each_is_refusing state h ValueTooLong = record { not_ok = refl; not_more = refl }
-each_is_refusing state h NoIdentifier = record { not_ok = refl; not_more = refl }
-each_is_refusing state h MoreThanIsLeft = record { not_ok = refl; not_more = refl }
+each_is_refusing state h OtherThanItsChain = is_other (0x68, 0x83) refl refl refl
+each_is_refusing state h UnknownClass = is_other (0x6E, 0x00) refl refl refl
+each_is_refusing state h UnknownInstruction = is_other (0x6D, 0x00) refl refl refl
+each_is_refusing state h NotChained = is_other (0x68, 0x84) refl refl refl
+each_is_refusing state h WrongParameters = is_other (0x6A, 0x86) refl refl refl
+each_is_refusing state h NoApplicationSelected = is_other (0x69, 0x85) refl refl refl
+each_is_refusing state h NoResponsePending = is_other (0x69, 0x85) refl refl refl
+each_is_refusing state h LockedEntry = is_other (0x69, 0x82) refl refl refl
+each_is_refusing state h NoSuchObject = is_other (0x6A, 0x88) refl refl refl
+each_is_refusing state h ValueTooLong = is_other (0x67, 0x00) refl refl refl
+each_is_refusing state h NoIdentifier = is_other (0x67, 0x00) refl refl refl
+each_is_refusing state h MoreThanIsLeft = is_other (0x6C, length (to_send state h)) refl refl refl
 
 first_is_refusing : (state : CardState) (h : Header) (p3 : ℕ) (rs : List Reason)
     (status : StatusWord) → first_of_them state h p3 rs ≡ Some status → IsRefusing status
@@ -49,7 +54,7 @@ first_is_refusing state h p3 (r ∷ rs) status is =
         more (subst (λ b. (if b then Some (status_for state h r) else first_of_them state h p3 rs)
         ≡ Some status) e is)
 
--- A header is refused neither with 9000 nor with 61XX.
+-- A header is refused neither with 9000, nor with 61XX, nor with 6581.
 pub is_refusing : (state : CardState) (h : Header) (p3 : ℕ) (status : StatusWord)
     → refusal state h p3 ≡ Some status → IsRefusing status
 is_refusing state h p3 status is = first_is_refusing state h p3 in_order status is

@@ -65,6 +65,10 @@ with_selected state aid = record state { selected = Some aid }
 abbrev pub selected_entries : CardState → Option (List Entry)
 selected_entries state = option_and_then (λ aid. entries_in aid state.applications) state.selected
 
+-- nothing is selected, and nothing is pending
+abbrev pub IsFresh : CardState → Type 0
+IsFresh state = (state.selected ≡ None) × (state.pending ≡ NothingPending)
+
 -- A reset keeps what is held; nothing is selected, and nothing is pending (this project's profile).
 abbrev pub after_reset : CardState → CardState
 after_reset state = record {

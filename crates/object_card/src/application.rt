@@ -1,4 +1,4 @@
-ghost use Rattle.std.specs.Prelude.{◌≡◌, ◌<◌, [], length, map, Some, None, MatchOption, IfSome, IfOk, OnOk, slice_get};
+ghost use Rattle.std.specs.Prelude.{◌≡◌, ◌<◌, [], length, map, Some, None, true, is_some, MatchOption, IfSome, IfOk, IsOk, OnOk, slice_get};
 ghost use Rattle.std.specs.Option.{option_map};
 ghost use Rattle.object_card.specs.Tables.{value_under, is_locked, with_entry};
 ghost use Rattle.object_card.specs.CardFields.{HasPlace, value_at};
@@ -125,11 +125,14 @@ impl<A: Allocator> Application<A> {
         Some((*tag, held.value(), held.locked))
     }
 
-    /// Takes the place for a data object with this tag, where there is none.
+    /// Takes the place for a data object with this tag, where there is none. One that is there has its
+    /// place, and takes no memory.
     pub(crate) fn make_room(&mut self, tag: ObjectTag) -> Result<(), AllocError>
         ensures aid { self.new.aid ≡ self.old.aid }
         ensures entries { self.new.entries ≡ self.old.entries }
         ensures ok { OnOk result (HasPlace self.new tag) }
+        ensures held { is_some (value_under tag self.old.entries) ≡ true →
+            IsOk result × (self.new ≡ self.old) }
     {
         if self.objects.contains_key(&tag) {
             return Ok(());

@@ -1,15 +1,17 @@
 //! Laws of what each command does to a card: each function's contract is a law. Laws of what
-//! commands do one after another stand in `runs`.
+//! commands do one after another stand in `runs`, and of all that goes on at a card's end in
+//! `histories`.
 ghost use Rattle.std.specs.Prelude.{◌≡◌, ◌≢◌, ◌↔◌, ◌⊎◌, ℕ, List, [], Some, None, length, true};
 ghost use Rattle.apdu_core.specs.StatusWord.{StatusWord, ok};
 ghost use Rattle.t0_core.specs.Meaning.{Tpdu};
 ghost use Rattle.tlv_core.specs.Address.{NamesTag};
 ghost use Rattle.object_card.specs.Tables.{Entry};
-ghost use Rattle.object_card.specs.OneStep.{PutStatus, Operation, Reply, reply, Answers};
+ghost use Rattle.object_card.specs.OneStep.{PutStatus, Operation, Reply, reply, Answers, SameTables};
 ghost use Rattle.object_card.specs.State.{CardState, IsCardState, ResponsePending, is_idle, after_reset};
 ghost use Rattle.object_card.specs.Refusals.{named_tag, refusal, is_select, is_put};
 ghost use Rattle.object_card.specs.CardMeaning.{Does};
 
+pub mod histories;
 pub mod runs;
 
 /// The tag that a header is found to name is the one that its P1-P2 name.
@@ -103,4 +105,11 @@ pub fn a_command_has_one_outcome()
 pub fn a_put_has_one_status()
     ensures { (entries : List Entry) (tag value : List ℕ) (s t : StatusWord) →
         PutStatus entries tag value s → PutStatus entries tag value t → s ≡ t }
+{}
+
+/// Want of memory (`6581`) is told to a PUT DATA with CLA `00` alone, and changes no table.
+pub fn only_a_put_wants_memory()
+    ensures { (old new : CardState) (cut : ℕ) (tpdu : Tpdu) → Does old cut tpdu new →
+        tpdu.status ≡ (0x65, 0x81) → (tpdu.header.cla ≡ 0x00) × (tpdu.header.ins ≡ 0xDA)
+        × SameTables old new }
 {}

@@ -1,7 +1,7 @@
 //! PUT DATA: whether a value is put, the memory for it, and its place.
-ghost use Rattle.std.specs.Prelude.{◌≡◌, ◌<◌, ◌≤◌, length, false, IfSome, ◌≢◌, IfNone, IfOk, IfErr};
+ghost use Rattle.std.specs.Prelude.{◌≡◌, ◌<◌, ◌≤◌, length, true, false, is_some, IfSome, ◌≢◌, IfNone, IfOk, IfErr};
 ghost use Rattle.std.specs.Option.{option_map};
-ghost use Rattle.object_card.specs.Tables.{is_locked};
+ghost use Rattle.object_card.specs.Tables.{is_locked, value_under};
 ghost use Rattle.object_card.specs.PutData.{CanPut, IsPut, CanBeStored, IsStored, DoesNotStore};
 ghost use Rattle.apdu_core.specs.StatusWord.{ok};
 ghost use Rattle.object_card.specs.OneStep.{PutStatus};
@@ -55,6 +55,8 @@ pub(crate) fn value_to_put<A: Allocator + Copy>(
     requires within { length value.now ≤ VALUE_LIMIT }
     ensures aid { application.new.aid ≡ application.old.aid }
     ensures entries { application.new.entries ≡ application.old.entries }
+    ensures held { is_some (value_under tag application.old.entries) ≡ true →
+        application.new ≡ application.old }
     ensures ok { IfOk result (λ copy. (copy.items ≡ value.now) × HasPlace application.new tag
         × PutStatus application.old.entries tag value.now ok) }
     ensures err { IfErr result (λ status. DoesNotStore application.old.entries tag value.now status) }

@@ -1,0 +1,40 @@
+//! Laws of all that goes on at the end of a card, from when it is made or reset: of the tables that
+//! a history shows.
+ghost use Rattle.std.specs.Prelude.{◌≡◌, ℕ, List};
+ghost use Rattle.std.specs.List.{AllByRecursion};
+ghost use Rattle.t0_core.specs.Character.{Character};
+ghost use Rattle.t0_core.specs.CardSide.{Stage};
+ghost use Rattle.t0_core.specs.History.{Event, Item, IsByteEvent, AreAlikeInTurn};
+ghost use Rattle.t0_core.specs.CardHistory.{Leads};
+ghost use Rattle.object_card.specs.State.{IsFresh};
+ghost use Rattle.object_card.specs.ShownPuts.{AreCutInto, shown_puts, with_puts};
+
+use crate::DataCard;
+use t0_core::laws::events_have_one_cutting;
+
+/// Items that differ only in a direction that nobody saw, since no data moved, show the same puts.
+pub fn alike_items_show_the_same_puts()
+    ensures { (items others : List Item) → AreAlikeInTurn items others →
+        shown_puts items ≡ shown_puts others }
+{}
+
+/// Whatever goes on at the end of a card of data objects, its tables are the first ones with the
+/// puts applied that this shows, in order, and with no other change; however it is cut into whole
+/// dialogues, what resets cut off, and what is under way.
+///
+/// `first` is the card when the end was made, as `finish` makes one, or after a reset; `card` is
+/// the card now, at an end of this stage.
+pub fn an_end_holds_what_its_history_shows<C: DataCard>()
+    ensures is_cut { (first card : C) (events : List Event) (stage : Stage) →
+        Leads C.Does C.after_reset (C.standing first) events (C.standing card) (C.prepared card)
+        stage → (items : List Item) × (part : List Character) × AreCutInto events items part }
+    ensures shown { (first card : C) (events : List Event) (stage : Stage) (items : List Item)
+        (part : List Character) → IsFresh (C.state first) →
+        Leads C.Does C.after_reset (C.standing first) events (C.standing card) (C.prepared card)
+        stage → AllByRecursion IsByteEvent events → AreCutInto events items part →
+        (C.state card).applications ≡ with_puts (shown_puts items) (C.state first).applications }
+    ensures fresh { (before after : C) → C.standing after ≡ C.after_reset (C.standing before) →
+        IsFresh (C.state after) × ((C.state after).applications ≡ (C.state before).applications) }
+{
+    events_have_one_cutting();
+}

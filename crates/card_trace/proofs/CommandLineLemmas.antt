@@ -1,12 +1,12 @@
 -- Words that are taken name a subcommand of the program's own.
-use Rattle.std.proofs.Common.{◌≡◌, ◌≢◌, ◌⊎◌, inl, inr, ℕ, List, [], ◌∷◌, ◌++◌, refl, sym, ap, ap₂, ◌∙◌, subst, Bool, true, false, Option, Some, None}
+use Rattle.std.proofs.Common.{◌≡◌, ◌≢◌, ◌⊎◌, inl, inr, ℕ, List, [], ◌∷◌, ◌++◌, refl, sym, ap, ap₂, ◌∙◌, subst, Bool, true, false, Option, Some, None, Result, Ok, Err, OnOk, IfErr}
 use Rattle.std.specs.Prelude.{fold, codes, is_some, option_map, unwrap_or}
 use Rattle.std.specs.Borrow.{Bor}
 use Rattle.std.proofs.lemmas.Slice.Eq.{bytes_eq-Decides}
 use Rattle.std.specs.Str.{bytes_eq}
 use Rattle.clap.specs.Walk.{Text, Row, Rule, Names, Held, Walk, Waiting, Step, Outcome, walked, walked_from, walk, walk_from, settled, finished, nothing_held, word_met, after_step, to_positional, arg_by_index, subcommand_met, subcommand_or_other, long_or_other, short_or_plain, after_flag, plain_word, long_met, arg_by_long, bundle}
 use Rattle.clap.specs.Walk.{idle, option, positional, next, trailing, subcommand, value, done, waits, plain, refused}
-use Rattle.clap.specs.Walk.{rows_of}
+use Rattle.clap.specs.Walk.{rows_of, first_of}
 use Rattle.clap.specs.Matches.{found_of, subcommand_name_of}
 use Rattle.std.specs.Box.{box_value}
 use Rattle.clap.specs.Lexer.{long_of, short_of}
@@ -18,7 +18,8 @@ use Rattle.clap.specs.Kinds.{Kinds, IsAmong, or_else}
 use Rattle.clap.specs.Faults.{walk_fault, turn_fault, word_fault, other_fault, settle_fault, defaults_fault, check_fault, entered_fault, level_fault, fault_of, is_simple_and_free}
 use Rattle.clap.specs.declared.error.kind.ErrorKind.{ErrorKind}
 use Rattle.clap.specs.declared.error.kind.ErrorKind.TheVariants.{OutOfMemory}
-use Rattle.card_trace.specs.CommandLine.{program, request_named, IsCall, AreRefused}
+use Rattle.card_trace.specs.declared.program_fault.ProgramFault.TheVariants as fault
+use Rattle.card_trace.specs.CommandLine.{program, request_named, request_in, Asked, Play, Card, Objects, Stops, StopsAt, IsCall, AreRefused}
 
 -- both are empty
 or_else-nil : (a b : Kinds) → or_else a b ≡ [] → (a ≡ []) × (b ≡ [])
@@ -257,3 +258,33 @@ some_of_map f (Some a) q is some = refl
 pub refused_for : (kinds : Kinds) (k : ErrorKind) → (k ≡ OutOfMemory) ⊎ IsAmong k kinds → ¬ IsCall k → k ≢ OutOfMemory → AreRefused kinds
 refused_for kinds k (inl memory) call no_memory = absurd (no_memory memory)
 refused_for kinds k (inr among) call no_memory = (k, among, call, no_memory)
+
+-- what ended with status 1 has a fault
+pub has_fault : {T E : Type 0} (r : Result T E) (status : ℕ) (P : E → Type 0) → OnOk r (status ≡ 0)
+    → status ≡ 1 → IfErr r P → (e : E) × P e
+has_fault (Ok x) status P well one stops = absurd (cc)
+has_fault (Err e) status P well one stops = (e, stops)
+
+-- a subcommand of the program's own asks for something
+asks : (found : Option (Text × List Row)) → IsNamed found
+    → (asked : Asked) × (request_in found ≡ Some asked)
+asks None named = absurd named
+asks (Some p) (inl e) = (Play, rw e refl)
+asks (Some p) (inr (inl e)) = (Card, rw e refl)
+asks (Some p) (inr (inr e)) = (Objects (unwrap_or (first_of (codes "HEX") p.1) []), rw e refl)
+
+stops_unchanged : (asked : Asked) (script old new : Option (List ℕ)) → new ≡ old
+    → Stops asked script old new fault.OutOfMemory
+stops_unchanged Play script old new same = same
+stops_unchanged Card script old new same = same
+stops_unchanged (Objects digits) script old new same = same
+
+-- of words without a fault the parser answers nothing but want of memory
+pub stops_unread : (words : List Text) (k : ErrorKind) (script old new : Option (List ℕ))
+    → (k ≡ OutOfMemory) ⊎ IsAmong k (fault_of program words) → (k ≡ OutOfMemory → new ≡ old)
+    → fault_of program words ≡ [] → StopsAt (subcommand_of program words) script old new
+stops_unread words k script old new (inl memory) same none =
+    let asked = asks (subcommand_of program words) (taken words none) in
+    (asked.0, asked.1, fault.OutOfMemory, stops_unchanged asked.0 script old new (same memory))
+stops_unread words k script old new (inr among) same none =
+    let Among : Kinds → Type 0 = λ kinds. IsAmong k kinds in absurd (subst Among none among)

@@ -1,114 +1,154 @@
--- The lines of the characters, written one character after another.
-use Rattle.std.proofs.Common.{◌≡◌, ℕ, ◌+◌, ◌<◌, ◌≤◌, List, [], ◌∷◌, ◌++◌, length, drop, get_or, refl, sym, subst, ◌∙◌, ap, add-one, drop-cons, true, false, Bool, Option, Some, None, append-nil, append_assoc, if◌then◌else◌}
+-- The lines of the characters, written one run of an end after another.
+use Rattle.std.proofs.Common.{◌≡◌, ℕ, ◌+◌, ◌<◌, List, [], ◌∷◌, ◌++◌, length, drop, get_or, refl, sym, subst, ◌∙◌, ap, add-one, drop-cons, true, false, Bool, append-nil, append_assoc, Result, Ok, Err, OnOk, nat_eq, if◌then◌else◌, is_ok, not}
 use Rattle.std.specs.List.{flat_map}
-use Rattle.std.specs.Option.{is_some}
-use Rattle.std.proofs.lemmas.List.{drop_all}
-use Rattle.hex.specs.Hex.{encode_upper, encode_with}
+use Rattle.hex.specs.Hex.{encode_upper}
+use denote.Enum.Bare.{sameb}
+use Rattle.t0_core.specs.contracts.end.End.{the_type}
 use Rattle.t0_core.specs.declared.end.End.{End}
 use Rattle.t0_core.specs.declared.end.End.TheVariants.{Terminal, Card}
-use Rattle.t0_core.specs.Character.{Character}
+use Rattle.t0_core.specs.Character.{Character, sent_by}
 use Rattle.card_trace.specs.LineText.{newline}
 use Rattle.card_trace.specs.TraceText.{is_same, RunOf, joined, runs_of, sign, line_of, characters_text}
-use Rattle.card_trace.specs.LineBreaks.{break_before, break_after}
-
--- the digits of a byte and of those behind it
-digits-cons : (b : ℕ) (bytes : List ℕ) → encode_upper (b ∷ bytes) ≡ encode_upper (b ∷ []) ++ encode_upper bytes
-unfolding encode_with
-digits-cons b bytes = refl
-
--- what is still to be written in the line of an end
-abbrev continued : End → List RunOf → List ℕ
-continued p [] = newline
-continued p (r ∷ runs) =
-    if is_same p r.from then encode_upper r.bytes ++ newline ++ flat_map line_of runs else newline ++ flat_map line_of (r ∷ runs)
-
-abbrev pub rest_text : Option End → List Character → List ℕ
-rest_text None cs = characters_text cs
-rest_text (Some p) cs = continued p (runs_of cs)
 
 same_self : (from : End) → is_same from from ≡ true
 same_self Terminal = refl
 same_self Card = refl
 
--- a line with one more run in front
-first_line : (from : End) (b : ℕ) (rs : List RunOf) → flat_map line_of (joined from b rs) ≡ sign from ++ (encode_upper (b ∷ []) ++ continued from rs)
-first_line from b [] =
-    append-nil (sign from ++ encode_upper (b ∷ []) ++ newline) ∙ append_assoc (sign from) (encode_upper (b ∷ [])) newline
-first_line from b (r ∷ runs) = split (is_same from r.from) refl
+abbrev run_of : End → List ℕ → RunOf
+run_of from bytes = record { from = from; bytes = bytes }
+
+-- what comes next is no more of a run of this end
+abbrev IsApart : End → List Character → Type 0
+IsApart from tail = (b : ℕ) → joined from b (runs_of tail) ≡ run_of from (b ∷ []) ∷ runs_of tail
+
+other_is_apart : (from other : End) (b : ℕ) (cs : List Character) → is_same from other ≡ false
+    → IsApart from ((other, b) ∷ cs)
+other_is_apart from other b cs differ x = split (runs_of cs)
   where
-    split : (v : Bool) → is_same from r.from ≡ v → flat_map line_of (joined from b (r ∷ runs)) ≡ sign from ++ (encode_upper (b ∷ []) ++ continued from (r ∷ runs))
-    split true e = rw e (
-        append_assoc (sign from ++ encode_upper (b ∷ r.bytes)) newline (flat_map line_of runs)
-        ∙ append_assoc (sign from) (encode_upper (b ∷ r.bytes)) (newline ++ flat_map line_of runs)
-        ∙ ap (λ d. sign from ++ (d ++ (newline ++ flat_map line_of runs))) (digits-cons b r.bytes)
-        ∙ ap (λ d. sign from ++ d) (append_assoc (encode_upper (b ∷ [])) (encode_upper r.bytes) (newline ++ flat_map line_of runs)
-        ∙ ap (λ d. encode_upper (b ∷ []) ++ d) (sym (append_assoc (encode_upper r.bytes) newline (flat_map line_of runs)))))
-    split false e = rw e (
-        append_assoc (sign from ++ encode_upper (b ∷ [])) newline (flat_map line_of (r ∷ runs))
-        ∙ append_assoc (sign from) (encode_upper (b ∷ [])) (newline ++ flat_map line_of (r ∷ runs)))
+    next : (r : RunOf) (runs : List RunOf) (v : Bool) → is_same other r.from ≡ v
+        → joined from x (joined other b (r ∷ runs)) ≡ run_of from (x ∷ []) ∷ joined other b (r ∷ runs)
+    next r runs true e = rw (e, differ) refl
+    next r runs false e = rw (e, differ) refl
 
--- the same line goes on
-same_line : (from : End) (b : ℕ) (rs : List RunOf) → continued from (joined from b rs) ≡ encode_upper (b ∷ []) ++ continued from rs
-same_line from b [] = rw (same_self from) (append-nil (encode_upper (b ∷ []) ++ newline))
-same_line from b (r ∷ runs) = split (is_same from r.from) refl
-  where
-    split : (v : Bool) → is_same from r.from ≡ v → continued from (joined from b (r ∷ runs)) ≡ encode_upper (b ∷ []) ++ continued from (r ∷ runs)
-    split true e = rw (e, same_self from) (
-        ap (λ d. d ++ newline ++ flat_map line_of runs) (digits-cons b r.bytes)
-        ∙ append_assoc (encode_upper (b ∷ []) ++ encode_upper r.bytes) newline (flat_map line_of runs)
-        ∙ append_assoc (encode_upper (b ∷ [])) (encode_upper r.bytes) (newline ++ flat_map line_of runs)
-        ∙ ap (λ d. encode_upper (b ∷ []) ++ d) (sym (append_assoc (encode_upper r.bytes) newline (flat_map line_of runs))))
-    split false e = rw (e, same_self from) (append_assoc (encode_upper (b ∷ [])) newline (flat_map line_of (r ∷ runs)))
+    split : (runs : List RunOf)
+        → joined from x (joined other b runs) ≡ run_of from (x ∷ []) ∷ joined other b runs
+    split [] = rw differ refl
+    split (r ∷ runs) = next r runs (is_same other r.from) refl
 
--- another line begins
-other_line : (p from : End) (b : ℕ) (rs : List RunOf) → is_same p from ≡ false → continued p (joined from b rs) ≡ newline ++ flat_map line_of (joined from b rs)
-other_line p from b [] e = rw e refl
-other_line p from b (r ∷ runs) e = split (is_same from r.from) refl
-  where
-    split : (v : Bool) → is_same from r.from ≡ v → continued p (joined from b (r ∷ runs)) ≡ newline ++ flat_map line_of (joined from b (r ∷ runs))
-    split true f = rw (f, e) refl
-    split false f = rw (f, e) refl
+-- characters of one end are one run, where what comes next is none of it
+is_one_run : (from : End) (b : ℕ) (bytes : List ℕ) (tail : List Character) → IsApart from tail
+    → runs_of (sent_by from (b ∷ bytes) ++ tail) ≡ run_of from (b ∷ bytes) ∷ runs_of tail
+is_one_run from b [] tail apart = apart b
+is_one_run from b (x ∷ bytes) tail apart =
+    ap (joined from b) (is_one_run from x bytes tail apart) ∙ rw (same_self from) refl
 
-next_character : (previous : Option End) (from : End) (b : ℕ) (cs : List Character)
-    → rest_text previous ((from, b) ∷ cs) ≡ break_before previous from ++ (encode_upper (b ∷ []) ++ rest_text (Some from) cs)
-next_character None from b cs = first_line from b (runs_of cs)
-next_character (Some Terminal) Terminal b cs = same_line Terminal b (runs_of cs)
-next_character (Some Card) Card b cs = same_line Card b (runs_of cs)
-next_character (Some Terminal) Card b cs = other_line Terminal Card b (runs_of cs) refl ∙ ap (λ d. newline ++ d) (first_line Card b (runs_of cs))
-next_character (Some Card) Terminal b cs = other_line Card Terminal b (runs_of cs) refl ∙ ap (λ d. newline ++ d) (first_line Terminal b (runs_of cs))
+pub run_text : (from : End) (b : ℕ) (bytes : List ℕ)
+    → characters_text (sent_by from (b ∷ bytes)) ≡ line_of (run_of from (b ∷ bytes))
+run_text from b bytes =
+    let nothing_next : IsApart from [] = λ x. refl in
+    ap characters_text (sym (append-nil (sent_by from (b ∷ bytes))))
+    ∙ ap (flat_map line_of) (is_one_run from b bytes [] nothing_next)
+    ∙ append-nil (line_of (run_of from (b ∷ bytes)))
 
--- one character more is written
-pub one_written : (text whole : List ℕ) (previous : Option End) (c : Character) (cs : List Character) → text ++ rest_text previous (c ∷ cs) ≡ whole
-    → ((text ++ break_before previous c.0) ++ encode_upper (c.1 ∷ [])) ++ rest_text (Some c.0) cs ≡ whole
-one_written text whole previous c cs so_far =
-    append_assoc (text ++ break_before previous c.0) (encode_upper (c.1 ∷ [])) (rest_text (Some c.0) cs)
-    ∙ append_assoc text (break_before previous c.0) (encode_upper (c.1 ∷ []) ++ rest_text (Some c.0) cs)
-    ∙ ap (λ d. text ++ d) (sym (next_character previous c.0 c.1 cs)) ∙ so_far
+-- where another end goes on, the run's line is whole
+run_ends : (from other : End) (bytes : List ℕ) (b : ℕ) (cs : List Character)
+    → is_same from other ≡ false
+    → characters_text (sent_by from bytes ++ (other, b) ∷ cs)
+    ≡ characters_text (sent_by from bytes) ++ characters_text ((other, b) ∷ cs)
+run_ends from other [] b cs differ = refl
+run_ends from other (x ∷ bytes) b cs differ =
+    ap (flat_map line_of)
+    (is_one_run from x bytes ((other, b) ∷ cs) (other_is_apart from other b cs differ))
+    ∙ ap (λ t. t ++ characters_text ((other, b) ∷ cs)) (sym (run_text from x bytes))
 
--- all are written
-pub all_written : (previous : Option End) → rest_text previous [] ≡ break_after previous
-all_written None = refl
-all_written (Some from) = refl
+-- how ends are compared in code
+same_ends : (a b : End) → sameb the_type a b ≡ is_same a b
+same_ends Terminal Terminal = refl
+same_ends Terminal Card = refl
+same_ends Card Terminal = refl
+same_ends Card Card = refl
+
+-- a character goes into the run
+into_run : (from : End) (bytes : List ℕ) (b : ℕ) (cs : List Character)
+    → sent_by from (bytes ++ b ∷ []) ++ cs ≡ sent_by from bytes ++ (from, b) ∷ cs
+into_run from [] b cs = refl
+into_run from (x ∷ bytes) b cs = ap (λ t. (from, x) ∷ t) (into_run from bytes b cs)
 
 -- the next of the characters
 abbrev pub at_index : List Character → ℕ → Character
 at_index heard i = get_or heard i (Terminal, 0)
 
-drop_next : (heard : List Character) (i : ℕ) → i < length heard → drop i heard ≡ at_index heard i ∷ drop (i + 1) heard
-drop_next heard i lt = drop-cons heard i (Terminal, 0) lt ∙ ap (λ n. at_index heard i ∷ drop n heard) (sym (add-one i))
+drop_next : (heard : List Character) (i : ℕ) → i < length heard
+    → drop i heard ≡ at_index heard i ∷ drop (i + 1) heard
+drop_next heard i lt =
+    drop-cons heard i (Terminal, 0) lt ∙ ap (λ n. at_index heard i ∷ drop n heard) (sym (add-one i))
 
--- a step of the loop
-pub step_written : (before middle after broken whole : List ℕ) (previous : Option End) (heard : List Character) (i : ℕ) → i < length heard → middle ≡ before ++ broken
-    → broken ≡ break_before previous (at_index heard i).0 → after ≡ middle ++ encode_upper ((at_index heard i).1 ∷ []) → before ++ rest_text previous (drop i heard) ≡ whole
-    → after ++ rest_text (Some (at_index heard i).0) (drop (i + 1) heard) ≡ whole
-step_written before middle after broken whole previous heard i lt middle_is broken_is after_is so_far =
-    let Rest : List Character → Type 0 = λ cs. before ++ rest_text previous cs ≡ whole in
-    rw (after_is, middle_is, broken_is) (one_written before whole previous (at_index heard i) (drop (i + 1) heard) (subst Rest (drop_next heard i lt) so_far))
+-- of an end that is not the run's, a character begins another
+same_is_self : (a b : End) → is_same a b ≡ true → a ≡ b
+same_is_self Terminal Terminal e = refl
+same_is_self Terminal Card e = absurd (cc)
+same_is_self Card Terminal e = absurd (cc)
+same_is_self Card Card e = refl
 
--- no character was to be written
-pub none_written : (text whole : List ℕ) (previous : Option End) (heard : List Character) (i : ℕ) → length heard ≤ i → is_some previous ≡ false
-    → text ++ rest_text previous (drop i heard) ≡ whole → text ≡ whole
-none_written text whole None heard i past none so_far =
-    let Rest : List Character → Type 0 = λ cs. text ++ characters_text cs ≡ whole in
-    sym (append-nil text) ∙ subst Rest (drop_all i heard past) so_far
-none_written text whole (Some from) heard i past none so_far = absurd (cc)
+same_turned : (a b : End) → is_same a b ≡ is_same b a
+same_turned Terminal Terminal = refl
+same_turned Terminal Card = refl
+same_turned Card Terminal = refl
+same_turned Card Card = refl
+
+-- what is written, the run, and what is to be written
+abbrev pub whole_text : List ℕ → End → List ℕ → List Character → List ℕ
+whole_text text from run left = text ++ characters_text (sent_by from run ++ left)
+
+-- the character goes into the run
+pub run_goes_on : (text whole run more kept : List ℕ) (from : End) (heard : List Character) (i : ℕ)
+    → i < length heard → not (sameb the_type (at_index heard i).0 from) ≡ false
+    → kept ≡ run → more ≡ kept ++ (at_index heard i).1 ∷ [] → whole_text text from run (drop i heard) ≡ whole
+    → whole_text text from more (drop (i + 1) heard) ≡ whole
+run_goes_on text whole run more kept from heard i lt same kept_is more_is so_far =
+    let c = at_index heard i in
+    let left = drop (i + 1) heard in
+    let is_of = same_is_self c.0 from (sym (same_ends c.0 from) ∙ not_false _ same) in
+    let Rest : List Character → Type 0 = λ cs. whole_text text from run cs ≡ whole in
+    let Own : End → Type 0 = λ e. whole_text text from run ((e, c.1) ∷ left) ≡ whole in
+    let own = subst Own is_of (subst Rest (drop_next heard i lt) so_far) in
+    rw (more_is, kept_is) (ap (λ t. text ++ characters_text t) (into_run from run c.1 left) ∙ own)
+  where
+    not_false : (v : Bool) → not v ≡ false → v ≡ true
+    not_false true h = refl
+    not_false false h = absurd (cc)
+
+-- the run is written, and the character begins another
+pub run_changes : (text written whole run more none : List ℕ) (from : End) (heard : List Character)
+    (seen : List ℕ) (i : ℕ) → i < length heard
+    → not (sameb the_type (at_index heard i).0 from) ≡ true → seen ≡ run
+    → written ≡ text ++ characters_text (sent_by from seen) → none ≡ []
+    → more ≡ none ++ (at_index heard i).1 ∷ [] → whole_text text from run (drop i heard) ≡ whole
+    → whole_text written (at_index heard i).0 more (drop (i + 1) heard) ≡ whole
+run_changes text written whole run more none from heard seen i lt other seen_is written_is none_is more_is so_far =
+    let c = at_index heard i in
+    let left = drop (i + 1) heard in
+    let differ = same_turned from c.0 ∙ sym (same_ends c.0 from) ∙ not_true _ other in
+    let Rest : List Character → Type 0 = λ cs. whole_text text from run cs ≡ whole in
+    let here = subst Rest (drop_next heard i lt) so_far in
+    rw (more_is, none_is, written_is, seen_is) (
+    append_assoc text (characters_text (sent_by from run)) (characters_text (c ∷ left))
+    ∙ ap (λ t. text ++ t) (sym (run_ends from c.0 run c.1 left differ)) ∙ here)
+  where
+    not_true : (v : Bool) → not v ≡ true → v ≡ false
+    not_true false h = refl
+    not_true true h = absurd (cc)
+
+-- the line of a run is written
+pub run_written : {T E : Type 0} (r : Result T E) (before marked digits after : List ℕ) (from : End)
+    (bytes : List ℕ) → nat_eq (length bytes) 0 ≡ false → marked ≡ before ++ sign from
+    → digits ≡ marked ++ encode_upper bytes
+    → after ≡ (if is_ok r then digits ++ newline else digits)
+    → OnOk r (after ≡ before ++ characters_text (sent_by from bytes))
+run_written r before marked digits after from [] some marked_is digits_is after_is = absurd (cc)
+run_written (Err e) before marked digits after from (b ∷ bytes) some marked_is digits_is after_is = tt
+run_written (Ok x) before marked digits after from (b ∷ bytes) some marked_is digits_is after_is =
+    after_is ∙ ap (λ t. t ++ newline) (digits_is ∙ ap (λ t. t ++ encode_upper (b ∷ bytes)) marked_is)
+    ∙ append_assoc (before ++ sign from) (encode_upper (b ∷ bytes)) newline
+    ∙ append_assoc before (sign from) (encode_upper (b ∷ bytes) ++ newline)
+    ∙ ap (λ t. before ++ t) (sym (append_assoc (sign from) (encode_upper (b ∷ bytes)) newline) ∙ sym (run_text from b bytes))

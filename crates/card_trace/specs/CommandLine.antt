@@ -1,5 +1,5 @@
 -- The command line, as `clap` reads it: the command with its subcommands, and what is asked for.
-use Rattle.std.specs.Prelude.{◌≡◌, ◌≢◌, ℕ, List, [], ◌∷◌, codes, Option, Some, None, true, if◌then◌else◌, unwrap_or, Ok, ◌⊎◌}
+use Rattle.std.specs.Prelude.{◌≡◌, ◌≢◌, ℕ, List, [], ◌∷◌, codes, Option, Some, None, true, if◌then◌else◌, unwrap_or, Ok, IsErr, ◌⊎◌}
 use Rattle.std.specs.Str.{bytes_eq}
 use Rattle.std.specs.Io.KnownBytes.{Appends}
 use Rattle.hex.specs.Hex.{decode_of}
@@ -10,8 +10,13 @@ use Rattle.clap.specs.declared.error.kind.ErrorKind.{ErrorKind}
 use Rattle.clap.specs.declared.error.kind.ErrorKind.TheVariants as kind
 use Rattle.tlv_core.specs.Spelling.{Forest, Spells}
 use Rattle.card_trace.specs.ForestText.{forest_text}
-use Rattle.card_trace.specs.Scripts.{PlayWrites}
-use Rattle.card_trace.specs.CardScripts.{CardWrites}
+use Rattle.tlv_core.specs.FirstFault.{IsFirstFault}
+use Rattle.card_trace.specs.Scripts.{PlayWrites, PlayStops}
+use Rattle.card_trace.specs.CardScripts.{CardWrites, CardStops}
+use Rattle.card_trace.specs.declared.objects_fault.ObjectsFault.{ObjectsFault}
+use Rattle.card_trace.specs.declared.objects_fault.ObjectsFault.TheVariants as objects
+use Rattle.card_trace.specs.declared.program_fault.ProgramFault.{ProgramFault}
+use Rattle.card_trace.specs.declared.program_fault.ProgramFault.TheVariants as fault
 use Rattle.card_trace.specs.declared.command_line.Request.{Request}
 use Rattle.card_trace.specs.declared.command_line.Request.TheVariants as request
 
@@ -72,6 +77,35 @@ abbrev pub Does : Asked → Option (List ℕ) → Option (List ℕ) → Option (
 Does Play script old new = PlayWrites script old new
 Does Card script old new = CardWrites script old new
 Does (Objects digits) script old new = PrintsTree digits old new
+
+-- digits spell no bytes, or memory was wanting for them
+abbrev pub IsDigitsFault : List ℕ → ProgramFault → Type 0
+IsDigitsFault digits fault.BadHex = (digits ≡ []) ⊎ IsErr (decode_of digits)
+IsDigitsFault digits fault.OutOfMemory = Unit {0}
+IsDigitsFault digits other = ⊥
+
+-- what stands where bytes were not printed as a tree: after all but a fault of the writer, nothing
+-- more than before
+abbrev pub TreeStops : List ℕ → Option (List ℕ) → Option (List ℕ) → ObjectsFault → Type 0
+TreeStops bytes old new (objects.Tlv f) = (new ≡ old) × IsFirstFault bytes 1 f.place f.reason
+TreeStops bytes old new objects.OutOfMemory = new ≡ old
+TreeStops bytes old new objects.Write = Unit {0}
+
+-- what stands where what is asked for was not done, for this fault
+abbrev pub Stops : Asked → Option (List ℕ) → Option (List ℕ) → Option (List ℕ) → ProgramFault → Type 0
+Stops Play script old new (fault.Play f) = PlayStops script old new f
+Stops Card script old new (fault.Play f) = CardStops script old new f
+Stops (Objects digits) script old new (fault.Objects f) =
+    (bytes : List ℕ) × (decode_of digits ≡ Ok bytes) × TreeStops bytes old new f
+Stops (Objects digits) script old new fault.BadHex = (new ≡ old) × IsDigitsFault digits fault.BadHex
+Stops asked script old new fault.OutOfMemory = new ≡ old
+Stops asked script old new other = ⊥
+
+-- what stands where what a subcommand with its matches asks for was not done
+abbrev pub StopsAt : Option (Text × List Row) → Option (List ℕ) → Option (List ℕ) → Option (List ℕ)
+    → Type 0
+StopsAt found script old new = (asked : Asked) × (request_in found ≡ Some asked)
+    × (f : ProgramFault) × Stops asked script old new f
 
 -- what is asked for by a subcommand with its matches is done
 abbrev pub Runs : Option (Text × List Row) → Option (List ℕ) → Option (List ℕ) → Option (List ℕ)

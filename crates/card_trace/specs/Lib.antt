@@ -1,6 +1,5 @@
 pub mod LineText
 pub mod TraceText
-pub mod LineBreaks
 pub mod TableText
 pub mod MarkedLines
 pub mod ForestText

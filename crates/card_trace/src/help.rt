@@ -1,4 +1,4 @@
-//! What `--help` says.
+//! What `--help` says, and what is said of words that are not UTF-8.
 
 /// Of the program.
 pub const PROGRAM: &str = "A smart card and a terminal that talk over the T=0 protocol, and the \
@@ -97,3 +97,12 @@ prints
 
 /// Of the argument of `objects`.
 pub const HEX: &str = "The bytes of the objects, as pairs of hexadecimal digits";
+
+/// Of words of which one is not UTF-8, in the form in which `clap` tells of a mistake.
+pub const NO_UTF_8: &str = "\
+error: invalid UTF-8 was detected in one or more arguments
+
+Usage: card_trace <COMMAND>
+
+For more information, try '--help'.
+";

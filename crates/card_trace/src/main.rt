@@ -37,20 +37,32 @@ mod test_io;
 mod test_script;
 mod text;
 mod trace;
+mod unread_words;
 
-use std::io;
+use main_status::main_status;
 use std::process::ExitCode;
+use std::{env, io};
+use unread_words::status_without_words;
 
 /// Runs the program on its own words and streams.
-fn main(rt: HostRuntime) -> io::Result<ExitCode> {
-    let alloc = rt.alloc();
-    let words: Vec<String> = std::env::args(&rt)?.collect(alloc)?;
-    let status = main_status::main_status(
-        alloc,
-        words.as_slice(),
-        &mut rt.stdin(),
-        &mut io::writer(&rt),
-        &mut io::writer(&rt.stderr()),
-    );
-    Ok(ExitCode::from(status))
+fn main(rt: HostRuntime) -> ExitCode {
+    let stderr = rt.stderr();
+    let mut faults = io::writer(&stderr);
+    let status = match words(&rt) {
+        Ok(words) => main_status(
+            rt.alloc(),
+            words.as_slice(),
+            &mut rt.stdin(),
+            &mut io::writer(&rt),
+            &mut faults,
+        ),
+        Err(error) => status_without_words(&error, &mut faults),
+    };
+    ExitCode::from(status)
+}
+
+/// The program's own words.
+fn words(rt: &HostRuntime) -> io::Result<Vec<String>> {
+    let words = env::args(rt)?;
+    Ok(words.collect(rt.alloc())?)
 }

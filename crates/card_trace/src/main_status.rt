@@ -1,8 +1,8 @@
 //! The program over any reader and writers.
-ghost use Rattle.std.specs.Prelude.{◌≡◌, ◌≢◌, ◌≤◌, ◌⊎◌, [], map, Ok, IsErr, IsErrOf, IfOk, OnOk, OnErr, string_bytes};
+ghost use Rattle.std.specs.Prelude.{◌≡◌, ◌≢◌, ◌≤◌, [], map, Ok, IfOk, IfErr, OnOk, OnErr, string_bytes};
 ghost use Rattle.hex.specs.Hex.{decode_of};
 ghost use Rattle.clap.specs.Words.{kind_of, subcommand_of, fault_of};
-ghost use Rattle.card_trace.specs.CommandLine.{program, asked_by, Does, Runs, IsCall, AreCall, AreRefused};
+ghost use Rattle.card_trace.specs.CommandLine.{program, asked_by, Does, Runs, IsDigitsFault, Stops, StopsAt, IsCall, AreCall, AreRefused};
 
 use crate::card::card_lines;
 use crate::command_line::{Request, parsed};
@@ -31,6 +31,9 @@ pub fn main_status<R: Read, W: Write, F: Write>(
     ensures runs { fault_of program (map string_bytes words.now) ≡ [] → result ≡ 0 →
         Runs (subcommand_of program (map string_bytes words.now)) (R.remaining input.old)
         (W.contents output.old) (W.contents output.new) }
+    ensures stops { fault_of program (map string_bytes words.now) ≡ [] → result ≡ 1 →
+        StopsAt (subcommand_of program (map string_bytes words.now)) (R.remaining input.old)
+        (W.contents output.old) (W.contents output.new) }
     ensures taken { fault_of program (map string_bytes words.now) ≡ [] → result ≢ 2 }
     ensures called { fault_of program (map string_bytes words.now) ≢ [] → result ≡ 0 →
         AreCall (fault_of program (map string_bytes words.now)) }
@@ -53,8 +56,10 @@ fn run<R: Read, W: Write>(
     input: &mut R,
     output: &mut W,
 ) -> Result<(), ProgramFault>
-    ensures { OnOk result (Does (asked_by request.entry) (R.remaining input.old) (W.contents output.old)
-        (W.contents output.new)) }
+    ensures does { OnOk result (Does (asked_by request.entry) (R.remaining input.old)
+        (W.contents output.old) (W.contents output.new)) }
+    ensures stops { IfErr result (Stops (asked_by request.entry) (R.remaining input.old)
+        (W.contents output.old) (W.contents output.new)) }
 {
     match request {
         Request::Play => play_lines(alloc, input, output)?,
@@ -71,8 +76,7 @@ fn run<R: Read, W: Write>(
 fn bytes_of(alloc: Global, digits: &str) -> Result<Vec<u8>, ProgramFault>
     ensures spelled { IfOk result (λ bytes. (digits.now ≢ [])
         × (decode_of digits.now ≡ Ok bytes.items)) }
-    ensures bad { IsErrOf result ProgramFault.BadHex → (digits.now ≡ [])
-        ⊎ IsErr (decode_of digits.now) }
+    ensures err { IfErr result (IsDigitsFault digits.now) }
 {
     if digits.is_empty() {
         return Err(ProgramFault::BadHex);
@@ -88,7 +92,8 @@ fn bytes_of(alloc: Global, digits: &str) -> Result<Vec<u8>, ProgramFault>
 /// to `faults`.
 fn answered<W: Write, F: Write>(error: &Error, output: &mut W, faults: &mut F) -> u8
     ensures status { result ≤ 2 }
-    ensures memory { kind_of error.now ≡ ErrorKind.OutOfMemory → result ≡ 1 }
+    ensures memory { kind_of error.now ≡ ErrorKind.OutOfMemory →
+        (result ≡ 1) × (W.contents output.new ≡ W.contents output.old) }
     ensures mistake { ¬ IsCall (kind_of error.now) →
         kind_of error.now ≢ ErrorKind.OutOfMemory → result ≡ 2 }
     ensures called { result ≡ 0 → IsCall (kind_of error.now) }
@@ -113,7 +118,7 @@ fn shown<W: Write>(error: &Error, output: &mut W) -> Result<(), ProgramFault> {
 }
 
 /// The status for an outcome: 0, or 1 for a fault, which is told on `faults` in one line.
-fn told<F: Write>(outcome: &Result<(), ProgramFault>, faults: &mut F) -> u8
+pub fn told<F: Write>(outcome: &Result<(), ProgramFault>, faults: &mut F) -> u8
     ensures success { OnOk outcome.now (result ≡ 0) }
     ensures silent { OnOk outcome.now (F.contents faults.new ≡ F.contents faults.old) }
     ensures fault { OnErr outcome.now (result ≡ 1) }

@@ -1,7 +1,7 @@
 //! The text of operations.
 ghost use Rattle.std.specs.Prelude.{◌≡◌, ◌++◌, OnOk, IfOk};
-ghost use Rattle.card_trace.specs.TraceText.{spaced, characters_text, answer_text, operation_text as text_of_operation, handed_out_text as text_handed_out};
-ghost use Rattle.card_trace.specs.LineBreaks.{break_before};
+ghost use Rattle.t0_core.specs.Character.{sent_by};
+ghost use Rattle.card_trace.specs.TraceText.{spaced, sign, characters_text, answer_text, operation_text as text_of_operation, handed_out_text as text_handed_out};
 
 use crate::text::push_hex;
 use card_terminal::Answer;
@@ -45,28 +45,44 @@ fn push_characters<A: Allocator + Copy>(
 ) -> Result<(), AllocError>
     ensures { OnOk result (text.new.items ≡ text.old.items ++ characters_text heard.now) }
 {
-    let mut previous = None;
+    let mut from = End::Terminal;
+    let mut run = Vec::new(alloc);
     for character in heard {
-        text.extend_from_slice(line_break(previous, character.0))?;
-        push_hex(alloc, text, &[character.1])?;
-        previous = Some(character.0);
+        if character.0 != from {
+            push_run(alloc, text, from, run.as_slice())?;
+            run.clear();
+            from = character.0;
+        }
+        run.push(character.1)?;
     }
-    if previous.is_some() {
-        text.push(b'\n')?;
-    }
-    Ok(())
+    push_run(alloc, text, from, run.as_slice())
 }
 
-/// What stands before a character from this end, after one from the previous.
-fn line_break(previous: Option<End>, from: End) -> &'static [u8]
-    ensures { result.now ≡ break_before previous from }
+/// Adds the line of a run of characters from one end, where there are any.
+fn push_run<A: Allocator>(
+    alloc: A,
+    text: &mut Vec<u8, A>,
+    from: End,
+    bytes: &[u8],
+) -> Result<(), AllocError>
+    ensures { OnOk result (text.new.items
+        ≡ text.old.items ++ characters_text (sent_by from bytes.now)) }
 {
-    match (previous, from) {
-        (Some(End::Terminal), End::Terminal) | (Some(End::Card), End::Card) => b"",
-        (None, End::Terminal) => b"> ",
-        (None, End::Card) => b"< ",
-        (Some(End::Card), End::Terminal) => b"\n> ",
-        (Some(End::Terminal), End::Card) => b"\n< ",
+    if bytes.is_empty() {
+        return Ok(());
+    }
+    text.extend_from_slice(mark(from))?;
+    push_hex(alloc, text, bytes)?;
+    text.extend_from_slice(b"\n")
+}
+
+/// What stands before the characters of an end.
+fn mark(from: End) -> &'static [u8]
+    ensures { result.now ≡ sign from }
+{
+    match from {
+        End::Terminal => b"> ",
+        End::Card => b"< ",
     }
 }
 

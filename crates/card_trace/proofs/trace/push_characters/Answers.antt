@@ -1,13 +1,24 @@
-use Rattle.std.proofs.Common.{sym, ◌∙◌, arith}
-use Rattle.card_trace.proofs.TraceLemmas.{step_written, none_written}
+use Rattle.std.proofs.Common.{sym, ap, ◌∙◌, ◌++◌}
+use Rattle.card_trace.specs.TraceText.{characters_text}
+use Rattle.card_trace.proofs.TraceLemmas.{run_goes_on, run_changes}
 use Rattle.card_trace.proofs.trace.push_characters.Goals as goal
+use Rattle.card_trace.proofs.trace.push_characters.Goals.{then-ne+in_ok-push_run, else-ne}
 
 pub loop-character-preserved : goal.loop-character-preserved
 loop-character-preserved g c =
-    step_written c.loop-character.text.items c.extend_from_slice.new.self.items c.push_hex.new.text.items c.line_break.result.now _ c.loop-character.previous c.args.heard.now
-    c.loop-character.character-index c.loop-character-test.true c.in_ok-extend_from_slice.ensures.items c.line_break.ensures c.in_ok-push_hex.ensures c.loop-character.invariant
-
-pub returns-else-is_some : goal.returns-else-is_some
-returns-else-is_some g c =
-    none_written _ _ c.loop-character.previous c.args.heard.now c.loop-character.character-index (omega (arith, c.loop-character-test.false)) (sym c.is_some.ensures ∙ c.if-is_some.false)
-    c.loop-character.invariant
+    let l = c.loop-character in
+    let heard = c.args.heard.now in
+    let whole = c.args.text.now.items ++ characters_text heard in
+    elim c.if-ne.branch [
+      | then-ne+in_ok-push_run w ↦
+          rw (w.from-is, w.text-is) (run_changes l.text.items w.push_run.new.text.items whole
+          l.run.items c.push.new.self.items c.if-ne.run.items l.from heard w.as_slice.result.now
+          l.character-index c.loop-character-test.true (sym c.ne.ensures ∙ w.if-ne.true)
+          w.as_slice.ensures.value w.in_ok-push_run.ensures
+          (ap (λ r. r.items) w.run-is ∙ w.clear.ensures.items) c.in_ok-push.ensures.items l.invariant)
+      | else-ne w ↦
+          rw (w.from-is, w.text-is) (run_goes_on l.text.items whole l.run.items
+          c.push.new.self.items c.if-ne.run.items l.from heard l.character-index
+          c.loop-character-test.true (sym c.ne.ensures ∙ w.if-ne.false)
+          (ap (λ r. r.items) w.run-is) c.in_ok-push.ensures.items l.invariant)
+    ]

@@ -1,5 +1,5 @@
 -- How the fields of a card's end are seen.
-use Rattle.std.specs.Prelude.{◌≡◌, ℕ, ◌+◌, ◌-◌, ◌<◌, ◌≤◌, ◌⊎◌, List, [], ◌∷◌, length, take, drop, replicate, true}
+use Rattle.std.specs.Prelude.{◌≡◌, ℕ, ◌+◌, ◌-◌, ◌<◌, ◌≤◌, ◌⊎◌, List, [], ◌∷◌, length, take, drop, replicate, true, Option, Some, None}
 use Rattle.apdu_core.specs.HeaderBytes.{ins_is_valid}
 use Rattle.apdu_core.specs.StatusWord.{StatusWord, IsStatusWord, count}
 use Rattle.t0_core.specs.declared.card_end.Phase.{Phase}
@@ -21,6 +21,11 @@ stage_of (phase.Opening bytes taken) came = Taking_header (take taken bytes)
 stage_of (phase.Refused header p3 status done) came = Refusing header p3 status done
 stage_of (phase.Accepted service) came = Serving service (take service.moved came)
 stage_of (phase.SecondStatus status) came = Ending status
+
+-- the phase after a character of the card in a service, which is then this: with SW1 the service ends
+abbrev pub phase_after : Service → Option StatusWord → Phase
+phase_after service None = phase.Accepted service
+phase_after service (Some status) = phase.SecondStatus status
 
 -- what the card has made ready fits the direction
 abbrev pub IsReadyFor : {State : Type 0} → Prepared State → Direction → ℕ → Type 0

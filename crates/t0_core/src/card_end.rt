@@ -186,7 +186,7 @@ impl<C: TpduCard> CardEnd<C> {
             OnOk result (LeadsUnder C.Does first (came ++ (Terminal, byte) ∷ []) taken
             (C.standing self.new.card) (C.prepared self.new.card) self.new.stage) }
     {
-        self.phase = phase_with(self.phase, byte, &mut self.came)?;
+        take_into(&mut self.phase, byte, &mut self.came)?;
         Ok(())
     }
 
@@ -246,9 +246,8 @@ impl<C: TpduCard> CardEnd<C> {
         if is_listening(&self.phase) {
             return Turn::Listens;
         }
-        let (phase, byte) = hand_out(&mut self.card, self.phase, &self.came, plans);
-        forget_data(&phase, &mut self.came);
-        self.phase = phase;
+        let byte = hand_out(&mut self.card, &mut self.phase, &self.came, plans);
+        forget_data(&self.phase, &mut self.came);
         Turn::Sends(byte)
     }
 }
@@ -264,6 +263,7 @@ const FRESH: Phase = Phase::Opening {
 fn forget_data(phase: &Phase, came: &mut [u8; 255])
     ensures stage { stage_of phase.now came.new ≡ stage_of phase.now came.old }
     ensures gone { IsForgotten phase.now came.new }
+    ensures room { length came.new ≡ length came.old }
 {
     if let Phase::Opening { .. } = phase {
         *came = [0; 255];
@@ -283,75 +283,74 @@ fn is_listening(phase: &Phase) -> bool
     }
 }
 
-/// The phase with one more character of the terminal. A data character goes to its place in `came`.
+/// Takes one more character of the terminal into the phase. A data character goes to its place in
+/// `came`.
 #[inline(always)]
-fn phase_with(phase: Phase, byte: u8, came: &mut [u8; 255]) -> Result<Phase, NotListening>
-    requires held { IsHeld phase }
+fn take_into(phase: &mut Phase, byte: u8, came: &mut [u8; 255]) -> Result<(), NotListening>
+    requires held { IsHeld phase.old }
     requires room { length came.old ≡ 255 }
-    ensures listening { is_ok result ≡ listens (stage_of phase came.old) }
-    ensures taken { IfOk result
-        (λ new. stage_of new came.new ≡ with_character (stage_of phase came.old) byte) }
+    ensures listening { is_ok result ≡ listens (stage_of phase.old came.old) }
+    ensures taken { OnOk result
+        (stage_of phase.new came.new ≡ with_character (stage_of phase.old came.old) byte) }
     ensures room { length came.new ≡ 255 }
-    ensures refused { OnErr result (came.new ≡ came.old) }
-    ensures fits { IfOk result (λ new. IsAfter phase new) }
-    ensures none { IsForgotten phase came.old → IfOk result (λ new. IsForgotten new came.new) }
+    ensures refused { OnErr result ((phase.new ≡ phase.old) × (came.new ≡ came.old)) }
+    ensures fits { OnOk result (IsAfter phase.old phase.new) }
+    ensures none { IsForgotten phase.old came.old → OnOk result (IsForgotten phase.new came.new) }
 {
-    if !is_listening(&phase) {
-        return Err(NotListening);
-    }
     match phase {
-        Phase::Opening { mut bytes, taken } => {
-            bytes[taken] = byte;
-            Ok(Phase::Opening {
-                bytes,
-                taken: taken + 1,
-            })
-        }
-        Phase::Accepted { service } => {
+        Phase::Accepted { service } if service.is_listening() => {
             came[service.moved() as usize] = byte;
-            let service = service.one_moved();
-            Ok(Phase::Accepted { service })
+            service.one_moved();
+            Ok(())
         }
-        Phase::Refused { .. } | Phase::SecondStatus { .. } => unreachable!(),
+        Phase::Opening { taken, .. } if *taken < 5 => {
+            let place = *taken;
+            *taken += 1;
+            if let Phase::Opening { bytes, .. } = phase {
+                bytes[place] = byte;
+            }
+            Ok(())
+        }
+        _ => Err(NotListening),
     }
 }
 
-/// The card's next character, and the phase after it.
+/// Hands out the card's next character, and takes the phase past it.
 #[inline(always)]
 fn hand_out<C: TpduCard, A: Allocator>(
     card: &mut C,
-    phase: Phase,
+    phase: &mut Phase,
     came: &[u8; 255],
     plans: &mut Plans<A>,
-) -> (Phase, u8)
-    requires fits { Fits (C.prepared card.old) phase }
+) -> u8
+    requires fits { Fits (C.prepared card.old) phase.old }
     requires room { length came.now ≡ 255 }
-    requires due { listens (stage_of phase came.now) ≡ false }
-    ensures fits { Fits (C.prepared card.new) result.0 }
+    requires due { listens (stage_of phase.old came.now) ≡ false }
+    ensures fits { Fits (C.prepared card.new) phase.new }
     ensures plan { plans.new
-        ≡ (if takes_plan (stage_of phase came.now) then advanced plans.old else plans.old) }
-    ensures cut { takes_plan (stage_of phase came.now) ≡ true → IsCut (plan_kept plans.new).cut }
-    ensures falls { (stage_of result.0 came.now ≡ Taking_header [])
-        ⊎ (still_to_go (stage_of result.0 came.now) (plan_kept plans.new)
-        < still_to_go (stage_of phase came.now) (plan_kept plans.new)) }
-    ensures counts { GoesByCount (stage_of phase came.now) (plan_kept plans.new) result.1
-        (stage_of result.0 came.now) }
+        ≡ (if takes_plan (stage_of phase.old came.now) then advanced plans.old else plans.old) }
+    ensures cut { takes_plan (stage_of phase.old came.now) ≡ true → IsCut (plan_kept plans.new).cut }
+    ensures falls { (stage_of phase.new came.now ≡ Taking_header [])
+        ⊎ (still_to_go (stage_of phase.new came.now) (plan_kept plans.new)
+        < still_to_go (stage_of phase.old came.now) (plan_kept plans.new)) }
+    ensures counts { GoesByCount (stage_of phase.old came.now) (plan_kept plans.new) result
+        (stage_of phase.new came.now) }
     ensures permitted { (header : Header) (p3 : ℕ)
-        → stage_of phase came.now ≡ Taking_header (begins_with header p3) →
-        IsPermitted C.MayReceive C.MaySend header.ins (stage_of result.0 came.now) }
+        → stage_of phase.old came.now ≡ Taking_header (begins_with header p3) →
+        IsPermitted C.MayReceive C.MaySend header.ins (stage_of phase.new came.now) }
     ensures advances { (cut : ℕ) (front : Front) →
-        (takes_plan (stage_of phase came.now) ≡ true → (cut ≡ (plan_kept plans.new).cut)
-        × SuitsFront (stage_of result.0 came.now) front) →
-        StandsAt C.Does (C.standing card.old) (C.prepared card.old) (stage_of phase came.now) cut
+        (takes_plan (stage_of phase.old came.now) ≡ true → (cut ≡ (plan_kept plans.new).cut)
+        × SuitsFront (stage_of phase.new came.now) front) →
+        StandsAt C.Does (C.standing card.old) (C.prepared card.old) (stage_of phase.old came.now) cut
         front →
-        Advances C.Does cut (plan_kept plans.new) (stage_of phase came.now) front result.1
+        Advances C.Does cut (plan_kept plans.new) (stage_of phase.old came.now) front result
         (C.standing card.old) (C.standing card.new) (C.prepared card.new)
-        (stage_of result.0 came.now) }
+        (stage_of phase.new came.now) }
 {
     match phase {
         Phase::Opening { bytes, .. } => {
-            let verdict = judged(card, bytes, plans.advance());
-            go_on(card, verdict, came, plans.steps())
+            *phase = judged(card, *bytes, plans.advance());
+            go_on(card, phase, came, plans.steps())
         }
         Phase::Refused { .. } | Phase::Accepted { .. } | Phase::SecondStatus { .. } => {
             go_on(card, phase, came, plans.steps())
@@ -397,27 +396,27 @@ fn judged<C: TpduCard>(card: &mut C, bytes: [u8; 5], cut: u16) -> Phase
     }
 }
 
-/// The card's next character after its verdict, and the phase after it.
+/// Hands out the card's next character after its verdict, and takes the phase past it.
 #[inline(always)]
-fn go_on<C: TpduCard>(card: &mut C, phase: Phase, came: &[u8; 255], steps: &[Step]) -> (Phase, u8)
-    requires judged { IsJudged phase }
-    requires fits { Fits (C.prepared card.old) phase }
+fn go_on<C: TpduCard>(card: &mut C, phase: &mut Phase, came: &[u8; 255], steps: &[Step]) -> u8
+    requires judged { IsJudged phase.old }
+    requires fits { Fits (C.prepared card.old) phase.old }
     requires room { length came.now ≡ 255 }
-    requires due { listens (stage_of phase came.now) ≡ false }
-    ensures fits { Fits (C.prepared card.new) result.0 }
+    requires due { listens (stage_of phase.old came.now) ≡ false }
+    ensures fits { Fits (C.prepared card.new) phase.new }
     ensures falls { (plan : Course) → plan.steps ≡ steps.now
-        → (stage_of result.0 came.now ≡ Taking_header [])
-        ⊎ (still_to_go (stage_of result.0 came.now) plan < still_to_go (stage_of phase came.now)
+        → (stage_of phase.new came.now ≡ Taking_header [])
+        ⊎ (still_to_go (stage_of phase.new came.now) plan < still_to_go (stage_of phase.old came.now)
         plan) }
     ensures counts { (plan : Course) → plan.steps ≡ steps.now →
-        GoesByCount (stage_of phase came.now) plan result.1 (stage_of result.0 came.now) }
-    ensures keeps { KeepsDirection (stage_of phase came.now) (stage_of result.0 came.now) }
+        GoesByCount (stage_of phase.old came.now) plan result (stage_of phase.new came.now) }
+    ensures keeps { KeepsDirection (stage_of phase.old came.now) (stage_of phase.new came.now) }
     ensures advances { (cut : ℕ) (plan : Course) (front : Front) → plan.steps ≡ steps.now →
-        StandsAt C.Does (C.standing card.old) (C.prepared card.old) (stage_of phase came.now) cut
+        StandsAt C.Does (C.standing card.old) (C.prepared card.old) (stage_of phase.old came.now) cut
         front →
-        Advances C.Does cut plan (stage_of phase came.now) front result.1
+        Advances C.Does cut plan (stage_of phase.old came.now) front result
         (C.standing card.old) (C.standing card.new) (C.prepared card.new)
-        (stage_of result.0 came.now) }
+        (stage_of phase.new came.now) }
 {
     match phase {
         Phase::Opening { .. } => unreachable!(),
@@ -426,16 +425,29 @@ fn go_on<C: TpduCard>(card: &mut C, phase: Phase, came: &[u8; 255], steps: &[Ste
             p3,
             status,
             done,
-        } => refuse(header, p3, status, done, steps),
-        Phase::Accepted { service } => serve(card, service, came, steps),
+        } => {
+            let (next, byte) = refuse(*header, *p3, *status, *done, steps);
+            *phase = next;
+            byte
+        }
+        Phase::Accepted { service } => {
+            let (byte, status) = serve(card, service, came, steps);
+            if let Some(status) = status {
+                *phase = Phase::SecondStatus { status };
+            }
+            byte
+        }
         Phase::SecondStatus { status } => {
+            let byte = status.sw2();
             card.answered();
-            (FRESH, status.sw2())
+            *phase = FRESH;
+            byte
         }
     }
 }
 
 /// The next character after a refused header, and the phase after it: a NULL, or SW1.
+#[inline(always)]
 fn refuse(header: Header, p3: u8, status: Status, done: usize, steps: &[Step]) -> (Phase, u8)
     ensures { Refuses header p3 status done steps.now result.0 result.1 }
 {

@@ -2,14 +2,13 @@
 ghost use Rattle.std.specs.Prelude.{◌≡◌, ℕ, ◌-◌, ◌<◌, ◌≤◌, List, [], length, take, drop, false, MatchOption, nat_lt, ◌&&◌};
 ghost use Rattle.t0_core.specs.declared.plan.Step.{Step};
 ghost use Rattle.t0_core.specs.CardContract.{IsDecided};
-ghost use Rattle.t0_core.specs.CardView.{Fits, IsInService, IsNext, IsReadyFor, Concludes, KeepsDirection, stage_of};
+ghost use Rattle.t0_core.specs.CardView.{Fits, IsInService, IsNext, IsReadyFor, Concludes, KeepsDirection, phase_after, stage_of};
 ghost use Rattle.t0_core.specs.CardSide.{comes_from_terminal, Advances, GoesByCount, IsServed, Serving, listens, one_moved, still_to_go, whole_of};
 ghost use Rattle.t0_core.specs.Dialogue as dialogue;
 ghost use Rattle.t0_core.specs.Dialogue.{Body};
 ghost use Rattle.t0_core.specs.Front.{In_body};
 ghost use Rattle.t0_core.specs.Plan.{Course, segments_of};
 
-use crate::card_end::Phase;
 use crate::direction::Direction;
 use crate::plan::{Step, next_step};
 use crate::procedure::{moves, procedure_byte};
@@ -55,93 +54,84 @@ impl Service {
 
     /// How many data characters have moved.
     #[inline(always)]
-    pub(crate) fn moved(self) -> u16
-        ensures { result ≡ self.moved }
+    pub(crate) fn moved(&self) -> u16
+        ensures { result ≡ self.now.moved }
     {
         self.moved
     }
 
     /// Whether the next character is a data character of the terminal.
     #[inline(always)]
-    pub(crate) fn is_listening(self) -> bool
-        ensures { result ≡ (comes_from_terminal self.direction && nat_lt self.moved self.until) }
+    pub(crate) fn is_listening(&self) -> bool
+        ensures { result ≡ (comes_from_terminal self.now.direction && nat_lt self.now.moved self.now.until) }
     {
         matches!(self.direction, Direction::ToCard) && self.moved < self.until
     }
 
     /// One data character more has moved.
     #[inline(always)]
-    pub(crate) fn one_moved(self) -> Service
-        requires { self.moved < 256 }
-        ensures { result ≡ one_moved self }
+    pub(crate) fn one_moved(&mut self)
+        requires { self.old.moved < 256 }
+        ensures { self.new ≡ one_moved self.old }
     {
-        Service {
-            moved: self.moved + 1,
-            ..self
-        }
+        self.moved += 1;
     }
 
-    /// The next procedure byte, when those so far have moved their data; `None` where no step is left
-    /// that moves something or is a NULL, and no data are left.
-    fn next(self, steps: &[Step]) -> Option<(u8, Service)>
-        requires { (self.moved ≡ self.until) × (self.until ≤ whole_of self) }
+    /// Hands out the next procedure byte, when those so far have moved their data; `None`, and nothing
+    /// has changed, where no step is left that moves something or is a NULL, and no data are left.
+    fn next(&mut self, steps: &[Step]) -> Option<u8>
+        requires { (self.old.moved ≡ self.old.until) × (self.old.until ≤ whole_of self.old) }
         ensures { MatchOption result
-            (segments_of (drop self.done steps.now) (whole_of self - self.until) ≡ [])
-            (λ next. (step : Step) × (next.0 ≡ dialogue.procedure_byte self.header.ins step)
-            × IsNext self steps.now step next.1) }
+            ((self.new ≡ self.old) × (segments_of (drop self.old.done steps.now) (whole_of self.old - self.old.until) ≡ []))
+            (λ byte. (step : Step) × (byte ≡ dialogue.procedure_byte self.old.header.ins step)
+            × IsNext self.old steps.now step self.new) }
     {
         let left = self.direction.foreseen(self.p3) - self.moved;
         let (step, done) = next_step(steps, self.done, left)?;
-        let until = self.moved + moves(step, left);
-        Some((
-            procedure_byte(self.header.ins, step),
-            Service {
-                until,
-                done,
-                ..self
-            },
-        ))
+        self.until = self.moved + moves(step, left);
+        self.done = done;
+        Some(procedure_byte(self.header.ins, step))
     }
 }
 
-/// The card's next character, and the phase after it: a data character, the next procedure byte, or
-/// SW1. `came` begins with the data characters that have come from the terminal.
+/// Hands out a data character, the next procedure byte, or SW1, and with that the status. `came` begins
+/// with the data characters that have come from the terminal.
 #[inline(always)]
 pub(crate) fn serve<C: TpduCard>(
     card: &mut C,
-    service: Service,
+    service: &mut Service,
     came: &[u8; 255],
     steps: &[Step],
-) -> (Phase, u8)
-    requires fits { IsInService (C.prepared card.old) service }
+) -> (u8, Option<Status>)
+    requires fits { IsInService (C.prepared card.old) service.old }
     requires room { length came.now ≡ 255 }
-    requires due { listens (Serving service (take service.moved came.now)) ≡ false }
-    ensures fits { Fits (C.prepared card.new) result.0 }
+    requires due { listens (Serving service.old (take service.old.moved came.now)) ≡ false }
+    ensures fits { Fits (C.prepared card.new) (phase_after service.new result.1) }
     ensures falls { (plan : Course) → plan.steps ≡ steps.now →
-        still_to_go (stage_of result.0 came.now) plan
-        < still_to_go (Serving service (take service.moved came.now)) plan }
+        still_to_go (stage_of (phase_after service.new result.1) came.now) plan
+        < still_to_go (Serving service.old (take service.old.moved came.now)) plan }
     ensures counts { (plan : Course) → plan.steps ≡ steps.now →
-        GoesByCount (Serving service (take service.moved came.now)) plan result.1
-        (stage_of result.0 came.now) }
-    ensures keeps { KeepsDirection (Serving service (take service.moved came.now))
-        (stage_of result.0 came.now) }
+        GoesByCount (Serving service.old (take service.old.moved came.now)) plan result.0
+        (stage_of (phase_after service.new result.1) came.now) }
+    ensures keeps { KeepsDirection (Serving service.old (take service.old.moved came.now))
+        (stage_of (phase_after service.new result.1) came.now) }
     ensures advances { (cut : ℕ) (plan : Course) (b : Body) → plan.steps ≡ steps.now →
-        IsServed (C.prepared card.old) service (take service.moved came.now) cut b →
-        Advances C.Does cut plan (Serving service (take service.moved came.now)) (In_body b)
-        result.1
+        IsServed (C.prepared card.old) service.old (take service.old.moved came.now) cut b →
+        Advances C.Does cut plan (Serving service.old (take service.old.moved came.now)) (In_body b)
+        result.0
         (C.standing card.old) (C.standing card.new) (C.prepared card.new)
-        (stage_of result.0 came.now) }
+        (stage_of (phase_after service.new result.1) came.now) }
 {
     if service.moved < service.until {
         let byte = card.byte(service.moved);
-        let service = service.one_moved();
-        return (Phase::Accepted { service }, byte);
+        service.one_moved();
+        return (byte, None);
     }
     match service.next(steps) {
-        Some((byte, service)) => (Phase::Accepted { service }, byte),
+        Some(byte) => (byte, None),
         None => {
             let status = conclude(card, service.direction, &came[..service.p3 as usize]);
-            (Phase::SecondStatus { status }, status.sw1())
+            (status.sw1(), Some(status))
         }
     }
 }

@@ -26,6 +26,7 @@ mod session_fault;
 #[cfg(test)]
 mod session_tests;
 pub mod talk_laws;
+pub mod tap_laws;
 #[cfg(test)]
 mod test_card;
 #[cfg(test)]

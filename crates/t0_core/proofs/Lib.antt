@@ -8,3 +8,4 @@ pub mod PlannedFront
 pub mod HistoryLaws
 pub mod TapLemmas
 pub mod TapLineLemmas
+mod TapVectors

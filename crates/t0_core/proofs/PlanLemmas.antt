@@ -69,7 +69,8 @@ moves_all (All ∷ steps) (suc n) =
     let none : suc n - suc n ≡ 0 = omega arith in rw none (omega (arith, moves_all steps 0))
 
 -- and where none are left, they are NULLs
-pub nulls_where_none_left : (steps : List Step) → AllByRecursion (λ s. s ≡ Null) (segments_of steps 0)
+pub nulls_where_none_left : (steps : List Step)
+    → AllByRecursion (λ s. s ≡ Null) (segments_of steps 0)
 nulls_where_none_left [] = tt
 nulls_where_none_left (Null ∷ steps) = (refl, nulls_where_none_left steps)
 nulls_where_none_left (One ∷ steps) = nulls_where_none_left steps

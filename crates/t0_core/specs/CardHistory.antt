@@ -50,8 +50,8 @@ pub record AreDone {State : Type 0} (Does : State → ℕ → Tpdu → State →
   pub runs : Runs Does first whole plans standing
 
 -- Where each TPDU has one cursor throughout, the characters since a reset are whole dialogues that
--- follow the plans taken, in turn, and a front of one more, with which a dialogue begins that follows
--- the plan taken last.
+-- follow the plans taken, in turn, and a front of one more, with which a dialogue begins that
+-- follows the plan taken last.
 pub record LeadsUnder {State : Type 0} (Does : State → ℕ → Tpdu → State → Type 0) (first : State)
     (came : List Character)
     (taken : List Course) (standing : State) (prepared : Prepared State) (stage : Stage) : Type 0

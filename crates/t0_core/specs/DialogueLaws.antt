@@ -1,9 +1,9 @@
 -- Dialogues one after another: one more of them, and what holds of them all.
-use Rattle.std.proofs.Common.{◌≡◌, ℕ, ◌+◌, List, [], ◌∷◌, ◌++◌, length, length-append, arith, refl, sym, subst, ◌∙◌, ap, true, false, Bool, append-nil, append_assoc, if◌then◌else◌}
+use Rattle.std.proofs.Common.{◌≡◌, ℕ, ◌+◌, List, [], ◌∷◌, ◌++◌, length, length-append, arith, refl, sym, subst, ◌∙◌, ap, append-nil, append_assoc}
 use Rattle.std.specs.List.{AllByRecursion, flat_map}
 use Rattle.t0_core.specs.declared.end.End.TheVariants.{Card}
 use Rattle.t0_core.specs.Dialogue.{Dialogue, body_characters, characters}
-use Rattle.t0_core.specs.Plan.{Course, Cursor, plain, advanced, plan_kept, Follows, FollowInTurn}
+use Rattle.t0_core.specs.Plan.{Course, Follows, FollowInTurn}
 use Rattle.t0_core.specs.Meaning.{Tpdu, tpdu_of, Runs}
 use Rattle.t0_core.specs.Front.{Front, In_header, In_body, After_first, front_characters, Ends}
 
@@ -14,19 +14,7 @@ flat_map_last f [] x = append-nil (f x)
 flat_map_last f (y ∷ xs) x = ap (λ bs. f y ++ bs) (flat_map_last f xs x)
     ∙ sym (append_assoc (f y) (flat_map f xs) (f x))
 
--- past the end of the list each TPDU has the plain plan
-pub plain_past : (old new : Cursor) (takes : Bool) → old.rest ≡ []
-    → new ≡ (if takes then advanced old else old) → takes ≡ true → plain ≡ plan_kept new
-plain_past old new true empty is yes_takes = rw (is, empty) refl
-plain_past old new false empty is yes_takes = absurd (cc)
-
--- one more dialogue is over
-pub follow_more : (whole : List Dialogue) (d : Dialogue) → FollowInTurn whole [] → Follows d plain
-    → FollowInTurn (whole ++ d ∷ []) []
-follow_more [] d follow follows = (follows, tt)
-follow_more (e ∷ whole) d follow follows = (follow.0, follow_more whole d follow.1 follows)
-
--- the same where each dialogue has its plan
+-- one more dialogue is over, under its own plan
 pub follow_each : (whole : List Dialogue) (plans : List Course) (d : Dialogue) (p : Course)
     → length plans ≡ length whole → FollowInTurn whole plans → Follows d p
     → FollowInTurn (whole ++ d ∷ []) (plans ++ p ∷ [])
@@ -60,15 +48,6 @@ pub all_more : {A : Type 0} (P : A → Type 0) (whole : List A) (d : A) → AllB
     → AllByRecursion P (whole ++ d ∷ [])
 all_more P [] d all this = (this, tt)
 all_more P (e ∷ whole) d all this = (all.0, all_more P whole d all.1 this)
-
-pub runs_more : {State : Type 0} (Does : State → ℕ → Tpdu → State → Type 0) (first old new : State)
-    (whole : List Dialogue) (d : Dialogue)
-    → Runs Does first whole [] old → Does old 256 (tpdu_of d) new
-    → Runs Does first (whole ++ d ∷ []) [] new
-runs_more {State = State} Does first old new [] d runs does =
-    let P : State → Type 0 = λ s. Does s 256 (tpdu_of d) new in (new, subst P runs does, refl)
-runs_more Does first old new (e ∷ whole) d runs does =
-    (runs.0, runs.1, runs_more Does runs.0 old new whole d runs.2 does)
 
 -- the characters of a dialogue that ends
 pub ends_with : (front : Front) (byte : ℕ) (d : Dialogue) → Ends front (Card, byte) d

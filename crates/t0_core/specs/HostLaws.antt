@@ -93,28 +93,6 @@ pub unbroken : (host : Hosting) (front : Front) → HostStandsAt host front → 
     → ⊥
 unbroken host front stands e = unbroken_at host host.stage front stands e
 
--- where it sends nothing its turn leaves it as it is
-data_stays : (direction : Direction) (content : List ℕ) (moved until : ℕ)
-    → ((byte : ℕ) → data_turn direction content moved ≡ Sends byte → ⊥)
-    → after_data_turn direction moved until ≡ Moving moved until
-data_stays ToCard content moved until silent = absurd (silent _ refl)
-data_stays FromCard content moved until silent = refl
-
-stays_at : (host : Hosting) (stage : HostStage)
-    → ((byte : ℕ) → turn_of (at_stage host stage) ≡ Sends byte → ⊥)
-    → after_turn (at_stage host stage) ≡ stage
-stays_at host (SendingHeader sent) silent = absurd (silent _ refl)
-stays_at host (Awaiting moved) silent = refl
-stays_at host (Moving moved until) silent =
-    data_stays host.direction host.content moved until silent
-stays_at host (AwaitingSecond sw1) silent = refl
-stays_at host (Ended status) silent = refl
-stays_at host Broken silent = refl
-
-pub stays : (host : Hosting) → ((byte : ℕ) → turn_of host ≡ Sends byte → ⊥)
-    → at_stage host (after_turn host) ≡ host
-stays host silent = ap (at_stage host) (stays_at host host.stage silent)
-
 -- past the end of a TPDU, and after a failure, no character is taken
 after_done_at : (host : Hosting) (stage : HostStage) (room : Room) (byte : ℕ) (status : StatusWord)
     → turn_of (at_stage host stage) ≡ Done status
@@ -147,7 +125,8 @@ pub after_failure : (host : Hosting) (room : Room) (byte : ℕ) → turn_of host
 after_failure host room byte e = after_failure_at host host.stage room byte e
 
 -- A data character is too long exactly where the room is full; it is one of the card's.
-no_procedure_is_too_long : (step : Option Step) (byte : ℕ) → procedure_fault step byte ≡ Some TooLong → ⊥
+no_procedure_is_too_long : (step : Option Step) (byte : ℕ)
+    → procedure_fault step byte ≡ Some TooLong → ⊥
 no_procedure_is_too_long (Some step) byte e = absurd (cc)
 no_procedure_is_too_long None byte e = by (is_first_status byte) e
   where
@@ -159,26 +138,44 @@ full_when : (v : Bool) → (if v then Some TooLong else None) ≡ Some TooLong �
 full_when true e = refl
 full_when false e = absurd (cc)
 
-moved_data : (direction : Direction) (room : Room) (b : Body) (byte : ℕ) → b.direction ≡ direction → data_fault direction room ≡ Some TooLong
-    → (length room.bytes ≡ room.limit) × (from_card b.direction (b.moved ++ byte ∷ []) ≡ from_card b.direction b.moved ++ byte ∷ [])
+moved_data : (direction : Direction) (room : Room) (b : Body) (byte : ℕ)
+    → b.direction ≡ direction → data_fault direction room ≡ Some TooLong
+    → (length room.bytes ≡ room.limit)
+    × (from_card b.direction (b.moved ++ byte ∷ []) ≡ from_card b.direction b.moved ++ byte ∷ [])
 moved_data ToCard room b byte is e = absurd (cc)
-moved_data FromCard room b byte is e = (eqb-true (length room.bytes) room.limit (full_when (length room.bytes == room.limit) e), rw is refl)
+moved_data FromCard room b byte is e = (
+  eqb-true (length room.bytes) room.limit (full_when (length room.bytes == room.limit) e),
+  rw is refl,
+)
 
-too_long_at : (host : Hosting) (stage : HostStage) (room : Room) (byte : ℕ) (front new : Front) → HostStandsAt (at_stage host stage) front
+too_long_at : (host : Hosting) (stage : HostStage) (room : Room) (byte : ℕ) (front new : Front)
+    → HostStandsAt (at_stage host stage) front
     → fault_of (at_stage host stage) room byte ≡ Some TooLong → GoesOn front (Card, byte) new
     → (length room.bytes ≡ room.limit) × (brought new ≡ brought front ++ byte ∷ [])
 too_long_at host (SendingHeader sent) room byte front new stands e goes = absurd (cc)
-too_long_at host (Awaiting moved) room byte front new stands e goes = absurd (no_procedure_is_too_long (step_of host.header.ins byte) byte e)
-too_long_at host (Moving moved until) room byte (In_body b) new stands e (inl (lt, sender, new_is)) =
-    let full = moved_data host.direction room b byte stands.0.2 e in (full.0, ap brought new_is ∙ full.1)
-too_long_at host (Moving moved until) room byte (In_body b) new stands e (inr (inl (between, sender, others))) = absurd (omega (arith, between, stands.1, stands.2, stands.3))
-too_long_at host (Moving moved until) room byte (In_body b) new stands e (inr (inr (between, sender, status, new_is))) = absurd (omega (arith, between, stands.1, stands.2, stands.3))
-too_long_at host (Moving moved until) room byte (In_header bytes) new stands e goes = absurd stands
-too_long_at host (Moving moved until) room byte (After_first b first) new stands e goes = absurd stands
+too_long_at host (Awaiting moved) room byte front new stands e goes =
+    absurd (no_procedure_is_too_long (step_of host.header.ins byte) byte e)
+too_long_at host (Moving moved until) room byte (In_body b) new stands e
+    (inl (lt, sender, new_is)) =
+    let full = moved_data host.direction room b byte stands.0.2 e in
+    (full.0, ap brought new_is ∙ full.1)
+too_long_at host (Moving moved until) room byte (In_body b) new stands e
+    (inr (inl (between, sender, others))) =
+    absurd (omega (arith, between, stands.1, stands.2, stands.3))
+too_long_at host (Moving moved until) room byte (In_body b) new stands e
+    (inr (inr (between, sender, status, new_is))) =
+    absurd (omega (arith, between, stands.1, stands.2, stands.3))
+too_long_at host (Moving moved until) room byte (In_header bytes) new stands e goes =
+    absurd stands
+too_long_at host (Moving moved until) room byte (After_first b first) new stands e goes =
+    absurd stands
 too_long_at host (AwaitingSecond sw1) room byte front new stands e goes = absurd (cc)
 too_long_at host (Ended status) room byte front new stands e goes = absurd stands
 too_long_at host Broken room byte front new stands e goes = absurd stands
 
-pub too_long : (host : Hosting) (room : Room) (byte : ℕ) (front new : Front) → HostStandsAt host front → fault_of host room byte ≡ Some TooLong → GoesOn front (Card, byte) new
+pub too_long : (host : Hosting) (room : Room) (byte : ℕ) (front new : Front)
+    → HostStandsAt host front → fault_of host room byte ≡ Some TooLong
+    → GoesOn front (Card, byte) new
     → (length room.bytes ≡ room.limit) × (brought new ≡ brought front ++ byte ∷ [])
-too_long host room byte front new stands e goes = too_long_at host host.stage room byte front new stands e goes
+too_long host room byte front new stands e goes =
+    too_long_at host host.stage room byte front new stands e goes

@@ -20,7 +20,6 @@ pub mod DialogueLaws
 pub mod WholeLaws
 pub mod WatchLaws
 pub mod CardLaws
-pub mod EndsLaws
 pub mod HostLaws
 pub mod OwnLaws
 pub mod FaultText

@@ -72,8 +72,8 @@ pub enum Phase {
 
 /// The card's end of the line, over a card (ISO/IEC 7816-3, 10.3).
 ///
-/// It takes the header of a TPDU, and then moves the data and hands out what the card answers, by the
-/// steps of the next of the plans that it is given.
+/// It takes the header of a TPDU, and then moves the data and hands out what the card answers, by
+/// the steps of the next of the plans that it is given.
 #[derive(Drop)]
 pub struct CardEnd<C: TpduCard> {
     card: C,
@@ -193,8 +193,8 @@ impl<C: TpduCard> CardEnd<C> {
     /// Hands out the card's next character, if it is the card's turn; else nothing changes.
     ///
     /// With the first character after a header the next of the plans is taken. The steps done are
-    /// counted, and the end goes on from that count in the plan that the cursor keeps. With the second
-    /// status character the card's state changes.
+    /// counted, and the end goes on from that count in the plan that the cursor keeps. With the
+    /// second status character the card's state changes.
     #[inline(always)]
     pub fn turn<A: Allocator>(&mut self, plans: &mut Plans<A>) -> Turn
         ensures whose { (result ≡ Turn.Listens) ↔ (listens self.old.stage ≡ true) }

@@ -36,7 +36,8 @@ pub fn a_front_begins_a_dialogue()
         × IsDialogue d × (characters d ≡ front_characters front ++ c ∷ rest) }
 {}
 
-/// The front at which a terminal's end stands begins a dialogue that this end opened, with its own data.
+/// The front at which a terminal's end stands begins a dialogue that this end opened, with its own
+/// data.
 pub fn a_front_begins_its_own_dialogue()
     ensures { (host : Hosting) (front : Front) → IsRequest host → HostStandsAt host front
         → IsFront front →
@@ -77,9 +78,9 @@ pub fn dialogues_opened_alike_have_one_cutting()
         (d ≡ e) × (after_d ≡ after_e) }
 {}
 
-/// Equal events have equal items, but for a direction that nobody saw since no data moved: there is one
-/// cutting of what has gone on at a card's end into whole dialogues, what resets cut off, and what is
-/// under way. It needs the characters to be bytes, and each dialogue to follow some plan.
+/// Equal events have equal items, but for a direction that nobody saw since no data moved: there is
+/// one cutting of what has gone on at a card's end into whole dialogues, what resets cut off, and
+/// what is under way. It needs the characters to be bytes, and each dialogue to follow some plan.
 pub fn events_have_one_cutting()
     ensures { (items others : List Item) (part other : List Character) →
         AllByRecursion IsItem items → AllByRecursion IsItem others → IsPart part → IsPart other →

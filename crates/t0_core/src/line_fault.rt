@@ -3,8 +3,8 @@ use std::fmt;
 
 /// Why a terminal does not take a character (this project's profile).
 ///
-/// After `BadProcedure`, `TooLong` and `Stalled` the end has failed for good. The other faults change
-/// nothing.
+/// After `BadProcedure`, `TooLong` and `Stalled` the end has failed for good. The other faults
+/// change nothing.
 #[derive(Clone, Copy, Debug, PartialEq, Eq)]
 pub enum LineFault {
     /// A procedure byte is due, and this byte is neither one nor a first status byte.
@@ -13,8 +13,8 @@ pub enum LineFault {
     AfterEnd,
     /// A data character of the card is due, and there is no room for it.
     TooLong,
-    /// A `GET RESPONSE` has brought no data, and the card announces more. It is a fault of an exchange
-    /// of several TPDUs alone: the end of one TPDU never gives it.
+    /// A `GET RESPONSE` has brought no data, and the card announces more. It is a fault of an
+    /// exchange of several TPDUs alone: the end of one TPDU never gives it.
     Stalled,
     /// The end has characters to send.
     NotListening,

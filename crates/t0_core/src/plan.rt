@@ -66,8 +66,8 @@ impl<A: Allocator> Plan<A> {
     }
 }
 
-/// A cursor over a list of plans, which keeps the plan last taken. Each TPDU takes the next one, and
-/// past the end of the list a plan without steps and with the cut 256.
+/// A cursor over a list of plans, which keeps the plan last taken. Each TPDU takes the next one,
+/// and past the end of the list a plan without steps and with the cut 256.
 #[derive(Drop)]
 pub struct Plans<'a, A: Allocator = Global> {
     rest: &'a [Plan<A>],
@@ -137,8 +137,8 @@ impl<'a, A: Allocator> Plans<'a, A> {
 }
 
 /// The next step that is carried out where so many data characters are left, and how many steps are
-/// then done: one that finds no data is passed over, and after the last step one "all" is added where
-/// data are left.
+/// then done: one that finds no data is passed over, and after the last step one "all" is added
+/// where data are left.
 pub(crate) fn next_step(steps: &[Step], done: usize, left: u16) -> Option<(Step, usize)>
     ensures { MatchOption result (segments_of (drop done steps.now) left ≡ [])
         (λ next. Starts next.0 left

@@ -1,7 +1,7 @@
 use crate::{End, Gather, HostEnd, HostTurn, LineFault, Recorder, Silent, Watch};
 use apdu_core::Header;
 use linked_list_allocator::LocalHeap;
-use std::alloc::Global;
+use std::alloc::{Allocator, Global};
 use std::process::Abort;
 use std::test::Fail;
 
@@ -196,28 +196,39 @@ fn unfilled_room_is_given_back(rt: HostRuntime) -> Result<(), Fail> {
     Ok(())
 }
 
+/// The recorder hears so many characters of the card, whose bytes count up.
+fn hears<A: Allocator>(recorder: &mut Recorder<A>, characters: usize) {
+    for place in 0..characters {
+        recorder.seen(End::Card, (place % 256) as u8);
+    }
+}
+
+/// What it has noted are the first of these characters.
+fn has_noted<A: Allocator>(rt: &impl Abort, recorder: &Recorder<A>) {
+    for (place, character) in recorder.heard().iter().enumerate() {
+        assert!(rt;
+            *character == (End::Card, (place % 256) as u8),
+            "at {place}"
+        );
+    }
+}
+
 /// Each growth of the recorder is refused in turn: it keeps the front that it had noted until then.
 #[test]
 fn recorder_without_memory_has_lost_the_rest(rt: HostRuntime) -> Result<(), Fail> {
-    let mut fronts: usize = 0;
-    let mut longest = 0;
-    for size in (0..=512).step_by(16) {
+    let mut longest = None;
+    for size in [
+        0, 16, 32, 64, 128, 256, 512, 1_024, 2_048, 4_096, 8_192, 16_384, 32_768,
+    ] {
         let heap = LocalHeap::new(rt.alloc(), size)?;
         let mut recorder = Recorder::new(&heap);
-        for byte in 0..100 {
-            recorder.seen(End::Card, byte);
-        }
-        let heard = recorder.heard();
-        assert_eq!(rt; recorder.lost(), heard.len() < 100);
-        for (byte, character) in (0..100u8).zip(heard) {
-            assert!(rt; character.0 == End::Card && character.1 == byte);
-        }
-        if heard.len() > longest {
-            fronts = fronts.saturating_add(1);
-            longest = heard.len();
-        }
+        hears(&mut recorder, 5_000);
+        has_noted(&rt, &recorder);
+        let noted = recorder.heard().len();
+        assert_eq!(rt; recorder.lost(), noted < 5_000);
+        assert!(rt; Some(noted) >= longest, "{noted} in {size} bytes");
+        longest = Some(noted);
     }
-    assert_eq!(rt; longest, 100);
-    assert!(rt; fronts > 3, "{fronts} fronts of different sizes");
+    assert_eq!(rt; longest, Some(5_000));
     Ok(())
 }

@@ -52,8 +52,8 @@ pub trait TpduCard {
         ensures invalid { ins_is_valid header.ins ≡ false → IsRefusal result }
         ensures permitted { Permits MayReceive MaySend header.ins result };
 
-    /// Takes the data to the card, as many bytes as P3 says, and answers the status. It may be called
-    /// once after the verdict `Receive`.
+    /// Takes the data to the card, as many bytes as P3 says, and answers the status. It may be
+    /// called once after the verdict `Receive`.
     fn data(&mut self, content: &[u8]) -> Status
         requires { IsReceiving (prepared self.old) (λ ask. length content.now ≡ ask.p3) }
         ensures stands { standing self.new ≡ standing self.old }
@@ -61,7 +61,8 @@ pub trait TpduCard {
             Decides Does (standing self.old) ask.cut (taken_with ask content.now result)
             (prepared self.new)) };
 
-    /// The byte to send at this place, below `count(P3)`. It may be called after the verdict `Send`.
+    /// The byte to send at this place, below `count(P3)`. It may be called after the verdict
+    /// `Send`.
     fn byte(&self, at: u16) -> u8
         requires { IsSending (prepared self.now) (λ ask bytes. at < length bytes) }
         ensures { IsSending (prepared self.now) (λ ask bytes. slice_get bytes at ≡ Some result) };

@@ -8,8 +8,8 @@ pub trait Watch {
     /// What it has heard, and whether it has lost a character.
     ghost hearing: { Self → Hearing };
 
-    /// The character went over the line. The watch notes it, or it loses it, and from then on it hears
-    /// nothing more.
+    /// The character went over the line. The watch notes it, or it loses it, and from then on it
+    /// hears nothing more.
     fn seen(&mut self, from: End, byte: u8)
         ensures { Hears (hearing self.old) ((from, byte) ∷ []) (hearing self.new) };
 }

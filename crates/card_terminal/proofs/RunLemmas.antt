@@ -539,6 +539,14 @@ pub told : (c : Command) (ex : ExchangeOf) (units : List UnitOf) (status : Statu
 told c ex units status given answer over done is = some_is given answer _ is
     (done status (over_turn c ex units status over))
 
+-- it is what its units gather
+pub gathered_is : (c : Command) (ex : ExchangeOf) (units : List UnitOf) (status : StatusWord)
+    (answer : Reply) → IsOver c ex units status
+    → answer ≡ record { status = status; content = ex.gather.bytes }
+    → Gathers c units answer.content answer.status
+gathered_is c ex units status answer over is =
+    subst (λ (r : Reply). Gathers c units r.content r.status) (sym is) over.gathers
+
 pub as_left : {State : Type 0} (Does : State → ℕ → Tpdu → State → Type 0) (first : State)
     (plans : List Course) (since : Hearing) (commands left others : List Command)
     (ex : ExchangeOf) (status : StatusWord) (standing : State) (cursor : Cursor) (now : Hearing)
@@ -565,6 +573,26 @@ abbrev pub Answered : {State : Type 0} → (State → ℕ → Tpdu → State →
 Answered Does first plans since standing cursor now commands answer =
     (exchanges : List (List UnitOf)) × AreExchangesOf commands exchanges answer
     × HaveGone Does first plans since (talk_dialogues exchanges) standing cursor now
+
+-- the exchange of one command
+abbrev pub Sent : {State : Type 0} → (State → ℕ → Tpdu → State → Type 0) → State
+    → List Course → Hearing → State → Cursor → Hearing → Command → Reply → Type 0
+Sent Does first plans since standing cursor now c answer =
+    (units : List UnitOf) × Gathers c units answer.content answer.status
+    × HaveGone Does first plans since (flat_map dialogues_of units) standing cursor now
+
+pub sent_alone : {State E : Type 0} (Does : State → ℕ → Tpdu → State → Type 0) (first : State)
+    (plans : List Course) (since : Hearing) (standing : State) (cursor : Cursor) (now : Hearing)
+    (c : Command) (r : Result Reply E)
+    → IfOk r (Sent Does first plans since standing cursor now c)
+    → IfOk r (Answered Does first plans since standing cursor now (c ∷ []))
+sent_alone Does first plans since standing cursor now c (Ok answer) (units, gathers, gone) = (
+  units ∷ [],
+  (gathers, inl refl),
+  gone_as Does first plans since (flat_map dialogues_of units) (talk_dialogues (units ∷ []))
+      standing cursor now (sym (one_more_exchange [] units)) gone,
+)
+sent_alone Does first plans since standing cursor now c (Err e) sent = tt
 
 -- or of an operation
 abbrev pub Talked : {State : Type 0} → (State → ℕ → Tpdu → State → Type 0) → State

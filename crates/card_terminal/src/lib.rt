@@ -15,6 +15,8 @@ mod exchange;
 mod exchange_tests;
 pub mod laws;
 #[cfg(test)]
+mod long_run_tests;
+#[cfg(test)]
 mod memory_tests;
 mod operation;
 #[cfg(test)]

@@ -14,8 +14,8 @@ use Rattle.object_card.specs.OneStep.{Operation, Reply}
 use Rattle.object_card.specs.CardMeaning.{Does}
 use Rattle.object_card.specs.declared.builder_fault.BuilderFault.{BuilderFault}
 use Rattle.object_card.specs.Builder.{TakesApplication, TakesObject, RefusesApplication, RefusesObject, with_application, with_last_entry, new_card}
-use Rattle.card_terminal.specs.Gathered.{UnitOf}
-use Rattle.card_terminal.specs.Talk.{AreExchangesOf, Talk, talk_dialogues}
+use Rattle.card_terminal.specs.Gathered.{UnitOf, Gathers, dialogues_of}
+use Rattle.card_terminal.specs.Talk.{Talk}
 use Rattle.card_trace.specs.declared.fixed_line.FixedLine.TheVariants as fixed
 use Rattle.card_trace.specs.declared.script.section.Section.{Section}
 use Rattle.card_trace.specs.declared.script.section.Section.TheVariants as section
@@ -93,14 +93,14 @@ pub record IsSent (card : CardState) (plans : List Course) (bytes text : List �
   pub command : Command
   pub is_command : IsCommand command
   pub bytes_are : bytes ≡ command_bytes command
-  pub exchanges : List (List UnitOf)
+  pub units : List UnitOf
   pub reply : Reply
-  pub are_exchanges : AreExchangesOf (command ∷ []) exchanges reply
+  pub gathers : Gathers command units reply.content reply.status
   pub after : CardState
-  pub are_dialogues : AllByRecursion IsDialogue (talk_dialogues exchanges)
-  pub follow : FollowInTurn (talk_dialogues exchanges) plans
-  pub runs : Runs Does card (talk_dialogues exchanges) plans after
-  pub text_is : text ≡ operation_text (flat_map characters (talk_dialogues exchanges)) reply
+  pub are_dialogues : AllByRecursion IsDialogue (flat_map dialogues_of units)
+  pub follow : FollowInTurn (flat_map dialogues_of units) plans
+  pub runs : Runs Does card (flat_map dialogues_of units) plans after
+  pub text_is : text ≡ operation_text (flat_map characters (flat_map dialogues_of units)) reply
   pub new_is : new ≡ Running after []
 
 -- a line is carried out, and prints this text

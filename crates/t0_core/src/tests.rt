@@ -174,6 +174,20 @@ fn recorder_notes_each_character(rt: HostRuntime) {
     Silent.seen(End::Card, 0x90);
 }
 
+/// Thousands of characters, where no memory is wanting.
+#[test]
+fn recorder_notes_thousands(rt: HostRuntime) {
+    let mut recorder = Recorder::new(rt.alloc());
+    for at in 0..6_000u16 {
+        recorder.seen(End::Card, at.to_be_bytes()[1]);
+    }
+    assert!(rt; !recorder.lost());
+    assert_eq!(rt; recorder.heard().len(), 6_000);
+    for (at, character) in (0..6_000u16).zip(recorder.heard()) {
+        assert!(rt; character.0 == End::Card && character.1 == at.to_be_bytes()[1]);
+    }
+}
+
 /// The one growth of `with_room` is refused, and then granted.
 #[test]
 fn no_room_for_a_gather(rt: HostRuntime) -> Result<(), Fail> {

@@ -10,7 +10,7 @@ ghost use Rattle.object_card.specs.Tables.{IsAid};
 ghost use Rattle.object_card.specs.State.{IsCardState, is_idle};
 ghost use Rattle.object_card.specs.OneStep.{Put, AnswersAll};
 ghost use Rattle.card_terminal.specs.declared.session_fault.SessionFault.TheVariants.{OutOfMemory};
-ghost use Rattle.card_terminal.specs.Gathered.{UnitOf, dialogues_of};
+ghost use Rattle.card_terminal.specs.Gathered.{UnitOf, Gathers, dialogues_of};
 ghost use Rattle.card_terminal.specs.Agreed.{IsAgreed};
 ghost use Rattle.card_terminal.specs.ExchangeSide.{UnderWay, IsOver};
 ghost use Rattle.card_terminal.specs.Talk.{AreExchangesOf, IsTalkOf, Talk, talk_dialogues};
@@ -98,10 +98,11 @@ impl<C: DataCard> Session<C> {
         requires { IsAgreed C.MayReceive C.MaySend command }
         ensures memory { OnErr result ((self.new ≡ self.old) × (plans.new ≡ plans.old)
             × (W.hearing watch.new ≡ W.hearing watch.old)) }
-        ensures exchange { IfOk result (λ answer. (exchanges : List (List UnitOf))
-            × AreExchangesOf (command.entry ∷ []) exchanges answer
+        ensures answers { IfOk result
+            (λ reply. (units : List UnitOf) × Gathers command.entry units reply.content reply.status
             × HaveGone C.Does (C.standing self.old) plans.old.rest (W.hearing watch.old)
-            (talk_dialogues exchanges) (C.standing self.new) plans.new (W.hearing watch.new)) }
+            (flat_map dialogues_of units)
+            (C.standing self.new) plans.new (W.hearing watch.new)) }
     {
         let _is_sound = self.is_idle();
         let mut exchange = Exchange::start(alloc, command)?;

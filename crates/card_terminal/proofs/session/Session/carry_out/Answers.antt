@@ -2,7 +2,7 @@ use Rattle.std.proofs.Common.{[], ◌∷◌, sym, ap, subst}
 use Rattle.object_card.specs.OneStep.{Select, Get}
 use Rattle.card_terminal.specs.Agreed.{IsAgreed}
 use Rattle.card_terminal.specs.Operations.{operation_of}
-use Rattle.card_terminal.proofs.RunLemmas.{agreed_select, keeps_to, talked, talked_as}
+use Rattle.card_terminal.proofs.RunLemmas.{agreed_select, keeps_to, sent_alone, talked, talked_as}
 use Rattle.card_terminal.proofs.session.Session.carry_out.Goals as goal
 
 pub send-requires : goal.send-requires
@@ -23,7 +23,8 @@ returns-in-Select-clause-talk g c =
     (talked card.Does _ c.args.plans.now.rest (hearing c.args.watch.now) _ _ _
     (c.select_command.result ∷ []) (Select c.in-Select.aid) c.send.result
     (c.select_command.ensures.aid, ap (λ x. x ∷ []) c.select_command.ensures.command)
-    c.send.ensures.exchange)
+    (sent_alone card.Does _ c.args.plans.now.rest (hearing c.args.watch.now) _ _ _
+    c.select_command.result c.send.result c.send.ensures.answers))
 
 pub returns-in-Get-clause-talk : goal.returns-in-Get-clause-talk
 returns-in-Get-clause-talk g c =
@@ -35,4 +36,5 @@ returns-in-Get-clause-talk g c =
     (talked card.Does _ c.args.plans.now.rest (hearing c.args.watch.now) _ _ _
     (c.get_command.result ∷ []) (Get c.in-Get.tag) c.send-in-Get.result
     (p1, p2, names, ap (λ x. x ∷ []) same)
-    c.send-in-Get.ensures.exchange)
+    (sent_alone card.Does _ c.args.plans.now.rest (hearing c.args.watch.now) _ _ _
+    c.get_command.result c.send-in-Get.result c.send-in-Get.ensures.answers))

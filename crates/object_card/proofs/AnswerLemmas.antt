@@ -15,7 +15,7 @@ use Rattle.object_card.specs.CardMeaning.{Does, refuses, after_refusal}
 use Rattle.object_card.specs.declared.response.Response.{Response}
 use Rattle.object_card.specs.CardFields.{ApplicationView, IsResponse, entries_at, left_of, pending_in, chain_pending, state_of}
 use Rattle.object_card.specs.CardView.{IsStanding}
-use Rattle.object_card.specs.StateLaws.{stays_sound, none_holds}
+use Rattle.object_card.specs.StateLaws.{none_holds}
 
 abbrev pub kept_after : Header → StatusWord → Option Response → Option Response
 kept_after h status response = if is_get_response h && (status.0 == 0x6C) then response else None
@@ -71,13 +71,6 @@ kept_fits P h status response next is fits = subst (λ r. IfSome r P) (sym is) (
     split true = fits
     split false = tt
 
-pub refused_standing : (held : List ApplicationView) (selected : Option ℕ) (chain : ChainState) (response next : Option Response) (ask : Ask) (status : StatusWord)
-    → IsStanding held selected chain response → refusal (state_of held selected chain response) ask.header ask.p3 ≡ Some status
-    → next ≡ kept_after ask.header status response → IsStanding held selected (idle chain.limit) next
-refused_standing held selected chain response next ask status standing is leaves =
-    leaves_standing held selected chain response next standing (kept_fits _ ask.header status response next leaves standing.response_is)
-    (stays_sound _ _ ask.cut (refused ask status) (refused_does held selected chain response next ask status is leaves) standing.sound)
-
 -- a header that is not refused
 known_sending : (n : ℕ) → ((n == 0xA4) || (n == 0xCA) || (n == 0xDA) || (n == 0xC0)) ≡ true → n ≢ 0xA4 → n ≢ 0xDA → ((n == 0xCA) || (n == 0xC0)) ≡ true
 known_sending n known a b = subst (λ v. v ≡ true) (rw (ne_eqb n 0xA4 a, ne_eqb n 0xDA b) (split (n == 0xCA))) known
@@ -123,12 +116,3 @@ valid_sending n is invalid = elim (sending_ins n is) [
   | inl e ↦ let no : true ≡ false = subst (λ x. ins_is_valid x ≡ false) e invalid in absurd (cc)
   | inr e ↦ let no : true ≡ false = subst (λ x. ins_is_valid x ≡ false) e invalid in absurd (cc)
 ]
-
-pub valid_receiving : (n : ℕ) → (n ≡ 0xA4) ⊎ (n ≡ 0xDA) → ins_is_valid n ≡ false → ⊥
-valid_receiving n is invalid = elim is [
-  | inl e ↦ let no : true ≡ false = subst (λ x. ins_is_valid x ≡ false) e invalid in absurd (cc)
-  | inr e ↦ let no : true ≡ false = subst (λ x. ins_is_valid x ≡ false) e invalid in absurd (cc)
-]
-
-pub receiving_ins : (n : ℕ) → (n ≡ 0xA4) ⊎ (n ≡ 0xDA) → ((n == 0xA4) || (n == 0xDA)) ≡ true
-receiving_ins n is = elim is [ inl e ↦ rw e refl | inr e ↦ rw e refl ]

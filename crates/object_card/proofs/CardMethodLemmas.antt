@@ -65,18 +65,6 @@ sends_standing held selected chain response (ready.Selects application next) put
 sends_standing held selected chain response (ready.Joins before) put P is sends = absurd sends
 sends_standing held selected chain response ready.Stores put P is sends = absurd sends
 
-pub sends_fits : (held : List ApplicationView) (selected : Option ℕ) (chain : ChainState) (response : Option Response) (now : Ready) (put : Option NewValue) (P : Ask → List ℕ → Type 0)
-    → IsCard held selected chain response now put → IsSending (prepared_of held selected chain response now put) P
-    → IsReady held selected chain response now None
-sends_fits held selected chain response ready.Nothing put P is sends = absurd sends
-sends_fits held selected chain response (ready.Receives h p3 cut) put P is sends = absurd sends
-sends_fits held selected chain response (ready.Sends h p3 cut sent) put P is sends =
-    (is.fits.0, is.fits.1, is.fits.2, is.fits.3, refl)
-sends_fits held selected chain response (ready.Leaves next) put P is sends = absurd sends
-sends_fits held selected chain response (ready.Selects application next) put P is sends = absurd sends
-sends_fits held selected chain response (ready.Joins before) put P is sends = absurd sends
-sends_fits held selected chain response ready.Stores put P is sends = absurd sends
-
 -- no value is put where bytes are sent
 pub sends_put : (held : List ApplicationView) (selected : Option ℕ) (chain : ChainState) (response : Option Response) (now : Ready) (put : Option NewValue) (P : Ask → List ℕ → Type 0)
     → IsCard held selected chain response now put → IsSending (prepared_of held selected chain response now put) P → put ≡ None

@@ -1,17 +1,17 @@
 -- The reasons to refuse a header, instruction by instruction.
 use Rattle.std.proofs.Common.{◌≡◌, ◌≢◌, ◌∙◌, ℕ, ◌+◌, ◌<◌, ◌≤◌, List, [], ◌∷◌, ◌++◌, length, Option, Some, None, Bool, true, false, refl, sym, ap, subst}
-use Rattle.std.specs.Prelude.{IsSome, unwrap_or, option_map, option_and_then, is_none, if◌then◌else◌, nat_lt, ◌==◌, ◌||◌, ◌&&◌, not, bit_and, IfSome}
+use Rattle.std.specs.Prelude.{IsSome, option_map, option_and_then, is_none, if◌then◌else◌, nat_lt, ◌==◌, ◌||◌, ◌&&◌, not, bit_and, IfSome}
 use Rattle.std.proofs.lemmas.Bool.{lt-ltb, le-ltb, ne_eqb, eqb-true, not-false, and_parts}
 use Rattle.std.proofs.Common.{◌≡◌, ◌≢◌, ◌∙◌, ℕ, ◌+◌, ◌<◌, ◌≤◌, List, [], ◌∷◌, ◌++◌, length, Option, Some, None, Bool, true, false, refl, ap, subst}
-use Rattle.std.specs.Prelude.{unwrap_or, option_map, option_and_then, is_none, if◌then◌else◌, nat_lt, ◌==◌, ◌||◌, ◌&&◌, not, bit_and, IfSome}
+use Rattle.std.specs.Prelude.{option_map, option_and_then, is_none, if◌then◌else◌, nat_lt, ◌==◌, ◌||◌, ◌&&◌, not, bit_and, IfSome}
 use Rattle.std.proofs.lemmas.Bool.{lt-ltb, le-ltb, ne_eqb, eqb-true, not-false}
 use Rattle.apdu_core.specs.declared.header.Header.{Header}
-use Rattle.apdu_core.specs.StatusWord.{StatusWord, count}
+use Rattle.apdu_core.specs.StatusWord.{StatusWord}
 use Rattle.apdu_core.specs.Chaining.{ChainState, as_last}
 use Rattle.tlv_core.specs.Spelling.{object_bytes}
 use Rattle.object_card.specs.declared.limits.TheConstants.{VALUE_LIMIT}
 use Rattle.object_card.specs.Tables.{Entry, value_under, is_locked}
-use Rattle.object_card.specs.State.{CardState, chained, waiting, selected_entries}
+use Rattle.object_card.specs.State.{CardState, chained, selected_entries}
 use Rattle.object_card.specs.Refusals.{Reason, first_of_them, holds, status_for, is_locked_among, named_tag, object_asked, parameters_fit, refusal, breaks_chain}
 use Rattle.object_card.specs.declared.response.Response.{Response}
 use Rattle.object_card.specs.CardFields.{chain_pending, pending_in}
@@ -24,17 +24,6 @@ pub put_reasons : (s : CardState) (h : Header) (p3 : ℕ) → h.ins ≡ 0xDA →
     else if is_locked_among (named_tag h.p1 h.p2) (selected_entries s) then Some (0x69, 0x82)
     else if nat_lt VALUE_LIMIT (length (chained s.pending) + p3) then Some (0x67, 0x00) else None)
 put_reasons s h p3 ins = rw ins refl
-
-pub get_reasons : (s : CardState) (h : Header) (p3 : ℕ) → h.ins ≡ 0xCA → first_of_them s h p3 of_state
-    ≡ (if is_none (selected_entries s) then Some (0x69, 0x85)
-    else if is_none (object_asked s h) then Some (0x6A, 0x88)
-    else if nat_lt (length (unwrap_or (object_asked s h) [])) (count p3) then Some (0x6C, length (unwrap_or (object_asked s h) [])) else None)
-get_reasons s h p3 ins = rw ins refl
-
-pub response_reasons : (s : CardState) (h : Header) (p3 : ℕ) → h.ins ≡ 0xC0 → first_of_them s h p3 of_state
-    ≡ (if length (waiting s.pending) == 0 then Some (0x69, 0x85)
-    else if nat_lt (length (waiting s.pending)) (count p3) then Some (0x6C, length (waiting s.pending)) else None)
-response_reasons s h p3 ins = rw ins refl
 
 -- the first of some reasons, and of some more
 abbrev pub first_else : Option StatusWord → Option StatusWord → Option StatusWord

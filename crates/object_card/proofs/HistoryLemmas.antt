@@ -1,5 +1,5 @@
 -- What a history shows, however it is cut, and what stands at an end after it.
-use Rattle.std.proofs.Common.{◌≡◌, ℕ, List, [], ◌∷◌, ◌++◌, ◌⊎◌, inl, inr, refl, sym, ap, ◌∙◌}
+use Rattle.std.proofs.Common.{◌≡◌, ℕ, List, [], ◌∷◌, ◌++◌, ◌⊎◌, inl, inr, refl, sym, ap, subst, ◌∙◌}
 use Rattle.std.specs.List.{AllByRecursion}
 use Rattle.apdu_core.specs.declared.header.Header.{Header}
 use Rattle.apdu_core.specs.StatusWord.{StatusWord}
@@ -9,6 +9,9 @@ use Rattle.t0_core.specs.declared.plan.Step.{Step}
 use Rattle.t0_core.specs.Dialogue.{Dialogue}
 use Rattle.t0_core.specs.Meaning.{Tpdu, tpdu_of}
 use Rattle.t0_core.specs.History.{Item, Whole, Cut_off, IsItem, RunsOver, AreAlike, AreAlikeInTurn}
+use Rattle.object_card.specs.State.{CardState, after_reset}
+use Rattle.object_card.specs.CardMeaning.{Does}
+use Rattle.object_card.specs.DataCard.{StandsFor}
 use Rattle.object_card.specs.ShownPuts.{shown_puts, shown_after, shown_by}
 
 -- a dialogue's TPDU, from its parts
@@ -64,3 +67,23 @@ run_is_of_items Does own_reset old new (Whole d ∷ items) (plan, mid, under, do
     ((plan, under), run_is_of_items Does own_reset mid new items rest)
 run_is_of_items Does own_reset old new (Cut_off part ∷ items) (is_part, rest) =
     (is_part, run_is_of_items Does own_reset (own_reset old) new items rest)
+
+module _ {State : Type 0} (OwnDoes : State → ℕ → Tpdu → State → Type 0) (own_reset : State → State)
+    (state_of : State → CardState) (stands : StandsFor OwnDoes own_reset state_of) where
+  -- A run of a card's own meaning is one of the definition.
+  pub runs_over_stand : (old new : State) (items : List Item)
+      → RunsOver OwnDoes own_reset old items new
+      → RunsOver Does after_reset (state_of old) items (state_of new)
+  runs_over_stand old new [] runs = ap state_of runs
+  runs_over_stand old new (Whole d ∷ items) (plan, mid, under, does, rest) = (
+    plan,
+    state_of mid,
+    under,
+    stands.steps old mid plan.cut (tpdu_of d) does,
+    runs_over_stand mid new items rest,
+  )
+  runs_over_stand old new (Cut_off part ∷ items) (is_part, rest) = (
+    is_part,
+    subst (λ s. RunsOver Does after_reset s items (state_of new)) (stands.resets old)
+        (runs_over_stand (own_reset old) new items rest),
+  )

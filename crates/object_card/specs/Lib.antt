@@ -23,4 +23,3 @@ pub mod AnswerLaws
 pub mod PutRunLaws
 pub mod ResponseLaws
 pub mod OperationLaws
-pub mod DataCardLaws

@@ -174,7 +174,7 @@ fetch_is_taken state p3 some few = split state.pending refl
         le-ltb (length (waiting state.pending)) (count p3) few in
         rw (is_there, fits, e) refl
 
-count_is_some : (b : ℕ) → 1 ≤ count b
+pub count_is_some : (b : ℕ) → 1 ≤ count b
 count_is_some b = split (b == 0) refl
   where
     split : (v : Bool) → (b == 0) ≡ v → 1 ≤ (if v then 256 else b)

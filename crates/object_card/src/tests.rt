@@ -30,7 +30,7 @@ fn tells_identifiers_apart(rt: HostRuntime) {
     assert!(rt; aid != longer);
 }
 
-/// The definitions take the limits as they stand, so no proof sees a wrong number.
+/// The definitions import the limits, so nearly all proofs would hold for other numbers too.
 #[test]
 fn limits_of_the_profile(rt: HostRuntime) {
     assert_eq!(rt; APPLICATION_LIMIT, 8);

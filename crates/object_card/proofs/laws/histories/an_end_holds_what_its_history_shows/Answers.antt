@@ -4,8 +4,7 @@ use Rattle.t0_core.specs.Front.{front_characters}
 use Rattle.t0_core.specs.History.{IsByteEvent}
 use Rattle.object_card.specs.State.{IsFresh}
 use Rattle.object_card.specs.ShownPuts.{shown_puts, with_puts}
-use Rattle.object_card.specs.DataCardLaws.{runs_over_stand}
-use Rattle.object_card.proofs.HistoryLemmas.{same_shown, run_is_of_items}
+use Rattle.object_card.proofs.HistoryLemmas.{same_shown, run_is_of_items, runs_over_stand}
 use Rattle.object_card.proofs.ShownPutLemmas.{tables_are_shown}
 use Rattle.object_card.proofs.laws.histories.an_end_holds_what_its_history_shows.Goals as goal
 

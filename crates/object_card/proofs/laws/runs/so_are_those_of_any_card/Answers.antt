@@ -1,4 +1,4 @@
-use Rattle.object_card.specs.DataCardLaws.{runs_over_stand}
+use Rattle.object_card.proofs.HistoryLemmas.{runs_over_stand}
 use Rattle.object_card.proofs.ShownPutLemmas.{tables_are_shown}
 use Rattle.object_card.proofs.laws.runs.so_are_those_of_any_card.Goals as goal
 

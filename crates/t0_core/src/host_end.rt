@@ -1,11 +1,10 @@
-ghost use Rattle.std.specs.Prelude.{◌≡◌, ℕ, ◌≤◌, ◌<◌, List, [], ◌∷◌, ◌++◌, true, OnOk, IfErr, MatchResult, IsOk, length, IfOk, is_ok, if◌then◌else◌, ◌⊎◌, ◌↔◌, Some};
+ghost use Rattle.std.specs.Prelude.{◌≡◌, ℕ, ◌≤◌, ◌<◌, List, [], ◌∷◌, ◌++◌, true, OnOk, OnErr, IfErr, MatchResult, IsOk, length, IfOk, is_ok, if◌then◌else◌, ◌⊎◌, ◌↔◌, Some};
 ghost use Rattle.std.specs.Result.{result_err};
 ghost use Rattle.apdu_core.specs.HeaderBytes.{ins_is_valid};
 ghost use Rattle.apdu_core.specs.StatusWord.{StatusWord, count};
 ghost use Rattle.t0_core.specs.declared.host_end.HostStage.TheVariants.{Awaiting};
 ghost use Rattle.t0_core.specs.declared.direction.Direction.TheVariants.{ToCard, FromCard};
-ghost use Rattle.t0_core.specs.Room.{Room};
-ghost use Rattle.t0_core.specs.HostSide.{IsInRange, IsStage, turn_of, data_turn, after_turn, moving, fault_of, data_fault, after_fault, after_taking, data_in, gathered};
+ghost use Rattle.t0_core.specs.HostSide.{IsInRange, IsStage, turn_of, data_turn, after_turn, moving, fault_of, data_fault, procedure_fault, step_of, after_fault, after_taking, data_in, gathered};
 ghost use Rattle.t0_core.specs.HostView.{host_of, direction_of, content_of};
 ghost use Rattle.t0_core.specs.HostMark.{HasOnly, with_data};
 
@@ -169,9 +168,7 @@ impl<'a> HostEnd<'a> {
             → result ≡ HostTurn.Sends byte →
             (new : Front) × GoesOn front (Terminal, byte) new × HostStandsAt self.new new }
     {
-        let turn = turn_at(self.request, self.stage);
-        self.stage = stage_after(self.request, self.stage);
-        turn
+        turn_at(&self.request, &mut self.stage)
     }
 
     /// The status, if the TPDU has ended.
@@ -222,11 +219,8 @@ impl<'a> HostEnd<'a> {
             → Ends front (Card, byte) d →
             (turn_of self.new ≡ HostTurn.Done d.status) × (gather.new ≡ gather.old) }
     {
-        match stage_with(self.request, self.stage, byte, gather) {
-            Ok(stage) => {
-                self.stage = stage;
-                Ok(())
-            }
+        match take_at(&self.request, &mut self.stage, byte, gather) {
+            Ok(()) => Ok(()),
             Err(fault) => {
                 self.stage = stage_after_fault(self.stage, fault);
                 Err(fault)
@@ -257,52 +251,35 @@ fn mark_of(request: Request, stage: HostStage) -> HostMark
     }
 }
 
-/// What an end at this stage does.
+/// What an end at this stage does. A character to send takes it to the next.
 #[inline(always)]
-fn turn_at(request: Request, stage: HostStage) -> HostTurn
-    requires { IsInRange (host_of request stage) }
-    ensures { result ≡ turn_of (host_of request.entry stage) }
+fn turn_at(request: &Request, stage: &mut HostStage) -> HostTurn
+    requires { IsInRange (host_of request.now stage.old) }
+    ensures turn { result ≡ turn_of (host_of request.now stage.old) }
+    ensures after { stage.new ≡ after_turn (host_of request.now stage.old) }
+    ensures range { IsInRange (host_of request.now stage.new) }
 {
     match stage {
-        HostStage::SendingHeader { sent } => {
-            HostTurn::Sends(opening_character(request.header, request.p3, sent))
-        }
-        HostStage::Moving { moved, .. } => turn_in_data(request.transfer, moved),
-        HostStage::Awaiting { .. } | HostStage::AwaitingSecond { .. } => HostTurn::Listens,
-        HostStage::Ended { status } => HostTurn::Done(status),
-        HostStage::Broken => HostTurn::Failed,
-    }
-}
-
-/// What an end does while data move.
-#[inline(always)]
-fn turn_in_data(transfer: Transfer, moved: u16) -> HostTurn
-    requires { direction_of transfer ≡ ToCard → moved < length (content_of transfer) }
-    ensures { result ≡ data_turn (direction_of transfer.entry) (content_of transfer.entry) moved }
-{
-    match transfer {
-        Transfer::Sending(content) => HostTurn::Sends(content[usize::from(moved)]),
-        Transfer::Asking => HostTurn::Listens,
-    }
-}
-
-/// The stage after that turn.
-#[inline(always)]
-fn stage_after(request: Request, stage: HostStage) -> HostStage
-    requires { IsInRange (host_of request stage) }
-    ensures value { result ≡ after_turn (host_of request.entry stage) }
-    ensures range { IsInRange (host_of request.entry result) }
-{
-    match stage {
-        HostStage::SendingHeader { sent } if sent < 4 => HostStage::SendingHeader {
-            sent: sent + 1,
-        },
-        HostStage::SendingHeader { .. } => HostStage::Awaiting { moved: 0 },
         HostStage::Moving { moved, until } => match request.transfer {
-            Transfer::Sending(_) => stage_moving(moved + 1, until),
-            Transfer::Asking => stage,
+            Transfer::Sending(content) => {
+                let (place, end) = (*moved, *until);
+                *stage = stage_moving(place + 1, end);
+                HostTurn::Sends(content[usize::from(place)])
+            }
+            Transfer::Asking => HostTurn::Listens,
         },
-        later => later,
+        HostStage::SendingHeader { sent } => {
+            let byte = opening_character(&request.header, request.p3, *sent);
+            if *sent < 4 {
+                *sent += 1;
+            } else {
+                *stage = HostStage::Awaiting { moved: 0 };
+            }
+            HostTurn::Sends(byte)
+        }
+        HostStage::Awaiting { .. } | HostStage::AwaitingSecond { .. } => HostTurn::Listens,
+        HostStage::Ended { status } => HostTurn::Done(*status),
+        HostStage::Broken => HostTurn::Failed,
     }
 }
 
@@ -319,46 +296,53 @@ fn stage_moving(moved: u16, until: u16) -> HostStage
     }
 }
 
-/// The stage after a character of the card, or the fault that it is.
+/// Takes a character of the card to the next stage, or says what fault it is: then nothing changes.
 #[inline(always)]
-fn stage_with<A: Allocator>(
-    request: Request,
-    stage: HostStage,
+fn take_at<A: Allocator>(
+    request: &Request,
+    stage: &mut HostStage,
     byte: u8,
     gather: &mut Gather<A>,
-) -> Result<HostStage, LineFault>
-    requires { IsInRange (host_of request stage) }
-    ensures fault { result_err result ≡ fault_of (host_of request.entry stage) gather.old byte }
-    ensures next { IfOk result (λ next. (next ≡ after_taking (host_of request.entry stage) byte)
-        × IsInRange (host_of request.entry next)) }
+) -> Result<(), LineFault>
+    requires { IsInRange (host_of request.now stage.old) }
+    ensures fault { result_err result ≡ fault_of (host_of request.now stage.old) gather.old byte }
+    ensures next { OnOk result ((stage.new ≡ after_taking (host_of request.now stage.old) byte)
+        × IsInRange (host_of request.now stage.new)) }
     ensures gathered { gather.new
-        ≡ (if is_ok result then gathered gather.old (data_in stage byte) else gather.old) }
+        ≡ (if is_ok result then gathered gather.old (data_in stage.old byte) else gather.old) }
+    ensures refused { OnErr result (stage.new ≡ stage.old) }
 {
     match stage {
-        HostStage::SendingHeader { .. } => Err(LineFault::NotListening),
-        HostStage::Awaiting { moved } => after_procedure_byte(request, moved, byte),
         HostStage::Moving { moved, until } => {
-            take_data(request.transfer, byte, gather)?;
-            Ok(stage_moving(moved + 1, until))
+            let (place, end) = (*moved, *until);
+            take_data(&request.transfer, byte, gather)?;
+            *stage = stage_moving(place + 1, end);
         }
-        HostStage::AwaitingSecond { sw1 } => Ok(HostStage::Ended {
-            status: Status::new(sw1, byte).unwrap(),
-        }),
-        HostStage::Ended { .. } | HostStage::Broken => Err(LineFault::AfterEnd),
+        HostStage::SendingHeader { .. } => return Err(LineFault::NotListening),
+        HostStage::Awaiting { moved } => {
+            *stage = after_procedure_byte(request, *moved, byte)?;
+        }
+        HostStage::AwaitingSecond { sw1 } => {
+            *stage = HostStage::Ended {
+                status: Status::new(*sw1, byte).unwrap(),
+            };
+        }
+        HostStage::Ended { .. } | HostStage::Broken => return Err(LineFault::AfterEnd),
     }
+    Ok(())
 }
 
 /// The stage after a character where a procedure byte is due.
-fn after_procedure_byte(request: Request, moved: u16, byte: u8) -> Result<HostStage, LineFault>
-    requires { IsInRange (host_of request (Awaiting moved)) }
-    ensures fault { (room : Room)
-        → result_err result ≡ fault_of (host_of request.entry (Awaiting moved)) room byte }
+fn after_procedure_byte(request: &Request, moved: u16, byte: u8) -> Result<HostStage, LineFault>
+    requires { IsInRange (host_of request.now (Awaiting moved)) }
+    ensures fault { result_err result
+        ≡ procedure_fault (step_of request.now.header.ins byte) byte }
     ensures next { IfOk result
-        (λ next. (next ≡ after_taking (host_of request.entry (Awaiting moved)) byte)
-        × IsInRange (host_of request.entry next)) }
+        (λ next. (next ≡ after_taking (host_of request.now (Awaiting moved)) byte)
+        × IsInRange (host_of request.now next)) }
 {
     if let Some(step) = step_of(request.header.ins, byte) {
-        let remain = foreseen(request.transfer, request.p3) - moved;
+        let remain = foreseen(&request.transfer, request.p3) - moved;
         return Ok(stage_moving(moved, moved + moves(step, remain)));
     }
     match byte {
@@ -370,11 +354,11 @@ fn after_procedure_byte(request: Request, moved: u16, byte: u8) -> Result<HostSt
 /// Takes a data character of the card, where data move.
 #[inline(always)]
 fn take_data<A: Allocator>(
-    transfer: Transfer,
+    transfer: &Transfer,
     byte: u8,
     gather: &mut Gather<A>,
 ) -> Result<(), LineFault>
-    ensures fault { result_err result ≡ data_fault (direction_of transfer.entry) gather.old }
+    ensures fault { result_err result ≡ data_fault (direction_of transfer.now) gather.old }
     ensures gathered { gather.new
         ≡ (if is_ok result then gathered gather.old (byte ∷ []) else gather.old) }
 {

@@ -26,9 +26,9 @@ pub struct Request<'a> {
 
 /// One of the five characters that open a TPDU: CLA INS P1 P2 P3.
 #[inline(always)]
-pub(crate) fn opening_character(header: Header, p3: u8, at: usize) -> u8
+pub(crate) fn opening_character(header: &Header, p3: u8, at: usize) -> u8
     requires { at < 5 }
-    ensures { result ≡ slice_index (header_bytes header ++ p3 ∷ []) at }
+    ensures { result ≡ slice_index (header_bytes header.now ++ p3 ∷ []) at }
 {
     match at {
         0 => header.cla,
@@ -40,8 +40,8 @@ pub(crate) fn opening_character(header: Header, p3: u8, at: usize) -> u8
 }
 
 /// How many data characters P3 foresees in a transfer.
-pub(crate) fn foreseen(transfer: Transfer, p3: u8) -> u16
-    ensures { result ≡ foreseen (direction_of transfer.entry) p3 }
+pub(crate) fn foreseen(transfer: &Transfer, p3: u8) -> u16
+    ensures { result ≡ foreseen (direction_of transfer.now) p3 }
 {
     let direction = match transfer {
         Transfer::Sending(_) => Direction::ToCard,

@@ -6,7 +6,7 @@ use Rattle.t0_core.proofs.host_end.HostEnd.next.Goals as goal
 pub returns-clause-goes_on : goal.returns-clause-goes_on
 returns-clause-goes_on c = λ front byte stands sends.
     let request = c.self.inside.request in
-    rw c.stage_after-self-inside.ensures.value
+    rw c.turn_at.ensures.after
     (host_sends request.header request.p3 (direction_of request.transfer)
     (content_of request.transfer) c.self.inside.stage front byte c.self.invariant
-    (seen_at _ _ front c.self.view_is stands) (sym c.turn_at-turn.ensures ∙ sends))
+    (seen_at _ _ front c.self.view_is stands) (sym c.turn_at.ensures.turn ∙ sends))

@@ -32,7 +32,7 @@ returns-in-Ok-clause-came g c = λ front stands.
 pub returns-in-Ok-clause-gathers : goal.returns-in-Ok-clause-gathers
 returns-in-Ok-clause-gathers g c = λ front new before stands goes had.
     let request = c.self.inside.request in
-    gathers before c.args.gather.now c.stage_with.new.gather c.self.inside.stage c.args.byte _ _
+    gathers before c.args.gather.now c.take_at.new.gather c.self.inside.stage c.args.byte _ _
     c.in-Ok.ensures.gathered had
     (brings request.header request.p3 (direction_of request.transfer) (content_of request.transfer)
     c.self.inside.stage c.args.byte front new (seen_at _ _ front c.self.view_is stands) goes)

@@ -1,4 +1,5 @@
 pub mod UnitLemmas
+pub mod OwnedLemmas
 pub mod ExchangeLemmas
 pub mod EndLemmas
 pub mod SessionLemmas

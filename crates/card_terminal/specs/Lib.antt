@@ -4,6 +4,8 @@ pub mod ExchangeSide
 pub mod Agreed
 pub mod Conversing
 pub mod ExchangeHistory
+pub mod ExchangeSteps
+pub mod OwnedExchange
 pub mod Talk
 pub mod AnswerList
 pub mod Operations

@@ -5,12 +5,17 @@ ghost use Rattle.apdu_core.specs.HeaderBytes.{ins_is_valid};
 ghost use Rattle.apdu_core.specs.CommandBytes.{HasSizes};
 ghost use Rattle.t0_core.specs.Front.{fresh};
 ghost use Rattle.t0_core.specs.HostSide.{HostStandsAt, IsRequest, turn_of};
+ghost use Rattle.t0_core.specs.HostMark.{HasOnly};
 ghost use Rattle.card_terminal.specs.ExchangeSide.{HostOpensBy, asks_card};
+
+mod kept;
+mod owned;
 
 use crate::answer::Answer;
 use crate::attempt::{Attempt, Next};
 use crate::wanted::Wanted;
 use apdu_core::{Command, Header};
+pub use owned::OwnedExchange;
 use std::alloc::{AllocError, Allocator, Global};
 use std::marker::Model;
 use t0_core::{Gather, HostEnd, HostTurn, LineFault};
@@ -70,6 +75,7 @@ impl<'a, A: Allocator> Exchange<'a, A> {
     pub fn start(alloc: A, command: Command<'a>) -> Result<Exchange<'a, A>, AllocError>
         ensures begins { IfOk result (λ ex. UnderWay command.entry ex [] None fresh) }
         ensures led { IfOk result (λ ex. Leads command.entry [] ex) }
+        ensures data { IfOk result (λ ex. HasOnly command.entry.content ex.host) }
     {
         let gather = Gather::with_room(alloc, RESPONSE_LIMIT)?;
         Ok(Exchange::begin(gather, command))
@@ -88,7 +94,8 @@ impl<'a, A: Allocator> Exchange<'a, A> {
     /// Begins the exchange of a command in an empty room.
     fn begin(gather: Gather<A>, command: Command<'a>) -> Exchange<'a, A>
         requires { gather ≡ record { bytes = []; limit = 16384 } }
-        ensures { UnderWay command.entry result [] None fresh }
+        ensures begins { UnderWay command.entry result [] None fresh }
+        ensures data { HasOnly command.entry.content result.host }
     {
         let header = command.header();
         let le = command.le();
@@ -115,6 +122,8 @@ impl<'a, A: Allocator> Exchange<'a, A> {
         ensures turn { result ≡ exchange_turn self.old }
         ensures stays { ((byte : ℕ) → result ≡ HostTurn.Sends byte → ⊥) → self.new ≡ self.old }
         ensures bounds { IsBounded self.new }
+        ensures data { (content : List ℕ) → HasOnly content self.old.host
+            → HasOnly content self.new.host }
 
         // With it the dialogue under way goes on.
         ensures goes_on { (c : spec.Command) (units : List UnitOf) (first : Option Dialogue)
@@ -145,6 +154,8 @@ impl<'a, A: Allocator> Exchange<'a, A> {
             ⊎ ((fault ≡ LineFault.Stalled)
             × (fault_of self.old.host self.old.gather byte ≡ None))) }
         ensures bounds { IsBounded self.new }
+        ensures data { (content : List ℕ) → HasOnly content self.old.host
+            → HasOnly content self.new.host }
         ensures after_end { IsAtEnd self.old → IsErrOf result LineFault.AfterEnd }
         ensures unchanged { IfErr result (λ fault. is_final fault ≡ false → self.new ≡ self.old) }
         ensures failed { IfErr result
@@ -237,6 +248,7 @@ fn first_end<'a>(header: Header, content: &'a [u8], le: Option<u16>) -> (HostEnd
     ensures stands { HostStandsAt result.0 fresh }
     ensures keeps { IsRequest result.0 }
     ensures asks { result.1 ≡ asks_card result.0.direction }
+    ensures data { HasOnly content.now result.0 }
 {
     match le {
         Some(count) if content.is_empty() => (HostEnd::asking(header, count), true),

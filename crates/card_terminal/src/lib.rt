@@ -38,7 +38,7 @@ mod wanted;
 pub use answer::Answer;
 pub use answers::Answers;
 pub use bytes::Bytes;
-pub use exchange::{Exchange, RESPONSE_LIMIT};
+pub use exchange::{Exchange, OwnedExchange, RESPONSE_LIMIT};
 pub use operation::{Op, PUT_LIMIT};
 pub use session::Session;
 pub use session_fault::SessionFault;

@@ -32,6 +32,16 @@ impl<A: Allocator> Gather<A> {
         Ok(Gather { bytes, limit })
     }
 
+    /// A buffer with no room, which takes no memory.
+    pub fn without_room(alloc: A) -> Gather<A>
+        ensures { result ≡ record { bytes = []; limit = 0 } }
+    {
+        Gather {
+            bytes: Vec::new(alloc),
+            limit: 0,
+        }
+    }
+
     /// The bytes gathered.
     pub fn bytes(&self) -> &[u8]
         ensures value { result.now ≡ self.now.bytes }

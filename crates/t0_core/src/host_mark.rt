@@ -4,7 +4,7 @@ use apdu_core::Header;
 
 /// How far a terminal's end has come in the TPDU that it opened, without the data that it sends: what
 /// is kept of an end where nothing can borrow its data.
-#[derive(Drop)]
+#[derive(Clone, Copy, Debug)]
 pub struct HostMark {
     pub(crate) header: Header,
     pub(crate) p3: u8,

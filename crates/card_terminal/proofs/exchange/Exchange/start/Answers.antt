@@ -4,4 +4,4 @@ use Rattle.card_terminal.specs.ExchangeHistory.{to_front}
 use Rattle.card_terminal.proofs.exchange.Exchange.start.Goals as goal
 
 pub returns-clause-led : goal.returns-clause-led
-returns-clause-led g c = to_front [] None fresh c.begin.ensures refl
+returns-clause-led g c = to_front [] None fresh c.begin.ensures.begins refl

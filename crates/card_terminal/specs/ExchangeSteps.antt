@@ -1,0 +1,70 @@
+-- What each call does to an exchange, said once for the exchange that holds its command's data and
+-- for what is built on it.
+use Rattle.std.specs.Prelude.{◌≡◌, ℕ, List, [], ◌∷◌, ◌++◌, length, Option, Some, None, true, false, ◌⊎◌, Result, MatchResult, OnOk, OnErr, IfErr, IsErrOf, IfSome}
+use Rattle.apdu_core.specs.StatusWord.{StatusWord}
+use Rattle.apdu_core.specs.CommandBytes.{Command}
+use Rattle.t0_core.specs.declared.end.End.TheVariants.{Terminal, Card}
+use Rattle.t0_core.specs.declared.host_end.HostTurn.{HostTurn}
+use Rattle.t0_core.specs.declared.host_end.HostTurn.TheVariants.{Sends, Done, Failed}
+use Rattle.t0_core.specs.declared.line_fault.LineFault.{LineFault}
+use Rattle.t0_core.specs.declared.line_fault.LineFault.TheVariants.{AfterEnd, TooLong, Stalled}
+use Rattle.t0_core.specs.Character.{Character}
+use Rattle.t0_core.specs.Dialogue.{Dialogue}
+use Rattle.t0_core.specs.Front.{Front, GoesOn, Ends, brought}
+use Rattle.t0_core.specs.HostSide.{fault_of}
+use Rattle.card_terminal.specs.Gathered.{UnitOf, Gathers}
+use Rattle.card_terminal.specs.ExchangeSide.{ExchangeOf, UnderWay, IsBounded, IsAtEnd, Continues, Stall, exchange_turn, ended_with, is_final, response_limit}
+use Rattle.card_terminal.specs.ExchangeHistory.{Leads, unit_characters}
+
+-- A turn of the terminal: what it does now. With a character that it sends the dialogue under way
+-- goes on, and whatever led to the exchange leads to it with this character; nothing else changes
+-- anything.
+pub record IsTurn (old : ExchangeOf) (turn : HostTurn) (new : ExchangeOf) : Type 0 where
+  pub turn_is : turn ≡ exchange_turn old
+  pub stays : ((byte : ℕ) → turn ≡ Sends byte → ⊥) → new ≡ old
+  pub bounds : IsBounded new
+  pub goes_on : (c : Command) (units : List UnitOf) (first : Option Dialogue) (front : Front)
+      (byte : ℕ) → UnderWay c old units first front → turn ≡ Sends byte
+      → (next : Front) × GoesOn front (Terminal, byte) next × UnderWay c new units first next
+  pub led : (c : Command) (came : List Character) (byte : ℕ) → Leads c came old
+      → turn ≡ Sends byte → Leads c (came ++ (Terminal, byte) ∷ []) new
+
+-- A character of the card is taken, or is a fault. A fault that is not final changes nothing; after
+-- a final one the exchange has failed.
+pub record IsTaking (old : ExchangeOf) (byte : ℕ) (result : Result (Unit {0}) LineFault)
+    (new : ExchangeOf) : Type 0 where
+  pub fault : MatchResult result (λ _. fault_of old.host old.gather byte ≡ None)
+      (λ fault. (fault_of old.host old.gather byte ≡ Some fault)
+      ⊎ ((fault ≡ Stalled) × (fault_of old.host old.gather byte ≡ None)))
+  pub bounds : IsBounded new
+  pub after_end : IsAtEnd old → IsErrOf result AfterEnd
+  pub unchanged : IfErr result (λ fault. is_final fault ≡ false → new ≡ old)
+  pub failed : IfErr result (λ fault. is_final fault ≡ true → exchange_turn new ≡ Failed)
+  pub goes_on : (c : Command) (units : List UnitOf) (first : Option Dialogue) (front next : Front)
+      → UnderWay c old units first front → GoesOn front (Card, byte) next
+      → MatchResult result (λ _. UnderWay c new units first next) (λ fault. fault ≡ TooLong)
+  pub full : (c : Command) (units : List UnitOf) (first : Option Dialogue) (front next : Front)
+      → UnderWay c old units first front → GoesOn front (Card, byte) next
+      → OnErr result ((length old.gather.bytes ≡ response_limit)
+      × (brought next ≡ brought front ++ byte ∷ []))
+  pub came : (c : Command) (units : List UnitOf) (first : Option Dialogue) (front : Front)
+      → UnderWay c old units first front
+      → OnOk result (((next : Front) × GoesOn front (Card, byte) next)
+      ⊎ ((d : Dialogue) × Ends front (Card, byte) d))
+  pub ends : (c : Command) (units : List UnitOf) (first : Option Dialogue) (front : Front)
+      (d : Dialogue) → UnderWay c old units first front → Ends front (Card, byte) d
+      → MatchResult result (λ _. Continues c new units first d)
+      (λ fault. (fault ≡ Stalled) × Stall c (units ++ ended_with first d ∷ []))
+  pub led : (c : Command) (came : List Character) → Leads c came old
+      → MatchResult result (λ _. Leads c (came ++ (Card, byte) ∷ []) new)
+      (λ fault. is_final fault ≡ true → Leads c (came ++ (Card, byte) ∷ []) new)
+
+-- The status and the data of an exchange that is over; none of every other one. They are what the
+-- characters that led to it say.
+pub record IsAnswer (ex : ExchangeOf) (answer : Option (StatusWord × List ℕ)) : Type 0 where
+  pub done : (status : StatusWord) → exchange_turn ex ≡ Done status
+      → answer ≡ Some (status, ex.gather.bytes)
+  pub undone : ((status : StatusWord) → exchange_turn ex ≡ Done status → ⊥) → answer ≡ None
+  pub led : (c : Command) (came : List Character) → Leads c came ex
+      → IfSome answer (λ a. (units : List UnitOf) × Gathers c units a.1 a.0
+      × (came ≡ unit_characters units))

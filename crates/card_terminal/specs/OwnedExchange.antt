@@ -1,0 +1,21 @@
+-- An exchange as what is kept of it, with the room and the data of its command.
+use Rattle.std.specs.Prelude.{ℕ, List}
+use Rattle.t0_core.specs.HostMark.{with_data}
+use Rattle.t0_core.specs.Room.{Room}
+use Rattle.t0_core.specs.HostSide.{IsInRange}
+use Rattle.card_terminal.specs.declared.exchange.kept.Kept.{Kept}
+use Rattle.card_terminal.specs.ExchangeSide.{ExchangeOf, IsKept}
+
+abbrev pub exchange_of : Kept → Room → List ℕ → ExchangeOf
+exchange_of kept gather content =
+    record {
+      host = with_data kept.mark content;
+      gather = gather;
+      attempt = kept.attempt;
+      wanted = kept.wanted;
+      stalled = kept.stalled;
+    }
+
+-- an exchange that can go on
+abbrev pub IsSound : ExchangeOf → Type 0
+IsSound ex = IsInRange ex.host × IsKept ex

@@ -1,4 +1,5 @@
 pub mod Codes
 pub mod Copying
+pub mod ExchangeCalls
 pub mod ExchangeHandle
 pub mod HeldExchangeOwned

@@ -1,5 +1,5 @@
 //! What a handle of an exchange is asked.
-ghost use Rattle.std.specs.Prelude.{◌≡◌, Some, None};
+ghost use Rattle.std.specs.Prelude.{◌≡◌, Some, None, is_some};
 ghost use Rattle.std.specs.Option.{option_map};
 ghost use Rattle.card_c.specs.ExchangeHandle.{exchange_in};
 
@@ -10,6 +10,13 @@ use std::alloc::Global;
 use std::mem;
 
 impl ExchangeHandle {
+    /// Whether it holds an exchange.
+    pub fn is_live(&self) -> bool
+        ensures { result ≡ is_some (exchange_in self.now) }
+    {
+        self.live
+    }
+
     /// Takes out what it holds, and it holds nothing then.
     pub fn take_out(&mut self, alloc: Global) -> Option<Box<TerminalSide>>
         ensures empty { exchange_in self.new ≡ None }

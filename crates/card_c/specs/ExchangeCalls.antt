@@ -1,0 +1,61 @@
+-- What the exports on an exchange answer.
+use Rattle.std.specs.Prelude.{◌≡◌, ◌⊎◌, ℕ, ℤ, ◌+◌, ◌*◌, ◌<◌, ◌≤◌, List, [], length, Option, Some, None, IsSome, Result, Ok, Err}
+use Rattle.apdu_core.specs.declared.command.ApduFault.{ApduFault}
+use Rattle.apdu_core.specs.declared.command.ApduFault.TheVariants.{TooShort, BadLength, InvalidIns}
+use Rattle.apdu_core.specs.StatusWord.{StatusWord}
+use Rattle.apdu_core.specs.CommandBytes.{Command, IsCommand, HasForm, HasInvalidIns, command_bytes}
+use Rattle.t0_core.specs.declared.host_end.HostTurn.{HostTurn}
+use Rattle.t0_core.specs.declared.host_end.HostTurn.TheVariants.{Sends, Listens, Done, Failed}
+use Rattle.t0_core.specs.declared.line_fault.LineFault.{LineFault}
+use Rattle.t0_core.specs.Front.{fresh}
+use Rattle.card_terminal.specs.ExchangeSide.{ExchangeOf, UnderWay}
+use Rattle.card_terminal.specs.ExchangeHistory.{Leads}
+use Rattle.card_c.specs.Codes.{gt_ok, gt_sends, gt_done, gt_failed, gt_state, gt_memory, line_code, command_code}
+use Rattle.card_c.specs.Copying.{IsCopied}
+
+-- why these bytes are no command
+abbrev pub AreNone : List ℕ → ApduFault → Type 0
+AreNone bytes TooShort = length bytes < 4
+AreNone bytes BadLength = (4 ≤ length bytes) × (HasForm bytes → ⊥)
+AreNone bytes InvalidIns = (c : Command) × HasInvalidIns c × (bytes ≡ command_bytes c)
+
+-- why no exchange of these bytes is begun: they are no command, or memory is wanting
+abbrev pub IsRefused : List ℕ → ℤ → Type 0
+IsRefused bytes code = ((fault : ApduFault) × AreNone bytes fault × (code ≡ command_code fault))
+    ⊎ ((code ≡ gt_memory) × ((c : Command) × IsCommand c × (bytes ≡ command_bytes c)))
+
+-- an exchange of the command that the bytes are, before its first character
+abbrev pub IsBegun : List ℕ → ExchangeOf → Type 0
+IsBegun bytes ex = (c : Command) × IsCommand c × (bytes ≡ command_bytes c)
+    × UnderWay c ex [] None fresh × Leads c [] ex
+
+-- what a turn of the terminal is called, and the character that it hands out
+abbrev pub turn_code : HostTurn → ℤ
+turn_code (Sends byte) = gt_sends
+turn_code Listens = gt_ok
+turn_code (Done status) = gt_done
+turn_code Failed = gt_failed
+
+abbrev pub turn_byte : HostTurn → ℕ → ℕ
+turn_byte (Sends byte) before = byte
+turn_byte Listens before = before
+turn_byte (Done status) before = before
+turn_byte Failed before = before
+
+-- how a character is taken
+abbrev pub taking_code : Result (Unit {0}) LineFault → ℤ
+taking_code (Ok _) = gt_ok
+taking_code (Err fault) = line_code fault
+
+-- a status word as a number: 0x9000
+abbrev pub status_number : StatusWord → ℕ
+status_number word = word.0 * 256 + word.1
+
+-- An answer goes out: its status, its length, and its data where there is room. Where there is none,
+-- nothing changes.
+abbrev pub GoesOut : Option (StatusWord × List ℕ) → ℤ → ℕ → ℕ → List ℕ → List ℕ → ℕ → ℕ → Type 0
+GoesOut None code status status_after room after len len_after =
+    (code ≡ gt_state) × (status_after ≡ status) × (after ≡ room) × (len_after ≡ len)
+GoesOut (Some answer) code status status_after room after len len_after =
+    (status_after ≡ status_number answer.0) × (len_after ≡ length answer.1)
+    × IsCopied answer.1 room code after

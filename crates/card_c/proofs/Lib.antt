@@ -1,2 +1,4 @@
+pub mod CardHeldValues
 pub mod HeldExchangeValues
 pub mod LooseValues
+pub mod TagNumberLemmas

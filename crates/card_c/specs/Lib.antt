@@ -1,5 +1,9 @@
+pub mod CardCalls
+pub mod CardHandle
+pub mod CardHeldOwned
 pub mod Codes
 pub mod Copying
 pub mod ExchangeCalls
 pub mod ExchangeHandle
 pub mod HeldExchangeOwned
+pub mod TagNumbers

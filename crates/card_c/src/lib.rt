@@ -5,10 +5,15 @@
 //! NULL, which nothing here can, and then calls it.
 #![tactic(auto)]
 
+mod card;
+mod card_held;
+mod card_side;
 mod code;
 mod copied;
 mod exchange;
 mod exchange_handle;
 mod held_exchange;
 mod loose;
+mod plan_queue;
+mod tag_number;
 mod terminal_side;

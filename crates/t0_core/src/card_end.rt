@@ -131,6 +131,14 @@ impl<C: TpduCard> CardEnd<C> {
         &self.came
     }
 
+    /// Whether the header is whole and not yet answered: the next of the plans is taken with the
+    /// card's next character.
+    pub fn takes_plan(&self) -> bool
+        ensures { result ≡ takes_plan self.now.stage }
+    {
+        begins_to_answer(&self.phase)
+    }
+
     /// Resets the card, and drops the TPDU under way.
     pub fn reset(&mut self)
         ensures card { C.standing self.new.card ≡ C.after_reset (C.standing self.old.card) }
@@ -280,6 +288,17 @@ fn is_listening(phase: &Phase) -> bool
         Phase::Opening { taken, .. } => *taken < 5,
         Phase::Accepted { service } => service.is_listening(),
         Phase::Refused { .. } | Phase::SecondStatus { .. } => false,
+    }
+}
+
+/// Whether the next character is the card's first of this TPDU.
+fn begins_to_answer(phase: &Phase) -> bool
+    requires { IsHeld phase.now }
+    ensures { (came : List ℕ) → result ≡ takes_plan (stage_of phase.now came) }
+{
+    match phase {
+        Phase::Opening { taken, .. } => *taken == 5,
+        Phase::Refused { .. } | Phase::Accepted { .. } | Phase::SecondStatus { .. } => false,
     }
 }
 

@@ -59,9 +59,8 @@ returns-clause-led_under g c =
     (subst Hands (sym c.forget_data.ensures.stage) out.ensures.advances)
 
 pub invariant_of-self : goal.invariant_of-self
-invariant_of-self g c =
-    (
-      c.hand_out-byte.ensures.fits,
-      c.forget_data.ensures.room ∙ c.self.invariant.1,
-      c.forget_data.ensures.gone,
-    )
+invariant_of-self g c = (
+  c.hand_out-byte.ensures.fits,
+  c.forget_data.ensures.room ∙ c.self.invariant.1,
+  c.forget_data.ensures.gone,
+)

@@ -1,4 +1,4 @@
-ghost use Rattle.std.specs.Prelude.{◌≡◌, ◌≤◌, [], ◌∷◌, ◌++◌, length, slice_get, option_copied, OnOk};
+ghost use Rattle.std.specs.Prelude.{◌≡◌, ◌≤◌, [], ◌∷◌, ◌++◌, length, slice_get, option_copied, OnOk, MatchOption};
 
 use crate::answer::Answer;
 use std::alloc::{AllocError, Allocator, Global};
@@ -45,6 +45,14 @@ impl<A: Allocator> Answers<A> {
         ensures { option_copied result ≡ slice_get self.now.given at }
     {
         self.answers.as_slice().get(at)
+    }
+
+    /// Takes the last answer out, if there is one.
+    pub fn pop(&mut self) -> Option<Answer<A>>
+        ensures { MatchOption result ((self.old.given ≡ []) × (self.new.given ≡ []))
+            (λ answer. self.old.given ≡ self.new.given ++ answer ∷ []) }
+    {
+        self.answers.pop()
     }
 
     /// Takes the room for one more answer. Its error is want of memory. Either way the answers stay.

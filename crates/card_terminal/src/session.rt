@@ -1,5 +1,7 @@
-ghost use Rattle.std.specs.Prelude.{◌≡◌, ℕ, ◌<◌, ◌++◌, List, ◌⊎◌, true, false, MatchResult, OnOk, OnErr, IfOk, IfErr};
+ghost use Rattle.std.specs.Prelude.{◌≡◌, ℕ, ◌<◌, ◌++◌, List, [], ◌⊎◌, true, false, MatchResult, OnOk, OnErr, IfOk, IfErr};
 ghost use Rattle.apdu_core.specs.CommandBytes as spec;
+ghost use Rattle.t0_core.specs.CardHistory.{Leads, LeadsUnder};
+ghost use Rattle.t0_core.specs.CardSide.{Taking_header};
 ghost use Rattle.t0_core.specs.Plan.{Course};
 ghost use Rattle.t0_core.specs.Watch.{Hearing};
 ghost use Rattle.card_terminal.specs.Agreed.{IsAgreed};
@@ -60,6 +62,20 @@ impl<C: TpduCard> Session<C> {
         ensures { C.standing self.new ≡ C.after_reset (C.standing self.old) }
     {
         self.end.reset();
+    }
+
+    /// The card's end of the line, reset.
+    pub fn into_end(self) -> CardEnd<C>
+        ensures card { C.standing result.card ≡ C.after_reset (C.standing self) }
+        ensures stage { result.stage ≡ Taking_header [] }
+        ensures led { Leads C.Does C.after_reset (C.standing result.card) []
+            (C.standing result.card) (C.prepared result.card) result.stage }
+        ensures led_under { LeadsUnder C.Does (C.standing result.card) [] []
+            (C.standing result.card) (C.prepared result.card) result.stage }
+    {
+        let Session { mut end } = self;
+        end.reset();
+        end
     }
 
     /// Carries out a command that is agreed with the card.

@@ -11,7 +11,8 @@ use crate::tag::{Tag, starts_template};
 /// the value; None where it has none, and for a primitive tag.
 pub fn value_fault(tag: Tag, value: &[u8]) -> Option<TlvFault>
     ensures fits { IsNone result ↔ (is_constructed tag ≡ true → AreObjects value.now 2) }
-    ensures fault { IfSome result (λ fault. (is_constructed tag ≡ true) × IsFirstFault value.now 2 fault.place fault.reason) }
+    ensures fault { IfSome result (λ fault. (is_constructed tag ≡ true)
+        × IsFirstFault value.now 2 fault.place fault.reason) }
 {
     if tag.is_constructed() {
         first_fault(value, 2)
@@ -24,7 +25,8 @@ pub fn value_fault(tag: Tag, value: &[u8]) -> Option<TlvFault>
 pub(crate) fn first_fault(bytes: &[u8], level: usize) -> Option<TlvFault>
     requires above { 1 ≤ level }
     requires in_depth { level ≤ deepest + 1 }
-    ensures { MatchOption result (AreObjects bytes.now level) (λ fault. IsFirstFault bytes.now level fault.place fault.reason) }
+    ensures { MatchOption result (AreObjects bytes.now level)
+        (λ fault. IsFirstFault bytes.now level fault.place fault.reason) }
 {
     let mut ends = [0; DEEPEST as usize];
     let mut open = 0;

@@ -7,8 +7,8 @@ ghost use Rattle.tlv_core.specs.Items.{PrimitiveItem, TemplateItem, items, with_
 
 use crate::build_fault::BuildFault;
 use crate::front::DEEPEST;
-use crate::heads::head;
 use crate::node::{Content, Node};
+use crate::shortest_head::head;
 use crate::tag::Tag;
 use std::alloc::{AllocError, Allocator, Global};
 use std::marker::Model;
@@ -95,7 +95,8 @@ impl<A: Allocator> Forest<A> {
         ensures ok { OnOk result (self.new ≡ with_last self.old (PrimitiveItem tag value.items)) }
         ensures err { OnErr result (self.new ≡ self.old) }
         ensures wrong_kind { IsErrOf result BuildFault.WrongKind ↔ (is_constructed tag ≡ true) }
-        ensures too_long { IsErrOf result BuildFault.TooLong ↔ (is_constructed tag ≡ false) × (longest < length value.items) }
+        ensures too_long { IsErrOf result BuildFault.TooLong
+            ↔ (is_constructed tag ≡ false) × (longest < length value.items) }
         ensures never_too_deep { result ≢ Err BuildFault.TooDeep }
     {
         if !tag.is_primitive() {
@@ -119,9 +120,11 @@ impl<A: Allocator> Forest<A> {
         ensures ok { OnOk result (self.new ≡ with_last self.old (TemplateItem tag children)) }
         ensures err { OnErr result (self.new ≡ self.old) }
         ensures wrong_kind { IsErrOf result BuildFault.WrongKind ↔ (is_constructed tag ≡ false) }
-        ensures too_long { IsErrOf result BuildFault.TooLong ↔ (is_constructed tag ≡ true) × (longest < length (encoding children)) }
+        ensures too_long { IsErrOf result BuildFault.TooLong
+            ↔ (is_constructed tag ≡ true) × (longest < length (encoding children)) }
         ensures too_deep { IsErrOf result BuildFault.TooDeep
-            ↔ (is_constructed tag ≡ true) × (length (encoding children) ≤ longest) × (deepest ≤ levels children) }
+            ↔ (is_constructed tag ≡ true) × (length (encoding children) ≤ longest)
+            × (deepest ≤ levels children) }
     {
         if tag.is_primitive() {
             return Err(BuildFault::WrongKind);

@@ -5,7 +5,8 @@ ghost use Rattle.tlv_core.specs.Spelling.{Forest, Spells, encoding, IsWritable};
 
 /// Bytes spell at most one list of objects.
 pub fn one_forest()
-    ensures { (f g : Forest) (bytes : List ℕ) (level : ℕ) → Spells f bytes level → Spells g bytes level → f ≡ g }
+    ensures { (f g : Forest) (bytes : List ℕ) (level : ℕ) →
+        Spells f bytes level → Spells g bytes level → f ≡ g }
 {}
 
 /// What is written of objects spells them.
@@ -15,7 +16,8 @@ pub fn written_bytes_spell()
 
 /// No bytes that spell the objects are fewer than those that are written.
 pub fn written_bytes_are_fewest()
-    ensures { (f : Forest) (bytes : List ℕ) (level : ℕ) → Spells f bytes level → length (encoding f) ≤ length bytes }
+    ensures { (f : Forest) (bytes : List ℕ) (level : ℕ) →
+        Spells f bytes level → length (encoding f) ≤ length bytes }
 {}
 
 /// What bytes spell can be written.

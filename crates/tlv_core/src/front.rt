@@ -19,8 +19,8 @@ struct Length {
     value: usize,
 }
 
-/// How many bytes the parts of an object have: its tag, its head, which is the tag and the length as
-/// spelled, and its value.
+/// How many bytes the parts of an object have: its tag, its head, which is the tag and the length
+/// as spelled, and its value.
 #[derive(Clone, Copy)]
 pub(crate) struct Parts {
     pub(crate) tag: usize,

@@ -8,14 +8,14 @@ mod fault;
 mod forest;
 pub mod forest_laws;
 mod front;
-mod heads;
+mod head_bytes;
 mod node;
 mod object_tag;
 mod objects;
 mod path;
 mod read_fault;
 pub mod reader_laws;
-mod short_head;
+mod shortest_head;
 mod tag;
 mod tree;
 
@@ -23,13 +23,13 @@ pub use build_fault::BuildFault;
 pub use check::value_fault;
 pub use fault::{Reason, TlvFault};
 pub use forest::Forest;
-pub use heads::head;
+pub use head_bytes::Head;
 pub use node::Node;
 pub use object_tag::ObjectTag;
 pub use objects::{Obj, Objects};
 pub use path::find;
 pub use read_fault::ReadFault;
-pub use short_head::Head;
+pub use shortest_head::head;
 pub use tag::Tag;
 pub use tree::Tree;
 
@@ -37,5 +37,7 @@ pub use tree::Tree;
 mod forest_tests;
 #[cfg(test)]
 mod memory_tests;
+#[cfg(test)]
+mod nesting_tests;
 #[cfg(test)]
 mod tests;

@@ -44,9 +44,11 @@ impl<'a> Model for Obj<'a> {
 
     ghost Value = { Object };
 
-    ghost view = { λ o. record { tag = o.tag; size = o.size.now; value = o.value.now; level = o.level } };
+    ghost view = { λ o.
+        record { tag = o.tag; size = o.size.now; value = o.value.now; level = o.level } };
 
-    ghost invariant = { λ o. IsObject (record { tag = o.tag; size = o.size.now; value = o.value.now; level = o.level }) };
+    ghost invariant = { λ o. IsObject
+        (record { tag = o.tag; size = o.size.now; value = o.value.now; level = o.level }) };
 }
 
 impl<'a> Objects<'a> {
@@ -87,8 +89,18 @@ impl<'a> Iterator for Objects<'a> {
 impl<'a> Obj<'a> {
     /// The object that was found at the front of a list at this level.
     pub(crate) fn at_level(front: Front<'a>, level: u8) -> Obj<'a>
-        requires { IsObject (record { tag = front.tag; size = front.size.now; value = front.value.now; level = level }) }
-        ensures { result ≡ record { tag = front.entry.tag; size = front.entry.size.now; value = front.entry.value.now; level = level } }
+        requires { IsObject (record {
+          tag = front.tag;
+          size = front.size.now;
+          value = front.value.now;
+          level = level;
+        }) }
+        ensures { result ≡ record {
+          tag = front.entry.tag;
+          size = front.entry.size.now;
+          value = front.entry.value.now;
+          level = level;
+        } }
     {
         Obj {
             tag: front.tag,
@@ -123,7 +135,9 @@ impl<'a> Obj<'a> {
     /// The objects in the value, which were checked with the list; None for a primitive object.
     pub fn children(&self) -> Option<Objects<'a>>
         ensures primitive { IsNone result ↔ (is_constructed self.now.tag ≡ false) }
-        ensures list { IfSome result (λ list. (list ≡ record { bytes = self.now.value; level = self.now.level + 1 }) × IsObjectList list) }
+        ensures list { IfSome result (λ list.
+            (list ≡ record { bytes = self.now.value; level = self.now.level + 1 })
+            × IsObjectList list) }
     {
         if self.tag.is_constructed() {
             Some(Objects {

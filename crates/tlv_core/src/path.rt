@@ -12,7 +12,8 @@ use crate::tag::Tag;
 /// path; None where there is none, and for the empty path. The fault is the first one of the bytes.
 pub fn find<'a>(bytes: &'a [u8], path: &[Tag]) -> Result<Option<Obj<'a>>, TlvFault>
     ensures objects { IsOk result ↔ AreObjects bytes.now 1 }
-    ensures found { IfOk result (λ found. MatchOption found (NoneStandsAt bytes.now 1 path.now) (IsFirstAt bytes.now 1 path.now)) }
+    ensures found { IfOk result (λ found. MatchOption found (NoneStandsAt bytes.now 1 path.now)
+        (IsFirstAt bytes.now 1 path.now)) }
     ensures fault { IfErr result (λ fault. IsFirstFault bytes.now 1 fault.place fault.reason) }
 {
     Objects::over(bytes)?;
@@ -22,7 +23,8 @@ pub fn find<'a>(bytes: &'a [u8], path: &[Tag]) -> Result<Option<Obj<'a>>, TlvFau
 /// The first object on the path.
 fn find_in<'a>(bytes: &'a [u8], path: &[Tag]) -> Option<Obj<'a>>
     requires { AreObjects bytes.now 1 }
-    ensures { MatchOption result (NoneStandsAt bytes.now 1 path.now) (IsFirstAt bytes.now 1 path.now) }
+    ensures { MatchOption result (NoneStandsAt bytes.now 1 path.now)
+        (IsFirstAt bytes.now 1 path.now) }
 {
     if path.is_empty() {
         return None;

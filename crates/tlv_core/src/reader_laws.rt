@@ -17,18 +17,21 @@ pub fn no_tag_starts_another()
 
 /// No spelling of a length is a prefix of another, and it spells one length.
 pub fn no_length_starts_another()
-    ensures { (size rest : List ℕ) (n m : ℕ) → SpellsLength size n → SpellsLength (size ++ rest) m → (rest ≡ []) × (n ≡ m) }
+    ensures { (size rest : List ℕ) (n m : ℕ) → SpellsLength size n →
+        SpellsLength (size ++ rest) m → (rest ≡ []) × (n ≡ m) }
 {}
 
 /// There is a first fault exactly where the bytes are no list of objects.
 pub fn a_fault_where_no_objects()
     ensures { (bytes : List ℕ) (level : ℕ) →
-        ((place : ℕ) × (reason : Reason) × IsFirstFault bytes level place reason) ↔ (AreObjects bytes level → ⊥) }
+        ((place : ℕ) × (reason : Reason) × IsFirstFault bytes level place reason)
+        ↔ (AreObjects bytes level → ⊥) }
 {}
 
 /// There is at most one first fault.
 pub fn one_first_fault()
-    ensures { (bytes : List ℕ) (level p q : ℕ) (r s : Reason) → IsFirstFault bytes level p r → IsFirstFault bytes level q s → (p ≡ q) × (r ≡ s) }
+    ensures { (bytes : List ℕ) (level p q : ℕ) (r s : Reason) →
+        IsFirstFault bytes level p r → IsFirstFault bytes level q s → (p ≡ q) × (r ≡ s) }
 {}
 
 /// Going on in a list that spells a forest gives the forest's first object, and what is left spells
@@ -44,10 +47,12 @@ pub fn next_is_the_first_object()
 
 /// A tag has at most one address.
 pub fn one_address_of_a_tag()
-    ensures { (tag : List ℕ) (p1 p2 q1 q2 : ℕ) → NamesTag tag p1 p2 → NamesTag tag q1 q2 → (p1 ≡ q1) × (p2 ≡ q2) }
+    ensures { (tag : List ℕ) (p1 p2 q1 q2 : ℕ) →
+        NamesTag tag p1 p2 → NamesTag tag q1 q2 → (p1 ≡ q1) × (p2 ≡ q2) }
 {}
 
 /// An address names at most one tag.
 pub fn one_tag_at_an_address()
-    ensures { (tag other : List ℕ) (p1 p2 : ℕ) → NamesTag tag p1 p2 → NamesTag other p1 p2 → tag ≡ other }
+    ensures { (tag other : List ℕ) (p1 p2 : ℕ) →
+        NamesTag tag p1 p2 → NamesTag other p1 p2 → tag ≡ other }
 {}

@@ -36,7 +36,8 @@ impl Tag {
     pub fn read(bytes: &[u8]) -> Result<(Tag, usize), TlvFault>
         ensures tag { IfOk result (λ read. IsTag read.0 × (read.1 ≡ length read.0)
             × ((rest : List ℕ) × (bytes.now ≡ read.0 ++ rest))) }
-        ensures cut { IsErrOf result (record { place = 0; reason = Reason.TagCut }) ↔ EndsInsideTag bytes.now }
+        ensures cut { IsErrOf result (record { place = 0; reason = Reason.TagCut })
+            ↔ EndsInsideTag bytes.now }
         ensures form { IsErrOf result (record { place = 0; reason = Reason.TagForm })
             ↔ ((EndsInsideTag bytes.now → ⊥) × (StartsWithTag bytes.now → ⊥)) }
         ensures starts { IsOk result ↔ StartsWithTag bytes.now }

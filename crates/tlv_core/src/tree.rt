@@ -21,7 +21,8 @@ impl Tree {
     /// `OutOfMemory`.
     pub fn read<A: Allocator + Clone>(alloc: A, bytes: &[u8]) -> Result<Forest<A>, ReadFault>
         ensures forest { IfOk result (λ forest. Spells forest bytes.now 1) }
-        ensures fault { (fault : Fault) → IsErrOf result (ReadFault.Tlv fault) ↔ IsFirstFault bytes.now 1 fault.place fault.reason }
+        ensures fault { (fault : Fault) → IsErrOf result (ReadFault.Tlv fault)
+            ↔ IsFirstFault bytes.now 1 fault.place fault.reason }
     {
         let objects = Objects::over(bytes)?;
         Ok(grow(&alloc, objects)?)

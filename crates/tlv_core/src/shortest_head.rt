@@ -1,7 +1,7 @@
 ghost use Rattle.std.specs.Prelude.{◌≡◌, ◌≤◌, ◌++◌, length};
 ghost use Rattle.tlv_core.specs.Length.{shortest};
 
-use crate::short_head::Head;
+use crate::head_bytes::Head;
 use crate::tag::Tag;
 
 /// The tag, and the length `len` in its shortest spelling.

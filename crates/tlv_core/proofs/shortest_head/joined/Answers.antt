@@ -3,7 +3,7 @@ use Rattle.std.proofs.Common.{ℕ, List, ◌≡◌, ◌++◌, ◌∙◌, ◌+◌
 use Rattle.std.proofs.lemmas.Slice.{take-put_mid}
 use Rattle.std.proofs.lemmas.List.{take_at}
 use borrow.Rule.Slice.PartMut.{put_mid}
-use Rattle.tlv_core.proofs.heads.joined.Goals as goal
+use Rattle.tlv_core.proofs.shortest_head.joined.Goals as goal
 
 both_copied : (tag size first second cells : List ℕ) (a n : ℕ) → first ≡ tag → second ≡ size → length first ≡ a → n ≡ a + length second
     → take n (put_mid a (n - a) (first ++ drop a cells) second) ≡ tag ++ size

@@ -9,7 +9,7 @@ use Rattle.tlv_core.specs.declared.fault.Reason.TheVariants.{TagCut, TagForm, Le
 use Rattle.tlv_core.specs.TagLaws.{start_is_not_inside}
 use Rattle.tlv_core.specs.LengthLaws.{length_start_is_not_inside}
 use Rattle.tlv_core.specs.StartLaws.{after_tags_agree}
-use Rattle.tlv_core.specs.PlaceLaws.{padded_place, object_place, reached_inside, object_is_long, object_is_some}
+use Rattle.tlv_core.proofs.PlaceFacts.{padded_place, object_place, reached_inside, object_is_long, object_is_some}
 
 -- What follows the tag, for the three reasons that speak of it.
 TagThen : List ℕ → (List ℕ → Type 0) → Type 0

@@ -5,7 +5,7 @@ use Rattle.tlv_core.specs.Object.{Object}
 use Rattle.tlv_core.specs.Path.{StandsAt, IsFirstAt, NoneStandsAt}
 use Rattle.tlv_core.specs.Place.{StartsWith, at_front, past_padding, past_object, into_template}
 use Rattle.tlv_core.specs.StartLaws.{starts_at_object, starts_agree}
-use Rattle.tlv_core.specs.PlaceLaws.{object_is_long, padded_place, object_place, reached_inside}
+use Rattle.tlv_core.proofs.PlaceFacts.{object_is_long, padded_place, object_place, reached_inside}
 
 -- Objects of padded bytes, and of bytes that start with an object.
 stands_past_padding : (rest : List ℕ) (level place : ℕ) (path : List (List ℕ)) (o : Object) → StandsAt rest level path place o

@@ -16,3 +16,10 @@ pub mod Seeking
 pub mod Shortest
 pub mod Vectors
 pub mod Written
+pub mod AddressFacts
+pub mod FaultFacts
+pub mod LengthFacts
+pub mod PlaceFacts
+pub mod SpellingFacts
+pub mod StartFacts
+pub mod TagFacts

@@ -9,9 +9,10 @@ use Rattle.tlv_core.specs.Place.{StartsWith}
 use Rattle.tlv_core.specs.Front.{HasParts, innermost_first}
 use Rattle.tlv_core.specs.FirstFault.{FailsFor, IsFirstFault}
 use Rattle.tlv_core.specs.declared.fault.Reason.{Reason}
-use Rattle.tlv_core.specs.SpellingLaws.{spells_more, spells_primitive, spells_template, All_nil}
-use Rattle.tlv_core.specs.PlaceLaws.{starts_length}
-use Rattle.tlv_core.specs.FaultLaws.{first_here, first_past_padding, first_past_object, first_in_template}
+use Rattle.tlv_core.proofs.SpellingFacts.{spells_more, spells_primitive, spells_template, All_nil}
+use Rattle.tlv_core.proofs.PlaceFacts.{starts_length}
+use Rattle.tlv_core.specs.FaultLaws.{first_here}
+use Rattle.tlv_core.proofs.FaultFacts.{first_past_padding, first_past_object, first_in_template}
 use Rattle.tlv_core.proofs.Outers.{one_more, last_left, none_left, depth_is}
 use Rattle.tlv_core.proofs.Cuts.{cut, cut_length, cut_empty, padding_first, object_first, kind_first, cut_rest, cut_value}
 

@@ -7,8 +7,9 @@ use Rattle.tlv_core.specs.Object.{Object, IsObject}
 use Rattle.tlv_core.specs.Spelling.{AreObjects, deepest}
 use Rattle.tlv_core.specs.Path.{IsFirstAt, NoneStandsAt}
 use Rattle.tlv_core.specs.Place.{StartsWith, StartsWithObject}
-use Rattle.tlv_core.specs.SpellingLaws.{objects_past_zero, after_is_spelled, inside_is_spelled, spelled_starts, spelled_is_object}
-use Rattle.tlv_core.specs.PlaceLaws.{starts_length}
+use Rattle.tlv_core.specs.SpellingLaws.{after_is_spelled, inside_is_spelled}
+use Rattle.tlv_core.proofs.SpellingFacts.{objects_past_zero, spelled_starts, spelled_is_object}
+use Rattle.tlv_core.proofs.PlaceFacts.{starts_length}
 use Rattle.tlv_core.proofs.Found.{Seeks, seeks_at_start, seeks_one_zero, seeks_past_object, found_here, found_within, none_in_nil}
 use Rattle.tlv_core.proofs.Cuts.{cut, cut_length, cut_empty, padding_first, object_first, cut_rest, cut_value}
 

@@ -6,8 +6,9 @@ use Rattle.tlv_core.specs.Address.{NamesTag}
 use Rattle.tlv_core.specs.Spelling.{Empty, Primitive, Spells}
 use Rattle.tlv_core.specs.FirstFault.{IsFirstFault}
 use Rattle.tlv_core.specs.declared.fault.Reason.TheVariants.{TagCut, TagForm, ValueCut, TooDeep}
-use Rattle.tlv_core.specs.SpellingLaws.{spells_more, spells_primitive, All_nil}
-use Rattle.tlv_core.specs.FaultLaws.{first_here, first_past_padding, first_past_object, first_in_template}
+use Rattle.tlv_core.proofs.SpellingFacts.{spells_more, spells_primitive, All_nil}
+use Rattle.tlv_core.specs.FaultLaws.{first_here}
+use Rattle.tlv_core.proofs.FaultFacts.{first_past_padding, first_past_object, first_in_template}
 use Rattle.tlv_core.proofs.Agree.{first_faults_agree}
 use Rattle.tlv_core.specs.TagLaws.{front_second, front_cut_first}
 

@@ -1,6 +1,6 @@
 -- What the two readers found, put together.
 use Rattle.std.proofs.lemmas.Result.{err_from_is_err_and}
-use Rattle.tlv_core.specs.StartLaws.{tag_fits, fails_for_length, cut_for_value, has_parts}
+use Rattle.tlv_core.proofs.StartFacts.{tag_fits, fails_for_length, cut_for_value, has_parts}
 use Rattle.tlv_core.proofs.front.front_parts.Goals as goal
 
 pub length_at-requires : goal.length_at-requires

@@ -1,6 +1,6 @@
 use Rattle.std.proofs.Common.{inl, inr}
 use Rattle.tlv_core.specs.PlaceLaws.{spelled_has_no_fault}
-use Rattle.tlv_core.specs.FaultLaws.{judged}
+use Rattle.tlv_core.proofs.FaultFacts.{judged}
 use Rattle.tlv_core.proofs.reader_laws.a_fault_where_no_objects.Goals as goal
 
 pub returns : goal.returns

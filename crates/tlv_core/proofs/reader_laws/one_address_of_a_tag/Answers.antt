@@ -1,4 +1,4 @@
-use Rattle.tlv_core.specs.AddressLaws.{addresses_agree}
+use Rattle.tlv_core.proofs.AddressFacts.{addresses_agree}
 use Rattle.tlv_core.proofs.reader_laws.one_address_of_a_tag.Goals as goal
 
 pub returns : goal.returns

@@ -1,4 +1,4 @@
-use Rattle.tlv_core.specs.AddressLaws.{named_tags_agree}
+use Rattle.tlv_core.proofs.AddressFacts.{named_tags_agree}
 use Rattle.tlv_core.proofs.reader_laws.one_tag_at_an_address.Goals as goal
 
 pub returns : goal.returns

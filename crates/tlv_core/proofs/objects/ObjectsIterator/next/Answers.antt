@@ -1,5 +1,6 @@
 -- What is left of a list of objects is one, so it starts with its next object.
-use Rattle.tlv_core.specs.SpellingLaws.{objects_past_padding, spelled_starts, spelled_is_object, after_is_spelled, object_left}
+use Rattle.tlv_core.specs.SpellingLaws.{after_is_spelled}
+use Rattle.tlv_core.proofs.SpellingFacts.{objects_past_padding, spelled_starts, spelled_is_object, object_left}
 use Rattle.tlv_core.proofs.objects.ObjectsIterator.next.Goals as goal
 
 pub front_object-front-requires : goal.front_object-front-requires

@@ -10,6 +10,7 @@ use Rattle.t0_core.specs.declared.direction.Direction.{Direction}
 use Rattle.t0_core.specs.declared.direction.Direction.TheVariants.{ToCard, FromCard}
 use Rattle.t0_core.specs.Dialogue.{Dialogue}
 use Rattle.t0_core.specs.Meaning.{tpdu_of, received}
+use Rattle.object_card.specs.OperationLaws.{no_correction}
 use Rattle.object_card.specs.declared.limits.TheConstants.{VALUE_LIMIT, HEAD_LIMIT}
 use Rattle.object_card.specs.State.{CardState, IsCardState, waiting}
 use Rattle.object_card.specs.StateLaws.{stays_sound}
@@ -20,7 +21,7 @@ use Rattle.card_terminal.specs.Gathered.{UnitOf, Single, Repeated, Opening, By_c
 use Rattle.card_terminal.specs.ExchangeSide.{Stall, so_far, begun_with}
 use Rattle.card_terminal.proofs.UnitLemmas.{gathered_parts}
 use Rattle.t0_core.specs.DialogueLaws.{flat_map_last}
-use Rattle.card_terminal.proofs.FetchLemmas.{Goes, goes_apart, goes_sound, none_corrected}
+use Rattle.card_terminal.proofs.FetchLemmas.{Goes, goes_apart, goes_sound}
 
 -- a dialogue that is repeated was told another count
 repeated_is_corrected : (w : Wanted) (d : Dialogue) (n : ℕ) → repeated_with w d ≡ Some n
@@ -241,7 +242,7 @@ fetch_brings n w (Repeated d e) s t waits opens is_unit (cut, mid, is_cut, does,
     (omega (arith, waits, opens.counts)) in
     let (k, told) = repeated_is_corrected w d is_unit.0 is_unit.1 in
     let no : Some k ≡ None = sym told ∙ ap (λ x. corrects x) f.status_is
-    ∙ none_corrected (drop (count d.body.p3) (waiting s.pending)) cut in
+    ∙ no_correction (drop (count d.body.p3) (waiting s.pending)) cut in
     absurd (cc)
 
 -- No exchange with a card of data objects stalls.

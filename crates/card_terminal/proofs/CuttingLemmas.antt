@@ -3,7 +3,6 @@
 use Rattle.std.proofs.Common.{◌≡◌, ◌≤◌, ◌<◌, ℕ, zero, suc, ◌+◌, List, [], ◌∷◌, ◌++◌, length, take, refl, sym, subst, ◌∙◌, ap, arith, lit<, inl, inr, ◌⊎◌, true, false, Option, Some, None, if◌then◌else◌, append-nil, append_assoc, length-append}
 use Rattle.std.specs.List.{AllByRecursion, flat_map}
 use Rattle.std.proofs.lemmas.Grind.{flat_map-append}
-use Rattle.std.proofs.lemmas.Bool.{ne_eqb}
 use Rattle.std.proofs.lemmas.List.{take-append-le, take_all}
 use Rattle.apdu_core.specs.declared.header.Header.{Header}
 use Rattle.apdu_core.specs.HeaderBytes.{ins_is_valid}
@@ -22,10 +21,13 @@ use Rattle.t0_core.specs.Front.{Front, front_characters, brought}
 use Rattle.t0_core.specs.HostSide.{Hosting, HasRoom, IsOpenedBy, AreOwn, fault_of, turn_of}
 use Rattle.t0_core.specs.CuttingLaws.{same_dialogue, next_of, at_next, Suits}
 use Rattle.card_terminal.specs.declared.wanted.Wanted.{Wanted}
-use Rattle.card_terminal.specs.Gathered.{Asks, SendsFrom, BeginsWith, get_response, wanted_by, repeated_with, after_unit, fetched_after, Opening, By_command, By_fetch, OpensWith, UnitOf, Single, Repeated, first_of, last_of, dialogues_of, unit_data, IsUnit, BringsSome, AreFollowed, IsOpenExchange, Gathers}
+use Rattle.object_card.specs.CarryingOut.{get_response}
+use Rattle.card_terminal.specs.Gathered.{Asks, SendsFrom, BeginsWith, wanted_by, repeated_with, after_unit, fetched_after, Opening, By_command, By_fetch, OpensWith, UnitOf, Single, Repeated, first_of, last_of, dialogues_of, unit_data, IsUnit, BringsSome, AreFollowed, IsOpenExchange, Gathers}
 use Rattle.card_terminal.specs.ExchangeSide.{ExchangeOf, HostAsks, HostSends, HostOpens, HostOpensBy, IsOpenedAs, UnderWay, IsOver, Stall, begun_with, exchange_turn, response_limit}
 use Rattle.card_terminal.specs.ExchangeHistory.{unit_characters, characters_to, Expects, Leads, to_front, to_end, to_stall, to_fault}
+use Rattle.object_card.specs.OperationLaws.{count_of_some}
 use Rattle.card_terminal.proofs.UnitLemmas.{gathered_parts}
+use Rattle.card_terminal.proofs.OverLemmas.{none_or_some}
 
 -- ---- an opening fixes header, P3 and direction
 
@@ -41,16 +43,14 @@ record OpenAlike (d e : Dialogue) : Type 0 where
   p3 : d.body.p3 ≡ e.body.p3
   direction : d.body.direction ≡ e.body.direction
 
-count_suc : (n : ℕ) → count (suc n) ≡ suc n
-count_suc n = rw (ne_eqb (suc n) 0 (λ e. absurd (omega (arith, e)))) refl
-
 count_tells : (a b : ℕ) → a < 256 → b < 256 → count a ≡ count b → a ≡ b
 count_tells zero zero la lb e = refl
 count_tells zero (suc b) la lb e =
-    let same : 256 ≡ suc b = e ∙ count_suc b in absurd (omega (arith, same, lb))
+    let same : 256 ≡ suc b = e ∙ count_of_some (suc b) (omega arith) in absurd (omega (arith, same, lb))
 count_tells (suc a) zero la lb e =
-    let same : suc a ≡ 256 = sym (count_suc a) ∙ e in absurd (omega (arith, same, la))
-count_tells (suc a) (suc b) la lb e = sym (count_suc a) ∙ e ∙ count_suc b
+    let same : suc a ≡ 256 = sym (count_of_some (suc a) (omega arith)) ∙ e in absurd (omega (arith, same, la))
+count_tells (suc a) (suc b) la lb e =
+    sym (count_of_some (suc a) (omega arith)) ∙ e ∙ count_of_some (suc b) (omega arith)
 
 alike_asks : (h : Header) (n : ℕ) (d e : Dialogue) → Asks h n d → Asks h n e → OpenAlike d e
 alike_asks h n d e one two = record {
@@ -118,10 +118,6 @@ on_append (Repeated d e) r s =
 
 abbrev AreAll : List Dialogue → Type 0
 AreAll ds = AllByRecursion IsDialogue ds
-
-none_or_some : (found : Option ℕ) (n : ℕ) → found ≡ None → found ≡ Some n → ⊥
-none_or_some None n none some = absurd (cc)
-none_or_some (Some m) n none some = absurd (cc)
 
 some_is : (n m : ℕ) → Some n ≡ Some m → n ≡ m
 some_is n m e = cc

@@ -22,7 +22,8 @@ use Rattle.card_terminal.specs.declared.wanted.Wanted.{Wanted}
 use Rattle.card_terminal.specs.declared.attempt.Attempt.{Attempt}
 use Rattle.card_terminal.specs.declared.attempt.Next.{Next}
 use Rattle.card_terminal.specs.declared.attempt.Next.TheVariants as next
-use Rattle.card_terminal.specs.Gathered.{Asks, SendsFrom, get_response, wanted_by, less, wants_at_least, correction_of, repeated_with, after_dialogue, after_unit, fetched_after, Opening, By_command, By_fetch, OpensWith, UnitOf, Single, first_of, last_of, unit_data, IsUnit, BringsSome, IsOpenExchange}
+use Rattle.object_card.specs.CarryingOut.{get_response}
+use Rattle.card_terminal.specs.Gathered.{Asks, SendsFrom, wanted_by, less, wants_at_least, correction_of, repeated_with, after_dialogue, after_unit, fetched_after, Opening, By_command, By_fetch, OpensWith, UnitOf, Single, first_of, last_of, unit_data, IsUnit, BringsSome, IsOpenExchange}
 use Rattle.card_terminal.specs.Attempts.{again_with, next_by, following, repetition, fetch}
 use Rattle.card_terminal.specs.ExchangeSide.{ExchangeOf, HostAsks, HostSends, HostOpens, HostOpensBy, IsOpenedAs, UnderWay, IsOver, Stall, Continues, so_far, begun_with, ended_with, asks_card, is_fetch}
 use Rattle.card_terminal.proofs.UnitLemmas.{followed_left, one_more, less_less, unit_ends, unit_goes_on, unit_dialogues, unit_data_received, ended_data, gathered_parts, received_of}

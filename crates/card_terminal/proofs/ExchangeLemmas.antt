@@ -18,7 +18,8 @@ use Rattle.t0_core.specs.Room.{Room}
 use Rattle.t0_core.specs.HostSide.{Hosting, HostStandsAt, turn_of, IsRequest}
 use Rattle.card_terminal.specs.declared.wanted.Wanted.{Wanted}
 use Rattle.card_terminal.specs.declared.attempt.Attempt.{Attempt}
-use Rattle.card_terminal.specs.Gathered.{get_response, Opening, By_command, By_fetch, UnitOf}
+use Rattle.object_card.specs.CarryingOut.{get_response}
+use Rattle.card_terminal.specs.Gathered.{Opening, By_command, By_fetch, UnitOf}
 use Rattle.card_terminal.specs.ExchangeSide.{ExchangeOf, HostAsks, HostSends, HostOpens, HostOpensBy, IsOpenedAs, IsPlaceOf, UnderWay, so_far, asks_card, exchange_turn}
 
 -- what an end opened its TPDU with stays

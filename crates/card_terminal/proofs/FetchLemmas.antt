@@ -1,22 +1,21 @@
--- What a command brings that wants everything: its first unit, and fetches of all that then waits.
-use Rattle.std.proofs.Common.{◌≡◌, ℕ, ◌≤◌, List, [], ◌∷◌, ◌++◌, length, take, drop, Option, Some, None, true, false, refl, sym, ap, subst, ◌∙◌, arith, append-nil, length-append}
+-- What a command brings that wants everything: its first unit, and the fetches of all that is then
+-- announced, as TPDUs of the card.
+use Rattle.std.proofs.Common.{◌≡◌, ℕ, List, [], ◌∷◌, ◌++◌, Option, Some, None, true, refl, sym, ap, subst, ◌∙◌, arith, append-nil}
 use Rattle.std.specs.List.{flat_map}
-use Rattle.std.proofs.lemmas.List.{take-append-drop}
-use Rattle.std.proofs.lemmas.Bool.{true≢false}
 use Rattle.apdu_core.specs.declared.header.Header.{Header}
-use Rattle.apdu_core.specs.StatusWord.{StatusWord, ok, count, announces, corrects}
+use Rattle.apdu_core.specs.StatusWord.{StatusWord, count, announces, corrects}
 use Rattle.apdu_core.specs.CommandBytes.{Command}
 use Rattle.t0_core.specs.declared.direction.Direction.{Direction}
 use Rattle.t0_core.specs.declared.direction.Direction.TheVariants.{ToCard, FromCard}
 use Rattle.t0_core.specs.Dialogue.{Dialogue}
-use Rattle.t0_core.specs.Meaning.{tpdu_of, received, sent, Runs}
+use Rattle.t0_core.specs.Meaning.{Tpdu, tpdu_of, received, sent, Runs}
 use Rattle.t0_core.specs.Plan.{Course, IsCut}
-use Rattle.object_card.specs.State.{CardState, IsCardState, Pending, NothingPending, ChainPending, ResponsePending, is_idle, waiting, pending_of}
+use Rattle.object_card.specs.State.{CardState, IsCardState, is_idle}
 use Rattle.object_card.specs.OneStep.{Operation, Reply, Answers, SameTables}
-use Rattle.object_card.specs.Refusals.{breaks_chain}
-use Rattle.object_card.specs.CardMeaning.{Does, announcing}
+use Rattle.object_card.specs.CardMeaning.{Does}
+use Rattle.object_card.specs.CarryingOut.{get_response, FetchAll, IsCarriedOut}
 use Rattle.object_card.specs.StateLaws.{stays_sound}
-use Rattle.object_card.specs.ResponseLaws.{fetched, announced_count}
+use Rattle.object_card.specs.ResponseLaws.{announced_is_brought}
 use Rattle.card_terminal.specs.declared.wanted.Wanted.TheVariants.{Everything}
 use Rattle.card_terminal.specs.declared.wanted.Wanted.{Wanted}
 use Rattle.card_terminal.specs.Gathered.{UnitOf, Opens, By_command, Gathers, after_dialogue, Single, Repeated, By_fetch, first_of, last_of, dialogues_of, unit_data, after_unit, fetched_of, fetched_after, repeated_with, correction_of, Opening, OpensWith, IsUnit, AreFollowed}
@@ -50,32 +49,6 @@ goes_sound old new [] sound goes = subst IsCardState (sym goes) sound
 goes_sound old new (d ∷ ds) sound (cut, mid, is_cut, does, others) =
     goes_sound mid new ds (stays_sound old mid cut (tpdu_of d) does sound) others
 
--- the fetches bring all that waits
-pub record AreFetched (old : CardState) (brought : List ℕ) (status : StatusWord) (new : CardState)
-    : Type 0 where
-  pub all : brought ≡ waiting old.pending
-  pub status_is : status ≡ ok
-  pub same : SameTables old new
-  pub none_left : new.pending ≡ NothingPending
-
--- what a dialogue from the card brings
-pub brings : (d : Dialogue) → d.body.direction ≡ FromCard → received d ≡ d.body.moved
-brings d from = by d.body.direction from refl
-  where
-    by : (v : Direction) → v ≡ FromCard → d.body.direction ≡ v → received d ≡ d.body.moved
-    by ToCard e is = absurd (cc)
-    by FromCard e is = rw is refl
-
-pub none_corrected : (left : List ℕ) (cut : ℕ) → corrects (announcing left cut) ≡ None
-none_corrected [] cut = refl
-none_corrected (b ∷ left) cut = refl
-
--- where no more is announced, nothing is left
-none_announced : (left : List ℕ) (cut : ℕ) → fetched_after Everything (announcing left cut) ≡ None
-    → left ≡ []
-none_announced [] cut e = refl
-none_announced (b ∷ left) cut e = absurd (cc)
-
 -- no dialogue that is told no count is repeated
 pub not_repeated : (d : Dialogue) → corrects d.status ≡ None → repeated_with Everything d ≡ None
 not_repeated d told = by d.body.direction (corrects d.status) told
@@ -85,47 +58,36 @@ not_repeated d told = by d.body.direction (corrects d.status) told
     by FromCard None e = refl
     by FromCard (Some n) e = absurd (cc)
 
--- a fetch is one dialogue: it brings as much as it counts, and tells what is left
-pub record IsOneFetch (n cut : ℕ) (u : UnitOf) (old new : CardState) : Type 0 where
-  pub is_cut : IsCut cut
-  pub brought : unit_data u ≡ take n (waiting old.pending)
-  pub left : new.pending ≡ pending_of (drop n (waiting old.pending))
-  pub status_is : (last_of u).status ≡ announcing (drop n (waiting old.pending)) cut
-  pub same : SameTables old new
+-- a fetch of what was announced is one dialogue
+record IsFetch (n : ℕ) (u : UnitOf) (old new : CardState) : Type 0 where
+  cut : ℕ
+  dialogue : Dialogue
+  is : u ≡ Single dialogue
+  in_range : IsCut cut
+  header_is : dialogue.body.header ≡ get_response
+  counts : count dialogue.body.p3 ≡ n
+  does : Does old cut (tpdu_of dialogue) new
 
-one_fetch : (n : ℕ) (u : UnitOf) (old new : CardState) → n ≤ length (waiting old.pending)
-    → OpensWith (By_fetch n) (first_of u) → IsUnit Everything u
-    → Goes old (dialogues_of u) new → (cut : ℕ) × IsOneFetch n cut u old new
-one_fetch n (Single d) old new few opens is_unit (cut, mid, is_cut, does, is) =
-    let fits : count d.body.p3 ≤ length (waiting old.pending) = omega (arith, few, opens.counts) in
-    let f = fetched old mid cut (tpdu_of d) does opens.header_is fits in
-    let brought : received d ≡ take n (waiting old.pending) =
-    f.brought ∙ ap (λ k. take k (waiting old.pending)) opens.counts in (
-      cut,
-      record {
-        is_cut = is_cut;
-        brought = append-nil (received d) ∙ brought;
-        left = ap (λ s. s.pending) is ∙ f.left
-            ∙ ap (λ k. pending_of (drop k (waiting old.pending))) opens.counts;
-        status_is = f.status_is
-            ∙ ap (λ k. announcing (drop k (waiting old.pending)) cut) opens.counts;
-        same = (
-          sym (ap (λ s. s.applications) is ∙ f.same_applications),
-          sym (ap (λ s. s.selected) is ∙ f.same_selected),
-        );
-      },
-    )
-one_fetch n (Repeated d e) old new few opens is_unit (cut, mid, is_cut, does, others) =
-    let fits : count d.body.p3 ≤ length (waiting old.pending) = omega (arith, few, opens.counts) in
-    let f = fetched old mid cut (tpdu_of d) does opens.header_is fits in
-    let told : corrects d.status ≡ None = ap (λ s. corrects s) f.status_is
-    ∙ none_corrected (drop (count d.body.p3) (waiting old.pending)) cut in
+one_fetch : (n cut : ℕ) (t : Tpdu) (u : UnitOf) (prior old new : CardState) → Does prior cut t old
+    → IsCut cut → announces t.status ≡ Some n → OpensWith (By_fetch n) (first_of u)
+    → IsUnit Everything u → Goes old (dialogues_of u) new → IsFetch n u old new
+one_fetch n cut t (Single d) prior old new before in_range announced opens is_unit
+    (next, mid, is_cut, does, is) =
+    record {
+      cut = next;
+      dialogue = d;
+      is = refl;
+      in_range = is_cut;
+      header_is = opens.header_is;
+      counts = opens.counts;
+      does = subst (λ s. Does old next (tpdu_of d) s) (sym is) does;
+    }
+one_fetch n cut t (Repeated d e) prior old new before in_range announced opens is_unit
+    (next, mid, is_cut, does, others) =
+    let told = (announced_is_brought prior old mid cut next n t (tpdu_of d) before in_range
+    announced does opens.header_is (omega (arith, opens.counts))).2 in
     let no : Some is_unit.0 ≡ None = sym is_unit.1 ∙ not_repeated d told in
     absurd (cc)
-
-pub rest_waits : (left : List ℕ) → waiting (pending_of left) ≡ left
-rest_waits [] = refl
-rest_waits (b ∷ left) = refl
 
 -- what more is fetched is what is announced
 announced_by : (status : StatusWord) (m : ℕ) → fetched_after Everything status ≡ Some m
@@ -136,72 +98,98 @@ announced_by status m e = by (announces status) e
     by None e = absurd (cc)
     by (Some k) e = e
 
-all_taken_where_none_left : (n : ℕ) (whole : List ℕ) → drop n whole ≡ [] → take n whole ≡ whole
-all_taken_where_none_left n whole none = sym (append-nil (take n whole))
-    ∙ ap (λ bs. take n whole ++ bs) (sym none) ∙ take-append-drop n whole
+-- and where no more is fetched, no more is announced
+none_announced : (status : StatusWord) → fetched_after Everything status ≡ None
+    → announces status ≡ None
+none_announced status e = by (announces status) e
+  where
+    by : (v : Option ℕ) → fetched_of Everything v ≡ None → v ≡ None
+    by None e = refl
+    by (Some k) e = absurd (cc)
 
-pub fetched_all : (n : ℕ) (before : List UnitOf) (last : UnitOf) (opening : Opening) (left : Wanted)
-    (old new : CardState)
-    → n ≤ length (waiting old.pending) → AreFollowed (By_fetch n) Everything before opening left
+abbrev pub all_brought : List Tpdu → List ℕ
+all_brought ts = flat_map (λ (t : Tpdu). t.received) ts
+
+-- after this status all that is announced is fetched, and brings these
+pub record AreFetched (old : CardState) (told : StatusWord) (content : List ℕ) (status : StatusWord)
+    (new : CardState) : Type 0 where
+  pub fetches : List Tpdu
+  pub all : FetchAll old told fetches status new
+  pub content_is : content ≡ all_brought fetches
+
+fetched_all : (n cut : ℕ) (t : Tpdu) (before : List UnitOf) (last : UnitOf) (opening : Opening)
+    (left : Wanted) (prior old new : CardState) → Does prior cut t old → IsCut cut
+    → announces t.status ≡ Some n → AreFollowed (By_fetch n) Everything before opening left
     → OpensWith opening (first_of last) → IsUnit left last
     → fetched_after (after_unit left last) (last_of last).status ≡ None
     → Goes old (flat_map dialogues_of (before ++ last ∷ [])) new
-    → AreFetched old (flat_map unit_data (before ++ last ∷ [])) (last_of last).status new
-fetched_all n [] last opening left old new few followed opens is_unit ends goes =
+    → AreFetched old t.status (flat_map unit_data (before ++ last ∷ [])) (last_of last).status new
+fetched_all n cut t [] last opening left prior old new does in_range announced followed opens
+    is_unit ends goes =
     let opened : OpensWith (By_fetch n) (first_of last) =
     subst (λ o. OpensWith o (first_of last)) followed.0 opens in
     let unit_is : IsUnit Everything last = subst (λ w. IsUnit w last) followed.1 is_unit in
     let here : Goes old (dialogues_of last) new =
     subst (λ ds. Goes old ds new) (append-nil (dialogues_of last)) goes in
-    let (cut, one) = one_fetch n last old new few opened unit_is here in
+    let one = one_fetch n cut t last prior old new does in_range announced opened unit_is here in
+    let d = one.dialogue in
     let none_more : fetched_after Everything (last_of last).status ≡ None =
-    subst (λ w. fetched_after (after_unit w last) (last_of last).status ≡ None) followed.1
-    ends in
-    let none : drop n (waiting old.pending) ≡ [] =
-    none_announced (drop n (waiting old.pending)) cut
-    (ap (λ s. fetched_after Everything s) (sym one.status_is) ∙ none_more) in
+    subst (λ w. fetched_after (after_unit w last) (last_of last).status ≡ None) followed.1 ends in
+    let status_is : (last_of last).status ≡ d.status = ap (λ u. (last_of u).status) one.is in
+    let none : announces d.status ≡ None =
+    ap (λ s. announces s) (sym status_is) ∙ none_announced (last_of last).status none_more in
     record {
-      all = append-nil (unit_data last) ∙ one.brought
-          ∙ all_taken_where_none_left n (waiting old.pending) none;
-      status_is = one.status_is ∙ ap (λ bs. announcing bs cut) none;
-      same = one.same;
-      none_left = one.left ∙ ap pending_of none;
+      fetches = tpdu_of d ∷ [];
+      all = (
+        n,
+        one.cut,
+        new,
+        announced,
+        one.header_is,
+        one.counts,
+        one.in_range,
+        one.does,
+        (none, status_is, refl),
+      );
+      content_is = ap (λ u. unit_data u ++ []) one.is ∙ append-nil (received d ++ []);
     }
-fetched_all n (u ∷ before) last opening left old new few (m, is, followed) opens is_unit ends goes =
+fetched_all n cut t (u ∷ before) last opening left prior old new does in_range announced
+    (m, is, followed) opens is_unit ends goes =
+    let rest = flat_map unit_data (before ++ last ∷ []) in
     let (mid, first, others) =
     goes_apart old new (dialogues_of u) (flat_map dialogues_of (before ++ last ∷ [])) goes in
-    let (cut, one) = one_fetch n u old mid few is.opens is.is_unit first in
-    let rest : waiting mid.pending ≡ drop n (waiting old.pending) =
-    ap waiting one.left ∙ rest_waits (drop n (waiting old.pending)) in
-    let told : announces (announcing (drop n (waiting old.pending)) cut) ≡ Some m =
-    ap (λ s. announces s) (sym one.status_is) ∙ announced_by (last_of u).status m is.fetched in
-    let fits : m ≤ length (waiting mid.pending) =
-    omega (
-      arith,
-      announced_count (drop n (waiting old.pending)) cut m one.is_cut told,
-      ap length rest,
-    ) in
-    let more = fetched_all m before last opening left mid new fits followed opens is_unit ends
-    others in
+    let one = one_fetch n cut t u prior old mid does in_range announced is.opens is.is_unit first in
+    let d = one.dialogue in
+    let told : announces d.status ≡ Some m =
+    ap (λ v. announces (last_of v).status) (sym one.is)
+    ∙ announced_by (last_of u).status m is.fetched in
+    let more = fetched_all m one.cut (tpdu_of d) before last opening left old mid new one.does
+    one.in_range told followed opens is_unit ends others in
     record {
-      all = ap (λ bs. bs ++ flat_map unit_data (before ++ last ∷ [])) one.brought
-          ∙ ap (λ bs. take n (waiting old.pending) ++ bs) (more.all ∙ rest)
-          ∙ take-append-drop n (waiting old.pending);
-      status_is = more.status_is;
-      same = (one.same.0 ∙ more.same.0, one.same.1 ∙ more.same.1);
-      none_left = more.none_left;
+      fetches = tpdu_of d ∷ more.fetches;
+      all = (
+        n,
+        one.cut,
+        mid,
+        announced,
+        one.header_is,
+        one.counts,
+        one.in_range,
+        one.does,
+        more.all,
+      );
+      content_is = ap (λ v. unit_data v ++ rest) one.is
+          ∙ ap (λ z. z ++ rest) (append-nil (received d))
+          ∙ ap (λ z. received d ++ z) more.content_is;
     }
 
--- What follows the first unit of a command that wants everything: nothing, or fetches of what
--- waits.
-pub data Rest (u : UnitOf) (mid new : CardState) (content : List ℕ) (status : StatusWord) : Type 0
-  where
-    alone : fetched_after Everything (last_of u).status ≡ None → content ≡ unit_data u
-        → status ≡ (last_of u).status → new ≡ mid → Rest u mid new content status
-    is_fetched : (n : ℕ) (rest : List ℕ) → announces (last_of u).status ≡ Some n
-        → content ≡ unit_data u ++ rest
-        → (n ≤ length (waiting mid.pending) → AreFetched mid rest status new)
-        → Rest u mid new content status
+-- What follows the first unit of a command that wants everything: the fetches of what its last
+-- dialogue announces, if it does.
+abbrev pub Rest : UnitOf → CardState → CardState → List ℕ → StatusWord → Type 0
+Rest u mid new content status =
+    (prior : CardState) (cut : ℕ) → IsCut cut → Does prior cut (tpdu_of (last_of u)) mid
+    → (brought : List ℕ) × (content ≡ unit_data u ++ brought)
+    × AreFetched mid (last_of u).status brought status new
 
 -- the first unit, and what follows it
 pub record IsBegun (c : Command) (u : UnitOf) (old mid new : CardState) (content : List ℕ)
@@ -240,9 +228,21 @@ begun h bytes units content status old new g goes =
         opens = subst (λ o. OpensWith o (first_of last)) followed.0 opens;
         is_unit = subst (λ w. IsUnit w last) followed.1 is_unit;
         goes = subst (λ ds. Goes old ds new) (append-nil (dialogues_of last)) goes;
-        rest = alone (subst (λ w. fetched_after (after_unit w last) (last_of last).status ≡ None)
-            followed.1 ends)
-            (content_is ∙ append-nil (unit_data last)) status_is refl;
+        rest = λ prior cut in_range does. (
+          [],
+          content_is ∙ append-nil (unit_data last) ∙ sym (append-nil (unit_data last)),
+          record {
+            fetches = [];
+            all = (
+              none_announced (last_of last).status
+                  (subst (λ w. fetched_after (after_unit w last) (last_of last).status ≡ None)
+                  followed.1 ends),
+              status_is,
+              refl,
+            );
+            content_is = refl;
+          },
+        );
       },
     )
     by (u ∷ before) last opening left (n, is, followed) opens is_unit ends status_is content_is
@@ -256,68 +256,17 @@ begun h bytes units content status old new g goes =
             opens = is.opens;
             is_unit = is.is_unit;
             goes = first;
-            rest = is_fetched n (flat_map unit_data (before ++ last ∷ []))
-                (announced_by (last_of u).status n is.fetched) content_is
-                (λ few. subst (λ s. AreFetched mid (flat_map unit_data (before ++ last ∷ [])) s new)
-                (sym status_is)
-                (fetched_all n before last opening left mid new few followed opens is_unit ends
-                others));
+            rest = λ prior cut in_range does. (
+              flat_map unit_data (before ++ last ∷ []),
+              content_is,
+              subst (λ s. AreFetched mid (last_of u).status
+                  (flat_map unit_data (before ++ last ∷ [])) s new) (sym status_is)
+                  (fetched_all n cut (tpdu_of (last_of u)) before last opening left prior mid new
+                  does in_range (announced_by (last_of u).status n is.fetched) followed opens
+                  is_unit ends others),
+            );
           },
         )
-
--- where the unit tells what is left, all of that is fetched
-pub record IsGathered (front left : List ℕ) (mid new : CardState) (content : List ℕ)
-    (status : StatusWord) : Type 0 where
-  pub content_is : content ≡ front ++ left
-  pub status_is : status ≡ ok
-  pub same : SameTables mid new
-  pub none_left : new.pending ≡ NothingPending
-
-pub all_gathered : (u : UnitOf) (left : List ℕ) (cut : ℕ) (mid new : CardState) (content : List ℕ)
-    (status : StatusWord) → IsCut cut
-    → (last_of u).status ≡ announcing left cut → mid.pending ≡ pending_of left
-    → Rest u mid new content status
-    → IsGathered (unit_data u) left mid new content status
-all_gathered u left cut mid new content status is_cut told pending
-    (alone ends content_is status_is is) =
-    let none : left ≡ [] =
-    none_announced left cut (ap (λ s. fetched_after Everything s) (sym told) ∙ ends) in
-    record {
-      content_is = content_is ∙ sym (append-nil (unit_data u))
-          ∙ ap (λ bs. unit_data u ++ bs) (sym none);
-      status_is = status_is ∙ told ∙ ap (λ bs. announcing bs cut) none;
-      same = (ap (λ s. s.applications) (sym is), ap (λ s. s.selected) (sym is));
-      none_left = ap (λ s. s.pending) is ∙ pending ∙ ap pending_of none;
-    }
-all_gathered u left cut mid new content status is_cut told pending
-    (is_fetched n rest announced content_is fetches) =
-    let waits : waiting mid.pending ≡ left = ap waiting pending ∙ rest_waits left in
-    let counted = announced_count left cut n is_cut
-    (ap (λ s. announces s) (sym told) ∙ announced) in
-    let few : n ≤ length (waiting mid.pending) = omega (arith, counted, ap length waits) in
-    let all = fetches few in
-    record {
-      content_is = content_is ∙ ap (λ bs. unit_data u ++ bs) (all.all ∙ waits);
-      status_is = all.status_is;
-      same = all.same;
-      none_left = all.none_left;
-    }
-
--- where nothing is announced, nothing is fetched
-pub no_more : (u : UnitOf) (mid new : CardState) (content : List ℕ) (status : StatusWord)
-    → announces (last_of u).status ≡ None
-    → Rest u mid new content status → (content ≡ unit_data u) × (status ≡ (last_of u).status)
-    × (new ≡ mid)
-no_more u mid new content status none (alone ends content_is status_is is) =
-    (content_is, status_is, is)
-no_more u mid new content status none (is_fetched n rest announced content_is fetches) =
-    let no : Some n ≡ None = sym announced ∙ none in absurd (cc)
-
-pub idle_goes_on : (pending : Pending) (h : Header) → is_idle pending ≡ true
-    → breaks_chain pending h ≡ false
-idle_goes_on NothingPending h idle = refl
-idle_goes_on (ChainPending p1 p2 bytes) h idle = absurd (true≢false (sym idle))
-idle_goes_on (ResponsePending left) h idle = refl
 
 -- what an operation leaves
 pub record IsOneStep (old : CardState) (operation : Operation) (answer : Reply) (new : CardState)
@@ -334,6 +283,18 @@ answer_of status content = record { status = status; content = content }
 pub same_reply : (s t : StatusWord) (a b : List ℕ) → t ≡ s → b ≡ a → answer_of s a ≡ answer_of t b
 same_reply s t a b status content = ap (λ x. answer_of x a) (sym status)
     ∙ ap (λ x. answer_of t x) (sym content)
+
+-- an operation that is carried out is done in one step
+pub as_one_step : (old new : CardState) (operation : Operation) (status : StatusWord)
+    (brought content : List ℕ) → content ≡ brought
+    → IsCarriedOut old operation status brought new
+    → IsOneStep old operation (record { status = status; content = content }) new
+as_one_step old new operation status brought content is (after, answers, same, idle) = record {
+  after = after;
+  answers = subst (λ bs. Answers old operation (answer_of status bs) after) (sym is) answers;
+  same = same;
+  idle = idle;
+}
 
 -- where data go to the card the unit has one dialogue
 pub sent_once : (u : UnitOf) → (first_of u).body.direction ≡ ToCard → IsUnit Everything u
@@ -356,9 +317,3 @@ received_none d to = by d.body.direction to refl
     by : (v : Direction) → v ≡ ToCard → d.body.direction ≡ v → received d ≡ []
     by ToCard e is = rw is refl
     by FromCard e is = absurd (cc)
-
-pub all_have_moved : (bytes moved rest : List ℕ) → bytes ≡ moved ++ rest
-    → length bytes ≡ length moved → moved ≡ bytes
-all_have_moved bytes moved [] is same = sym (is ∙ append-nil moved)
-all_have_moved bytes moved (b ∷ rest) is same =
-    absurd (omega (arith, ap length is, length-append moved (b ∷ rest), same))

@@ -17,7 +17,7 @@ use Rattle.t0_core.specs.Room.{Room}
 use Rattle.t0_core.specs.HostSide.{Hosting, turn_of, fault_of, at_stage, after_fault}
 use Rattle.t0_core.specs.HostLaws.{after_done, after_failure, going}
 use Rattle.card_terminal.specs.Gathered.{UnitOf, Gathers}
-use Rattle.card_terminal.specs.ExchangeSide.{ExchangeOf, UnderWay, IsOver, IsKept, IsAtEnd, Stall, Continues, so_far, ended_with, exchange_turn, is_final}
+use Rattle.card_terminal.specs.ExchangeSide.{ExchangeOf, UnderWay, IsOver, IsKept, IsAtEnd, Stall, Continues, so_far, ended_with, exchange_turn, is_final, response_limit}
 use Rattle.card_terminal.specs.ExchangeHistory.{unit_characters, characters_to, Leads, to_front, to_end, to_stall, to_fault}
 use Rattle.card_terminal.proofs.UnitLemmas.{unit_ends, unit_goes_on, unit_dialogues}
 use Rattle.card_terminal.proofs.EndLemmas.{ended_at}
@@ -56,7 +56,8 @@ failed_sends_nothing : (byte : ℕ) (turn : HostTurn) → turn ≡ Failed → tu
 failed_sends_nothing byte turn failed sends = let e : Failed ≡ Sends byte = sym failed
     ∙ sends in absurd (cc)
 
-over_turn : (c : Command) (ex : ExchangeOf) (units : List UnitOf) (status : StatusWord)
+-- an exchange that is over says so
+pub over_turn : (c : Command) (ex : ExchangeOf) (units : List UnitOf) (status : StatusWord)
     → IsOver c ex units status → exchange_turn ex ≡ Done status
 over_turn c ex units status over = ap (λ b. if b then Failed else turn_of ex.host) over.going
     ∙ over.done
@@ -239,6 +240,6 @@ end_leads c came ex status done (to_fault units first front before b fault under
 
 -- a room that is full has the most bytes of a response
 pub full_room : (ex seen : ExchangeOf) → ex ≡ seen → IsKept ex
-    → length ex.gather.bytes ≡ ex.gather.limit → length seen.gather.bytes ≡ 16384
+    → length ex.gather.bytes ≡ ex.gather.limit → length seen.gather.bytes ≡ response_limit
 full_room ex seen is kept full =
     ap (λ (e : ExchangeOf). length e.gather.bytes) (sym is) ∙ full ∙ kept.room

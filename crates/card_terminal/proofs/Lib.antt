@@ -6,8 +6,7 @@ pub mod SessionLemmas
 pub mod LeadsLemmas
 pub mod PrefixLemmas
 pub mod FetchLemmas
-pub mod SelectLemmas
-pub mod GetLemmas
+pub mod OperationLemmas
 pub mod PutTalkLemmas
 pub mod TalkLemmas
 pub mod BoundLemmas

@@ -9,7 +9,7 @@ use Rattle.card_terminal.specs.Gathered.{wanted_by, after_unit, repeated_with, f
 use Rattle.card_terminal.specs.ExchangeSide.{ExchangeOf, ended_with, IsOver, Stall, Continues}
 use Rattle.card_terminal.proofs.UnitLemmas.{followed_left}
 
-none_or_some : (found : Option ℕ) (n : ℕ) → found ≡ None → found ≡ Some n → ⊥
+pub none_or_some : (found : Option ℕ) (n : ℕ) → found ≡ None → found ≡ Some n → ⊥
 none_or_some None n none some = absurd (cc)
 none_or_some (Some m) n none some = absurd (cc)
 

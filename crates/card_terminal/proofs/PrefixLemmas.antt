@@ -29,7 +29,7 @@ told_count false n m e = absurd (cc)
 corrected_count : (status : StatusWord) (n : ℕ) → corrects status ≡ Some n → count status.1 ≡ n
 corrected_count status n e = told_count (status.0 == 0x6C) (count status.1) n e
 
-correction_is : (direction : Direction) (left : Wanted) (corrected : Option ℕ) (n : ℕ)
+pub correction_is : (direction : Direction) (left : Wanted) (corrected : Option ℕ) (n : ℕ)
     → correction_of direction left corrected ≡ Some n → corrected ≡ Some n
 correction_is ToCard left corrected n e = absurd (cc)
 correction_is FromCard left None n e = absurd (cc)

@@ -37,7 +37,8 @@ use Rattle.card_terminal.specs.Talk.{HaveCuts, Talk, AreCommandsOf, AreExchanges
 use Rattle.card_terminal.specs.Operations.{operation_of}
 use Rattle.card_terminal.specs.Running.{new_answers, carried_out}
 use Rattle.card_terminal.proofs.FetchLemmas.{Goes, goes_by_runs, goes_sound}
-use Rattle.card_terminal.proofs.SessionLemmas.{over_turn, some_is}
+use Rattle.card_terminal.proofs.LeadsLemmas.{over_turn}
+use Rattle.card_terminal.proofs.SessionLemmas.{some_is}
 use Rattle.card_terminal.proofs.BoundLemmas.{so_far_brings, never_stalls}
 use Rattle.card_terminal.proofs.TalkLemmas.{own_talk_answers}
 use Rattle.card_terminal.proofs.TalkListLemmas.{left_after_both, follow_both, runs_both, all_both, runs_stand, AreTakenUpTo, taken_more, taken_to_end, one_more_exchange, talk_more}

@@ -30,7 +30,8 @@ use Rattle.t0_core.specs.WatchLaws.{hears_more, hears_nothing}
 use Rattle.t0_core.specs.DialogueLaws.{flat_map_last, all_more, ends_with}
 use Rattle.card_terminal.specs.declared.wanted.Wanted.{Wanted}
 use Rattle.card_terminal.specs.declared.wanted.Wanted.TheVariants.{Bytes}
-use Rattle.card_terminal.specs.Gathered.{get_response, wanted_by, less, correction_of, after_dialogue, after_unit, fetched_of, fetched_after, Opening, By_command, By_fetch, OpensWith, UnitOf, last_of, unit_data, AreFollowed, Gathers, dialogues_of}
+use Rattle.object_card.specs.CarryingOut.{get_response}
+use Rattle.card_terminal.specs.Gathered.{wanted_by, less, correction_of, after_dialogue, after_unit, fetched_of, fetched_after, Opening, By_command, By_fetch, OpensWith, UnitOf, last_of, unit_data, AreFollowed, Gathers, dialogues_of}
 use Rattle.object_card.specs.OneStep.{Reply}
 use Rattle.card_terminal.specs.Agreed.{IsAgreed}
 use Rattle.card_terminal.specs.Talk.{HaveCuts}
@@ -910,12 +911,6 @@ pub none_left : {State : Type 0} (Does : State → ℕ → Tpdu → State → Ty
     → characters_left ex stage cursor ≡ 0
 none_left Does first plans since now c standing stage ex cursor over =
     left_over c ex over.units over.status stage cursor over.terminal
-
--- an exchange that is over says so
-pub over_turn : (c : Command) (ex : ExchangeOf) (units : List UnitOf) (status : StatusWord)
-    → IsOver c ex units status → exchange_turn ex ≡ Done status
-over_turn c ex units status over = ap (λ b. if b then Failed else turn_of ex.host) over.going
-    ∙ over.done
 
 pub some_is : {A : Type 0} (o : Option A) (x y : A) → o ≡ Some x → o ≡ Some y → x ≡ y
 some_is o x y one two = let e : Some x ≡ Some y = sym one ∙ two in cc

@@ -15,13 +15,11 @@ use Rattle.object_card.specs.CardMeaning.{Does}
 use Rattle.object_card.specs.CarryingOut.{put_header}
 use Rattle.object_card.specs.PutRunLaws.{chain_is_put}
 use Rattle.object_card.specs.AnswerLaws.{answers_alike}
-use Rattle.object_card.specs.TagLaws.{named}
 use Rattle.card_terminal.specs.Gathered.{UnitOf, Single, Opens, Gathers, first_of, dialogues_of, IsUnit}
 use Rattle.card_terminal.specs.declared.wanted.Wanted.TheVariants.{Everything}
 use Rattle.card_terminal.specs.Talk.{AreExchangesOf, IsTalkOf, AreTalksOf, Talk, talk_dialogues, select_command, get_command, HaveCuts}
 use Rattle.card_terminal.proofs.FetchLemmas.{Goes, goes_by_runs, goes_apart, goes_sound, begun, IsOneStep, Rest, sent_once, same_reply}
-use Rattle.card_terminal.proofs.SelectLemmas.{select_answers}
-use Rattle.card_terminal.proofs.GetLemmas.{get_answers}
+use Rattle.card_terminal.proofs.OperationLemmas.{select_answers, get_answers}
 use Rattle.card_terminal.proofs.TalkListLemmas.{talk_stands}
 use Rattle.card_terminal.proofs.PutTalkLemmas.{chain_ends}
 
@@ -75,8 +73,7 @@ get_talk old new tag p1 p2 exchanges answer idle names are goes =
     let (units, only, gathers) = one_exchange (get_command p1 p2) exchanges answer are in
     let (u, mid, b) = begun (get_command p1 p2).header [] units answer.content answer.status old new
     gathers (one_goes old new units exchanges only goes) in
-    get_answers old mid new tag p1 p2 u answer.content answer.status idle (named tag p1 p2 names)
-    b.opens b.is_unit b.goes b.rest
+    get_answers old mid new tag p1 p2 u answer.content answer.status idle names b.opens b.is_unit b.goes b.rest
 
 put_talk : (old new : CardState) (tag value : List ℕ) (p1 p2 : ℕ) (pieces : List (List ℕ))
     (exchanges : List (List UnitOf)) (answer : Reply) → is_idle old.pending ≡ true

@@ -7,7 +7,8 @@ use Rattle.t0_core.specs.declared.direction.Direction.TheVariants.{ToCard, FromC
 use Rattle.t0_core.specs.declared.plan.Step.TheVariants.{All}
 use Rattle.t0_core.specs.Dialogue.{Dialogue}
 use Rattle.card_terminal.specs.declared.wanted.Wanted.TheVariants.{Bytes, Everything}
-use Rattle.card_terminal.specs.Gathered.{get_response, wanted_by, less, fetched_after, By_command, By_fetch, UnitOf, Single, Repeated, IsUnit, IsFollowed, AreFollowed, Gathers}
+use Rattle.object_card.specs.CarryingOut.{get_response}
+use Rattle.card_terminal.specs.Gathered.{wanted_by, less, fetched_after, By_command, By_fetch, UnitOf, Single, Repeated, IsUnit, IsFollowed, AreFollowed, Gathers}
 use Rattle.card_terminal.specs.ExchangeSide.{Stall}
 
 abbrev get_data : Header

@@ -1,7 +1,7 @@
 -- Which commands may be carried out with a card: both ends know from them which way data move.
 use Rattle.std.specs.Prelude.{ℕ, List, [], ◌∷◌, Option, Some, None}
 use Rattle.apdu_core.specs.CommandBytes.{Command}
-use Rattle.card_terminal.specs.Gathered.{get_response}
+use Rattle.object_card.specs.CarryingOut.{get_response}
 
 -- In case 2 the card never takes data under the INS; in cases 1, 3 and 4 it never sends any; and
 -- in cases 2 and 4 it

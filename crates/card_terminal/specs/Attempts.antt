@@ -6,7 +6,8 @@ use Rattle.card_terminal.specs.declared.wanted.Wanted.{Wanted}
 use Rattle.card_terminal.specs.declared.attempt.Attempt.{Attempt}
 use Rattle.card_terminal.specs.declared.attempt.Next.{Next}
 use Rattle.card_terminal.specs.declared.attempt.Next.TheVariants.{Asks, Stalls, Ends}
-use Rattle.card_terminal.specs.Gathered.{wants_at_least, fetched_after, get_response}
+use Rattle.object_card.specs.CarryingOut.{get_response}
+use Rattle.card_terminal.specs.Gathered.{wants_at_least, fetched_after}
 
 abbrev pub repetition : Attempt → Attempt
 repetition a = record {

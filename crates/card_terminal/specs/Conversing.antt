@@ -137,7 +137,7 @@ is_done Failed = true
 
 -- the most TPDUs that an exchange begins, with all its room gathered
 abbrev pub most_tpdus : ℕ
-most_tpdus = 32772
+most_tpdus = 2 * (response_limit + 2)
 
 abbrev pub characters_left : ExchangeOf → Stage → Cursor → ℕ
 characters_left ex stage cursor =

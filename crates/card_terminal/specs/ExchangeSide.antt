@@ -17,8 +17,10 @@ use Rattle.t0_core.specs.Room.{Room}
 use Rattle.t0_core.specs.HostSide.{Hosting, HostStandsAt, IsRequest, turn_of}
 use Rattle.card_terminal.specs.declared.wanted.Wanted.{Wanted}
 use Rattle.card_terminal.specs.declared.attempt.Attempt.{Attempt}
+use Rattle.card_terminal.specs.declared.exchange.TheConstants.{RESPONSE_LIMIT}
 use Rattle.card_terminal.specs.Attempts.{IsCounted}
-use Rattle.card_terminal.specs.Gathered.{get_response, wanted_by, after_unit, fetched_after, repeated_with, Opening, By_command, By_fetch, OpensWith, UnitOf, Single, Repeated, last_of, dialogues_of, unit_data, AreFollowed, IsOpenExchange, Gathers}
+use Rattle.object_card.specs.CarryingOut.{get_response}
+use Rattle.card_terminal.specs.Gathered.{wanted_by, after_unit, fetched_after, repeated_with, Opening, By_command, By_fetch, OpensWith, UnitOf, Single, Repeated, last_of, dialogues_of, unit_data, AreFollowed, IsOpenExchange, Gathers}
 
 -- what an exchange keeps: the end of the TPDU under way, the data so far, the place of the TPDU
 -- in the exchange,
@@ -92,8 +94,9 @@ pub record IsPlaceOf (a : Attempt) (opening : Opening) (units : List UnitOf)
   pub before_is : a.before ≡ length (flat_map unit_data units)
   pub number_is : a.number ≡ length (so_far units first) + 1
 
+-- the most bytes that an exchange gathers
 abbrev pub response_limit : ℕ
-response_limit = 16384
+response_limit = RESPONSE_LIMIT
 
 -- these units are over, and the first dialogue of the next where it is repeated, and the TPDU
 -- under way stands at this front

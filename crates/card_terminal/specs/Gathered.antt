@@ -8,6 +8,7 @@ use Rattle.t0_core.specs.declared.direction.Direction.{Direction}
 use Rattle.t0_core.specs.declared.direction.Direction.TheVariants.{ToCard, FromCard}
 use Rattle.t0_core.specs.Dialogue.{Dialogue}
 use Rattle.t0_core.specs.Meaning.{received}
+use Rattle.object_card.specs.CarryingOut.{get_response}
 use Rattle.card_terminal.specs.declared.wanted.Wanted.{Wanted}
 use Rattle.card_terminal.specs.declared.wanted.Wanted.TheVariants.{Bytes, Everything}
 
@@ -33,10 +34,6 @@ wants_at_least k Everything = true
 abbrev pub smaller : ℕ → Wanted → ℕ
 smaller k (Bytes n) = min k n
 smaller k Everything = k
-
--- its class is that of no chain and no channel (this project's profile)
-abbrev pub get_response : Header
-get_response = record { cla = 0x00; ins = 0xC0; p1 = 0x00; p2 = 0x00 }
 
 -- a dialogue with this header that asks for so many bytes
 pub record Asks (header : Header) (n : ℕ) (d : Dialogue) : Type 0 where

@@ -11,21 +11,21 @@ use Rattle.t0_core.specs.Meaning.{Tpdu, Runs}
 use Rattle.t0_core.specs.Plan.{Course, IsCut, FollowInTurn}
 use Rattle.object_card.specs.Tables.{IsAid}
 use Rattle.object_card.specs.OneStep.{Operation, Select, Get, Put, Reply}
-use Rattle.object_card.specs.CarryingOut.{put_header}
+use Rattle.object_card.specs.CarryingOut.{select_header, get_header, put_header}
 use Rattle.card_terminal.specs.Gathered.{UnitOf, dialogues_of, Gathers}
 
 -- SELECT by identifier, and GET DATA, both with Le = 00, which asks for all that there is
 -- (ISO/IEC 7816-4, SELECT and GET DATA)
 abbrev pub select_command : List ℕ → Command
 select_command aid = record {
-  header = record { cla = 0x00; ins = 0xA4; p1 = 0x04; p2 = 0x00 };
+  header = select_header;
   content = aid;
   le = Some 256;
 }
 
 abbrev pub get_command : ℕ → ℕ → Command
 get_command p1 p2 = record {
-  header = record { cla = 0x00; ins = 0xCA; p1 = p1; p2 = p2 };
+  header = get_header p1 p2;
   content = [];
   le = Some 256;
 }

@@ -1,6 +1,7 @@
 ghost use Rattle.std.specs.Prelude.{◌≡◌, ◌≤◌};
 ghost use Rattle.apdu_core.specs.StatusWord.{corrects, announces};
 ghost use Rattle.card_terminal.specs.Gathered.{fetched_of};
+ghost use Rattle.card_terminal.specs.ExchangeSide.{response_limit};
 ghost use Rattle.card_terminal.specs.Attempts.{again_with, following, IsCounted, IsNext};
 
 use crate::wanted::Wanted;
@@ -46,7 +47,7 @@ impl Attempt {
     /// What follows, where so many bytes are gathered, so much is still wanted, and this is the status.
     pub fn followed(self, gathered: usize, left: Wanted, status: Status) -> Next
         requires counted { IsCounted self gathered }
-        requires room { gathered ≤ 16384 }
+        requires room { gathered ≤ response_limit }
         ensures value { result ≡ following self gathered left status }
         ensures next { IsNext result gathered }
     {

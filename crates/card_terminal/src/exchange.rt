@@ -93,7 +93,7 @@ impl<'a, A: Allocator> Exchange<'a, A> {
 
     /// Begins the exchange of a command in an empty room.
     fn begin(gather: Gather<A>, command: Command<'a>) -> Exchange<'a, A>
-        requires { gather ≡ record { bytes = []; limit = 16384 } }
+        requires { gather ≡ record { bytes = []; limit = RESPONSE_LIMIT } }
         ensures begins { UnderWay command.entry result [] None fresh }
         ensures data { HasOnly command.entry.content result.host }
     {
@@ -145,9 +145,10 @@ impl<'a, A: Allocator> Exchange<'a, A> {
     ///
     /// `BadProcedure` comes where a procedure byte is due and this is neither one nor a first status
     /// byte, `TooLong` where a data character of the card is due and the room is full, `Stalled` where
-    /// a GET RESPONSE has brought nothing and the card announces more: then the exchange has failed for
-    /// good (this project's profile). `AfterEnd` comes where it is over or has failed, `NotListening`
-    /// where it has characters to send: these change nothing.
+    /// a GET RESPONSE that the exchange has sent of its own has brought nothing and the card announces
+    /// more (a command that is itself a GET RESPONSE may bring nothing): then the exchange has failed
+    /// for good (this project's profile). `AfterEnd` comes where it is over or has failed,
+    /// `NotListening` where it has characters to send: these change nothing.
     pub fn take(&mut self, byte: u8) -> Result<(), LineFault>
         ensures fault { MatchResult result (λ _. fault_of self.old.host self.old.gather byte ≡ None)
             (λ fault. (fault_of self.old.host self.old.gather byte ≡ Some fault)

@@ -10,7 +10,8 @@ use Rattle.object_card.specs.State.{CardState, is_idle, waiting, pending_of}
 use Rattle.object_card.specs.OneStep.{Operation, Answers, SameTables}
 use Rattle.object_card.specs.CardMeaning.{Does, announcing}
 
--- the headers: SELECT by identifier, GET DATA, PUT DATA as the last of its chain, and GET RESPONSE
+-- The headers: SELECT by identifier, GET DATA, PUT DATA as the last of its chain, and GET RESPONSE,
+-- whose class is that of no chain and no channel (this project's profile).
 abbrev pub select_header : Header
 select_header = record { cla = 0x00; ins = 0xA4; p1 = 0x04; p2 = 0x00 }
 

@@ -299,10 +299,12 @@ some_bytes tag value =
         split false true = omega arith
         split false false = omega arith
 
-count_of_some : (n : ℕ) → 1 ≤ n → count n ≡ n
+-- a number that is some counts itself
+pub count_of_some : (n : ℕ) → 1 ≤ n → count n ≡ n
 count_of_some n some = rw (ne_eqb n 0 (λ e. omega (arith, e, some))) refl
 
-no_correction : (left : List ℕ) (cut : ℕ) → corrects (announcing left cut) ≡ None
+-- what tells what is left tells no count
+pub no_correction : (left : List ℕ) (cut : ℕ) → corrects (announcing left cut) ≡ None
 no_correction [] cut = refl
 no_correction (b ∷ left) cut = refl
 

@@ -1,6 +1,7 @@
 use Rattle.std.proofs.Common.{refl, ap, subst, ◌∙◌}
 use Rattle.object_card.specs.State.{IsCardState}
-use Rattle.card_terminal.proofs.SessionLemmas.{begins, over_turn}
+use Rattle.card_terminal.proofs.LeadsLemmas.{over_turn}
+use Rattle.card_terminal.proofs.SessionLemmas.{begins}
 use Rattle.card_terminal.proofs.RunLemmas.{never_caused, stays_sound, sound_at, ok_unless, when_ok, done_sends_nothing, over_then, gone_from}
 use Rattle.card_terminal.proofs.session.Session.converse.Goals as goal
 

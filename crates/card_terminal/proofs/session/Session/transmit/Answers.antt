@@ -1,7 +1,8 @@
 use Rattle.std.proofs.Common.{◌≡◌, is_some, refl, sym, ap, ◌∙◌}
 use Rattle.t0_core.specs.declared.line_fault.LineFault.{LineFault}
 use Rattle.card_terminal.specs.declared.session_fault.SessionFault.TheVariants.{OutOfMemory, Line}
-use Rattle.card_terminal.proofs.SessionLemmas.{begins, over_turn, some_is, same_err, answered, caused}
+use Rattle.card_terminal.proofs.LeadsLemmas.{over_turn}
+use Rattle.card_terminal.proofs.SessionLemmas.{begins, some_is, same_err, answered, caused}
 use Rattle.std.proofs.lemmas.Result.{err_from_is_err_and}
 use Rattle.card_terminal.proofs.session.Session.transmit.Goals as goal
 

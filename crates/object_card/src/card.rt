@@ -175,7 +175,7 @@ impl<A: Allocator + Copy> TpduCard for ObjectCard<A> {
 
     #[inline(always)]
     fn byte(&self, at: u16) -> u8 {
-        match self.ready {
+        match &self.ready {
             Ready::Sends { response, .. } => response.byte(&self.applications, self.selected, at),
             _ => unreachable!(),
         }

@@ -19,9 +19,17 @@ use apdu_core::{Header, Status, count};
 use std::alloc::Allocator;
 use tlv_core::{ObjectTag, head};
 
-/// The status with which a header is refused, if it is.
-pub(crate) fn refusal<A: Allocator>(view: &View<A>, header: Header, p3: u8) -> Option<Status>
-    requires { IsStanding view.now.applications.now view.now.selected view.now.chain.now view.now.response }
+/// The status with which a header is refused, if it is. A GET DATA asks for this object, if there is
+/// one.
+pub(crate) fn refusal<A: Allocator>(
+    view: &View<A>,
+    header: Header,
+    p3: u8,
+    asked: &Option<Response>,
+) -> Option<Status>
+    requires standing { IsStanding view.now.applications.now view.now.selected view.now.chain.now view.now.response }
+    requires response { IfSome asked.now (IsResponse (entries_at view.now.applications.now view.now.selected)) }
+    requires asked { header.ins ≡ 0xCA → option_map (left_of (entries_at view.now.applications.now view.now.selected)) asked.now ≡ object_asked (state_of view.now.applications.now view.now.selected view.now.chain.now view.now.response) header }
     ensures { result ≡ refusal (state_of view.now.applications.now view.now.selected view.now.chain.now view.now.response) header p3 }
 {
     if !view.chain.accepts(header) {
@@ -35,7 +43,7 @@ pub(crate) fn refusal<A: Allocator>(view: &View<A>, header: Header, p3: u8) -> O
     } else if header.ins == PUT_DATA {
         put_refusal(view, header, p3)
     } else if header.ins == GET_DATA {
-        get_refusal(view, header, p3)
+        get_refusal(view, header, p3, asked)
     } else {
         get_response_refusal(view, header, p3)
     }
@@ -122,15 +130,22 @@ fn put_refusal<A: Allocator>(view: &View<A>, header: Header, p3: u8) -> Option<S
     None
 }
 
-fn get_refusal<A: Allocator>(view: &View<A>, header: Header, p3: u8) -> Option<Status>
+fn get_refusal<A: Allocator>(
+    view: &View<A>,
+    header: Header,
+    p3: u8,
+    asked: &Option<Response>,
+) -> Option<Status>
     requires standing { IsStanding view.now.applications.now view.now.selected view.now.chain.now view.now.response }
     requires ins { header.ins ≡ 0xCA }
+    requires response { IfSome asked.now (IsResponse (entries_at view.now.applications.now view.now.selected)) }
+    requires asked { option_map (left_of (entries_at view.now.applications.now view.now.selected)) asked.now ≡ object_asked (state_of view.now.applications.now view.now.selected view.now.chain.now view.now.response) header }
     ensures { result ≡ first_of_them (state_of view.now.applications.now view.now.selected view.now.chain.now view.now.response) header p3 of_state }
 {
     if chosen(view.applications, view.selected).is_none() {
         return Some(status(0x69, 0x85));
     }
-    let Some(response) = object_asked(view, header) else {
+    let Some(response) = asked else {
         return Some(status(0x6A, 0x88));
     };
     too_much(response.left(view.applications, view.selected), p3)

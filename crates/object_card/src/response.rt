@@ -67,13 +67,13 @@ impl Response {
 
     /// How many bytes are left.
     pub(crate) fn left<A: Allocator>(
-        self,
+        &self,
         applications: &[Application<A>],
         selected: Option<usize>,
     ) -> usize
         requires selected { IfSome selected (λ place. place < length applications.now) }
-        requires response { IsResponse (entries_at applications.now selected) self }
-        ensures { result ≡ length (left_of (entries_at applications.now selected) self) }
+        requires response { IsResponse (entries_at applications.now selected) self.now }
+        ensures { result ≡ length (left_of (entries_at applications.now selected) self.now) }
     {
         self.len + self.value(applications, selected).len() - self.sent
     }
@@ -81,15 +81,15 @@ impl Response {
     /// The byte at this place among those left.
     #[inline(always)]
     pub(crate) fn byte<A: Allocator>(
-        self,
+        &self,
         applications: &[Application<A>],
         selected: Option<usize>,
         at: u16,
     ) -> u8
         requires selected { IfSome selected (λ place. place < length applications.now) }
-        requires response { IsResponse (entries_at applications.now selected) self }
-        requires within { at < length (left_of (entries_at applications.now selected) self) }
-        ensures { slice_get (left_of (entries_at applications.now selected) self) at ≡ Some result }
+        requires response { IsResponse (entries_at applications.now selected) self.now }
+        requires within { at < length (left_of (entries_at applications.now selected) self.now) }
+        ensures { slice_get (left_of (entries_at applications.now selected) self.now) at ≡ Some result }
     {
         let value = self.value(applications, selected);
         let place = self.sent + at as usize;
@@ -103,13 +103,13 @@ impl Response {
     /// The value that follows the front.
     #[inline(always)]
     fn value<'a, A: Allocator>(
-        self,
+        &self,
         applications: &'a [Application<A>],
         selected: Option<usize>,
     ) -> &'a [u8]
         requires selected { IfSome selected (λ place. place < length applications.now) }
-        requires value { IfSome self.value (λ place. place < length (entries_at applications.now selected)) }
-        ensures { result.now ≡ value_at (entries_at applications.now selected) self.value }
+        requires value { IfSome self.now.value (λ place. place < length (entries_at applications.now selected)) }
+        ensures { result.now ≡ value_at (entries_at applications.now selected) self.now.value }
     {
         match (selected, self.value) {
             (Some(application), Some(place)) => applications[application].value(place),

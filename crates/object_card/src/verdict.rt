@@ -1,15 +1,15 @@
 //! The verdict on a header.
-ghost use Rattle.std.specs.Prelude.{◌≡◌, None, if◌then◌else◌, ◌==◌, ◌≤◌, false, IfSome, ◌&&◌, ◌⊎◌, [], unwrap_or};
+ghost use Rattle.std.specs.Prelude.{◌≡◌, None, if◌then◌else◌, ◌==◌, ◌≤◌, false, IfSome, ◌&&◌, ◌⊎◌, ◌||◌, [], true, unwrap_or};
 ghost use Rattle.object_card.specs.CardMeaning.{Does};
 ghost use Rattle.object_card.specs.CardFields.{state_of, IsResponse, entries_at, left_of};
 ghost use Rattle.object_card.specs.CardView.{IsReady, IsStanding, prepared_of, standing_chain};
 ghost use Rattle.std.specs.Option.{option_map};
 ghost use Rattle.apdu_core.specs.HeaderBytes.{ins_is_valid};
 ghost use Rattle.t0_core.specs.CardContract.{IsRefusal, Judges, Permits};
-ghost use Rattle.object_card.specs.Refusals.{is_get_response, to_send};
+ghost use Rattle.object_card.specs.Refusals.{is_get, is_get_response, object_asked, to_send};
 
 use crate::header_refusals::{object_asked, refusal};
-use crate::instructions::{GET_RESPONSE, PUT_DATA, SELECT};
+use crate::instructions::{GET_DATA, GET_RESPONSE, PUT_DATA, SELECT};
 use crate::ready::Ready;
 use crate::response::Response;
 use crate::view::View;
@@ -33,14 +33,15 @@ pub(crate) fn judged<A: Allocator>(
     ensures invalid { ins_is_valid header.ins ≡ false → IsRefusal result.0 }
     ensures permitted { Permits (λ ins. (ins ≡ 0xA4) ⊎ (ins ≡ 0xDA)) (λ ins. (ins ≡ 0xCA) ⊎ (ins ≡ 0xC0)) header.ins result.0 }
 {
-    if let Some(status) = refusal(view, header, p3) {
+    let sends = to_send(view, header);
+    if let Some(status) = refusal(view, header, p3, &sends) {
         let response = kept(view.response, header, &status);
         return (Verdict::Refuse(status), Ready::Leaves { response });
     }
     if header.ins == SELECT || header.ins == PUT_DATA {
         return (Verdict::Receive, Ready::Receives { header, p3, cut });
     }
-    let response = to_send(view, header).unwrap();
+    let response = sends.unwrap();
     let ready = Ready::Sends {
         header,
         p3,
@@ -62,14 +63,15 @@ fn kept(response: Option<Response>, header: Header, status: &Status) -> Option<R
 }
 
 /// What a GET DATA or a GET RESPONSE has to send.
-pub(crate) fn to_send<A: Allocator>(view: &View<A>, header: Header) -> Option<Response>
+fn to_send<A: Allocator>(view: &View<A>, header: Header) -> Option<Response>
     requires standing { IsStanding view.now.applications.now view.now.selected view.now.chain.now view.now.response }
     ensures response { IfSome result (IsResponse (entries_at view.now.applications.now view.now.selected)) }
-    ensures left { unwrap_or (option_map (left_of (entries_at view.now.applications.now view.now.selected)) result) [] ≡ to_send (state_of view.now.applications.now view.now.selected view.now.chain.now view.now.response) header }
+    ensures asked { header.ins ≡ 0xCA → option_map (left_of (entries_at view.now.applications.now view.now.selected)) result ≡ object_asked (state_of view.now.applications.now view.now.selected view.now.chain.now view.now.response) header }
+    ensures left { (is_get header || is_get_response header) ≡ true → unwrap_or (option_map (left_of (entries_at view.now.applications.now view.now.selected)) result) [] ≡ to_send (state_of view.now.applications.now view.now.selected view.now.chain.now view.now.response) header }
 {
-    if header.ins == GET_RESPONSE {
-        view.response
-    } else {
-        object_asked(view, header)
+    match header.ins {
+        GET_DATA => object_asked(view, header),
+        GET_RESPONSE => view.response,
+        _ => None,
     }
 }

@@ -1,7 +1,9 @@
-use Rattle.std.proofs.Common.{◌∙◌, sym, ap, refl, length, arith, length-take}
+use Rattle.std.proofs.Common.{◌∙◌, sym, subst, ap, refl, length, arith, length-take, Option}
+use Rattle.std.specs.Prelude.{IfSome}
 use Rattle.apdu_core.specs.StatusWord.{count}
 use Rattle.apdu_core.specs.Chaining.{idle}
-use Rattle.object_card.specs.CardFields.{entries_at, left_of, state_of}
+use Rattle.object_card.specs.CardFields.{IsResponse, entries_at, left_of, state_of}
+use Rattle.object_card.specs.declared.response.Response.{Response}
 use Rattle.object_card.proofs.AnswerLemmas as answer
 use Rattle.object_card.proofs.verdict.judged.Goals as goal
 
@@ -16,14 +18,14 @@ pub unwrap-response-requires : goal.unwrap-response-requires
 unwrap-response-requires g c =
     let none = (sym c.refusal.ensures ∙ c.in_default.is) in
     let sending = answer.sends_where (state_of c.args.view.now.applications.now c.args.view.now.selected c.args.view.now.chain.now c.args.view.now.response) c.args.header c.args.p3 none c.if-header-eq-SELECT.false c.if-header-eq-PUT_DATA.false in
-    answer.some_to_send (left_of (entries_at c.args.view.now.applications.now c.args.view.now.selected)) c.to_send.result _ (count c.args.p3) c.to_send.ensures.left
+    answer.some_to_send (left_of (entries_at c.args.view.now.applications.now c.args.view.now.selected)) c.to_send-sends.result _ (count c.args.p3) (c.to_send-sends.ensures.left sending)
     (answer.enough_left (state_of c.args.view.now.applications.now c.args.view.now.selected c.args.view.now.chain.now c.args.view.now.response) c.args.header c.args.p3 none sending) (answer.count_some c.args.p3)
 
 pub returns-clause-judged : goal.returns-clause-judged
 returns-clause-judged g c =
     let none = (sym c.refusal.ensures ∙ c.in_default.is) in
     let sending = answer.sends_where (state_of c.args.view.now.applications.now c.args.view.now.selected c.args.view.now.chain.now c.args.view.now.response) c.args.header c.args.p3 none c.if-header-eq-SELECT.false c.if-header-eq-PUT_DATA.false in
-    let whole = answer.to_send_is (left_of (entries_at c.args.view.now.applications.now c.args.view.now.selected)) c.to_send.result c.unwrap-response.result _ c.unwrap-response.ensures c.to_send.ensures.left in (
+    let whole = answer.to_send_is (left_of (entries_at c.args.view.now.applications.now c.args.view.now.selected)) c.to_send-sends.result c.unwrap-response.result _ c.unwrap-response.ensures (c.to_send-sends.ensures.left sending) in (
       refl,
       omega (
         arith,
@@ -44,3 +46,16 @@ returns-clause-permitted g c =
     let none = (sym c.refusal.ensures ∙ c.in_default.is) in
     let sending = answer.sends_where (state_of c.args.view.now.applications.now c.args.view.now.selected c.args.view.now.chain.now c.args.view.now.response) c.args.header c.args.p3 none c.if-header-eq-SELECT.false c.if-header-eq-PUT_DATA.false in
     answer.sending_ins c.args.header.ins sending
+
+pub returns-clause-fits : goal.returns-clause-fits
+returns-clause-fits g c =
+    let v = c.args.view.now in
+    let none = (sym c.refusal.ensures ∙ c.in_default.is) in
+    let sending = answer.sends_where (state_of v.applications.now v.selected v.chain.now v.response) c.args.header c.args.p3 none c.if-header-eq-SELECT.false c.if-header-eq-PUT_DATA.false in
+    let Held : Option Response → Type 0 = λ r. IfSome r (IsResponse (entries_at v.applications.now v.selected)) in (
+      record { taken = none; small = c.ranges.p3.fits; cut_from = c.requires.cut.0; cut_to = c.requires.cut.1 },
+      sending,
+      subst Held c.unwrap-response.ensures c.to_send-sends.ensures.response,
+      answer.to_send_is (left_of (entries_at v.applications.now v.selected)) c.to_send-sends.result c.unwrap-response.result _ c.unwrap-response.ensures (c.to_send-sends.ensures.left sending),
+      refl,
+    )

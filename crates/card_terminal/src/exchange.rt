@@ -149,6 +149,7 @@ impl<'a, A: Allocator> Exchange<'a, A> {
     /// more (a command that is itself a GET RESPONSE may bring nothing): then the exchange has failed
     /// for good (this project's profile). `AfterEnd` comes where it is over or has failed,
     /// `NotListening` where it has characters to send: these change nothing.
+    #[inline(always)]
     pub fn take(&mut self, byte: u8) -> Result<(), LineFault>
         ensures fault { MatchResult result (λ _. fault_of self.old.host self.old.gather byte ≡ None)
             (λ fault. (fault_of self.old.host self.old.gather byte ≡ Some fault)

@@ -172,6 +172,7 @@ impl<'a> HostEnd<'a> {
     }
 
     /// The status, if the TPDU has ended.
+    #[inline(always)]
     pub fn status(&self) -> Option<Status>
         ensures { (status : StatusWord) → (result ≡ Some status)
             ↔ (turn_of self.now ≡ HostTurn.Done status) }

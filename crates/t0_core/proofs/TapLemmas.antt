@@ -9,7 +9,7 @@ use Rattle.apdu_core.specs.StatusWord.{IsStatusWord, is_first_status}
 use Rattle.t0_core.specs.declared.end.End.{End}
 use Rattle.t0_core.specs.declared.end.End.TheVariants.{Terminal, Card}
 use Rattle.t0_core.specs.declared.plan.Step.{Step}
-use Rattle.t0_core.specs.declared.plan.Step.TheVariants.{Null, One, All}
+use Rattle.t0_core.specs.declared.plan.Step.TheVariants.{Null}
 use Rattle.t0_core.specs.declared.direction.Direction.{Direction}
 use Rattle.t0_core.specs.declared.direction.Direction.TheVariants.{ToCard, FromCard}
 use Rattle.t0_core.specs.declared.heard.Said.{Said}
@@ -25,7 +25,7 @@ use Rattle.t0_core.specs.Dialogue.{Body, Dialogue, IsDialogue, characters, body_
 use Rattle.t0_core.specs.Front.{Front, IsFront, front_characters, fresh, In_header, In_body, After_first, GoesOn, Ends, IsBetween, IsBegun, EndInLast, with_segment, with_moved, header_only}
 use Rattle.t0_core.specs.FrontLaws.{goes_on, all_moves-more, all_moves-within}
 use Rattle.t0_core.specs.History.{Event, Passed, Reset, Whole, Cut_off, events_of, passed}
-use Rattle.t0_core.specs.TapHistory.{HasHeard, IsOverheard}
+use Rattle.t0_core.specs.TapHistory.{HasHeard, HearsOn, IsOverheard}
 use Rattle.t0_core.specs.TapView.{place_of, IsHeldAt}
 use Rattle.t0_core.specs.DialogueLaws.{all_more, ends_with}
 use Rattle.t0_core.specs.TapSide.{Place, In_opening, Between, In_data, After_sw1, SaysSo, Shows, IsRead, IsReadFront, IsPlace, IsSaid, TapStandsAt, Makes, unheard_at, heard_at, after_hearing, opened, begun_by, foreseen_by, moved_to, may_come_from, due_at, direction_from, goes_this_way, way_of, with_data, is_terminal, unheard_byte, unheard_procedure, turned_body, turned, Takes, Concludes, afresh}
@@ -715,8 +715,8 @@ passed_whole front c d ends = ap passed (ends_by_card front c d ends)
     ∙ passed_more (front_characters front) c
 
 pub hears_led : (p seen : Place) (from : End) (byte : ℕ) (heard : Heard) (next : Place)
-    → HearsOne p seen from byte heard next → (events : List Event) → HasHeard events seen
-    → HasHeard (events ++ Passed (from, byte) ∷ []) next
+    → HearsOne p seen from byte heard next → (events : List Event) (led : HasHeard events seen)
+    → HearsOn led heard (from, byte) next
 hears_led p seen from byte heard next hears events led =
     let takes = hears_of_one p seen from byte heard next hears led.front led.stands in
     let front = turned takes.way led.front in
@@ -728,26 +728,35 @@ hears_led p seen from byte heard next hears events led =
       | inl goes ↦
           let grown = goes_on front goes.0 (from, byte) is_front goes.1 in
           record {
-            items = led.items;
-            front = goes.0;
-            events_are = events_with events led.items front goes.0 (from, byte) events_are grown.1;
-            are_overheard = led.are_overheard;
-            is_front = grown.0;
-            stands = goes.3;
+            now = record {
+              items = led.items;
+              front = goes.0;
+              events_are = events_with events led.items front goes.0 (from, byte) events_are
+                  grown.1;
+              are_overheard = led.are_overheard;
+              is_front = grown.0;
+              stands = goes.3;
+            };
+            way = takes.way;
+            goes = inl (goes.1, goes.2, refl);
           }
       | inr ends ↦
           record {
-            items = led.items ++ Whole ends.0 ∷ [];
-            front = fresh;
-            events_are = events_item events led.items (passed (front_characters front))
-                (Passed (from, byte)) (Whole ends.0) events_are
-                (passed_whole front (from, byte) ends.0 ends.1);
-            are_overheard = all_more IsOverheard led.items (Whole ends.0) led.are_overheard (
-              ended_is front (from, byte) ends.0 is_front ends.1,
-              concluded_read heard ends.0 ends.2,
-            );
-            is_front = lit< tt;
-            stands = rw (ends.3) (refl, lit< tt);
+            now = record {
+              items = led.items ++ Whole ends.0 ∷ [];
+              front = fresh;
+              events_are = events_item events led.items (passed (front_characters front))
+                  (Passed (from, byte)) (Whole ends.0) events_are
+                  (passed_whole front (from, byte) ends.0 ends.1);
+              are_overheard = all_more IsOverheard led.items (Whole ends.0) led.are_overheard (
+                ended_is front (from, byte) ends.0 is_front ends.1,
+                concluded_read heard ends.0 ends.2,
+              );
+              is_front = lit< tt;
+              stands = rw (ends.3) (refl, lit< tt);
+            };
+            way = takes.way;
+            goes = inr (ends.0, ends.1, ends.2, refl, refl);
           }
     ]
 

@@ -1,22 +1,19 @@
 -- A tap goes through dialogues that follow plans, one after another.
-use Rattle.std.proofs.Common.{◌≡◌, ℕ, ◌+◌, ◌<◌, List, [], ◌∷◌, ◌++◌, length, refl, sym, subst, ◌∙◌, ap, arith, inl, inr, lit<, None, ◌⊎◌, zero}
+use Rattle.std.proofs.Common.{◌≡◌, ℕ, ◌<◌, List, [], ◌∷◌, ◌++◌, length, refl, sym, subst, ◌∙◌, ap, arith, inl, inr, lit<, None}
 use Rattle.std.specs.List.{AllByRecursion, flat_map}
-use Rattle.std.proofs.lemmas.List.{map-append}
 use Rattle.apdu_core.specs.declared.header.Header.{Header}
 use Rattle.t0_core.specs.declared.end.End.{End}
-use Rattle.t0_core.specs.declared.end.End.TheVariants.{Terminal, Card}
-use Rattle.t0_core.specs.declared.direction.Direction.TheVariants.{ToCard}
 use Rattle.t0_core.specs.declared.plan.Step.{Step}
 use Rattle.t0_core.specs.declared.plan.Step.TheVariants.{Null, One, All}
 use Rattle.t0_core.specs.declared.heard.Heard.{Heard}
 use Rattle.t0_core.specs.declared.heard.Heard.TheVariants as heard
 use Rattle.t0_core.specs.Character.{Character}
-use Rattle.t0_core.specs.Dialogue.{Body, Dialogue, IsDialogue, characters, all_moves, foreseen}
+use Rattle.t0_core.specs.Dialogue.{Dialogue, IsDialogue, characters, foreseen}
 use Rattle.t0_core.specs.Plan.{Course, plain, segments_of, Follows, FollowInTurn}
-use Rattle.t0_core.specs.Front.{Front, In_header, In_body, After_first, GoesOn, Ends, GoesThrough, fresh}
+use Rattle.t0_core.specs.Front.{Front, In_header, In_body, After_first, Ends, GoesThrough, fresh}
 use Rattle.t0_core.specs.FrontLaws.{all_moves-within}
 use Rattle.t0_core.specs.WholeLaws.{goes_through}
-use Rattle.t0_core.specs.History.{Event, IsByteEvent, passed}
+use Rattle.t0_core.specs.History.{IsByteEvent, passed}
 use Rattle.t0_core.specs.TapSide.{Place, In_opening, Between, In_data, After_sw1, TapStandsAt, IsRead, IsReadFront, Makes, Concludes, afresh, unheard_at, heard_at, after_hearing}
 use Rattle.t0_core.specs.TapLine.{HearsInTurn, AreTold}
 use Rattle.t0_core.proofs.TapLemmas.{HasByte, takes_all}

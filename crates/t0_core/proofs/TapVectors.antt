@@ -1,5 +1,5 @@
 -- What a tap says of worked dialogues, computed from the definitions, and near misses.
-use Rattle.std.proofs.Common.{◌≡◌, ℕ, List, [], ◌∷◌, ◌++◌, refl, Some, None}
+use Rattle.std.proofs.Common.{◌≡◌, ℕ, [], ◌∷◌, ◌++◌, refl, Some, None}
 use Rattle.t0_core.specs.declared.end.End.TheVariants.{Terminal, Card}
 use Rattle.t0_core.specs.declared.direction.Direction.TheVariants.{FromCard}
 use Rattle.t0_core.specs.declared.plan.Step.TheVariants.{Null, One, All}

@@ -1,10 +1,13 @@
 -- What a tap has heard: all that has gone on since it was made.
-use Rattle.std.specs.Prelude.{◌≡◌, List, ◌++◌}
+use Rattle.std.specs.Prelude.{◌≡◌, ◌⊎◌, List, [], ◌∷◌, ◌++◌}
 use Rattle.std.specs.List.{AllByRecursion, flat_map}
-use Rattle.t0_core.specs.Dialogue.{IsDialogue}
-use Rattle.t0_core.specs.Front.{Front, IsFront, front_characters}
-use Rattle.t0_core.specs.History.{Event, Item, Whole, Cut_off, events_of, passed}
-use Rattle.t0_core.specs.TapSide.{Place, TapStandsAt, IsRead, IsReadFront}
+use Rattle.t0_core.specs.declared.direction.Direction.{Direction}
+use Rattle.t0_core.specs.declared.heard.Heard.{Heard}
+use Rattle.t0_core.specs.Character.{Character}
+use Rattle.t0_core.specs.Dialogue.{Dialogue, IsDialogue}
+use Rattle.t0_core.specs.Front.{Front, IsFront, GoesOn, Ends, fresh, front_characters}
+use Rattle.t0_core.specs.History.{Event, Passed, Item, Whole, Cut_off, events_of, passed}
+use Rattle.t0_core.specs.TapSide.{Place, TapStandsAt, IsRead, IsReadFront, Makes, Concludes, turned}
 
 -- a dialogue, as the tap reads it, or what a reset cut off of one
 abbrev pub IsOverheard : Item → Type 0
@@ -21,3 +24,14 @@ pub record HasHeard (events : List Event) (place : Place) : Type 0 where
   pub are_overheard : AllByRecursion IsOverheard items
   pub is_front : IsFront front
   pub stands : TapStandsAt place front
+
+-- What has been heard, with one character more. The front under way goes on with it, its data this
+-- way or that, or the dialogue ends with it and is one item more.
+pub record HearsOn {events : List Event} {before : Place} (led : HasHeard events before)
+    (heard : Heard) (c : Character) (after : Place) : Type 0 where
+  pub now : HasHeard (events ++ Passed c ∷ []) after
+  pub way : Direction
+  pub goes : (GoesOn (turned way led.front) c now.front
+      × Makes heard (turned way led.front) c now.front × (now.items ≡ led.items))
+      ⊎ ((d : Dialogue) × Ends (turned way led.front) c d × Concludes heard d
+      × (now.front ≡ fresh) × (now.items ≡ led.items ++ Whole d ∷ []))

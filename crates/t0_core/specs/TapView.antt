@@ -1,5 +1,5 @@
 -- How the stages of a tap are seen.
-use Rattle.std.specs.Prelude.{◌≡◌, ℕ, ◌≤◌, List, length, take}
+use Rattle.std.specs.Prelude.{◌≡◌, ◌≤◌, length, take}
 use Rattle.t0_core.specs.declared.tap.TapStage.{TapStage}
 use Rattle.t0_core.specs.declared.tap.TapStage.TheVariants as stage
 use Rattle.t0_core.specs.TapSide.{Place, In_opening, Between, In_data, After_sw1, IsPlace}

@@ -1,10 +1,10 @@
-ghost use Rattle.std.specs.Prelude.{◌≡◌, ℕ, ◌+◌, ◌-◌, ◌≤◌, ◌<◌, ◌++◌, ◌∷◌, [], List, length, take, OnErr, OnOk, IfOk, MatchResult, true};
+ghost use Rattle.std.specs.Prelude.{◌≡◌, ◌≤◌, ◌<◌, ◌++◌, ◌∷◌, [], List, length, take, OnErr, IfOk, MatchResult, true};
 ghost use Rattle.std.specs.Result.{result_err};
 ghost use Rattle.t0_core.specs.Front.{Front, GoesOn, Ends};
-ghost use Rattle.t0_core.specs.Dialogue.{Dialogue, moves};
-ghost use Rattle.t0_core.specs.TapSide.{TapStandsAt, Takes, Makes, Concludes, IsReadFront, IsPlace, IsSaid, In_opening, Between, In_data, foreseen_by, begun_by, begun_at, moved_to, opened, with_data, direction_from, due_at, unheard_at, unheard_byte, unheard_procedure, heard_at, heard_procedure, after_hearing, afresh, may_come_from};
-ghost use Rattle.t0_core.specs.TapHistory.{HasHeard};
-ghost use Rattle.t0_core.specs.History.{Event, Passed, Reset};
+ghost use Rattle.t0_core.specs.Dialogue.{Dialogue};
+ghost use Rattle.t0_core.specs.TapSide.{TapStandsAt, Takes, Makes, Concludes, IsReadFront, IsSaid, foreseen_by, begun_by, begun_at, moved_to, opened, due_at, unheard_at, unheard_byte, unheard_procedure, heard_at, heard_procedure, after_hearing, afresh, may_come_from};
+ghost use Rattle.t0_core.specs.TapHistory.{HasHeard, HearsOn};
+ghost use Rattle.t0_core.specs.History.{Event, Reset};
 ghost use Rattle.t0_core.specs.TapView.{place_of, IsHeldAt};
 
 use crate::direction::Direction;
@@ -43,8 +43,8 @@ pub struct Tap {
 
 impl Model for Tap {
     ghost use Rattle.t0_core.specs.TapSide.{Place};
-    ghost use Rattle.t0_core.specs.TapHistory.{HasHeard};
-    ghost use Rattle.t0_core.specs.History.{Event, Passed, Reset};
+    ghost use Rattle.t0_core.specs.TapHistory.{HasHeard, HearsOn};
+    ghost use Rattle.t0_core.specs.History.{Event, Reset};
     ghost use Rattle.t0_core.specs.TapView.{place_of, IsHeldAt};
 
     ghost Value = { Place };
@@ -93,8 +93,8 @@ impl Tap {
             MatchResult result (λ heard. Concludes heard d) (λ _. ⊥) × (self.new ≡ afresh) }
 
         // Whatever it has heard it has heard with this character.
-        ensures led { (events : List Event) → HasHeard events self.old →
-            OnOk result (HasHeard (events ++ Passed (from, byte) ∷ []) self.new) }
+        ensures led { (events : List Event) (led : HasHeard events self.old) →
+            IfOk result (λ heard. HearsOn led heard (from, byte) self.new) }
     {
         if !due_at(self.stage).may_come_from(from) {
             return Err(Unheard::OutOfTurn);

@@ -46,9 +46,11 @@ record OpenAlike (d e : Dialogue) : Type 0 where
 count_tells : (a b : ℕ) → a < 256 → b < 256 → count a ≡ count b → a ≡ b
 count_tells zero zero la lb e = refl
 count_tells zero (suc b) la lb e =
-    let same : 256 ≡ suc b = e ∙ count_of_some (suc b) (omega arith) in absurd (omega (arith, same, lb))
+    let same : 256 ≡ suc b = e ∙ count_of_some (suc b) (omega arith) in absurd (omega
+    (arith, same, lb))
 count_tells (suc a) zero la lb e =
-    let same : suc a ≡ 256 = sym (count_of_some (suc a) (omega arith)) ∙ e in absurd (omega (arith, same, la))
+    let same : suc a ≡ 256 = sym (count_of_some (suc a) (omega arith)) ∙ e in absurd (omega
+    (arith, same, la))
 count_tells (suc a) (suc b) la lb e =
     sym (count_of_some (suc a) (omega arith)) ∙ e ∙ count_of_some (suc b) (omega arith)
 
@@ -106,7 +108,8 @@ abbrev unit_on : UnitOf → List Character → List Character
 unit_on (Single d) r = characters d ++ r
 unit_on (Repeated d e) r = characters d ++ (characters e ++ r)
 
-units_on : (u : UnitOf) (us : List UnitOf) → unit_characters (u ∷ us) ≡ unit_on u (unit_characters us)
+units_on : (u : UnitOf) (us : List UnitOf) → unit_characters (u ∷ us) ≡ unit_on u
+    (unit_characters us)
 units_on (Single d) us = refl
 units_on (Repeated d e) us = refl
 
@@ -179,7 +182,8 @@ split_dialogues : (u : UnitOf) (us : List UnitOf) → AreAll (flat_map dialogues
 split_dialogues (Single d) us are = ((are.0, tt), are.1)
 split_dialogues (Repeated d e) us are = ((are.0, (are.1.0, tt)), are.1.1)
 
-whole_from : (s : StatusWord) (opening : Opening) (w : Wanted) (before : List UnitOf) (last : UnitOf)
+whole_from : (s : StatusWord) (opening : Opening) (w : Wanted) (before : List UnitOf)
+    (last : UnitOf)
     (next : Opening) (left : Wanted) → AreFollowed opening w before next left
     → OpensWith next (first_of last) → IsUnit left last
     → fetched_after (after_unit left last) (last_of last).status ≡ None
@@ -217,7 +221,8 @@ whole_of c units gathered status whole are =
     let Are : List UnitOf → Type 0 = λ us. AreAll (flat_map dialogues_of us) in
     let Whole : List UnitOf → Type 0 = λ us. WholeFrom status (By_command c) (wanted_by c.le) us in
     subst Whole (sym o.units_are) (whole_from status (By_command c) (wanted_by c.le) o.before
-    o.last o.opening o.left o.followed o.opens o.is_unit whole.ends whole.status_is (subst Are o.units_are are))
+    o.last o.opening o.left o.followed o.opens o.is_unit whole.ends whole.status_is
+    (subst Are o.units_are are))
 
 -- units that have gone are the first of the whole list, and the others go on from there
 record IsRest (s : StatusWord) (next : Opening) (left : Wanted) (gone units : List UnitOf)
@@ -231,7 +236,8 @@ record IsRest (s : StatusWord) (next : Opening) (left : Wanted) (gone units : Li
 fetches_validly : (n : ℕ) → IsValid (By_fetch n)
 fetches_validly n = (refl, lit< tt)
 
-rest_of : (s : StatusWord) (opening : Opening) (w : Wanted) (gone : List UnitOf) (next : Opening) (left : Wanted)
+rest_of : (s : StatusWord) (opening : Opening) (w : Wanted) (gone : List UnitOf) (next : Opening)
+    (left : Wanted)
     (units : List UnitOf) (tail : List Character) → IsValid opening
     → AreFollowed opening w gone next left → AreAll (flat_map dialogues_of gone)
     → WholeFrom s opening w units → unit_characters units ≡ unit_characters gone ++ tail
@@ -313,7 +319,8 @@ opened_sending h content host d sends is =
       is.header_is ∙ sym sends.header_is,
       is.counts ∙ sym sends.counts,
       is.to_card ∙ sym sends.to_card,
-      subst Own (sym sends.to_card) (subst Of (sym sends.has) (own_of content d.body.moved is.sends)),
+      subst Own (sym sends.to_card) (subst Of (sym sends.has)
+          (own_of content d.body.moved is.sends)),
     )
 
 opened_by : (h : Header) (content : List ℕ) (le : Option ℕ) (host : Hosting) (d : Dialogue)
@@ -370,7 +377,8 @@ due_again opening w host d n (Repeated e f) more tail valid od is told asks oe i
       due = f;
       after = more;
       is = are.1.0;
-      opened = opened_asking d.body.header n host f asks (subst Of both.0 (subst At same is_unit.2));
+      opened = opened_asking d.body.header n host f asks (subst Of both.0
+          (subst At same is_unit.2));
       characters_are = both.1;
       brings = omega (
         arith,
@@ -429,7 +437,8 @@ room_of c ex gone first front units us u due under units_are brings fits still e
       length-append (unit_data u) (flat_map unit_data us),
     )
 
-next_in : (c : Command) (s : StatusWord) (ex : ExchangeOf) (gone : List UnitOf) (first : Option Dialogue)
+next_in : (c : Command) (s : StatusWord) (ex : ExchangeOf) (gone : List UnitOf)
+    (first : Option Dialogue)
     (front : Front) (units : List UnitOf) (rest : List Character)
     (under : UnderWay c ex gone first front)
     → IsRest s under.opening under.left gone units

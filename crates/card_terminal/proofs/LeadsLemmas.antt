@@ -109,7 +109,8 @@ end_of c came ex (to_front units first front under is) = inl (units, first, fron
 end_of c came ex (to_end units status over is) =
     inr (inr (status, over_turn c ex units status over))
 end_of c came ex (to_stall units stall are failed is) = inr (inl failed)
-end_of c came ex (to_fault units first front before b fault under why final failed is) = inr (inl failed)
+end_of c came ex (to_fault units first front before b fault under why final failed is) = inr
+    (inl failed)
 
 continues_leads : (c : Command) (came : List Character) (new : ExchangeOf) (units : List UnitOf)
     (first : Option Dialogue) (d : Dialogue)
@@ -235,7 +236,8 @@ end_leads c came ex status done (to_end units other over is) =
     (units, subst P same over.gathers, is)
 end_leads c came ex status done (to_stall units stall are failed is) =
     let e : Failed ≡ Done status = sym failed ∙ done in absurd (cc)
-end_leads c came ex status done (to_fault units first front before b fault under why final failed is) =
+end_leads c came ex status done
+    (to_fault units first front before b fault under why final failed is) =
     let e : Failed ≡ Done status = sym failed ∙ done in absurd (cc)
 
 -- a room that is full has the most bytes of a response

@@ -156,7 +156,8 @@ chain_ends h (piece ∷ second ∷ others) (units ∷ []) answer old new are goe
     let (answered, none) =
     answered_by (with_more h) piece units answer.content answer.status old new are.0
     (subst (λ ds. Goes old ds new) (append-nil (flat_map dialogues_of units)) goes) in (
-      ends_here old new (link (with_more h) piece) (chain_commands h (second ∷ others)) answer.status
+      ends_here old new (link (with_more h) piece) (chain_commands h
+          (second ∷ others)) answer.status
           answered are.1,
       none,
     )

@@ -350,8 +350,16 @@ agreed_select_by : (R S : ℕ → Type 0) → KeepsTo R S → (aid : List ℕ) �
     → IsAgreed R S (select_command aid)
 agreed_select_by R S keeps [] long = absurd (omega (arith, long))
 agreed_select_by R S keeps (b ∷ bs) long = (
-  λ sends. elim ((keeps.sends 0xA4).0 sends) [ inl e ↦ absurd (omega (arith, e)) | inr e ↦ absurd (omega (arith, e)) ],
-  λ takes. elim ((keeps.receives 0xC0).0 takes) [ inl e ↦ absurd (omega (arith, e)) | inr e ↦ absurd (omega (arith, e)) ],
+  λ sends. elim ((keeps.sends 0xA4).0 sends) [
+    | inl e ↦ absurd (omega (arith, e))
+    | inr e ↦ absurd
+        (omega (arith, e))
+  ],
+  λ takes. elim ((keeps.receives 0xC0).0 takes) [
+    | inl e ↦ absurd (omega (arith, e))
+    | inr e ↦ absurd
+        (omega (arith, e))
+  ],
 )
 
 pub agreed_select : (R S : ℕ → Type 0) → KeepsTo R S → (aid : List ℕ) → IsAid aid
@@ -361,13 +369,25 @@ agreed_select R S keeps aid is = agreed_select_by R S keeps aid is.0
 pub agreed_get : (R S : ℕ → Type 0) → KeepsTo R S → (p1 p2 : ℕ)
     → IsAgreed R S (get_command p1 p2)
 agreed_get R S keeps p1 p2 = (
-  λ takes. elim ((keeps.receives 0xCA).0 takes) [ inl e ↦ absurd (omega (arith, e)) | inr e ↦ absurd (omega (arith, e)) ],
-  λ takes. elim ((keeps.receives 0xC0).0 takes) [ inl e ↦ absurd (omega (arith, e)) | inr e ↦ absurd (omega (arith, e)) ],
+  λ takes. elim ((keeps.receives 0xCA).0 takes) [
+    | inl e ↦ absurd (omega (arith, e))
+    | inr e ↦ absurd
+        (omega (arith, e))
+  ],
+  λ takes. elim ((keeps.receives 0xC0).0 takes) [
+    | inl e ↦ absurd (omega (arith, e))
+    | inr e ↦ absurd
+        (omega (arith, e))
+  ],
 )
 
 no_data_from_a_put : (R S : ℕ → Type 0) → KeepsTo R S → S 0xDA → ⊥
 no_data_from_a_put R S keeps sends =
-    elim ((keeps.sends 0xDA).0 sends) [ inl e ↦ absurd (omega (arith, e)) | inr e ↦ absurd (omega (arith, e)) ]
+    elim ((keeps.sends 0xDA).0 sends) [
+      | inl e ↦ absurd (omega (arith, e))
+      | inr e ↦ absurd (omega
+          (arith, e))
+    ]
 
 agreed_link : (R S : ℕ → Type 0) → KeepsTo R S → (h : Header) → h.ins ≡ 0xDA
     → (piece : List ℕ) → IsAgreed R S (link h piece)

@@ -406,8 +406,16 @@ terminal_passed {C = C} Does R S standing prepared first plans since now later c
       runs = subst Run (sym same) under.runs;
       card = card;
       on_plan = on;
-      at_plan = elim under.at_plan
-          [ inl none ↦ inl (way ∙ none.0, none.1) | inr has ↦ inr (way ∙ has.0, has.1, has.2, has.3) ];
+      at_plan = elim under.at_plan [
+        | inl none ↦ inl (way ∙ none.0, none.1)
+        | inr has ↦ inr (
+          way
+              ∙ has.0,
+          has.1,
+          has.2,
+          has.3,
+        )
+      ];
       hears = hears_front since now later (so_far under.units under.tried) under.front front
           (Terminal, byte) under.hears hears grown.1;
     }

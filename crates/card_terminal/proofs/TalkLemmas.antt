@@ -73,7 +73,8 @@ get_talk old new tag p1 p2 exchanges answer idle names are goes =
     let (units, only, gathers) = one_exchange (get_command p1 p2) exchanges answer are in
     let (u, mid, b) = begun (get_command p1 p2).header [] units answer.content answer.status old new
     gathers (one_goes old new units exchanges only goes) in
-    get_answers old mid new tag p1 p2 u answer.content answer.status idle names b.opens b.is_unit b.goes b.rest
+    get_answers old mid new tag p1 p2 u answer.content answer.status idle names b.opens b.is_unit
+    b.goes b.rest
 
 put_talk : (old new : CardState) (tag value : List ℕ) (p1 p2 : ℕ) (pieces : List (List ℕ))
     (exchanges : List (List UnitOf)) (answer : Reply) → is_idle old.pending ≡ true
@@ -159,14 +160,18 @@ whole_talk_answers first last plans left operations replies line sound idle cuts
     (answers, is_idle_then, goes_sound first last (flat_map talk_dialogues talk.talks) sound goes)
 
 -- the same over a card whose own states stand for these
-pub own_talk_answers : {State : Type 0} (Own : State → ℕ → Tpdu → State → Type 0) (own_reset : State → State)
+pub own_talk_answers : {State : Type 0} (Own : State → ℕ → Tpdu → State → Type 0) (own_reset : State
+    → State)
     (state_of : State → CardState) → StandsFor Own own_reset state_of → (first last : State)
     (old new : CardState) → state_of first ≡ old → state_of last ≡ new → (plans left : List Course)
     (operations : List Operation) (replies : List Reply) (line : List Character) → IsCardState old
-    → is_idle old.pending ≡ true → HaveCuts plans → Talk Own first plans operations replies last left line
+    → is_idle old.pending ≡ true → HaveCuts plans
+    → Talk Own first plans operations replies last left line
     → AnswersAll old operations replies new × (is_idle new.pending ≡ true) × IsCardState new
-own_talk_answers Own own_reset state_of stands first last old new was is plans left operations replies line sound idle cuts talk =
-    let over = talk_stands Own own_reset state_of stands first last plans left operations replies line talk in
+own_talk_answers Own own_reset state_of stands first last old new was is plans left operations
+    replies line sound idle cuts talk =
+    let over = talk_stands Own own_reset state_of stands first last plans left operations replies
+    line talk in
     let from : Talk Does old plans operations replies (state_of last) left line =
     subst (λ s. Talk Does s plans operations replies (state_of last) left line) was over in
     let to : Talk Does old plans operations replies new left line =

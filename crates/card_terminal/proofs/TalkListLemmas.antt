@@ -141,7 +141,8 @@ talks_more (p ∷ operations) (t ∷ talks) (q ∷ replies) o exchanges r are ta
     (are.0, talks_more operations talks replies o exchanges r are.1 talk)
 
 -- A talk, and one operation more under the plans that are left.
-unfoldable pub talk_more : {State : Type 0} (Does : State → ℕ → Tpdu → State → Type 0) (first mid last : State)
+unfoldable pub talk_more : {State : Type 0} (Does : State → ℕ → Tpdu → State → Type 0)
+    (first mid last : State)
     (plans left rest : List Course)
     (operations : List Operation) (replies : List Reply) (line more : List Character)
     (o : Operation) (exchanges : List (List UnitOf)) (r : Reply)
@@ -156,7 +157,8 @@ talk_more Does first mid last plans left rest operations replies line more o exc
     are_dialogues follow runs rest_is more_is = record {
       dialogues = talk.dialogues ++ talk_dialogues exchanges;
       talks = talk.talks ++ exchanges ∷ [];
-      are_dialogues = all_both IsDialogue talk.dialogues (talk_dialogues exchanges) talk.are_dialogues
+      are_dialogues = all_both IsDialogue talk.dialogues
+          (talk_dialogues exchanges) talk.are_dialogues
           are_dialogues;
       line_is = ap (λ l. l ++ more) talk.line_is
           ∙ ap (λ l. flat_map characters talk.dialogues ++ l) more_is
@@ -174,7 +176,8 @@ talk_more Does first mid last plans left rest operations replies line more o exc
 
 -- A card whose own states stand for states of a card of data objects: what runs over its own states
 -- runs over those, and a talk over the one is a talk over the other.
-pub runs_stand : {State : Type 0} (Own : State → ℕ → Tpdu → State → Type 0) (own_reset : State → State)
+pub runs_stand : {State : Type 0} (Own : State → ℕ → Tpdu → State → Type 0) (own_reset : State
+    → State)
     (state_of : State → CardState) → StandsFor Own own_reset state_of → (old new : State)
     (ds : List Dialogue) (plans : List Course) → Runs Own old ds plans new
     → Runs Does (state_of old) ds plans (state_of new)
@@ -190,19 +193,21 @@ runs_stand Own own_reset state_of stands old new (d ∷ ds) (p ∷ plans) (mid, 
   runs_stand Own own_reset state_of stands mid new ds plans others,
 )
 
-pub talk_stands : {State : Type 0} (Own : State → ℕ → Tpdu → State → Type 0) (own_reset : State → State)
+pub talk_stands : {State : Type 0} (Own : State → ℕ → Tpdu → State → Type 0) (own_reset : State
+    → State)
     (state_of : State → CardState) → StandsFor Own own_reset state_of → (first last : State)
     (plans left : List Course) (operations : List Operation) (replies : List Reply)
     (line : List Character) → Talk Own first plans operations replies last left line
     → Talk Does (state_of first) plans operations replies (state_of last) left line
-talk_stands Own own_reset state_of stands first last plans left operations replies line talk = record {
-  dialogues = talk.dialogues;
-  talks = talk.talks;
-  are_dialogues = talk.are_dialogues;
-  line_is = talk.line_is;
-  follow = talk.follow;
-  runs = runs_stand Own own_reset state_of stands first last talk.dialogues plans talk.runs;
-  left_is = talk.left_is;
-  dialogues_are = talk.dialogues_are;
-  are_talks = talk.are_talks;
-}
+talk_stands Own own_reset state_of stands first last plans left operations replies line talk =
+    record {
+      dialogues = talk.dialogues;
+      talks = talk.talks;
+      are_dialogues = talk.are_dialogues;
+      line_is = talk.line_is;
+      follow = talk.follow;
+      runs = runs_stand Own own_reset state_of stands first last talk.dialogues plans talk.runs;
+      left_is = talk.left_is;
+      dialogues_are = talk.dialogues_are;
+      are_talks = talk.are_talks;
+    }

@@ -51,7 +51,8 @@ pub record BeginsExchange (c : Command) (came : List Character) : Type 0 where
   pub rest : List Character
   pub whole : unit_characters units ≡ came ++ rest
 
--- the exchange does what this character asks of it: it sends it, or listens and finds no fault in it
+-- the exchange does what this character asks of it: it sends it, or listens and finds no fault in
+-- it
 abbrev pub Expects : ExchangeOf → Character → Type 0
 Expects ex c = From c.0 where
   From : End → Type 0

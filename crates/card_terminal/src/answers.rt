@@ -55,7 +55,8 @@ impl<A: Allocator> Answers<A> {
         self.answers.pop()
     }
 
-    /// Takes the room for one more answer. Its error is want of memory. Either way the answers stay.
+    /// Takes the room for one more answer. Its error is want of memory. Either way the answers
+    /// stay.
     pub(crate) fn make_room(&mut self) -> Result<(), AllocError>
         ensures stays { self.new.given ≡ self.old.given }
         ensures room { OnOk result (1 ≤ self.new.room) }

@@ -44,7 +44,8 @@ pub enum Next {
 }
 
 impl Attempt {
-    /// What follows, where so many bytes are gathered, so much is still wanted, and this is the status.
+    /// What follows, where so many bytes are gathered, so much is still wanted, and this is the
+    /// status.
     pub fn followed(self, gathered: usize, left: Wanted, status: Status) -> Next
         requires counted { IsCounted self gathered }
         requires room { gathered ≤ response_limit }

@@ -1,5 +1,6 @@
 //! Cards of data objects, and operations with them, as text for tests: `5F20 4A4F45; 50 41*253` for
-//! the objects of a card, `get 5F20; put 5F20 41` for operations, `9000 5F204A4F45; 6A88` for answers.
+//! the objects of a card, `get 5F20; put 5F20 41` for operations, `9000 5F204A4F45; 6A88` for
+//! answers.
 
 use crate::trace::{bytes, word};
 use crate::{Answers, Bytes, Op, Session};

@@ -70,8 +70,8 @@ impl<'a, A: Allocator> Exchange<'a, A> {
     ghost use Rattle.t0_core.specs.Character.{Character};
     ghost use Rattle.card_terminal.specs.ExchangeSide.{UnderWay, IsKept, IsBounded, IsAtEnd, Continues, Stall, exchange_turn, ended_with, is_final};
 
-    /// Begins the exchange of a command. The room for the response is taken here; the error is want of
-    /// memory.
+    /// Begins the exchange of a command. The room for the response is taken here; the error is want
+    /// of memory.
     pub fn start(alloc: A, command: Command<'a>) -> Result<Exchange<'a, A>, AllocError>
         ensures begins { IfOk result (λ ex. UnderWay command.entry ex [] None fresh) }
         ensures led { IfOk result (λ ex. Leads command.entry [] ex) }
@@ -116,7 +116,8 @@ impl<'a, A: Allocator> Exchange<'a, A> {
         }
     }
 
-    /// What the terminal does now. A character to send is handed out; nothing else changes anything.
+    /// What the terminal does now. A character to send is handed out; nothing else changes
+    /// anything.
     #[inline(always)]
     pub fn next(&mut self) -> HostTurn
         ensures turn { result ≡ exchange_turn self.old }
@@ -143,12 +144,12 @@ impl<'a, A: Allocator> Exchange<'a, A> {
 
     /// Takes a character of the card. With a status the next TPDU is begun, if one follows.
     ///
-    /// `BadProcedure` comes where a procedure byte is due and this is neither one nor a first status
-    /// byte, `TooLong` where a data character of the card is due and the room is full, `Stalled` where
-    /// a GET RESPONSE that the exchange has sent of its own has brought nothing and the card announces
-    /// more (a command that is itself a GET RESPONSE may bring nothing): then the exchange has failed
-    /// for good (this project's profile). `AfterEnd` comes where it is over or has failed,
-    /// `NotListening` where it has characters to send: these change nothing.
+    /// `BadProcedure` comes where a procedure byte is due and this is neither one nor a first
+    /// status byte, `TooLong` where a data character of the card is due and the room is full,
+    /// `Stalled` where a GET RESPONSE that the exchange has sent of its own has brought nothing and
+    /// the card announces more (a command that is itself a GET RESPONSE may bring nothing): then
+    /// the exchange has failed for good (this project's profile). `AfterEnd` comes where it is over
+    /// or has failed, `NotListening` where it has characters to send: these change nothing.
     #[inline(always)]
     pub fn take(&mut self, byte: u8) -> Result<(), LineFault>
         ensures fault { MatchResult result (λ _. fault_of self.old.host self.old.gather byte ≡ None)
@@ -187,7 +188,8 @@ impl<'a, A: Allocator> Exchange<'a, A> {
             MatchResult result (λ _. Continues c self.new units first d)
             (λ fault. (fault ≡ LineFault.Stalled) × Stall c (units ++ ended_with first d ∷ [])) }
 
-        // Whatever led to the exchange leads to it with this character, also with one that ends it by a fault.
+        // Whatever led to the exchange leads to it with this character, also with one that ends it
+        // by a fault.
         ensures led { (c : spec.Command) (came : List Character) → Leads c came self.old
             → MatchResult result
             (λ _. Leads c (came ++ (Card, byte) ∷ []) self.new)
@@ -241,8 +243,8 @@ impl<'a, A: Allocator> Exchange<'a, A> {
     }
 }
 
-/// The terminal's end of a command's first TPDU, and whether it asks the card for data: in case 2 it
-/// does, else it sends the command's data.
+/// The terminal's end of a command's first TPDU, and whether it asks the card for data: in case 2
+/// it does, else it sends the command's data.
 fn first_end<'a>(header: Header, content: &'a [u8], le: Option<u16>) -> (HostEnd<'a>, bool)
     requires valid { ins_is_valid header.ins ≡ true }
     requires sizes { HasSizes content.now le }

@@ -41,8 +41,8 @@ fn answers(
     Ok(())
 }
 
-/// How to drive an exchange over a reader's characters: begin it, ask what it does, hand in what the
-/// card sends, read the answer.
+/// How to drive an exchange over a reader's characters: begin it, ask what it does, hand in what
+/// the card sends, read the answer.
 #[test]
 fn driven_by_hand(rt: HostRuntime) -> Result<(), Fail> {
     let from_card = bytes(rt.alloc(), "6C06 CA5F20034A4F459000")?;

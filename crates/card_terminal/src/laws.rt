@@ -12,8 +12,8 @@ ghost use Rattle.card_terminal.specs.Gathered.{UnitOf, dialogues_of, IsOpenExcha
 ghost use Rattle.card_terminal.specs.ExchangeSide.{ExchangeOf, Continues, IsOver, Stall, ended_with, exchange_turn, response_limit};
 ghost use Rattle.card_terminal.specs.ExchangeHistory.{Leads, Expects, BeginsExchange, FaultCameLast, unit_characters};
 
-/// What led to an exchange are the first characters of an open exchange of its command, but for a last
-/// one that was a fault at those before it, and so ended it.
+/// What led to an exchange are the first characters of an open exchange of its command, but for a
+/// last one that was a fault at those before it, and so ended it.
 pub fn what_led_begins_an_exchange()
     ensures { (c : spec.Command) (came : List Character) (ex : ExchangeOf) → Leads c came ex →
         BeginsExchange c came ⊎ FaultCameLast c came ex }
@@ -25,8 +25,8 @@ pub fn an_exchange_has_few_tpdus()
         tpdus units ≤ 2 * (length (flat_map unit_data units) + 2) }
 {}
 
-/// What led to an exchange and are the characters of a whole one of its command: then it is over, with
-/// the status and the data of that one. An INS that is valid is needed.
+/// What led to an exchange and are the characters of a whole one of its command: then it is over,
+/// with the status and the data of that one. An INS that is valid is needed.
 pub fn a_whole_exchange_is_done()
     ensures { (c : spec.Command) (came : List Character) (ex : ExchangeOf) (units : List UnitOf)
         (gathered : List ℕ) (status : StatusWord) →
@@ -38,9 +38,9 @@ pub fn a_whole_exchange_is_done()
 {}
 
 /// The talk leaves an exchange no choice. Where what led to it goes on to the characters of a whole
-/// exchange of its command, whose data there is room for, it sends the next character if that is the
-/// terminal's; if it is the card's, it listens and finds no fault in it. It has not failed, so that
-/// with such a character no exchange stalls.
+/// exchange of its command, whose data there is room for, it sends the next character if that is
+/// the terminal's; if it is the card's, it listens and finds no fault in it. It has not failed, so
+/// that with such a character no exchange stalls.
 pub fn the_next_character_is_settled()
     ensures next { (c : spec.Command) (came : List Character) (ex : ExchangeOf)
         (units : List UnitOf) (gathered : List ℕ) (status : StatusWord) (ch : Character)
@@ -59,8 +59,8 @@ pub fn the_next_character_is_settled()
         unit_characters units ≡ came ++ rest → exchange_turn ex ≡ HostTurn.Failed → ⊥ }
 {}
 
-/// Where a dialogue ends that is the last of a whole exchange, an exchange that has come to it is over,
-/// with the status and the data of the whole one. It has not stalled.
+/// Where a dialogue ends that is the last of a whole exchange, an exchange that has come to it is
+/// over, with the status and the data of the whole one. It has not stalled.
 pub fn a_whole_exchange_is_over()
     ensures over { (c : spec.Command) (ex : ExchangeOf) (units : List UnitOf)
         (first : Option Dialogue) (d : Dialogue) (gathered : List ℕ) (status : StatusWord) →

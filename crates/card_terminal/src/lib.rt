@@ -1,5 +1,5 @@
-//! The terminal's side of a command at T=0: the exchange of its TPDUs, and the session that joins it
-//! to a card (ISO/IEC 7816-3, clause 12).
+//! The terminal's side of a command at T=0: the exchange of its TPDUs, and the session that joins
+//! it to a card (ISO/IEC 7816-3, clause 12).
 #![tactic(auto)]
 
 mod answer;

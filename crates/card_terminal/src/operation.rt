@@ -3,8 +3,8 @@ use object_card::Aid;
 use std::alloc::{Allocator, Global};
 use tlv_core::ObjectTag;
 
-/// The most bytes of a value that is to be put (this project's profile). A session itself puts values
-/// of any length; who takes operations from a user keeps to this.
+/// The most bytes of a value that is to be put (this project's profile). A session itself puts
+/// values of any length; who takes operations from a user keeps to this.
 pub const PUT_LIMIT: usize = 16_320;
 
 /// What a session is asked to do with a card of data objects.

@@ -1,5 +1,5 @@
-//! Operations of which each growth is refused in turn, by heaps of ever more bytes: at the terminal,
-//! at the card, and at the watch.
+//! Operations of which each growth is refused in turn, by heaps of ever more bytes: at the
+//! terminal, at the card, and at the watch.
 
 use crate::data_objects::{NAME, are_answered, card, full, holds, operations, selected};
 use crate::trace::{characters, word};

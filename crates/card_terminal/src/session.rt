@@ -80,8 +80,8 @@ impl<C: TpduCard> Session<C> {
 
     /// Carries out a command that is agreed with the card.
     ///
-    /// `OutOfMemory` comes before the first character, and changes nothing. `Line` comes where the card
-    /// stalls or brings more than there is room for; the card is reset then.
+    /// `OutOfMemory` comes before the first character, and changes nothing. `Line` comes where the
+    /// card stalls or brings more than there is room for; the card is reset then.
     pub fn transmit<A: Allocator, B: Allocator, W: Watch>(
         &mut self,
         alloc: A,
@@ -115,8 +115,8 @@ impl<C: TpduCard> Session<C> {
     }
 }
 
-/// Passes one character from the end whose turn it is to the other, and tells the watch. The answer is
-/// whether there was one.
+/// Passes one character from the end whose turn it is to the other, and tells the watch. The answer
+/// is whether there was one.
 #[inline(always)]
 fn pass_character<A: Allocator, B: Allocator, C: TpduCard, W: Watch>(
     exchange: &mut Exchange<'_, A>,

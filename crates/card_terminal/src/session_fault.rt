@@ -8,8 +8,8 @@ use t0_core::LineFault;
 pub enum SessionFault {
     /// Memory was wanting for the response; no character was sent.
     OutOfMemory,
-    /// The card has brought more than there is room for (`TooLong`), or announces what it does not bring
-    /// (`Stalled`).
+    /// The card has brought more than there is room for (`TooLong`), or announces what it does not
+    /// bring (`Stalled`).
     Line(LineFault),
 }
 

@@ -12,11 +12,11 @@ use t0_core::{TpduCard, Verdict};
 pub enum Manner {
     /// It refuses every header with `6105`.
     Announces,
-    /// It sends as many bytes as it is asked for to `CA` and `C0`, each time with `6100`, and refuses
-    /// all else with `6D00`.
+    /// It sends as many bytes as it is asked for to `CA` and `C0`, each time with `6100`, and
+    /// refuses all else with `6D00`.
     Floods,
-    /// It sends its object to `CA`, and what remains of it to `C0`. It takes data to `DA`, and refuses
-    /// all else with `6D00`.
+    /// It sends its object to `CA`, and what remains of it to `C0`. It takes data to `DA`, and
+    /// refuses all else with `6D00`.
     Holds,
 }
 
@@ -61,7 +61,8 @@ impl<'a> TestCard<'a> {
         self.resets
     }
 
-    /// How it refuses a header, if it does, that asks for so many bytes from a place of the object on.
+    /// How it refuses a header, if it does, that asks for so many bytes from a place of the object
+    /// on.
     fn refusal(&self, ins: u8, from: usize, wanted: usize) -> Option<Status> {
         let left = self.object.len().saturating_sub(from);
         match (self.manner, ins) {

@@ -50,8 +50,8 @@ pub fn characters(alloc: Global, trace: &str) -> Result<Vec<(End, u8)>, Fail> {
     Ok(characters)
 }
 
-/// Plans of these steps and cuts, as `-:1 nona:256`: `n` is a NULL, `o` moves one data character, `a`
-/// all that remain, and `-` stands for no steps.
+/// Plans of these steps and cuts, as `-:1 nona:256`: `n` is a NULL, `o` moves one data character,
+/// `a` all that remain, and `-` stands for no steps.
 pub fn plans(alloc: Global, text: &str) -> Result<Vec<Plan>, Fail> {
     let mut plans = Vec::new(alloc);
     for word in text.split_whitespace() {

@@ -11,8 +11,8 @@ pub enum Wanted {
 }
 
 impl Wanted {
-    /// What a command with this Le wants: nothing without one, and with 256 everything, also past 256
-    /// bytes (this project's profile).
+    /// What a command with this Le wants: nothing without one, and with 256 everything, also past
+    /// 256 bytes (this project's profile).
     pub fn by(le: Option<u16>) -> Wanted
         ensures { result ≡ wanted_by le }
     {

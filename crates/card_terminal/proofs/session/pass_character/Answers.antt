@@ -95,7 +95,8 @@ returns-in_ok-take-in-Listens-clause-goes_on g c = λ command first plans since 
           )
     ]
 
-pub returns-in_err-take-in-Listens-clause-goes_on : goal.returns-in_err-take-in-Listens-clause-goes_on
+pub returns-in_err-take-in-Listens-clause-goes_on :
+    goal.returns-in_err-take-in-Listens-clause-goes_on
 returns-in_err-take-in-Listens-clause-goes_on g c = λ command first plans since under.
     let card = g.C.TpduCard in
     let old = c.args.exchange.now in

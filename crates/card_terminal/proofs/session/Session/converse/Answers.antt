@@ -15,7 +15,8 @@ converse-requires g c =
       c.args.plans.now.rest,
       now,
       begins card.Does card.MayReceive card.MaySend c.args.plans.now.rest now command _ _
-          c.self.inside.end.stage c.args.exchange.now c.args.plans.now agreed c.self.invariant way refl,
+          c.self.inside.end.stage c.args.exchange.now c.args.plans.now agreed c.self.invariant way
+          refl,
     )
 
 pub unwrap-requires : goal.unwrap-requires

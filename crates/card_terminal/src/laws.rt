@@ -25,8 +25,8 @@ pub fn an_exchange_has_few_tpdus()
         tpdus units ≤ 2 * (length (flat_map unit_data units) + 2) }
 {}
 
-/// What led to an exchange and are the characters of a whole one of its command: then it is over,
-/// with the status and the data of that one. An INS that is valid is needed.
+/// Where the characters that led to an exchange are those of a whole one of its command, it is
+/// over, with the status and the data of that one. It needs an INS that is valid.
 pub fn a_whole_exchange_is_done()
     ensures { (c : spec.Command) (came : List Character) (ex : ExchangeOf) (units : List UnitOf)
         (gathered : List ℕ) (status : StatusWord) →

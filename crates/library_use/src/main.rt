@@ -7,12 +7,13 @@ mod commands;
 mod line;
 mod objects;
 mod session;
+mod tap;
 
 use anyhow::Context;
 use apdu_core::{Header, Status};
 use object_card::Aid;
 use std::alloc::Global;
-use t0_core::{Gather, HostEnd, Plans};
+use t0_core::{End, Gather, HostEnd, Plans};
 use tlv_core::{ObjectTag, Tag};
 
 /// A FCI template with an application identifier in it (ISO/IEC 7816-4, 5.3.3).
@@ -39,6 +40,17 @@ const PUT: Header = Header {
     p2: 0x20,
 };
 
+/// The characters of a GET DATA that the card answers with `6C06`.
+const TRACE: [(End, u8); 7] = [
+    (End::Terminal, 0x00),
+    (End::Terminal, 0xCA),
+    (End::Terminal, 0x5F),
+    (End::Terminal, 0x20),
+    (End::Terminal, 0x00),
+    (End::Card, 0x6C),
+    (End::Card, 0x06),
+];
+
 fn main(rt: HostRuntime) -> anyhow::Result<()> {
     let alloc = rt.alloc();
     let aid = Aid::new(&AID).context("no identifier")?;
@@ -63,6 +75,10 @@ fn main(rt: HostRuntime) -> anyhow::Result<()> {
     .ok()
     .context("the line failed")?;
     println!(rt; "line: {}", digits(alloc, status)?)?;
+
+    let (tpdus, last) = tap::followed(&TRACE).ok().context("no dialogue")?;
+    let last = last.context("no status")?;
+    println!(rt; "tap: {tpdus} TPDU, {}", digits(alloc, last)?)?;
 
     let answers = session::carry_out(alloc, end, aid, name)?;
     for at in 0..answers.len() {

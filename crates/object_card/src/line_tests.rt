@@ -170,7 +170,7 @@ fn a_put_of_a_template_is_of_objects(rt: HostRuntime) -> Result<(), Fail> {
 fn headers_are_refused_in_order(rt: HostRuntime) -> Result<(), Fail> {
     let mut end = end_over(rt.alloc(), NAMED)?;
     let mut plans = Plans::<Global>::over(&[]);
-    let trace = "> 00CA5F2000 < 6985 > 00DA5F2001 < 6985 > 10DA5F2001 < 6985";
+    let trace = "> 00CA5F2000 < 6985 > 00DA5F2001 < 6985 > 10DA5F2001 < 6985 > 00CA00FF00 < 6A86";
     passes(&rt, rt.alloc(), &mut end, &mut plans, trace)?;
     for trace in [
         "> 01CA5F2000 < 6E00",
@@ -178,6 +178,8 @@ fn headers_are_refused_in_order(rt: HostRuntime) -> Result<(), Fail> {
         "> 80DA5F2001 < 6E00",
         "> 00B0000000 < 6D00",
         "> 0060000000 < 6D00",
+        "> 10B0000000 < 6D00",
+        "> 10A4000007 < 6884",
         "> 10A4040007 < 6884",
         "> 10CA5F2006 < 6884",
         "> 00CA00FF00 < 6A86",

@@ -209,3 +209,34 @@ fn only_a_put_that_is_not_refused_takes_memory(rt: HostRuntime) -> Result<(), Fa
     }
     takes_no_memory(&rt, rt.alloc(), &full, "> 00DADF4101 < DA > 01 < 6A84")
 }
+
+/// Where 16 bytes are left, a put of as many under a tag that is held is served, and changes the
+/// table to the other.
+fn is_put_in_its_place(
+    rt: &impl Abort,
+    alloc: Global,
+    before: &str,
+    put: &str,
+    after: &str,
+) -> Result<(), Fail> {
+    let heap = LocalHeap::new(alloc, 2 * ASIDE)?;
+    let mut end = CardEnd::new(built(&heap, alloc, before)?.finish()?);
+    let mut plans = Plans::<Global>::over(&[]);
+    let mut taken = exhausted(alloc, &heap)?;
+    drop(taken.pop());
+    passes(rt, alloc, &mut end, &mut plans, SELECT)?;
+    passes(rt, alloc, &mut end, &mut plans, put)?;
+    holds(rt, alloc, end.card(), after)
+}
+
+#[test]
+fn a_put_of_a_held_tag_takes_no_place(rt: HostRuntime) -> Result<(), Fail> {
+    let mut table = format!(in rt.alloc(); "app A0000000031010")?;
+    for last in 0x01..=0x40u8 {
+        let after = format!(in rt.alloc(); "{table}; object DF{last:02X} 42*16")?;
+        table = format!(in rt.alloc(); "{table}; object DF{last:02X} -")?;
+        let put = format!(in rt.alloc(); "> 00DADF{last:02X}10 < DA > 42*16 < 9000")?;
+        is_put_in_its_place(&rt, rt.alloc(), &table, &put, &after)?;
+    }
+    Ok(())
+}

@@ -109,8 +109,8 @@ prepared_of held selected chain response (ready.Joins before) put =
 prepared_of held selected chain response ready.Stores put =
     Decided (state_with (state_of held selected chain response) put)
 
-abbrev pub view_of : List ApplicationView → Option ℕ → ChainState → Option Response → Ready → Option NewValue
-    → CardView
+abbrev pub view_of : List ApplicationView → Option ℕ → ChainState → Option Response → Ready
+    → Option NewValue → CardView
 view_of held selected chain response ready put = record {
   state = state_of held selected (standing_chain chain ready) response;
   prepared = prepared_of held selected chain response ready put;
@@ -135,8 +135,8 @@ pub record IsAsked (state : CardState) (h : Header) (p3 cut : ℕ) : Type 0 wher
   pub cut_to : cut ≤ 256
 
 -- what is ready fits what stands
-abbrev pub IsReady : List ApplicationView → Option ℕ → ChainState → Option Response → Ready → Option NewValue
-    → Type 0
+abbrev pub IsReady : List ApplicationView → Option ℕ → ChainState → Option Response → Ready
+    → Option NewValue → Type 0
 IsReady held selected chain response ready.Nothing put = put ≡ None
 IsReady held selected chain response (ready.Receives h p3 cut) put =
     IsAsked (state_of held selected chain response) h p3 cut × (is_select h || is_put h ≡ true)
@@ -155,8 +155,8 @@ IsReady held selected chain response (ready.Joins before) put =
     IsStanding held selected chain None × IfSome before (λ len. len ≤ length chain.bytes)
     × (put ≡ None)
 IsReady held selected chain response ready.Stores put =
-    (a : ApplicationView) × (tag value : List ℕ) × (held_at held selected ≡ Some a) × (put ≡ Some (tag, value))
-    × HasPlace a tag
+    (a : ApplicationView) × (tag value : List ℕ) × (held_at held selected ≡ Some a)
+    × (put ≡ Some (tag, value)) × HasPlace a tag
     × (is_locked tag a.entries ≡ false)
     × IsCardState (state_with (state_of held selected chain response) put)
 

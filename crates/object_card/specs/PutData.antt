@@ -20,14 +20,14 @@ DoesNotStore entries tag value status =
 -- the application in this place is there, the header names a tag that is not locked in it, and the
 -- value keeps to the limit
 abbrev pub CanPut : List ApplicationView → ℕ → Header → List ℕ → Type 0
-CanPut held selected h value = (a : ApplicationView) × (tag : List ℕ) × (slice_get held selected ≡ Some a)
-    × (named_tag h.p1 h.p2 ≡ Some tag)
+CanPut held selected h value = (a : ApplicationView) × (tag : List ℕ)
+    × (slice_get held selected ≡ Some a) × (named_tag h.p1 h.p2 ≡ Some tag)
     × (is_locked tag a.entries ≡ false) × (length value ≤ VALUE_LIMIT)
 
 -- The application in this place is the same but for its room; and the value is ready to be stored,
 -- or why it is not is answered.
-abbrev pub IsPut : List ApplicationView → ℕ → Header → List ℕ → List ApplicationView → StatusWord → Ready
-    → Option NewValue → Type 0
+abbrev pub IsPut : List ApplicationView → ℕ → Header → List ℕ → List ApplicationView → StatusWord
+    → Ready → Option NewValue → Type 0
 IsPut held selected h value new status next put = (a b : ApplicationView) × (tag : List ℕ)
     × (slice_get held selected ≡ Some a)
     × (named_tag h.p1 h.p2 ≡ Some tag) × (slice_get new selected ≡ Some b) × (b.aid ≡ a.aid)
@@ -45,7 +45,8 @@ CanBeStored held (Some i) (Some value) = (a : ApplicationView) × (slice_get hel
     × (i < length held) × HasPlace a value.0
 
 -- the value stands in its place, or last
-abbrev pub IsStored : List ApplicationView → Option ℕ → Option NewValue → List ApplicationView → Type 0
+abbrev pub IsStored : List ApplicationView → Option ℕ → Option NewValue → List ApplicationView
+    → Type 0
 IsStored held selected None new = new ≡ held
 IsStored held None (Some value) new = ⊥
 IsStored held (Some i) (Some value) new = (a b : ApplicationView) × (slice_get held i ≡ Some a)

@@ -3,7 +3,8 @@ ghost use Rattle.object_card.specs.Tables.{IsAid};
 
 use std::marker::Model;
 
-/// An application identifier of 5 to 16 bytes (ISO/IEC 7816-4). Contracts see it as the list of its bytes.
+/// An application identifier of 5 to 16 bytes (ISO/IEC 7816-4). Contracts see it as the list of its
+/// bytes.
 #[derive(Clone, Copy, Debug, PartialEq, Eq, Hash)]
 pub struct Aid {
     bytes: [u8; 16],

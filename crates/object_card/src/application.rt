@@ -44,7 +44,8 @@ impl<A: Allocator> Model for Application<A> {
 
     ghost view = { λ a. record {
       aid = a.aid;
-      entries = map (λ e. record { tag = e.0; value = e.1.value.items; locked = e.1.locked }) a.objects.entries;
+      entries = map (λ e. record { tag = e.0; value = e.1.value.items; locked = e.1.locked })
+          a.objects.entries;
       room = spare a.objects;
     } };
 }
@@ -77,7 +78,8 @@ impl<A: Allocator> Application<A> {
     }
 
     pub(crate) fn objects(&self) -> &Objects<A>
-        ensures { map (λ e. record { tag = e.0; value = e.1.value.items; locked = e.1.locked }) result.now.entries ≡ self.now.entries }
+        ensures { map (λ e. record { tag = e.0; value = e.1.value.items; locked = e.1.locked })
+            result.now.entries ≡ self.now.entries }
     {
         &self.objects
     }
@@ -91,7 +93,8 @@ impl<A: Allocator> Application<A> {
 
     /// The place of the data object with this tag.
     pub(crate) fn find(&self, tag: ObjectTag) -> Option<usize>
-        ensures value { option_map (λ place. value_at self.now.entries (Some place)) result ≡ value_under tag self.now.entries }
+        ensures value { option_map (λ place. value_at self.now.entries (Some place)) result
+            ≡ value_under tag self.now.entries }
         ensures within { IfSome result (λ place. place < length self.now.entries) }
     {
         self.objects.get_index_of(&tag)
@@ -125,8 +128,8 @@ impl<A: Allocator> Application<A> {
         Some((*tag, held.value(), held.locked))
     }
 
-    /// Takes the place for a data object with this tag, where there is none. One that is there has its
-    /// place, and takes no memory.
+    /// Takes the place for a data object with this tag, where there is none. One that is there has
+    /// its place, and takes no memory.
     pub(crate) fn make_room(&mut self, tag: ObjectTag) -> Result<(), AllocError>
         ensures aid { self.new.aid ≡ self.old.aid }
         ensures entries { self.new.entries ≡ self.old.entries }

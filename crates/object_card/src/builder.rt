@@ -15,8 +15,8 @@ use std::alloc::{AllocError, Allocator, Global};
 use std::marker::Model;
 use tlv_core::{ObjectTag, value_fault};
 
-/// What a card is to hold: applications, each with its data objects. Contracts see it as the list of
-/// the applications.
+/// What a card is to hold: applications, each with its data objects. Contracts see it as the list
+/// of the applications.
 #[derive(Drop)]
 pub struct CardBuilder<A: Allocator = Global> {
     alloc: A,
@@ -51,7 +51,8 @@ impl<A: Allocator + Copy> CardBuilder<A> {
     ///
     /// # Errors
     ///
-    /// `Twice`, `TooManyApps` and `OutOfMemory`, in this order. A refusal leaves the builder as it was.
+    /// `Twice`, `TooManyApps` and `OutOfMemory`, in this order. A refusal leaves the builder as it
+    /// was.
     pub fn app(&mut self, aid: Aid) -> Result<(), BuilderFault>
         ensures ok { OnOk result (TakesApplication aid self.old
             × (self.new ≡ with_application aid self.old)) }
@@ -71,13 +72,13 @@ impl<A: Allocator + Copy> CardBuilder<A> {
         Ok(())
     }
 
-    /// Adds a data object to the last application. A tag that is there has its value replaced in its
-    /// place, and is not locked then.
+    /// Adds a data object to the last application. A tag that is there has its value replaced in
+    /// its place, and is not locked then.
     ///
     /// # Errors
     ///
-    /// `NoApp`, `ValueTooLong`, `NotObjects`, `Full` and `OutOfMemory`, in this order. A refusal leaves
-    /// the builder as it was.
+    /// `NoApp`, `ValueTooLong`, `NotObjects`, `Full` and `OutOfMemory`, in this order. A refusal
+    /// leaves the builder as it was.
     pub fn object(&mut self, tag: ObjectTag, value: &[u8]) -> Result<(), BuilderFault>
         ensures ok { OnOk result (TakesObject tag value.now self.old
             × (self.new ≡ with_last_entry tag value.now false self.old)) }
@@ -101,8 +102,8 @@ impl<A: Allocator + Copy> CardBuilder<A> {
         add_to_last(&mut self.applications, tag, value, true)
     }
 
-    /// A card that holds these, with nothing selected and nothing pending. Its error is want of memory
-    /// for the chain, the only memory that it takes.
+    /// A card that holds these, with nothing selected and nothing pending. Its error is want of
+    /// memory for the chain, the only memory that it takes.
     pub fn finish(self) -> Result<ObjectCard<A>, AllocError>
         ensures { IfOk result (λ card. card ≡ new_card self) }
     {

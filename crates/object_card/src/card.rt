@@ -27,8 +27,8 @@ use std::marker::Model;
 use t0_core::{TpduCard, Verdict};
 use tlv_core::ObjectTag;
 
-/// A card of data objects. Each application's objects stand in a map, in the order in which they were
-/// first stored, and a response is sent from where it stands.
+/// A card of data objects. Each application's objects stand in a map, in the order in which they
+/// were first stored, and a response is sent from where it stands.
 ///
 /// `data` for the last PUT DATA of a chain takes memory, and no other call does; its want is the
 /// answer `6581`.
@@ -106,8 +106,8 @@ impl<A: Allocator> ObjectCard<A> {
         self.applications.get(app)?.at(place)
     }
 
-    /// The data objects of an application, in the order in which their tags were first stored; `None`
-    /// where there is no such application.
+    /// The data objects of an application, in the order in which their tags were first stored;
+    /// `None` where there is no such application.
     pub fn entries(&self, aid: &Aid) -> Option<Entries<'_, A>>
         ensures { result ≡ option_map (λ entries. map (λ e. (e.tag, e.value)) entries)
             (entries_in aid.now self.now.state.applications) }
@@ -118,7 +118,8 @@ impl<A: Allocator> ObjectCard<A> {
 
     /// Whether the application has a data object with this tag, and no command changes it.
     pub fn is_locked(&self, aid: &Aid, tag: ObjectTag) -> bool
-        ensures { result ≡ is_locked_among (Some tag) (entries_in aid.now self.now.state.applications) }
+        ensures { result
+            ≡ is_locked_among (Some tag) (entries_in aid.now self.now.state.applications) }
     {
         match find(&self.applications, aid.bytes()) {
             Some(place) => self.applications[place].is_locked(tag),
@@ -214,7 +215,11 @@ impl<A: Allocator + Copy> TpduCard for ObjectCard<A> {
 impl<A: Allocator + Copy> DataCard for ObjectCard<A> {
     ghost state = { λ card. card.state };
 
-    ghost means = { (λ state. state, λ card. refl, record { steps = λ old new cut tpdu does. does; resets = λ state. refl }) };
+    ghost means = { (
+      λ state. state,
+      λ card. refl,
+      record { steps = λ old new cut tpdu does. does; resets = λ state. refl },
+    ) };
 
     ghost receives = { λ ins. (λ h. h, λ h. h) };
 

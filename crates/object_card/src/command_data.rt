@@ -26,8 +26,8 @@ pub(crate) struct Taken<A: Allocator> {
     pub(crate) put: Option<Put<A>>,
 }
 
-/// Takes the data of a SELECT or a PUT DATA, and decides the answer. The refusals of a put are decided
-/// before any memory is taken, and what it needs is taken here.
+/// Takes the data of a SELECT or a PUT DATA, and decides the answer. The refusals of a put are
+/// decided before any memory is taken, and what it needs is taken here.
 pub(crate) fn take_data<A: Allocator + Copy>(
     applications: &mut [Application<A>],
     selected: Option<usize>,

@@ -5,11 +5,11 @@ ghost use Rattle.object_card.specs.DataCard.{StandsFor};
 use crate::limits::RESPONSE_LIMIT;
 use t0_core::TpduCard;
 
-/// A card of data objects: each of its states stands for a card's state, and what a TPDU or a reset does to
-/// it is what it does to that state. It lends no data object.
+/// A card of data objects: each of its states stands for a card's state, and what a TPDU or a reset
+/// does to it is what it does to that state. It lends no data object.
 ///
-/// A caller that knows no more of a card than this trait has its laws, and by a call of `is_idle` that the
-/// card stands in a sound state. From there on each TPDU leads to another.
+/// A caller that knows no more of a card than this trait has its laws, and by a call of `is_idle`
+/// that the card stands in a sound state. From there on each TPDU leads to another.
 pub trait DataCard: TpduCard {
     /// The card's state that stands: that before the TPDU under way.
     ghost state: { Self → CardState };
@@ -24,7 +24,8 @@ pub trait DataCard: TpduCard {
         ensures gathered { length (waiting (state self.now).pending) ≤ RESPONSE_LIMIT };
 
     /// What the card's own states stand for.
-    ghost means: { (state_of : Self.State → CardState) × ((card : Self) → state_of (Self.standing card) ≡ state card)
+    ghost means: { (state_of : Self.State → CardState)
+        × ((card : Self) → state_of (Self.standing card) ≡ state card)
         × StandsFor Self.Does Self.after_reset state_of };
 
     /// Data to the card may follow SELECT and PUT DATA, and no other command.

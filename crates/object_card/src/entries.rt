@@ -8,7 +8,8 @@ use std::alloc::{Allocator, Global};
 use std::marker::Model;
 use tlv_core::ObjectTag;
 
-/// The identifiers of a card's applications that are still to come, in order. Contracts see their list.
+/// The identifiers of a card's applications that are still to come, in order. Contracts see their
+/// list.
 #[derive(Drop)]
 pub struct Apps<'a, A: Allocator = Global> {
     rest: &'a [Application<A>],
@@ -44,8 +45,8 @@ impl<'a, A: Allocator> Iterator for Apps<'a, A> {
     }
 }
 
-/// The data objects of an application that are still to come, in order, each as its tag and its value.
-/// Contracts see the list of these pairs.
+/// The data objects of an application that are still to come, in order, each as its tag and its
+/// value. Contracts see the list of these pairs.
 #[derive(Drop)]
 pub struct Entries<'a, A: Allocator = Global> {
     objects: indexmap::map::Iter<'a, ObjectTag, Stored<A>>,

@@ -12,8 +12,7 @@ pub const APPLICATION_LIMIT: usize = 8;
 /// The most bytes of a tag that a command can name, and of a value's length, together.
 pub const HEAD_LIMIT: usize = 5;
 
-/// The most bytes of a response, all parts together, that the terminal of this project gathers. It is
-/// no limit of the card: no response of a card of data objects passes it, whatever the card holds, so
-/// no exchange with one ends for want of room (`DataCard::is_idle`, and the law
-/// `an_exchange_brings_no_more_than_is_gathered`).
+/// The most bytes of a response, all parts together, that a terminal has to have room for. It
+/// bounds no table: whatever a card of data objects holds, no response of it comes to more, since a
+/// value with its tag and length is far below (law `an_exchange_brings_no_more_than_is_gathered`).
 pub const RESPONSE_LIMIT: usize = 16_384;

@@ -82,7 +82,8 @@ fn refused_value<A: Allocator>(
     requires free { is_locked tag application.now.entries ≡ false }
     requires within { length value.now ≤ VALUE_LIMIT }
     ensures stored { IfNone result (PutStatus application.now.entries tag value.now ok) }
-    ensures refused { IfSome result (λ status. (status ≢ ok) × PutStatus application.now.entries tag value.now status) }
+    ensures refused { IfSome result (λ status. (status ≢ ok)
+        × PutStatus application.now.entries tag value.now status) }
 {
     if value_fault(tag.tag(), value).is_some() {
         return Some(status(0x6A, 0x80));
@@ -99,8 +100,10 @@ pub(crate) fn store<A: Allocator>(
     selected: Option<usize>,
     put: Option<Put<A>>,
 )
-    requires { CanBeStored applications.old selected (option_map (λ p. (p.tag, p.value.items)) put) }
-    ensures { IsStored applications.old selected (option_map (λ p. (p.tag, p.value.items)) put) applications.new }
+    requires { CanBeStored applications.old selected
+        (option_map (λ p. (p.tag, p.value.items)) put) }
+    ensures { IsStored applications.old selected (option_map (λ p. (p.tag, p.value.items)) put)
+        applications.new }
 {
     if let Some(put) = put {
         let application = &mut applications[selected.unwrap()];

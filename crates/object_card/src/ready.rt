@@ -79,8 +79,8 @@ impl Ready {
         matches!(self, Ready::Joins { .. })
     }
 
-    /// Whether no chain stands, where the card's chain is pending or not: a piece that is only about
-    /// to join one has changed nothing yet.
+    /// Whether no chain stands, where the card's chain is pending or not: a piece that is only
+    /// about to join one has changed nothing yet.
     pub(crate) fn stands_idle(self, pending: bool) -> bool
         ensures { result ≡ stands_idle self pending }
     {

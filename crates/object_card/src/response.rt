@@ -10,8 +10,8 @@ use std::alloc::Allocator;
 /// The most bytes that stand before a value, or of the file control information.
 const ROOM: usize = 20;
 
-/// A response, or what is left of one: bytes of its own, the place of the value that follows them among
-/// the data objects of the application selected, if one does, and how many bytes are sent.
+/// A response, or what is left of one: bytes of its own, the place of the value that follows them
+/// among the data objects of the application selected, if one does, and how many bytes are sent.
 #[derive(Clone, Copy, Debug)]
 pub struct Response {
     front: [u8; 20],

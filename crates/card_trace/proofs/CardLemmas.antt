@@ -33,6 +33,7 @@ use Rattle.card_trace.specs.declared.script.refusal.Refusal.TheVariants.{Line, O
 use Rattle.card_trace.specs.ScriptReasons.{fault_at, OnReason}
 use Rattle.card_trace.specs.ScriptFaults.{SaysNothing}
 use Rattle.card_trace.specs.LineFaults.{LinesStop, IsFaultOfLine, IsWritingFault}
+use Rattle.card_trace.proofs.ScriptLineLemmas.{on_ok, done_both, done_one}
 use Rattle.card_trace.proofs.ScriptFaultLemmas.{next_behind, cut_behind, few_lines}
 use Rattle.card_trace.specs.declared.script.reading.TheConstants.{SCRIPT_LIMIT}
 use Rattle.card_trace.specs.ScriptTable.{Addition, MayStandIn}
@@ -397,10 +398,6 @@ enough_handed (Some n) handed items stage v e count none some within =
 
 -- ---- what is written
 
-pub on_ok : {T E : Type 0} (r : Result T E) (P Q : Type 0) → (P → Q) → OnOk r P → OnOk r Q
-on_ok (Ok x) P Q f h = f h
-on_ok (Err e) P Q f h = tt
-
 pub writes_handed : (old new : AtWork) (most : Option ℕ) (handed shown : List ℕ) (before after : Option (List ℕ))
     → shown ≡ handed
     → IsEnough most (length handed) new.0.stage
@@ -485,9 +482,9 @@ writes_refused start old new plans bytes i w before after within refused unwritt
 
 -- what a line says is this
 pub runs_as : (meaning other : CardMeaning) (old new : AtWork) (before after : Option (List ℕ)) → meaning ≡ other
-    → Writes (λ o text n. RunsLine o other text n) old new before after → is_card_table_line meaning ≡ false
+    → Writes (λ o text n. RunsLine o other text n) old new before after
     → Writes (λ o text n. RunsLine o meaning text n) old new before after
-runs_as meaning other old new before after is writes _ =
+runs_as meaning other old new before after is writes =
     let P : CardMeaning → Type 0 = λ m. Writes (λ o text n. RunsLine o m text n) old new before after in
     subst P (sym is) writes
 
@@ -523,7 +520,7 @@ pub writes_passed : (old : AtWork) (line : List ℕ) (w : Option (List ℕ)) →
     → Writes (λ o text n. DoesOrPasses (Running o) line text (Running n)) old old w w
 writes_passed old line w none = λ past h. ([], past, h, inl (none, refl, refl), Appends-nil w)
 
-run_line_is : (meaning : CardMeaning) → MayStandIn section.Run (is_card_table_line meaning) → is_card_table_line meaning ≡ false
+pub run_line_is : (meaning : CardMeaning) → MayStandIn section.Running (is_card_table_line meaning) → is_card_table_line meaning ≡ false
 run_line_is (Adds addition) h = search rules
 run_line_is (Plan plan) h = search rules
 run_line_is (Take bytes) h = refl
@@ -532,11 +529,11 @@ run_line_is Reset h = refl
 run_line_is Table h = refl
 
 pub writes_line : (old new : AtWork) (line : List ℕ) (meaning : CardMeaning) (before after : Option (List ℕ))
-    → IsCardLine section.Run (words_of line) meaning
-    → (is_card_table_line meaning ≡ false → Writes (λ o text n. RunsLine o meaning text n) old new before after)
+    → IsCardLine section.Running (words_of line) meaning
+    → Writes (λ o text n. RunsLine o meaning text n) old new before after
     → Writes (λ o text n. DoesOrPasses (Running o) line text (Running n)) old new before after
 writes_line old new line meaning before after is writes = λ past h.
-    let done = writes (run_line_is meaning is.stands) past h in (
+    let done = writes past h in (
       done.0,
       done.1,
       done.2,
@@ -544,27 +541,6 @@ writes_line old new line meaning before after is writes = λ past h.
       done.4,
     )
 
-does_both : (start mid end : CardRun) (before others : List (List ℕ)) (text more : List ℕ)
-    → DoesAll start before text mid → DoesAll mid others more end
-    → DoesAll start (before ++ others) (text ++ more) end
-does_both start mid end [] others text more (none, same) does =
-    let P : CardRun → Type 0 = λ s. DoesAll s others more end in
-    let Q : List ℕ → Type 0 = λ t. DoesAll start others (t ++ more) end in
-    subst Q (sym none) (subst P same does)
-does_both start mid end (b ∷ before) others text more (first, rest, next, one, is, others_do) does = (
-  first,
-  rest ++ more,
-  next,
-  one,
-  ap (λ t. t ++ more) is ∙ append_assoc first rest more,
-  does_both next mid end before others rest more others_do does,
-)
-
-does_one : (old new : CardRun) (line text : List ℕ) → DoesOrPasses old line text new
-    → DoesAll old (line ∷ []) text new
-does_one old new line text one = (text, [], new, one, sym (append-nil text), (refl, refl))
-
--- Run lines are carried out up to some place, so many, and those that are left are still to come.
 pub record AreRun (start now : AtWork) (all left : List (List ℕ)) (passed number : ℕ)
     (old new : Option (List ℕ)) : Type 0 where
   pub before : List (List ℕ)
@@ -602,9 +578,9 @@ one_more_run start old new all left others line passed m number w before after i
             a.0 ++ b.0,
             b.1,
             b.2,
-            does_both (Running (end_at past start)) (Running (end_at a.1 old)) (Running (end_at b.1 new))
+            done_both DoesOrPasses (Running (end_at past start)) (Running (end_at a.1 old)) (Running (end_at b.1 new))
                 so_far.before (line ∷ []) a.0 b.0 a.3
-                (does_one (Running (end_at a.1 old)) (Running (end_at b.1 new)) line b.0 b.3),
+                (done_one DoesOrPasses (Running (end_at a.1 old)) (Running (end_at b.1 new)) line b.0 b.3),
             Appends-trans w before after a.0 b.0 a.4 b.4,
           );
     }
@@ -625,7 +601,7 @@ pub run_stops : (start now : AtWork) (these all left others : List (List ℕ)) (
     (passed m number : ℕ) (w before after : Option (List ℕ)) (fault : PlayFault) → all ≡ these
     → left ≡ line ∷ others → length all + passed < 2 ^ 63 → number ≡ min (m + 1) (2 ^ 64 - 1)
     → AreRun start now all left passed m w before
-    → IsFaultOfLine (λ _. SaysNothing (IsCardLine section.Run) line) number before after fault
+    → IsFaultOfLine (λ _. SaysNothing (IsCardLine section.Running) line) number before after fault
     → (past : Past) → IsReady past start
     → LinesStop (DoesAll (Running (end_at past start))) RefusesCardLine these passed w after fault
 run_stops start now these all left others line passed m number w before after (Script n reason) same is few
@@ -697,7 +673,7 @@ one_more_built start old new all left others line passed m number is few saturat
       before = so_far.before ++ line ∷ [];
       is_cut = cut_behind all so_far.before others line cut;
       is_number = counted ∙ ap (λ n. n + passed) (sym both);
-      does = does_both start old new so_far.before (line ∷ []) [] [] so_far.does (does_one old new line [] one);
+      does = done_both DoesOrPasses start old new so_far.before (line ∷ []) [] [] so_far.does (done_one DoesOrPasses old new line [] one);
     }
 
 pub all_built : (start end : CardRun) (all left : List (List ℕ)) (passed number : ℕ) → left ≡ []
@@ -712,7 +688,7 @@ pub first_found : (start : CardRun) (tables now : List Application) (plans these
     (all left others : List (List ℕ)) (line : List ℕ) (passed m number : ℕ) (meaning : CardMeaning)
     → left ≡ line ∷ others → length all + passed < 2 ^ 63 → number ≡ min (m + 1) (2 ^ 64 - 1)
     → AreBuilt start (Building tables plans) all left passed m → now ≡ tables → these ≡ plans
-    → IsCardLine section.Table (words_of line) meaning → is_card_table_line meaning ≡ false
+    → IsCardLine section.Building (words_of line) meaning → is_card_table_line meaning ≡ false
     → IsFirstRunLine start (Building now these) all others passed number meaning
 first_found start tables now plans these all left others line passed m number meaning is few saturated so_far
     same same_plans is_line runs =
@@ -740,10 +716,10 @@ stops_at_once start all passed written = (
 -- what the builder does not take
 pub not_added : (tables : List Application) (plans : List Course) (line : List ℕ)
     (meaning : CardMeaning) (addition : Addition) (refusal : Refusal) → meaning ≡ Adds addition
-    → IsCardLine section.Table (words_of line) meaning → IsNotAdded tables addition refusal
+    → IsCardLine section.Building (words_of line) meaning → IsNotAdded tables addition refusal
     → OnReason refusal (RefusesCardLine (Building tables plans) line)
 not_added tables plans line meaning addition (Line reason) is says refused =
-    inr (addition, subst (λ (m : CardMeaning). IsCardLine section.Table (words_of line) m) is says, refused)
+    inr (addition, subst (λ (m : CardMeaning). IsCardLine section.Building (words_of line) m) is says, refused)
 not_added tables plans line meaning addition OutOfMemory is says refused = tt
 
 -- a table line that is refused, or that wants memory
@@ -841,11 +817,10 @@ pub first_done : (script : List ℕ) (all others : List (List ℕ)) (start : Car
     (made old : AtWork) (w before : Option (List ℕ)) → all ≡ lines script → start ≡ Building [] []
     → (f : IsFirstRunLine start (Building tables plans) all others 0 number meaning)
     → IsReady (no_past (new_card tables).state) made → made.1.rest ≡ plans
-    → (is_card_table_line meaning ≡ false
-    → Writes (λ o text n. RunsLine o meaning text n) made old w before)
+    → Writes (λ o text n. RunsLine o meaning text n) made old w before
     → IsBegun script others number old w before
 first_done script all others start tables plans number meaning made old w before is empty f ready all_left one =
-    let a = one f.is_run_line (no_past (new_card tables).state) ready in
+    let a = one (no_past (new_card tables).state) ready in
     let fresh : IsFresh tables plans (end_at (no_past (new_card tables).state) made) =
     record { past_is = refl; all_left = all_left; is_led = ready.led } in
     let does = first_does tables plans meaning (end_at (no_past (new_card tables).state) made)
@@ -857,9 +832,9 @@ first_done script all others start tables plans number meaning made old w before
       text = a.0;
       past = a.1;
       ready = a.2;
-      does = does_both (Building [] []) (Building tables plans) (Running (end_at a.1 old)) f.before
+      does = done_both DoesOrPasses (Building [] []) (Building tables plans) (Running (end_at a.1 old)) f.before
           (f.line ∷ []) [] a.0 (subst P empty f.does)
-          (does_one (Building tables plans) (Running (end_at a.1 old)) f.line a.0
+          (done_one DoesOrPasses (Building tables plans) (Running (end_at a.1 old)) f.line a.0
           (inr (meaning, f.is_line, does)));
       appends = a.4;
     }
@@ -876,7 +851,7 @@ writes_script script others number old new w before after begun rest =
       (
         Running (end_at b.1 new),
         subst P (sym begun.is_cut)
-            (does_both (Building [] []) (Running (end_at begun.past old)) (Running (end_at b.1 new)) begun.before
+            (done_both DoesOrPasses (Building [] []) (Running (end_at begun.past old)) (Running (end_at b.1 new)) begun.before
             others begun.text b.0 begun.does b.3),
       ),
     )
@@ -901,7 +876,7 @@ script_left script others number old w before after (Script n reason) begun stop
         is_cut = begun.is_cut ∙ ap (λ l. begun.before ++ l) r.is_cut ∙ sym (append_assoc begun.before r.before (r.line ∷ r.others));
         is_number = counted;
         state = r.state;
-        does = does_both (Building [] []) (Running (end_at begun.past old)) r.state begun.before r.before
+        does = done_both DoesOrPasses (Building [] []) (Running (end_at begun.past old)) r.state begun.before r.before
             begun.text text begun.does r.does;
         refuses = r.refuses;
       },
@@ -915,7 +890,7 @@ script_left script others number old w before after NoMemory begun stops =
         others = r.others;
         is_cut = begun.is_cut ∙ ap (λ l. begun.before ++ l) r.is_cut ∙ sym (append_assoc begun.before r.before r.others);
         state = r.state;
-        does = does_both (Building [] []) (Running (end_at begun.past old)) r.state begun.before r.before
+        does = done_both DoesOrPasses (Building [] []) (Running (end_at begun.past old)) r.state begun.before r.before
             begun.text text begun.does r.does;
       },
     )

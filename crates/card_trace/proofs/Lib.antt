@@ -2,6 +2,7 @@ pub mod TraceLemmas
 pub mod TableLemmas
 pub mod ObjectsLemmas
 pub mod CommandLineLemmas
+pub mod ScriptLineLemmas
 pub mod ScriptWordLemmas
 pub mod ScriptFieldLemmas
 pub mod ScriptKeywordLemmas
@@ -10,6 +11,8 @@ pub mod ScriptTableLemmas
 pub mod ScriptPlayLemmas
 pub mod ScriptCardLemmas
 mod TextVectors
+mod ScriptVectors
+mod CommandLineVectors
 mod ScriptFaultLemmas
 mod PlayLemmas
 mod CardLemmas

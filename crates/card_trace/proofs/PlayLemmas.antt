@@ -31,6 +31,7 @@ use Rattle.card_trace.specs.declared.play_fault.PlayFault.{PlayFault}
 use Rattle.card_trace.specs.declared.play_fault.PlayFault.TheVariants.{Script, Read, Write, InputTooLong, OutOfMemory}
 use Rattle.card_trace.specs.ScriptFaults.{SaysNothing, IsRefusedAt, IsLeftAfter}
 use Rattle.card_trace.specs.LineFaults.{IsFaultOfLine}
+use Rattle.card_trace.proofs.ScriptLineLemmas.{done_both, done_one}
 use Rattle.card_trace.proofs.ScriptFaultLemmas.{of_script, next_number, cut_behind, faults_more, of_line_more}
 
 pub added : {A : Type 0} (self : Player A) (before after : List Application) (addition : Addition)
@@ -50,11 +51,6 @@ one_given [] r one is = absurd (omega (arith, one))
 one_given (x ∷ []) r one is = let e : Some x ≡ Some r = is in
     let same : x ≡ r = cc in ap (λ y. y ∷ []) same
 one_given (x ∷ y ∷ given) r one is = absurd (omega (arith, one))
-
--- what holds where it is Ok, by what is known there
-pub then_ok : {X E : Type 0} (r : Result X E) (P Q : Type 0) → OnOk r P → (P → Q) → OnOk r Q
-then_ok (Ok x) P Q holds f = f holds
-then_ok (Err e) P Q holds f = tt
 
 -- a busy card is sent nothing
 pub was_busy : (card : CardState) (plans left : List Course) (operation : Operation)
@@ -119,26 +115,6 @@ none_played all left old state number is same zero_is = record {
   plays = (refl, is);
 }
 
-plays_one_more : (start mid end : PlayState) (before : List (List ℕ)) (line text more : List ℕ)
-    → PlaysAll start before text mid → PlaysLine mid line more end
-    → PlaysAll start (before ++ line ∷ []) (text ++ more) end
-plays_one_more start mid end [] line text more (none, same) plays = (
-  more,
-  [],
-  end,
-  subst (λ s. PlaysLine s line more end) same plays,
-  ap (λ t. t ++ more) none ∙ sym (append-nil more),
-  (refl, refl),
-)
-plays_one_more start mid end (b ∷ before) line text more (first, rest, next, played, is, others) plays = (
-  first,
-  rest ++ more,
-  next,
-  played,
-  ap (λ t. t ++ more) is ∙ append_assoc first rest more,
-  plays_one_more next mid end before line rest more others plays,
-)
-
 pub one_more_played : (all left others : List (List ℕ)) (line more : List ℕ)
     (old mid new : Option (List ℕ)) (state next : PlayState) (m number : ℕ)
     → ArePlayed all old mid state left m → left ≡ line ∷ others → length all < 2 ^ 63
@@ -154,7 +130,8 @@ one_more_played all left others line more old mid new state next m number so_far
       is_cut = cut_behind all so_far.before others line cut;
       is_number = counted ∙ sym both;
       appends = Appends-trans old mid new so_far.text more so_far.appends adds;
-      plays = plays_one_more (Building []) state next so_far.before line so_far.text more so_far.plays plays;
+      plays = done_both PlaysLine (Building []) state next so_far.before (line ∷ []) so_far.text more
+          so_far.plays (done_one PlaysLine state next line more plays);
     }
 
 -- at the end all are played

@@ -54,17 +54,17 @@ locked_adds (Object tag value) fields e h = cc e
 locked_adds (Locked tag value) fields e h = (tag, value, h)
 
 -- no table line stands in the run section, and every other line may
-pub not_late : (s : Section) → s ≢ section.Table → MayStandIn s true → ⊥
-not_late section.Table other h = other refl
-not_late section.Run other h = true≢false h
+pub not_late : (s : Section) → s ≢ section.Building → MayStandIn s true → ⊥
+not_late section.Building other h = other refl
+not_late section.Running other h = true≢false h
 
-pub stands_early : (s : Section) (late : Bool) → s ≡ section.Table → MayStandIn s late
-stands_early section.Table late e = tt
-stands_early section.Run late e = cc e
+pub stands_early : (s : Section) (late : Bool) → s ≡ section.Building → MayStandIn s late
+stands_early section.Building late e = tt
+stands_early section.Running late e = cc e
 
 pub stands_always : (s : Section) (late : Bool) → late ≡ false → MayStandIn s late
-stands_always section.Table late e = tt
-stands_always section.Run late e = e
+stands_always section.Building late e = tt
+stands_always section.Running late e = e
 
 -- the fields of an entry stand for one value
 pub same_entry_value : (fields : List (List ℕ)) (s t a b : List ℕ) → AreEntryFields fields s a → AreEntryFields fields t b → a ≡ b

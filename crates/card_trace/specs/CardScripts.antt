@@ -1,7 +1,6 @@
 -- What a script of `card` stands for: its lines are carried out in order on the card's end alone, and
 -- print text.
-use Rattle.std.specs.Prelude.{◌≡◌, ◌≢◌, ◌≤◌, ◌+◌, ◌⊎◌, ℕ, List, [], ◌∷◌, ◌++◌, length, Option, Some, None, IfSome, true, false}
-use Rattle.std.specs.Str.Lines.{lines}
+use Rattle.std.specs.Prelude.{◌≡◌, ◌≢◌, ◌≤◌, ◌+◌, ◌⊎◌, ℕ, List, [], ◌∷◌, ◌++◌, length, Option, Some, None, true, false}
 use Rattle.std.specs.Io.KnownBytes.{Appends}
 use Rattle.t0_core.specs.declared.end.End.TheVariants.{Terminal, Card}
 use Rattle.t0_core.specs.Character.{Character, sent_by}
@@ -27,7 +26,8 @@ use Rattle.card_trace.specs.TableText.{table_text}
 use Rattle.card_trace.specs.TraceText.{handed_out_text}
 use Rattle.card_trace.specs.ScriptWords.{words_of}
 use Rattle.card_trace.specs.ScriptCard.{CardMeaning, Adds, Plan, Take, HandOut, Reset, Table, is_card_table_line, IsCardLine}
-use Rattle.card_trace.specs.ScriptFaults.{SaysNothing, Stops}
+use Rattle.card_trace.specs.ScriptFaults.{Stops}
+use Rattle.card_trace.specs.ScriptLines.{IsDone, AreDone, ScriptWrites, RefusesLine}
 use Rattle.card_trace.specs.ScriptTable.{Addition}
 use Rattle.card_trace.specs.Scripts.{IsAdded, IsNotAdded}
 
@@ -72,8 +72,8 @@ pub data CardRun : Type 0 where
   Running : (end : RunningEnd) → CardRun
 
 abbrev pub section_of : CardRun → Section
-section_of (Building tables plans) = section.Table
-section_of (Running end) = section.Run
+section_of (Building tables plans) = section.Building
+section_of (Running end) = section.Running
 
 -- with these characters, for which these plans were taken
 abbrev pub heard : Past → List Character → List Course → Past
@@ -167,17 +167,11 @@ DoesLine (Running end) meaning text new =
 
 -- the line says something that is carried out, or it is passed over
 abbrev pub DoesOrPasses : CardRun → List ℕ → List ℕ → CardRun → Type 0
-DoesOrPasses old line text new =
-    ((words_of line ≡ []) × (text ≡ []) × (new ≡ old))
-    ⊎ ((meaning : CardMeaning) × IsCardLine (section_of old) (words_of line) meaning
-    × DoesLine old meaning text new)
+DoesOrPasses = IsDone section_of IsCardLine DoesLine
 
 -- lines one after another
 abbrev pub DoesAll : CardRun → List (List ℕ) → List ℕ → CardRun → Type 0
-DoesAll old [] text new = (text ≡ []) × (new ≡ old)
-DoesAll old (line ∷ others) text new =
-    (first rest : List ℕ) × (mid : CardRun) × DoesOrPasses old line first mid
-    × (text ≡ first ++ rest) × DoesAll mid others rest new
+DoesAll = AreDone DoesOrPasses
 
 -- the first run line, behind those that build the card, and which it is; the others are behind it
 pub record IsFirstRunLine (old new : CardRun) (all others : List (List ℕ)) (passed number : ℕ)
@@ -187,27 +181,21 @@ pub record IsFirstRunLine (old new : CardRun) (all others : List (List ℕ)) (pa
   pub is_cut : all ≡ before ++ line ∷ others
   pub is_number : number ≡ length before + 1 + passed
   pub does : DoesAll old before [] new
-  pub is_line : IsCardLine section.Table (words_of line) meaning
+  pub is_line : IsCardLine section.Building (words_of line) meaning
   pub is_run_line : is_card_table_line meaning ≡ false
 
 -- what `card` writes for the bytes that it reads
 abbrev pub CardWrites : Option (List ℕ) → Option (List ℕ) → Option (List ℕ) → Type 0
-CardWrites script old new = (text : List ℕ) × Appends old new text
-    × IfSome script (λ bytes. (end : CardRun)
-    × DoesAll (Building [] []) (lines bytes) text end)
+CardWrites = ScriptWrites (DoesAll (Building [] []))
 
 -- what a table line adds is refused for this reason
 abbrev pub RefusesAddition : CardRun → Addition → Reason → Type 0
 RefusesAddition (Building tables plans) addition reason = IsNotAdded tables addition (Line reason)
 RefusesAddition (Running end) addition reason = ⊥
 
--- A line is refused: its words say nothing that may stand there, or what it adds is refused for this
--- reason.
+-- a line is refused for this reason
 abbrev pub RefusesCardLine : CardRun → List ℕ → Reason → Type 0
-RefusesCardLine run line reason =
-    SaysNothing (IsCardLine (section_of run)) line
-    ⊎ ((addition : Addition) × IsCardLine (section_of run) (words_of line) (Adds addition)
-    × RefusesAddition run addition reason)
+RefusesCardLine = RefusesLine section_of IsCardLine (λ addition. Adds addition) RefusesAddition
 
 -- where `card` stops at a fault
 abbrev pub CardStops : Option (List ℕ) → Option (List ℕ) → Option (List ℕ) → PlayFault → Type 0
@@ -237,7 +225,8 @@ pub record IsReady (past : Past) (now : AtWork) : Type 0 where
 -- with these characters the end is as it is, and the next of the plans were taken
 abbrev pub IsReadyBy : Past → List Course → List Character → AtWork → Type 0
 IsReadyBy past left characters now =
-    (taken : List Course) × TakeInTurn left taken now.1.rest × IsReady (heard past characters taken) now
+    (taken : List Course) × TakeInTurn left taken now.1.rest
+    × IsReady (heard past characters taken) now
 
 -- whatever led to the end as it was, these characters lead on to it as it is
 abbrev pub LeadOn : AtWork → List Character → AtWork → Type 0

@@ -92,7 +92,8 @@ TreeStops bytes old new objects.OutOfMemory = new ≡ old
 TreeStops bytes old new objects.Write = Unit {0}
 
 -- what stands where what is asked for was not done, for this fault
-abbrev pub Stops : Asked → Option (List ℕ) → Option (List ℕ) → Option (List ℕ) → ProgramFault → Type 0
+abbrev pub Stops : Asked → Option (List ℕ) → Option (List ℕ) → Option (List ℕ) → ProgramFault
+    → Type 0
 Stops Play script old new (fault.Play f) = PlayStops script old new f
 Stops Card script old new (fault.Play f) = CardStops script old new f
 Stops (Objects digits) script old new (fault.Objects f) =

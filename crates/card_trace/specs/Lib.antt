@@ -7,6 +7,7 @@ pub mod FixedText
 pub mod ScriptReading
 pub mod ScriptFaults
 pub mod LineFaults
+pub mod ScriptLines
 pub mod Scripts
 pub mod CommandLine
 pub mod ScriptReasons

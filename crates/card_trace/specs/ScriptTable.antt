@@ -52,5 +52,5 @@ AreTableFields (Locked tag value) fields = AreEntryFields fields tag value
 
 -- whether a line may stand in a section: behind the first run line no table line stands
 abbrev pub MayStandIn : Section → Bool → Type 0
-MayStandIn section.Table is_table_line = Unit {0}
-MayStandIn section.Run is_table_line = is_table_line ≡ false
+MayStandIn section.Building is_table_line = Unit {0}
+MayStandIn section.Running is_table_line = is_table_line ≡ false

@@ -1,8 +1,6 @@
 -- What a script of `play` stands for: its lines are carried out in order, and print text.
 use Rattle.std.specs.Prelude.{◌≡◌, ◌⊎◌, ℕ, List, [], ◌∷◌, ◌++◌, Option, IfSome, true, false}
 use Rattle.std.specs.List.{AllByRecursion, flat_map}
-use Rattle.std.specs.Str.Lines.{lines}
-use Rattle.std.specs.Io.KnownBytes.{Appends}
 use Rattle.apdu_core.specs.CommandBytes.{Command, IsCommand, command_bytes}
 use Rattle.t0_core.specs.Character.{Character}
 use Rattle.t0_core.specs.Dialogue.{IsDialogue, characters}
@@ -28,8 +26,8 @@ use Rattle.card_trace.specs.FixedText.{fixed_text}
 use Rattle.card_trace.specs.TableText.{table_text}
 use Rattle.card_trace.specs.TraceText.{operation_text}
 use Rattle.card_trace.specs.ScriptReasons.{refusal_of_builder}
-use Rattle.card_trace.specs.ScriptFaults.{SaysNothing, Stops}
-use Rattle.card_trace.specs.ScriptWords.{words_of}
+use Rattle.card_trace.specs.ScriptFaults.{Stops}
+use Rattle.card_trace.specs.ScriptLines.{IsDone, AreDone, ScriptWrites, RefusesLine}
 use Rattle.card_trace.specs.ScriptTable.{Addition, App, Object, Locked}
 use Rattle.card_trace.specs.ScriptPlay.{PlayMeaning, Adds, Plan, Run, Send, Reset, Table, IsPlayLine}
 
@@ -40,8 +38,8 @@ pub data PlayState : Type 0 where
   Running : (card : CardState) (plans : List Course) → PlayState
 
 abbrev pub section_of : PlayState → Section
-section_of (Building tables) = section.Table
-section_of (Running card plans) = section.Run
+section_of (Building tables) = section.Building
+section_of (Running card plans) = section.Running
 
 -- the card that runs, at the first run line that which has been built
 abbrev pub card_in : PlayState → CardState
@@ -120,36 +118,24 @@ Plays old Table text new = (text ≡ table_text (card_in old).applications)
 
 -- the line says something that is carried out, or it is passed over
 abbrev pub PlaysLine : PlayState → List ℕ → List ℕ → PlayState → Type 0
-PlaysLine old line text new =
-    ((words_of line ≡ []) × (text ≡ []) × (new ≡ old))
-    ⊎ ((meaning : PlayMeaning) × IsPlayLine (section_of old) (words_of line) meaning
-    × Plays old meaning text new)
+PlaysLine = IsDone section_of IsPlayLine Plays
 
 -- lines one after another
 abbrev pub PlaysAll : PlayState → List (List ℕ) → List ℕ → PlayState → Type 0
-PlaysAll old [] text new = (text ≡ []) × (new ≡ old)
-PlaysAll old (line ∷ others) text new =
-    (first rest : List ℕ) × (mid : PlayState) × PlaysLine old line first mid
-    × (text ≡ first ++ rest) × PlaysAll mid others rest new
+PlaysAll = AreDone PlaysLine
 
 -- what `play` writes for the bytes that it reads
 abbrev pub PlayWrites : Option (List ℕ) → Option (List ℕ) → Option (List ℕ) → Type 0
-PlayWrites script old new = (text : List ℕ) × Appends old new text
-    × IfSome script (λ bytes. (end : PlayState)
-    × PlaysAll (Building []) (lines bytes) text end)
+PlayWrites = ScriptWrites (PlaysAll (Building []))
 
 -- what a table line adds is refused for this reason
 abbrev pub RefusesAddition : PlayState → Addition → Reason → Type 0
 RefusesAddition (Building tables) addition reason = IsNotAdded tables addition (Line reason)
 RefusesAddition (Running card plans) addition reason = ⊥
 
--- A line is refused: its words say nothing that may stand there, or what it adds is refused for this
--- reason.
+-- a line is refused for this reason
 abbrev pub RefusesPlayLine : PlayState → List ℕ → Reason → Type 0
-RefusesPlayLine state line reason =
-    SaysNothing (IsPlayLine (section_of state)) line
-    ⊎ ((addition : Addition) × IsPlayLine (section_of state) (words_of line) (Adds addition)
-    × RefusesAddition state addition reason)
+RefusesPlayLine = RefusesLine section_of IsPlayLine (λ addition. Adds addition) RefusesAddition
 
 -- where `play` stops at a fault
 abbrev pub PlayStops : Option (List ℕ) → Option (List ℕ) → Option (List ℕ) → PlayFault → Type 0

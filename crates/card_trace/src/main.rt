@@ -2,16 +2,13 @@
 #![tactic(auto)]
 
 mod card;
+mod card_run;
+mod card_table;
 #[cfg(test)]
 mod card_tests;
 mod command_line;
-#[cfg(test)]
-mod example_tests;
 mod fixed_line;
 mod help;
-mod lines;
-#[cfg(test)]
-mod lines_tests;
 mod main_status;
 #[cfg(test)]
 mod memory_tests;
@@ -26,6 +23,9 @@ mod play_fault_tests;
 #[cfg(test)]
 mod play_tests;
 mod player;
+mod printing;
+#[cfg(test)]
+mod printing_tests;
 mod program_fault;
 mod script;
 #[cfg(test)]

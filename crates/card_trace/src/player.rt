@@ -13,8 +13,8 @@ ghost use Rattle.card_trace.specs.ScriptFields.{AreOfAgreedCommand};
 ghost use Rattle.card_trace.specs.LineFaults.{IsFaultOfLine, IsWritingFault};
 
 use crate::fixed_line::FixedLine;
-use crate::lines::{write_fixed, write_operation, write_table};
 use crate::play_fault::PlayFault;
+use crate::printing::{write_fixed, write_operation, write_table};
 use crate::script::fields::agreed_command;
 use crate::script::play_line::{PlayLine, read_play_line};
 use crate::script::reason::Reason;
@@ -56,8 +56,8 @@ impl<A: Allocator + Copy> Player<A> {
         ensures { result ≡ section_of (state_of self.now) }
     {
         match self {
-            Player::Building(_) => Section::Table,
-            Player::Running(_) => Section::Run,
+            Player::Building(_) => Section::Building,
+            Player::Running(_) => Section::Running,
         }
     }
 

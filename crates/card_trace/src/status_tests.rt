@@ -1,11 +1,14 @@
 //! The program's words, output, faults and status.
 
+use crate::help::NO_UTF_8;
 use crate::main_status::main_status;
 use crate::objects_fault::ObjectsFault;
 use crate::play_fault::PlayFault;
 use crate::program_fault::ProgramFault;
 use crate::test_io::{Failing, Nothing, lines};
+use crate::unread_words::status_without_words;
 use std::alloc::Global;
+use std::io::{Error, ErrorKind};
 use std::process::Abort;
 use std::test::Fail;
 
@@ -98,68 +101,6 @@ fn no_digits(rt: HostRuntime) -> Result<(), Fail> {
     is_outcome(&rt, rt.alloc(), "objects ''", &outcome, (1, "", "bad hex/"))
 }
 
-/// The words were refused: nothing was written but the parser's text, which begins so.
-fn was_refused(rt: &impl Abort, line: &str, outcome: &Outcome, begin: &str) {
-    assert_eq!(rt; outcome.status, 2, "{line}");
-    assert!(rt; outcome.output.is_empty(), "{line}");
-    assert!(rt;
-        outcome.faults.as_slice().starts_with(begin.as_bytes()),
-        "{line}"
-    );
-}
-
-#[test]
-fn refused_words(rt: HostRuntime) -> Result<(), Fail> {
-    for (line, begin) in [
-        (
-            "",
-            "error: 'card_trace' requires a subcommand but one was not provided",
-        ),
-        ("walk", "error: unrecognized subcommand 'walk'"),
-        (
-            "objects",
-            "error: the following required arguments were not provided",
-        ),
-        ("objects 50 41", "error: unexpected argument '41' found"),
-        ("objects -X", "error: unexpected argument '-X' found"),
-        ("play 50", "error: unexpected argument '50' found"),
-        ("card -v", "error: unexpected argument '-v' found"),
-        ("--version", "error: unexpected argument '--version' found"),
-    ] {
-        was_refused(&rt, line, &ran(rt.alloc(), line)?, begin);
-    }
-    Ok(())
-}
-
-/// Help went to the output, with this in it.
-fn was_helped(rt: &impl Abort, line: &str, outcome: &Outcome, part: &str) -> Result<(), Fail> {
-    assert_eq!(rt; outcome.status, 0, "{line}");
-    assert!(rt; outcome.faults.is_empty(), "{line}");
-    let text = str::from_utf8(outcome.output.as_slice())?;
-    assert!(rt; text.contains(part), "{line}");
-    Ok(())
-}
-
-/// What the program does, what a script looks like, and an example.
-#[test]
-fn help_is_printed(rt: HostRuntime) -> Result<(), Fail> {
-    for (line, part) in [
-        ("--help", "select A0000000031010"),
-        ("-h", "Usage: card_trace <COMMAND>"),
-        ("help", "Usage: card_trace <COMMAND>"),
-        ("play --help", "put TAG VALUE"),
-        ("help play", "put TAG VALUE"),
-        ("card --help", "< N"),
-        (
-            "objects --help",
-            "card_trace objects 6F098407A0000000031010",
-        ),
-    ] {
-        was_helped(&rt, line, &ran(rt.alloc(), line)?, part)?;
-    }
-    Ok(())
-}
-
 /// What a subcommand does on a script: its status, and what it writes.
 fn ran_script(alloc: Global, subcommand: &str, script: &str) -> Result<Outcome, Fail> {
     let words = words(alloc, subcommand)?;
@@ -243,6 +184,21 @@ fn failing_outputs(rt: HostRuntime) -> Result<(), Fail> {
         let (status, faults, left) = ran_unwritten(rt.alloc(), line)?;
         assert!(rt; status == 1 && left == 0, "{line}");
         assert_eq!(rt; faults, lines(rt.alloc(), "write fault/")?, "{line}");
+    }
+    Ok(())
+}
+
+/// One is not UTF-8, or memory was wanting for them.
+#[test]
+fn words_that_cannot_be_had(rt: HostRuntime) -> Result<(), Fail> {
+    for (kind, status, text) in [
+        (ErrorKind::InvalidData, 2, NO_UTF_8),
+        (ErrorKind::OutOfMemory, 1, "out of memory\n"),
+    ] {
+        let mut faults = Vec::new(rt.alloc());
+        let ended = status_without_words(&Error::from(kind), &mut faults);
+        assert_eq!(rt; ended, status, "{text}");
+        assert_eq!(rt; faults.as_slice(), text.as_bytes());
     }
     Ok(())
 }

@@ -6,20 +6,20 @@ use crate::script::reason::Reason;
 #[derive(Clone, Copy, Debug, PartialEq, Eq)]
 pub enum Section {
     /// Before the first run line: table lines may still come.
-    Table,
+    Building,
     /// Behind the first run line.
-    Run,
+    Running,
 }
 
 impl Section {
     /// Nothing where a table line may come; else `LateTableLine`.
     pub fn takes_table_line(self) -> Result<(), Reason>
-        ensures ok { IsOk result ↔ (self ≡ Section.Table) }
+        ensures ok { IsOk result ↔ (self ≡ Section.Building) }
         ensures err { IfErr result (λ reason. reason ≡ Reason.LateTableLine) }
     {
         match self {
-            Section::Table => Ok(()),
-            Section::Run => Err(Reason::LateTableLine),
+            Section::Building => Ok(()),
+            Section::Running => Err(Reason::LateTableLine),
         }
     }
 }

@@ -111,7 +111,13 @@ send 006000000141 => invalid INS";
 
 #[test]
 fn fields_in_their_order(rt: HostRuntime) -> Result<(), Fail> {
-    check(&rt, rt.alloc(), Program::Play, FIELD_ROWS, Section::Table)
+    check(
+        &rt,
+        rt.alloc(),
+        Program::Play,
+        FIELD_ROWS,
+        Section::Building,
+    )
 }
 
 const WORD_ROWS: &str = "walk => unknown word
@@ -144,7 +150,7 @@ table all => wrong number of words";
 
 #[test]
 fn words_in_their_order(rt: HostRuntime) -> Result<(), Fail> {
-    check(&rt, rt.alloc(), Program::Play, WORD_ROWS, Section::Table)
+    check(&rt, rt.alloc(), Program::Play, WORD_ROWS, Section::Building)
 }
 
 const LATE_ROWS: &str = "app A000000003 => table line after the first run line
@@ -157,7 +163,7 @@ get => wrong number of words";
 
 #[test]
 fn table_lines_come_first(rt: HostRuntime) -> Result<(), Fail> {
-    check(&rt, rt.alloc(), Program::Play, LATE_ROWS, Section::Run)
+    check(&rt, rt.alloc(), Program::Play, LATE_ROWS, Section::Running)
 }
 
 const CARD_ROWS: &str = "get 50 => unknown word
@@ -185,7 +191,7 @@ object 3E 41 => bad tag";
 
 #[test]
 fn lines_of_a_card_alone(rt: HostRuntime) -> Result<(), Fail> {
-    check(&rt, rt.alloc(), Program::Card, CARD_ROWS, Section::Table)
+    check(&rt, rt.alloc(), Program::Card, CARD_ROWS, Section::Building)
 }
 
 const LATE_CARD_ROWS: &str = "plan n 256 => table line after the first run line
@@ -196,7 +202,13 @@ locked 50 41 => table line after the first run line";
 
 #[test]
 fn plans_of_a_card_come_first(rt: HostRuntime) -> Result<(), Fail> {
-    check(&rt, rt.alloc(), Program::Card, LATE_CARD_ROWS, Section::Run)
+    check(
+        &rt,
+        rt.alloc(),
+        Program::Card,
+        LATE_CARD_ROWS,
+        Section::Running,
+    )
 }
 
 const TAKEN: &str = "app A000000003
@@ -231,7 +243,7 @@ table
 #[test]
 fn lines_that_are_taken(rt: HostRuntime) -> Result<(), Fail> {
     for line in TAKEN.lines() {
-        let reason = reason_of(rt.alloc(), Program::Play, line, Section::Table)?;
+        let reason = reason_of(rt.alloc(), Program::Play, line, Section::Building)?;
         assert_eq!(rt; reason.as_str(), "", "{line}");
     }
     Ok(())
@@ -239,7 +251,7 @@ fn lines_that_are_taken(rt: HostRuntime) -> Result<(), Fail> {
 
 /// How many bytes the value of a put line has, and what they are where they are all one.
 fn put_value(alloc: Global, line: &[u8]) -> Result<(usize, u8), Fail> {
-    let Ok(Some(PlayLine::Run(Op::Put(_, value)))) = read_play_line(alloc, line, Section::Run)
+    let Ok(Some(PlayLine::Run(Op::Put(_, value)))) = read_play_line(alloc, line, Section::Running)
     else {
         return Err("a put".into());
     };
@@ -276,7 +288,7 @@ fn added_bytes(alloc: Global, line: &TableLine) -> Result<Vec<u8>, Fail> {
 
 /// The bytes that a line of `play` adds to the table.
 fn added(alloc: Global, line: &[u8]) -> Result<Vec<u8>, Fail> {
-    match read_play_line(alloc, line, Section::Table) {
+    match read_play_line(alloc, line, Section::Building) {
         Ok(Some(PlayLine::Adds(line))) => added_bytes(alloc, &line),
         _ => Err("a table line".into()),
     }
@@ -293,7 +305,7 @@ fn table_lines_are_read(rt: HostRuntime) -> Result<(), Fail> {
 
 #[test]
 fn commands_are_read(rt: HostRuntime) -> Result<(), Fail> {
-    let said = read_play_line(rt.alloc(), b"send 00ca5F2000", Section::Run);
+    let said = read_play_line(rt.alloc(), b"send 00ca5F2000", Section::Running);
     let Ok(Some(PlayLine::Send(bytes))) = said else {
         return Err("send".into());
     };
@@ -304,15 +316,16 @@ fn commands_are_read(rt: HostRuntime) -> Result<(), Fail> {
 #[test]
 fn meanings_of_card_lines(rt: HostRuntime) -> Result<(), Fail> {
     let alloc = rt.alloc();
-    let Ok(Some(CardLine::Take(bytes))) = read_card_line(alloc, b"> 00CA", Section::Run) else {
+    let Ok(Some(CardLine::Take(bytes))) = read_card_line(alloc, b"> 00CA", Section::Running) else {
         return Err("take".into());
     };
     assert_eq!(rt; bytes.bytes(), b"\0\xCA".as_slice());
-    let Ok(Some(CardLine::HandOut(most))) = read_card_line(alloc, b"< 65535", Section::Run) else {
+    let Ok(Some(CardLine::HandOut(most))) = read_card_line(alloc, b"< 65535", Section::Running)
+    else {
         return Err("hand out".into());
     };
     assert_eq!(rt; most, Some(65_535));
-    let Ok(Some(CardLine::HandOut(most))) = read_card_line(alloc, b" < ", Section::Run) else {
+    let Ok(Some(CardLine::HandOut(most))) = read_card_line(alloc, b" < ", Section::Running) else {
         return Err("hand out".into());
     };
     assert_eq!(rt; most, None);
@@ -322,8 +335,8 @@ fn meanings_of_card_lines(rt: HostRuntime) -> Result<(), Fail> {
 /// Which programs pass a line over: `play`, and `card`.
 fn passed_over(alloc: Global, line: &[u8]) -> (bool, bool) {
     (
-        matches!(read_play_line(alloc, line, Section::Run), Ok(None)),
-        matches!(read_card_line(alloc, line, Section::Run), Ok(None)),
+        matches!(read_play_line(alloc, line, Section::Running), Ok(None)),
+        matches!(read_card_line(alloc, line, Section::Running), Ok(None)),
     )
 }
 

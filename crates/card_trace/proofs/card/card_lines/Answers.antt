@@ -1,7 +1,8 @@
 use Rattle.std.proofs.Common.{◌≡◌, ℕ, List, [], Err, IfSome, refl, sym, ap, subst}
 use Rattle.card_trace.specs.CardScripts.{Building, DoesAll, RefusesCardLine, CardStops}
 use Rattle.card_trace.proofs.ScriptFaultLemmas.{fault_passed, faults_more, stops_unread, not_begun, within_limit, script_stops}
-use Rattle.card_trace.proofs.CardLemmas.{on_ok, writes_read}
+use Rattle.card_trace.proofs.ScriptLineLemmas.{on_ok}
+use Rattle.card_trace.proofs.CardLemmas.{writes_read}
 use Rattle.card_trace.proofs.card.card_lines.Goals as goal
 
 pub returns-in_err-script-clause-stops : goal.returns-in_err-script-clause-stops

@@ -6,11 +6,15 @@ use Rattle.card_trace.specs.ScriptCard.{card_meaning}
 use Rattle.card_trace.specs.LineFaults.{LinesStop}
 use Rattle.card_trace.specs.CardScripts.{Building, DoesAll, RefusesCardLine}
 use Rattle.card_trace.proofs.ScriptFaultLemmas.{fault_passed, faults_more}
-use Rattle.card_trace.proofs.CardLemmas.{on_ok, is_made, empty_table, few_at_first, few_behind, first_done, writes_script, script_left, first_left, table_left, only_built, stops_at_once}
+use Rattle.card_trace.proofs.ScriptLineLemmas.{on_ok}
+use Rattle.card_trace.proofs.CardLemmas.{is_made, empty_table, few_at_first, few_behind, first_done, writes_script, script_left, first_left, table_left, only_built, stops_at_once}
 use Rattle.card_trace.proofs.card.carry_out_lines.Goals as goal
 
 pub build-requires : goal.build-requires
 build-requires g c = few_at_first c.of-lines.result c.args.script.now c.of-lines.ensures c.requires
+
+pub carry_out-requires : goal.carry_out-requires
+carry_out-requires g c = (rw c.in-Some.is at c.in_ok-first.ensures.ok).is_run_line
 
 pub run_lines-requires : goal.run_lines-requires
 run_lines-requires g c =

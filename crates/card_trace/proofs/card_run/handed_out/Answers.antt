@@ -3,7 +3,7 @@ use Rattle.t0_core.specs.declared.end.End.TheVariants.{Card}
 use Rattle.t0_core.specs.Character.{sent_by}
 use Rattle.t0_core.specs.CardSide.{listens}
 use Rattle.card_trace.proofs.CardLemmas.{hands_out_less, is_false, lead_turn, lead_one_more, lead_none, lead_listens, none_within, within_by_one, enough_handed}
-use Rattle.card_trace.proofs.card.handed_out.Goals as goal
+use Rattle.card_trace.proofs.card_run.handed_out.Goals as goal
 
 pub turns-init : goal.turns-init
 turns-init g c = record {

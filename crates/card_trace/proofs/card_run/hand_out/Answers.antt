@@ -1,5 +1,6 @@
-use Rattle.card_trace.proofs.CardLemmas.{on_ok, writes_handed}
-use Rattle.card_trace.proofs.card.hand_out.Goals as goal
+use Rattle.card_trace.proofs.ScriptLineLemmas.{on_ok}
+use Rattle.card_trace.proofs.CardLemmas.{writes_handed}
+use Rattle.card_trace.proofs.card_run.hand_out.Goals as goal
 
 pub returns-clause-written : goal.returns-clause-written
 returns-clause-written g c =

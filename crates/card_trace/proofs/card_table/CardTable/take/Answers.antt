@@ -5,7 +5,7 @@ use Rattle.card_trace.specs.ScriptReasons.{OnReason}
 use Rattle.card_trace.specs.CardScripts.{Building, RefusesCardLine}
 use Rattle.card_trace.proofs.ScriptFaultLemmas.{fault_passed}
 use Rattle.card_trace.proofs.CardLemmas.{not_added}
-use Rattle.card_trace.proofs.card.Table.take.Goals as goal
+use Rattle.card_trace.proofs.card_table.CardTable.take.Goals as goal
 
 pub returns-in_err-add-in-Some-Adds-clause-refused :
     goal.returns-in_err-add-in-Some-Adds-clause-refused

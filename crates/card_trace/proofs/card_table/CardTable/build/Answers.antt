@@ -1,7 +1,7 @@
 use Rattle.card_trace.specs.ScriptCard.{card_meaning}
 use Rattle.card_trace.specs.CardScripts.{Building}
 use Rattle.card_trace.proofs.CardLemmas.{none_built, one_more_built, all_built, first_found, build_stops}
-use Rattle.card_trace.proofs.card.Table.build.Goals as goal
+use Rattle.card_trace.proofs.card_table.CardTable.build.Goals as goal
 
 pub loop-line-init : goal.loop-line-init
 loop-line-init g c = none_built _ _ _

@@ -1,8 +1,8 @@
 //! The lines of operations, of what is handed out, and of tables.
 
 use crate::fixed_line::FixedLine;
-use crate::lines::{write_fixed, write_handed_out, write_operation, write_table};
 use crate::play_fault::PlayFault;
+use crate::printing::{write_fixed, write_handed_out, write_operation, write_table};
 use crate::test_io::{Failing, bytes, lines};
 use apdu_core::Command;
 use card_terminal::{Answer, Exchange};

@@ -3,7 +3,7 @@ use Rattle.t0_core.specs.declared.end.End.TheVariants.{Terminal}
 use Rattle.t0_core.specs.Character.{sent_by}
 use Rattle.t0_core.specs.Plan.{Cursor}
 use Rattle.card_trace.specs.CardScripts.{LeadOn}
-use Rattle.card_trace.proofs.card.take.Given as goal
+use Rattle.card_trace.proofs.card_run.take.Given as goal
 
 -- the characters so far lead on to the end, whatever its plans are, and nothing is written
 abbrev pub invariant-loop-character : goal.invariant-loop-character

@@ -1,6 +1,6 @@
 use Rattle.card_trace.specs.CardScripts.{Building}
 use Rattle.card_trace.proofs.CardLemmas.{AreBuilt}
-use Rattle.card_trace.proofs.card.Table.build.Given as goal
+use Rattle.card_trace.proofs.card_table.CardTable.build.Given as goal
 
 -- the lines so far have been added, and the others are still to come
 abbrev pub invariant-loop-line : goal.invariant-loop-line

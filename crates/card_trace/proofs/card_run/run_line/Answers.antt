@@ -1,6 +1,7 @@
 use Rattle.card_trace.specs.ScriptCard.{card_meaning}
-use Rattle.card_trace.proofs.CardLemmas.{on_ok, writes_line, writes_passed}
-use Rattle.card_trace.proofs.card.run_line.Goals as goal
+use Rattle.card_trace.proofs.ScriptLineLemmas.{on_ok}
+use Rattle.card_trace.proofs.CardLemmas.{writes_line, writes_passed, run_line_is}
+use Rattle.card_trace.proofs.card_run.run_line.Goals as goal
 
 pub returns-in-Ok-None-clause-written : goal.returns-in-Ok-None-clause-written
 returns-in-Ok-None-clause-written g c =
@@ -12,3 +13,7 @@ returns-in-Ok-Some-clause-written g c =
     (writes_line (c.args.end.now, c.args.plans.now) (c.carry_out.new.end, c.carry_out.new.plans) c.args.line.now (card_meaning c.in-Ok-Some.said) _ _
     (rw c.in-Ok-Some.field-0-is at c.in-Ok-Some.ensures.ok))
     c.carry_out.ensures.written
+
+pub carry_out-requires : goal.carry_out-requires
+carry_out-requires g c =
+    run_line_is (card_meaning c.in-Ok-Some.said) (rw c.in-Ok-Some.field-0-is at c.in-Ok-Some.ensures.ok).stands

@@ -2,8 +2,9 @@ use Rattle.std.proofs.Common.{◌≡◌, ◌+◌, ◌<◌, ◌≤◌, ◌∙◌,
 use Rattle.std.specs.Prelude.{is_err}
 use Rattle.std.proofs.lemmas.List.{take_more}
 use Rattle.t0_core.specs.declared.end.End.TheVariants.{Terminal}
-use Rattle.card_trace.proofs.CardLemmas.{on_ok, where_ok, lead_one_more, lead_take, whole, refused_end, writes_refused, writes_taken}
-use Rattle.card_trace.proofs.card.take.Goals as goal
+use Rattle.card_trace.proofs.ScriptLineLemmas.{on_ok}
+use Rattle.card_trace.proofs.CardLemmas.{where_ok, lead_one_more, lead_take, whole, refused_end, writes_refused, writes_taken}
+use Rattle.card_trace.proofs.card_run.take.Goals as goal
 
 pub loop-character-preserved : goal.loop-character-preserved
 loop-character-preserved g c =

@@ -3,7 +3,7 @@ use Rattle.t0_core.specs.declared.end.End.TheVariants.{Card}
 use Rattle.t0_core.specs.Character.{sent_by}
 use Rattle.card_trace.specs.CardScripts.{LeadOn}
 use Rattle.card_trace.proofs.CardLemmas.{may_hand_out}
-use Rattle.card_trace.proofs.card.handed_out.Given as goal
+use Rattle.card_trace.proofs.card_run.handed_out.Given as goal
 
 -- the characters so far lead on to the end, and are no more than asked for
 abbrev pub invariant-turns : goal.invariant-turns

@@ -1,7 +1,8 @@
 use Rattle.std.proofs.Common.{◌∙◌, ap, sym}
 use Rattle.card_trace.specs.ScriptCard.{card_meaning, Take, HandOut, Reset}
-use Rattle.card_trace.proofs.CardLemmas.{on_ok, runs_as, writes_reset, ready_reset}
-use Rattle.card_trace.proofs.card.carry_out.Goals as goal
+use Rattle.card_trace.proofs.ScriptLineLemmas.{on_ok}
+use Rattle.card_trace.proofs.CardLemmas.{runs_as, writes_reset, ready_reset}
+use Rattle.card_trace.proofs.card_run.carry_out.Goals as goal
 
 pub returns-in-Take-clause-written : goal.returns-in-Take-clause-written
 returns-in-Take-clause-written g c =

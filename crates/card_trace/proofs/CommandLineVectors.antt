@@ -1,0 +1,30 @@
+-- Worked command lines, and near misses that are refused.
+use Rattle.std.proofs.Common.{◌≡◌, [], ◌∷◌, refl, Some, inl}
+use Rattle.std.specs.Prelude.{codes}
+use Rattle.clap.proofs.OnLiterals.{clap_on_literals}
+use Rattle.clap.specs.Simple.{subcommand_of}
+use Rattle.clap.specs.Faults.{fault_of}
+use Rattle.clap.specs.declared.error.kind.ErrorKind.TheVariants.{MissingSubcommand, DisplayHelp}
+use Rattle.card_trace.specs.CommandLine.{program, request_in, Play, Objects}
+
+a_play : request_in (subcommand_of program (codes "card_trace" ∷ codes "play" ∷ [])) ≡ Some Play
+unfolding clap_on_literals
+a_play = refl
+
+a_play_is_taken : fault_of program (codes "card_trace" ∷ codes "play" ∷ []) ≡ []
+unfolding clap_on_literals
+a_play_is_taken = refl
+
+some_objects : request_in (subcommand_of program (codes "card_trace" ∷ codes "objects" ∷ codes "5000" ∷ []))
+    ≡ Some (Objects (codes "5000"))
+unfolding clap_on_literals
+some_objects = refl
+
+-- a subcommand is required
+no_subcommand : fault_of program (codes "card_trace" ∷ []) ≡ MissingSubcommand ∷ []
+unfolding clap_on_literals
+no_subcommand = refl
+
+a_call_for_help : fault_of program (codes "card_trace" ∷ codes "--help" ∷ []) ≡ DisplayHelp ∷ []
+unfolding clap_on_literals
+a_call_for_help = refl

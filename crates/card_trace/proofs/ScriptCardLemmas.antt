@@ -9,7 +9,7 @@ use Rattle.card_trace.specs.ScriptFields.{IsHexText}
 use Rattle.card_trace.specs.ScriptKeywords.{keyword_text}
 use Rattle.card_trace.specs.ScriptTable.{Addition, OneField, ArePlanFields, table_word, AreTableFields, MayStandIn}
 use Rattle.card_trace.specs.ScriptCard.{CardMeaning, Adds, Plan, Take, HandOut, Reset, Table, IsMostText, card_keyword, AreCardFields, is_card_table_line, IsCardLine}
-use Rattle.card_trace.proofs.ScriptKeywordLemmas.{one_keyword}
+use Rattle.card_trace.proofs.ScriptKeywordLemmas.{of_first_word, of_keyword, with_keyword}
 
 -- what a line of each word says
 pub table_line_says : (meaning : CardMeaning) (fields : List (List ℕ)) (w : TableWord)
@@ -91,27 +91,15 @@ run_line_says Table k e other plan = refl
 pub first_word_is : (s : Section) (words : List (List ℕ)) (meaning : CardMeaning) (word : List ℕ) (rest : List (List ℕ))
     → words ≡ word ∷ rest → IsCardLine s words meaning
     → (word ≡ keyword_text (card_keyword meaning)) × AreCardFields meaning rest
-first_word_is s words meaning word rest e h =
-    let same : keyword_text (card_keyword meaning) ∷ h.fields ≡ word ∷ rest = sym h.is_line ∙ e in
-    let first : word ≡ keyword_text (card_keyword meaning) = cc in
-    let others : h.fields ≡ rest = cc in
-    let P : List (List ℕ) → Type 0 = λ fields. AreCardFields meaning fields in
-    (first, subst P others h.are_fields)
+first_word_is = of_first_word card_keyword AreCardFields is_card_table_line
 
 pub keyword_is : (s : Section) (words : List (List ℕ)) (meaning : CardMeaning) (word : List ℕ) (rest : List (List ℕ)) (k : Keyword)
     → words ≡ word ∷ rest → word ≡ keyword_text k → IsCardLine s words meaning
     → (card_keyword meaning ≡ k) × AreCardFields meaning rest
-keyword_is s words meaning word rest k e is_k h =
-    let parts = first_word_is s words meaning word rest e h in
-    (one_keyword (card_keyword meaning) k (sym parts.0 ∙ is_k), parts.1)
+keyword_is = of_keyword card_keyword AreCardFields is_card_table_line
 
 -- a line with this word and these fields
 pub says : (s : Section) (words : List (List ℕ)) (meaning : CardMeaning) (word : List ℕ) (rest : List (List ℕ)) (k : Keyword)
     → words ≡ word ∷ rest → word ≡ keyword_text k → card_keyword meaning ≡ k → AreCardFields meaning rest
     → MayStandIn s (is_card_table_line meaning) → IsCardLine s words meaning
-says s words meaning word rest k e is_k same are_fields stands = record {
-  fields = rest;
-  is_line = e ∙ ap (λ w. w ∷ rest) (is_k ∙ ap keyword_text (sym same));
-  are_fields = are_fields;
-  stands = stands;
-}
+says = with_keyword card_keyword AreCardFields is_card_table_line

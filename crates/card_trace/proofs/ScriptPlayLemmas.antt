@@ -11,7 +11,7 @@ use Rattle.card_trace.specs.ScriptFields.{IsAidText, IsTagText, IsCommandText}
 use Rattle.card_trace.specs.ScriptKeywords.{keyword_text}
 use Rattle.card_trace.specs.ScriptTable.{Addition, OneField, AreEntryFields, ArePlanFields, table_word, AreTableFields, MayStandIn}
 use Rattle.card_trace.specs.ScriptPlay.{PlayMeaning, Adds, Plan, Run, Send, Reset, Table, operation_keyword, AreOperationFields, play_keyword, ArePlayFields, is_play_table_line, IsPlayLine}
-use Rattle.card_trace.proofs.ScriptKeywordLemmas.{one_keyword}
+use Rattle.card_trace.proofs.ScriptKeywordLemmas.{of_first_word, of_keyword, with_keyword}
 
 -- the operation of each word
 pub select_does : (operation : Operation) (fields : List (List ℕ)) → operation_keyword operation ≡ keyword.Select
@@ -124,27 +124,15 @@ run_line_says Table k e other = refl
 pub first_word_is : (s : Section) (words : List (List ℕ)) (meaning : PlayMeaning) (word : List ℕ) (rest : List (List ℕ))
     → words ≡ word ∷ rest → IsPlayLine s words meaning
     → (word ≡ keyword_text (play_keyword meaning)) × ArePlayFields meaning rest
-first_word_is s words meaning word rest e h =
-    let same : keyword_text (play_keyword meaning) ∷ h.fields ≡ word ∷ rest = sym h.is_line ∙ e in
-    let first : word ≡ keyword_text (play_keyword meaning) = cc in
-    let others : h.fields ≡ rest = cc in
-    let P : List (List ℕ) → Type 0 = λ fields. ArePlayFields meaning fields in
-    (first, subst P others h.are_fields)
+first_word_is = of_first_word play_keyword ArePlayFields is_play_table_line
 
 pub keyword_is : (s : Section) (words : List (List ℕ)) (meaning : PlayMeaning) (word : List ℕ) (rest : List (List ℕ)) (k : Keyword)
     → words ≡ word ∷ rest → word ≡ keyword_text k → IsPlayLine s words meaning
     → (play_keyword meaning ≡ k) × ArePlayFields meaning rest
-keyword_is s words meaning word rest k e is_k h =
-    let parts = first_word_is s words meaning word rest e h in
-    (one_keyword (play_keyword meaning) k (sym parts.0 ∙ is_k), parts.1)
+keyword_is = of_keyword play_keyword ArePlayFields is_play_table_line
 
 -- a line with this word and these fields
 pub says : (s : Section) (words : List (List ℕ)) (meaning : PlayMeaning) (word : List ℕ) (rest : List (List ℕ)) (k : Keyword)
     → words ≡ word ∷ rest → word ≡ keyword_text k → play_keyword meaning ≡ k → ArePlayFields meaning rest
     → MayStandIn s (is_play_table_line meaning) → IsPlayLine s words meaning
-says s words meaning word rest k e is_k same are_fields stands = record {
-  fields = rest;
-  is_line = e ∙ ap (λ w. w ∷ rest) (is_k ∙ ap keyword_text (sym same));
-  are_fields = are_fields;
-  stands = stands;
-}
+says = with_keyword play_keyword ArePlayFields is_play_table_line

@@ -1,5 +1,5 @@
--- What a script of `card` stands for: its lines are carried out in order on the card's end alone, and
--- print text.
+-- What a script of `card` stands for: its lines are carried out in order on the card's end alone,
+-- and print text.
 use Rattle.std.specs.Prelude.{◌≡◌, ◌≢◌, ◌≤◌, ◌+◌, ◌⊎◌, ℕ, List, [], ◌∷◌, ◌++◌, length, Option, Some, None, true, false}
 use Rattle.std.specs.Io.KnownBytes.{Appends}
 use Rattle.t0_core.specs.declared.end.End.TheVariants.{Terminal, Card}
@@ -31,9 +31,9 @@ use Rattle.card_trace.specs.ScriptLines.{IsDone, AreDone, ScriptWrites, RefusesL
 use Rattle.card_trace.specs.ScriptTable.{Addition}
 use Rattle.card_trace.specs.Scripts.{IsAdded, IsNotAdded}
 
--- What led to a card's end: all events since the card was built, whose state was the first; and since
--- the end was made, or reset last, the state that stood then, the characters, and the plans that
--- TPDUs have taken.
+-- What led to a card's end: all events since the card was built, whose state was the first; and
+-- since the end was made, or reset last, the state that stood then, the characters, and the plans
+-- that TPDUs have taken.
 pub record Past : Type 0 where
   pub first : CardState
   pub events : List Event
@@ -65,8 +65,8 @@ TakeInTurn [] (plan ∷ taken) still_left = (plan ≡ plain) × TakeInTurn [] ta
 TakeInTurn (next ∷ left) (plan ∷ taken) still_left =
     (plan ≡ next) × TakeInTurn left taken still_left
 
--- Before the first run line there are the tables of the card that is built, and the plans; from then
--- on its end.
+-- Before the first run line there are the tables of the card that is built, and the plans; from
+-- then on its end.
 pub data CardRun : Type 0 where
   Building : (tables : List Application) (plans : List Course) → CardRun
   Running : (end : RunningEnd) → CardRun
@@ -216,7 +216,8 @@ end_at past now = record {
   stage = now.0.stage;
 }
 
--- this led to the end as it is, and the cursor keeps the plan of the TPDU under way, if that has one
+-- this led to the end as it is, and the cursor keeps the plan of the TPDU under way, if that has
+-- one
 pub record IsReady (past : Past) (now : AtWork) : Type 0 where
   pub led : IsLed (end_at past now)
   pub keeps : (plan : Course) → under_way now.0.stage plan ≡ plan ∷ [] →

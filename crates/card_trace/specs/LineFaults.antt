@@ -1,4 +1,5 @@
--- The faults of one line, and of the lines behind others, which those of a whole script are made of.
+-- The faults of one line, and of the lines behind others, which those of a whole script are made
+-- of.
 use Rattle.std.specs.Prelude.{◌≡◌, ◌+◌, ℕ, List, Option}
 use Rattle.std.specs.Io.KnownBytes.{Appends}
 use Rattle.card_trace.specs.declared.play_fault.PlayFault.{PlayFault}

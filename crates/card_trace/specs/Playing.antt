@@ -15,8 +15,8 @@ abbrev pub state_of : {A : Type 0} → Player A → PlayState
 state_of (player.Building tables) = Building tables
 state_of (player.Running running) = running_of running
 
--- what is refused of what a line says: what the builder does not take, and bytes that are no command
--- agreed with the card
+-- what is refused of what a line says: what the builder does not take, and bytes that are no
+-- command agreed with the card
 abbrev pub RefusesSaid : PlayState → PlayMeaning → Reason → Type 0
 RefusesSaid state (Adds addition) reason = IsRefused state addition (Line reason)
 RefusesSaid state (Send bytes) reason = ¬ AreOfAgreedCommand bytes

@@ -7,8 +7,7 @@ use Rattle.card_trace.specs.declared.script.section.Section.{Section}
 use Rattle.card_trace.specs.declared.script.card_line.CardLine.{CardLine}
 use Rattle.card_trace.specs.declared.script.card_line.CardLine.TheVariants as line
 use Rattle.card_trace.specs.ScriptFields.{IsHexText, IsNumberText}
-use Rattle.card_trace.specs.ScriptKeywords.{keyword_text}
-use Rattle.card_trace.specs.ScriptTable.{Addition, addition_of, OneField, ArePlanFields, table_word, AreTableFields, MayStandIn}
+use Rattle.card_trace.specs.ScriptTable.{Addition, addition_of, OneField, ArePlanFields, table_word, AreTableFields, IsLine}
 
 -- what a line says
 pub data CardMeaning : Type 0 where
@@ -59,9 +58,5 @@ is_card_table_line Reset = false
 is_card_table_line Table = false
 
 -- in this section these words say this
-pub record IsCardLine (section : Section) (words : List (List ℕ)) (meaning : CardMeaning) : Type 0
-  where
-    pub fields : List (List ℕ)
-    pub is_line : words ≡ keyword_text (card_keyword meaning) ∷ fields
-    pub are_fields : AreCardFields meaning fields
-    pub stands : MayStandIn section (is_card_table_line meaning)
+abbrev pub IsCardLine : Section → List (List ℕ) → CardMeaning → Type 0
+IsCardLine = IsLine card_keyword AreCardFields is_card_table_line

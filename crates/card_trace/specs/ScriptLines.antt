@@ -1,5 +1,5 @@
--- The lines of a script, one after another: for `play` and for `card` alike, whatever a line says and
--- whatever it is carried out on.
+-- The lines of a script, one after another: for `play` and for `card` alike, whatever a line says
+-- and whatever it is carried out on.
 use Rattle.std.specs.Prelude.{◌≡◌, ◌⊎◌, ℕ, List, [], ◌∷◌, ◌++◌, Option, IfSome}
 use Rattle.std.specs.Str.Lines.{lines}
 use Rattle.std.specs.Io.KnownBytes.{Appends}
@@ -35,8 +35,8 @@ abbrev pub ScriptWrites : {State : Type 0} → (List (List ℕ) → List ℕ →
 ScriptWrites {State} Does script old new = (text : List ℕ) × Appends old new text
     × IfSome script (λ bytes. (end : State) × Does (lines bytes) text end)
 
--- A line is refused: its words say nothing that may stand there, or what it adds is refused for this
--- reason.
+-- A line is refused: its words say nothing that may stand there, or what it adds is refused for
+-- this reason.
 abbrev pub RefusesLine : {State Meaning : Type 0} → (State → Section) → Saying Meaning
     → (Addition → Meaning) → (State → Addition → Reason → Type 0)
     → State → List ℕ → Reason → Type 0

@@ -10,8 +10,7 @@ use Rattle.card_trace.specs.declared.script.section.Section.{Section}
 use Rattle.card_trace.specs.declared.script.play_line.PlayLine.{PlayLine}
 use Rattle.card_trace.specs.declared.script.play_line.PlayLine.TheVariants as line
 use Rattle.card_trace.specs.ScriptFields.{IsAidText, IsTagText, IsCommandText}
-use Rattle.card_trace.specs.ScriptKeywords.{keyword_text}
-use Rattle.card_trace.specs.ScriptTable.{Addition, addition_of, OneField, AreEntryFields, ArePlanFields, table_word, AreTableFields, MayStandIn}
+use Rattle.card_trace.specs.ScriptTable.{Addition, addition_of, OneField, AreEntryFields, ArePlanFields, table_word, AreTableFields, IsLine}
 
 -- what a line says
 pub data PlayMeaning : Type 0 where
@@ -70,9 +69,5 @@ is_play_table_line Reset = false
 is_play_table_line Table = false
 
 -- in this section these words say this
-pub record IsPlayLine (section : Section) (words : List (List ℕ)) (meaning : PlayMeaning) : Type 0
-  where
-    pub fields : List (List ℕ)
-    pub is_line : words ≡ keyword_text (play_keyword meaning) ∷ fields
-    pub are_fields : ArePlayFields meaning fields
-    pub stands : MayStandIn section (is_play_table_line meaning)
+abbrev pub IsPlayLine : Section → List (List ℕ) → PlayMeaning → Type 0
+IsPlayLine = IsLine play_keyword ArePlayFields is_play_table_line

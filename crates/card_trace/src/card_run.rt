@@ -32,8 +32,9 @@ pub fn run_line<A: Allocator + Copy, B: Allocator, W: Write>(
         (λ old text new. DoesOrPasses (Running old) line.now text (Running new))
         (end.old, plans.old) (end.new, plans.new)
         (W.contents writer.old) (W.contents writer.new)) }
-    ensures fault { IfErr result (IsFaultOfLine (λ _. SaysNothing (IsCardLine section.Running) line.now)
-        number (W.contents writer.old) (W.contents writer.new)) }
+    ensures fault { IfErr result (IsFaultOfLine
+        (λ _. SaysNothing (IsCardLine section.Running) line.now) number
+        (W.contents writer.old) (W.contents writer.new)) }
 {
     match read_card_line(alloc, line, Section::Running) {
         Err(refusal) => Err(refusal.at(number)),

@@ -36,8 +36,8 @@ impl<A: Allocator + Copy> CardTable<A> {
         }
     }
 
-    /// Adds what lines say, up to the first run line, of which it answers what it says; `None` where
-    /// there is none. The number is that of the last line that was read.
+    /// Adds what lines say, up to the first run line, of which it answers what it says; `None`
+    /// where there is none. The number is that of the last line that was read.
     pub fn build(
         &mut self,
         alloc: A,
@@ -49,8 +49,8 @@ impl<A: Allocator + Copy> CardTable<A> {
             (DoesAll (Building self.old.builder self.old.plans.items) lines.old []
             (Building self.new.builder self.new.plans.items))
             (λ said. IsFirstRunLine (Building self.old.builder self.old.plans.items)
-            (Building self.new.builder self.new.plans.items) lines.old lines.new number.old number.new
-            (card_meaning said))) }
+            (Building self.new.builder self.new.plans.items) lines.old lines.new
+            number.old number.new (card_meaning said))) }
         ensures stops { IfErr result (λ fault. (written : Option (List ℕ)) →
             LinesStop (DoesAll (Building self.old.builder self.old.plans.items)) RefusesCardLine
             lines.old number.old written written fault) }

@@ -46,8 +46,8 @@ enum Outcome {
     Served,
 }
 
-/// What came of a script that ended so, and printed this, by the texts that its parts print: where no
-/// memory is wanting, and where the card has none for a value.
+/// What came of a script that ended so, and printed this, by the texts that its parts print: where
+/// no memory is wanting, and where the card has none for a value.
 fn outcome_of(
     rt: &impl Abort,
     alloc: Global,
@@ -98,8 +98,8 @@ fn serves_after_refusals<F: Fn(&LocalHeap, &mut Vec<u8>) -> Result<(), PlayFault
     Err("65,536 bytes are not enough".into())
 }
 
-/// An object is read, put in two pieces, and read again. That the card has no memory for the value is
-/// allowed, and need not come up.
+/// An object is read, put in two pieces, and read again. That the card has no memory for the value
+/// is allowed, and need not come up.
 #[test]
 fn a_script_of_both_ends(rt: HostRuntime) -> Result<(), Fail> {
     let alloc = rt.alloc();
@@ -174,8 +174,8 @@ fn a_plan_and_a_command(rt: HostRuntime) -> Result<(), Fail> {
     Ok(())
 }
 
-/// A value comes in two pieces, in lines of few characters each. Where the card has no memory for all
-/// of it the table stays, and the card takes a value that is as short as a line.
+/// A value comes in two pieces, in lines of few characters each. Where the card has no memory for
+/// all of it the table stays, and the card takes a value that is as short as a line.
 #[test]
 fn a_card_alone_without_memory_for_a_value(rt: HostRuntime) -> Result<(), Fail> {
     let alloc = rt.alloc();

@@ -10,8 +10,8 @@ use crate::script::reading::{SCRIPT_LIMIT, read_script};
 use std::alloc::Allocator;
 use std::io::{Read, Write};
 
-/// Carries out a script: builds its card, runs its operations on both ends, and writes what its lines
-/// print.
+/// Carries out a script: builds its card, runs its operations on both ends, and writes what its
+/// lines print.
 ///
 /// `InputTooLong` is a script of more than `SCRIPT_LIMIT` bytes, which is not begun, and `Read` a
 /// fault of the reader: both come before anything is written. `Script` is the first line that is

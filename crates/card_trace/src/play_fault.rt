@@ -2,7 +2,7 @@ use crate::script::reason::Reason;
 use std::alloc::AllocError;
 use thiserror::Error;
 
-/// Why a script was not carried out to its end.
+/// Why a script, of `play` or of `card`, was not carried out to its end.
 #[derive(Debug, Drop, PartialEq, Eq, Error)]
 pub enum PlayFault {
     /// A line, counted from 1, is refused; those before it were carried out.

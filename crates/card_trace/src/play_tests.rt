@@ -429,7 +429,8 @@ fn entries(alloc: Global, before: &str, behind: &str) -> Result<String, Fail> {
     Ok(entries)
 }
 
-/// The table of an application with sixty-four entries, once the first and the last have new values.
+/// The table of an application with sixty-four entries, once the first and the last have new
+/// values.
 fn table_of_new_values(alloc: Global) -> Result<String, Fail> {
     let entries = entries(alloc, "  ", " 01")?;
     let middle = entries

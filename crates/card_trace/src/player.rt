@@ -61,8 +61,9 @@ impl<A: Allocator + Copy> Player<A> {
         }
     }
 
-    /// Carries out the line of this number. A fault ends the script, and the player with it: `Script`
-    /// where the line is refused, and `OutOfMemory`, with nothing written of it, or `Write`.
+    /// Carries out the line of this number. A fault ends the script, and the player with it:
+    /// `Script` where the line is refused, and `OutOfMemory`, with nothing written of it, or
+    /// `Write`.
     pub fn play<W: Write>(
         self,
         alloc: A,
@@ -73,8 +74,8 @@ impl<A: Allocator + Copy> Player<A> {
         ensures played { IfOk result (λ player. (text : List ℕ)
             × Appends (W.contents writer.old) (W.contents writer.new) text
             × PlaysLine (state_of self) line.now text (state_of player)) }
-        ensures fault { IfErr result (IsFaultOfLine (RefusesPlayLine (state_of self) line.now) number
-            (W.contents writer.old) (W.contents writer.new)) }
+        ensures fault { IfErr result (IsFaultOfLine (RefusesPlayLine (state_of self) line.now)
+            number (W.contents writer.old) (W.contents writer.new)) }
     {
         match read_play_line(alloc, line, self.section()) {
             Err(refusal) => Err(refusal.at(number)),
@@ -94,7 +95,8 @@ impl<A: Allocator + Copy> Player<A> {
         ensures played { IfOk result (λ player. (text : List ℕ)
             × Appends (W.contents writer.old) (W.contents writer.new) text
             × Plays (state_of self) (play_meaning said) text (state_of player)) }
-        ensures fault { IfErr result (IsFaultOfLine (RefusesSaid (state_of self) (play_meaning said)) number
+        ensures fault { IfErr result (IsFaultOfLine
+            (RefusesSaid (state_of self) (play_meaning said)) number
             (W.contents writer.old) (W.contents writer.new)) }
     {
         match said {
@@ -177,7 +179,8 @@ impl<A: Allocator + Copy> Running<A> {
             × Appends (W.contents writer.old) (W.contents writer.new) text
             × IsRun self.old.session.state self.old.plans.items (operation_of op) text
             (running_of self.new)) }
-        ensures fault { IfErr result (IsWritingFault (W.contents writer.old) (W.contents writer.new)) }
+        ensures fault { IfErr result
+            (IsWritingFault (W.contents writer.old) (W.contents writer.new)) }
     {
         if !self.session.is_idle() {
             self.plans.clear();

@@ -76,7 +76,8 @@ pub fn write_fixed<W: Write>(line: FixedLine, writer: &mut W) -> Result<(), Play
 
 /// Writes a text. Its one error is `Write`.
 fn write_text<W: Write>(text: &[u8], writer: &mut W) -> Result<(), PlayFault>
-    ensures written { OnOk result (Appends (W.contents writer.old) (W.contents writer.new) text.now) }
+    ensures written { OnOk result
+        (Appends (W.contents writer.old) (W.contents writer.new) text.now) }
     ensures fault { IfErr result (λ fault. fault ≡ PlayFault.Write) }
 {
     writer.write_all(text).map_err(|_| PlayFault::Write)

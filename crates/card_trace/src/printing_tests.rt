@@ -14,8 +14,8 @@ use std::test::Fail;
 use t0_core::{End, HostTurn};
 use tlv_core::{ObjectTag, Tag};
 
-/// The exchange takes one step with a card that has these characters left, which is heard. The answer
-/// is whether there was one to take.
+/// The exchange takes one step with a card that has these characters left, which is heard. The
+/// answer is whether there was one to take.
 fn steps(
     exchange: &mut Exchange<'_>,
     from_card: &mut std::slice::Iter<'_, u8>,

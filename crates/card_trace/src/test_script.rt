@@ -30,8 +30,8 @@ pub struct Case<'a> {
     pub fault: &'a str,
 }
 
-/// Carries out a script of `play`. Without a clause: what is proved of scripts is nothing that a test
-/// has to know, and costs each proof that has it at hand.
+/// Carries out a script of `play`. Without a clause: what is proved of scripts is nothing that a
+/// test has to know, and costs each proof that has it at hand.
 pub fn played<A: Allocator + Copy, R: Read, W: Write>(
     alloc: A,
     reader: &mut R,

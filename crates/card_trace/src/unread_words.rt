@@ -7,8 +7,8 @@ use crate::main_status::told;
 use crate::program_fault::ProgramFault;
 use std::io::{Error, ErrorKind, Write};
 
-/// The exit status where the words can't be had, which is told on `faults`: 1 for want of memory, and
-/// else 2, as one of them is not UTF-8. That `faults` fails changes no status.
+/// The exit status where the words can't be had, which is told on `faults`: 1 for want of memory,
+/// and else 2, as one of them is not UTF-8. That `faults` fails changes no status.
 pub fn status_without_words<F: Write>(error: &Error, faults: &mut F) -> u8
     ensures memory { error_kind error.now ≡ ErrorKind.OutOfMemory → result ≡ 1 }
     ensures refused { error_kind error.now ≢ ErrorKind.OutOfMemory → result ≡ 2 }

@@ -25,8 +25,8 @@ pub enum TableLine<A: Allocator = Global> {
     Locked(ObjectTag, Bytes<A>),
 }
 
-/// The table line with this first word, of which this is left; else the refusal of its words, of the
-/// first field that is none, or for want of memory.
+/// The table line with this first word, of which this is left; else the refusal of its words, of
+/// the first field that is none, or for want of memory.
 pub fn read_table_line<A: Allocator + Copy>(
     alloc: A,
     word: TableWord,
@@ -54,8 +54,8 @@ pub fn read_table_line<A: Allocator + Copy>(
     }
 }
 
-/// The TAG and the VALUE that are left of a line; else the refusal of their number, of the first that
-/// is none, or for want of memory.
+/// The TAG and the VALUE that are left of a line; else the refusal of their number, of the first
+/// that is none, or for want of memory.
 pub fn read_entry<A: Allocator + Copy>(
     alloc: A,
     rest: &[u8],
@@ -70,8 +70,8 @@ pub fn read_entry<A: Allocator + Copy>(
     Ok((tag, Bytes::new(value)))
 }
 
-/// Adds what a table line says to the card that is built. What the builder refuses is refused for its
-/// reason, and for want of memory.
+/// Adds what a table line says to the card that is built. What the builder refuses is refused for
+/// its reason, and for want of memory.
 pub fn add<A: Allocator + Copy>(
     builder: &mut CardBuilder<A>,
     addition: TableLine<A>,

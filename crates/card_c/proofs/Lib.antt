@@ -1,4 +1,5 @@
 pub mod CardHeldValues
 pub mod HeldExchangeValues
+pub mod Listing
 pub mod LooseValues
 pub mod TagNumberLemmas

@@ -6,4 +6,6 @@ pub mod Copying
 pub mod ExchangeCalls
 pub mod ExchangeHandle
 pub mod HeldExchangeOwned
+pub mod Reading
+pub mod TagBytes
 pub mod TagNumbers

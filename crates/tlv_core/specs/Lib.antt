@@ -8,6 +8,7 @@ pub mod ItemCodes
 pub mod Nodes
 pub mod NodesFall
 pub mod Object
+pub mod Listing
 pub mod Place
 pub mod FirstFault
 pub mod FaultText

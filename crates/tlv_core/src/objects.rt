@@ -64,6 +64,13 @@ impl<'a> Objects<'a> {
             None => Ok(Objects { bytes, level: 1 }),
         }
     }
+
+    /// How many bytes are left of the list, padding among them.
+    pub fn left(&self) -> usize
+        ensures { result ≡ length self.now.bytes }
+    {
+        self.bytes.len()
+    }
 }
 
 impl<'a> Iterator for Objects<'a> {
@@ -115,6 +122,13 @@ impl<'a> Obj<'a> {
         ensures { result ≡ self.now.tag }
     {
         self.tag
+    }
+
+    /// The level, from 1.
+    pub fn level(&self) -> u8
+        ensures { result ≡ self.now.level }
+    {
+        self.level
     }
 
     /// The bytes of the value.

@@ -38,8 +38,9 @@ abbrev pub Shows : Option Direction → Direction → List ℕ → Type 0
 Shows None direction moved = moved ≡ []
 Shows (Some seen) direction moved = (seen ≡ direction) × (0 < length moved)
 
--- A tap reads P3 00 as 256 from the card where the card begins a transfer: to the card it would
--- move nothing. So in what it reads none such begins one that moves nothing to the card.
+-- With P3 00 no data are foreseen to the card, where INS and INS xor FF would move nothing, and 256
+-- from it: a tap takes these bytes for the beginning of data from the card. So of the dialogues to
+-- the card with P3 00 it reads those with NULLs alone.
 abbrev pub IsRead : Body → Type 0
 IsRead b = b.direction ≡ ToCard → b.p3 ≡ 0 → AllByRecursion (λ s. s ≡ Null) b.segments
 

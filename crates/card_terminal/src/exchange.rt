@@ -138,8 +138,10 @@ impl<'a, A: Allocator> Exchange<'a, A> {
             → Leads c came self.old → result ≡ HostTurn.Sends byte →
             Leads c (came ++ (Terminal, byte) ∷ []) self.new }
     {
-        let turn = self.end.next();
-        if self.stalled { HostTurn::Failed } else { turn }
+        if self.stalled {
+            return HostTurn::Failed;
+        }
+        self.end.next()
     }
 
     /// Takes a character of the card. With a status the next TPDU is begun, if one follows.

@@ -8,39 +8,30 @@ use Rattle.card_terminal.proofs.ExchangeLemmas.{goes_further, seen_under_way, te
 use Rattle.card_terminal.proofs.LeadsLemmas.{next_leads}
 use Rattle.t0_core.specs.declared.host_end.HostTurn.TheVariants.{Sends}
 use Rattle.card_terminal.proofs.exchange.Exchange.next.Goals as goal
-use Rattle.card_terminal.proofs.exchange.Exchange.next.Goals.{then-self, else-self}
 
 pub returns-clause-goes_on : goal.returns-clause-goes_on
 returns-clause-goes_on g c = λ command units first front byte seen sends.
-    elim c.if-self.branch [
-      | then-self w ↦ let e = sym w.result-is ∙ sends in absurd (cc)
-      | else-self w ↦
-          let under = seen_under_way command _ _ units first front c.self.view_is seen in
-          let goes = c.next-turn.ensures.goes_on front byte under.stands
-          (sym w.result-is ∙ sends) in
-          let after = c.next-turn.ensures.after in (
-            goes.0,
-            goes.1,
-            goes_further command _ c.next-turn.new.self c.self.inside.gather units first front
-                goes.0 (Terminal, byte)
-                (record {
-                  header = ap (λ (h : Hosting). h.header) after;
-                  p3 = ap (λ (h : Hosting). h.p3) after;
-                  direction = ap (λ (h : Hosting). h.direction) after;
-                  content = ap (λ (h : Hosting). h.content) after;
-                }) c.next-turn.ensures.keeps refl under goes.1 goes.2
-                (under.gathered ∙ ap (λ ds. flat_map received (so_far units first) ++ ds)
-                (sym (terminal_brings_nothing front goes.0 byte goes.1))),
-          )
-    ]
+    let under = seen_under_way command _ _ units first front c.self.view_is seen in
+    let goes = c.next.ensures.goes_on front byte under.stands sends in
+    let after = c.next.ensures.after in (
+      goes.0,
+      goes.1,
+      goes_further command _ c.next.new.self c.self.inside.gather units first front goes.0
+          (Terminal, byte)
+          (record {
+            header = ap (λ (h : Hosting). h.header) after;
+            p3 = ap (λ (h : Hosting). h.p3) after;
+            direction = ap (λ (h : Hosting). h.direction) after;
+            content = ap (λ (h : Hosting). h.content) after;
+          }) c.next.ensures.keeps refl under goes.1 goes.2
+          (under.gathered ∙ ap (λ ds. flat_map received (so_far units first) ++ ds)
+          (sym (terminal_brings_nothing front goes.0 byte goes.1))),
+    )
 
 pub returns-clause-led : goal.returns-clause-led
 returns-clause-led g c = λ command came byte leads sends.
-    let turn = elim c.if-self.branch as (λ _. exchange_turn c.args.self.now ≡ Sends byte) [
-      | then-self w ↦ let e = sym w.result-is ∙ sends in absurd (cc)
-      | else-self w ↦ tells _ _ (Sends byte) c.self.view_is w.if-self.false
-          (sym c.next-turn.ensures.turn ∙ sym w.result-is ∙ sends)
-    ] in
+    let turn : exchange_turn c.args.self.now ≡ Sends byte =
+    tells _ _ (Sends byte) c.self.view_is c.if-self.false (sym c.next.ensures.turn ∙ sends) in
     next_leads command came c.args.self.now _ byte turn
     (λ units first front under. returns-clause-goes_on g c command units first front byte
     under sends) leads

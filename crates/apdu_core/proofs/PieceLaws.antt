@@ -8,7 +8,7 @@ use Rattle.apdu_core.specs.declared.header.Header.{Header}
 use Rattle.apdu_core.specs.HeaderBytes.{ins_is_valid}
 use Rattle.apdu_core.specs.CommandBytes.{Command}
 use Rattle.apdu_core.specs.Chaining.{HavePieceSizes, IsPieces, IsLast, with_more, as_last, link, chain_commands, ChainState, added}
-use Rattle.apdu_core.specs.Laws.{MoreInAllButLast, IsLink, Gathers}
+use Rattle.apdu_core.specs.Laws.{MoreInAllButLast, IsLink, AreAdded}
 use Rattle.apdu_core.proofs.ListFacts.{parted}
 use Rattle.apdu_core.proofs.ByteFacts.{cleared, set_and_cleared, is_set}
 
@@ -144,7 +144,7 @@ module _ (header : Header) (byte : header.cla < 256) (clear : IsLast header) whe
   -- a chain that may go on with this header takes the commands exactly where their data have room
   pub gathers : (first : List ℕ) (others : List (List ℕ)) (chain after : ChainState) →
       IfSome chain.pending (λ h. h ≡ header) →
-      Gathers chain (chain_commands header (first ∷ others)) after
+      AreAdded chain (chain_commands header (first ∷ others)) after
       ↔ ((length chain.bytes + length (concat (first ∷ others)) ≤ chain.limit)
       × (after ≡ gathered chain (first ∷ others)))
   gathers first [] chain after goes =

@@ -18,8 +18,8 @@ pub record IsLink (header : Header) (c : Command) : Type 0 where
 
 -- each command is accepted in its turn and has room, and the chain is at the end as the last of
 -- them leaves it
-abbrev pub Gathers : ChainState → List Command → ChainState → Type 0
-Gathers chain [] after = after ≡ chain
-Gathers chain (c ∷ others) after =
+abbrev pub AreAdded : ChainState → List Command → ChainState → Type 0
+AreAdded chain [] after = after ≡ chain
+AreAdded chain (c ∷ others) after =
     Accepts chain c.header × (length chain.bytes + length c.content ≤ chain.limit)
-    × Gathers (added chain c.header c.content) others after
+    × AreAdded (added chain c.header c.content) others after

@@ -5,7 +5,7 @@ ghost use Rattle.apdu_core.specs.declared.header.Header.{Header};
 ghost use Rattle.apdu_core.specs.HeaderBytes.{ins_is_valid};
 ghost use Rattle.apdu_core.specs.CommandBytes.{Command, HasSizes, command_bytes};
 ghost use Rattle.apdu_core.specs.Chaining.{IsPieces, IsLast, chain_commands, ChainState, idle};
-ghost use Rattle.apdu_core.specs.Laws.{MoreInAllButLast, IsLink, Gathers};
+ghost use Rattle.apdu_core.specs.Laws.{MoreInAllButLast, IsLink, AreAdded};
 
 /// A byte list is that of at most one command, whatever its INS.
 pub fn bytes_are_of_one_command()
@@ -39,6 +39,6 @@ pub fn the_commands_of_a_chain()
 pub fn a_chain_gathers_the_value()
     ensures { (header : Header) (value : List ℕ) (p : List (List ℕ)) (limit : ℕ)
         (after : ChainState) → IsPieces value p → IsLast header → header.cla < 256 →
-        Gathers (idle limit) (chain_commands header p) after ↔ ((length value ≤ limit)
+        AreAdded (idle limit) (chain_commands header p) after ↔ ((length value ≤ limit)
         × (after ≡ record { bytes = value; limit = limit; pending = Some header })) }
 {}

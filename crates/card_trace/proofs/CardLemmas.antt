@@ -13,7 +13,7 @@ use Rattle.t0_core.specs.Plan.{Course, Cursor, advanced, plain, plan_kept}
 use Rattle.t0_core.specs.History.{Event, Passed, passed}
 use Rattle.t0_core.specs.History as history
 use Rattle.t0_core.specs.CardSide.{Stage, EndOf, Taking_header, Refusing, Serving, Ending, listens, takes_plan, with_character, still_to_go}
-use Rattle.t0_core.specs.CardHistory.{Leads, LeadsUnder, IsLast, under_way}
+use Rattle.t0_core.specs.CardHistory.{Leads, LeadsUnder, IsTakenLast, under_way}
 use Rattle.t0_core.specs.CardLaws.{answers_on}
 use Rattle.object_card.specs.Tables.{Application}
 use Rattle.object_card.specs.State.{CardState, after_reset}
@@ -152,7 +152,7 @@ takes_next (p ∷ left) kept = (refl, refl)
 
 -- at its turn, with a plan taken before, the end is on the plan that is kept
 kept_is_last : (past : Past) (now : AtWork) → IsReady past now → listens now.0.stage ≡ false → takes_plan now.0.stage ≡ false
-    → IsLast (plan_kept now.1) past.taken
+    → IsTakenLast (plan_kept now.1) past.taken
 kept_is_last past now ready silent none =
     let under = ready.led.under_plans in
     ready.keeps plain (answers_on Does now.0.card.state now.0.card.prepared now.0.stage under.plan.cut plain under.front
@@ -166,7 +166,7 @@ pub lead_turn : (old new : EndOf CardView) (before after : Cursor) (byte : ℕ) 
     → Leads Does after_reset first (events ++ Passed (Card, byte) ∷ []) new.card.state new.card.prepared new.stage)
     → ((first : CardState) (came : List Character) (taken : List Course)
     → LeadsUnder Does first came taken old.card.state old.card.prepared old.stage
-    → (takes_plan old.stage ≡ false → IsLast (plan_kept before) taken)
+    → (takes_plan old.stage ≡ false → IsTakenLast (plan_kept before) taken)
     → LeadsUnder Does first (came ++ (Card, byte) ∷ []) (if takes_plan old.stage then taken ++ plan_kept after ∷ [] else taken)
     new.card.state new.card.prepared new.stage)
     → LeadOn (old, before) ((Card, byte) ∷ []) (new, after)
@@ -195,7 +195,7 @@ lead_turn old new before after byte silent is led led_under = λ past ready. by 
       (if w then past.taken ++ plan_kept after ∷ [] else past.taken) new.card.state new.card.prepared new.stage in
       let N : List Course → Type 0 = λ l. LeadsUnder Does past.stood (past.came ++ (Card, byte) ∷ []) l
       new.card.state new.card.prepared new.stage in
-      let last : IsLast (plan_kept before) past.taken = kept_is_last past (old, before) ready silent e in (
+      let last : IsTakenLast (plan_kept before) past.taken = kept_is_last past (old, before) ready silent e in (
         [],
         ap (λ c. c.rest) same,
         record {
@@ -230,8 +230,8 @@ lead_listens start characters old new before after listening same is led =
     subst E (sym same) (subst C (sym still) led)
 
 keeps_with : (stage : Stage) (byte : ℕ) (cursor : Cursor) (taken : List Course)
-    → ((plan : Course) → under_way stage plan ≡ plan ∷ [] → IsLast (plan_kept cursor) taken)
-    → (plan : Course) → under_way (with_character stage byte) plan ≡ plan ∷ [] → IsLast (plan_kept cursor) taken
+    → ((plan : Course) → under_way stage plan ≡ plan ∷ [] → IsTakenLast (plan_kept cursor) taken)
+    → (plan : Course) → under_way (with_character stage byte) plan ≡ plan ∷ [] → IsTakenLast (plan_kept cursor) taken
 keeps_with (Taking_header bytes) byte cursor taken keeps = keeps
 keeps_with (Refusing h p3 status done) byte cursor taken keeps = keeps
 keeps_with (Serving s came) byte cursor taken keeps = keeps
@@ -249,8 +249,8 @@ pub lead_take : (old new : EndOf CardView) (byte : ℕ) → new ≡ record old {
 lead_take old new byte is led led_under plans = λ past ready.
     let N : List Course → Type 0 = λ l. LeadsUnder Does past.stood (past.came ++ (Terminal, byte) ∷ []) l
     new.card.state new.card.prepared new.stage in
-    let K : Stage → Type 0 = λ s. (plan : Course) → under_way s plan ≡ plan ∷ [] → IsLast (plan_kept plans) past.taken in
-    let L : List Course → Type 0 = λ l. (plan : Course) → under_way new.stage plan ≡ plan ∷ [] → IsLast (plan_kept plans) l in (
+    let K : Stage → Type 0 = λ s. (plan : Course) → under_way s plan ≡ plan ∷ [] → IsTakenLast (plan_kept plans) past.taken in
+    let L : List Course → Type 0 = λ l. (plan : Course) → under_way new.stage plan ≡ plan ∷ [] → IsTakenLast (plan_kept plans) l in (
       [],
       refl,
       record {
@@ -270,7 +270,7 @@ where_ok (Err x) P fine holds = absurd (true≢false fine)
 
 -- before a header nothing has been taken
 keeps_none : (stage : Stage) (cursor : Cursor) (taken : List Course) → stage ≡ Taking_header []
-    → (plan : Course) → under_way stage plan ≡ plan ∷ [] → IsLast (plan_kept cursor) taken
+    → (plan : Course) → under_way stage plan ≡ plan ∷ [] → IsTakenLast (plan_kept cursor) taken
 keeps_none stage cursor taken is plan has =
     let none : [] ≡ plan ∷ [] = rw is at has in absurd (cc)
 

@@ -9,7 +9,7 @@ use Rattle.t0_core.specs.Plan.{Course, Cursor, plain, plan_kept}
 use Rattle.t0_core.specs.History as history
 use Rattle.t0_core.specs.History.{Event, passed}
 use Rattle.t0_core.specs.CardSide.{Stage, EndOf, listens}
-use Rattle.t0_core.specs.CardHistory.{Leads, LeadsUnder, under_way, IsLast}
+use Rattle.t0_core.specs.CardHistory.{Leads, LeadsUnder, under_way, IsTakenLast}
 use Rattle.object_card.specs.Tables.{Application}
 use Rattle.object_card.specs.State.{CardState, after_reset}
 use Rattle.object_card.specs.CardMeaning.{Does}
@@ -221,7 +221,7 @@ end_at past now = record {
 pub record IsReady (past : Past) (now : AtWork) : Type 0 where
   pub led : IsLed (end_at past now)
   pub keeps : (plan : Course) → under_way now.0.stage plan ≡ plan ∷ [] →
-      IsLast (plan_kept now.1) past.taken
+      IsTakenLast (plan_kept now.1) past.taken
 
 -- with these characters the end is as it is, and the next of the plans were taken
 abbrev pub IsReadyBy : Past → List Course → List Character → AtWork → Type 0

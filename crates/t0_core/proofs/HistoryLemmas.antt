@@ -15,7 +15,7 @@ use Rattle.t0_core.specs.Meaning.{Tpdu, tpdu_of, Prepared}
 use Rattle.t0_core.specs.Front.{Front, In_header, In_body, After_first, front_characters, GoesOn, Ends, fresh, header_only, with_moved}
 use Rattle.t0_core.specs.CardSide.{Stage, EndOf, Taking_header, Refusing, Serving, Ending, StandsAt, Advances, IsServed, IsOnPlan, SuitsFront, listens, with_character, takes_plan, comes_from_terminal, one_moved, ServesBy}
 use Rattle.t0_core.specs.History.{Event, Passed, Reset, Item, Whole, Cut_off, IsPart, IsPartUnder, IsUnderPlan, RunsOver, events_of, passed}
-use Rattle.t0_core.specs.CardHistory.{IsAt, Leads, AreDone, LeadsUnder, IsLast, under_way}
+use Rattle.t0_core.specs.CardHistory.{IsAt, Leads, AreDone, LeadsUnder, IsTakenLast, under_way}
 use Rattle.t0_core.proofs.PlannedFront.{at_front, at_fresh, planned_under}
 use Rattle.std.proofs.lemmas.List.{map-append}
 use Rattle.t0_core.specs.DialogueLaws.{flat_map_last, follow_each, all_more, runs_each, one_more_each, ends_with}
@@ -607,7 +607,7 @@ still : {State : Type 0} (Does : State → ℕ → Tpdu → State → Type 0) (f
     (prepared : Prepared State) (stage next : Stage) (came : List Character) (taken : List Course)
     (kept : Course)
     → takes_plan stage ≡ false → (led : LeadsUnder Does first came taken standing prepared stage)
-    → under_way stage led.plan ≡ led.plan ∷ [] → IsLast kept taken
+    → under_way stage led.plan ≡ led.plan ∷ [] → IsTakenLast kept taken
     → ChosenUnder Does first came taken standing prepared stage next kept
 still Does first standing prepared stage next came taken kept none led under last =
     let same : led.plan ≡ kept =
@@ -633,7 +633,7 @@ chosen_under : {State : Type 0} (Does : State → ℕ → Tpdu → State → Typ
     (kept : Course)
     → (takes_plan stage ≡ true → IsCut kept.cut) → listens stage ≡ false
     → LeadsUnder Does first came taken standing prepared stage
-    → (takes_plan stage ≡ false → IsLast kept taken)
+    → (takes_plan stage ≡ false → IsTakenLast kept taken)
     → ChosenUnder Does first came taken standing prepared stage next kept
 chosen_under Does first s p (Taking_header bytes) next came taken kept ranges silent led last =
     at led.front led.came_is led.at_front.stands
@@ -727,11 +727,11 @@ turn_leads_under Does first old new kept before prepared at stage came taken byt
 
 -- under one cursor the plan that is kept is the one taken last
 same_kept : (old new : Cursor) (takes : Bool) (taken : List Course)
-    → new ≡ (if takes then advanced old else old) → (takes ≡ false → IsLast (plan_kept old) taken)
-    → takes ≡ false → IsLast (plan_kept new) taken
+    → new ≡ (if takes then advanced old else old) → (takes ≡ false → IsTakenLast (plan_kept old) taken)
+    → takes ≡ false → IsTakenLast (plan_kept new) taken
 same_kept old new true taken is last none = absurd (cc)
 same_kept old new false taken is last none = let Kept : Cursor → Type 0 =
-    λ c. IsLast (plan_kept c) taken in subst Kept (sym is) (last none)
+    λ c. IsTakenLast (plan_kept c) taken in subst Kept (sym is) (last none)
 
 abbrev pub TurnLeadsUnder : {C State : Type 0} (Does : State → ℕ → Tpdu → State → Type 0)
     (standing : C → State) (prepared : C → Prepared State) → Cursor → Cursor → ℕ → State
@@ -740,7 +740,7 @@ TurnLeadsUnder {State = State} Does standing prepared old cursor sent new ready 
     (first : State) (came : List Character) (taken : List Course) (byte : ℕ)
     → Sends sent ≡ Sends byte
     → LeadsUnder Does first came taken (standing e.card) (prepared e.card) e.stage
-    → (takes_plan e.stage ≡ false → IsLast (plan_kept old) taken)
+    → (takes_plan e.stage ≡ false → IsTakenLast (plan_kept old) taken)
     → LeadsUnder Does first (came ++ (Card, byte) ∷ [])
     (if takes_plan e.stage then taken ++ plan_kept cursor ∷ [] else taken) new ready stage
 

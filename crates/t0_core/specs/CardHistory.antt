@@ -68,5 +68,5 @@ pub record LeadsUnder {State : Type 0} (Does : State → ℕ → Tpdu → State 
     pub begins : IsPartUnder plan (front_characters front)
 
 -- the plan taken last
-abbrev pub IsLast : Course → List Course → Type 0
-IsLast plan taken = (before : List Course) × (taken ≡ before ++ plan ∷ [])
+abbrev pub IsTakenLast : Course → List Course → Type 0
+IsTakenLast plan taken = (before : List Course) × (taken ≡ before ++ plan ∷ [])

@@ -5,7 +5,7 @@ ghost use Rattle.t0_core.specs.declared.service.Service.{Service};
 ghost use Rattle.t0_core.specs.CardView.{Fits, IsForgotten, IsHeld, IsJudged, IsVerdict, IsAfter, KeepsDirection, Refuses, stage_of};
 ghost use Rattle.t0_core.specs.CardSide.{StandsAt, Advances, GoesByCount, IsOnPlan, SuitsFront, IsPermitted, begins_with, listens, with_character, Taking_header, Serving, takes_plan, still_to_go};
 ghost use Rattle.t0_core.specs.History.{Event, Passed, Reset};
-ghost use Rattle.t0_core.specs.CardHistory.{Leads, LeadsUnder, IsLast};
+ghost use Rattle.t0_core.specs.CardHistory.{Leads, LeadsUnder, IsTakenLast};
 ghost use Rattle.t0_core.specs.Plan.{Course, IsCut, advanced, plan_kept};
 ghost use Rattle.t0_core.specs.declared.direction.Direction.{Direction};
 ghost use Rattle.t0_core.specs.Front.{Front, In_body, header_only};
@@ -246,7 +246,7 @@ impl<C: TpduCard> CardEnd<C> {
             (byte : ℕ) → result ≡ Turn.Sends byte →
             LeadsUnder C.Does first came taken
             (C.standing self.old.card) (C.prepared self.old.card) self.old.stage →
-            (takes_plan self.old.stage ≡ false → IsLast (plan_kept plans.old) taken) →
+            (takes_plan self.old.stage ≡ false → IsTakenLast (plan_kept plans.old) taken) →
             LeadsUnder C.Does first (came ++ (Card, byte) ∷ [])
             (if takes_plan self.old.stage then taken ++ plan_kept plans.new ∷ [] else taken)
             (C.standing self.new.card) (C.prepared self.new.card) self.new.stage }

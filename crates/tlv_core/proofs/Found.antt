@@ -2,14 +2,14 @@
 use Rattle.std.proofs.Common.{◌≡◌, ◌≢◌, ℕ, suc, ◌+◌, ◌<◌, List, [], ◌∷◌, ◌++◌, length, refl, sym, ap, arith, length-append, ◌∙◌, ◌⊎◌, inl, inr, true}
 use Rattle.tlv_core.specs.TagForm.{is_constructed}
 use Rattle.tlv_core.specs.Object.{Object}
-use Rattle.tlv_core.specs.Path.{StandsAt, IsFirstAt, NoneStandsAt}
+use Rattle.tlv_core.specs.Path.{LiesAt, IsFirstAt, NoneLiesAt}
 use Rattle.tlv_core.specs.Place.{StartsWith, at_front, past_padding, past_object, into_template}
 use Rattle.tlv_core.specs.StartLaws.{starts_at_object, starts_agree}
 use Rattle.tlv_core.proofs.PlaceFacts.{object_is_long, padded_place, object_place, reached_inside}
 
 -- Objects of padded bytes, and of bytes that start with an object.
-stands_past_padding : (rest : List ℕ) (level place : ℕ) (path : List (List ℕ)) (o : Object) → StandsAt rest level path place o
-    → StandsAt (0 ∷ rest) level path (1 + place) o
+stands_past_padding : (rest : List ℕ) (level place : ℕ) (path : List (List ℕ)) (o : Object) → LiesAt rest level path place o
+    → LiesAt (0 ∷ rest) level path (1 + place) o
 stands_past_padding rest level place path o h = record {
   left = h.left;
   above = h.above;
@@ -19,15 +19,15 @@ stands_past_padding rest level place path o h = record {
   is_path = h.is_path;
 }
 
-stands_in_padded : (rest : List ℕ) (level place : ℕ) (path : List (List ℕ)) (o : Object) → StandsAt (0 ∷ rest) level path place o
-    → (next : ℕ) × (place ≡ 1 + next) × StandsAt rest level path next o
+stands_in_padded : (rest : List ℕ) (level place : ℕ) (path : List (List ℕ)) (o : Object) → LiesAt (0 ∷ rest) level path place o
+    → (next : ℕ) × (place ≡ 1 + next) × LiesAt rest level path next o
 stands_in_padded rest level place path o h =
     let (next, at, reached) = padded_place (0 ∷ rest) level place h.left o.level h.above h.reached rest refl
     (starts_at_object h.left o.tag o.size o.value h.rest h.stands) in
     (next, at, record { left = h.left; above = h.above; rest = h.rest; reached = reached; stands = h.stands; is_path = h.is_path })
 
 stands_past_object : (bytes t s v r : List ℕ) (level place : ℕ) (path : List (List ℕ)) (o : Object) → StartsWith bytes t s v r
-    → StandsAt r level path place o → StandsAt bytes level path (length (t ++ s ++ v) + place) o
+    → LiesAt r level path place o → LiesAt bytes level path (length (t ++ s ++ v) + place) o
 stands_past_object bytes t s v r level place path o b h = record {
   left = h.left;
   above = h.above;
@@ -38,7 +38,7 @@ stands_past_object bytes t s v r level place path o b h = record {
 }
 
 stands_in_template : (bytes t s v r : List ℕ) (level place : ℕ) (path : List (List ℕ)) (o : Object) → StartsWith bytes t s v r
-    → is_constructed t ≡ true → StandsAt v (suc level) path place o → StandsAt bytes level (t ∷ path) (length (t ++ s) + place) o
+    → is_constructed t ≡ true → LiesAt v (suc level) path place o → LiesAt bytes level (t ∷ path) (length (t ++ s) + place) o
 stands_in_template bytes t s v r level place path o b kind h = record {
   left = h.left;
   above = t ∷ h.above;
@@ -49,7 +49,7 @@ stands_in_template bytes t s v r level place path o b kind h = record {
 }
 
 stands_in_front : (bytes t s v r : List ℕ) (level : ℕ) → StartsWith bytes t s v r
-    → StandsAt bytes level (t ∷ []) 0 (record { tag = t; size = s; value = v; level = level })
+    → LiesAt bytes level (t ∷ []) 0 (record { tag = t; size = s; value = v; level = level })
 stands_in_front bytes t s v r level b = record {
   left = bytes;
   above = [];
@@ -62,7 +62,7 @@ stands_in_front bytes t s v r level b = record {
 pub record StandsPast (head value rest : List ℕ) (level place : ℕ) (path : List (List ℕ)) (o : Object) : Type 0 where
   pub next : ℕ
   pub at : place ≡ length (head ++ value) + next
-  pub stands : StandsAt rest level path next o
+  pub stands : LiesAt rest level path next o
 
 pub record StandsWithin (tag head value : List ℕ) (level place : ℕ) (path : List (List ℕ)) (o : Object) : Type 0 where
   pub inner : ℕ
@@ -70,10 +70,10 @@ pub record StandsWithin (tag head value : List ℕ) (level place : ℕ) (path : 
   pub kind : is_constructed tag ≡ true
   pub at : place ≡ length head + inner
   pub through : path ≡ tag ∷ below
-  pub stands : StandsAt value (suc level) below inner o
+  pub stands : LiesAt value (suc level) below inner o
 
 stands_in_object : (bytes t s v r : List ℕ) (level place : ℕ) (path : List (List ℕ)) (o : Object) → StartsWith bytes t s v r
-    → StandsAt bytes level path place o
+    → LiesAt bytes level path place o
     → (path ≡ t ∷ []) ⊎ (StandsPast (t ++ s) v r level place path o ⊎ StandsWithin t (t ++ s) v level place path o)
 stands_in_object bytes t s v r level place path o b h =
     elim (object_place bytes level place h.left o.level h.above h.reached t s v r b) [
@@ -104,7 +104,7 @@ stands_in_object bytes t s v r level place path o b h =
     ]
 
 -- An object lies before the end.
-stands_inside : (bytes : List ℕ) (level place : ℕ) (path : List (List ℕ)) (o : Object) → StandsAt bytes level path place o → place < length bytes
+stands_inside : (bytes : List ℕ) (level place : ℕ) (path : List (List ℕ)) (o : Object) → LiesAt bytes level path place o → place < length bytes
 stands_inside bytes level place path o h =
     omega (
       arith,
@@ -114,7 +114,7 @@ stands_inside bytes level place path o h =
 
 -- What is left of a list, as a reader looks for a path: none stands before it.
 pub record Seeks (bytes : List ℕ) (level : ℕ) (path : List (List ℕ)) (rest : List ℕ) : Type 0 where
-  pub none : NoneStandsAt rest level path → NoneStandsAt bytes level path
+  pub none : NoneLiesAt rest level path → NoneLiesAt bytes level path
   pub first : (o : Object) → IsFirstAt rest level path o → IsFirstAt bytes level path o
 
 pub seeks_at_start : (bytes : List ℕ) (level : ℕ) (path : List (List ℕ)) → Seeks bytes level path bytes
@@ -132,7 +132,7 @@ seeks_one_zero bytes rest level path c = record {
 
 -- An object is passed that is not the one sought, and does not hold it.
 pub seeks_past_object : (bytes at t s v r : List ℕ) (level : ℕ) (path : List (List ℕ)) → StartsWith at t s v r → (path ≡ t ∷ [] → ⊥)
-    → ((below : List (List ℕ)) → path ≡ t ∷ below → is_constructed t ≡ true → NoneStandsAt v (suc level) below)
+    → ((below : List (List ℕ)) → path ≡ t ∷ below → is_constructed t ≡ true → NoneLiesAt v (suc level) below)
     → Seeks bytes level path at → Seeks bytes level path r
 seeks_past_object bytes at t s v r level path b here inside c = record {
   none = λ h. c.none (λ place o g. elim (stands_in_object at t s v r level place path o b g) [
@@ -172,11 +172,11 @@ found_within bytes at t s v r level path below o b kind e more h c = c.first o (
     | inr (inl past) ↦ omega (arith, past.at, length-append (t ++ s) v, stands_inside v (suc level) h.place below o h.here)
     | inr (inr within) ↦
         let same : within.below ≡ below = (let f : t ∷ within.below ≡ t ∷ below = sym within.through ∙ e in cc) in
-        let k : StandsAt v (suc level) below within.inner q = rw (← same) within.stands in
+        let k : LiesAt v (suc level) below within.inner q = rw (← same) within.stands in
         omega (arith, within.at, h.none_before within.inner q k)
   ];
 })
 
 -- Nothing stands in what is left at the end.
-pub none_in_nil : (level : ℕ) (path : List (List ℕ)) → NoneStandsAt [] level path
+pub none_in_nil : (level : ℕ) (path : List (List ℕ)) → NoneLiesAt [] level path
 none_in_nil level path place o h = omega (arith, stands_inside [] level place path o h)

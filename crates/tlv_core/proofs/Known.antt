@@ -3,7 +3,7 @@ use Rattle.std.proofs.Common.{◌≡◌, ℕ, ◌≤◌, List, ◌++◌, length,
 use Rattle.std.proofs.lemmas.List.{drop_at}
 use Rattle.tlv_core.specs.TagForm.{StartsWithTag}
 use Rattle.tlv_core.specs.Length.{StartsWithLength}
-use Rattle.tlv_core.specs.Front.{IsFrontTagSize, IsSpelledFrom, HasParts}
+use Rattle.tlv_core.specs.FrontParts.{IsFrontTagSize, IsSpelledFrom, HasParts}
 use Rattle.tlv_core.specs.Place.{StartsWith, StartsWithObject}
 use Rattle.tlv_core.specs.StartLaws.{after_tags_agree}
 use Rattle.tlv_core.specs.LengthLaws.{sizes_agree}

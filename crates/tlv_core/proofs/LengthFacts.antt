@@ -3,7 +3,7 @@ use Rattle.std.proofs.Common.{◌≡◌, ◌≢◌, ℕ, ◌+◌, ◌-◌, ◌*�
 use Rattle.std.proofs.lemmas.List.{get_or-drop, length-drop}
 use Rattle.std.proofs.lemmas.Bool.{cases_lt, cases_eq}
 use Rattle.tlv_core.specs.Length.{SpellsLength, StartsWithLength, EndsInsideLength}
-use Rattle.tlv_core.specs.Front.{IsFrontSpelling, IsSpelledFrom, HasNoFrontLength}
+use Rattle.tlv_core.specs.FrontParts.{IsFrontSpelling, IsSpelledFrom, HasNoFrontLength}
 use Rattle.tlv_core.specs.declared.fault.Reason.TheVariants.{LengthForm}
 
 -- Bytes that agree with no spelling start with none and end inside none.

@@ -1,7 +1,7 @@
 -- The ends that a reader keeps, as cells of which so many are in use.
 use Rattle.std.proofs.Common.{◌≡◌, ◌≢◌, ℕ, zero, suc, ◌+◌, ◌-◌, ◌<◌, ◌≤◌, List, [], ◌∷◌, length, get_or, refl, ap, arith, add-one, get_or-set_same, get_or-set_other}
 use Rattle.std.proofs.Math.ListN.{set}
-use Rattle.tlv_core.specs.Front.{innermost_first}
+use Rattle.tlv_core.specs.FrontParts.{innermost_first}
 
 pub count_is : (cells : List ℕ) (n : ℕ) → length (innermost_first cells n) ≡ n
 count_is cells zero = refl

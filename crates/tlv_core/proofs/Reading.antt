@@ -6,7 +6,7 @@ use Rattle.std.proofs.Math.ListN.{set}
 use Rattle.tlv_core.specs.TagForm.{is_constructed}
 use Rattle.tlv_core.specs.Spelling.{Empty, Primitive, Template, AreObjects, deepest}
 use Rattle.tlv_core.specs.Place.{StartsWith}
-use Rattle.tlv_core.specs.Front.{HasParts, innermost_first}
+use Rattle.tlv_core.specs.FrontParts.{HasParts, innermost_first}
 use Rattle.tlv_core.specs.FirstFault.{FailsFor, IsFirstFault}
 use Rattle.tlv_core.specs.declared.fault.Reason.{Reason}
 use Rattle.tlv_core.proofs.SpellingFacts.{spells_more, spells_primitive, spells_template, All_nil}

@@ -5,7 +5,7 @@ use Rattle.std.proofs.Math.Seq.{drop-cons}
 use Rattle.tlv_core.specs.TagForm.{is_constructed}
 use Rattle.tlv_core.specs.Object.{Object, IsObject}
 use Rattle.tlv_core.specs.Spelling.{AreObjects, deepest}
-use Rattle.tlv_core.specs.Path.{IsFirstAt, NoneStandsAt}
+use Rattle.tlv_core.specs.Path.{IsFirstAt, NoneLiesAt}
 use Rattle.tlv_core.specs.Place.{StartsWith, StartsWithObject}
 use Rattle.tlv_core.specs.SpellingLaws.{after_is_spelled, inside_is_spelled}
 use Rattle.tlv_core.proofs.SpellingFacts.{objects_past_zero, spelled_starts, spelled_is_object}
@@ -25,10 +25,10 @@ pub record IsIn (bytes : List ℕ) (path : List (List ℕ)) (place end depth : �
 -- one, and past the outermost one there is none.
 abbrev pub Looks : List ℕ → List ℕ → List (List ℕ) → ℕ → ℕ → Type 0
 Looks [] bytes path place end =
-    IsIn bytes path place end 1 path × (NoneStandsAt (cut bytes place end) 1 path → NoneStandsAt bytes 1 path)
+    IsIn bytes path place end 1 path × (NoneLiesAt (cut bytes place end) 1 path → NoneLiesAt bytes 1 path)
 Looks (outer_end ∷ outer) bytes path place end =
     IsIn bytes path place end (suc (suc (length outer))) (drop (suc (length outer)) path)
-    × (NoneStandsAt (cut bytes place end) (suc (suc (length outer))) (drop (suc (length outer)) path) → Looks outer bytes path end outer_end)
+    × (NoneLiesAt (cut bytes place end) (suc (suc (length outer))) (drop (suc (length outer)) path) → Looks outer bytes path end outer_end)
 
 pub looks_in : (outer bytes : List ℕ) (path : List (List ℕ)) (place end : ℕ) → Looks outer bytes path place end
     → IsIn bytes path place end (suc (length outer)) (drop (length outer) path)
@@ -87,7 +87,7 @@ stands_past_zero outer bytes path place end low first h =
 -- The object in front is not the one sought, and does not hold it.
 passes : (outer bytes : List ℕ) (path : List (List ℕ)) (t s v r : List ℕ) (place end next : ℕ) → StartsWith (cut bytes place end) t s v r
     → (drop (length outer) path ≡ t ∷ [] → ⊥)
-    → ((deep : List (List ℕ)) → drop (length outer) path ≡ t ∷ deep → is_constructed t ≡ true → NoneStandsAt v (suc (suc (length outer))) deep)
+    → ((deep : List (List ℕ)) → drop (length outer) path ≡ t ∷ deep → is_constructed t ≡ true → NoneLiesAt v (suc (suc (length outer))) deep)
     → next ≡ place + length (t ++ s ++ v) → Looks outer bytes path place end → Looks outer bytes path next end
 passes outer bytes path t s v r place end next starts here inside e h =
     let i = looks_in outer bytes path place end h in
@@ -174,7 +174,7 @@ stands_in_template outer inner bytes path place end n wanted t s v r g e deep f 
             (seeks_at_start (cut bytes place end) (suc (length outer)) (drop (length outer) path)));
       },
       λ none.
-          let nowhere : NoneStandsAt v (suc (suc (length outer))) (drop (suc (length outer)) path) = rw (← inside) none in
+          let nowhere : NoneLiesAt v (suc (suc (length outer))) (drop (suc (length outer)) path) = rw (← inside) none in
           passes outer bytes path t s v r place end (end - length r) f.starts
           (λ is. some (let k : t ∷ [] ≡ t ∷ drop (suc (length outer)) path = sym is ∙ below in cc))
           (λ deep is constructed.
@@ -207,7 +207,7 @@ stands_behind outer inner bytes path place end outer_end f e h =
     (subst P (sym e) (k.looks.1 (rw nil (none_in_nil (suc (suc (length outer))) (drop (suc (length outer)) path)))))
 
 pub none_at_end : (outer bytes : List ℕ) (path : List (List ℕ)) (place end : ℕ) → outer ≡ [] → place ≡ end → Stands outer bytes path place end
-    → NoneStandsAt bytes 1 path
+    → NoneLiesAt bytes 1 path
 none_at_end outer bytes path place end f e h =
     let k : Stands [] bytes path place end = rw (← f) h in
     let nil = cut_empty bytes place end e k.within in k.looks.1 (rw nil (none_in_nil 1 path))

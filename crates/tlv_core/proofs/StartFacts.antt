@@ -7,7 +7,7 @@ use Rattle.tlv_core.specs.Length.{SpellsLength}
 use Rattle.tlv_core.specs.Spelling.{deepest}
 use Rattle.tlv_core.specs.Place.{StartsWith}
 use Rattle.tlv_core.specs.FirstFault.{FailsFor}
-use Rattle.tlv_core.specs.Front.{IsFrontTagSize, IsSpelledFrom, HasNoFrontLength, HasParts}
+use Rattle.tlv_core.specs.FrontParts.{IsFrontTagSize, IsSpelledFrom, HasNoFrontLength, HasParts}
 use Rattle.tlv_core.specs.declared.fault.Reason.{Reason}
 use Rattle.tlv_core.specs.declared.fault.Reason.TheVariants.{TagCut, TagForm, LengthCut, LengthForm, ValueCut, TooDeep}
 use Rattle.tlv_core.proofs.TagFacts.{tag_cases}

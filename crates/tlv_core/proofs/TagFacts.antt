@@ -2,7 +2,7 @@
 use Rattle.std.proofs.Common.{◌≡◌, ℕ, ◌%◌, ◌<◌, ◌≤◌, List, [], ◌∷◌, ◌++◌, refl, arith, Err, ◌⊎◌, inl, inr}
 use Rattle.std.proofs.lemmas.Bool.{cases_lt, cases_eq, cases_order}
 use Rattle.tlv_core.specs.TagForm.{IsTag, StartsWithTag, EndsInsideTag}
-use Rattle.tlv_core.specs.Front.{IsFrontTag}
+use Rattle.tlv_core.specs.FrontParts.{IsFrontTag}
 use Rattle.tlv_core.specs.declared.fault.Reason.TheVariants.{TagForm}
 use Rattle.tlv_core.specs.TagLaws.{neither, form_zero, form_second, form_third, front_none, front_cut_first, front_cut_second}
 

@@ -1,6 +1,6 @@
 pub mod TagForm
 pub mod Tag
-pub mod Front
+pub mod FrontParts
 pub mod Length
 pub mod Spelling
 pub mod Items

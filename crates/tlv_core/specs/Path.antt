@@ -5,7 +5,7 @@ use Rattle.tlv_core.specs.Place.{Reached, StartsWith}
 
 -- At this place of the bytes, which are objects of a level, stands the object, and the tags from
 -- that level down to its own are the path.
-pub record StandsAt (bytes : List ℕ) (level : ℕ) (path : List (List ℕ)) (place : ℕ)
+pub record LiesAt (bytes : List ℕ) (level : ℕ) (path : List (List ℕ)) (place : ℕ)
     (object : Object) : Type 0 where
   pub left : List ℕ
   pub above : List (List ℕ)
@@ -18,9 +18,9 @@ pub record StandsAt (bytes : List ℕ) (level : ℕ) (path : List (List ℕ)) (p
 pub record IsFirstAt (bytes : List ℕ) (level : ℕ) (path : List (List ℕ)) (object : Object) : Type 0
   where
     pub place : ℕ
-    pub here : StandsAt bytes level path place object
-    pub none_before : (p : ℕ) (other : Object) → StandsAt bytes level path p other → place ≤ p
+    pub here : LiesAt bytes level path place object
+    pub none_before : (p : ℕ) (other : Object) → LiesAt bytes level path p other → place ≤ p
 
-abbrev pub NoneStandsAt : List ℕ → ℕ → List (List ℕ) → Type 0
-NoneStandsAt bytes level path = (place : ℕ) (object : Object)
-    → StandsAt bytes level path place object → ⊥
+abbrev pub NoneLiesAt : List ℕ → ℕ → List (List ℕ) → Type 0
+NoneLiesAt bytes level path = (place : ℕ) (object : Object)
+    → LiesAt bytes level path place object → ⊥

@@ -2,7 +2,7 @@
 use Rattle.std.proofs.Common.{◌≡◌, ◌≢◌, ℕ, ◌%◌, ◌<◌, ◌≤◌, List, [], ◌∷◌, ◌++◌, length, get_or, refl, sym, ap, arith, append_assoc, length-append, append-nil, ◌∙◌, Ok, Err, ◌⊎◌, inl, inr}
 use Rattle.std.proofs.lemmas.List.{nil_from_length, append_cancel_left}
 use Rattle.tlv_core.specs.TagForm.{IsTag, StartsWithTag, EndsInsideTag}
-use Rattle.tlv_core.specs.Front.{IsFrontTag, IsFrontTagSize}
+use Rattle.tlv_core.specs.FrontParts.{IsFrontTag, IsFrontTagSize}
 use Rattle.tlv_core.specs.declared.fault.Reason.TheVariants.{TagForm}
 
 -- No tag is a prefix of another.

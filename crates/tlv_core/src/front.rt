@@ -1,5 +1,5 @@
 ghost use Rattle.std.specs.Prelude.{◌≡◌, ◌≤◌, ◌<◌, length, drop, MatchResult};
-ghost use Rattle.tlv_core.specs.Front.{IsFrontTagSize, IsSpelledFrom, HasNoFrontLength, IsPastPadding, HasParts};
+ghost use Rattle.tlv_core.specs.FrontParts.{IsFrontTagSize, IsSpelledFrom, HasNoFrontLength, IsPastPadding, HasParts};
 ghost use Rattle.tlv_core.specs.FirstFault.{FailsFor};
 ghost use Rattle.tlv_core.specs.Length.{StartsWithLength};
 ghost use Rattle.tlv_core.specs.Place.{StartsWith, StartsWithObject};
@@ -30,7 +30,7 @@ pub(crate) struct Parts {
 
 /// The object at the front of bytes, and what follows it.
 #[derive(Drop)]
-pub(crate) struct Front<'a> {
+pub(crate) struct FirstObject<'a> {
     pub(crate) tag: Tag,
     pub(crate) size: &'a [u8],
     pub(crate) value: &'a [u8],
@@ -140,7 +140,7 @@ fn known_length(bytes: &[u8], start: usize) -> Length
 
 /// The object that the bytes start with. Nothing is checked.
 #[inline(always)]
-pub(crate) fn front_object(bytes: &[u8]) -> Front<'_>
+pub(crate) fn front_object(bytes: &[u8]) -> FirstObject<'_>
     requires { StartsWithObject bytes.now }
     ensures { StartsWith bytes.now result.tag result.size.now result.value.now result.rest.now }
 {
@@ -149,7 +149,7 @@ pub(crate) fn front_object(bytes: &[u8]) -> Front<'_>
     let (head, after_head) = bytes.split_at(length.end);
     let (tag, size) = head.split_at(tag_size);
     let (value, rest) = after_head.split_at(length.value);
-    Front {
+    FirstObject {
         tag: Tag::of(tag),
         size,
         value,

@@ -7,7 +7,7 @@ ghost use Rattle.tlv_core.specs.TagForm.{is_constructed};
 
 use crate::check::first_fault;
 use crate::fault::TlvFault;
-use crate::front::{Front, front_object, past_padding};
+use crate::front::{FirstObject, front_object, past_padding};
 use crate::tag::Tag;
 use std::marker::Model;
 
@@ -95,7 +95,7 @@ impl<'a> Iterator for Objects<'a> {
 
 impl<'a> Obj<'a> {
     /// The object that was found at the front of a list at this level.
-    pub(crate) fn at_level(front: Front<'a>, level: u8) -> Obj<'a>
+    pub(crate) fn at_level(front: FirstObject<'a>, level: u8) -> Obj<'a>
         requires { IsObject (record {
           tag = front.tag;
           size = front.size.now;

@@ -1,6 +1,6 @@
 ghost use Rattle.std.specs.Prelude.{◌↔◌, IsOk, IfOk, IfErr, MatchOption};
 ghost use Rattle.tlv_core.specs.FirstFault.{IsFirstFault};
-ghost use Rattle.tlv_core.specs.Path.{IsFirstAt, NoneStandsAt};
+ghost use Rattle.tlv_core.specs.Path.{IsFirstAt, NoneLiesAt};
 ghost use Rattle.tlv_core.specs.Spelling.{AreObjects};
 
 use crate::fault::TlvFault;
@@ -12,7 +12,7 @@ use crate::tag::Tag;
 /// path; None where there is none, and for the empty path. The fault is the first one of the bytes.
 pub fn find<'a>(bytes: &'a [u8], path: &[Tag]) -> Result<Option<Obj<'a>>, TlvFault>
     ensures objects { IsOk result ↔ AreObjects bytes.now 1 }
-    ensures found { IfOk result (λ found. MatchOption found (NoneStandsAt bytes.now 1 path.now)
+    ensures found { IfOk result (λ found. MatchOption found (NoneLiesAt bytes.now 1 path.now)
         (IsFirstAt bytes.now 1 path.now)) }
     ensures fault { IfErr result (λ fault. IsFirstFault bytes.now 1 fault.place fault.reason) }
 {
@@ -23,7 +23,7 @@ pub fn find<'a>(bytes: &'a [u8], path: &[Tag]) -> Result<Option<Obj<'a>>, TlvFau
 /// The first object on the path.
 fn find_in<'a>(bytes: &'a [u8], path: &[Tag]) -> Option<Obj<'a>>
     requires { AreObjects bytes.now 1 }
-    ensures { MatchOption result (NoneStandsAt bytes.now 1 path.now)
+    ensures { MatchOption result (NoneLiesAt bytes.now 1 path.now)
         (IsFirstAt bytes.now 1 path.now) }
 {
     if path.is_empty() {

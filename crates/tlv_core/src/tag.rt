@@ -1,6 +1,6 @@
 ghost use Rattle.std.specs.Prelude.{◌≡◌, ◌↔◌, ◌++◌, ◌∷◌, [], ℕ, List, length, false, IfOk, IsErrOf, IsOk, IsTrue};
 ghost use Rattle.tlv_core.specs.TagForm.{IsTag, StartsWithTag, EndsInsideTag, is_constructed};
-ghost use Rattle.tlv_core.specs.Front.{IsFrontTagSize};
+ghost use Rattle.tlv_core.specs.FrontParts.{IsFrontTagSize};
 
 use crate::fault::{Reason, TlvFault};
 use std::marker::Model;

@@ -1,7 +1,7 @@
 use Rattle.std.proofs.Common.{◌≡◌, ◌≤◌, ◌↔◌, ℕ, List, ◌∷◌, length, Some, arith, subst, sym}
 use Rattle.std.specs.List.{concat}
 use Rattle.apdu_core.specs.Chaining.{chain_commands, idle}
-use Rattle.apdu_core.specs.Laws.{Gathers}
+use Rattle.apdu_core.specs.Laws.{AreAdded}
 use Rattle.apdu_core.proofs.PieceLaws.{gathers, some_piece, pieces_concatenate}
 use Rattle.apdu_core.proofs.laws.a_chain_gathers_the_value.Goals as goal
 
@@ -9,7 +9,7 @@ pub returns : goal.returns
 returns c = λ header value p limit after h clear byte.
     let (first, others, is) = some_piece value p h in
     let TakesAll : List (List ℕ) → List ℕ → Type 0 = λ q bytes.
-    Gathers (idle limit) (chain_commands header q) after ↔ ((length bytes ≤ limit)
+    AreAdded (idle limit) (chain_commands header q) after ↔ ((length bytes ≤ limit)
     × (after ≡ record { bytes = bytes; limit = limit; pending = Some header })) in
     let step = gathers header byte clear first others (idle limit) after tt in
     let here : TakesAll (first ∷ others) (concat (first ∷ others)) = (

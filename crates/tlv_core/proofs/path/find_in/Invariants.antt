@@ -1,6 +1,6 @@
 use Rattle.std.proofs.Common.{◌≡◌, ◌+◌, ◌-◌, ◌*◌, ◌≤◌, length}
 use Rattle.tlv_core.specs.Spelling.{deepest}
-use Rattle.tlv_core.specs.Front.{innermost_first}
+use Rattle.tlv_core.specs.FrontParts.{innermost_first}
 use Rattle.tlv_core.proofs.Seeking.{Stands}
 use Rattle.tlv_core.proofs.path.find_in.Given as goal
 

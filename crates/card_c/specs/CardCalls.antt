@@ -7,7 +7,7 @@ use Rattle.t0_core.specs.declared.plan.Step.{Step}
 use Rattle.t0_core.specs.declared.plan.Step.TheVariants.{Null, One, All}
 use Rattle.t0_core.specs.declared.line_fault.LineFault.TheVariants.{NotListening}
 use Rattle.t0_core.specs.History.{Event, Passed, Reset}
-use Rattle.t0_core.specs.CardHistory.{Leads, LeadsUnder, IsLast}
+use Rattle.t0_core.specs.CardHistory.{Leads, LeadsUnder, IsTakenLast}
 use Rattle.t0_core.specs.CardSide.{EndOf, Taking_header, listens, takes_plan, with_character}
 use Rattle.t0_core.specs.Plan.{Course, Cursor, IsCut, advanced, plan_kept}
 use Rattle.object_card.specs.declared.builder_fault.BuilderFault.{BuilderFault}
@@ -108,7 +108,7 @@ Turns before byte (Standing end plans) code new =
     × LeadsOn (Passed (Card, byte)) end next
     × ((first : CardState) (came : List Character) (taken : List Course)
     → HaveLedUnder first came taken end
-    → (takes_plan end.stage ≡ false → IsLast (plan_kept plans) taken)
+    → (takes_plan end.stage ≡ false → IsTakenLast (plan_kept plans) taken)
     → HaveLedUnder first (came ++ (Card, byte) ∷ [])
     (if takes_plan end.stage then taken ++ plan_kept left ∷ [] else taken) next))
 

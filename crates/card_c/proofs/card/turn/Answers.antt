@@ -2,7 +2,7 @@ use Rattle.std.proofs.Common.{◌≡◌, ◌∷◌, [], ◌++◌, true, false, B
 use Rattle.std.specs.Prelude.{if◌then◌else◌}
 use Rattle.t0_core.specs.declared.end.End.TheVariants.{Card}
 use Rattle.t0_core.specs.declared.card_end.Turn.{Turn}
-use Rattle.t0_core.specs.CardHistory.{IsLast}
+use Rattle.t0_core.specs.CardHistory.{IsTakenLast}
 use Rattle.t0_core.specs.CardSide.{takes_plan}
 use Rattle.t0_core.specs.Plan.{Cursor, advanced, plan_kept}
 use Rattle.card_c.specs.declared.card_side.CardSide.{CardSide}
@@ -32,7 +32,7 @@ returns-then-takes_plan c =
       (λ first events led. e.led first events c.in-Sends.sent refl led),
       (λ first came taken led last.
           subst (λ (p : Cursor). HaveLedUnder first (came ++ (Card, c.in-Sends.sent) ∷ []) (if takes_plan stage then taken ++ plan_kept p ∷ [] else taken) c.turn.new.self) same
-          (e.led_under first came taken c.in-Sends.sent refl led (λ same_plan. subst (λ (p : Cursor). IsLast (plan_kept p) taken) (sym c.cursor.ensures) (last same_plan)))),
+          (e.led_under first came taken c.in-Sends.sent refl led (λ same_plan. subst (λ (p : Cursor). IsTakenLast (plan_kept p) taken) (sym c.cursor.ensures) (last same_plan)))),
     ))
 
 pub returns-else-takes_plan : goal.returns-else-takes_plan
@@ -52,5 +52,5 @@ returns-else-takes_plan c =
       (λ first events led. e.led first events c.in-Sends.sent refl led),
       (λ first came taken led last.
           subst (λ (p : Cursor). HaveLedUnder first (came ++ (Card, c.in-Sends.sent) ∷ []) (if takes_plan stage then taken ++ plan_kept p ∷ [] else taken) c.turn.new.self) same
-          (e.led_under first came taken c.in-Sends.sent refl led (λ same_plan. subst (λ (p : Cursor). IsLast (plan_kept p) taken) (sym c.cursor.ensures) (last same_plan)))),
+          (e.led_under first came taken c.in-Sends.sent refl led (λ same_plan. subst (λ (p : Cursor). IsTakenLast (plan_kept p) taken) (sym c.cursor.ensures) (last same_plan)))),
     ))

@@ -244,8 +244,8 @@ static inline int32_t gt_head(uint32_t tag, uint16_t length, uint8_t head[6], si
  * nothing. The command is copied.
  *
  * GT_STATE: the handle holds an exchange. GT_TOO_SHORT, GT_BAD_LENGTH, GT_INVALID_INS: the bytes
- * are no command. GT_MEMORY. After each the handle is as it was. All memory of an exchange is
- * taken here: 16,384 bytes for the response, those of the command's data, and at most 256 more. */
+ * are no command. GT_MEMORY. After each the handle is as it was. All memory of an exchange is taken
+ * here, in three blocks: 16,496 bytes and those of the command's data, at most 16,751. */
 static inline int32_t gt_exchange_start(gt_exchange *e, const uint8_t *command, size_t n) {
     if (!e || (!command && n)) return GT_NULL;
     return galliumtoad_exchange_start(e, gt_bytes_(command), n);

@@ -157,7 +157,7 @@ typedef struct { bool live; void *held; } gt_exchange;
 typedef struct { bool live; void *held; } gt_card;
 typedef struct { bool live; void *held; } gt_session;
 
-/* ---- The archive's functions: as those of the same name below, but no pointer is NULL -------- */
+/* ---- The archive's functions: those below call them, with no pointer that is NULL ------------ */
 
 int32_t galliumtoad_objects(const uint8_t *bytes, size_t n, gt_object *objects, size_t room,
                             size_t *count, size_t *place);
@@ -185,14 +185,10 @@ void galliumtoad_card_free(gt_card *c);
 int32_t galliumtoad_session_start(gt_session *s, gt_card *c);
 int32_t galliumtoad_session_idle(const gt_session *s);
 int32_t galliumtoad_session_plan(gt_session *s, const uint8_t *steps, size_t n, uint16_t cut);
-int32_t galliumtoad_session_select(gt_session *s, const uint8_t *aid, size_t n, uint16_t *status,
-                                   uint8_t *data, size_t room, size_t *len);
-int32_t galliumtoad_session_get(gt_session *s, uint32_t tag, uint16_t *status,
-                                uint8_t *data, size_t room, size_t *len);
-int32_t galliumtoad_session_put(gt_session *s, uint32_t tag, const uint8_t *value, size_t n,
-                                uint16_t *status);
-int32_t galliumtoad_session_send(gt_session *s, const uint8_t *command, size_t n, uint16_t *status,
-                                 uint8_t *data, size_t room, size_t *len);
+int32_t galliumtoad_session_select(gt_session *s, const uint8_t *aid, size_t n);
+int32_t galliumtoad_session_get(gt_session *s, uint32_t tag);
+int32_t galliumtoad_session_put(gt_session *s, uint32_t tag, const uint8_t *value, size_t n);
+int32_t galliumtoad_session_send(gt_session *s, const uint8_t *command, size_t n);
 int32_t galliumtoad_session_answer(const gt_session *s, uint16_t *status,
                                    uint8_t *data, size_t room, size_t *len);
 int32_t galliumtoad_session_heard(const gt_session *s, gt_character *line, size_t room,
@@ -414,8 +410,11 @@ static inline int32_t gt_session_plan(gt_session *s, const char *steps, uint16_t
 static inline int32_t gt_session_select(gt_session *s, const uint8_t *aid, size_t n,
                                         uint16_t *status, uint8_t *data, size_t room, size_t *len) {
     uint8_t none = 0;
+    int32_t code;
     if (!s || (!aid && n) || !status || (!data && room) || !len) return GT_NULL;
-    return galliumtoad_session_select(s, gt_bytes_(aid), n, status, data ? data : &none, room, len);
+    code = galliumtoad_session_select(s, gt_bytes_(aid), n);
+    if (code < 0) return code;
+    return galliumtoad_session_answer(s, status, data ? data : &none, room, len);
 }
 
 /* Reads a data object: `data` gets its tag, length and value. As `gt_session_select`;
@@ -423,16 +422,25 @@ static inline int32_t gt_session_select(gt_session *s, const uint8_t *aid, size_
 static inline int32_t gt_session_get(gt_session *s, uint32_t tag, uint16_t *status,
                                      uint8_t *data, size_t room, size_t *len) {
     uint8_t none = 0;
+    int32_t code;
     if (!s || !status || (!data && room) || !len) return GT_NULL;
-    return galliumtoad_session_get(s, tag, status, data ? data : &none, room, len);
+    code = galliumtoad_session_get(s, tag);
+    if (code < 0) return code;
+    return galliumtoad_session_answer(s, status, data ? data : &none, room, len);
 }
 
 /* Stores a value under a tag, in a chain of commands where it is long. As `gt_session_select`,
  * without data; GT_ARGUMENT: PUT DATA can't name the tag, or the value is too long. */
 static inline int32_t gt_session_put(gt_session *s, uint32_t tag, const uint8_t *value, size_t n,
                                      uint16_t *status) {
+    uint8_t none = 0;
+    size_t len = 0;
+    int32_t code;
     if (!s || (!value && n) || !status) return GT_NULL;
-    return galliumtoad_session_put(s, tag, gt_bytes_(value), n, status);
+    code = galliumtoad_session_put(s, tag, gt_bytes_(value), n);
+    if (code < 0) return code;
+    code = galliumtoad_session_answer(s, status, &none, 0, &len);
+    return code == GT_BUFFER ? GT_OK : code;
 }
 
 /* Sends any one command; it may begin a chain or go on with one. As `gt_session_select`, but never
@@ -441,9 +449,11 @@ static inline int32_t gt_session_put(gt_session *s, uint32_t tag, const uint8_t 
 static inline int32_t gt_session_send(gt_session *s, const uint8_t *command, size_t n,
                                       uint16_t *status, uint8_t *data, size_t room, size_t *len) {
     uint8_t none = 0;
+    int32_t code;
     if (!s || (!command && n) || !status || (!data && room) || !len) return GT_NULL;
-    return galliumtoad_session_send(s, gt_bytes_(command), n, status, data ? data : &none, room,
-                                    len);
+    code = galliumtoad_session_send(s, gt_bytes_(command), n);
+    if (code < 0) return code;
+    return galliumtoad_session_answer(s, status, data ? data : &none, room, len);
 }
 
 /* The last answer again. GT_NOT_FOUND: there is none. GT_BUFFER, GT_EMPTY. */

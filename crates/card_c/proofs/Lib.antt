@@ -2,4 +2,5 @@ pub mod CardHeldValues
 pub mod HeldExchangeValues
 pub mod Listing
 pub mod LooseValues
+pub mod SessionLemmas
 pub mod TagNumberLemmas

@@ -17,7 +17,7 @@ use Rattle.object_card.specs.CardMeaning.{Does}
 use Rattle.object_card.specs.CardView.{CardView}
 use Rattle.object_card.specs.Builder.{TakesApplication, RefusesApplication, TakesObject, RefusesObject, with_application, with_last_entry, new_card}
 use Rattle.card_c.specs.declared.card_side.CardSide.{CardSide}
-use Rattle.card_c.specs.declared.card_side.CardSide.TheVariants.{Building, Standing}
+use Rattle.card_c.specs.declared.card_side.CardSide.TheVariants.{Building, Standing, Joined}
 use Rattle.card_c.specs.Codes.{gt_ok, gt_sends, gt_state, gt_memory, gt_argument, builder_code, line_code}
 use Rattle.card_c.specs.TagNumbers.{IsNumbered}
 
@@ -34,6 +34,7 @@ IsRefused Refuses code = (fault : BuilderFault) × Refuses fault × (code ≡ bu
 -- an application is added
 abbrev pub AddsApplication : List ℕ → CardSide → ℤ → CardSide → Type 0
 AddsApplication aid (Standing end plans) code new = (code ≡ gt_state) × (new ≡ Standing end plans)
+AddsApplication aid (Joined session) code new = (code ≡ gt_state) × (new ≡ Joined session)
 AddsApplication aid (Building applications) code new =
     (IsAid aid × TakesApplication aid applications × (code ≡ gt_ok)
     × (new ≡ Building (with_application aid applications)))
@@ -45,6 +46,7 @@ AddsApplication aid (Building applications) code new =
 abbrev pub AddsObject : ℕ → List ℕ → Bool → CardSide → ℤ → CardSide → Type 0
 AddsObject number value locked (Standing end plans) code new =
     (code ≡ gt_state) × (new ≡ Standing end plans)
+AddsObject number value locked (Joined session) code new = (code ≡ gt_state) × (new ≡ Joined session)
 AddsObject number value locked (Building applications) code new =
     ((tag : List ℕ) × IsNumbered number tag × TakesObject tag value applications × (code ≡ gt_ok)
     × (new ≡ Building (with_last_entry tag value locked applications)))
@@ -71,6 +73,7 @@ no_plans = record { rest = []; kept = None }
 -- still being built.
 abbrev pub Finishes : CardSide → ℤ → CardSide → Type 0
 Finishes (Standing end plans) code new = (code ≡ gt_state) × (new ≡ Standing end plans)
+Finishes (Joined session) code new = (code ≡ gt_state) × (new ≡ Joined session)
 Finishes (Building applications) code new =
     ((end : EndOf CardView) × (code ≡ gt_ok) × (new ≡ Standing end no_plans)
     × (end ≡ record { card = new_card applications; stage = Taking_header [] })
@@ -85,6 +88,7 @@ LeadsOn event old new = (first : CardState) (events : List Event) → HaveLed fi
 -- A character of the terminal is taken where the card listens.
 abbrev pub Takes : ℕ → CardSide → ℤ → CardSide → Type 0
 Takes byte (Building applications) code new = (code ≡ gt_state) × (new ≡ Building applications)
+Takes byte (Joined session) code new = (code ≡ gt_state) × (new ≡ Joined session)
 Takes byte (Standing end plans) code new =
     ((listens end.stage ≡ false) × (code ≡ line_code NotListening) × (new ≡ Standing end plans))
     ⊎ ((next : EndOf CardView) × (listens end.stage ≡ true) × (code ≡ gt_ok)
@@ -100,6 +104,8 @@ Takes byte (Standing end plans) code new =
 abbrev pub Turns : ℕ → ℕ → CardSide → ℤ → CardSide → Type 0
 Turns before byte (Building applications) code new =
     (code ≡ gt_state) × (new ≡ Building applications) × (byte ≡ before)
+Turns before byte (Joined session) code new =
+    (code ≡ gt_state) × (new ≡ Joined session) × (byte ≡ before)
 Turns before byte (Standing end plans) code new =
     ((listens end.stage ≡ true) × (code ≡ gt_ok) × (new ≡ Standing end plans) × (byte ≡ before))
     ⊎ ((next : EndOf CardView) × (left : Cursor) × (listens end.stage ≡ false)
@@ -115,6 +121,7 @@ Turns before byte (Standing end plans) code new =
 -- The card is reset; the plans stay.
 abbrev pub Resets : CardSide → ℤ → CardSide → Type 0
 Resets (Building applications) code new = (code ≡ gt_state) × (new ≡ Building applications)
+Resets (Joined session) code new = (code ≡ gt_state) × (new ≡ Joined session)
 Resets (Standing end plans) code new =
     (next : EndOf CardView) × (code ≡ gt_ok) × (new ≡ Standing next plans)
     × (next.card.state ≡ after_reset end.card.state) × (next.stage ≡ Taking_header [])

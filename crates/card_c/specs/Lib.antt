@@ -7,5 +7,6 @@ pub mod ExchangeCalls
 pub mod ExchangeHandle
 pub mod HeldExchangeOwned
 pub mod Reading
+pub mod SessionCalls
 pub mod TagBytes
 pub mod TagNumbers

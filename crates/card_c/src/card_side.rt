@@ -1,12 +1,15 @@
 use crate::plan_queue::PlanQueue;
+use crate::session_side::SessionSide;
 use object_card::{CardBuilder, ObjectCard};
 use t0_core::CardEnd;
 
-/// A card on its way.
+/// A card on its way: what the handle of a card, or of a session with one, holds.
 #[derive(Drop)]
 pub enum CardSide {
     /// What it is to hold.
     Building(CardBuilder),
     /// Its end of the line, with the plans for it.
     Standing(CardEnd<ObjectCard>, PlanQueue),
+    /// A session with it.
+    Joined(SessionSide),
 }

@@ -18,5 +18,7 @@ mod loose;
 mod objects;
 mod plan_queue;
 mod reader;
+mod session;
+mod session_side;
 mod tag_number;
 mod terminal_side;

@@ -1,0 +1,13 @@
+use Rattle.card_c.proofs.SessionLemmas.{as_it_is}
+use Rattle.std.proofs.Common.{ℤ, refl, sym, subst, inr}
+use Rattle.card_c.specs.declared.card_side.CardSide.{CardSide}
+use Rattle.card_c.specs.declared.card_side.CardSide.TheVariants.{Joined}
+use Rattle.card_c.specs.SessionCalls.{Gets}
+use Rattle.card_c.proofs.session.get.Goals as goal
+
+pub returns-in-Some : goal.returns-in-Some
+returns-in-Some c =
+    let code = c.perform.result in let next = c.perform.new.joined in
+    subst (λ (z : ℤ). Gets c.args.number c.args.side.now z (Joined next)) (sym (as_it_is code c.perform.type_inv))
+    (subst (λ (s : CardSide). Gets c.args.number s code (Joined next)) (sym c.in-Joined.is)
+    (inr (next, c.in-Some.tag, c.in-Some.ensures, refl, c.perform.ensures)))

@@ -1,0 +1,154 @@
+-- What the calls on a session's handle do to what it holds. A refusal leaves it as it was.
+use Rattle.std.specs.Prelude.{◌≡◌, ◌≢◌, ◌⊎◌, ℕ, ℤ, ◌+◌, ◌*◌, List, [], ◌∷◌, length, Bool, true, false, Option, Some, None}
+use Rattle.apdu_core.specs.StatusWord.{StatusWord}
+use Rattle.t0_core.specs.Character.{Character}
+use Rattle.t0_core.specs.Plan.{Course}
+use Rattle.t0_core.specs.Watch.{Hearing, Hears}
+use Rattle.t0_core.specs.CardSide.{EndOf, Taking_header}
+use Rattle.object_card.specs.Tables.{IsAid}
+use Rattle.object_card.specs.State.{CardState, after_reset, is_idle}
+use Rattle.object_card.specs.OneStep.{Operation, Select, Get, Put, Reply, AnswersAll}
+use Rattle.object_card.specs.CardMeaning.{Does}
+use Rattle.object_card.specs.CardView.{CardView}
+use Rattle.card_terminal.specs.Talk.{Talk}
+use Rattle.card_c.specs.declared.card_side.CardSide.{CardSide}
+use Rattle.card_c.specs.declared.card_side.CardSide.TheVariants.{Building, Standing, Joined}
+use Rattle.card_c.specs.declared.session_side.SessionSide.{SessionSide}
+use Rattle.card_c.specs.Codes.{gt_ok, gt_empty, gt_state, gt_memory, gt_argument, gt_busy, gt_not_found}
+use Rattle.card_c.specs.Copying.{IsCopied}
+use Rattle.card_c.specs.TagNumbers.{IsNumbered}
+use Rattle.card_c.specs.CardCalls.{HaveLed, HaveLedUnder, no_plans}
+
+-- nothing was heard, and nothing lost
+abbrev pub silence : Hearing
+silence = record { heard = []; lost = false }
+
+-- A card that stands is reset, and a session with it begins; any other is as it was.
+abbrev pub Joins : CardSide → Bool → CardSide → Type 0
+Joins (Building applications) joined new = (joined ≡ false) × (new ≡ Building applications)
+Joins (Joined session) joined new = (joined ≡ false) × (new ≡ Joined session)
+Joins (Standing end plans) joined new =
+    (session : SessionSide) × (joined ≡ true) × (new ≡ Joined session)
+    × (session.session.state ≡ after_reset end.card.state)
+    × (session.plans.items ≡ []) × (session.answer ≡ None) × (session.heard ≡ silence)
+
+-- A session ends, and its card is reset and stands; any other is as it was.
+abbrev pub Parts : CardSide → Bool → CardSide → Type 0
+Parts (Building applications) parted new = (parted ≡ false) × (new ≡ Building applications)
+Parts (Standing end plans) parted new = (parted ≡ false) × (new ≡ Standing end plans)
+Parts (Joined session) parted new =
+    (end : EndOf CardView) × (parted ≡ true) × (new ≡ Standing end no_plans)
+    × (end.card.state ≡ after_reset session.session.state) × (end.stage ≡ Taking_header [])
+    × HaveLed end.card.state [] end × HaveLedUnder end.card.state [] [] end
+
+-- A session begins with a card that stands, and resets it; the card's handle holds nothing then.
+abbrev pub Starts : Option CardSide → Option CardSide → ℤ → Option CardSide → Option CardSide
+    → Type 0
+Starts (Some other) card code new left =
+    (code ≡ gt_state) × (new ≡ Some other) × (left ≡ card)
+Starts None None code new left = (code ≡ gt_empty) × (new ≡ None) × (left ≡ None)
+Starts None (Some side) code new left =
+    ((joined : CardSide) × Joins side true joined × (code ≡ gt_ok) × (new ≡ Some joined)
+    × (left ≡ None))
+    ⊎ (Joins side false side × (code ≡ gt_state) × (new ≡ None) × (left ≡ Some side))
+
+-- A session ends, and its card, reset, stands in a card's handle that held nothing.
+abbrev pub Finishes : Option CardSide → Option CardSide → ℤ → Option CardSide → Option CardSide
+    → Type 0
+Finishes old (Some other) code new card =
+    (code ≡ gt_state) × (new ≡ old) × (card ≡ Some other)
+Finishes None None code new card = (code ≡ gt_empty) × (new ≡ None) × (card ≡ None)
+Finishes (Some side) None code new card =
+    ((parted : CardSide) × Parts side true parted × (code ≡ gt_ok) × (new ≡ None)
+    × (card ≡ Some parted))
+    ⊎ (Parts side false side × (code ≡ gt_state) × (new ≡ Some side) × (card ≡ None))
+
+-- The card is reset; the rest stays.
+pub record IsReset (old new : SessionSide) : Type 0 where
+  pub state_is : new.session.state ≡ after_reset old.session.state
+  pub plans_are : new.plans ≡ old.plans
+  pub answer_is : new.answer ≡ old.answer
+  pub heard_is : new.heard ≡ old.heard
+
+abbrev pub ResetsSession : CardSide → ℤ → CardSide → Type 0
+ResetsSession (Building applications) code new =
+    (code ≡ gt_state) × (new ≡ Building applications)
+ResetsSession (Standing end plans) code new = (code ≡ gt_state) × (new ≡ Standing end plans)
+ResetsSession (Joined session) code new =
+    (next : SessionSide) × (code ≡ gt_ok) × (new ≡ Joined next) × IsReset session next
+
+-- The operation has its answer, and the tables are those of the card that answers it in one step.
+-- What was heard is a talk of it with the card, under the plans, which are then used up.
+pub record HasAnswered (operation : Operation) (old new : SessionSide) : Type 0 where
+  pub reply : Reply
+  pub answer_is : new.answer ≡ Some reply
+  pub plans_are : new.plans.items ≡ []
+  pub one_step : AnswersAll old.session.state (operation ∷ []) (reply ∷ []) new.session.state
+  pub line : List Character
+  pub left : List Course
+  pub talk : Talk Does old.session.state old.plans.items (operation ∷ []) (reply ∷ [])
+      new.session.state left line
+  pub heard : Hears silence line new.heard
+
+-- nothing was sent, and what is held is as it was
+pub record IsAsBefore (old new : SessionSide) : Type 0 where
+  pub state_is : new.session.state ≡ old.session.state
+  pub plans_are : new.plans ≡ old.plans
+  pub answer_is : new.answer ≡ old.answer
+  pub heard_is : new.heard ≡ old.heard
+
+-- one operation: none while a chain is pending, none where memory is wanting
+abbrev pub Performs : Operation → SessionSide → ℤ → SessionSide → Type 0
+Performs operation old code new =
+    ((is_idle old.session.state.pending ≡ false) × (code ≡ gt_busy) × (new ≡ old))
+    ⊎ ((is_idle old.session.state.pending ≡ true) × (code ≡ gt_memory) × IsAsBefore old new)
+    ⊎ ((is_idle old.session.state.pending ≡ true) × (code ≡ gt_ok)
+    × HasAnswered operation old new)
+
+-- SELECT of an application
+abbrev pub Selects : List ℕ → CardSide → ℤ → CardSide → Type 0
+Selects aid (Building applications) code new = (code ≡ gt_state) × (new ≡ Building applications)
+Selects aid (Standing end plans) code new = (code ≡ gt_state) × (new ≡ Standing end plans)
+Selects aid (Joined session) code new =
+    ((¬ IsAid aid) × (code ≡ gt_argument) × (new ≡ Joined session))
+    ⊎ ((next : SessionSide) × IsAid aid × (new ≡ Joined next)
+    × Performs (Select aid) session code next)
+
+-- GET DATA of the tag with this number
+abbrev pub Gets : ℕ → CardSide → ℤ → CardSide → Type 0
+Gets number (Building applications) code new = (code ≡ gt_state) × (new ≡ Building applications)
+Gets number (Standing end plans) code new = (code ≡ gt_state) × (new ≡ Standing end plans)
+Gets number (Joined session) code new =
+    (((tag : List ℕ) → ¬ IsNumbered number tag) × (code ≡ gt_argument)
+    × (new ≡ Joined session))
+    ⊎ ((next : SessionSide) × (tag : List ℕ) × IsNumbered number tag × (new ≡ Joined next)
+    × Performs (Get tag) session code next)
+
+-- PUT DATA of this value under the tag with this number
+abbrev pub Puts : ℕ → List ℕ → CardSide → ℤ → CardSide → Type 0
+Puts number value (Building applications) code new =
+    (code ≡ gt_state) × (new ≡ Building applications)
+Puts number value (Standing end plans) code new = (code ≡ gt_state) × (new ≡ Standing end plans)
+Puts number value (Joined session) code new =
+    (((tag : List ℕ) → ¬ IsNumbered number tag) × (code ≡ gt_argument)
+    × (new ≡ Joined session))
+    ⊎ ((code ≡ gt_memory) × (new ≡ Joined session))
+    ⊎ ((next : SessionSide) × (tag : List ℕ) × IsNumbered number tag × (new ≡ Joined next)
+    × Performs (Put tag value) session code next)
+
+-- the status as a number, and the data as far as there is room for them
+abbrev pub Tells : Option Reply → ℕ → List ℕ → ℕ → ℤ → ℕ → List ℕ → ℕ → Type 0
+Tells None status room len code status' room' len' =
+    (code ≡ gt_not_found) × (status' ≡ status) × (room' ≡ room) × (len' ≡ len)
+Tells (Some reply) status room len code status' room' len' =
+    (status' ≡ reply.status.0 * 256 + reply.status.1) × (len' ≡ length reply.content)
+    × IsCopied reply.content room code room'
+
+-- the answer of the last operation, which stays
+abbrev pub TellsAnswer : ℕ → List ℕ → ℕ → ℕ → List ℕ → ℕ → CardSide → ℤ → Type 0
+TellsAnswer status room len status' room' len' (Building applications) code =
+    (code ≡ gt_state) × (status' ≡ status) × (room' ≡ room) × (len' ≡ len)
+TellsAnswer status room len status' room' len' (Standing end plans) code =
+    (code ≡ gt_state) × (status' ≡ status) × (room' ≡ room) × (len' ≡ len)
+TellsAnswer status room len status' room' len' (Joined session) code =
+    Tells session.answer status room len code status' room' len'

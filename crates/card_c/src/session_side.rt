@@ -1,0 +1,12 @@
+use card_terminal::{Answer, Session};
+use object_card::ObjectCard;
+use t0_core::{Plan, Recorder};
+
+/// A session with a card, the plans for its next operation, and what is kept of its last one.
+#[derive(Drop)]
+pub struct SessionSide {
+    pub session: Session<ObjectCard>,
+    pub plans: Vec<Plan>,
+    pub answer: Option<Answer>,
+    pub heard: Recorder,
+}

@@ -1,5 +1,5 @@
 -- What the calls on a session's handle do to what it holds. A refusal leaves it as it was.
-use Rattle.std.specs.Prelude.{◌≡◌, ◌≢◌, ◌⊎◌, ℕ, ℤ, ◌+◌, ◌*◌, List, [], ◌∷◌, length, Bool, true, false, Option, Some, None}
+use Rattle.std.specs.Prelude.{◌≡◌, ◌≢◌, ◌⊎◌, ℕ, ℤ, ◌+◌, ◌*◌, List, [], ◌∷◌, length, Bool, true, false, Option, Some, None, pos, if◌then◌else◌}
 use Rattle.apdu_core.specs.StatusWord.{StatusWord}
 use Rattle.t0_core.specs.Character.{Character}
 use Rattle.t0_core.specs.Plan.{Course}
@@ -152,3 +152,10 @@ TellsAnswer status room len status' room' len' (Standing end plans) code =
     (code ≡ gt_state) × (status' ≡ status) × (room' ≡ room) × (len' ≡ len)
 TellsAnswer status room len status' room' len' (Joined session) code =
     Tells session.answer status room len code status' room' len'
+
+-- whether no chain is pending
+abbrev pub TellsIdle : CardSide → ℤ → Type 0
+TellsIdle (Building applications) code = code ≡ gt_state
+TellsIdle (Standing end plans) code = code ≡ gt_state
+TellsIdle (Joined session) code =
+    code ≡ (if is_idle session.session.state.pending then pos 1 else pos 0)

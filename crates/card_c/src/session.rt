@@ -3,7 +3,7 @@ ghost use Rattle.std.specs.Prelude.{◌≡◌, None, MatchOption};
 ghost use Rattle.card_terminal.specs.Operations.{operation_of};
 ghost use Rattle.card_c.specs.Codes.{gt_empty};
 ghost use Rattle.card_c.specs.CardHandle.{held_by, OnHandle};
-ghost use Rattle.card_c.specs.SessionCalls.{Starts, Finishes, Joins, Parts, Performs, Selects, Gets, Puts, TellsAnswer, IsReset, ResetsSession};
+ghost use Rattle.card_c.specs.SessionCalls.{Starts, Finishes, Joins, Parts, Performs, Selects, Gets, Puts, TellsAnswer, TellsIdle, IsReset, ResetsSession};
 
 use crate::card_held::GtCard;
 use crate::card_side::CardSide;
@@ -256,6 +256,30 @@ fn tell(side: &CardSide, status: &mut u16, content: &mut [u8], len: &mut usize) 
     let word = answer.status();
     *status = u16::from(word.sw1()) * 256 + u16::from(word.sw2());
     copied(answer.data(), content, len)
+}
+
+/// Whether no chain is pending at the card: 1, or 0.
+#[unsafe(no_mangle)]
+pub extern "C" fn galliumtoad_session_idle(alloc: Global, session: &mut GtCard) -> i32
+    ensures stays { held_by session.new ≡ held_by session.old }
+    ensures told { MatchOption (held_by session.old) (result ≡ gt_empty)
+        (λ side. TellsIdle side result) }
+{
+    let Some(side) = session.take_out(alloc) else {
+        return code::EMPTY;
+    };
+    let answer = idle(&side);
+    session.put(side);
+    answer
+}
+
+fn idle(side: &CardSide) -> i32
+    ensures { TellsIdle side.now result }
+{
+    let CardSide::Joined(joined) = side else {
+        return code::STATE;
+    };
+    if joined.session.is_idle() { 1 } else { 0 }
 }
 
 /// Carries out one operation.

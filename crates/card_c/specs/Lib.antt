@@ -8,5 +8,6 @@ pub mod ExchangeHandle
 pub mod HeldExchangeOwned
 pub mod Reading
 pub mod SessionCalls
+pub mod TableCalls
 pub mod TagBytes
 pub mod TagNumbers

@@ -20,5 +20,6 @@ mod plan_queue;
 mod reader;
 mod session;
 mod session_side;
+mod tables;
 mod tag_number;
 mod terminal_side;

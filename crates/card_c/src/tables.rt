@@ -82,3 +82,36 @@ fn tell(found: Option<Aid>, aid: &mut [u8], len: &mut usize) -> i32
         None => code::NOT_FOUND,
     }
 }
+
+/// The same of the card of a session.
+#[unsafe(no_mangle)]
+pub extern "C" fn galliumtoad_session_selected(
+    alloc: Global,
+    session: &mut GtCard,
+    aid: &mut [u8],
+    len: &mut usize,
+) -> i32
+    ensures stays { held_by session.new ≡ held_by session.old }
+    ensures told { MatchOption (held_by session.old)
+        ((result ≡ gt_empty) × (aid.new ≡ aid.old) × (len.new ≡ len.old))
+        (λ side. TellsAid (λ state. state.selected) aid.old len.old aid.new len.new side result) }
+{
+    galliumtoad_card_selected(alloc, session, aid, len)
+}
+
+/// The same of the card of a session.
+#[unsafe(no_mangle)]
+pub extern "C" fn galliumtoad_session_app_at(
+    alloc: Global,
+    session: &mut GtCard,
+    place: usize,
+    aid: &mut [u8],
+    len: &mut usize,
+) -> i32
+    ensures stays { held_by session.new ≡ held_by session.old }
+    ensures told { MatchOption (held_by session.old)
+        ((result ≡ gt_empty) × (aid.new ≡ aid.old) × (len.new ≡ len.old))
+        (λ side. TellsAid (aid_at place) aid.old len.old aid.new len.new side result) }
+{
+    galliumtoad_card_app_at(alloc, session, place, aid, len)
+}

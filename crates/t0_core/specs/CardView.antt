@@ -22,7 +22,8 @@ stage_of (phase.Refused header p3 status done) came = Refusing header p3 status 
 stage_of (phase.Accepted service) came = Serving service (take service.moved came)
 stage_of (phase.SecondStatus status) came = Ending status
 
--- the phase after a character of the card in a service, which is then this: with SW1 the service ends
+-- the phase after a character of the card in a service, which is then this: with SW1 the service
+-- ends
 abbrev pub phase_after : Service → Option StatusWord → Phase
 phase_after service None = phase.Accepted service
 phase_after service (Some status) = phase.SecondStatus status

@@ -163,7 +163,8 @@ at_last ins x s ds k bm m tail rest le lm e =
             rest_is = both.1;
           })
       | inr lt ↦
-          let next = sent_longer (data_sender x) (take j m) bm _ rest (omega (arith, taken, lt)) e in
+          let next = sent_longer (data_sender x) (take j m) bm _ rest
+          (omega (arith, taken, lt)) e in
           inr (record {
             some_left = omega (arith, lt);
             byte = next.0;
@@ -221,7 +222,8 @@ same_step ins x s (t ∷ cs) ds k bm m tail rest le deeper lm e =
     inner in
     let End_at : ℕ → Type 0 = λ n. EndInLast (t ∷ cs) (k - j) n in
     grown ins x s (t ∷ cs) ds k bm m tail rest le.0 both.0
-    (deeper (subst End_at (sym (length-drop j bm)) le.1) (omega (arith, lm, length-drop j m)) both.1)
+    (deeper (subst End_at (sym (length-drop j bm)) le.1)
+    (omega (arith, lm, length-drop j m)) both.1)
 
 comes : (ins : ℕ) → Apart ins (λ _. Unit {0}) → (x : Direction) (bs ds : List Step) (k : ℕ)
     (bm m : List ℕ) (a1 a2 : ℕ) (r rest : List Character) → EndInLast bs k (length bm)
@@ -269,7 +271,8 @@ body_of h p3 x segments moved =
 abbrev ComesAfter : Dialogue → Body → List Character → List Character → Type 0
 ComesAfter d b r rest =
     Comes d.body.header.ins d.body.direction b.segments d.body.segments
-    (foreseen d.body.direction d.body.p3) b.moved d.body.moved (tail_of d.status.0 d.status.1 r) rest
+    (foreseen d.body.direction d.body.p3) b.moved d.body.moved
+    (tail_of d.status.0 d.status.1 r) rest
 
 body_comes_at : (h : Header) (p3 : ℕ) (x : Direction) (bs ds : List Step) (bm m : List ℕ)
     (a1 a2 : ℕ) (r rest : List Character) → Apart h.ins (λ _. Unit {0})
@@ -472,8 +475,9 @@ room_left gather n some fits =
 
 in_data : (host : Hosting) (moved until : ℕ) (b : Body) (d : Dialogue) (x : Direction)
     (others : List ℕ) (after : List Character) (byte : ℕ) (rest : List Character)
-    → (after ≡ [] → ⊥) → x ≡ host.direction → IsOpenedBy host b → IsOpenedBy host d.body → length b.moved ≡ moved
-    → d.body.moved ≡ b.moved ++ byte ∷ others → rest ≡ (data_sender x, byte) ∷ after
+    → (after ≡ [] → ⊥) → x ≡ host.direction → IsOpenedBy host b → IsOpenedBy host d.body
+    → length b.moved ≡ moved → d.body.moved ≡ b.moved ++ byte ∷ others
+    → rest ≡ (data_sender x, byte) ∷ after
     → HasNext (at_stage host (Moving moved until)) (In_body b) d rest
 in_data host moved until b d ToCard others after byte rest goes is of_b of_d n moved_is rest_is =
     let Own : Direction → Type 0 = λ x. AreOwn x host.content d.body.moved in
@@ -488,10 +492,10 @@ in_data host moved until b d ToCard others after byte rest goes is of_b of_d n m
             ∙ ap Sends (read_after host.content b.moved d.body.moved others byte own moved_is),
       ),
     )
-in_data host moved until b d FromCard others after byte rest goes is of_b of_d n moved_is rest_is = (
+in_data host moved until b d FromCard others after byte rest goes is of_b of_d n moved_is at = (
   (Card, byte),
   after,
-  rest_is,
+  at,
   inr (
     refl,
     ap (λ x. data_turn x host.content moved) (sym is),

@@ -72,9 +72,10 @@ status_is_no_step ins byte valid small status =
 
 -- how segments begin and status does, for the segments that an INS allows
 pub record Apart (ins : ℕ) (Allowed : Step → Type 0) : Type 0 where
-  pub steps : (s t : Step) → Allowed s → Allowed t → procedure_byte ins s ≡ procedure_byte ins t → s ≡ t
-  pub status : (s : Step) (byte : ℕ) → Allowed s → IsStatusWord (byte, 0) → byte ≡ procedure_byte ins s
-      → ⊥
+  pub steps : (s t : Step) → Allowed s → Allowed t
+      → procedure_byte ins s ≡ procedure_byte ins t → s ≡ t
+  pub status : (s : Step) (byte : ℕ) → Allowed s → IsStatusWord (byte, 0)
+      → byte ≡ procedure_byte ins s → ⊥
 
 pub apart_where_valid : (ins : ℕ) → ins_is_valid ins ≡ true → ins < 256 → Apart ins (λ _. Unit {0})
 apart_where_valid ins valid small = record {

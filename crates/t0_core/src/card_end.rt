@@ -348,7 +348,8 @@ fn hand_out<C: TpduCard, A: Allocator>(
     ensures fits { Fits (C.prepared card.new) phase.new }
     ensures plan { plans.new
         ≡ (if takes_plan (stage_of phase.old came.now) then advanced plans.old else plans.old) }
-    ensures cut { takes_plan (stage_of phase.old came.now) ≡ true → IsCut (plan_kept plans.new).cut }
+    ensures cut { takes_plan (stage_of phase.old came.now) ≡ true →
+        IsCut (plan_kept plans.new).cut }
     ensures falls { (stage_of phase.new came.now ≡ Taking_header [])
         ⊎ (still_to_go (stage_of phase.new came.now) (plan_kept plans.new)
         < still_to_go (stage_of phase.old came.now) (plan_kept plans.new)) }
@@ -360,8 +361,8 @@ fn hand_out<C: TpduCard, A: Allocator>(
     ensures advances { (cut : ℕ) (front : Front) →
         (takes_plan (stage_of phase.old came.now) ≡ true → (cut ≡ (plan_kept plans.new).cut)
         × SuitsFront (stage_of phase.new came.now) front) →
-        StandsAt C.Does (C.standing card.old) (C.prepared card.old) (stage_of phase.old came.now) cut
-        front →
+        StandsAt C.Does (C.standing card.old) (C.prepared card.old) (stage_of phase.old came.now)
+        cut front →
         Advances C.Does cut (plan_kept plans.new) (stage_of phase.old came.now) front result
         (C.standing card.old) (C.standing card.new) (C.prepared card.new)
         (stage_of phase.new came.now) }
@@ -425,14 +426,14 @@ fn go_on<C: TpduCard>(card: &mut C, phase: &mut Phase, came: &[u8; 255], steps: 
     ensures fits { Fits (C.prepared card.new) phase.new }
     ensures falls { (plan : Course) → plan.steps ≡ steps.now
         → (stage_of phase.new came.now ≡ Taking_header [])
-        ⊎ (still_to_go (stage_of phase.new came.now) plan < still_to_go (stage_of phase.old came.now)
-        plan) }
+        ⊎ (still_to_go (stage_of phase.new came.now) plan
+        < still_to_go (stage_of phase.old came.now) plan) }
     ensures counts { (plan : Course) → plan.steps ≡ steps.now →
         GoesByCount (stage_of phase.old came.now) plan result (stage_of phase.new came.now) }
     ensures keeps { KeepsDirection (stage_of phase.old came.now) (stage_of phase.new came.now) }
     ensures advances { (cut : ℕ) (plan : Course) (front : Front) → plan.steps ≡ steps.now →
-        StandsAt C.Does (C.standing card.old) (C.prepared card.old) (stage_of phase.old came.now) cut
-        front →
+        StandsAt C.Does (C.standing card.old) (C.prepared card.old) (stage_of phase.old came.now)
+        cut front →
         Advances C.Does cut plan (stage_of phase.old came.now) front result
         (C.standing card.old) (C.standing card.new) (C.prepared card.new)
         (stage_of phase.new came.now) }

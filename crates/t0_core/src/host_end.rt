@@ -185,11 +185,11 @@ impl<'a> HostEnd<'a> {
 
     /// Takes a character of the card; a data character goes into the gather.
     ///
-    /// `BadProcedure` comes where a procedure byte is due and this is neither `60`, INS, INS xor `FF`
-    /// nor a first status byte, `TooLong` where a data character of the card is due and the gather is
-    /// full: then the end has failed (this project's profile). `AfterEnd` comes where the TPDU has
-    /// ended or the end has failed, `NotListening` where it has characters to send: these change
-    /// nothing. No fault changes the gather.
+    /// `BadProcedure` comes where a procedure byte is due and this is neither `60`, INS, INS xor
+    /// `FF` nor a first status byte, `TooLong` where a data character of the card is due and the
+    /// gather is full: then the end has failed (this project's profile). `AfterEnd` comes where the
+    /// TPDU has ended or the end has failed, `NotListening` where it has characters to send: these
+    /// change nothing. No fault changes the gather.
     #[inline(always)]
     pub fn take<A: Allocator>(&mut self, byte: u8, gather: &mut Gather<A>) -> Result<(), LineFault>
         ensures fault { result_err result ≡ fault_of self.old gather.old byte }

@@ -2,8 +2,8 @@ use crate::direction::Direction;
 use crate::host_end::HostStage;
 use apdu_core::Header;
 
-/// How far a terminal's end has come in the TPDU that it opened, without the data that it sends: what
-/// is kept of an end where nothing can borrow its data.
+/// How far a terminal's end has come in the TPDU that it opened, without the data that it sends:
+/// what is kept of an end where nothing can borrow its data.
 #[derive(Clone, Copy, Debug)]
 pub struct HostMark {
     pub(crate) header: Header,

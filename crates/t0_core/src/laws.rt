@@ -49,9 +49,10 @@ pub fn a_dialogue_is_gone_through()
     ensures { (d : Dialogue) → IsDialogue d → GoesThrough fresh (characters d) d }
 {}
 
-/// The talk leaves a terminal's end no choice. Where it stands at a front, and a dialogue that it opened
-/// goes on from there, it sends the character that is the terminal's; for one of the card it listens,
-/// and that is no fault, where the gather has room for the dialogue's data. A front is no whole dialogue.
+/// The talk leaves a terminal's end no choice. Where it stands at a front, and a dialogue that it
+/// opened goes on from there, it sends the character that is the terminal's; for one of the card it
+/// listens, and that is no fault, where the gather has room for the dialogue's data. A front is no
+/// whole dialogue.
 pub fn the_next_character_is_settled()
     ensures sent { (host : Hosting) (front : Front) (d : Dialogue) (byte : ℕ)
         (rest : List Character) → IsRequest host → HostStandsAt host front → IsFront front →
@@ -68,8 +69,8 @@ pub fn the_next_character_is_settled()
         IsOpenedBy host d.body → characters d ++ rest ≡ front_characters front → ⊥ }
 {}
 
-/// Dialogues with the same header, P3 and direction are the same where their characters begin one list,
-/// and so none begins another. It needs an INS that is valid.
+/// Dialogues with the same header, P3 and direction are the same where their characters begin one
+/// list, and so none begins another. It needs an INS that is valid.
 pub fn dialogues_opened_alike_have_one_cutting()
     ensures { (d e : Dialogue) (after_d after_e : List Character) →
         ins_is_valid d.body.header.ins ≡ true → d.body.header.ins < 256 →
@@ -89,7 +90,8 @@ pub fn events_have_one_cutting()
         AreAlikeInTurn items others × (part ≡ other) }
 {}
 
-/// Dialogues that follow plans a tap takes to their end, whatever the plans, and tells each of them.
+/// Dialogues that follow plans a tap takes to their end, whatever the plans, and tells each of
+/// them.
 pub fn a_tap_takes_dialogues_under_plans()
     ensures { (dialogues : List Dialogue) (plans : List Course) →
         AllByRecursion IsDialogue dialogues → FollowInTurn dialogues plans →

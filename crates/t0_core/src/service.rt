@@ -63,7 +63,8 @@ impl Service {
     /// Whether the next character is a data character of the terminal.
     #[inline(always)]
     pub(crate) fn is_listening(&self) -> bool
-        ensures { result ≡ (comes_from_terminal self.now.direction && nat_lt self.now.moved self.now.until) }
+        ensures { result
+            ≡ (comes_from_terminal self.now.direction && nat_lt self.now.moved self.now.until) }
     {
         matches!(self.direction, Direction::ToCard) && self.moved < self.until
     }
@@ -77,12 +78,15 @@ impl Service {
         self.moved += 1;
     }
 
-    /// Hands out the next procedure byte, when those so far have moved their data; `None`, and nothing
-    /// has changed, where no step is left that moves something or is a NULL, and no data are left.
+    /// Hands out the next procedure byte, when those so far have moved their data; `None`, and
+    /// nothing has changed, where no step is left that moves something or is a NULL, and no data
+    /// are left.
     fn next(&mut self, steps: &[Step]) -> Option<u8>
         requires { (self.old.moved ≡ self.old.until) × (self.old.until ≤ whole_of self.old) }
         ensures { MatchOption result
-            ((self.new ≡ self.old) × (segments_of (drop self.old.done steps.now) (whole_of self.old - self.old.until) ≡ []))
+            ((self.new ≡ self.old)
+            × (segments_of (drop self.old.done steps.now) (whole_of self.old - self.old.until)
+            ≡ []))
             (λ byte. (step : Step) × (byte ≡ dialogue.procedure_byte self.old.header.ins step)
             × IsNext self.old steps.now step self.new) }
     {
@@ -94,8 +98,8 @@ impl Service {
     }
 }
 
-/// Hands out a data character, the next procedure byte, or SW1, and with that the status. `came` begins
-/// with the data characters that have come from the terminal.
+/// Hands out a data character, the next procedure byte, or SW1, and with that the status. `came`
+/// begins with the data characters that have come from the terminal.
 #[inline(always)]
 pub(crate) fn serve<C: TpduCard>(
     card: &mut C,

@@ -34,8 +34,8 @@ pub enum TapStage {
 /// It knows neither what the terminal means to do nor what the card's plan is, and follows each
 /// dialogue by its characters alone. Which way data move it sees from who sends the first of them.
 /// Where INS or its complement may start data either way, what comes next decides; P3 `00` alone
-/// leaves no time for that, as it foresees 256 from the card and none to it: a tap takes it for data
-/// from the card.
+/// leaves no time for that, as it foresees 256 from the card and none to it: a tap takes it for
+/// data from the card.
 #[derive(Drop)]
 pub struct Tap {
     stage: TapStage,
@@ -137,7 +137,8 @@ fn after(stage: TapStage, from: End, byte: u8) -> Result<(TapStage, Heard), Unhe
     requires held { IsHeldAt stage }
     requires turn { may_come_from (due_at (place_of stage)) from ≡ true }
     ensures fault { result_err result ≡ unheard_byte (place_of stage) byte }
-    ensures taken { IfOk result (λ next. (place_of next.0 ≡ after_hearing (place_of stage) from byte)
+    ensures taken { IfOk result (λ next.
+        (place_of next.0 ≡ after_hearing (place_of stage) from byte)
         × (next.1 ≡ heard_at (place_of stage) from byte) × IsHeldAt next.0) }
 {
     match stage {

@@ -1,5 +1,5 @@
-//! A card for tests: it sends 1, 2, 3 and then zeros to INS `CA`, takes data under INS `DA`, answers
-//! `9000` to both, and refuses any other instruction with `6D00`.
+//! A card for tests: it sends 1, 2, 3 and then zeros to INS `CA`, takes data under INS `DA`,
+//! answers `9000` to both, and refuses any other instruction with `6D00`.
 ghost use Rattle.std.specs.Prelude.{◌≡◌, ℕ, ◌≤◌, length, take};
 ghost use Rattle.apdu_core.specs.StatusWord.{count};
 ghost use Rattle.t0_core.specs.Meaning.{Prepared, Nothing, Receiving, Sending, Decided};

@@ -6,6 +6,7 @@ pub mod CardMeaning
 pub mod DataCard
 pub mod CardFields
 pub mod CardView
+pub mod ViewState
 pub mod HeaderReasons
 pub mod PutData
 pub mod PendingChain

@@ -396,8 +396,8 @@ get_is_carried_out old mid new tag p1 p2 cut t fetches last idle is header in_ra
     all = elim (get_step old mid tag p1 p2 cut t idle is header does) [
       | get_refused answers none told nothing same at_rest ↦
           let (empty, last_is, stays) = none_fetched mid new t.status last fetches none all in
-          carried_out old old new (Get tag) t.status last [] (all_brought (t ∷ fetches)) answers last_is
-          (ap (λ bs. bs ++ all_brought fetches) nothing ∙ empty)
+          carried_out old old new (Get tag) t.status last [] (all_brought (t ∷ fetches)) answers
+          last_is (ap (λ bs. bs ++ all_brought fetches) nothing ∙ empty)
           (same.0 ∙ sym (ap (λ s. s.applications) stays), same.1 ∙ sym (ap (λ s. s.selected) stays))
           (ap (λ s. is_idle s.pending) stays ∙ at_rest)
       | get_corrected value held short corrected nothing same at_rest ↦

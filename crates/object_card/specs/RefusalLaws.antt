@@ -92,7 +92,8 @@ module _ (state : CardState) (tag : List ℕ) (p1 p2 p3 : ℕ) (is_named : named
     too_long = nat_lt VALUE_LIMIT (length (chained state.pending) + p3)
 
     reasons : (status : StatusWord) (es : Option (List Entry)) → selected_entries state ≡ es
-        → first_of_put false false (is_none es) (is_locked_among (Some tag) es) too_long ≡ Some status
+        → first_of_put false false (is_none es) (is_locked_among (Some tag) es) too_long
+        ≡ Some status
         → IsPutRefusal state tag p3 status
     reasons status None e is = let same : (0x69, 0x85) ≡ status = cc in
         subst (IsPutRefusal state tag p3) same (none_is_selected e)

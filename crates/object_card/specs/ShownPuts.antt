@@ -75,7 +75,8 @@ with_puts [] applications = applications
 with_puts (p ∷ puts) applications = with_puts puts (with_object p.aid p.tag p.value applications)
 
 -- what has gone on, cut into items and the part of a dialogue that is under way
-pub record AreCutInto (events : List Event) (items : List Item) (part : List Character) : Type 0 where
+pub record AreCutInto (events : List Event) (items : List Item) (part : List Character)
+    : Type 0 where
   pub are_items : AllByRecursion IsItem items
   pub is_part : IsPart part
   pub all_of_them : events ≡ flat_map events_of items ++ passed part

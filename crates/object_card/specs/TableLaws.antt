@@ -204,7 +204,8 @@ all_stay_sound aid tag value entries (a ∷ applications) new room found all =
         rw s (
           all.0,
           more (subst
-              (λ b. (if b then Some a.entries else entries_in aid applications) ≡ Some entries) s found),
+              (λ b. (if b then Some a.entries else entries_in aid applications) ≡ Some entries)
+              s found),
         )
 
 -- what was held is held

@@ -140,7 +140,8 @@ fn add_to_last<A: Allocator + Copy>(
         × (applications_of applications.new
         ≡ with_last_entry tag value.now locked (applications_of applications.old))) }
     ensures err { IfErr result (RefusesObject tag value.now (applications_of applications.old)) }
-    ensures stays { OnErr result (applications_of applications.new ≡ applications_of applications.old) }
+    ensures stays { OnErr result
+        (applications_of applications.new ≡ applications_of applications.old) }
 {
     let Some(application) = applications.last_mut() else {
         return Err(BuilderFault::NoApp);

@@ -38,12 +38,19 @@ pub(crate) fn take_data<A: Allocator + Copy>(
 ) -> Taken<A>
     requires standing { IsStanding applications.old selected chain.old response }
     requires fits { IsReady applications.old selected chain.old response ready None }
-    requires receives { IsReceiving (prepared_of applications.old selected chain.old response ready None) (λ ask. length content.now ≡ ask.p3) }
-    ensures decided { IsReceiving (prepared_of applications.old selected chain.old response ready None) (λ ask.
-        Decides Does (state_of applications.old selected chain.old response) ask.cut (taken_with ask content.now result.status)
-        (prepared_of applications.new selected chain.new response result.ready (option_map (λ put. (put.tag, put.value.items)) result.put))) }
-    ensures fits { IsCard applications.new selected chain.new response result.ready (option_map (λ put. (put.tag, put.value.items)) result.put) }
-    ensures keeps { state_of applications.new selected (standing_chain chain.new result.ready) response ≡ state_of applications.old selected chain.old response }
+    requires receives { IsReceiving
+        (prepared_of applications.old selected chain.old response ready None)
+        (λ ask. length content.now ≡ ask.p3) }
+    ensures decided { IsReceiving
+        (prepared_of applications.old selected chain.old response ready None) (λ ask.
+        Decides Does (state_of applications.old selected chain.old response) ask.cut
+        (taken_with ask content.now result.status)
+        (prepared_of applications.new selected chain.new response result.ready
+        (option_map (λ put. (put.tag, put.value.items)) result.put))) }
+    ensures fits { IsCard applications.new selected chain.new response result.ready
+        (option_map (λ put. (put.tag, put.value.items)) result.put) }
+    ensures keeps { state_of applications.new selected (standing_chain chain.new result.ready)
+        response ≡ state_of applications.old selected chain.old response }
 {
     let Ready::Receives { header, cut, .. } = ready else {
         unreachable!()

@@ -1,13 +1,13 @@
 //! The refusals of a header.
 ghost use Rattle.std.specs.Prelude.{◌≡◌, Some, None, if◌then◌else◌, true, IfSome, ℕ, nat_lt};
-ghost use Rattle.object_card.specs.CardFields.{state_of, IsResponse, entries_at, held_at, left_of};
-ghost use Rattle.object_card.specs.CardView.{IsStanding};
+ghost use Rattle.object_card.specs.CardFields.{IsResponse, held_at, left_of};
 ghost use Rattle.std.specs.Option.{option_map, option_copied};
 ghost use Rattle.object_card.specs.Refusals.{named_tag, class_is_known, instruction_is_known, parameters_fit, first_of_them, object_asked, refusal};
 ghost use Rattle.apdu_core.specs.StatusWord.{count};
 ghost use Rattle.apdu_core.specs.declared.header.Header.{Header};
 ghost use Rattle.object_card.specs.State.{CardState};
 ghost use Rattle.object_card.specs.HeaderReasons.{of_form, of_state};
+ghost use Rattle.object_card.specs.ViewState.{state_seen, entries_seen, IsStandingView};
 
 use crate::application::Application;
 use crate::instructions::{CHAINED, GET_DATA, GET_RESPONSE, PUT_DATA, SELECT};
@@ -19,18 +19,20 @@ use apdu_core::{Header, Status, count};
 use std::alloc::Allocator;
 use tlv_core::{ObjectTag, head};
 
-/// The status with which a header is refused, if it is. A GET DATA asks for this object, if there is
-/// one.
+/// The status with which a header is refused, if it is. A GET DATA asks for this object, if there
+/// is one.
 pub(crate) fn refusal<A: Allocator>(
     view: &View<A>,
     header: Header,
     p3: u8,
     asked: &Option<Response>,
 ) -> Option<Status>
-    requires standing { IsStanding view.now.applications.now view.now.selected view.now.chain.now view.now.response }
-    requires response { IfSome asked.now (IsResponse (entries_at view.now.applications.now view.now.selected)) }
-    requires asked { header.ins ≡ 0xCA → option_map (left_of (entries_at view.now.applications.now view.now.selected)) asked.now ≡ object_asked (state_of view.now.applications.now view.now.selected view.now.chain.now view.now.response) header }
-    ensures { result ≡ refusal (state_of view.now.applications.now view.now.selected view.now.chain.now view.now.response) header p3 }
+    requires standing { IsStandingView view.now }
+    requires response { IfSome asked.now (IsResponse (entries_seen view.now)) }
+    requires asked { header.ins ≡ 0xCA →
+        option_map (left_of (entries_seen view.now)) asked.now
+        ≡ object_asked (state_seen view.now) header }
+    ensures { result ≡ refusal (state_seen view.now) header p3 }
 {
     if !view.chain.accepts(header) {
         return Some(status(0x68, 0x83));
@@ -102,7 +104,8 @@ pub(crate) fn named(header: Header) -> Option<ObjectTag>
 }
 
 fn select_refusal(p3: u8) -> Option<Status>
-    ensures { (state : CardState) (header : Header) → header.ins ≡ 0xA4 → result ≡ first_of_them state header p3 of_state }
+    ensures { (state : CardState) (header : Header) → header.ins ≡ 0xA4 →
+        result ≡ first_of_them state header p3 of_state }
 {
     if p3 < 5 || p3 > 16 {
         Some(status(0x67, 0x00))
@@ -112,10 +115,10 @@ fn select_refusal(p3: u8) -> Option<Status>
 }
 
 fn put_refusal<A: Allocator>(view: &View<A>, header: Header, p3: u8) -> Option<Status>
-    requires standing { IsStanding view.now.applications.now view.now.selected view.now.chain.now view.now.response }
+    requires standing { IsStandingView view.now }
     requires ins { header.ins ≡ 0xDA }
     requires fits { parameters_fit header ≡ true }
-    ensures { result ≡ first_of_them (state_of view.now.applications.now view.now.selected view.now.chain.now view.now.response) header p3 of_state }
+    ensures { result ≡ first_of_them (state_seen view.now) header p3 of_state }
 {
     let Some(application) = chosen(view.applications, view.selected) else {
         return Some(status(0x69, 0x85));
@@ -136,11 +139,12 @@ fn get_refusal<A: Allocator>(
     p3: u8,
     asked: &Option<Response>,
 ) -> Option<Status>
-    requires standing { IsStanding view.now.applications.now view.now.selected view.now.chain.now view.now.response }
+    requires standing { IsStandingView view.now }
     requires ins { header.ins ≡ 0xCA }
-    requires response { IfSome asked.now (IsResponse (entries_at view.now.applications.now view.now.selected)) }
-    requires asked { option_map (left_of (entries_at view.now.applications.now view.now.selected)) asked.now ≡ object_asked (state_of view.now.applications.now view.now.selected view.now.chain.now view.now.response) header }
-    ensures { result ≡ first_of_them (state_of view.now.applications.now view.now.selected view.now.chain.now view.now.response) header p3 of_state }
+    requires response { IfSome asked.now (IsResponse (entries_seen view.now)) }
+    requires asked { option_map (left_of (entries_seen view.now)) asked.now
+        ≡ object_asked (state_seen view.now) header }
+    ensures { result ≡ first_of_them (state_seen view.now) header p3 of_state }
 {
     if chosen(view.applications, view.selected).is_none() {
         return Some(status(0x69, 0x85));
@@ -152,9 +156,9 @@ fn get_refusal<A: Allocator>(
 }
 
 fn get_response_refusal<A: Allocator>(view: &View<A>, header: Header, p3: u8) -> Option<Status>
-    requires standing { IsStanding view.now.applications.now view.now.selected view.now.chain.now view.now.response }
+    requires standing { IsStandingView view.now }
     requires ins { header.ins ≡ 0xC0 }
-    ensures { result ≡ first_of_them (state_of view.now.applications.now view.now.selected view.now.chain.now view.now.response) header p3 of_state }
+    ensures { result ≡ first_of_them (state_seen view.now) header p3 of_state }
 {
     let Some(response) = view.response else {
         return Some(status(0x69, 0x85));
@@ -185,9 +189,10 @@ pub(crate) fn chosen<'a, A: Allocator>(
 
 /// The data object that a GET DATA asks for, whole.
 pub(crate) fn object_asked<A: Allocator>(view: &View<A>, header: Header) -> Option<Response>
-    requires standing { IsStanding view.now.applications.now view.now.selected view.now.chain.now view.now.response }
-    ensures response { IfSome result (IsResponse (entries_at view.now.applications.now view.now.selected)) }
-    ensures asked { option_map (left_of (entries_at view.now.applications.now view.now.selected)) result ≡ object_asked (state_of view.now.applications.now view.now.selected view.now.chain.now view.now.response) header }
+    requires standing { IsStandingView view.now }
+    ensures response { IfSome result (IsResponse (entries_seen view.now)) }
+    ensures asked { option_map (left_of (entries_seen view.now)) result
+        ≡ object_asked (state_seen view.now) header }
 {
     let application = chosen(view.applications, view.selected)?;
     let tag = named(header)?;

@@ -26,8 +26,8 @@ pub(crate) fn put_value<A: Allocator + Copy>(
 ) -> Taken<A>
     requires within { selected < length applications.old }
     requires can { CanPut applications.old selected header value.now }
-    ensures { IsPut applications.old selected header value.now applications.new result.status result.ready
-        (option_map (λ put. (put.tag, put.value.items)) result.put) }
+    ensures { IsPut applications.old selected header value.now applications.new result.status
+        result.ready (option_map (λ put. (put.tag, put.value.items)) result.put) }
 {
     let tag = named(header).unwrap();
     let application = &mut applications[selected];
@@ -59,7 +59,8 @@ pub(crate) fn value_to_put<A: Allocator + Copy>(
         application.new ≡ application.old }
     ensures ok { IfOk result (λ copy. (copy.items ≡ value.now) × HasPlace application.new tag
         × PutStatus application.old.entries tag value.now ok) }
-    ensures err { IfErr result (λ status. DoesNotStore application.old.entries tag value.now status) }
+    ensures err { IfErr result (λ status.
+        DoesNotStore application.old.entries tag value.now status) }
 {
     if let Some(status) = refused_value(application, tag, value) {
         return Err(status);

@@ -89,7 +89,8 @@ impl Response {
         requires selected { IfSome selected (λ place. place < length applications.now) }
         requires response { IsResponse (entries_at applications.now selected) self.now }
         requires within { at < length (left_of (entries_at applications.now selected) self.now) }
-        ensures { slice_get (left_of (entries_at applications.now selected) self.now) at ≡ Some result }
+        ensures { slice_get (left_of (entries_at applications.now selected) self.now) at
+            ≡ Some result }
     {
         let value = self.value(applications, selected);
         let place = self.sent + at as usize;
@@ -108,7 +109,8 @@ impl Response {
         selected: Option<usize>,
     ) -> &'a [u8]
         requires selected { IfSome selected (λ place. place < length applications.now) }
-        requires value { IfSome self.now.value (λ place. place < length (entries_at applications.now selected)) }
+        requires value { IfSome self.now.value (λ place.
+            place < length (entries_at applications.now selected)) }
         ensures { result.now ≡ value_at (entries_at applications.now selected) self.now.value }
     {
         match (selected, self.value) {

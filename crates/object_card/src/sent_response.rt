@@ -2,8 +2,8 @@
 ghost use Rattle.std.specs.Prelude.{◌≡◌, Some, None, if◌then◌else◌, ◌==◌};
 ghost use Rattle.t0_core.specs.Meaning.{IsSending, Decides, answered_with};
 ghost use Rattle.object_card.specs.CardMeaning.{Does};
-ghost use Rattle.object_card.specs.CardFields.{state_of};
-ghost use Rattle.object_card.specs.CardView.{IsReady, IsStanding, prepared_of, standing_chain};
+ghost use Rattle.object_card.specs.CardView.{standing_chain};
+ghost use Rattle.object_card.specs.ViewState.{state_seen, IsStandingView, prepared_seen, FitsView};
 
 use crate::ready::Ready;
 use crate::response::Response;
@@ -14,12 +14,13 @@ use std::alloc::Allocator;
 
 /// The answer once the bytes are sent, and what is then ready.
 pub(crate) fn sent<A: Allocator>(view: &View<A>, ready: Ready) -> (Ready, Status)
-    requires standing { IsStanding view.now.applications.now view.now.selected view.now.chain.now view.now.response }
-    requires fits { IsReady view.now.applications.now view.now.selected view.now.chain.now view.now.response ready None }
-    requires sends { IsSending (prepared_of view.now.applications.now view.now.selected view.now.chain.now view.now.response ready None) (λ ask bytes. Unit {0}) }
-    ensures decided { IsSending (prepared_of view.now.applications.now view.now.selected view.now.chain.now view.now.response ready None) (λ ask bytes.
-        Decides Does (state_of view.now.applications.now view.now.selected view.now.chain.now view.now.response) ask.cut (answered_with ask bytes result.1) (prepared_of view.now.applications.now view.now.selected view.now.chain.now view.now.response result.0 None)) }
-    ensures fits { IsReady view.now.applications.now view.now.selected view.now.chain.now view.now.response result.0 None }
+    requires standing { IsStandingView view.now }
+    requires fits { FitsView view.now ready }
+    requires sends { IsSending (prepared_seen view.now ready) (λ ask bytes. Unit {0}) }
+    ensures decided { IsSending (prepared_seen view.now ready) (λ ask bytes.
+        Decides Does (state_seen view.now) ask.cut (answered_with ask bytes result.1)
+        (prepared_seen view.now result.0)) }
+    ensures fits { FitsView view.now result.0 }
     ensures keeps { standing_chain view.now.chain.now result.0 ≡ view.now.chain.now }
 {
     let Ready::Sends {

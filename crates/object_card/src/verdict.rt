@@ -1,12 +1,13 @@
 //! The verdict on a header.
 ghost use Rattle.std.specs.Prelude.{◌≡◌, None, if◌then◌else◌, ◌==◌, ◌≤◌, false, IfSome, ◌&&◌, ◌⊎◌, ◌||◌, [], true, unwrap_or};
 ghost use Rattle.object_card.specs.CardMeaning.{Does};
-ghost use Rattle.object_card.specs.CardFields.{state_of, IsResponse, entries_at, left_of};
-ghost use Rattle.object_card.specs.CardView.{IsReady, IsStanding, prepared_of, standing_chain};
+ghost use Rattle.object_card.specs.CardFields.{IsResponse, left_of};
+ghost use Rattle.object_card.specs.CardView.{standing_chain};
 ghost use Rattle.std.specs.Option.{option_map};
 ghost use Rattle.apdu_core.specs.HeaderBytes.{ins_is_valid};
 ghost use Rattle.t0_core.specs.CardContract.{IsRefusal, Judges, Permits};
 ghost use Rattle.object_card.specs.Refusals.{is_get, is_get_response, object_asked, to_send};
+ghost use Rattle.object_card.specs.ViewState.{state_seen, entries_seen, IsStandingView, prepared_seen, FitsView};
 
 use crate::header_refusals::{object_asked, refusal};
 use crate::instructions::{GET_DATA, GET_RESPONSE, PUT_DATA, SELECT};
@@ -24,14 +25,16 @@ pub(crate) fn judged<A: Allocator>(
     p3: u8,
     cut: u16,
 ) -> (Verdict, Ready)
-    requires standing { IsStanding view.now.applications.now view.now.selected view.now.chain.now view.now.response }
+    requires standing { IsStandingView view.now }
     requires cut { (1 ≤ cut) × (cut ≤ 256) }
-    ensures judged { Judges Does (state_of view.now.applications.now view.now.selected view.now.chain.now view.now.response)
-        (record { header = header; p3 = p3; cut = cut }) result.0 (prepared_of view.now.applications.now view.now.selected view.now.chain.now view.now.response result.1 None) }
-    ensures fits { IsReady view.now.applications.now view.now.selected view.now.chain.now view.now.response result.1 None }
+    ensures judged { Judges Does (state_seen view.now)
+        (record { header = header; p3 = p3; cut = cut }) result.0
+        (prepared_seen view.now result.1) }
+    ensures fits { FitsView view.now result.1 }
     ensures keeps { standing_chain view.now.chain.now result.1 ≡ view.now.chain.now }
     ensures invalid { ins_is_valid header.ins ≡ false → IsRefusal result.0 }
-    ensures permitted { Permits (λ ins. (ins ≡ 0xA4) ⊎ (ins ≡ 0xDA)) (λ ins. (ins ≡ 0xCA) ⊎ (ins ≡ 0xC0)) header.ins result.0 }
+    ensures permitted { Permits (λ ins. (ins ≡ 0xA4) ⊎ (ins ≡ 0xDA))
+        (λ ins. (ins ≡ 0xCA) ⊎ (ins ≡ 0xC0)) header.ins result.0 }
 {
     let sends = to_send(view, header);
     if let Some(status) = refusal(view, header, p3, &sends) {
@@ -53,7 +56,8 @@ pub(crate) fn judged<A: Allocator>(
 
 /// What is pending after a refusal: a response, after `6CXX` to a GET RESPONSE.
 fn kept(response: Option<Response>, header: Header, status: &Status) -> Option<Response>
-    ensures { result ≡ (if is_get_response header && (status.now.0 == 0x6C) then response else None) }
+    ensures { result
+        ≡ (if is_get_response header && (status.now.0 == 0x6C) then response else None) }
 {
     if header.ins == GET_RESPONSE && status.sw1() == 0x6C {
         response
@@ -64,10 +68,14 @@ fn kept(response: Option<Response>, header: Header, status: &Status) -> Option<R
 
 /// What a GET DATA or a GET RESPONSE has to send.
 fn to_send<A: Allocator>(view: &View<A>, header: Header) -> Option<Response>
-    requires standing { IsStanding view.now.applications.now view.now.selected view.now.chain.now view.now.response }
-    ensures response { IfSome result (IsResponse (entries_at view.now.applications.now view.now.selected)) }
-    ensures asked { header.ins ≡ 0xCA → option_map (left_of (entries_at view.now.applications.now view.now.selected)) result ≡ object_asked (state_of view.now.applications.now view.now.selected view.now.chain.now view.now.response) header }
-    ensures left { (is_get header || is_get_response header) ≡ true → unwrap_or (option_map (left_of (entries_at view.now.applications.now view.now.selected)) result) [] ≡ to_send (state_of view.now.applications.now view.now.selected view.now.chain.now view.now.response) header }
+    requires standing { IsStandingView view.now }
+    ensures response { IfSome result (IsResponse (entries_seen view.now)) }
+    ensures asked { header.ins ≡ 0xCA →
+        option_map (left_of (entries_seen view.now)) result
+        ≡ object_asked (state_seen view.now) header }
+    ensures left { (is_get header || is_get_response header) ≡ true →
+        unwrap_or (option_map (left_of (entries_seen view.now)) result) []
+        ≡ to_send (state_seen view.now) header }
 {
     match header.ins {
         GET_DATA => object_asked(view, header),

@@ -71,7 +71,14 @@ impl TpduCard for CountingCard {
 impl DataCard for CountingCard {
     ghost state = { λ c. c.card.state };
 
-    ghost means = { (λ state. state, λ c. refl, record { steps = λ old new cut tpdu does. does; resets = λ state. refl }) };
+    ghost means = { (
+      λ state. state,
+      λ c. refl,
+      record {
+        steps = λ old new cut tpdu does. does;
+        resets = λ state. refl;
+      },
+    ) };
 
     ghost receives = { λ ins. (λ h. h, λ h. h) };
 

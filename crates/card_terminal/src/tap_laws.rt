@@ -15,8 +15,8 @@ use t0_core::TpduCard;
 use t0_core::laws::a_tap_takes_dialogues_under_plans;
 
 /// What a fresh watch that loses nothing hears of a talk, whatever the operations and the plans, a
-/// tap takes to its end, and it tells the dialogues of the talk, in turn. The contract of a session's
-/// `run` has such a talk.
+/// tap takes to its end, and it tells the dialogues of the talk, in turn. The contract of a
+/// session's `run` has such a talk.
 pub fn a_tap_follows_a_talk<C: TpduCard>()
     ensures { (first last : C.State) (plans left : List Course) (operations : List Operation)
         (replies : List Reply) (line : List Character) (hearing : Hearing)

@@ -25,8 +25,8 @@ placed place tag size value level =
       value_size = length value;
     }
 
--- The objects of the bytes, which begin at a place and are objects of a level, in the order of their
--- first bytes: a template comes before the objects in it.
+-- The objects of the bytes, which begin at a place and are objects of a level, in the order of
+-- their first bytes: a template comes before the objects in it.
 pub data Lists : List ℕ → ℕ → ℕ → List Placed → Type 0 where
   no_object : {bytes : List ℕ} {start level : ℕ} {all : List Placed}
       → All (λ b. b ≡ 0) bytes → all ≡ [] → Lists bytes start level all

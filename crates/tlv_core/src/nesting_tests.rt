@@ -139,8 +139,8 @@ fn is_refused(
     Ok(())
 }
 
-/// Heads of four bytes bring the innermost value to 65,535 bytes at each depth, and one byte more is
-/// too long.
+/// Heads of four bytes bring the innermost value to 65,535 bytes at each depth, and one byte more
+/// is too long.
 #[test]
 fn refuses_templates_at_every_depth(rt: HostRuntime) -> Result<(), Fail> {
     let alloc = rt.alloc();

@@ -39,8 +39,8 @@ pub fn one_first_fault()
 pub fn next_is_the_first_object()
     ensures some { (list left : ObjectList) (object : Object) (forest : Forest) →
         Spells forest list.bytes list.level → GivesNext list (Some object) left →
-        ((item : Item) × (others : Forest) × (forest ≡ with_first item others) × IsItemOf item object
-        × Spells others left.bytes left.level) }
+        ((item : Item) × (others : Forest) × (forest ≡ with_first item others)
+        × IsItemOf item object × Spells others left.bytes left.level) }
     ensures none { (list left : ObjectList) (forest : Forest) →
         Spells forest list.bytes list.level → GivesNext list None left → forest ≡ Empty }
 {}

@@ -1,11 +1,13 @@
 -- What the calls tell of a card's tables.
-use Rattle.std.specs.Prelude.{◌≡◌, ℕ, ℤ, List, length, Option, Some, None, MatchOption, slice_get}
+use Rattle.std.specs.Prelude.{◌≡◌, ℕ, ℤ, List, length, Option, Some, None, MatchOption, pos, if◌then◌else◌, slice_get}
 use Rattle.std.specs.Option.{option_map}
-use Rattle.object_card.specs.State.{CardState}
+use Rattle.object_card.specs.Tables.{Entry}
+use Rattle.object_card.specs.State.{CardState, entry_at}
 use Rattle.card_c.specs.declared.card_side.CardSide.{CardSide}
 use Rattle.card_c.specs.declared.card_side.CardSide.TheVariants.{Building, Standing, Joined}
 use Rattle.card_c.specs.Codes.{gt_state, gt_not_found}
 use Rattle.card_c.specs.Copying.{IsCopied}
+use Rattle.card_c.specs.TagNumbers.{IsNumbered}
 
 -- the state of the card, once it stands
 abbrev pub state_in : CardSide → Option CardState
@@ -28,3 +30,20 @@ TellsAid aid_of room len room' len' side code =
 
 abbrev pub aid_at : ℕ → CardState → Option (List ℕ)
 aid_at place state = option_map (λ a. a.aid) (slice_get state.applications place)
+
+-- this data object, if there is one: its tag, whether it is locked (1 or 0), and its value as far as
+-- there is room for it
+abbrev pub TellsEntry : Option Entry → ℕ → ℤ → List ℕ → ℕ → ℤ → ℕ → ℤ → List ℕ → ℕ → Type 0
+TellsEntry None tag locked room len code tag' locked' room' len' =
+    (code ≡ gt_not_found) × (tag' ≡ tag) × (locked' ≡ locked) × (room' ≡ room) × (len' ≡ len)
+TellsEntry (Some entry) tag locked room len code tag' locked' room' len' =
+    IsNumbered tag' entry.tag × (locked' ≡ (if entry.locked then pos 1 else pos 0))
+    × (len' ≡ length entry.value) × IsCopied entry.value room code room'
+
+-- the data object at a place of the application at a place of a card that stands
+abbrev pub TellsEntryAt : ℕ → ℕ → ℕ → ℤ → List ℕ → ℕ → ℕ → ℤ → List ℕ → ℕ → CardSide → ℤ → Type 0
+TellsEntryAt app place tag locked room len tag' locked' room' len' side code =
+    MatchOption (state_in side)
+    ((code ≡ gt_state) × (tag' ≡ tag) × (locked' ≡ locked) × (room' ≡ room) × (len' ≡ len))
+    (λ state. TellsEntry (entry_at app place state) tag locked room len code
+    tag' locked' room' len')

@@ -1,14 +1,16 @@
 //! What a card that stands holds, alone or in a session.
 ghost use Rattle.std.specs.Prelude.{◌≡◌, MatchOption};
+ghost use Rattle.object_card.specs.State.{entry_at};
 ghost use Rattle.card_c.specs.Codes.{gt_empty};
 ghost use Rattle.card_c.specs.CardHandle.{held_by};
-ghost use Rattle.card_c.specs.TableCalls.{TellsBytes, TellsAid, aid_at};
+ghost use Rattle.card_c.specs.TableCalls.{TellsBytes, TellsAid, TellsEntry, TellsEntryAt, aid_at};
 
 use crate::card_held::GtCard;
 use crate::card_side::CardSide;
 use crate::code;
 use crate::copied::copied;
-use object_card::Aid;
+use crate::tag_number::number_of;
+use object_card::{Aid, ObjectCard};
 use std::alloc::Global;
 
 /// The identifier of the application that is selected.
@@ -83,6 +85,75 @@ fn tell(found: Option<Aid>, aid: &mut [u8], len: &mut usize) -> i32
     }
 }
 
+/// The data object at a place, from 0, of the application at a place: its tag, whether it is locked,
+/// and its value where there is room for it.
+#[unsafe(no_mangle)]
+pub extern "C" fn galliumtoad_card_entry_at(
+    alloc: Global,
+    card: &mut GtCard,
+    app: usize,
+    place: usize,
+    tag: &mut u32,
+    locked: &mut i32,
+    value: &mut [u8],
+    len: &mut usize,
+) -> i32
+    ensures stays { held_by card.new ≡ held_by card.old }
+    ensures told { MatchOption (held_by card.old)
+        ((result ≡ gt_empty) × (tag.new ≡ tag.old) × (locked.new ≡ locked.old)
+        × (value.new ≡ value.old) × (len.new ≡ len.old))
+        (λ side. TellsEntryAt app place tag.old locked.old value.old len.old
+        tag.new locked.new value.new len.new side result) }
+{
+    let Some(side) = card.take_out(alloc) else {
+        return code::EMPTY;
+    };
+    let answer = entry_in(&side, app, place, tag, locked, value, len);
+    card.put(side);
+    answer
+}
+
+fn entry_in(
+    side: &CardSide,
+    app: usize,
+    place: usize,
+    tag: &mut u32,
+    locked: &mut i32,
+    value: &mut [u8],
+    len: &mut usize,
+) -> i32
+    ensures { TellsEntryAt app place tag.old locked.old value.old len.old
+        tag.new locked.new value.new len.new side.now result }
+{
+    match side {
+        CardSide::Building(_) => code::STATE,
+        CardSide::Standing(end, _) => tell_entry(end.card(), app, place, tag, locked, value, len),
+        CardSide::Joined(joined) => {
+            tell_entry(joined.session.card(), app, place, tag, locked, value, len)
+        }
+    }
+}
+
+fn tell_entry(
+    card: &ObjectCard,
+    app: usize,
+    place: usize,
+    tag: &mut u32,
+    locked: &mut i32,
+    value: &mut [u8],
+    len: &mut usize,
+) -> i32
+    ensures { TellsEntry (entry_at app place card.now.state) tag.old locked.old value.old len.old
+        result tag.new locked.new value.new len.new }
+{
+    let Some((name, bytes, is_locked)) = card.entry_at(app, place) else {
+        return code::NOT_FOUND;
+    };
+    *tag = number_of(name);
+    *locked = if is_locked { 1 } else { 0 };
+    copied(bytes, value, len)
+}
+
 /// The same of the card of a session.
 #[unsafe(no_mangle)]
 pub extern "C" fn galliumtoad_session_selected(
@@ -114,4 +185,26 @@ pub extern "C" fn galliumtoad_session_app_at(
         (λ side. TellsAid (aid_at place) aid.old len.old aid.new len.new side result) }
 {
     galliumtoad_card_app_at(alloc, session, place, aid, len)
+}
+
+/// The same of the card of a session.
+#[unsafe(no_mangle)]
+pub extern "C" fn galliumtoad_session_entry_at(
+    alloc: Global,
+    session: &mut GtCard,
+    app: usize,
+    place: usize,
+    tag: &mut u32,
+    locked: &mut i32,
+    value: &mut [u8],
+    len: &mut usize,
+) -> i32
+    ensures stays { held_by session.new ≡ held_by session.old }
+    ensures told { MatchOption (held_by session.old)
+        ((result ≡ gt_empty) × (tag.new ≡ tag.old) × (locked.new ≡ locked.old)
+        × (value.new ≡ value.old) × (len.new ≡ len.old))
+        (λ side. TellsEntryAt app place tag.old locked.old value.old len.old
+        tag.new locked.new value.new len.new side result) }
+{
+    galliumtoad_card_entry_at(alloc, session, app, place, tag, locked, value, len)
 }

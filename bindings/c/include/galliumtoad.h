@@ -134,6 +134,9 @@ static inline const char *gt_text(int32_t code) {
 
 /* ---- Types ----------------------------------------------------------------------------------- */
 
+/* The most bytes of a value on a card, and of a response at a terminal. */
+enum { GT_VALUE_LIMIT = 8192, GT_RESPONSE_LIMIT = 16384 };
+
 /* One object of a list. Tags are numbers: 0x50, 0x5F20, 0x9F8101. Sizes and places are counted in
  * bytes, places from the first byte of the list. */
 typedef struct {

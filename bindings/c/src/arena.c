@@ -1,0 +1,121 @@
+/* The library's memory from a static array: first fit over a list of blocks in order of place, with
+ * free neighbours joined when a block is given back. */
+#include "arena.h"
+#include "heap.h"
+
+#include <stdint.h>
+#include <string.h>
+
+#ifndef GT_ARENA_SIZE
+#define GT_ARENA_SIZE 32768
+#endif
+
+/* blocks and what is before each are multiples of this many bytes, the strictest alignment */
+#define UNIT ((size_t)16)
+
+struct block {
+    size_t size; /* bytes behind this head */
+    struct block *next;
+    bool used;
+};
+
+#define HEAD ((sizeof(struct block) + UNIT - 1) / UNIT * UNIT)
+
+/* with the alignment of a long double, which on x86-64 is a unit */
+static union {
+    unsigned char bytes[GT_ARENA_SIZE];
+    long double alignment;
+} arena;
+
+static struct block *first;
+static size_t used_now, used_most;
+
+size_t gt_arena_used(void)
+{
+    return used_now;
+}
+
+size_t gt_arena_peak(void)
+{
+    return used_most;
+}
+
+static unsigned char *content(struct block *block)
+{
+    return (unsigned char *)block + HEAD;
+}
+
+static void begin(void)
+{
+    first = (struct block *)(void *)arena.bytes;
+    first->size = (sizeof arena.bytes - HEAD) / UNIT * UNIT;
+    first->next = NULL;
+    first->used = false;
+}
+
+/* Cuts what a block has beyond `size` off, where that is enough for a block of its own. */
+static void cut(struct block *block, size_t size)
+{
+    struct block *rest;
+    if (block->size < size + HEAD + UNIT)
+        return;
+    rest = (struct block *)(void *)(content(block) + size);
+    rest->size = block->size - size - HEAD;
+    rest->next = block->next;
+    rest->used = false;
+    block->size = size;
+    block->next = rest;
+}
+
+static gt_taken take(size_t wanted)
+{
+    struct block *block;
+    gt_taken none = { false, NULL }, some = { true, NULL };
+    size_t size;
+    none.at = arena.bytes;
+    if (first == NULL)
+        begin();
+    if (wanted > sizeof arena.bytes)
+        return none;
+    size = (wanted + UNIT - 1) / UNIT * UNIT;
+    for (block = first; block != NULL; block = block->next) {
+        if (block->used || block->size < size)
+            continue;
+        cut(block, size);
+        block->used = true;
+        used_now += block->size + HEAD;
+        if (used_now > used_most)
+            used_most = used_now;
+        some.at = content(block);
+        return some;
+    }
+    return none;
+}
+
+gt_taken rattle_alloc(size_t size, size_t align)
+{
+    return take(size != 0 ? size : align);
+}
+
+gt_taken rattle_realloc(void *block, size_t old_size, size_t size, size_t align)
+{
+    gt_taken moved = take(size != 0 ? size : align);
+    if (moved.some) {
+        memcpy(moved.at, block, old_size < size ? old_size : size);
+        rattle_dealloc(block);
+    }
+    return moved;
+}
+
+void rattle_dealloc(void *at)
+{
+    struct block *block = (struct block *)(void *)((unsigned char *)at - HEAD);
+    block->used = false;
+    used_now -= block->size + HEAD;
+    for (block = first; block != NULL; block = block->next) {
+        while (!block->used && block->next != NULL && !block->next->used) {
+            block->size += HEAD + block->next->size;
+            block->next = block->next->next;
+        }
+    }
+}

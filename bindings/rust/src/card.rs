@@ -1,0 +1,193 @@
+use crate::error::{told, Error};
+use crate::exchange::Turn;
+use crate::raw::{self, Handle};
+
+/// The most bytes that a value has on a card.
+pub const VALUE_LIMIT: usize = 8_192;
+
+/// A data object that a card holds.
+#[derive(Clone, Debug, PartialEq, Eq)]
+pub struct Entry {
+    pub tag: u32,
+    pub value: Vec<u8>,
+    /// Whether no command changes it.
+    pub is_locked: bool,
+}
+
+/// What a card is to hold, as it is built.
+#[derive(Debug)]
+pub struct CardBuilder(Owned);
+
+/// A card of data objects at the line: SELECT, GET DATA, PUT DATA and GET RESPONSE over T=0.
+///
+/// ```
+/// use galliumtoad::{CardBuilder, Exchange, Turn};
+///
+/// let aid = [0xA0, 0x00, 0x00, 0x00, 0x03, 0x10, 0x10];
+/// let mut builder = CardBuilder::new()?;
+/// builder.app(&aid)?;
+/// builder.object(0x5F20, b"JOE")?;
+/// let mut card = builder.finish()?;
+///
+/// let mut select = vec![0x00, 0xA4, 0x04, 0x00, 0x07];
+/// select.extend(aid);
+/// let mut terminal = Exchange::start(&select)?;
+/// loop {
+///     match terminal.next()? {
+///         Turn::Sends(byte) => card.take(byte)?,
+///         Turn::Listens => {
+///             if let Turn::Sends(byte) = card.turn()? {
+///                 terminal.take(byte)?;
+///             }
+///         }
+///         Turn::Done => break,
+///     }
+/// }
+/// assert_eq!(terminal.answer().unwrap().status, 0x610B);
+/// assert_eq!(card.selected(), Some(aid.to_vec()));
+/// # Ok::<(), galliumtoad::Error>(())
+/// ```
+#[derive(Debug)]
+pub struct Card(pub(crate) Owned);
+
+/// A handle that is freed once. It is neither `Send` nor `Sync`, as its pointer is not.
+#[derive(Debug)]
+pub(crate) struct Owned(pub(crate) Handle);
+
+impl Drop for Owned {
+    fn drop(&mut self) {
+        // SAFETY: the handle is not used again.
+        unsafe { raw::galliumtoad_card_free(&mut self.0) }
+    }
+}
+
+impl CardBuilder {
+    /// A card without applications.
+    pub fn new() -> Result<CardBuilder, Error> {
+        let mut builder = CardBuilder(Owned(Handle::EMPTY));
+        // SAFETY: the handle holds nothing.
+        told(unsafe { raw::galliumtoad_card_new(&mut builder.0 .0) })?;
+        Ok(builder)
+    }
+
+    /// One more application, with an identifier of 5 to 16 bytes. A refusal changes nothing.
+    pub fn app(&mut self, aid: &[u8]) -> Result<(), Error> {
+        // SAFETY: the handle is one of this crate, and the slice has its length.
+        told(unsafe { raw::galliumtoad_card_app(&mut self.0 .0, aid.as_ptr(), aid.len()) })
+            .map(|_| ())
+    }
+
+    /// One more data object of the last application, or a new value of one that it has. A refusal
+    /// changes nothing.
+    pub fn object(&mut self, tag: u32, value: &[u8]) -> Result<(), Error> {
+        self.add(tag, value, false)
+    }
+
+    /// The same, and no command changes it.
+    pub fn locked(&mut self, tag: u32, value: &[u8]) -> Result<(), Error> {
+        self.add(tag, value, true)
+    }
+
+    fn add(&mut self, tag: u32, value: &[u8], locked: bool) -> Result<(), Error> {
+        // SAFETY: as above.
+        told(unsafe {
+            raw::galliumtoad_card_object(&mut self.0 .0, tag, value.as_ptr(), value.len(), locked)
+        })
+        .map(|_| ())
+    }
+
+    /// The card: nothing is selected, and it listens. Where memory is wanting the builder is dropped.
+    pub fn finish(mut self) -> Result<Card, Error> {
+        // SAFETY: as above.
+        told(unsafe { raw::galliumtoad_card_finish(&mut self.0 .0) })?;
+        Ok(Card(self.0))
+    }
+}
+
+impl Card {
+    /// Takes a character of the terminal. [`Error::NotListening`]: the card has characters to send,
+    /// and nothing changes.
+    pub fn take(&mut self, byte: u8) -> Result<(), Error> {
+        // SAFETY: the handle is one of this crate, used by this thread alone.
+        told(unsafe { raw::galliumtoad_card_take(&mut self.0 .0, byte) }).map(|_| ())
+    }
+
+    /// What the card does now: it hands out a character, or listens.
+    pub fn turn(&mut self) -> Result<Turn, Error> {
+        let mut byte = 0;
+        // SAFETY: as above.
+        Ok(
+            match told(unsafe { raw::galliumtoad_card_turn(&mut self.0 .0, &mut byte) })? {
+                raw::SENDS => Turn::Sends(byte),
+                _ => Turn::Listens,
+            },
+        )
+    }
+
+    /// Resets the card: nothing is selected or pending, and its objects stay.
+    pub fn reset(&mut self) -> Result<(), Error> {
+        // SAFETY: as above.
+        told(unsafe { raw::galliumtoad_card_reset(&mut self.0 .0) }).map(|_| ())
+    }
+
+    /// How the card answers one of the TPDUs to come, in turn: `n` a NULL, `o` one data byte, `a` all
+    /// that are left; `61XX` announces at most `cut` bytes, 1 to 256.
+    pub fn plan(&mut self, steps: &str, cut: u16) -> Result<(), Error> {
+        // SAFETY: the slice has its length.
+        told(unsafe {
+            raw::galliumtoad_card_plan(&mut self.0 .0, steps.as_ptr(), steps.len(), cut)
+        })
+        .map(|_| ())
+    }
+
+    /// The identifier of the application that is selected.
+    pub fn selected(&self) -> Option<Vec<u8>> {
+        let (mut aid, mut n) = ([0; 16], 0);
+        // SAFETY: the handle is as it was when this returns; there is room for any identifier.
+        let code = unsafe {
+            raw::galliumtoad_card_selected(&self.0 .0, aid.as_mut_ptr(), aid.len(), &mut n)
+        };
+        (code == raw::OK).then(|| aid[..n].to_vec())
+    }
+
+    /// The identifiers of the applications, in order.
+    pub fn apps(&self) -> impl Iterator<Item = Vec<u8>> + '_ {
+        (0..).map_while(|app| {
+            let (mut aid, mut n) = ([0; 16], 0);
+            // SAFETY: as above.
+            let code = unsafe {
+                raw::galliumtoad_card_app_at(&self.0 .0, app, aid.as_mut_ptr(), aid.len(), &mut n)
+            };
+            (code == raw::OK).then(|| aid[..n].to_vec())
+        })
+    }
+
+    /// The data objects of an application, which is counted from 0, in order of first storing.
+    pub fn entries(&self, app: usize) -> impl Iterator<Item = Entry> + '_ {
+        (0..).map_while(move |entry| self.entry(app, entry))
+    }
+
+    fn entry(&self, app: usize, entry: usize) -> Option<Entry> {
+        let (mut tag, mut locked, mut n) = (0, 0, 0);
+        let mut value = vec![0; VALUE_LIMIT];
+        // SAFETY: as above; there is room for any value.
+        let code = unsafe {
+            raw::galliumtoad_card_entry_at(
+                &self.0 .0,
+                app,
+                entry,
+                &mut tag,
+                &mut locked,
+                value.as_mut_ptr(),
+                value.len(),
+                &mut n,
+            )
+        };
+        value.truncate(n);
+        (code == raw::OK).then_some(Entry {
+            tag,
+            value,
+            is_locked: locked != 0,
+        })
+    }
+}

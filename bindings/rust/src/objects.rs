@@ -1,0 +1,170 @@
+use crate::raw;
+use std::error;
+use std::fmt;
+
+/// Why bytes are no list of objects: the first fault, from the left.
+#[derive(Clone, Copy, Debug, PartialEq, Eq, Hash)]
+pub struct ObjectsError {
+    /// The place of the innermost object at fault, counted in bytes from 0.
+    pub place: usize,
+    /// What is wrong there.
+    pub reason: Reason,
+}
+
+/// What is wrong with an object.
+#[derive(Clone, Copy, Debug, PartialEq, Eq, Hash)]
+pub enum Reason {
+    /// The list ends inside a tag.
+    TagCut,
+    /// No tag starts here.
+    TagForm,
+    /// The list ends inside a length.
+    LengthCut,
+    /// No length follows the tag.
+    LengthForm,
+    /// The value passes the end of the list.
+    ValueCut,
+    /// The list is below the deepest level, 16.
+    TooDeep,
+}
+
+const REASONS: [(Reason, i32, &str); 6] = [
+    (Reason::TagCut, -40, "tag cut"),
+    (Reason::TagForm, -41, "tag form"),
+    (Reason::LengthCut, -42, "length cut"),
+    (Reason::LengthForm, -43, "length form"),
+    (Reason::ValueCut, -44, "value cut"),
+    (Reason::TooDeep, -45, "too deep"),
+];
+
+impl Reason {
+    /// The number that the library's header gives it.
+    pub fn code(self) -> i32 {
+        REASONS
+            .iter()
+            .find(|(reason, ..)| *reason == self)
+            .map_or(0, |(_, code, _)| *code)
+    }
+
+    fn of(code: i32) -> Reason {
+        REASONS
+            .iter()
+            .find(|(_, number, _)| *number == code)
+            .map_or(Reason::TagForm, |(reason, ..)| *reason)
+    }
+}
+
+impl fmt::Display for ObjectsError {
+    fn fmt(&self, f: &mut fmt::Formatter<'_>) -> fmt::Result {
+        let text = REASONS
+            .iter()
+            .find(|(reason, ..)| *reason == self.reason)
+            .map_or("", |(_, _, text)| text);
+        write!(f, "{text} at {}", self.place)
+    }
+}
+
+impl error::Error for ObjectsError {}
+
+/// A data object of a list.
+#[derive(Clone, Copy, Debug, PartialEq, Eq)]
+pub struct Object<'a> {
+    /// The tag as a number: `0x50`, `0x5F20`, `0x9F8101`.
+    pub tag: u32,
+    /// 1 for an object of the list itself, one more for each template around it, up to 16.
+    pub level: u8,
+    /// Whether the value is a list of objects.
+    pub is_constructed: bool,
+    /// The place of the tag's first byte, counted in bytes from 0.
+    pub place: usize,
+    /// The bytes of tag, length and value together, as they stand.
+    pub size: usize,
+    /// The value.
+    pub value: &'a [u8],
+}
+
+/// All objects of all levels of a list, in the order of their first bytes (EMV Book 3, Annex B).
+///
+/// ```
+/// use galliumtoad::Objects;
+///
+/// let fci = [0x6F, 0x04, 0x84, 0x02, 0xA0, 0x00];
+/// let tags: Vec<u32> = Objects::over(&fci)?.map(|object| object.tag).collect();
+/// assert_eq!(tags, [0x6F, 0x84]);
+/// # Ok::<(), galliumtoad::ObjectsError>(())
+/// ```
+#[derive(Clone, Debug)]
+pub struct Objects<'a> {
+    bytes: &'a [u8],
+    listed: std::vec::IntoIter<raw::Object>,
+}
+
+impl<'a> Objects<'a> {
+    /// Checks all levels and lists the objects; else the first fault.
+    pub fn over(bytes: &'a [u8]) -> Result<Objects<'a>, ObjectsError> {
+        let mut listed = vec![raw::Object::default(); list(bytes, &mut [])?];
+        if !listed.is_empty() {
+            list(bytes, &mut listed)?;
+        }
+        Ok(Objects {
+            bytes,
+            listed: listed.into_iter(),
+        })
+    }
+}
+
+/// Lists as many objects as there is room for, and answers how many there are.
+fn list(bytes: &[u8], room: &mut [raw::Object]) -> Result<usize, ObjectsError> {
+    let (mut count, mut place) = (0, 0);
+    // SAFETY: pointers and lengths are those of slices, which don't overlap, as one can be written.
+    let code = unsafe {
+        raw::galliumtoad_objects(
+            bytes.as_ptr(),
+            bytes.len(),
+            room.as_mut_ptr(),
+            room.len(),
+            &mut count,
+            &mut place,
+        )
+    };
+    if code == raw::OK {
+        Ok(count)
+    } else {
+        Err(ObjectsError {
+            place,
+            reason: Reason::of(code),
+        })
+    }
+}
+
+impl<'a> Iterator for Objects<'a> {
+    type Item = Object<'a>;
+
+    fn next(&mut self) -> Option<Object<'a>> {
+        let object = self.listed.next()?;
+        Some(Object {
+            tag: object.tag,
+            level: object.level,
+            is_constructed: object.constructed != 0,
+            place: object.place,
+            size: object.size,
+            value: &self.bytes[object.value..object.value + object.length],
+        })
+    }
+
+    fn size_hint(&self) -> (usize, Option<usize>) {
+        self.listed.size_hint()
+    }
+}
+
+impl ExactSizeIterator for Objects<'_> {}
+
+/// The tag, and the length in its shortest spelling, as an object begins: 2 to 6 bytes. None where no
+/// tag of one to three bytes has this number.
+pub fn head(tag: u32, length: u16) -> Option<Vec<u8>> {
+    let (mut bytes, mut n) = ([0; 6], 0);
+    // SAFETY: the pointer has room for as many bytes as it says.
+    let code =
+        unsafe { raw::galliumtoad_head(tag, length, bytes.as_mut_ptr(), bytes.len(), &mut n) };
+    (code == raw::OK).then(|| bytes[..n].to_vec())
+}

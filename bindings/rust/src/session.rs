@@ -1,0 +1,104 @@
+use crate::card::{Card, Owned};
+use crate::error::{told, Error};
+use crate::exchange::{Answer, RESPONSE_LIMIT};
+use crate::raw::{self, Handle};
+
+/// A terminal and a card, joined by a line that delivers every character.
+///
+/// ```
+/// use galliumtoad::{CardBuilder, Session};
+///
+/// let aid = [0xA0, 0x00, 0x00, 0x00, 0x03, 0x10, 0x10];
+/// let mut builder = CardBuilder::new()?;
+/// builder.app(&aid)?;
+/// builder.object(0x5F20, b"JOE")?;
+/// let mut session = Session::start(builder.finish()?)?;
+///
+/// session.select(&aid)?;
+/// assert_eq!(session.put(0x5F20, b"ANN")?, 0x9000);
+/// let answer = session.get(0x5F20)?;
+/// assert_eq!(answer.status, 0x9000);
+/// assert_eq!(answer.data, b"\x5F\x20\x03ANN");
+/// # Ok::<(), galliumtoad::Error>(())
+/// ```
+#[derive(Debug)]
+pub struct Session(Handle);
+
+impl Session {
+    /// Takes a card, and resets it. Where memory is wanting the card is dropped.
+    pub fn start(mut card: Card) -> Result<Session, Error> {
+        let mut session = Session(Handle::EMPTY);
+        // SAFETY: the session's handle holds nothing, and the card's is one of this crate.
+        told(unsafe { raw::galliumtoad_session_start(&mut session.0, &mut card.0 .0) })?;
+        Ok(session)
+    }
+
+    /// Selects the application with this identifier, of 5 to 16 bytes.
+    ///
+    /// # Errors
+    ///
+    /// [`Error::Busy`]: a chain is pending, [`Error::Argument`]: another length, [`Error::Memory`].
+    /// Nothing is sent then.
+    pub fn select(&mut self, aid: &[u8]) -> Result<Answer, Error> {
+        // SAFETY: the handle is one of this crate, used by this thread alone; the slice has its length.
+        told(unsafe { raw::galliumtoad_session_select(&mut self.0, aid.as_ptr(), aid.len()) })?;
+        self.answer()
+    }
+
+    /// Reads a data object: the data are its tag, length and value. Errors as [`Session::select`];
+    /// [`Error::Argument`]: GET DATA can't name the tag.
+    pub fn get(&mut self, tag: u32) -> Result<Answer, Error> {
+        // SAFETY: as above.
+        told(unsafe { raw::galliumtoad_session_get(&mut self.0, tag) })?;
+        self.answer()
+    }
+
+    /// Stores a value, in as many chained commands as it takes, and answers the status. Errors as
+    /// [`Session::get`].
+    pub fn put(&mut self, tag: u32, value: &[u8]) -> Result<u16, Error> {
+        // SAFETY: as above.
+        told(unsafe {
+            raw::galliumtoad_session_put(&mut self.0, tag, value.as_ptr(), value.len())
+        })?;
+        Ok(self.answer()?.status)
+    }
+
+    /// The last answer again. [`Error::NotFound`]: there is none yet.
+    pub fn answer(&self) -> Result<Answer, Error> {
+        let (mut status, mut n) = (0, 0);
+        let mut data = vec![0; RESPONSE_LIMIT];
+        // SAFETY: the handle is as it was when this returns; there is room for any answer.
+        told(unsafe {
+            raw::galliumtoad_session_answer(
+                &self.0,
+                &mut status,
+                data.as_mut_ptr(),
+                data.len(),
+                &mut n,
+            )
+        })?;
+        data.truncate(n);
+        Ok(Answer { status, data })
+    }
+
+    /// Resets the card: nothing is selected or pending, and its objects stay.
+    pub fn reset(&mut self) -> Result<(), Error> {
+        // SAFETY: as above.
+        told(unsafe { raw::galliumtoad_session_reset(&mut self.0) }).map(|_| ())
+    }
+
+    /// Gives the card back, reset.
+    pub fn end(mut self) -> Result<Card, Error> {
+        let mut card = Card(Owned(Handle::EMPTY));
+        // SAFETY: as above; the card's handle holds nothing.
+        told(unsafe { raw::galliumtoad_session_end(&mut self.0, &mut card.0 .0) })?;
+        Ok(card)
+    }
+}
+
+impl Drop for Session {
+    fn drop(&mut self) {
+        // SAFETY: the handle is not used again.
+        unsafe { raw::galliumtoad_session_free(&mut self.0) }
+    }
+}

@@ -1,0 +1,145 @@
+//! Each call, by the rules of the card and of the line.
+
+use galliumtoad::{head, Card, CardBuilder, Error, Exchange, Objects, Reason, Session, Turn};
+
+const AID: [u8; 7] = [0xA0, 0x00, 0x00, 0x00, 0x03, 0x10, 0x10];
+
+fn builder() -> CardBuilder {
+    let mut builder = CardBuilder::new().expect("memory");
+    builder.app(&AID).expect("an application");
+    builder.object(0x5F20, b"JOE").expect("an object");
+    builder.locked(0x50, b"VISA").expect("an object");
+    builder
+}
+
+/// What the card hands out until it listens, once it has taken these characters.
+fn heard(card: &mut Card, sent: &[u8]) -> Vec<u8> {
+    for byte in sent {
+        card.take(*byte).expect("a character in turn");
+    }
+    let mut heard = Vec::new();
+    while let Turn::Sends(byte) = card.turn().expect("a turn") {
+        heard.push(byte);
+    }
+    heard
+}
+
+#[test]
+fn objects_are_listed_with_their_places() {
+    let bytes = [0x00, 0x6F, 0x04, 0x84, 0x02, 0xA0, 0x00, 0x50, 0x00];
+    let seen: Vec<_> = Objects::over(&bytes)
+        .expect("objects")
+        .map(|it| {
+            let place = (it.place, it.size);
+            (it.tag, it.level, it.is_constructed, place, it.value)
+        })
+        .collect();
+    assert_eq!(
+        seen,
+        [
+            (0x6F, 1, true, (1, 6), &bytes[3..7]),
+            (0x84, 2, false, (3, 4), &bytes[5..7]),
+            (0x50, 1, false, (7, 2), &[][..]),
+        ]
+    );
+    let fault = Objects::over(&bytes[..6]).expect_err("a fault");
+    assert_eq!((fault.place, fault.reason), (1, Reason::ValueCut));
+    assert_eq!(fault.to_string(), "value cut at 1");
+    assert_eq!(Objects::over(&[]).expect("no objects").count(), 0);
+}
+
+#[test]
+fn heads_have_the_shortest_length() {
+    assert_eq!(head(0x50, 127), Some(vec![0x50, 0x7F]));
+    assert_eq!(head(0x5F20, 128), Some(vec![0x5F, 0x20, 0x81, 0x80]));
+    let longest = vec![0x9F, 0x81, 0x01, 0x82, 0x01, 0x00];
+    assert_eq!(head(0x9F8101, 256), Some(longest));
+    assert_eq!(head(0x9F00, 1), None);
+}
+
+#[test]
+fn a_builder_refuses_and_stays() {
+    let mut builder = builder();
+    assert_eq!(builder.app(&AID), Err(Error::AppTwice));
+    assert_eq!(builder.app(&AID[..4]), Err(Error::Argument));
+    assert_eq!(builder.object(0x70, b"\x50\x05A"), Err(Error::NotObjects));
+    assert_eq!(builder.object(0x50, &[0; 8193]), Err(Error::ValueTooLong));
+    let card = builder.finish().expect("a card");
+    assert_eq!(card.apps().collect::<Vec<_>>(), [AID.to_vec()]);
+    assert_eq!(card.selected(), None);
+}
+
+#[test]
+fn a_card_answers_character_by_character() {
+    let mut card = builder().finish().expect("a card");
+    assert_eq!(heard(&mut card, &[0x00, 0xA4, 0x04, 0x00, 0x07]), [0xA4]);
+    assert_eq!(heard(&mut card, &AID), [0x61, 0x0B]);
+    assert_eq!(card.selected(), Some(AID.to_vec()));
+    assert_eq!(
+        heard(&mut card, &[0x00, 0xDA, 0x00, 0x50, 0x01]),
+        [0x69, 0x82]
+    );
+    assert_eq!(
+        heard(&mut card, &[0x00, 0xCA, 0x5F, 0x20, 0x06]),
+        [0xCA, 0x5F, 0x20, 0x03, 0x4A, 0x4F, 0x45, 0x90, 0x00]
+    );
+    card.reset().expect("a reset");
+    assert_eq!(card.selected(), None);
+}
+
+#[test]
+fn an_exchange_follows_its_card() {
+    let command = [0x00, 0xCA, 0x5F, 0x20, 0x00];
+    let mut exchange = Exchange::start(&command).expect("an exchange");
+    assert_eq!(exchange.take(0x6C), Err(Error::NotListening));
+    for byte in command {
+        assert_eq!(exchange.next(), Ok(Turn::Sends(byte)));
+    }
+    assert_eq!(exchange.next(), Ok(Turn::Listens));
+    for byte in [0x6C, 0x02] {
+        assert_eq!(exchange.take(byte), Ok(()));
+    }
+    for byte in [0x00, 0xCA, 0x5F, 0x20, 0x02] {
+        assert_eq!(exchange.next(), Ok(Turn::Sends(byte)));
+    }
+    assert_eq!(exchange.answer(), None);
+    for byte in [0xCA, 0x50, 0x00, 0x90, 0x00] {
+        assert_eq!(exchange.take(byte), Ok(()));
+    }
+    assert_eq!(exchange.next(), Ok(Turn::Done));
+    let answer = exchange.answer().expect("an answer");
+    assert_eq!((answer.status, answer.data), (0x9000, vec![0x50, 0x00]));
+    assert_eq!(exchange.take(0x00), Err(Error::AfterEnd));
+}
+
+#[test]
+fn an_exchange_fails_for_good() {
+    let refused = |command: &[u8]| Exchange::start(command).err();
+    assert_eq!(refused(&[0x00, 0xCA]), Some(Error::TooShort));
+    assert_eq!(refused(&[0x00, 0x60, 0x00, 0x00]), Some(Error::InvalidIns));
+    let mut exchange = Exchange::start(&[0x00, 0xCA, 0x5F, 0x20]).expect("an exchange");
+    while let Ok(Turn::Sends(_)) = exchange.next() {}
+    assert_eq!(exchange.take(0x41), Err(Error::BadProcedure));
+    assert_eq!(exchange.next(), Err(Error::Failed));
+    assert_eq!(exchange.take(0x41), Err(Error::AfterEnd));
+}
+
+#[test]
+fn a_session_carries_out_operations() {
+    let card = builder().finish().expect("a card");
+    let mut session = Session::start(card).expect("a session");
+    assert_eq!(session.answer(), Err(Error::NotFound));
+    assert_eq!(session.get(0x5F20).expect("an answer").status, 0x6985);
+    assert_eq!(session.select(&AID).expect("an answer").status, 0x9000);
+    assert_eq!(session.put(0x50, b"A").expect("an answer"), 0x6982);
+    assert_eq!(session.put(0x5F20, &[0x42; 300]).expect("one"), 0x9000);
+    let answer = session.get(0x5F20).expect("an answer");
+    assert_eq!(&answer.data[..5], [0x5F, 0x20, 0x82, 0x01, 0x2C]);
+    assert_eq!(&answer.data[5..], [0x42; 300]);
+    assert_eq!(session.answer().expect("the same"), answer);
+    assert_eq!(session.get(0x9F8101), Err(Error::Argument));
+    session.reset().expect("a reset");
+    assert_eq!(session.get(0x5F20).expect("an answer").status, 0x6985);
+    let card = session.end().expect("the card");
+    assert_eq!(card.apps().count(), 1);
+}

@@ -1,0 +1,100 @@
+//! The numbers of the C header are those of this crate.
+
+use galliumtoad::{Error, Reason, RESPONSE_LIMIT, VALUE_LIMIT};
+
+/// The faults of the header's list, with what this crate calls them.
+const FAULTS: [(&str, Error); 20] = [
+    ("GT_STATE", Error::State),
+    ("GT_MEMORY", Error::Memory),
+    ("GT_ARGUMENT", Error::Argument),
+    ("GT_BUSY", Error::Busy),
+    ("GT_NOT_FOUND", Error::NotFound),
+    ("GT_FAILED", Error::Failed),
+    ("GT_APP_TWICE", Error::AppTwice),
+    ("GT_TOO_MANY_APPS", Error::TooManyApps),
+    ("GT_NO_APP", Error::NoApp),
+    ("GT_VALUE_TOO_LONG", Error::ValueTooLong),
+    ("GT_NOT_OBJECTS", Error::NotObjects),
+    ("GT_TABLE_FULL", Error::TableFull),
+    ("GT_NOT_LISTENING", Error::NotListening),
+    ("GT_BAD_PROCEDURE", Error::BadProcedure),
+    ("GT_TOO_LONG", Error::TooLong),
+    ("GT_STALLED", Error::Stalled),
+    ("GT_AFTER_END", Error::AfterEnd),
+    ("GT_TOO_SHORT", Error::TooShort),
+    ("GT_BAD_LENGTH", Error::BadLength),
+    ("GT_INVALID_INS", Error::InvalidIns),
+];
+
+const REASONS: [(&str, Reason); 6] = [
+    ("GT_TAG_CUT", Reason::TagCut),
+    ("GT_TAG_FORM", Reason::TagForm),
+    ("GT_LENGTH_CUT", Reason::LengthCut),
+    ("GT_LENGTH_FORM", Reason::LengthForm),
+    ("GT_VALUE_CUT", Reason::ValueCut),
+    ("GT_TOO_DEEP", Reason::TooDeep),
+];
+
+/// Faults that can't come up here.
+const NEVER: [&str; 3] = ["GT_NULL", "GT_EMPTY", "GT_BUFFER"];
+
+fn header() -> String {
+    let path = concat!(env!("CARGO_MANIFEST_DIR"), "/../c/include/galliumtoad.h");
+    std::fs::read_to_string(path).expect("the header")
+}
+
+/// The number behind `NAME =` in the header.
+fn number(header: &str, name: &str) -> Option<i64> {
+    let start = header.find(&format!("{name} ="))? + name.len() + 2;
+    let rest = header[start..].trim_start();
+    let end = rest.find(|c: char| c != '-' && !c.is_ascii_digit())?;
+    rest[..end].parse().ok()
+}
+
+/// What `gt_text` answers for a name.
+fn text<'a>(header: &'a str, name: &str) -> Option<&'a str> {
+    let start = header.find(&format!("case {name}: return \""))?;
+    header[start..].split('"').nth(1)
+}
+
+#[test]
+fn faults_have_the_numbers_and_texts_of_the_header() {
+    let header = header();
+    for (name, error) in FAULTS {
+        let wanted = Some(i64::from(error.code()));
+        assert_eq!(number(&header, name), wanted, "{name}");
+        let wanted = error.to_string();
+        assert_eq!(text(&header, name), Some(wanted.as_str()), "{name}");
+    }
+    for (name, reason) in REASONS {
+        let wanted = Some(i64::from(reason.code()));
+        assert_eq!(number(&header, name), wanted, "{name}");
+    }
+}
+
+#[test]
+fn every_fault_of_the_header_is_known() {
+    let header = header();
+    let list = header.split("enum {").nth(1).expect("the list of codes");
+    let list = list.split("};").next().expect("its end");
+    let names: Vec<&str> = list
+        .lines()
+        .filter_map(|line| line.trim().split_once(" = -"))
+        .map(|(name, _)| name)
+        .collect();
+    assert_eq!(names.len(), FAULTS.len() + REASONS.len() + NEVER.len());
+    for name in names {
+        let known = FAULTS.iter().any(|(it, _)| *it == name)
+            || REASONS.iter().any(|(it, _)| *it == name)
+            || NEVER.contains(&name);
+        assert!(known, "{name}");
+    }
+}
+
+#[test]
+fn limits_are_those_of_the_header() {
+    let header = header();
+    assert_eq!(number(&header, "GT_VALUE_LIMIT"), Some(VALUE_LIMIT as i64));
+    let wanted = Some(RESPONSE_LIMIT as i64);
+    assert_eq!(number(&header, "GT_RESPONSE_LIMIT"), wanted);
+}

@@ -14,7 +14,7 @@ use Rattle.object_card.specs.OperationLaws.{no_correction}
 use Rattle.object_card.specs.declared.limits.TheConstants.{VALUE_LIMIT, HEAD_LIMIT}
 use Rattle.object_card.specs.State.{CardState, IsCardState, waiting}
 use Rattle.object_card.specs.StateLaws.{stays_sound}
-use Rattle.object_card.specs.ResponseLaws.{brings_within, corrected_brings_none, fetch_brings_what_waits, what_is_announced_waits, fetched}
+use Rattle.object_card.specs.ResponseLaws.{brings_within, corrected_brings_none, fetch_brings_what_waits, what_is_announced_waits, fetched, count_is_some}
 use Rattle.card_terminal.specs.declared.wanted.Wanted.{Wanted}
 use Rattle.card_terminal.specs.declared.wanted.Wanted.TheVariants.{Bytes, Everything}
 use Rattle.card_terminal.specs.Gathered.{UnitOf, Single, Repeated, Opening, By_command, By_fetch, OpensWith, first_of, last_of, dialogues_of, unit_data, after_unit, after_dialogue, smaller, wants_some, fetched_of, fetched_after, repeated_with, correction_of, IsUnit, AreFollowed, IsOpenExchange, wanted_by}
@@ -213,13 +213,6 @@ waits_on opening w (u ∷ units) next left s t waits (n, is, followed) goes =
     let here : n ≤ length (waiting mid.pending) =
     omega (arith, few, last_announces u s mid m first told) in
     waits_on (By_fetch n) (after_unit w u) units next left mid t here followed others
-
-count_is_some : (b : ℕ) → 1 ≤ count b
-count_is_some b = split (b == 0) refl
-  where
-    split : (v : Bool) → (b == 0) ≡ v → 1 ≤ (if v then 256 else b)
-    split true e = omega arith
-    split false e = omega (arith, eqb-false b 0 e)
 
 -- a fetch of no more than what waits brings some
 fetch_brings : (n : ℕ) (w : Wanted) (u : UnitOf) (s t : CardState) → Waits (By_fetch n) s

@@ -52,9 +52,9 @@ pub struct Load {
     pub rounds: usize,
 }
 
-/// A small object is asked for twice, since `6CXX` tells how many bytes it has. A value of 8,192 bytes
-/// goes to the card in 33 pieces of up to 255 bytes, and comes from it in 33 of up to 256, since tag
-/// and length come with it.
+/// A small object is asked for twice, since `6CXX` tells how many bytes it has. A value of 8,192
+/// bytes goes to the card in 33 pieces of up to 255 bytes, and comes from it in 33 of up to 256,
+/// since tag and length come with it.
 pub const LOADS: [Load; 5] = [
     Load {
         name: "get of 3 bytes",

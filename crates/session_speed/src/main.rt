@@ -1,5 +1,5 @@
-//! How fast a terminal and a card talk. With no argument it says what they are asked and how much goes
-//! over the line for one operation; with one, it measures.
+//! How fast a terminal and a card talk. With no argument it says what they are asked and how much
+//! goes over the line for one operation; with one, it measures.
 #![tactic(auto)]
 
 mod load;
@@ -28,7 +28,8 @@ fn main(rt: HostRuntime) -> anyhow::Result<()> {
             let tpdus = rate * nearest_usize_to_f64(load.tpdus) / 1e6;
             let each = 1e9 / (rate * nearest_usize_to_f64(characters));
             println!(rt;
-                "  {} times in {seconds:.2} s: {tpdus:.2} million TPDUs a second, {each:.2} ns a character",
+                "  {} times in {seconds:.2} s: {tpdus:.2} million TPDUs a second, \
+                 {each:.2} ns a character",
                 load.operations()
             )?;
         }

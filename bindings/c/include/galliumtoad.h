@@ -467,8 +467,11 @@ static inline int32_t gt_session_answer(const gt_session *s, uint16_t *status,
     return galliumtoad_session_answer(s, status, data ? data : &none, room, len);
 }
 
-/* The characters of the last operation; `count` gets how many. GT_BUFFER: `room` is less.
- * GT_EMPTY. */
+/* The characters of the last operation that was carried out, from its first to its last; none
+ * before there was one. `count` gets how many.
+ *
+ * GT_BUFFER: `room` is less than `count`; `line` is as it was. GT_MEMORY: memory was wanting to
+ * note them all; nothing changes. GT_STATE: the handle holds no session. GT_EMPTY. */
 static inline int32_t gt_session_heard(const gt_session *s, gt_character *line, size_t room,
                                        size_t *count) {
     gt_character none = { 0, 0 };

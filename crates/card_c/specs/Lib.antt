@@ -5,6 +5,7 @@ pub mod Codes
 pub mod Copying
 pub mod ExchangeCalls
 pub mod ExchangeHandle
+pub mod HeardCalls
 pub mod HeldExchangeOwned
 pub mod Reading
 pub mod SessionCalls

@@ -8,11 +8,13 @@
 mod card;
 mod card_held;
 mod card_side;
+mod character_record;
 mod code;
 mod copied;
 mod exchange;
 mod exchange_handle;
 mod head;
+mod heard;
 mod held_exchange;
 mod loose;
 mod objects;

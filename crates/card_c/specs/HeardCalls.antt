@@ -1,0 +1,38 @@
+-- What a session tells of the characters of its last operation.
+use Rattle.std.specs.Prelude.{◌≡◌, ◌⊎◌, ℕ, ℤ, List, ◌++◌, drop, length, map, ◌≤◌, ◌<◌, true, false}
+use Rattle.t0_core.specs.declared.end.End.{End}
+use Rattle.t0_core.specs.declared.end.End.TheVariants.{Terminal, Card}
+use Rattle.t0_core.specs.Character.{Character}
+use Rattle.t0_core.specs.Watch.{Hearing}
+use Rattle.card_c.specs.declared.card_side.CardSide.{CardSide}
+use Rattle.card_c.specs.declared.card_side.CardSide.TheVariants.{Building, Standing, Joined}
+use Rattle.card_c.specs.declared.character_record.CharacterRecord.{CharacterRecord}
+use Rattle.card_c.specs.Codes.{gt_ok, gt_state, gt_memory, gt_buffer}
+
+-- an end as C has it
+abbrev pub end_number : End → ℕ
+end_number Terminal = 0
+end_number Card = 1
+
+-- a character as C has it
+abbrev pub character_record : Character → CharacterRecord
+character_record c = record { from = end_number c.0; byte = c.1 }
+
+-- Where some were lost for want of memory, nothing is told. Else it is how many there are, and all of
+-- them where there is room for them.
+abbrev pub TellsHearing : Hearing → List CharacterRecord → ℕ → List CharacterRecord → ℕ → ℤ → Type 0
+TellsHearing hearing room count room' count' code =
+    ((hearing.lost ≡ true) × (code ≡ gt_memory) × (room' ≡ room) × (count' ≡ count))
+    ⊎ ((hearing.lost ≡ false) × (count' ≡ length hearing.heard)
+    × (((length hearing.heard ≤ length room) × (code ≡ gt_ok)
+    × (room' ≡ map character_record hearing.heard ++ drop (length hearing.heard) room))
+    ⊎ ((length room < length hearing.heard) × (code ≡ gt_buffer) × (room' ≡ room))))
+
+-- what the session's last operation was heard to say
+abbrev pub TellsHeard : List CharacterRecord → ℕ → List CharacterRecord → ℕ → CardSide → ℤ → Type 0
+TellsHeard room count room' count' (Building applications) code =
+    (code ≡ gt_state) × (room' ≡ room) × (count' ≡ count)
+TellsHeard room count room' count' (Standing end plans) code =
+    (code ≡ gt_state) × (room' ≡ room) × (count' ≡ count)
+TellsHeard room count room' count' (Joined session) code =
+    TellsHearing session.heard room count room' count' code

@@ -1,0 +1,79 @@
+//! What went over the line in the last operation of a session.
+ghost use Rattle.std.specs.Prelude.{◌≡◌, ◌≤◌, ◌++◌, drop, length, map, MatchOption};
+ghost use Rattle.card_c.specs.Codes.{gt_empty};
+ghost use Rattle.card_c.specs.CardHandle.{held_by};
+ghost use Rattle.card_c.specs.HeardCalls.{TellsHearing, TellsHeard, character_record};
+
+use crate::card_held::GtCard;
+use crate::card_side::CardSide;
+use crate::character_record::CharacterRecord;
+use crate::code;
+use std::alloc::Global;
+use t0_core::{End, Recorder};
+
+/// The characters of the last operation, each with its sender, where there is room for them all, and
+/// how many there are.
+#[unsafe(no_mangle)]
+pub extern "C" fn galliumtoad_session_heard(
+    alloc: Global,
+    session: &mut GtCard,
+    line: &mut [CharacterRecord],
+    count: &mut usize,
+) -> i32
+    ensures stays { held_by session.new ≡ held_by session.old }
+    ensures told { MatchOption (held_by session.old)
+        ((result ≡ gt_empty) × (line.new ≡ line.old) × (count.new ≡ count.old))
+        (λ side. TellsHeard line.old count.old line.new count.new side result) }
+{
+    let Some(side) = session.take_out(alloc) else {
+        return code::EMPTY;
+    };
+    let answer = heard(&side, line, count);
+    session.put(side);
+    answer
+}
+
+fn heard(side: &CardSide, line: &mut [CharacterRecord], count: &mut usize) -> i32
+    ensures { TellsHeard line.old count.old line.new count.new side.now result }
+{
+    let CardSide::Joined(joined) = side else {
+        return code::STATE;
+    };
+    tell_hearing(&joined.heard, line, count)
+}
+
+fn tell_hearing(recorder: &Recorder, line: &mut [CharacterRecord], count: &mut usize) -> i32
+    ensures { TellsHearing recorder.now line.old count.old line.new count.new result }
+{
+    if recorder.lost() {
+        return code::MEMORY;
+    }
+    let heard = recorder.heard();
+    *count = heard.len();
+    if heard.len() > line.len() {
+        return code::BUFFER;
+    }
+    put_all(heard, line);
+    code::OK
+}
+
+/// Puts the characters at the front of the array.
+fn put_all(heard: &[(End, u8)], line: &mut [CharacterRecord])
+    requires { length heard.now ≤ length line.old }
+    ensures { line.new ≡ map character_record heard.now ++ drop (length heard.now) line.old }
+{
+    for at in 0..heard.len() {
+        line[at] = record(heard[at]);
+    }
+}
+
+fn record(character: (End, u8)) -> CharacterRecord
+    ensures { result ≡ character_record character }
+{
+    let (end, byte) = character;
+    let from = match end {
+        End::Terminal => 0,
+        End::Card => 1,
+    };
+    CharacterRecord { from, byte }
+}

@@ -1,0 +1,79 @@
+/* Want of memory at each request in turn of a card and of a session with it. */
+#include "galliumtoad.h"
+#include "check.h"
+#include "counting_heap.h"
+
+static const uint8_t AID[] = { 0xA0, 0x00, 0x00, 0x00, 0x03, 0x10, 0x10 };
+static const uint8_t SELECTED[] = {
+    0x6F, 0x09, 0x84, 0x07, 0xA0, 0x00, 0x00, 0x00, 0x03, 0x10, 0x10
+};
+
+/* Each call is made again after want of memory, since nothing has changed then. */
+static void build(gt_card *c) {
+    int32_t code;
+    while ((code = gt_card_new(c)) == GT_MEMORY) {}
+    CHECK(code, GT_OK);
+    while ((code = gt_card_app(c, AID, sizeof AID)) == GT_MEMORY) {}
+    CHECK(code, GT_OK);
+    while ((code = gt_card_object(c, 0x5F20, (const uint8_t *)"JOE", 3, 0)) == GT_MEMORY) {}
+    CHECK(code, GT_OK);
+    while ((code = gt_card_finish(c)) == GT_MEMORY) {}
+    CHECK(code, GT_OK);
+}
+
+/* How often a character was lost, and how often the card had no memory for a value. */
+static int lost, unstored;
+
+/* A character that could not be noted is told as want of memory, and nothing else is. */
+static void check_heard(const gt_session *s, size_t all) {
+    gt_character line[64];
+    size_t count = 99;
+    int32_t code = gt_session_heard(s, line, 64, &count);
+    CHECK(code == GT_OK || code == GT_MEMORY, 1);
+    CHECK(count, code == GT_OK ? all : 99);
+    lost += code == GT_MEMORY;
+}
+
+/* Want of memory at the card is its answer 6581, and leaves the value as it was. */
+static void operate(gt_session *s) {
+    uint16_t status = 0;
+    uint8_t data[32];
+    size_t len = 99;
+    int32_t code;
+    bool stored;
+    while ((code = gt_session_select(s, AID, sizeof AID, &status, data, 32, &len)) == GT_MEMORY) {}
+    CHECK(code, GT_OK);
+    CHECK(status, 0x9000);
+    CHECK(len, sizeof SELECTED);
+    CHECK_BYTES(data, SELECTED, sizeof SELECTED);
+    check_heard(s, 34);
+    while ((code = gt_session_put(s, 0x5F20, (const uint8_t *)"AL", 2, &status)) == GT_MEMORY) {}
+    CHECK(code, GT_OK);
+    stored = status == 0x9000;
+    CHECK(stored || status == 0x6581, 1);
+    unstored += !stored;
+    while ((code = gt_session_get(s, 0x5F20, &status, data, 32, &len)) == GT_MEMORY) {}
+    CHECK(code, GT_OK);
+    CHECK(status, 0x9000);
+    CHECK(len, stored ? 5 : 6);
+    CHECK_BYTES(data, stored ? "\x5F\x20\x02" "AL" : "\x5F\x20\x03" "JOE", len);
+}
+
+int main(void) {
+    bool reached = true;
+    for (refused = 1; reached; refused++) {
+        gt_card c = GT_INIT;
+        gt_session s = GT_INIT;
+        requests = 0;
+        build(&c);
+        CHECK(gt_session_start(&s, &c), GT_OK);
+        operate(&s);
+        CHECK(gt_session_end(&s, &c), GT_OK);
+        gt_card_free(&c);
+        CHECK(taken, 0);
+        reached = requests >= refused;
+    }
+    CHECK(lost > 0, 1);
+    CHECK(unstored > 0, 1);
+    return check_result("memory_session");
+}

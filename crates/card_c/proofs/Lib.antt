@@ -2,5 +2,6 @@ pub mod CardHeldValues
 pub mod HeldExchangeValues
 pub mod Listing
 pub mod LooseValues
+pub mod PlanLemmas
 pub mod SessionLemmas
 pub mod TagNumberLemmas

@@ -7,6 +7,8 @@ pub mod ExchangeCalls
 pub mod ExchangeHandle
 pub mod HeardCalls
 pub mod HeldExchangeOwned
+pub mod PlanCalls
+pub mod PlanLetters
 pub mod Reading
 pub mod SessionCalls
 pub mod TableCalls

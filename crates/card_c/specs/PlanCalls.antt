@@ -1,0 +1,39 @@
+-- What the calls that give a plan do. A refusal leaves the plans as they were.
+use Rattle.std.specs.Prelude.{◌≡◌, ◌⊎◌, ℕ, ℤ, List, [], ◌∷◌, ◌++◌}
+use Rattle.t0_core.specs.Plan.{Course}
+use Rattle.card_c.specs.declared.card_side.CardSide.{CardSide}
+use Rattle.card_c.specs.declared.card_side.CardSide.TheVariants.{Building, Standing, Joined}
+use Rattle.card_c.specs.declared.session_side.SessionSide.{SessionSide}
+use Rattle.card_c.specs.Codes.{gt_ok, gt_state}
+use Rattle.card_c.specs.PlanLetters.{IsSpelt, IsRefused}
+
+-- the plan of these letters and this cut stands after those before it
+abbrev pub Queues : List ℕ → ℕ → List Course → ℤ → List Course → Type 0
+Queues letters cut plans code new =
+    ((plan : Course) × IsSpelt letters cut plan × (code ≡ gt_ok) × (new ≡ plans ++ plan ∷ []))
+    ⊎ (IsRefused letters cut code × (new ≡ plans))
+
+-- of a card that stands; the plan of the TPDU under way stays
+abbrev pub QueuesAtCard : List ℕ → ℕ → CardSide → ℤ → CardSide → Type 0
+QueuesAtCard letters cut (Building applications) code new =
+    (code ≡ gt_state) × (new ≡ Building applications)
+QueuesAtCard letters cut (Joined session) code new = (code ≡ gt_state) × (new ≡ Joined session)
+QueuesAtCard letters cut (Standing end plans) code new =
+    (rest : List Course) × Queues letters cut plans.rest code rest
+    × (new ≡ Standing end (record plans { rest = rest }))
+
+-- nothing but the plans has changed
+pub record IsButPlans (old new : SessionSide) : Type 0 where
+  pub session_is : new.session ≡ old.session
+  pub answer_is : new.answer ≡ old.answer
+  pub heard_is : new.heard ≡ old.heard
+
+-- of a session
+abbrev pub QueuesInSession : List ℕ → ℕ → CardSide → ℤ → CardSide → Type 0
+QueuesInSession letters cut (Building applications) code new =
+    (code ≡ gt_state) × (new ≡ Building applications)
+QueuesInSession letters cut (Standing end plans) code new =
+    (code ≡ gt_state) × (new ≡ Standing end plans)
+QueuesInSession letters cut (Joined session) code new =
+    (next : SessionSide) × (new ≡ Joined next) × IsButPlans session next
+    × Queues letters cut session.plans.items code next.plans.items

@@ -1,0 +1,88 @@
+//! The plans that C gives: how the card answers the TPDUs to come.
+ghost use Rattle.std.specs.Prelude.{◌≡◌, [], ◌∷◌, ◌++◌, OnOk, OnErr};
+ghost use Rattle.card_c.specs.CardHandle.{held_by, OnHandle};
+ghost use Rattle.card_c.specs.PlanCalls.{IsButPlans, QueuesAtCard, QueuesInSession};
+
+use crate::card_held::GtCard;
+use crate::card_side::CardSide;
+use crate::code;
+use crate::plan_letters::plan_of;
+use crate::session_side::SessionSide;
+use std::alloc::{AllocError, Global};
+use t0_core::Plan;
+
+/// Gives a card that stands one more plan, after those before it.
+#[unsafe(no_mangle)]
+pub extern "C" fn galliumtoad_card_plan(
+    alloc: Global,
+    card: &mut GtCard,
+    steps: &[u8],
+    cut: u16,
+) -> i32
+    ensures { OnHandle (QueuesAtCard steps.now cut) (held_by card.old) result (held_by card.new) }
+{
+    let Some(mut side) = card.take_out(alloc) else {
+        return code::EMPTY;
+    };
+    let answer = queue_at_card(alloc, &mut side, steps, cut);
+    card.put(side);
+    answer
+}
+
+fn queue_at_card(alloc: Global, side: &mut CardSide, steps: &[u8], cut: u16) -> i32
+    ensures { QueuesAtCard steps.now cut side.old result side.new }
+{
+    let CardSide::Standing(_, plans) = side else {
+        return code::STATE;
+    };
+    match plan_of(alloc, steps, cut) {
+        Ok(plan) => match plans.push(plan) {
+            Ok(()) => code::OK,
+            Err(_) => code::MEMORY,
+        },
+        Err(refusal) => refusal,
+    }
+}
+
+/// Gives a session one more plan for its next operation, after those before it.
+#[unsafe(no_mangle)]
+pub extern "C" fn galliumtoad_session_plan(
+    alloc: Global,
+    session: &mut GtCard,
+    steps: &[u8],
+    cut: u16,
+) -> i32
+    ensures { OnHandle (QueuesInSession steps.now cut)
+        (held_by session.old) result (held_by session.new) }
+{
+    let Some(mut side) = session.take_out(alloc) else {
+        return code::EMPTY;
+    };
+    let answer = queue_in_session(alloc, &mut side, steps, cut);
+    session.put(side);
+    answer
+}
+
+fn queue_in_session(alloc: Global, side: &mut CardSide, steps: &[u8], cut: u16) -> i32
+    ensures { QueuesInSession steps.now cut side.old result side.new }
+{
+    let CardSide::Joined(joined) = side else {
+        return code::STATE;
+    };
+    match plan_of(alloc, steps, cut) {
+        Ok(plan) => match queue(joined, plan) {
+            Ok(()) => code::OK,
+            Err(_) => code::MEMORY,
+        },
+        Err(refusal) => refusal,
+    }
+}
+
+/// One more plan, after those before it. Its error is want of memory.
+fn queue(joined: &mut SessionSide, plan: Plan) -> Result<(), AllocError>
+    ensures ok { OnOk result (joined.new.plans.items ≡ joined.old.plans.items ++ plan ∷ []) }
+    ensures stays { OnErr result (joined.new.plans.items ≡ joined.old.plans.items) }
+    ensures others { IsButPlans joined.old joined.new }
+{
+    joined.plans.push(plan).map_err(AllocError::from)
+}

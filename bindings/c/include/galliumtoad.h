@@ -343,7 +343,8 @@ static inline int32_t gt_card_reset(gt_card *c) {
 
 /* How the card answers the TPDUs to come, one plan for each in turn: `steps` is a string of n
  * (NULL), o (one data byte) and a (all that are left), and at most `cut` bytes (1 to 256) are
- * sent at once. GT_ARGUMENT: another letter, or another cut. GT_MEMORY, GT_STATE, GT_EMPTY. */
+ * sent at once. GT_ARGUMENT: another letter, or another cut. GT_STATE: it does not stand yet.
+ * GT_MEMORY, GT_EMPTY. */
 static inline int32_t gt_card_plan(gt_card *c, const char *steps, uint16_t cut) {
     size_t n = 0;
     if (!c || !steps) return GT_NULL;
@@ -397,7 +398,7 @@ static inline int32_t gt_session_idle(const gt_session *s) {
 }
 
 /* A plan as `gt_card_plan`, for the next operation; what is left of the plans is dropped after
- * it. */
+ * it. GT_ARGUMENT, GT_MEMORY, GT_EMPTY. */
 static inline int32_t gt_session_plan(gt_session *s, const char *steps, uint16_t cut) {
     size_t n = 0;
     if (!s || !steps) return GT_NULL;

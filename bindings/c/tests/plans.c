@@ -1,0 +1,79 @@
+/* Plans: which procedure bytes a card sends, and how it cuts its answers. */
+#include "galliumtoad.h"
+#include "check.h"
+
+static const uint8_t AID[] = { 0xA0, 0x00, 0x00, 0x00, 0x03, 0x10, 0x10 };
+static const uint8_t GET[] = { 0x00, 0xCA, 0x5F, 0x20, 0x06 };
+
+static void build(gt_card *c) {
+    CHECK(gt_card_plan(c, "n", 256), GT_EMPTY);
+    CHECK(gt_card_new(c), GT_OK);
+    CHECK(gt_card_app(c, AID, sizeof AID), GT_OK);
+    CHECK(gt_card_object(c, 0x5F20, (const uint8_t *)"JOE", 3, 0), GT_OK);
+    CHECK(gt_card_plan(c, "n", 256), GT_STATE);
+    CHECK(gt_card_finish(c), GT_OK);
+}
+
+/* Every byte goes to the card, which sends these alone before it listens again. */
+static void trade(gt_card *c, const uint8_t *bytes, size_t n, const char *want, size_t count) {
+    uint8_t byte = 0;
+    for (size_t i = 0; i < n; i++) CHECK(gt_card_take(c, bytes[i]), GT_OK);
+    for (size_t i = 0; i < count; i++) {
+        CHECK(gt_card_turn(c, &byte), GT_SENDS);
+        CHECK(byte, (uint8_t)want[i]);
+    }
+    CHECK(gt_card_turn(c, &byte), GT_OK);
+}
+
+static void select_application(gt_card *c) {
+    const uint8_t head[] = { 0x00, 0xA4, 0x04, 0x00, sizeof AID };
+    trade(c, head, sizeof head, "\xA4", 1);
+    trade(c, AID, sizeof AID, "\x61\x0B", 2);
+}
+
+/* What is no plan, and one for each TPDU in turn. */
+static void card(void) {
+    gt_card c = GT_INIT;
+    const uint8_t more[] = { 0x00, 0xCA, 0x5F, 0x20, 0x02 };
+    build(&c);
+    select_application(&c);
+    CHECK(gt_card_plan(&c, "nox", 256), GT_ARGUMENT);
+    CHECK(gt_card_plan(&c, "N", 256), GT_ARGUMENT);
+    CHECK(gt_card_plan(&c, "n", 0), GT_ARGUMENT);
+    CHECK(gt_card_plan(&c, "n", 257), GT_ARGUMENT);
+    CHECK(gt_card_plan(&c, "nona", 256), GT_OK);
+    CHECK(gt_card_plan(&c, "", 1), GT_OK);
+    trade(&c, GET, sizeof GET, "\x60\x35\x5F\x60\xCA\x20\x03JOE\x90\x00", 12);
+    trade(&c, more, sizeof more, "\xCA\x5F\x20\x61\x01", 5);
+    trade(&c, GET, sizeof GET, "\xCA\x5F\x20\x03JOE\x90\x00", 9);
+    gt_card_free(&c);
+}
+
+/* The plans of a session are for its next operation alone, whose answer is the same. */
+static void session(void) {
+    gt_session s = GT_INIT;
+    gt_card c = GT_INIT;
+    uint8_t data[16];
+    uint16_t status = 0;
+    size_t len = 0;
+    CHECK(gt_session_plan(&s, "n", 256), GT_EMPTY);
+    build(&c);
+    CHECK(gt_session_start(&s, &c), GT_OK);
+    CHECK(gt_session_plan(&s, "b", 256), GT_ARGUMENT);
+    CHECK(gt_session_plan(&s, "n", 257), GT_ARGUMENT);
+    CHECK(gt_session_plan(&s, "on", 256), GT_OK);
+    CHECK(gt_session_plan(&s, "o", 1), GT_OK);
+    CHECK(gt_session_select(&s, AID, sizeof AID, &status, data, sizeof data, &len), GT_OK);
+    CHECK(status, 0x9000);
+    CHECK(gt_session_get(&s, 0x5F20, &status, data, sizeof data, &len), GT_OK);
+    CHECK(status, 0x9000);
+    CHECK(len, 6);
+    CHECK_BYTES(data, "\x5F\x20\x03JOE", 6);
+    gt_session_free(&s);
+}
+
+int main(void) {
+    card();
+    session();
+    return check_result("plans");
+}

@@ -19,4 +19,4 @@ pub use card::{Card, CardBuilder, Entry, VALUE_LIMIT};
 pub use error::Error;
 pub use exchange::{Answer, Exchange, Turn, RESPONSE_LIMIT};
 pub use objects::{head, Object, Objects, ObjectsError, Reason};
-pub use session::Session;
+pub use session::{End, Session};

@@ -31,9 +31,19 @@ pub struct Object {
     pub length: usize,
 }
 
+#[repr(C)]
+#[derive(Clone, Copy, Debug, Default)]
+pub struct Character {
+    pub from: u8,
+    pub byte: u8,
+}
+
 pub const OK: i32 = 0;
 pub const SENDS: i32 = 1;
 pub const DONE: i32 = 2;
+pub const BUFFER: i32 = -6;
+
+pub const TERMINAL: u8 = 0;
 
 macro_rules! declared {
     ($(fn $name:ident($($arg:ident: $of:ty),*);)*) => {
@@ -83,6 +93,11 @@ declared! {
     fn galliumtoad_session_answer(
         s: *const Handle, status: *mut u16, data: *mut u8, room: usize, len: *mut usize
     );
+    fn galliumtoad_session_heard(
+        s: *const Handle, line: *mut Character, room: usize, count: *mut usize
+    );
+    fn galliumtoad_session_idle(s: *const Handle);
+    fn galliumtoad_session_plan(s: *mut Handle, steps: *const u8, n: usize, cut: u16);
     fn galliumtoad_session_reset(s: *mut Handle);
     fn galliumtoad_session_end(s: *mut Handle, c: *mut Handle);
 }

@@ -3,6 +3,13 @@ use crate::error::{told, Error};
 use crate::exchange::{Answer, RESPONSE_LIMIT};
 use crate::raw::{self, Handle};
 
+/// One of the two ends of the line.
+#[derive(Clone, Copy, Debug, PartialEq, Eq, Hash)]
+pub enum End {
+    Terminal,
+    Card,
+}
+
 /// A terminal and a card, joined by a line that delivers every character.
 ///
 /// ```
@@ -31,6 +38,22 @@ impl Session {
         // SAFETY: the session's handle holds nothing, and the card's is one of this crate.
         told(unsafe { raw::galliumtoad_session_start(&mut session.0, &mut card.0 .0) })?;
         Ok(session)
+    }
+
+    /// Whether an operation can be begun: no chain is pending.
+    pub fn is_idle(&self) -> Result<bool, Error> {
+        // SAFETY: the handle is as it was when this returns.
+        Ok(told(unsafe { raw::galliumtoad_session_idle(&self.0) })? == 1)
+    }
+
+    /// How the card answers one of the next operation's TPDUs, in turn, as [`Card::plan`]. What the
+    /// operation leaves of its plans is dropped after it.
+    pub fn plan(&mut self, steps: &str, cut: u16) -> Result<(), Error> {
+        // SAFETY: the slice has its length.
+        told(unsafe {
+            raw::galliumtoad_session_plan(&mut self.0, steps.as_ptr(), steps.len(), cut)
+        })
+        .map(|_| ())
     }
 
     /// Selects the application with this identifier, of 5 to 16 bytes.
@@ -79,6 +102,33 @@ impl Session {
         })?;
         data.truncate(n);
         Ok(Answer { status, data })
+    }
+
+    /// The characters of the last operation, each with the end that sent it.
+    /// [`Error::Memory`]: some were lost for want of memory.
+    pub fn heard(&self) -> Result<Vec<(End, u8)>, Error> {
+        let mut line = vec![raw::Character::default(); self.hear(&mut [])?];
+        if !line.is_empty() {
+            self.hear(&mut line)?;
+        }
+        let from = |it: &raw::Character| match it.from {
+            raw::TERMINAL => End::Terminal,
+            _ => End::Card,
+        };
+        Ok(line.iter().map(|it| (from(it), it.byte)).collect())
+    }
+
+    /// Fills the room where it is enough, and answers how many characters there are.
+    fn hear(&self, room: &mut [raw::Character]) -> Result<usize, Error> {
+        let mut count = 0;
+        // SAFETY: the handle is as it was when this returns; the room has its length.
+        let code = unsafe {
+            raw::galliumtoad_session_heard(&self.0, room.as_mut_ptr(), room.len(), &mut count)
+        };
+        match code {
+            raw::OK | raw::BUFFER => Ok(count),
+            fault => Err(Error::of(fault)),
+        }
     }
 
     /// Resets the card: nothing is selected or pending, and its objects stay.

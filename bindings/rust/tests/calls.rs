@@ -1,6 +1,6 @@
 //! Each call, by the rules of the card and of the line.
 
-use galliumtoad::{head, Card, CardBuilder, Error, Exchange, Objects, Reason, Session, Turn};
+use galliumtoad::{head, Card, CardBuilder, End, Error, Exchange, Objects, Reason, Session, Turn};
 
 const AID: [u8; 7] = [0xA0, 0x00, 0x00, 0x00, 0x03, 0x10, 0x10];
 
@@ -66,6 +66,12 @@ fn a_builder_refuses_and_stays() {
     assert_eq!(builder.object(0x50, &[0; 8193]), Err(Error::ValueTooLong));
     let card = builder.finish().expect("a card");
     assert_eq!(card.apps().collect::<Vec<_>>(), [AID.to_vec()]);
+    let entries: Vec<_> = card
+        .entries(0)
+        .map(|it| (it.tag, it.value, it.is_locked))
+        .collect();
+    let name = (0x5F20, b"JOE".to_vec(), false);
+    assert_eq!(entries, [name, (0x50, b"VISA".to_vec(), true)]);
     assert_eq!(card.selected(), None);
 }
 
@@ -141,5 +147,27 @@ fn a_session_carries_out_operations() {
     session.reset().expect("a reset");
     assert_eq!(session.get(0x5F20).expect("an answer").status, 0x6985);
     let card = session.end().expect("the card");
-    assert_eq!(card.apps().count(), 1);
+    assert_eq!(card.entries(0).next().expect("one").value, [0x42; 300]);
+}
+
+#[test]
+fn plans_say_how_the_card_answers() {
+    let card = builder().finish().expect("a card");
+    let mut session = Session::start(card).expect("a session");
+    assert_eq!(session.heard(), Ok(Vec::new()));
+    assert_eq!(session.is_idle(), Ok(true));
+    session.select(&AID).expect("an answer");
+    assert_eq!(session.plan("x", 256), Err(Error::Argument));
+    assert_eq!(session.plan("", 257), Err(Error::Argument));
+    session.plan("", 256).expect("a plan");
+    session.plan("nona", 256).expect("a plan");
+    session.get(0x5F20).expect("an answer");
+    let mut wanted: Vec<(End, u8)> = Vec::new();
+    let mut says = |end, bytes: &[u8]| wanted.extend(bytes.iter().map(|byte| (end, *byte)));
+    says(End::Terminal, &[0x00, 0xCA, 0x5F, 0x20, 0x00]);
+    says(End::Card, &[0x6C, 0x06]);
+    says(End::Terminal, &[0x00, 0xCA, 0x5F, 0x20, 0x06]);
+    says(End::Card, &[0x60, 0x35, 0x5F, 0x60, 0xCA, 0x20, 0x03]);
+    says(End::Card, &[0x4A, 0x4F, 0x45, 0x90, 0x00]);
+    assert_eq!(session.heard(), Ok(wanted));
 }

@@ -10,6 +10,7 @@ pub mod HeldExchangeOwned
 pub mod PlanCalls
 pub mod PlanLetters
 pub mod Reading
+pub mod SendCalls
 pub mod SessionCalls
 pub mod TableCalls
 pub mod TagBytes

@@ -22,6 +22,7 @@ mod plan_letters;
 mod plan_queue;
 mod plans;
 mod reader;
+mod send;
 mod session;
 mod session_side;
 mod tables;

@@ -1,0 +1,55 @@
+-- What the call that sends any one command does to a session. A refusal leaves it as it was.
+use Rattle.std.specs.Prelude.{◌≡◌, ◌⊎◌, ℕ, ℤ, List, [], Option, Some}
+use Rattle.std.specs.List.{flat_map}
+use Rattle.apdu_core.specs.declared.command.ApduFault.{ApduFault}
+use Rattle.apdu_core.specs.CommandBytes.{Command, IsCommand, command_bytes}
+use Rattle.t0_core.specs.Plan.{Cursor}
+use Rattle.object_card.specs.OneStep.{Reply}
+use Rattle.object_card.specs.CardMeaning.{Does}
+use Rattle.card_terminal.specs.Agreed.{IsAgreed}
+use Rattle.card_terminal.specs.Gathered.{UnitOf, Gathers, dialogues_of}
+use Rattle.card_terminal.specs.Conversing.{HaveGone}
+use Rattle.card_c.specs.declared.card_side.CardSide.{CardSide}
+use Rattle.card_c.specs.declared.card_side.CardSide.TheVariants.{Building, Standing, Joined}
+use Rattle.card_c.specs.declared.session_side.SessionSide.{SessionSide}
+use Rattle.card_c.specs.Codes.{gt_ok, gt_state, gt_memory, gt_argument, command_code}
+use Rattle.card_c.specs.ExchangeCalls.{AreNone}
+use Rattle.card_c.specs.SessionCalls.{IsAsBefore, silence}
+
+-- data may go to a card of data objects after SELECT and PUT DATA
+abbrev pub MayReceive : ℕ → Type 0
+MayReceive ins = (ins ≡ 0xA4) ⊎ (ins ≡ 0xDA)
+
+-- data may come from it after GET DATA and GET RESPONSE
+abbrev pub MaySend : ℕ → Type 0
+MaySend ins = (ins ≡ 0xCA) ⊎ (ins ≡ 0xC0)
+
+-- The command has its answer, gathered from units that have gone over the line, under the plans,
+-- which are then used up.
+pub record HasBeenSent (c : Command) (old new : SessionSide) : Type 0 where
+  pub reply : Reply
+  pub answer_is : new.answer ≡ Some reply
+  pub plans_are : new.plans.items ≡ []
+  pub units : List UnitOf
+  pub gathered : Gathers c units reply.content reply.status
+  pub left : Cursor
+  pub gone : HaveGone Does old.session.state old.plans.items silence (flat_map dialogues_of units)
+      new.session.state left new.heard
+
+-- one command that is agreed with the card: none where memory is wanting
+abbrev pub SendsAgreed : Command → SessionSide → ℤ → SessionSide → Type 0
+SendsAgreed c old code new =
+    ((code ≡ gt_memory) × IsAsBefore old new) ⊎ ((code ≡ gt_ok) × HasBeenSent c old new)
+
+-- the command that these bytes are
+abbrev pub SendsBytes : List ℕ → CardSide → ℤ → CardSide → Type 0
+SendsBytes bytes (Building applications) code new =
+    (code ≡ gt_state) × (new ≡ Building applications)
+SendsBytes bytes (Standing end plans) code new = (code ≡ gt_state) × (new ≡ Standing end plans)
+SendsBytes bytes (Joined session) code new =
+    ((fault : ApduFault) × AreNone bytes fault × (code ≡ command_code fault)
+    × (new ≡ Joined session))
+    ⊎ ((c : Command) × IsCommand c × (bytes ≡ command_bytes c)
+    × (¬ IsAgreed MayReceive MaySend c) × (code ≡ gt_argument) × (new ≡ Joined session))
+    ⊎ ((c : Command) × (next : SessionSide) × IsCommand c × (bytes ≡ command_bytes c)
+    × IsAgreed MayReceive MaySend c × (new ≡ Joined next) × SendsAgreed c session code next)

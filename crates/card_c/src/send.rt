@@ -1,0 +1,79 @@
+//! Any one command, sent to the card of a session.
+ghost use Rattle.std.specs.Prelude.{◌≡◌, ◌↔◌, IsTrue};
+ghost use Rattle.card_terminal.specs.Agreed.{IsAgreed};
+ghost use Rattle.card_c.specs.CardHandle.{held_by, OnHandle};
+ghost use Rattle.card_c.specs.SendCalls.{MayReceive, MaySend, SendsAgreed, SendsBytes};
+
+use crate::card_held::GtCard;
+use crate::card_side::CardSide;
+use crate::code;
+use crate::session_side::SessionSide;
+use apdu_core::Command;
+use std::alloc::Global;
+use t0_core::{Plans, Recorder};
+
+/// Sends a command, which may begin a chain or go on with one.
+#[unsafe(no_mangle)]
+pub extern "C" fn galliumtoad_session_send(
+    alloc: Global,
+    session: &mut GtCard,
+    command: &[u8],
+) -> i32
+    ensures { OnHandle (SendsBytes command.now) (held_by session.old) result
+        (held_by session.new) }
+{
+    let Some(mut side) = session.take_out(alloc) else {
+        return code::EMPTY;
+    };
+    let answer = send(alloc, &mut side, command);
+    session.put(side);
+    answer
+}
+
+fn send(alloc: Global, side: &mut CardSide, bytes: &[u8]) -> i32
+    ensures { SendsBytes bytes.now side.old result side.new }
+{
+    let CardSide::Joined(joined) = side else {
+        return code::STATE;
+    };
+    match Command::read(bytes) {
+        Ok(command) => {
+            if is_agreed(&command) {
+                transmit(alloc, joined, command)
+            } else {
+                code::ARGUMENT
+            }
+        }
+        Err(fault) => code::of_command(fault),
+    }
+}
+
+/// Whether the command is agreed with a card of data objects: GET DATA and GET RESPONSE ask for
+/// data and send none, and SELECT and PUT DATA are no commands that only ask.
+fn is_agreed(command: &Command) -> bool
+    ensures { IsTrue result ↔ IsAgreed MayReceive MaySend command.now }
+{
+    let only_asks = command.data().is_empty() && command.le().is_some();
+    match command.header().ins {
+        0xA4 | 0xDA => !only_asks,
+        0xCA | 0xC0 => only_asks,
+        _ => true,
+    }
+}
+
+fn transmit(alloc: Global, joined: &mut SessionSide, command: Command) -> i32
+    requires { IsAgreed MayReceive MaySend command }
+    ensures { SendsAgreed command.entry joined.old result joined.new }
+{
+    let mut heard = Recorder::new(alloc);
+    let sent = joined.session.send(alloc, command, &mut Plans::over(&joined.plans), &mut heard);
+    match sent {
+        Ok(answer) => {
+            joined.plans = Vec::new(alloc);
+            joined.answer = Some(answer);
+            joined.heard = heard;
+            code::OK
+        }
+        Err(_) => code::MEMORY,
+    }
+}

@@ -61,7 +61,7 @@ static void check_table(const gt_card *card, const uint8_t *value, size_t n) {
     CHECK(gt_card_entry_at(card, 1, 0, &tag, &locked, found, sizeof found, &len), GT_NOT_FOUND);
     /* too little room: the length, and the buffer as it was */
     memset(found, 0xEE, sizeof found);
-    CHECK(gt_card_entry_at(card, 0, 0, &tag, &locked, found, 1, &len), GT_BUFFER);
+    CHECK(gt_card_entry_at(card, 0, 0, &tag, &locked, found, n - 1, &len), GT_BUFFER);
     CHECK(len, n);
     CHECK(found[0], 0xEE);
     CHECK(gt_card_entry_at(card, 0, 0, &tag, &locked, NULL, 0, &len), GT_BUFFER);

@@ -1,4 +1,4 @@
-/* A heap that counts, and refuses one request: it stands in the place of heap.c. */
+/* A heap that counts, and refuses one request: it stands in the place of src/heap.c. */
 #ifndef COUNTING_HEAP_H
 #define COUNTING_HEAP_H
 

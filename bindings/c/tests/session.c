@@ -119,8 +119,8 @@ static void entries_of_a_card(gt_card *c) {
 }
 
 int main(void) {
-    gt_session s = { 0 };
-    gt_card c = { 0 };
+    gt_session s = GT_INIT;
+    gt_card c = GT_INIT;
     uint8_t data[32];
     uint16_t status = 0;
     size_t len = 99;

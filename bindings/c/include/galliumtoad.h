@@ -448,8 +448,10 @@ static inline int32_t gt_session_put(gt_session *s, uint32_t tag, const uint8_t 
 }
 
 /* Sends any one command; it may begin a chain or go on with one. As `gt_session_select`, but never
- * GT_BUSY; GT_TOO_SHORT, GT_BAD_LENGTH, GT_INVALID_INS: the bytes are no command. GT_TOO_LONG,
- * GT_STALLED: the card has kept to no exchange, and was reset. */
+ * GT_BUSY; GT_TOO_SHORT, GT_BAD_LENGTH, GT_INVALID_INS: the bytes are no command. GT_ARGUMENT: the
+ * card can't know from its header which way data move. That is a SELECT or a PUT DATA (INS A4, DA)
+ * without data and with Le, and a GET DATA or a GET RESPONSE (CA, C0) of any other form than that.
+ * GT_STATE: `s` holds no session. After each of these nothing was sent. */
 static inline int32_t gt_session_send(gt_session *s, const uint8_t *command, size_t n,
                                       uint16_t *status, uint8_t *data, size_t room, size_t *len) {
     uint8_t none = 0;

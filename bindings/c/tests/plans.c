@@ -72,8 +72,41 @@ static void session(void) {
     gt_session_free(&s);
 }
 
+/* A chain that a command begins is over with the next one. */
+static void chain(void) {
+    gt_session s = GT_INIT;
+    gt_card c = GT_INIT;
+    const uint8_t begins[] = { 0x10, 0xDA, 0x5F, 0x20, 0x01, 0xAA };
+    const uint8_t reads[] = { 0x00, 0xCA, 0x5F, 0x20, 0x00 };
+    const uint8_t asks[] = { 0x00, 0xDA, 0x5F, 0x20, 0x00 };
+    const uint8_t no_ins[] = { 0x00, 0x60, 0x00, 0x00 };
+    uint8_t data[16];
+    uint16_t status = 0;
+    size_t len = 0;
+    build(&c);
+    CHECK(gt_session_send(&s, reads, 5, &status, data, sizeof data, &len), GT_EMPTY);
+    CHECK(gt_session_start(&s, &c), GT_OK);
+    CHECK(gt_session_select(&s, AID, sizeof AID, &status, data, sizeof data, &len), GT_OK);
+    CHECK(gt_session_send(&s, reads, 3, &status, data, sizeof data, &len), GT_TOO_SHORT);
+    CHECK(gt_session_send(&s, begins, 5, &status, data, sizeof data, &len), GT_ARGUMENT);
+    CHECK(gt_session_send(&s, asks, 5, &status, data, sizeof data, &len), GT_ARGUMENT);
+    CHECK(gt_session_send(&s, reads, 4, &status, data, sizeof data, &len), GT_ARGUMENT);
+    CHECK(gt_session_send(&s, no_ins, 4, &status, data, sizeof data, &len), GT_INVALID_INS);
+    CHECK(gt_session_send(&s, begins, 6, &status, data, sizeof data, &len), GT_OK);
+    CHECK(status, 0x9000);
+    CHECK(gt_session_idle(&s), 0);
+    CHECK(gt_session_get(&s, 0x5F20, &status, data, sizeof data, &len), GT_BUSY);
+    CHECK(gt_session_send(&s, reads, 5, &status, data, sizeof data, &len), GT_OK);
+    CHECK(status, 0x6883);
+    CHECK(gt_session_idle(&s), 1);
+    CHECK(gt_session_get(&s, 0x5F20, &status, data, sizeof data, &len), GT_OK);
+    CHECK_BYTES(data, "\x5F\x20\x03JOE", 6);
+    gt_session_free(&s);
+}
+
 int main(void) {
     card();
     session();
+    chain();
     return check_result("plans");
 }

@@ -90,6 +90,7 @@ declared! {
     fn galliumtoad_session_select(s: *mut Handle, aid: *const u8, n: usize);
     fn galliumtoad_session_get(s: *mut Handle, tag: u32);
     fn galliumtoad_session_put(s: *mut Handle, tag: u32, value: *const u8, n: usize);
+    fn galliumtoad_session_send(s: *mut Handle, command: *const u8, n: usize);
     fn galliumtoad_session_answer(
         s: *const Handle, status: *mut u16, data: *mut u8, room: usize, len: *mut usize
     );

@@ -86,6 +86,21 @@ impl Session {
         Ok(self.answer()?.status)
     }
 
+    /// Sends any one command; it may begin a chain or go on with one.
+    ///
+    /// # Errors
+    ///
+    /// [`Error::TooShort`], [`Error::BadLength`], [`Error::InvalidIns`]: the bytes are no command.
+    /// [`Error::Argument`]: over T=0 both ends have to know which way data move, and the card takes
+    /// the command the other way. [`Error::Memory`]. Nothing is sent then.
+    pub fn send(&mut self, command: &[u8]) -> Result<Answer, Error> {
+        // SAFETY: as above.
+        told(unsafe {
+            raw::galliumtoad_session_send(&mut self.0, command.as_ptr(), command.len())
+        })?;
+        self.answer()
+    }
+
     /// The last answer again. [`Error::NotFound`]: there is none yet.
     pub fn answer(&self) -> Result<Answer, Error> {
         let (mut status, mut n) = (0, 0);

@@ -171,3 +171,20 @@ fn plans_say_how_the_card_answers() {
     says(End::Card, &[0x4A, 0x4F, 0x45, 0x90, 0x00]);
     assert_eq!(session.heard(), Ok(wanted));
 }
+
+#[test]
+fn a_chain_keeps_a_session_busy() {
+    let card = builder().finish().expect("a card");
+    let mut session = Session::start(card).expect("a session");
+    session.select(&AID).expect("an answer");
+    let first = session.send(&[0x10, 0xDA, 0x5F, 0x20, 0x01, 0xAA]);
+    assert_eq!(first.expect("an answer").status, 0x9000);
+    assert_eq!(session.is_idle(), Ok(false));
+    assert_eq!(session.get(0x5F20), Err(Error::Busy));
+    let other = session.send(&[0x00, 0xCA, 0x5F, 0x20, 0x00]);
+    assert_eq!(other.expect("an answer").status, 0x6883);
+    assert_eq!(session.is_idle(), Ok(true));
+    let with_data = session.send(&[0x00, 0xCA, 0x5F, 0x20, 0x01, 0xAA]);
+    assert_eq!(with_data, Err(Error::Argument));
+    assert_eq!(session.send(&[0x00, 0xCA]), Err(Error::TooShort));
+}

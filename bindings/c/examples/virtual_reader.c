@@ -9,7 +9,8 @@
 
 #include <string.h>
 
-/* An answer to reset of a card with T=0, and nothing else: TS, T0 (ISO/IEC 7816-3, 8.2). */
+/* An answer to reset of a card with T=0, and nothing else: the initial and the format character
+ * (ISO/IEC 7816-3, 8.2). */
 static const UCHAR ANSWER_TO_RESET[] = { 0x3B, 0x00 };
 
 /* what a SCARD_IO_HEADER says of T=0 */

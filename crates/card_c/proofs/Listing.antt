@@ -1,10 +1,10 @@
 -- Objects that are put into an array one after another.
-use Rattle.std.proofs.Common.{◌≡◌, ℕ, zero, suc, ◌+◌, ◌<◌, ◌≤◌, List, [], ◌∷◌, ◌++◌, length, ◌-◌, map, slice_set, refl, sym, subst, ap, ◌∙◌, arith, append_assoc, append-nil, length-append, true, false}
+use Rattle.std.proofs.Common.{◌≡◌, ℕ, zero, suc, ◌+◌, ◌<◌, ◌≤◌, List, [], ◌∷◌, ◌++◌, length, ◌-◌, map, slice_set, refl, sym, subst, ap, ◌∙◌, arith, append_assoc, length-append, true, false}
 use Rattle.card_c.specs.declared.reader.ObjectRecord.{ObjectRecord}
 use Rattle.tlv_core.specs.TagForm.{IsTag, is_constructed}
 use Rattle.tlv_core.specs.Spelling.{Begins}
 use Rattle.tlv_core.specs.Object.{ObjectList}
-use Rattle.tlv_core.specs.Listing.{Placed, Lists, no_object, primitive, template, placed}
+use Rattle.tlv_core.specs.Listing.{Placed, Lists, primitive, template, placed}
 use Rattle.card_c.specs.Reading.{with_front, with_from, recorded}
 
 pub with_none : (room : List ObjectRecord) (at : ℕ) → with_from room at [] ≡ room

@@ -1,5 +1,5 @@
 -- A run of one operation has one answer.
-use Rattle.std.proofs.Common.{◌≡◌, ℕ, List, [], ◌∷◌, ◌++◌, length, Option, Some, None, Result, Ok, Err, Bool, true, false, refl, ap, ◌∙◌, subst, sym, ℤ, ◌<◌, w32, T, to_z, of_z}
+use Rattle.std.proofs.Common.{◌≡◌, List, [], ◌∷◌, ◌++◌, length, Option, Some, None, Result, Ok, Err, false, refl, ap, ◌∙◌, subst, sym, ℤ, ◌<◌, w32, T, to_z, of_z}
 use Rattle.std.specs.Prelude.{MatchOption, MatchResult, is_err}
 use Rattle.std.specs.Int.Signed.{mag}
 use Rattle.std.proofs.Math.Facts.{sfits_lit}

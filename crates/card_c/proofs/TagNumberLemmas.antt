@@ -1,5 +1,5 @@
 -- The number of a tag and its P1-P2 are one and the same.
-use Rattle.std.proofs.Common.{◌≡◌, ℕ, ◌+◌, ◌*◌, ◌/◌, ◌%◌, ◌<◌, ◌≤◌, List, [], ◌∷◌, Option, Some, None, true, false, arith, subst, sym}
+use Rattle.std.proofs.Common.{◌≡◌, ℕ, ◌/◌, ◌%◌, ◌<◌, List, [], ◌∷◌, Option, Some, None, true, false, arith, subst}
 use Rattle.std.specs.Prelude.{IsSome, IfSome, MatchOption, ◌↔◌}
 use Rattle.tlv_core.specs.Address.{NamesTag}
 use Rattle.card_c.specs.TagNumbers.{IsNumbered}

@@ -1,18 +1,15 @@
 -- What the calls on a card's handle do to what it holds. A refusal leaves it as it was.
-use Rattle.std.specs.Prelude.{◌≡◌, ◌⊎◌, ℕ, ℤ, ◌+◌, ◌*◌, List, [], ◌∷◌, ◌++◌, map, Bool, true, false, Option, Some, None, if◌then◌else◌, slice_get, length, MatchOption}
-use Rattle.tlv_core.specs.Address.{NamesTag}
+use Rattle.std.specs.Prelude.{◌≡◌, ◌⊎◌, ℕ, ℤ, List, [], ◌∷◌, ◌++◌, Bool, true, false, Option, Some, None, if◌then◌else◌}
 use Rattle.t0_core.specs.Character.{Character}
 use Rattle.t0_core.specs.declared.end.End.TheVariants.{Terminal, Card}
-use Rattle.t0_core.specs.declared.plan.Step.{Step}
-use Rattle.t0_core.specs.declared.plan.Step.TheVariants.{Null, One, All}
 use Rattle.t0_core.specs.declared.line_fault.LineFault.TheVariants.{NotListening}
 use Rattle.t0_core.specs.History.{Event, Passed, Reset}
 use Rattle.t0_core.specs.CardHistory.{Leads, LeadsUnder, IsTakenLast}
 use Rattle.t0_core.specs.CardSide.{EndOf, Taking_header, listens, takes_plan, with_character}
-use Rattle.t0_core.specs.Plan.{Course, Cursor, IsCut, advanced, plan_kept}
+use Rattle.t0_core.specs.Plan.{Course, Cursor, advanced, plan_kept}
 use Rattle.object_card.specs.declared.builder_fault.BuilderFault.{BuilderFault}
-use Rattle.object_card.specs.Tables.{Application, Entry, IsAid}
-use Rattle.object_card.specs.State.{CardState, after_reset, entry_at}
+use Rattle.object_card.specs.Tables.{IsAid}
+use Rattle.object_card.specs.State.{CardState, after_reset}
 use Rattle.object_card.specs.CardMeaning.{Does}
 use Rattle.object_card.specs.CardView.{CardView}
 use Rattle.object_card.specs.Builder.{TakesApplication, RefusesApplication, TakesObject, RefusesObject, with_application, with_last_entry, new_card}

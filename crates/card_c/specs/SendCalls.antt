@@ -1,5 +1,5 @@
 -- What the call that sends any one command does to a session. A refusal leaves it as it was.
-use Rattle.std.specs.Prelude.{◌≡◌, ◌⊎◌, ℕ, ℤ, List, [], Option, Some}
+use Rattle.std.specs.Prelude.{◌≡◌, ◌⊎◌, ℕ, ℤ, List, [], Some}
 use Rattle.std.specs.List.{flat_map}
 use Rattle.apdu_core.specs.declared.command.ApduFault.{ApduFault}
 use Rattle.apdu_core.specs.CommandBytes.{Command, IsCommand, command_bytes}

@@ -1,12 +1,11 @@
 -- What the calls on a session's handle do to what it holds. A refusal leaves it as it was.
-use Rattle.std.specs.Prelude.{◌≡◌, ◌≢◌, ◌⊎◌, ℕ, ℤ, ◌+◌, ◌*◌, List, [], ◌∷◌, length, Bool, true, false, Option, Some, None, pos, if◌then◌else◌}
-use Rattle.apdu_core.specs.StatusWord.{StatusWord}
+use Rattle.std.specs.Prelude.{◌≡◌, ◌⊎◌, ℕ, ℤ, ◌+◌, ◌*◌, List, [], ◌∷◌, length, Bool, true, false, Option, Some, None, pos, if◌then◌else◌}
 use Rattle.t0_core.specs.Character.{Character}
 use Rattle.t0_core.specs.Plan.{Course}
 use Rattle.t0_core.specs.Watch.{Hearing, Hears}
 use Rattle.t0_core.specs.CardSide.{EndOf, Taking_header}
 use Rattle.object_card.specs.Tables.{IsAid}
-use Rattle.object_card.specs.State.{CardState, after_reset, is_idle}
+use Rattle.object_card.specs.State.{after_reset, is_idle}
 use Rattle.object_card.specs.OneStep.{Operation, Select, Get, Put, Reply, AnswersAll}
 use Rattle.object_card.specs.CardMeaning.{Does}
 use Rattle.object_card.specs.CardView.{CardView}

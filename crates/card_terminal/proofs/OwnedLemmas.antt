@@ -1,7 +1,6 @@
 -- An exchange that is put aside and made again.
 use Rattle.std.proofs.Common.{◌≡◌, ℕ, List, refl, sym, subst, ap, ◌∙◌, Some, None}
 use Rattle.apdu_core.specs.StatusWord.{StatusWord}
-use Rattle.t0_core.specs.declared.host_end.HostTurn.{HostTurn}
 use Rattle.t0_core.specs.declared.host_end.HostTurn.TheVariants.{Done}
 use Rattle.t0_core.specs.Room.{Room}
 use Rattle.t0_core.specs.HostMark.{HasOnly}

@@ -33,7 +33,7 @@ use Rattle.card_trace.specs.declared.script.refusal.Refusal.TheVariants.{Line, O
 use Rattle.card_trace.specs.ScriptReasons.{fault_at, OnReason}
 use Rattle.card_trace.specs.ScriptFaults.{SaysNothing}
 use Rattle.card_trace.specs.LineFaults.{LinesStop, IsFaultOfLine, IsWritingFault}
-use Rattle.card_trace.proofs.ScriptLineLemmas.{on_ok, done_both, done_one}
+use Rattle.card_trace.proofs.ScriptLineLemmas.{done_both, done_one}
 use Rattle.card_trace.proofs.ScriptFaultLemmas.{next_behind, cut_behind, few_lines}
 use Rattle.card_trace.specs.declared.script.reading.TheConstants.{SCRIPT_LIMIT}
 use Rattle.card_trace.specs.ScriptTable.{Addition, MayStandIn}

@@ -1,5 +1,5 @@
 -- Worked command lines, and near misses that are refused.
-use Rattle.std.proofs.Common.{◌≡◌, [], ◌∷◌, refl, Some, inl}
+use Rattle.std.proofs.Common.{◌≡◌, [], ◌∷◌, refl, Some}
 use Rattle.std.specs.Prelude.{codes}
 use Rattle.clap.proofs.OnLiterals.{clap_on_literals}
 use Rattle.clap.specs.Simple.{subcommand_of}

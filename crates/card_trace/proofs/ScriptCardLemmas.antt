@@ -1,5 +1,5 @@
 -- What a line of `card` says, where its word is known.
-use Rattle.std.proofs.Common.{◌≡◌, ◌≢◌, ℕ, List, [], ◌∷◌, Option, true, false, refl, sym, ap, subst, ◌∙◌, true≢false}
+use Rattle.std.proofs.Common.{◌≡◌, ◌≢◌, ℕ, List, [], ◌∷◌, Option, true, false, refl, sym, true≢false}
 use Rattle.t0_core.specs.Plan.{Course}
 use Rattle.card_trace.specs.declared.script.keyword.TableWord.{TableWord}
 use Rattle.card_trace.specs.declared.script.keyword.Keyword.{Keyword}

@@ -1,5 +1,5 @@
 -- Lines of a script that are carried out one after another.
-use Rattle.std.proofs.Common.{◌≡◌, ℕ, List, [], ◌∷◌, ◌++◌, refl, sym, ap, subst, ◌∙◌, append-nil, append_assoc, Result, Ok, Err, OnOk}
+use Rattle.std.proofs.Common.{ℕ, List, [], ◌∷◌, ◌++◌, refl, sym, ap, subst, ◌∙◌, append-nil, append_assoc, Result, Ok, Err, OnOk}
 use Rattle.card_trace.specs.ScriptLines.{AreDone}
 
 -- what holds where it is Ok, by what is known there

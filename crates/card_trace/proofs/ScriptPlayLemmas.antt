@@ -1,5 +1,5 @@
 -- What a line of `play` says, where its word is known.
-use Rattle.std.proofs.Common.{◌≡◌, ◌≢◌, ℕ, ◌≤◌, List, [], ◌∷◌, length, true, false, refl, sym, ap, subst, ◌∙◌, true≢false}
+use Rattle.std.proofs.Common.{◌≡◌, ◌≢◌, ℕ, ◌≤◌, List, [], ◌∷◌, length, true, false, refl, sym, true≢false}
 use Rattle.t0_core.specs.Plan.{Course}
 use Rattle.object_card.specs.OneStep.{Operation, Select, Get, Put}
 use Rattle.card_terminal.specs.declared.operation.TheConstants.{PUT_LIMIT}

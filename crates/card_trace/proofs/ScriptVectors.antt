@@ -1,5 +1,5 @@
 -- Worked lines of scripts, with what they say, and near misses that say nothing.
-use Rattle.std.proofs.Common.{◌≡◌, ℕ, List, [], ◌∷◌, ◌++◌, refl, sym, ap, suc, subst, inl, inr, arith, map, None, Some, Ok, Err, Result, length, true≢false}
+use Rattle.std.proofs.Common.{◌≡◌, ℕ, List, [], ◌∷◌, refl, sym, ap, suc, subst, inl, inr, arith, map, None, Some, Ok, Err, Result, length, true≢false}
 use Rattle.std.specs.Prelude.{codes}
 use Rattle.hex.specs.Hex.{decode_pairs}
 use Rattle.hex.specs.declared.error.FromHexError.{FromHexError}
@@ -10,7 +10,7 @@ use Rattle.t0_core.specs.declared.plan.Step.TheVariants.{Null, One, All}
 use Rattle.object_card.specs.OneStep.{Select, Get, Put}
 use Rattle.card_trace.specs.declared.script.section.Section.TheVariants as section
 use Rattle.card_trace.specs.ScriptWords.{words_of}
-use Rattle.card_trace.specs.ScriptFields.{IsHexText, IsAidText, IsTagText, IsNumberText, IsRepeatedText, IsValueText, no_bytes, plain as as_hex, repeated, IsPlanText, letter_of}
+use Rattle.card_trace.specs.ScriptFields.{IsHexText, IsAidText, IsTagText, IsNumberText, IsValueText, no_bytes, repeated, IsPlanText, letter_of}
 use Rattle.card_trace.specs.ScriptTable.{App, Object, Locked}
 use Rattle.card_trace.specs.ScriptPlay as play
 use Rattle.card_trace.specs.ScriptPlay.{IsPlayLine, PlayMeaning}

@@ -1,5 +1,5 @@
 -- What the lines of a script of `card` say.
-use Rattle.std.specs.Prelude.{◌≡◌, ℕ, List, [], ◌∷◌, Option, Some, None, Bool, true, false}
+use Rattle.std.specs.Prelude.{◌≡◌, ℕ, List, [], Option, Some, None, Bool, true, false}
 use Rattle.t0_core.specs.Plan.{Course}
 use Rattle.card_trace.specs.declared.script.keyword.Keyword.{Keyword}
 use Rattle.card_trace.specs.declared.script.keyword.Keyword.TheVariants as keyword

@@ -1,5 +1,5 @@
 -- What the lines of a script of `play` say.
-use Rattle.std.specs.Prelude.{◌≡◌, ℕ, ◌≤◌, List, [], ◌∷◌, length, Bool, true, false}
+use Rattle.std.specs.Prelude.{◌≡◌, ℕ, ◌≤◌, List, [], length, Bool, true, false}
 use Rattle.t0_core.specs.Plan.{Course}
 use Rattle.object_card.specs.OneStep.{Operation, Select, Get, Put}
 use Rattle.card_terminal.specs.declared.operation.TheConstants.{PUT_LIMIT}

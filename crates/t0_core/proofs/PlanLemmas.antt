@@ -6,7 +6,6 @@ use Rattle.t0_core.specs.declared.plan.Step.TheVariants.{Null, One, All}
 use Rattle.t0_core.specs.Dialogue.{moves, all_moves}
 use Rattle.t0_core.specs.Plan.{segments_of}
 use Rattle.t0_core.specs.CardSide.{Starts, IsFrugal, AreOnPlan}
-use Rattle.t0_core.specs.FrontLaws.{moves-within}
 
 -- a step is carried out where data are left, and a NULL always
 pub carried_out : (s : Step) (rest : List Step) (left : ℕ) → Starts s left

@@ -1,11 +1,11 @@
 -- The front at which a card's end stands is that of a dialogue that follows the plan it is on.
-use Rattle.std.proofs.Common.{◌≡◌, ℕ, zero, suc, ◌+◌, ◌-◌, ◌<◌, List, [], ◌∷◌, ◌++◌, length, drop, refl, sym, subst, ◌∙◌, ap, arith, inl, inr, lit<, lit≤, true, false, append_assoc, append-nil}
+use Rattle.std.proofs.Common.{◌≡◌, ℕ, ◌-◌, ◌<◌, List, [], ◌∷◌, ◌++◌, length, drop, refl, sym, subst, ◌∙◌, ap, arith, inl, inr, lit<, lit≤, true, false, append_assoc, append-nil}
 use Rattle.std.specs.List.{AllByRecursion}
 use Rattle.apdu_core.specs.declared.header.Header.{Header}
 use Rattle.apdu_core.specs.HeaderBytes.{ins_is_valid}
 use Rattle.t0_core.specs.declared.end.End.TheVariants.{Card}
 use Rattle.t0_core.specs.declared.plan.Step.{Step}
-use Rattle.t0_core.specs.declared.plan.Step.TheVariants.{Null, All}
+use Rattle.t0_core.specs.declared.plan.Step.TheVariants.{Null}
 use Rattle.t0_core.specs.declared.direction.Direction.{Direction}
 use Rattle.t0_core.specs.declared.direction.Direction.TheVariants.{FromCard}
 use Rattle.t0_core.specs.declared.service.Service.{Service}
@@ -15,7 +15,7 @@ use Rattle.t0_core.specs.Plan.{Course, IsCut, Follows, plain, segments_of}
 use Rattle.t0_core.specs.History.{IsPart, IsPartUnder}
 use Rattle.t0_core.specs.CardHistory.{IsAt}
 use Rattle.t0_core.specs.Meaning.{Tpdu, Prepared}
-use Rattle.t0_core.specs.Front.{Front, fresh, In_header, In_body, After_first, front_characters, GoesOn, IsBetween, IsBegun, IsFront, with_segment, header_only}
+use Rattle.t0_core.specs.Front.{Front, fresh, In_header, In_body, After_first, front_characters, IsBetween, IsBegun, IsFront, with_segment, header_only}
 use Rattle.t0_core.specs.CardSide.{Stage, Taking_header, Refusing, Serving, Ending, StandsAt, IsOnPlan, IsServed, whole_of}
 use Rattle.t0_core.specs.FrontLaws.{goes_on}
 use Rattle.t0_core.specs.DialogueLaws.{ends_with}

@@ -8,7 +8,7 @@ use Rattle.apdu_core.specs.StatusWord.{StatusWord, is_first_status}
 use Rattle.t0_core.specs.declared.line_fault.LineFault.TheVariants.{AfterEnd, BadProcedure, TooLong}
 use Rattle.t0_core.specs.declared.host_end.HostStage.{HostStage}
 use Rattle.t0_core.specs.declared.host_end.HostStage.TheVariants.{SendingHeader, Awaiting, Moving, AwaitingSecond, Ended, Broken}
-use Rattle.t0_core.specs.declared.host_end.HostTurn.TheVariants.{Sends, Done, Failed}
+use Rattle.t0_core.specs.declared.host_end.HostTurn.TheVariants.{Done, Failed}
 use Rattle.t0_core.specs.declared.direction.Direction.{Direction}
 use Rattle.t0_core.specs.declared.direction.Direction.TheVariants.{ToCard, FromCard}
 use Rattle.t0_core.specs.declared.plan.Step.{Step}
@@ -16,7 +16,7 @@ use Rattle.t0_core.specs.declared.end.End.TheVariants.{Card}
 use Rattle.t0_core.specs.Dialogue.{Body}
 use Rattle.t0_core.specs.Front.{Front, In_header, In_body, After_first, GoesOn, brought, from_card}
 use Rattle.t0_core.specs.Room.{Room}
-use Rattle.t0_core.specs.HostSide.{Hosting, at_stage, IsOpenedBy, HostStandsAt, turn_of, after_turn, data_turn, after_data_turn, fault_of, data_fault, procedure_fault, step_of}
+use Rattle.t0_core.specs.HostSide.{Hosting, at_stage, IsOpenedBy, HostStandsAt, turn_of, data_turn, fault_of, data_fault, procedure_fault, step_of}
 
 -- the front is one of a dialogue that this end opened
 abbrev pub IsOpenedFront : Hosting → Front → Type 0

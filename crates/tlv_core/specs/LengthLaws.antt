@@ -1,5 +1,5 @@
 -- Lengths at the front of bytes: a spelling, a part of one, or neither.
-use Rattle.std.proofs.Common.{◌≡◌, ℕ, ◌+◌, ◌-◌, List, [], ◌∷◌, ◌++◌, length, sym, ap, arith, append_assoc, length-append, append-nil, ◌∙◌}
+use Rattle.std.proofs.Common.{◌≡◌, ℕ, List, [], ◌∷◌, ◌++◌, length, sym, ap, arith, append_assoc, length-append, append-nil, ◌∙◌}
 use Rattle.std.proofs.lemmas.List.{nil_from_length, append_cancel_left}
 use Rattle.tlv_core.specs.Length.{SpellsLength, StartsWithLength, EndsInsideLength}
 

@@ -1,4 +1,4 @@
-use Rattle.std.proofs.Common.{sym, arith}
+use Rattle.std.proofs.Common.{arith}
 use Rattle.card_c.proofs.Listing.{set_there, none_there}
 use Rattle.card_c.proofs.objects.put.Goals as goal
 

@@ -1,4 +1,4 @@
-use Rattle.std.proofs.Common.{◌≡◌, ◌<◌, ℕ, length, List, [], ◌∷◌, Some, true, refl, sym, ap, ◌∙◌, subst, inr}
+use Rattle.std.proofs.Common.{◌≡◌, ◌<◌, length, List, refl, sym, ap, ◌∙◌, subst, inr}
 use Rattle.t0_core.specs.Character.{Character}
 use Rattle.t0_core.specs.Plan.{Course, Cursor}
 use Rattle.t0_core.specs.Watch.{Hearing, Hears}

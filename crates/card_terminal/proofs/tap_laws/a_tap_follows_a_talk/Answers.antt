@@ -2,7 +2,7 @@ use Rattle.std.proofs.Common.{◌≡◌, List, sym, subst, ◌∙◌}
 use Rattle.std.specs.List.{AllByRecursion, flat_map}
 use Rattle.t0_core.specs.declared.heard.Heard.{Heard}
 use Rattle.t0_core.specs.Character.{Character}
-use Rattle.t0_core.specs.Dialogue.{Dialogue, characters}
+use Rattle.t0_core.specs.Dialogue.{characters}
 use Rattle.t0_core.specs.History.{IsByteEvent, passed}
 use Rattle.t0_core.specs.TapLine.{AreTold, HearsInTurn}
 use Rattle.t0_core.specs.TapSide.{afresh}

@@ -1,7 +1,6 @@
-use Rattle.std.proofs.Common.{◌≡◌, Some, refl, sym, ap, ◌∙◌, subst, slice_get, List, ℕ}
+use Rattle.std.proofs.Common.{◌≡◌, Some, sym, ap, ◌∙◌, subst, slice_get, List, ℕ}
 use Rattle.std.specs.Option.{option_map}
 use Rattle.std.proofs.lemmas.Option.{slice_get-map}
-use Rattle.object_card.specs.Tables.{Entry}
 use Rattle.object_card.specs.CardFields.{ApplicationView}
 use Rattle.object_card.proofs.application.Application.at.Goals as goal
 

@@ -1,5 +1,4 @@
-use Rattle.std.proofs.Common.{◌≡◌, ℕ, List, refl, sym, subst, ap, ◌∙◌, Some}
-use Rattle.apdu_core.specs.StatusWord.{StatusWord}
+use Rattle.std.proofs.Common.{◌≡◌, ℕ, List, refl, sym, subst, ap, ◌∙◌}
 use Rattle.t0_core.specs.declared.host_end.HostTurn.TheVariants.{Done}
 use Rattle.t0_core.specs.HostSide.{Hosting, turn_of}
 use Rattle.t0_core.specs.HostMark.{with_data}

@@ -1,4 +1,4 @@
-use Rattle.std.proofs.Common.{sym, subst, ℕ}
+use Rattle.std.proofs.Common.{sym, subst}
 use Rattle.card_terminal.specs.ExchangeSide.{ExchangeOf}
 use Rattle.card_terminal.specs.ExchangeSteps.{IsTaking}
 use Rattle.card_terminal.specs.OwnedExchange.{IsSound}

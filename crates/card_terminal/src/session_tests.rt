@@ -1,7 +1,7 @@
 //! Sessions with cards of the tests.
 
 use crate::test_card::{Manner, TestCard};
-use crate::trace::{bytes, characters, plans, word};
+use crate::trace::{characters, plans, word};
 use crate::{Session, SessionFault};
 use apdu_core::{Command, Header};
 use std::alloc::Global;
@@ -14,14 +14,6 @@ const NAME: Header = Header {
     ins: 0xCA,
     p1: 0x5F,
     p2: 0x20,
-};
-
-/// GET DATA of `50`.
-const LABEL: Header = Header {
-    cla: 0x00,
-    ins: 0xCA,
-    p1: 0x00,
-    p2: 0x50,
 };
 
 /// PUT DATA of `5F20`.

@@ -62,6 +62,8 @@ static void talk(gt_exchange *exchange, gt_card *card)
         } else if (code == GT_OK && (code = gt_card_turn(card, &byte)) == GT_SENDS) {
             print_character(&last, '<', byte);
             code = gt_exchange_take(exchange, byte);
+        } else if (code == GT_OK) {
+            code = GT_FAILED; /* both ends wait */
         }
         if (code != GT_OK)
             stop("the line", code);

@@ -19,14 +19,21 @@
  * What a function gets it copies: nothing is kept of any buffer after a call. No function
  * blocks, prints, aborts or calls back.
  *
- * Every function but the .._free ones answers a code of the list below: 0 or above where it went
- * well, below 0 a fault. After a fault nothing has changed, but for what its comment says. The
- * numbers are fixed.
+ * Every function but gt_text and the .._free ones answers a code of the list below: 0 or above
+ * where it went well, below 0 a fault: compare with < 0, not with != 0. The numbers are fixed. A
+ * function's comment names all faults that it may answer, but for two: GT_NULL (above), and
+ * GT_EMPTY, which each function with a handle answers where that holds nothing, unless its comment
+ * says otherwise. Where more than one holds it is the first of GT_NULL, GT_EMPTY, GT_STATE, and
+ * then of the comment's, in its order; in gt_session_start and gt_session_end, which have two
+ * handles, GT_STATE comes before GT_EMPTY. After a fault nothing has changed, neither the handle
+ * nor what the other pointers point to, but for what the comment says.
  *
- * Targets: 64 bits alone; the archive is built for x86-64-v2. Memory comes by malloc, realloc
- * and free through the toolkit's three functions rattle_alloc, rattle_realloc and
- * rattle_dealloc, or by the caller's own three of these names. Linking also asks for memcpy,
- * memmove and memset or the like.
+ * A code is about the call, a status about the card: GT_OK with status 6982 is a call that went
+ * well, and a value that is not stored. Look at both; the statuses are listed above "A session".
+ *
+ * Targets: 64 bits alone; the archive is built for x86-64-v2. Memory comes by malloc, realloc and
+ * free, or by the caller's own three functions: galliumtoad_heap.h says which. Linking also asks
+ * for memcpy, memmove and memset or the like.
  */
 #ifndef GALLIUMTOAD_H
 #define GALLIUMTOAD_H
@@ -49,7 +56,7 @@ extern "C" {
 /* ---- Codes ----------------------------------------------------------------------------------- */
 
 enum {
-    GT_OK = 0,              /* it went well; of a turn: the end listens */
+    GT_OK = 0,              /* it went well; of a turn (.._next, .._turn): the end listens */
     GT_SENDS = 1,           /* of a turn: a character is handed out */
     GT_DONE = 2,            /* of an exchange's turn: it is over, and has an answer */
 
@@ -58,12 +65,13 @@ enum {
     GT_STATE = -3,          /* not now: the handle's state has no place for the call */
     GT_MEMORY = -4,         /* memory is wanting */
     GT_ARGUMENT = -5,       /* an argument is out of its range */
-    GT_BUFFER = -6,         /* there is too little room for what is to be copied out */
+    GT_BUFFER = -6,         /* there is too little room for what is to be copied out; the buffer is
+                             * as it was, but of gt_objects, which fills it as far as it goes */
     GT_BUSY = -7,           /* a chain is pending at the card */
     GT_NOT_FOUND = -8,      /* what was asked for is not there */
-    GT_FAILED = -9,         /* the exchange has failed for good */
+    GT_FAILED = -9,         /* of an exchange's turn: it has failed for good */
 
-    /* of a card that is built */
+    /* of a card under construction */
     GT_APP_TWICE = -20,     /* the identifier is that of an application before it */
     GT_TOO_MANY_APPS = -21, /* there are as many applications as a card may have */
     GT_NO_APP = -22,        /* there is no application to hold the data object */
@@ -134,14 +142,23 @@ static inline const char *gt_text(int32_t code) {
 
 /* ---- Types ----------------------------------------------------------------------------------- */
 
-/* The most bytes of a value on a card, and of a response at a terminal. */
-enum { GT_VALUE_LIMIT = 8192, GT_RESPONSE_LIMIT = 16384 };
+enum {
+    GT_VALUE_LIMIT = 8192,      /* the most bytes of a value on a card */
+    GT_OBJECT_LIMIT = 8197,     /* of such a value with its tag and length: the data of a get */
+    GT_RESPONSE_LIMIT = 16384,  /* of an answer's data, at a terminal */
+    GT_AID_LEAST = 5,           /* the fewest bytes of an application's identifier */
+    GT_AID_LIMIT = 16,          /* and the most */
+    GT_APPS_LIMIT = 8,          /* the most applications of a card */
+    GT_ENTRIES_LIMIT = 64,      /* the most data objects of an application */
+    GT_LEVELS_LIMIT = 16        /* the deepest level of a list of objects */
+};
 
-/* One object of a list. Tags are numbers: 0x50, 0x5F20, 0x9F8101. Sizes and places are counted in
- * bytes, places from the first byte of the list. */
+/* One object of a list. A tag is the number that its one to three bytes are: 0x50, 0x5F20,
+ * 0x9F8101; "%02X" prints it so. Sizes and places are counted in bytes, places from 0 for the
+ * first byte of the list. */
 typedef struct {
     uint32_t tag;
-    uint8_t level;          /* from 1 to 16 */
+    uint8_t level;          /* from 1 to GT_LEVELS_LIMIT */
     uint8_t constructed;    /* 1 where the value is a list of objects, else 0 */
     size_t place, size;     /* the first byte of its tag; tag, length and value together */
     size_t value, length;   /* the first byte of its value; how many bytes that has */
@@ -155,15 +172,28 @@ typedef struct {
     uint8_t byte;
 } gt_character;
 
-/* Handles: 16 bytes each, which the caller owns; what they hold stands on the heap. */
+/* Handles: 16 bytes each, which the caller owns; what they hold stands on the heap. The most bytes
+ * that are asked of the heap at once, without what the heap itself needs for each block:
+ *
+ *   an exchange   16,496, and the bytes of the command's data: at most 16,751
+ *   a card        9,963 with one application and one object of 3 bytes, and 26,466 with an exchange
+ *                 of SELECT or GET DATA with it; 4,240,592 with all that a card can hold
+ *   a session     26,667 with that small card, for a select, a put of 3 bytes and a get; 116,584
+ *                 for a put and a get of 8,192 bytes
+ *
+ * What a freed handle held is given back, all of it. */
 typedef struct { bool live; void *held; } gt_exchange;
 typedef struct { bool live; void *held; } gt_card;
 typedef struct { bool live; void *held; } gt_session;
 
-/* ---- The archive's functions: those below call them, with no pointer that is NULL ------------ */
+/* ---- The archive's functions -----------------------------------------------------------------
+ *
+ * Do not call these: they do not look for NULL. Those below do, and call them. */
 
 int32_t galliumtoad_objects(const uint8_t *bytes, size_t n, gt_object *objects, size_t room,
                             size_t *count, size_t *place);
+int32_t galliumtoad_find(const uint8_t *bytes, size_t n, const uint32_t *path, size_t steps,
+                         gt_object *object, size_t *place);
 int32_t galliumtoad_head(uint32_t tag, uint16_t length, uint8_t *head, size_t room, size_t *len);
 int32_t galliumtoad_exchange_start(gt_exchange *e, const uint8_t *command, size_t n);
 int32_t galliumtoad_exchange_next(gt_exchange *e, uint8_t *byte);
@@ -205,22 +235,27 @@ int32_t galliumtoad_session_entry_at(const gt_session *s, size_t app, size_t ent
 int32_t galliumtoad_session_end(gt_session *s, gt_card *c);
 void galliumtoad_session_free(gt_session *s);
 
-/* Bytes to read: of none, any that are there. */
+/* For the functions below alone. Bytes to read: of none, any that are there. */
 static inline const uint8_t *gt_bytes_(const uint8_t *bytes) {
     static const uint8_t none[1] = { 0 };
     return bytes ? bytes : none;
 }
 
-/* ---- Data objects (EMV Book 3, Annex B) ------------------------------------------------------ */
-
-/* All objects of all levels of a list, in the order of their first bytes: a template comes
- * before the objects in it. `count` gets how many there are. With room 0 they are checked and
- * counted alone.
+/* ---- Data objects (EMV Book 3, Annex B) ------------------------------------------------------
  *
- * GT_OK: all of them stand in `objects`, or room is 0. GT_BUFFER: there are more than there is
- * room for; the first of them stand in `objects`. GT_TAG_CUT to GT_TOO_DEEP: the first fault of
- * the bytes; `place` gets the place of the innermost object at fault, and nothing else changes.
- * `place` changes with a fault alone. Takes no memory, and some KB of stack for 16 levels. */
+ * `bytes` are a list of objects: each a tag, a length and a value, with padding of 00 before,
+ * between and behind them. The value of a constructed object (a template) is such a list, one
+ * level further in; the list itself is at level 1. These functions take no memory. */
+
+/* All objects of all levels of a list, in the order of their first bytes: a template comes before
+ * the objects in it. `count` gets how many there are. With room 0 they are checked and counted
+ * alone, which is GT_OK, and `objects` may be NULL; `count` and `place` may not.
+ *
+ * GT_OK: all of them stand in `objects`, from its front, or room is 0. GT_BUFFER: there are more
+ * than there is room for; `count` is how many there are, and the first `room` of them stand in
+ * `objects`. GT_TAG_CUT to GT_TOO_DEEP: the bytes are no list of objects; this is their first
+ * fault, and `place` gets the place of the innermost object at fault. `place` changes with a
+ * fault alone. Some KB of stack are taken for 16 levels. */
 static inline int32_t gt_objects(const uint8_t *bytes, size_t n, gt_object *objects, size_t room,
                                  size_t *count, size_t *place) {
     gt_object none;
@@ -228,10 +263,27 @@ static inline int32_t gt_objects(const uint8_t *bytes, size_t n, gt_object *obje
     return galliumtoad_objects(gt_bytes_(bytes), n, objects ? objects : &none, room, count, place);
 }
 
-/* The tag, and the length in its shortest spelling, as an object begins: 2 to 6 bytes. `len`
- * gets how many.
+/* The object at a path: the first one, in the order of the bytes, whose tags from level 1 down to
+ * its own are the `steps` numbers of `path`. With { 0x6F, 0x84 } it is the first 84 in a 6F, with
+ * { 0x84 } the first 84 at level 1. `object` gets its places in `bytes`: its value is the
+ * object->length bytes from bytes + object->value on.
  *
- * GT_ARGUMENT: no tag of one to three bytes has this number; nothing changes. Takes no memory. */
+ * GT_OK: it is there. GT_NOT_FOUND: the bytes are a list of objects, and none is there; so it is
+ * for a path of no steps. GT_ARGUMENT: a step is no tag of one to three bytes, whatever the bytes
+ * are. GT_TAG_CUT to GT_TOO_DEEP: the bytes are no list of objects, wherever the path leads; this
+ * is their first fault, and `place` gets its place as in `gt_objects`. `object` changes with
+ * GT_OK alone, `place` with a fault of the bytes alone; neither may be NULL. */
+static inline int32_t gt_find(const uint8_t *bytes, size_t n, const uint32_t *path, size_t steps,
+                              gt_object *object, size_t *place) {
+    static const uint32_t none[1] = { 0 };
+    if ((!bytes && n) || (!path && steps) || !object || !place) return GT_NULL;
+    return galliumtoad_find(gt_bytes_(bytes), n, path ? path : none, steps, object, place);
+}
+
+/* The tag, and the length in its shortest spelling, as an object begins: 2 to 6 bytes at the
+ * front of `head`. `len` gets how many.
+ *
+ * GT_OK. GT_ARGUMENT: no tag of one to three bytes has this number. */
 static inline int32_t gt_head(uint32_t tag, uint16_t length, uint8_t head[6], size_t *len) {
     if (!head || !len) return GT_NULL;
     return galliumtoad_head(tag, length, head, 6, len);
@@ -239,12 +291,25 @@ static inline int32_t gt_head(uint32_t tag, uint16_t length, uint8_t head[6], si
 
 /* ---- A terminal's exchange of one command (ISO/IEC 7816-3, clause 12) ------------------------ */
 
-/* Begins the exchange of a command (ISO/IEC 7816-4, 5.1, short lengths) in a handle that holds
- * nothing. The command is copied.
+/* Begins the exchange of a command (ISO/IEC 7816-4, 5.1, short lengths: CLA INS P1 P2, then
+ * nothing, or Le, or Lc and data, or Lc, data and Le) in a handle that holds nothing. The command
+ * is copied. All memory of an exchange is taken here.
  *
- * GT_STATE: the handle holds an exchange. GT_TOO_SHORT, GT_BAD_LENGTH, GT_INVALID_INS: the bytes
- * are no command. GT_MEMORY. After each the handle is as it was. All memory of an exchange is taken
- * here, in three blocks: 16,496 bytes and those of the command's data, at most 16,751. */
+ * An exchange may be several TPDUs. Where the card answers 6CXX to one that asks for data, that is
+ * sent again with XX, once, unless XX is more than is still wanted. Where it answers 61XX, and more
+ * is wanted, GET RESPONSE is sent for it. Any other status ends the exchange, and so does 61XX
+ * where no more is wanted. With Le 00 all there is is wanted, with another Le as many bytes at
+ * most, without Le none: a SELECT without Le is over at 61XX, with no data. So end a command with
+ * 00 for a whole answer.
+ *
+ * Over T=0 no header says which way data move: both ends have to know it from INS. With a command
+ * that the card takes the other way (`gt_session_send` names them) the card may be handed
+ * characters while it sends (GT_NOT_LISTENING), or both wait for ever, as with 00 A4 04 00 05:
+ * `gt_exchange_next` and then `gt_card_turn` answer GT_OK. Free the exchange then, and reset the
+ * card.
+ *
+ * GT_OK: it has begun, and sends first. GT_STATE: the handle holds an exchange. GT_TOO_SHORT,
+ * GT_BAD_LENGTH, GT_INVALID_INS: the bytes are no command. GT_MEMORY. Never GT_EMPTY. */
 static inline int32_t gt_exchange_start(gt_exchange *e, const uint8_t *command, size_t n) {
     if (!e || (!command && n)) return GT_NULL;
     return galliumtoad_exchange_start(e, gt_bytes_(command), n);
@@ -252,9 +317,10 @@ static inline int32_t gt_exchange_start(gt_exchange *e, const uint8_t *command, 
 
 /* What the terminal does now.
  *
- * GT_SENDS: `byte` gets a character for the card. GT_OK: it listens. GT_DONE: the exchange is
- * over, and has its answer. GT_FAILED: it has failed for good. GT_EMPTY. `byte` changes with
- * GT_SENDS alone, and nothing but that changes the exchange. */
+ * GT_SENDS: `byte` gets a character for the card, which is to be sent now. GT_OK: it waits for a
+ * character of the card, for `gt_exchange_take`. GT_DONE: the exchange is over, and has its
+ * answer. GT_FAILED: it has failed for good. Only GT_SENDS changes `byte` and the exchange: asked
+ * again it hands out the next character. */
 static inline int32_t gt_exchange_next(gt_exchange *e, uint8_t *byte) {
     if (!e || !byte) return GT_NULL;
     return galliumtoad_exchange_next(e, byte);
@@ -262,19 +328,21 @@ static inline int32_t gt_exchange_next(gt_exchange *e, uint8_t *byte) {
 
 /* Takes a character of the card.
  *
- * GT_BAD_PROCEDURE, GT_TOO_LONG, GT_STALLED: with this character the exchange has failed for
- * good. GT_NOT_LISTENING: it has characters to send. GT_AFTER_END: it is over, or has failed.
- * GT_EMPTY. The last three change nothing. */
+ * GT_OK: it is taken. GT_BAD_PROCEDURE, GT_TOO_LONG, GT_STALLED: with this character the exchange
+ * has failed for good. GT_NOT_LISTENING: it has characters to send. GT_AFTER_END: it is over, or
+ * has failed. The last two change nothing. */
 static inline int32_t gt_exchange_take(gt_exchange *e, uint8_t byte) {
     if (!e) return GT_NULL;
     return galliumtoad_exchange_take(e, byte);
 }
 
-/* The answer of an exchange that is over: `status` gets the status word (0x9000), `len` the
- * number of data bytes, and `data` those. It can be asked for again.
+/* The answer of an exchange that is over: `status` gets the status word (0x9000), `len` the number
+ * of data bytes, 0 to GT_RESPONSE_LIMIT, and `data` those. It can be asked for again, until the
+ * exchange is freed.
  *
- * GT_BUFFER: `room` is less than `len`; `data` is as it was. GT_STATE: there is no answer (yet,
- * or for good); nothing changes. GT_EMPTY. */
+ * GT_OK: all of it. GT_BUFFER: `room` is less than the data; `status` and `len` are the answer's,
+ * and `data` is as it was. GT_STATE: there is no answer, since the exchange is under way or has
+ * failed. */
 static inline int32_t gt_exchange_answer(const gt_exchange *e, uint16_t *status,
                                          uint8_t *data, size_t room, size_t *len) {
     uint8_t none = 0;
@@ -282,69 +350,101 @@ static inline int32_t gt_exchange_answer(const gt_exchange *e, uint16_t *status,
     return galliumtoad_exchange_answer(e, status, data ? data : &none, room, len);
 }
 
-/* Gives the memory back; the handle holds nothing then. Of one that holds nothing, or NULL, it is
- * harmless. */
+/* Gives the memory back, at any time; the handle holds nothing then, and may be used again. Of one
+ * that holds nothing, or NULL, it is harmless. */
 static inline void gt_exchange_free(gt_exchange *e) {
     if (e) galliumtoad_exchange_free(e);
 }
 
-/* ---- A card (ISO/IEC 7816-4; this project's profile) ----------------------------------------- */
+/* ---- A card (ISO/IEC 7816-4; this project's profile) -----------------------------------------
+ *
+ * A card holds up to 8 applications, each with up to 64 data objects of up to 8,192 bytes. From
+ * `gt_card_new` on it is under construction: `gt_card_app`, `gt_card_object` and `gt_card_finish`
+ * are for this time, and each application gets its objects before the next one is added. From
+ * `gt_card_finish` on it is finished, and answers a terminal, character by character
+ * (`gt_card_take`, `gt_card_turn`), to SELECT, GET DATA, PUT DATA and GET RESPONSE: the functions
+ * below that one are for this time, also those that tell what the card holds. `gt_card_free` is
+ * for any time. */
 
-/* A card that is to be built, in a handle that holds nothing. GT_STATE: the handle holds a card.
- * GT_MEMORY. */
+/* Begins a card without applications, in a handle that holds nothing.
+ *
+ * GT_OK. GT_STATE: the handle holds a card. GT_MEMORY. Never GT_EMPTY. */
 static inline int32_t gt_card_new(gt_card *c) {
     if (!c) return GT_NULL;
     return galliumtoad_card_new(c);
 }
 
-/* One more application, with an identifier of 5 to 16 bytes. GT_ARGUMENT: other lengths.
- * GT_APP_TWICE, GT_TOO_MANY_APPS, GT_MEMORY, GT_EMPTY. GT_STATE: after `gt_card_finish`. */
+/* Adds an application, with an identifier of 5 to 16 bytes and no data objects, to a card under
+ * construction.
+ *
+ * GT_OK. GT_STATE: the card is finished. GT_ARGUMENT: the identifier has another length.
+ * GT_APP_TWICE: it is that of an application before. GT_TOO_MANY_APPS: there are 8. GT_MEMORY. */
 static inline int32_t gt_card_app(gt_card *c, const uint8_t *aid, size_t n) {
     if (!c || (!aid && n)) return GT_NULL;
     return galliumtoad_card_app(c, gt_bytes_(aid), n);
 }
 
-/* One more data object of the last application, or a new value of one that it has; `locked`
- * other than 0: no command changes it. GT_ARGUMENT: GET DATA can't name the tag. GT_NO_APP,
- * GT_VALUE_TOO_LONG, GT_NOT_OBJECTS, GT_TABLE_FULL, GT_MEMORY, GT_EMPTY. GT_STATE: after
- * `gt_card_finish`. */
+/* Adds a data object to the last application of a card under construction. One that is there under
+ * the tag gets the new value in its place. With `locked` other than 0 no command changes it; the
+ * last call for a tag counts.
+ *
+ * GT_OK. GT_STATE: the card is finished. GT_ARGUMENT: GET DATA can't name the tag. It can name one
+ * byte 40 to FE whose bits 5 to 1 are not all ones, and two bytes of which the first is 5F, 7F, 9F,
+ * BF, DF or FF and the second 01 to 7F. GT_NO_APP: there is no application yet. GT_VALUE_TOO_LONG:
+ * `n` is above 8,192. GT_NOT_OBJECTS: the tag is that of a template (bit 6 of its first byte is
+ * set, as in 70 and FF01, and not in 5F20 and DF01), and the value is no list of objects.
+ * GT_TABLE_FULL: the tag is new, and the application has 64. GT_MEMORY. */
 static inline int32_t gt_card_object(gt_card *c, uint32_t tag, const uint8_t *value, size_t n,
                                      int locked) {
     if (!c || (!value && n)) return GT_NULL;
     return galliumtoad_card_object(c, tag, gt_bytes_(value), n, locked != 0);
 }
 
-/* The card stands: nothing is selected, and it listens. GT_STATE: it stood before. GT_MEMORY:
- * what was built is as it was. GT_EMPTY. */
+/* The card is finished: nothing is selected, and it waits for the first character of a header.
+ *
+ * GT_OK. GT_STATE: it was finished before. GT_MEMORY: what was built is as it was. */
 static inline int32_t gt_card_finish(gt_card *c) {
     if (!c) return GT_NULL;
     return galliumtoad_card_finish(c);
 }
 
-/* Takes a character of the terminal. GT_NOT_LISTENING: the card has characters to send.
- * GT_STATE: it does not stand yet. GT_EMPTY. */
+/* Takes a character of the terminal.
+ *
+ * GT_OK. GT_STATE: the card is not finished yet. GT_NOT_LISTENING: it has characters to send. */
 static inline int32_t gt_card_take(gt_card *c, uint8_t byte) {
     if (!c) return GT_NULL;
     return galliumtoad_card_take(c, byte);
 }
 
-/* What the card does now. GT_SENDS: `byte` gets a character for the terminal. GT_OK: it listens.
- * GT_STATE: it does not stand yet. GT_EMPTY. `byte` changes with GT_SENDS alone. */
+/* What the card does now.
+ *
+ * GT_SENDS: `byte` gets a character for the terminal. GT_OK: the card waits for a character of
+ * the terminal, for `gt_card_take`. GT_STATE: it is not finished yet. Only GT_SENDS changes `byte`
+ * and the card. A put is stored when the second status byte has been handed out, not before. */
 static inline int32_t gt_card_turn(gt_card *c, uint8_t *byte) {
     if (!c || !byte) return GT_NULL;
     return galliumtoad_card_turn(c, byte);
 }
 
-/* A reset of the card, at any time. GT_STATE: it does not stand yet. GT_EMPTY. */
+/* Resets the card, at any time: a TPDU under way is dropped, nothing is selected or pending, and it
+ * waits for a header. Data objects and plans stay.
+ *
+ * GT_OK. GT_STATE: it is not finished yet. */
 static inline int32_t gt_card_reset(gt_card *c) {
     if (!c) return GT_NULL;
     return galliumtoad_card_reset(c);
 }
 
-/* How the card answers the TPDUs to come, one plan for each in turn: `steps` is a string of n
- * (NULL), o (one data byte) and a (all that are left), and at most `cut` bytes (1 to 256) are
- * sent at once. GT_ARGUMENT: another letter, or another cut. GT_STATE: it does not stand yet.
- * GT_MEMORY, GT_EMPTY. */
+/* How the card answers a TPDU to come: each call is for one more of them, in turn. `steps` is a
+ * string of letters, in any order and number, which is carried out from left to right: n (the card
+ * sends a NULL, 60), o (INS xor FF, and one data byte moves) and a (INS, and all data bytes that
+ * are left move); o and a are passed over where none are left, as in a TPDU without data, and n is
+ * not; after the last letter all that are left move. `cut`, 1 to 256, is the most bytes that a
+ * status 61XX announces (256 as 6100); it shows only where a response waits, and 256 is no limit. A
+ * TPDU without a plan is answered as by "" and 256.
+ *
+ * GT_OK. GT_STATE: the card is not finished yet. GT_ARGUMENT: another letter, or another cut.
+ * GT_MEMORY. */
 static inline int32_t gt_card_plan(gt_card *c, const char *steps, uint16_t cut) {
     size_t n = 0;
     if (!c || !steps) return GT_NULL;
@@ -352,23 +452,31 @@ static inline int32_t gt_card_plan(gt_card *c, const char *steps, uint16_t cut) 
     return galliumtoad_card_plan(c, (const uint8_t *)steps, n, cut);
 }
 
-/* The identifier of the selected application: `n` gets its 5 to 16 bytes' number. GT_NOT_FOUND:
- * none is selected. GT_STATE, GT_EMPTY. */
-static inline int32_t gt_card_selected(const gt_card *c, uint8_t aid[16], size_t *n) {
+/* The identifier of the application that is selected, at the front of `aid`; `n` gets how many
+ * bytes it has, 5 to 16.
+ *
+ * GT_OK. GT_STATE: the card is not finished yet. GT_NOT_FOUND: none is selected. */
+static inline int32_t gt_card_selected(const gt_card *c, uint8_t aid[GT_AID_LIMIT], size_t *n) {
     if (!c || !aid || !n) return GT_NULL;
-    return galliumtoad_card_selected(c, aid, 16, n);
+    return galliumtoad_card_selected(c, aid, GT_AID_LIMIT, n);
 }
 
-/* The identifier of an application, counted from 0. GT_NOT_FOUND: past the last. GT_STATE,
- * GT_EMPTY. */
-static inline int32_t gt_card_app_at(const gt_card *c, size_t app, uint8_t aid[16], size_t *n) {
+/* The identifier of an application, counted from 0 in the order of building; `aid` and `n` as
+ * above.
+ *
+ * GT_OK. GT_STATE: the card is not finished yet. GT_NOT_FOUND: `app` is past the last. */
+static inline int32_t gt_card_app_at(const gt_card *c, size_t app, uint8_t aid[GT_AID_LIMIT],
+                                     size_t *n) {
     if (!c || !aid || !n) return GT_NULL;
-    return galliumtoad_card_app_at(c, app, aid, 16, n);
+    return galliumtoad_card_app_at(c, app, aid, GT_AID_LIMIT, n);
 }
 
-/* A data object of an application, both counted from 0: its tag, whether it is locked (1 or 0),
- * and its value. GT_NOT_FOUND: past the last. GT_BUFFER: `room` is less than `len`; `value` is
- * as it was. GT_STATE, GT_EMPTY. */
+/* A data object of an application, both counted from 0, the objects in the order of first storing:
+ * `tag`, `locked` (1 or 0), `value`, and `len`, the number of the value's bytes.
+ *
+ * GT_OK: all of it. GT_STATE: the card is not finished yet. GT_NOT_FOUND: `app` or `entry` is past
+ * the last. GT_BUFFER: `room` is less than the value, as where a size is asked for with room 0;
+ * `tag`, `locked` and `len` are the object's, and `value` is as it was. */
 static inline int32_t gt_card_entry_at(const gt_card *c, size_t app, size_t entry, uint32_t *tag,
                                        int32_t *locked, uint8_t *value, size_t room, size_t *len) {
     uint8_t none = 0;
@@ -376,29 +484,79 @@ static inline int32_t gt_card_entry_at(const gt_card *c, size_t app, size_t entr
     return galliumtoad_card_entry_at(c, app, entry, tag, locked, value ? value : &none, room, len);
 }
 
-/* Gives the memory back; the handle holds nothing then. */
+/* Gives the memory back, at any time; the handle holds nothing then, and may be used again. Of one
+ * that holds nothing, or NULL, it is harmless. */
 static inline void gt_card_free(gt_card *c) {
     if (c) galliumtoad_card_free(c);
 }
 
-/* ---- A session: a terminal and a card, joined by a line that delivers every character -------- */
+/* ---- Commands of a card here, and what it answers --------------------------------------------
+ *
+ *   00 A4 04 00 Lc AID [00]     SELECT; the data that wait are 6F with 84 with the AID
+ *   00 CA P1 P2 Le              GET DATA of the tag P1-P2 (00 50 for 50): tag, length and value
+ *   00 DA P1 P2 [Lc value]      PUT DATA; CLA is 10 in all pieces of a chain but the last
+ *   00 C0 00 00 Le              GET RESPONSE; an exchange sends it by itself
+ *
+ * After all but 9000 and 61XX no value is stored, what was selected stays selected, and a chain is
+ * dropped.
+ *
+ *   9000  it is done, and all data have come
+ *   61XX  it is done, and XX more bytes can be had with GET RESPONSE (00: 256); so too a GET DATA
+ *         with an Le below what there is, and an exchange with that Le is then over
+ *   6581  PUT DATA: memory is wanting at the card
+ *   6700  PUT DATA: a value above 8,192 bytes; SELECT: an identifier not of 5 to 16 bytes
+ *   6883  a chain is pending, and this command is not its next one
+ *   6884  CLA begins a chain, and INS is not PUT DATA
+ *   6982  PUT DATA: the data object is locked
+ *   6985  GET DATA, PUT DATA: nothing is selected; GET RESPONSE: nothing waits
+ *   6A80  PUT DATA: the tag is that of a template, and the value is no list of objects
+ *   6A82  SELECT: there is no such application
+ *   6A84  PUT DATA: the tag is new, and the application has 64 data objects
+ *   6A86  P1-P2 are not the command's, or name no tag
+ *   6A88  GET DATA: the selected application has no such data object
+ *   6CXX  fewer bytes are there than asked for (Le 00 asks for 256): XX. An exchange asks again for
+ *         these, by itself
+ *   6D00  INS is not A4, CA, DA or C0
+ *   6E00  CLA is not 00 or 10, nor 80 of a GET DATA
+ *
+ * In a session `gt_session_select` answers 9000 or 6A82, `gt_session_get` 9000, 6985 or 6A88, and
+ * `gt_session_put` 9000, 6581, 6700, 6982, 6985, 6A80 or 6A84. */
 
-/* Takes a finished card out of its handle and resets it, in a session's handle that holds
- * nothing. GT_EMPTY: there is no card. GT_STATE: it does not stand yet, or the session holds
- * one. GT_MEMORY. */
+/* ---- A session: a terminal and a card, joined by a line that delivers every character --------
+ *
+ * An operation (`gt_session_select`, `_get`, `_put`, `_send`) is carried out to its answer before
+ * the call returns. Operations need memory at the terminal: where that is wanting they answer
+ * GT_MEMORY, and not one character was sent. Where it is wanting at the card, as for a longer
+ * value, the card's own answer says so: status 6581. */
+
+/* Takes a finished card out of its handle, which holds nothing then, resets it, and begins a
+ * session with it, in a session's handle that holds nothing. Plans of the card are dropped.
+ *
+ * GT_OK. GT_STATE: `s` holds a session, or the card is not finished yet. GT_EMPTY: `c` holds
+ * nothing. */
 static inline int32_t gt_session_start(gt_session *s, gt_card *c) {
     if (!s || !c) return GT_NULL;
     return galliumtoad_session_start(s, c);
 }
 
-/* 1: an operation can be begun; 0: a chain is pending. GT_EMPTY. */
+/* Whether an operation can be begun: 1, or 0 while a chain is pending at the card, which
+ * `gt_session_send` has begun. Compare with == 1: GT_EMPTY is not 0 either. */
 static inline int32_t gt_session_idle(const gt_session *s) {
     if (!s) return GT_NULL;
     return galliumtoad_session_idle(s);
 }
 
-/* A plan as `gt_card_plan`, for the next operation; what is left of the plans is dropped after
- * it. GT_ARGUMENT, GT_MEMORY, GT_EMPTY. */
+/* A plan as `gt_card_plan` takes it, for one more TPDU of the next operation that is carried out.
+ * What that leaves of its plans is dropped after it, and by `gt_session_end`.
+ *
+ * Where it ends with 9000, a select is two TPDUs, SELECT and GET RESPONSE, and a put one for each
+ * 255 bytes, at least one. A get of up to 255 bytes (tag, length and value) is two: one that is
+ * answered 6CXX and moves no data, and one that brings them all. One of more is a TPDU for each 256
+ * bytes or less that are left, and more of them where a `cut` is smaller. So to have the bytes of a
+ * short get come singly, plan "" first, and then an o for each byte of tag, length and value:
+ * "oooooo" for a value of 3 bytes under 5F20.
+ *
+ * GT_OK. GT_ARGUMENT: another letter, or another cut. GT_MEMORY. */
 static inline int32_t gt_session_plan(gt_session *s, const char *steps, uint16_t cut) {
     size_t n = 0;
     if (!s || !steps) return GT_NULL;
@@ -406,11 +564,15 @@ static inline int32_t gt_session_plan(gt_session *s, const char *steps, uint16_t
     return galliumtoad_session_plan(s, (const uint8_t *)steps, n, cut);
 }
 
-/* Selects an application. The card's answer: `status` (0x9000), `len` data bytes, and `data`.
+/* Selects an application by its identifier of 5 to 16 bytes (SELECT). The card's answer: `status`
+ * gets the status word (0x9000), `len` the number of data bytes, and `data` those: the template
+ * 6F with the identifier, at most 20 bytes. Any status is an answer, 0x6A82 (no such application)
+ * too, after which the application before it stays selected.
  *
- * GT_BUFFER: `room` is less than `len`; it was carried out, and `gt_session_answer` gives the
- * data. GT_BUSY: a chain is pending; nothing is sent. GT_ARGUMENT: not 5 to 16 bytes. GT_MEMORY,
- * GT_EMPTY. */
+ * GT_OK: it was carried out. GT_BUFFER: it was carried out, and `room` is less than the data;
+ * `status` and `len` are the answer's, `data` is as it was, and `gt_session_answer` gives the
+ * data. After the other faults nothing was sent: GT_ARGUMENT: the identifier has another length.
+ * GT_BUSY: a chain is pending. GT_MEMORY. */
 static inline int32_t gt_session_select(gt_session *s, const uint8_t *aid, size_t n,
                                         uint16_t *status, uint8_t *data, size_t room, size_t *len) {
     uint8_t none = 0;
@@ -421,8 +583,10 @@ static inline int32_t gt_session_select(gt_session *s, const uint8_t *aid, size_
     return galliumtoad_session_answer(s, status, data ? data : &none, room, len);
 }
 
-/* Reads a data object: `data` gets its tag, length and value. As `gt_session_select`;
- * GT_ARGUMENT: GET DATA can't name the tag. */
+/* Reads a data object of the selected application (GET DATA): `data` gets its tag, its length in
+ * the shortest spelling, and its value, at most GT_OBJECT_LIMIT bytes. Answers and faults are those
+ * of `gt_session_select`, with GT_ARGUMENT where GET DATA can't name the tag (see
+ * `gt_card_object`). */
 static inline int32_t gt_session_get(gt_session *s, uint32_t tag, uint16_t *status,
                                      uint8_t *data, size_t room, size_t *len) {
     uint8_t none = 0;
@@ -433,8 +597,12 @@ static inline int32_t gt_session_get(gt_session *s, uint32_t tag, uint16_t *stat
     return galliumtoad_session_answer(s, status, data ? data : &none, room, len);
 }
 
-/* Stores a value under a tag, in a chain of commands where it is long. As `gt_session_select`,
- * without data; GT_ARGUMENT: PUT DATA can't name the tag, or the value is too long. */
+/* Stores a value under a tag of the selected application (PUT DATA), in a chain of commands of up
+ * to 255 bytes each. `status` gets the card's answer: 0x9000, or why the value is not stored, as
+ * 0x6982 (locked) or 0x6700 (above 8,192 bytes). There are no data.
+ *
+ * GT_OK: it was carried out. After each fault nothing was sent: GT_ARGUMENT: PUT DATA can't name
+ * the tag (see `gt_card_object`). GT_MEMORY. GT_BUSY: a chain is pending. */
 static inline int32_t gt_session_put(gt_session *s, uint32_t tag, const uint8_t *value, size_t n,
                                      uint16_t *status) {
     uint8_t none = 0;
@@ -447,11 +615,15 @@ static inline int32_t gt_session_put(gt_session *s, uint32_t tag, const uint8_t 
     return code == GT_BUFFER ? GT_OK : code;
 }
 
-/* Sends any one command; it may begin a chain or go on with one. As `gt_session_select`, but never
- * GT_BUSY; GT_TOO_SHORT, GT_BAD_LENGTH, GT_INVALID_INS: the bytes are no command. GT_ARGUMENT: the
- * card can't know from its header which way data move. That is a SELECT or a PUT DATA (INS A4, DA)
- * without data and with Le, and a GET DATA or a GET RESPONSE (CA, C0) of any other form than that.
- * GT_STATE: `s` holds no session. After each of these nothing was sent. */
+/* Sends any one command (as `gt_exchange_start` takes it); it may begin a chain or go on with
+ * one, so it is never GT_BUSY. The answer is as that of `gt_session_select`, and has as much of the
+ * data as Le asks for (see `gt_exchange_start`).
+ *
+ * GT_OK, GT_BUFFER: it was carried out, as there. After the other faults nothing was sent:
+ * GT_TOO_SHORT, GT_BAD_LENGTH, GT_INVALID_INS: the bytes are no command. GT_ARGUMENT: terminal and
+ * card would not agree on which way data move, which no header says over T=0. That is a SELECT or a
+ * PUT DATA (INS A4, DA) without data and with Le, and a GET DATA or a GET RESPONSE (CA, C0) of any
+ * other form than that. GT_MEMORY. */
 static inline int32_t gt_session_send(gt_session *s, const uint8_t *command, size_t n,
                                       uint16_t *status, uint8_t *data, size_t room, size_t *len) {
     uint8_t none = 0;
@@ -462,7 +634,9 @@ static inline int32_t gt_session_send(gt_session *s, const uint8_t *command, siz
     return galliumtoad_session_answer(s, status, data ? data : &none, room, len);
 }
 
-/* The last answer again. GT_NOT_FOUND: there is none. GT_BUFFER, GT_EMPTY. */
+/* The answer of the last operation that was carried out, again; a reset keeps it.
+ *
+ * GT_OK, GT_BUFFER: as in `gt_session_select`. GT_NOT_FOUND: there was none. */
 static inline int32_t gt_session_answer(const gt_session *s, uint16_t *status,
                                         uint8_t *data, size_t room, size_t *len) {
     uint8_t none = 0;
@@ -471,10 +645,13 @@ static inline int32_t gt_session_answer(const gt_session *s, uint16_t *status,
 }
 
 /* The characters of the last operation that was carried out, from its first to its last; none
- * before there was one. `count` gets how many.
+ * before there was one. One that was not carried out (GT_MEMORY, GT_BUSY ..) leaves them as they
+ * were. `count` gets how many; to ask for that alone, with room 0, is GT_BUFFER, or GT_OK where it
+ * is 0.
  *
- * GT_BUFFER: `room` is less than `count`; `line` is as it was. GT_MEMORY: memory was wanting to
- * note them all; nothing changes. GT_STATE: the handle holds no session. GT_EMPTY. */
+ * GT_OK: all of them stand in `line`. GT_MEMORY: memory was wanting to note them all, in the
+ * operation; nothing is told. GT_BUFFER: `room` is less than their number; `count` is that, and
+ * `line` is as it was. */
 static inline int32_t gt_session_heard(const gt_session *s, gt_character *line, size_t room,
                                        size_t *count) {
     gt_character none = { 0, 0 };
@@ -482,22 +659,25 @@ static inline int32_t gt_session_heard(const gt_session *s, gt_character *line, 
     return galliumtoad_session_heard(s, line ? line : &none, room, count);
 }
 
-/* Resets the card. GT_EMPTY. */
+/* Resets the card: nothing is selected, and a pending chain is dropped. Data objects, plans and the
+ * last answer stay. GT_OK. */
 static inline int32_t gt_session_reset(gt_session *s) {
     if (!s) return GT_NULL;
     return galliumtoad_session_reset(s);
 }
 
-/* As those of a card. */
-static inline int32_t gt_session_selected(const gt_session *s, uint8_t aid[16], size_t *n) {
+/* The three as `gt_card_selected`, `gt_card_app_at` and `gt_card_entry_at`, of the session's card;
+ * never GT_STATE. */
+static inline int32_t gt_session_selected(const gt_session *s, uint8_t aid[GT_AID_LIMIT],
+                                          size_t *n) {
     if (!s || !aid || !n) return GT_NULL;
-    return galliumtoad_session_selected(s, aid, 16, n);
+    return galliumtoad_session_selected(s, aid, GT_AID_LIMIT, n);
 }
 
-static inline int32_t gt_session_app_at(const gt_session *s, size_t app, uint8_t aid[16],
+static inline int32_t gt_session_app_at(const gt_session *s, size_t app, uint8_t aid[GT_AID_LIMIT],
                                         size_t *n) {
     if (!s || !aid || !n) return GT_NULL;
-    return galliumtoad_session_app_at(s, app, aid, 16, n);
+    return galliumtoad_session_app_at(s, app, aid, GT_AID_LIMIT, n);
 }
 
 static inline int32_t gt_session_entry_at(const gt_session *s, size_t app, size_t entry,
@@ -509,14 +689,18 @@ static inline int32_t gt_session_entry_at(const gt_session *s, size_t app, size_
                                         len);
 }
 
-/* Gives the card back, reset, into a card's handle that holds nothing. GT_STATE: that holds one.
- * GT_EMPTY. */
+/* Ends a session, and gives its card back, reset, into a card's handle that holds nothing; the
+ * session's handle holds nothing then. Nothing is selected: a next session selects again. Plans
+ * that are left are dropped.
+ *
+ * GT_OK. GT_STATE: `c` holds a card. GT_EMPTY: `s` holds nothing. */
 static inline int32_t gt_session_end(gt_session *s, gt_card *c) {
     if (!s || !c) return GT_NULL;
     return galliumtoad_session_end(s, c);
 }
 
-/* Gives the memory back, the card's too; the handle holds nothing then. */
+/* Gives the memory back, the card's too, at any time; the handle holds nothing then, and may be
+ * used again. Of one that holds nothing, or NULL, it is harmless. */
 static inline void gt_session_free(gt_session *s) {
     if (s) galliumtoad_session_free(s);
 }

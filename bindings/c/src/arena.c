@@ -1,7 +1,7 @@
 /* The library's memory from a static array: first fit over a list of blocks in order of place, with
  * free neighbours joined when a block is given back. */
 #include "arena.h"
-#include "heap.h"
+#include "galliumtoad_heap.h"
 
 #include <stdint.h>
 #include <string.h>

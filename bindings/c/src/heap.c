@@ -1,5 +1,5 @@
 /* The library's memory by malloc, realloc and free. */
-#include "heap.h"
+#include "galliumtoad_heap.h"
 
 #include <stdlib.h>
 

@@ -1,31 +1,23 @@
-/* A heap that counts, and refuses one request: it stands in the place of src/heap.c. */
+/* A heap that counts, and refuses one request: it stands in the place of malloc. */
 #ifndef COUNTING_HEAP_H
 #define COUNTING_HEAP_H
 
-#include <stdbool.h>
+#include <galliumtoad_heap.h>
+
 #include <stdlib.h>
 #include <string.h>
-
-struct tried {
-    bool some;
-    void *at;
-};
 
 #define HEAD 16 /* the size of a block stands before it */
 
 static size_t taken, peak, requests, refused;
 
-static struct tried no_memory(void) {
-    struct tried t = { false, &taken };
+static gt_taken no_memory(void) {
+    gt_taken t = { false, &taken };
     return t;
 }
 
-struct tried rattle_alloc(size_t n, size_t align);
-struct tried rattle_realloc(void *at, size_t old, size_t n, size_t align);
-void rattle_dealloc(void *at);
-
-struct tried rattle_alloc(size_t n, size_t align) {
-    struct tried t;
+gt_taken rattle_alloc(size_t n, size_t align) {
+    gt_taken t;
     unsigned char *block;
     (void)align;
     if (++requests == refused) return no_memory();
@@ -47,8 +39,8 @@ void rattle_dealloc(void *at) {
     free(block);
 }
 
-struct tried rattle_realloc(void *at, size_t old, size_t n, size_t align) {
-    struct tried t = rattle_alloc(n, align);
+gt_taken rattle_realloc(void *at, size_t old, size_t n, size_t align) {
+    gt_taken t = rattle_alloc(n, align);
     if (!t.some) return t;
     memcpy(t.at, at, old < n ? old : n);
     rattle_dealloc(at);

@@ -47,7 +47,9 @@ static void operate(gt_session *s) {
     CHECK(len, sizeof SELECTED);
     CHECK_BYTES(data, SELECTED, sizeof SELECTED);
     check_heard(s, 34);
-    while ((code = gt_session_put(s, 0x5F20, (const uint8_t *)"AL", 2, &status)) == GT_MEMORY) {}
+    /* want of memory at the terminal: what was heard of the select is still told */
+    while ((code = gt_session_put(s, 0x5F20, (const uint8_t *)"AL", 2, &status)) == GT_MEMORY)
+        check_heard(s, 34);
     CHECK(code, GT_OK);
     stored = status == 0x9000;
     CHECK(stored || status == 0x6581, 1);

@@ -49,6 +49,21 @@ static void card(void) {
     gt_card_free(&c);
 }
 
+/* A plan of many steps: a card may keep a terminal waiting for long. */
+static void many_steps(void) {
+    gt_card c = GT_INIT;
+    char steps[601], want[609];
+    memset(steps, 'n', 600);
+    steps[600] = '\0';
+    memset(want, 0x60, 600);
+    memcpy(want + 600, "\xCA\x5F\x20\x03JOE\x90\x00", 9);
+    build(&c);
+    select_application(&c);
+    CHECK(gt_card_plan(&c, steps, 256), GT_OK);
+    trade(&c, GET, sizeof GET, want, sizeof want);
+    gt_card_free(&c);
+}
+
 /* The plans of a session are for its next operation alone, whose answer is the same. */
 static void session(void) {
     gt_session s = GT_INIT;
@@ -104,9 +119,89 @@ static void chain(void) {
     gt_session_free(&s);
 }
 
+/* The characters of the last operation: those of the card, and how many TPDUs there were, where
+ * the terminal has sent `data` bytes but headers. */
+static void heard(const gt_session *s, size_t data, size_t tpdus, const char *want, size_t n) {
+    static gt_character line[1024];
+    uint8_t card[1024];
+    size_t count = 0, sent = 0, said = 0, i;
+    CHECK(gt_session_heard(s, line, 1024, &count), GT_OK);
+    for (i = 0; i < count; i++) {
+        if (line[i].from == GT_TERMINAL) sent++;
+        else card[said++] = line[i].byte;
+    }
+    CHECK(sent, 5 * tpdus + data);
+    if (want) {
+        CHECK(said, n);
+        CHECK_BYTES(card, want, n);
+    }
+}
+
+/* How many plans an operation takes: a short get has one for 6CXX, and one for its bytes. */
+static void tpdus_of_operations(void) {
+    static const uint8_t zeros[600] = { 0 };
+    static const struct { size_t value, tpdus; } reads[] = {
+        { 251, 2 }, { 252, 1 }, { 253, 2 }, { 600, 3 } /* 255, 256, 257 and 605 bytes in all */
+    };
+    static const struct { size_t value, tpdus; } writes[] = {
+        { 0, 1 }, { 255, 1 }, { 256, 2 }, { 600, 3 }
+    };
+    static uint8_t bytes[1024];
+    gt_session s = GT_INIT;
+    gt_card c = GT_INIT;
+    uint16_t status = 0;
+    size_t len = 0, i;
+    build(&c);
+    CHECK(gt_session_start(&s, &c), GT_OK);
+    CHECK(gt_session_select(&s, AID, sizeof AID, &status, bytes, sizeof bytes, &len), GT_OK);
+    heard(&s, sizeof AID, 2, NULL, 0);
+    CHECK(gt_session_plan(&s, "", 256), GT_OK);
+    CHECK(gt_session_plan(&s, "ooo", 256), GT_OK);
+    CHECK(gt_session_get(&s, 0x5F20, &status, bytes, sizeof bytes, &len), GT_OK);
+    heard(&s, 0, 2, "\x6C\x06\x35\x5F\x35\x20\x35\x03\xCAJOE\x90\x00", 14);
+    for (i = 0; i < 4; i++) {
+        CHECK(gt_session_put(&s, 0xDF01, zeros, writes[i].value, &status), GT_OK);
+        CHECK(status, 0x9000);
+        heard(&s, writes[i].value, writes[i].tpdus, NULL, 0);
+    }
+    for (i = 0; i < 4; i++) {
+        CHECK(gt_session_put(&s, 0xDF01, zeros, reads[i].value, &status), GT_OK);
+        CHECK(gt_session_get(&s, 0xDF01, &status, bytes, sizeof bytes, &len), GT_OK);
+        CHECK(status, 0x9000);
+        heard(&s, 0, reads[i].tpdus, NULL, 0);
+    }
+    gt_session_free(&s);
+}
+
+/* A fault of an operation keeps its plans; the end of a session drops them. */
+static void plans_that_are_left(void) {
+    static const char slow[] = "\x60\xA4\x61\x0B\xC0\x6F\x09\x84\x07\xA0\x00\x00\x00\x03"
+                               "\x10\x10\x90\x00";
+    gt_session s = GT_INIT;
+    gt_card c = GT_INIT;
+    uint8_t data[16];
+    uint16_t status = 0;
+    size_t len = 0;
+    build(&c);
+    CHECK(gt_session_start(&s, &c), GT_OK);
+    CHECK(gt_session_plan(&s, "n", 256), GT_OK);
+    CHECK(gt_session_select(&s, AID, 4, &status, data, sizeof data, &len), GT_ARGUMENT);
+    CHECK(gt_session_select(&s, AID, sizeof AID, &status, data, sizeof data, &len), GT_OK);
+    heard(&s, sizeof AID, 2, slow, sizeof slow - 1);
+    CHECK(gt_session_plan(&s, "n", 256), GT_OK);
+    CHECK(gt_session_end(&s, &c), GT_OK);
+    CHECK(gt_session_start(&s, &c), GT_OK);
+    CHECK(gt_session_select(&s, AID, sizeof AID, &status, data, sizeof data, &len), GT_OK);
+    heard(&s, sizeof AID, 2, slow + 1, sizeof slow - 2);
+    gt_session_free(&s);
+}
+
 int main(void) {
     card();
+    many_steps();
     session();
+    tpdus_of_operations();
+    plans_that_are_left();
     chain();
     return check_result("plans");
 }

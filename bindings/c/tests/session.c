@@ -118,6 +118,17 @@ static void entries_of_a_card(gt_card *c) {
     gt_card_free(c);
 }
 
+/* A value that is too long is the card's to refuse, a tag that it can't name is not sent. */
+static void puts_that_are_refused(gt_session *s) {
+    static const uint8_t too_long[GT_VALUE_LIMIT + 1] = { 0 };
+    uint16_t status = 77;
+    CHECK(gt_session_put(s, 0x9F8101, too_long, 1, &status), GT_ARGUMENT);
+    CHECK(status, 77);
+    CHECK(gt_session_put(s, 0x5F20, too_long, sizeof too_long, &status), GT_OK);
+    CHECK(status, 0x6700);
+    entry(s, "AL", 2);
+}
+
 int main(void) {
     gt_session s = GT_INIT;
     gt_card c = GT_INIT;
@@ -151,6 +162,7 @@ int main(void) {
     CHECK(gt_session_get(&s, 0x5F20, &status, data, sizeof data, &len), GT_OK);
     answers(&s, 0x9000, "\x5F\x20\x02" "AL", 5);
     entry(&s, "AL", 2);
+    puts_that_are_refused(&s);
     CHECK(gt_session_get(&s, 0x50, &status, data, sizeof data, &len), GT_OK);
     answers(&s, 0x6A88, "", 0);
     CHECK(gt_session_get(&s, 0x9F8101, &status, data, sizeof data, &len), GT_ARGUMENT);

@@ -5,6 +5,21 @@ use crate::raw::{self, Handle};
 /// The most bytes that a value has on a card.
 pub const VALUE_LIMIT: usize = 8_192;
 
+/// The most bytes of such a value with its tag and length: the data of a get.
+pub const OBJECT_LIMIT: usize = 8_197;
+
+/// The fewest bytes of an application's identifier.
+pub const AID_LEAST: usize = 5;
+
+/// The most bytes of an application's identifier.
+pub const AID_LIMIT: usize = 16;
+
+/// The most applications of a card.
+pub const APPS_LIMIT: usize = 8;
+
+/// The most data objects of an application.
+pub const ENTRIES_LIMIT: usize = 64;
+
 /// A data object that a card holds.
 #[derive(Clone, Debug, PartialEq, Eq)]
 pub struct Entry {
@@ -14,7 +29,8 @@ pub struct Entry {
     pub is_locked: bool,
 }
 
-/// What a card is to hold, as it is built.
+/// What a card is to hold, as it is built: each application gets its objects before the next one
+/// is added.
 #[derive(Debug)]
 pub struct CardBuilder(Owned);
 
@@ -35,11 +51,10 @@ pub struct CardBuilder(Owned);
 /// loop {
 ///     match terminal.next()? {
 ///         Turn::Sends(byte) => card.take(byte)?,
-///         Turn::Listens => {
-///             if let Turn::Sends(byte) = card.turn()? {
-///                 terminal.take(byte)?;
-///             }
-///         }
+///         Turn::Listens => match card.turn()? {
+///             Turn::Sends(byte) => terminal.take(byte)?,
+///             _ => break, // both ends wait, see `Exchange`
+///         },
 ///         Turn::Done => break,
 ///     }
 /// }
@@ -96,7 +111,8 @@ impl CardBuilder {
         .map(|_| ())
     }
 
-    /// The card: nothing is selected, and it listens. Where memory is wanting the builder is dropped.
+    /// The card: nothing is selected, and it listens. Where memory is wanting the builder is
+    /// dropped.
     pub fn finish(mut self) -> Result<Card, Error> {
         // SAFETY: as above.
         told(unsafe { raw::galliumtoad_card_finish(&mut self.0 .0) })?;
@@ -112,7 +128,8 @@ impl Card {
         told(unsafe { raw::galliumtoad_card_take(&mut self.0 .0, byte) }).map(|_| ())
     }
 
-    /// What the card does now: it hands out a character, or listens.
+    /// What the card does now: it hands out a character, or listens. A put is stored when the
+    /// second status byte has been handed out, not before.
     pub fn turn(&mut self) -> Result<Turn, Error> {
         let mut byte = 0;
         // SAFETY: as above.
@@ -130,8 +147,14 @@ impl Card {
         told(unsafe { raw::galliumtoad_card_reset(&mut self.0 .0) }).map(|_| ())
     }
 
-    /// How the card answers one of the TPDUs to come, in turn: `n` a NULL, `o` one data byte, `a` all
-    /// that are left; `61XX` announces at most `cut` bytes, 1 to 256.
+    /// How the card answers one of the TPDUs to come, in turn. `steps` are letters, in any order
+    /// and number, which are carried out from left to right: `n` a NULL, `o` one data byte, `a` all
+    /// that are left; after the last letter all that are left move. `61XX` announces at most `cut`
+    /// bytes, 1 to 256 (as `6100`); it shows only where a response waits.
+    ///
+    /// # Errors
+    ///
+    /// [`Error::Argument`]: another letter, or another cut. [`Error::Memory`].
     pub fn plan(&mut self, steps: &str, cut: u16) -> Result<(), Error> {
         // SAFETY: the slice has its length.
         told(unsafe {
@@ -142,7 +165,7 @@ impl Card {
 
     /// The identifier of the application that is selected.
     pub fn selected(&self) -> Option<Vec<u8>> {
-        let (mut aid, mut n) = ([0; 16], 0);
+        let (mut aid, mut n) = ([0; AID_LIMIT], 0);
         // SAFETY: the handle is as it was when this returns; there is room for any identifier.
         let code = unsafe {
             raw::galliumtoad_card_selected(&self.0 .0, aid.as_mut_ptr(), aid.len(), &mut n)
@@ -153,7 +176,7 @@ impl Card {
     /// The identifiers of the applications, in order.
     pub fn apps(&self) -> impl Iterator<Item = Vec<u8>> + '_ {
         (0..).map_while(|app| {
-            let (mut aid, mut n) = ([0; 16], 0);
+            let (mut aid, mut n) = ([0; AID_LIMIT], 0);
             // SAFETY: as above.
             let code = unsafe {
                 raw::galliumtoad_card_app_at(&self.0 .0, app, aid.as_mut_ptr(), aid.len(), &mut n)

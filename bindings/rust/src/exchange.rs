@@ -16,16 +16,53 @@ pub enum Turn {
 }
 
 /// A card's answer to a command: a status word, as `0x9000`, and data.
+///
+/// An `Err` is about the call, a status about the card: a put that the card refuses is `Ok` with a
+/// status such as `0x6982`. After all but `9000` and `61XX` no value is stored, what was selected
+/// stays selected, and a chain is dropped. A [`Card`](crate::Card) answers:
+///
+/// | Status | Why |
+/// |---|---|
+/// | `9000` | it is done, and all data have come |
+/// | `61XX` | it is done, and XX more bytes can be had with GET RESPONSE (`00`: 256) |
+/// | `6581` | PUT DATA: memory is wanting at the card |
+/// | `6700` | PUT DATA: a value above 8,192 bytes; SELECT: an identifier not of 5 to 16 bytes |
+/// | `6883` | a chain is pending, and this command is not its next one |
+/// | `6884` | CLA begins a chain, and INS is not PUT DATA |
+/// | `6982` | PUT DATA: the data object is locked |
+/// | `6985` | GET DATA, PUT DATA: nothing is selected; GET RESPONSE: nothing waits |
+/// | `6A80` | PUT DATA: the tag is that of a template, and the value is no list of objects |
+/// | `6A82` | SELECT: there is no such application |
+/// | `6A84` | PUT DATA: the tag is new, and the application has 64 data objects |
+/// | `6A86` | P1-P2 are not the command's, or name no tag |
+/// | `6A88` | GET DATA: the selected application has no such data object |
+/// | `6CXX` | fewer bytes are there than asked for: XX. An exchange asks again for these |
+/// | `6D00` | INS is not `A4`, `CA`, `DA` or `C0` |
+/// | `6E00` | CLA is not `00` or `10`, nor `80` of a GET DATA |
 #[derive(Clone, Debug, PartialEq, Eq)]
 pub struct Answer {
     pub status: u16,
     pub data: Vec<u8>,
 }
 
-/// A terminal's exchange of one command with a card, over all its TPDUs (ISO/IEC 7816-3, clause 12).
+/// A terminal's exchange of one command with a card, over all its TPDUs (ISO/IEC 7816-3, clause
+/// 12).
 ///
-/// Ask it for its [`next`](Exchange::next) character, send that or wait for one of the card, and hand
-/// that to [`take`](Exchange::take), until it is done.
+/// Ask it for its [`next`](Exchange::next) character, send that or wait for one of the card, and
+/// hand that to [`take`](Exchange::take), until it is done.
+///
+/// An exchange may be several TPDUs. Where the card answers `6CXX` to one that asks for data, that
+/// is sent again with XX, once, unless XX is more than is still wanted. Where it answers `61XX`,
+/// and more is wanted, GET RESPONSE is sent for it. Any other status ends the exchange, and so does
+/// `61XX` where no more is wanted. With Le `00` all there is is wanted, with another Le as many
+/// bytes at most, without Le none: a SELECT without Le is over at `61XX`, with no data. So end a
+/// command with `00` for a whole answer.
+///
+/// Over T=0 no header says which way data move: both ends have to know it from INS. With a command
+/// that the card takes the other way ([`Session::send`](crate::Session::send) refuses such ones)
+/// the card may be handed characters while it sends ([`Error::NotListening`]), or both wait for
+/// ever, as with `00 A4 04 00 05`: this and the card's turn are [`Turn::Listens`]. Drop the
+/// exchange then, and reset the card.
 #[derive(Debug)]
 pub struct Exchange(Handle);
 

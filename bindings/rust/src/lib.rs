@@ -1,10 +1,10 @@
-//! Both ends of a smart card dialogue over T=0, and BER-TLV data objects: safe Rust over a library that
-//! is proved.
+//! Both ends of a smart card dialogue over T=0, and BER-TLV data objects: safe Rust over a library
+//! that is proved.
 //!
-//! [`Objects`] lists the data objects of a list of bytes, an [`Exchange`] is the terminal's end of one
-//! command, and a [`Card`] holds data objects and answers a terminal, character by character. Neither
-//! end knows of a real line: characters are handed in and out. A [`Session`] joins both, and carries
-//! out whole operations.
+//! [`Objects`] lists the data objects of a list of bytes, and [`find`] gives the one at a path of
+//! tags. An [`Exchange`] is the terminal's end of one command, and a [`Card`] holds data objects
+//! and answers a terminal, character by character. Neither end knows of a real line: characters
+//! are handed in and out. A [`Session`] joins both, and carries out whole operations.
 //!
 //! Values of this crate stay on the thread that made them.
 
@@ -15,8 +15,9 @@ mod objects;
 mod raw;
 mod session;
 
-pub use card::{Card, CardBuilder, Entry, VALUE_LIMIT};
+pub use card::{Card, CardBuilder, Entry};
+pub use card::{AID_LEAST, AID_LIMIT, APPS_LIMIT, ENTRIES_LIMIT, OBJECT_LIMIT, VALUE_LIMIT};
 pub use error::Error;
 pub use exchange::{Answer, Exchange, Turn, RESPONSE_LIMIT};
-pub use objects::{head, Object, Objects, ObjectsError, Reason};
+pub use objects::{find, head, FindError, Object, Objects, ObjectsError, Reason, LEVELS_LIMIT};
 pub use session::{End, Session};

@@ -2,6 +2,9 @@ use crate::raw;
 use std::error;
 use std::fmt;
 
+/// The deepest level of a list of objects.
+pub const LEVELS_LIMIT: u8 = 16;
+
 /// Why bytes are no list of objects: the first fault, from the left.
 #[derive(Clone, Copy, Debug, PartialEq, Eq, Hash)]
 pub struct ObjectsError {
@@ -66,12 +69,41 @@ impl fmt::Display for ObjectsError {
 
 impl error::Error for ObjectsError {}
 
+/// Why [`find`] has no answer.
+#[derive(Clone, Copy, Debug, PartialEq, Eq, Hash)]
+#[non_exhaustive]
+pub enum FindError {
+    /// A step of the path is no tag of one to three bytes.
+    NoTag,
+    /// The bytes are no list of objects.
+    Objects(ObjectsError),
+}
+
+impl fmt::Display for FindError {
+    fn fmt(&self, f: &mut fmt::Formatter<'_>) -> fmt::Result {
+        match self {
+            FindError::NoTag => f.write_str("a step is no tag"),
+            FindError::Objects(fault) => fault.fmt(f),
+        }
+    }
+}
+
+impl error::Error for FindError {
+    fn source(&self) -> Option<&(dyn error::Error + 'static)> {
+        match self {
+            FindError::NoTag => None,
+            FindError::Objects(fault) => Some(fault),
+        }
+    }
+}
+
 /// A data object of a list.
 #[derive(Clone, Copy, Debug, PartialEq, Eq)]
 pub struct Object<'a> {
     /// The tag as a number: `0x50`, `0x5F20`, `0x9F8101`.
     pub tag: u32,
-    /// 1 for an object of the list itself, one more for each template around it, up to 16.
+    /// 1 for an object of the list itself, one more for each template around it, up to
+    /// [`LEVELS_LIMIT`].
     pub level: u8,
     /// Whether the value is a list of objects.
     pub is_constructed: bool,
@@ -81,6 +113,20 @@ pub struct Object<'a> {
     pub size: usize,
     /// The value.
     pub value: &'a [u8],
+}
+
+impl<'a> Object<'a> {
+    /// The object that the library has told of in these bytes.
+    fn of(told: &raw::Object, bytes: &'a [u8]) -> Object<'a> {
+        Object {
+            tag: told.tag,
+            level: told.level,
+            is_constructed: told.constructed != 0,
+            place: told.place,
+            size: told.size,
+            value: &bytes[told.value..told.value + told.length],
+        }
+    }
 }
 
 /// All objects of all levels of a list, in the order of their first bytes (EMV Book 3, Annex B).
@@ -142,14 +188,7 @@ impl<'a> Iterator for Objects<'a> {
 
     fn next(&mut self) -> Option<Object<'a>> {
         let object = self.listed.next()?;
-        Some(Object {
-            tag: object.tag,
-            level: object.level,
-            is_constructed: object.constructed != 0,
-            place: object.place,
-            size: object.size,
-            value: &self.bytes[object.value..object.value + object.length],
-        })
+        Some(Object::of(&object, self.bytes))
     }
 
     fn size_hint(&self) -> (usize, Option<usize>) {
@@ -159,8 +198,49 @@ impl<'a> Iterator for Objects<'a> {
 
 impl ExactSizeIterator for Objects<'_> {}
 
-/// The tag, and the length in its shortest spelling, as an object begins: 2 to 6 bytes. None where no
-/// tag of one to three bytes has this number.
+/// The object at a path: the first one, in the order of the bytes, whose tags from level 1 down to
+/// its own are those of the path. None where there is none, and for a path of no steps.
+///
+/// ```
+/// use galliumtoad::find;
+///
+/// let fci = [0x6F, 0x04, 0x84, 0x02, 0xA0, 0x00];
+/// let name = find(&fci, &[0x6F, 0x84])?.expect("a name");
+/// assert_eq!((name.place, name.value), (2, &fci[4..]));
+/// assert_eq!(find(&fci, &[0x84])?, None);
+/// # Ok::<(), galliumtoad::FindError>(())
+/// ```
+///
+/// # Errors
+///
+/// [`FindError::NoTag`]: a step is no tag, whatever the bytes are. [`FindError::Objects`]: the
+/// bytes are no list of objects, wherever the path leads; it has their first fault.
+pub fn find<'a>(bytes: &'a [u8], path: &[u32]) -> Result<Option<Object<'a>>, FindError> {
+    let (mut told, mut place) = (raw::Object::default(), 0);
+    // SAFETY: pointers and lengths are those of slices, and what is written stands apart from them.
+    let code = unsafe {
+        raw::galliumtoad_find(
+            bytes.as_ptr(),
+            bytes.len(),
+            path.as_ptr(),
+            path.len(),
+            &mut told,
+            &mut place,
+        )
+    };
+    match code {
+        raw::OK => Ok(Some(Object::of(&told, bytes))),
+        raw::NOT_FOUND => Ok(None),
+        raw::ARGUMENT => Err(FindError::NoTag),
+        fault => Err(FindError::Objects(ObjectsError {
+            place,
+            reason: Reason::of(fault),
+        })),
+    }
+}
+
+/// The tag, and the length in its shortest spelling, as an object begins: 2 to 6 bytes. None where
+/// no tag of one to three bytes has this number.
 pub fn head(tag: u32, length: u16) -> Option<Vec<u8>> {
     let (mut bytes, mut n) = ([0; 6], 0);
     // SAFETY: the pointer has room for as many bytes as it says.

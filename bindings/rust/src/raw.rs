@@ -1,5 +1,5 @@
-//! The archive's functions, as `galliumtoad.h` declares them. No pointer may be NULL here; a slice's
-//! never is.
+//! The archive's functions, as `galliumtoad.h` declares them. No pointer may be NULL here; a
+//! slice's never is.
 
 use std::ffi::c_void;
 
@@ -41,7 +41,9 @@ pub struct Character {
 pub const OK: i32 = 0;
 pub const SENDS: i32 = 1;
 pub const DONE: i32 = 2;
+pub const ARGUMENT: i32 = -5;
 pub const BUFFER: i32 = -6;
+pub const NOT_FOUND: i32 = -8;
 
 pub const TERMINAL: u8 = 0;
 
@@ -56,6 +58,10 @@ macro_rules! declared {
 declared! {
     fn galliumtoad_objects(
         bytes: *const u8, n: usize, objects: *mut Object, room: usize, count: *mut usize,
+        place: *mut usize
+    );
+    fn galliumtoad_find(
+        bytes: *const u8, n: usize, path: *const u32, steps: usize, object: *mut Object,
         place: *mut usize
     );
     fn galliumtoad_head(tag: u32, length: u16, head: *mut u8, room: usize, len: *mut usize);

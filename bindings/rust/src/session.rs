@@ -12,6 +12,10 @@ pub enum End {
 
 /// A terminal and a card, joined by a line that delivers every character.
 ///
+/// An operation is carried out to its answer. [`Answer`] lists the statuses: a select answers
+/// `9000` or `6A82`, a get `9000`, `6985` or `6A88`, and a put `9000`, `6581`, `6700`, `6982`,
+/// `6985`, `6A80` or `6A84`.
+///
 /// ```
 /// use galliumtoad::{CardBuilder, Session};
 ///
@@ -32,7 +36,7 @@ pub enum End {
 pub struct Session(Handle);
 
 impl Session {
-    /// Takes a card, and resets it. Where memory is wanting the card is dropped.
+    /// Takes a card, and resets it. This takes no memory.
     pub fn start(mut card: Card) -> Result<Session, Error> {
         let mut session = Session(Handle::EMPTY);
         // SAFETY: the session's handle holds nothing, and the card's is one of this crate.
@@ -47,7 +51,14 @@ impl Session {
     }
 
     /// How the card answers one of the next operation's TPDUs, in turn, as [`Card::plan`]. What the
-    /// operation leaves of its plans is dropped after it.
+    /// operation leaves of its plans is dropped after it, and by [`Session::end`].
+    ///
+    /// Where it ends with `9000`, a select is two TPDUs, SELECT and GET RESPONSE, and a put one for
+    /// each 255 bytes, at least one. A get of up to 255 bytes (tag, length and value) is two: one
+    /// that is answered `6CXX` and moves no data, and one that brings them all. One of more is a
+    /// TPDU for each 256 bytes or less that are left, and more of them where a `cut` is smaller. So
+    /// to have the bytes of a short get come singly, plan `""` first, and then an `o` for each byte
+    /// of tag, length and value: `"oooooo"` for a value of 3 bytes under `5F20`.
     pub fn plan(&mut self, steps: &str, cut: u16) -> Result<(), Error> {
         // SAFETY: the slice has its length.
         told(unsafe {
@@ -56,14 +67,16 @@ impl Session {
         .map(|_| ())
     }
 
-    /// Selects the application with this identifier, of 5 to 16 bytes.
+    /// Selects the application with this identifier, of 5 to 16 bytes. After `6A82` the one before
+    /// it stays selected.
     ///
     /// # Errors
     ///
     /// [`Error::Busy`]: a chain is pending, [`Error::Argument`]: another length, [`Error::Memory`].
     /// Nothing is sent then.
     pub fn select(&mut self, aid: &[u8]) -> Result<Answer, Error> {
-        // SAFETY: the handle is one of this crate, used by this thread alone; the slice has its length.
+        // SAFETY: the handle is one of this crate, used by this thread alone; the slice has its
+        // length.
         told(unsafe { raw::galliumtoad_session_select(&mut self.0, aid.as_ptr(), aid.len()) })?;
         self.answer()
     }
@@ -86,7 +99,8 @@ impl Session {
         Ok(self.answer()?.status)
     }
 
-    /// Sends any one command; it may begin a chain or go on with one.
+    /// Sends any one command; it may begin a chain or go on with one. The answer has as much of the
+    /// data as its Le asks for, see [`Exchange`](crate::Exchange).
     ///
     /// # Errors
     ///
@@ -119,7 +133,8 @@ impl Session {
         Ok(Answer { status, data })
     }
 
-    /// The characters of the last operation, each with the end that sent it.
+    /// The characters of the last operation that was carried out, each with the end that sent it;
+    /// one that was not carried out leaves them as they were.
     /// [`Error::Memory`]: some were lost for want of memory.
     pub fn heard(&self) -> Result<Vec<(End, u8)>, Error> {
         let mut line = vec![raw::Character::default(); self.hear(&mut [])?];
@@ -152,7 +167,7 @@ impl Session {
         told(unsafe { raw::galliumtoad_session_reset(&mut self.0) }).map(|_| ())
     }
 
-    /// Gives the card back, reset.
+    /// Gives the card back, reset: a next session selects again. Plans that are left are dropped.
     pub fn end(mut self) -> Result<Card, Error> {
         let mut card = Card(Owned(Handle::EMPTY));
         // SAFETY: as above; the card's handle holds nothing.

@@ -1,6 +1,7 @@
 //! Each call, by the rules of the card and of the line.
 
-use galliumtoad::{head, Card, CardBuilder, End, Error, Exchange, Objects, Reason, Session, Turn};
+use galliumtoad::{find, head, FindError, ObjectsError};
+use galliumtoad::{Card, CardBuilder, End, Error, Exchange, Objects, Reason, Session, Turn};
 
 const AID: [u8; 7] = [0xA0, 0x00, 0x00, 0x00, 0x03, 0x10, 0x10];
 
@@ -46,6 +47,28 @@ fn objects_are_listed_with_their_places() {
     assert_eq!((fault.place, fault.reason), (1, Reason::ValueCut));
     assert_eq!(fault.to_string(), "value cut at 1");
     assert_eq!(Objects::over(&[]).expect("no objects").count(), 0);
+}
+
+#[test]
+fn objects_are_found_by_path() {
+    let list = b"\x70\x03\x50\x01\x41\x70\x03\x51\x01\x42\x70\x03\x50\x01\x43";
+    let placed = |path: &[u32]| {
+        let found = find(list, path).expect("objects");
+        found.map(|it| (it.tag, it.level, it.place, it.size, it.value))
+    };
+    assert_eq!(placed(&[0x70, 0x51]), Some((0x51, 2, 7, 3, &b"\x42"[..])));
+    assert_eq!(placed(&[0x70, 0x50]), Some((0x50, 2, 2, 3, &b"\x41"[..])));
+    assert_eq!(placed(&[0x70]), Some((0x70, 1, 0, 5, &list[2..5])));
+    assert_eq!(placed(&[0x50]), None);
+    assert_eq!(placed(&[]), None);
+    assert_eq!(find(&[], &[0x50]), Ok(None));
+    assert_eq!(find(list, &[0x70, 0x5F]), Err(FindError::NoTag));
+    let fault = FindError::Objects(ObjectsError {
+        place: 0,
+        reason: Reason::ValueCut,
+    });
+    assert_eq!(find(&[0x50, 0x05, 0x41], &[0x50]), Err(fault));
+    assert_eq!(fault.to_string(), "value cut at 0");
 }
 
 #[test]
@@ -116,6 +139,69 @@ fn an_exchange_follows_its_card() {
     let answer = exchange.answer().expect("an answer");
     assert_eq!((answer.status, answer.data), (0x9000, vec![0x50, 0x00]));
     assert_eq!(exchange.take(0x00), Err(Error::AfterEnd));
+}
+
+/// Hands characters over until the exchange is done, or both ends wait.
+fn talk(exchange: &mut Exchange, card: &mut Card) -> Result<Turn, Error> {
+    loop {
+        match exchange.next()? {
+            Turn::Sends(byte) => card.take(byte)?,
+            Turn::Listens => match card.turn()? {
+                Turn::Sends(byte) => exchange.take(byte)?,
+                waits => return Ok(waits),
+            },
+            Turn::Done => return Ok(Turn::Done),
+        }
+    }
+}
+
+#[test]
+fn an_exchange_fetches_what_le_asks_for() {
+    let select = |le: &[u8]| [&[0x00, 0xA4, 0x04, 0x00, 0x07], &AID[..], le].concat();
+    let rows = [
+        (select(&[]), 0x610B, 0),
+        (select(&[0x00]), 0x9000, 11),
+        (select(&[0x40]), 0x9000, 11),
+        (select(&[0x05]), 0x6106, 5),
+        (vec![0x00, 0xCA, 0x5F, 0x20, 0x00], 0x9000, 6),
+        (vec![0x00, 0xCA, 0x5F, 0x20, 0x20], 0x9000, 6),
+        (vec![0x00, 0xCA, 0x5F, 0x20, 0x02], 0x6104, 2),
+        (vec![0x00, 0xCA, 0x5F, 0x20], 0x6C06, 0),
+    ];
+    let mut card = builder().finish().expect("a card");
+    for (command, status, n) in rows {
+        let mut exchange = Exchange::start(&command).expect("an exchange");
+        assert_eq!(talk(&mut exchange, &mut card), Ok(Turn::Done));
+        let answer = exchange.answer().expect("an answer");
+        assert_eq!(
+            (answer.status, answer.data.len()),
+            (status, n),
+            "{command:02X?}"
+        );
+    }
+}
+
+#[test]
+fn ends_that_do_not_agree_are_mended_by_a_reset() {
+    let rows: [(&[u8], _); 2] = [
+        (&[0x00, 0xA4, 0x04, 0x00, 0x05], Ok(Turn::Listens)),
+        (
+            &[0x00, 0xCA, 0x5F, 0x20, 0x01, 0xAA],
+            Err(Error::NotListening),
+        ),
+    ];
+    let mut card = builder().finish().expect("a card");
+    for (command, wanted) in rows {
+        heard(&mut card, &[0x00, 0xA4, 0x04, 0x00, 0x07]);
+        assert_eq!(heard(&mut card, &AID), [0x61, 0x0B]);
+        let mut exchange = Exchange::start(command).expect("an exchange");
+        assert_eq!(talk(&mut exchange, &mut card), wanted);
+        card.reset().expect("a reset");
+    }
+    assert_eq!(
+        heard(&mut card, &[0x00, 0xCA, 0x5F, 0x20, 0x06]),
+        [0x69, 0x85]
+    );
 }
 
 #[test]

@@ -1,6 +1,7 @@
 //! The numbers of the C header are those of this crate.
 
-use galliumtoad::{Error, Reason, RESPONSE_LIMIT, VALUE_LIMIT};
+use galliumtoad::{Error, Reason, AID_LEAST, AID_LIMIT, APPS_LIMIT, ENTRIES_LIMIT};
+use galliumtoad::{LEVELS_LIMIT, OBJECT_LIMIT, RESPONSE_LIMIT, VALUE_LIMIT};
 
 /// The faults of the header's list, with what this crate calls them.
 const FAULTS: [(&str, Error); 20] = [
@@ -93,8 +94,18 @@ fn every_fault_of_the_header_is_known() {
 
 #[test]
 fn limits_are_those_of_the_header() {
+    let limits = [
+        ("GT_VALUE_LIMIT", VALUE_LIMIT),
+        ("GT_OBJECT_LIMIT", OBJECT_LIMIT),
+        ("GT_RESPONSE_LIMIT", RESPONSE_LIMIT),
+        ("GT_AID_LEAST", AID_LEAST),
+        ("GT_AID_LIMIT", AID_LIMIT),
+        ("GT_APPS_LIMIT", APPS_LIMIT),
+        ("GT_ENTRIES_LIMIT", ENTRIES_LIMIT),
+        ("GT_LEVELS_LIMIT", usize::from(LEVELS_LIMIT)),
+    ];
     let header = header();
-    assert_eq!(number(&header, "GT_VALUE_LIMIT"), Some(VALUE_LIMIT as i64));
-    let wanted = Some(RESPONSE_LIMIT as i64);
-    assert_eq!(number(&header, "GT_RESPONSE_LIMIT"), wanted);
+    for (name, limit) in limits {
+        assert_eq!(number(&header, name), Some(limit as i64), "{name}");
+    }
 }

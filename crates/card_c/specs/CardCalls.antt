@@ -43,7 +43,8 @@ AddsApplication aid (Building applications) code new =
 abbrev pub AddsObject : ℕ → List ℕ → Bool → CardSide → ℤ → CardSide → Type 0
 AddsObject number value locked (Standing end plans) code new =
     (code ≡ gt_state) × (new ≡ Standing end plans)
-AddsObject number value locked (Joined session) code new = (code ≡ gt_state) × (new ≡ Joined session)
+AddsObject number value locked (Joined session) code new =
+    (code ≡ gt_state) × (new ≡ Joined session)
 AddsObject number value locked (Building applications) code new =
     ((tag : List ℕ) × IsNumbered number tag × TakesObject tag value applications × (code ≡ gt_ok)
     × (new ≡ Building (with_last_entry tag value locked applications)))

@@ -1,5 +1,5 @@
 -- What the exports on an exchange answer.
-use Rattle.std.specs.Prelude.{◌≡◌, ◌⊎◌, ℕ, ℤ, ◌+◌, ◌*◌, ◌<◌, ◌≤◌, List, [], length, Option, Some, None, Result, Ok, Err}
+use Rattle.std.specs.Prelude.{◌≡◌, ◌⊎◌, ℕ, ℤ, ◌<◌, ◌≤◌, List, [], length, Option, Some, None, Result, Ok, Err}
 use Rattle.apdu_core.specs.declared.command.ApduFault.{ApduFault}
 use Rattle.apdu_core.specs.declared.command.ApduFault.TheVariants.{TooShort, BadLength, InvalidIns}
 use Rattle.apdu_core.specs.StatusWord.{StatusWord}
@@ -11,7 +11,7 @@ use Rattle.t0_core.specs.Front.{fresh}
 use Rattle.card_terminal.specs.ExchangeSide.{ExchangeOf, UnderWay}
 use Rattle.card_terminal.specs.ExchangeHistory.{Leads}
 use Rattle.card_c.specs.Codes.{gt_ok, gt_sends, gt_done, gt_failed, gt_state, gt_memory, line_code, command_code}
-use Rattle.card_c.specs.Copying.{IsCopied}
+use Rattle.card_c.specs.Copying.{GoesOut}
 
 -- why these bytes are no command
 abbrev pub AreNone : List ℕ → ApduFault → Type 0
@@ -47,15 +47,9 @@ abbrev pub taking_code : Result (Unit {0}) LineFault → ℤ
 taking_code (Ok _) = gt_ok
 taking_code (Err fault) = line_code fault
 
--- a status word as a number: 0x9000
-abbrev pub status_number : StatusWord → ℕ
-status_number word = word.0 * 256 + word.1
-
--- An answer goes out: its status, its length, and its data where there is room. Where there is none,
--- nothing changes.
-abbrev pub GoesOut : Option (StatusWord × List ℕ) → ℤ → ℕ → ℕ → List ℕ → List ℕ → ℕ → ℕ → Type 0
-GoesOut None code status status_after room after len len_after =
-    (code ≡ gt_state) × (status_after ≡ status) × (after ≡ room) × (len_after ≡ len)
-GoesOut (Some answer) code status status_after room after len len_after =
-    (status_after ≡ status_number answer.0) × (len_after ≡ length answer.1)
-    × IsCopied answer.1 room code after
+-- The answer of an exchange goes out, if there is one; where there is none, nothing changes.
+abbrev pub TellsEnd : Option (StatusWord × List ℕ) → ℕ → List ℕ → ℕ → ℤ → ℕ → List ℕ → ℕ → Type 0
+TellsEnd None status room len code status' room' len' =
+    (code ≡ gt_state) × (status' ≡ status) × (room' ≡ room) × (len' ≡ len)
+TellsEnd (Some answer) status room len code status' room' len' =
+    GoesOut answer.0 answer.1 room code status' room' len'

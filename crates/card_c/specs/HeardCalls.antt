@@ -18,8 +18,8 @@ end_number Card = 1
 abbrev pub character_record : Character → CharacterRecord
 character_record c = record { from = end_number c.0; byte = c.1 }
 
--- Where some were lost for want of memory, nothing is told. Else it is how many there are, and all of
--- them where there is room for them.
+-- Where some were lost for want of memory, nothing is told. Else it is how many there are, and all
+-- of them where there is room for them.
 abbrev pub TellsHearing : Hearing → List CharacterRecord → ℕ → List CharacterRecord → ℕ → ℤ → Type 0
 TellsHearing hearing room count room' count' code =
     ((hearing.lost ≡ true) × (code ≡ gt_memory) × (room' ≡ room) × (count' ≡ count))

@@ -13,5 +13,4 @@ pub mod Reading
 pub mod SendCalls
 pub mod SessionCalls
 pub mod TableCalls
-pub mod TagBytes
 pub mod TagNumbers

@@ -1,15 +1,15 @@
 -- What the exports on objects answer.
-use Rattle.std.specs.Prelude.{ℕ, zero, suc, ◌+◌, ◌*◌, List, [], ◌∷◌, if◌then◌else◌}
+use Rattle.std.specs.Prelude.{◌≡◌, ◌⊎◌, ℕ, ℤ, zero, suc, List, [], ◌∷◌, if◌then◌else◌}
 use Rattle.tlv_core.specs.TagForm.{is_constructed}
-use Rattle.tlv_core.specs.Listing.{Placed}
+use Rattle.tlv_core.specs.Listing.{Placed, placed}
+use Rattle.tlv_core.specs.Object.{Object}
+use Rattle.tlv_core.specs.Spelling.{AreObjects}
+use Rattle.tlv_core.specs.Path.{IsFirstPlaced, NoneLiesAt, StandsAt}
+use Rattle.tlv_core.specs.FirstFault.{IsFirstFault}
+use Rattle.tlv_core.specs.declared.fault.Reason.{Reason}
 use Rattle.card_c.specs.declared.reader.ObjectRecord.{ObjectRecord}
-
--- a tag as a number: 0x50, 0x5F20, 0x9F8101
-abbrev pub tag_number : List ℕ → ℕ
-tag_number [] = 0
-tag_number (a ∷ []) = a
-tag_number (a ∷ b ∷ []) = a * 256 + b
-tag_number (a ∷ b ∷ c ∷ more) = (a * 256 + b) * 256 + c
+use Rattle.card_c.specs.Codes.{gt_ok, gt_argument, gt_not_found, reason_code}
+use Rattle.card_c.specs.TagNumbers.{tag_number, AreTagNumbers}
 
 -- an object as C has it
 abbrev pub recorded : Placed → ObjectRecord
@@ -35,3 +35,24 @@ abbrev pub with_from : List ObjectRecord → ℕ → List ObjectRecord → List 
 with_from room zero all = with_front room all
 with_from [] (suc at) all = []
 with_from (cell ∷ room) (suc at) all = cell ∷ with_from room at all
+
+-- The first object on a path of tags, told with its places, where the bytes are objects and one is
+-- on it; else why there is none, which is the first fault with its place, or that none is there.
+abbrev pub FindsOn : List ℕ → List (List ℕ) → ObjectRecord → ℕ → ℤ → ObjectRecord → ℕ → Type 0
+FindsOn bytes tags object place code object' place' =
+    ((reason : Reason) × IsFirstFault bytes 1 place' reason × (code ≡ reason_code reason)
+    × (object' ≡ object))
+    ⊎ (AreObjects bytes 1 × NoneLiesAt bytes 1 tags × (code ≡ gt_not_found)
+    × (object' ≡ object) × (place' ≡ place))
+    ⊎ ((start : ℕ) × (found : Object) × AreObjects bytes 1 × IsFirstPlaced bytes 1 tags start found
+    × StandsAt bytes start found × (code ≡ gt_ok)
+    × (object' ≡ recorded (placed start found.tag found.size found.value found.level))
+    × (place' ≡ place))
+
+-- the same for a path of numbers, where they are those of tags
+abbrev pub Finds : List ℕ → List ℕ → ObjectRecord → ℕ → ℤ → ObjectRecord → ℕ → Type 0
+Finds bytes numbers object place code object' place' =
+    (((tags : List (List ℕ)) → ¬ AreTagNumbers numbers tags) × (code ≡ gt_argument)
+    × (object' ≡ object) × (place' ≡ place))
+    ⊎ ((tags : List (List ℕ)) × AreTagNumbers numbers tags
+    × FindsOn bytes tags object place code object' place')

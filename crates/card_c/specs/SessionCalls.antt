@@ -1,5 +1,5 @@
 -- What the calls on a session's handle do to what it holds. A refusal leaves it as it was.
-use Rattle.std.specs.Prelude.{◌≡◌, ◌⊎◌, ℕ, ℤ, ◌+◌, ◌*◌, List, [], ◌∷◌, length, Bool, true, false, Option, Some, None, pos, if◌then◌else◌}
+use Rattle.std.specs.Prelude.{◌≡◌, ◌⊎◌, ℕ, ℤ, List, [], ◌∷◌, Bool, true, false, Option, Some, None, pos, if◌then◌else◌}
 use Rattle.t0_core.specs.Character.{Character}
 use Rattle.t0_core.specs.Plan.{Course}
 use Rattle.t0_core.specs.Watch.{Hearing, Hears}
@@ -14,7 +14,7 @@ use Rattle.card_c.specs.declared.card_side.CardSide.{CardSide}
 use Rattle.card_c.specs.declared.card_side.CardSide.TheVariants.{Building, Standing, Joined}
 use Rattle.card_c.specs.declared.session_side.SessionSide.{SessionSide}
 use Rattle.card_c.specs.Codes.{gt_ok, gt_empty, gt_state, gt_memory, gt_argument, gt_busy, gt_not_found}
-use Rattle.card_c.specs.Copying.{IsCopied}
+use Rattle.card_c.specs.Copying.{GoesOut}
 use Rattle.card_c.specs.TagNumbers.{IsNumbered}
 use Rattle.card_c.specs.CardCalls.{HaveLed, HaveLedUnder, no_plans}
 
@@ -135,13 +135,12 @@ Puts number value (Joined session) code new =
     ⊎ ((next : SessionSide) × (tag : List ℕ) × IsNumbered number tag × (new ≡ Joined next)
     × Performs (Put tag value) session code next)
 
--- the status as a number, and the data as far as there is room for them
+-- The last answer goes out, if there is one; where there is none, nothing changes.
 abbrev pub Tells : Option Reply → ℕ → List ℕ → ℕ → ℤ → ℕ → List ℕ → ℕ → Type 0
 Tells None status room len code status' room' len' =
     (code ≡ gt_not_found) × (status' ≡ status) × (room' ≡ room) × (len' ≡ len)
 Tells (Some reply) status room len code status' room' len' =
-    (status' ≡ reply.status.0 * 256 + reply.status.1) × (len' ≡ length reply.content)
-    × IsCopied reply.content room code room'
+    GoesOut reply.status reply.content room code status' room' len'
 
 -- the answer of the last operation, which stays
 abbrev pub TellsAnswer : ℕ → List ℕ → ℕ → ℕ → List ℕ → ℕ → CardSide → ℤ → Type 0

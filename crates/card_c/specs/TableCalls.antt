@@ -31,8 +31,8 @@ TellsAid aid_of room len room' len' side code =
 abbrev pub aid_at : ℕ → CardState → Option (List ℕ)
 aid_at place state = option_map (λ a. a.aid) (slice_get state.applications place)
 
--- this data object, if there is one: its tag, whether it is locked (1 or 0), and its value as far as
--- there is room for it
+-- this data object, if there is one: its tag, whether it is locked (1 or 0), and its value as far
+-- as there is room for it
 abbrev pub TellsEntry : Option Entry → ℕ → ℤ → List ℕ → ℕ → ℤ → ℕ → ℤ → List ℕ → ℕ → Type 0
 TellsEntry None tag locked room len code tag' locked' room' len' =
     (code ≡ gt_not_found) × (tag' ≡ tag) × (locked' ≡ locked) × (room' ≡ room) × (len' ≡ len)

@@ -7,7 +7,7 @@ ghost use Rattle.card_terminal.specs.ExchangeSteps.{IsTurn, IsTaking, IsAnswer};
 ghost use Rattle.card_c.specs.Codes.{gt_ok, gt_empty, gt_state};
 ghost use Rattle.card_c.specs.declared.terminal_side.TerminalSide.{TerminalSide};
 ghost use Rattle.card_c.specs.ExchangeHandle.{exchange_in};
-ghost use Rattle.card_c.specs.ExchangeCalls.{IsRefused, IsBegun, turn_code, turn_byte, taking_code, GoesOut};
+ghost use Rattle.card_c.specs.ExchangeCalls.{IsRefused, IsBegun, turn_code, turn_byte, taking_code, TellsEnd};
 
 use crate::code;
 use crate::copied::copied;
@@ -152,7 +152,7 @@ pub extern "C" fn galliumtoad_exchange_answer(
         × (status.new ≡ status.old) × (content.new ≡ content.old) × (len.new ≡ len.old) }
     ensures answer { (side : TerminalSide) → exchange_in exchange.old ≡ Some side
         → (answer : Option (StatusWord × List ℕ)) × IsAnswer side.exchange answer
-        × GoesOut answer result status.old status.new content.old content.new len.old len.new }
+        × TellsEnd answer status.old content.old len.old result status.new content.new len.new }
 {
     let Some(side) = exchange.take_out(alloc) else {
         return code::EMPTY;
@@ -165,7 +165,7 @@ pub extern "C" fn galliumtoad_exchange_answer(
 /// The answer, if there is one, goes out to C.
 fn given(side: &TerminalSide, status: &mut u16, content: &mut [u8], len: &mut usize) -> i32
     ensures { (answer : Option (StatusWord × List ℕ)) × IsAnswer side.now.exchange answer
-        × GoesOut answer result status.old status.new content.old content.new len.old len.new }
+        × TellsEnd answer status.old content.old len.old result status.new content.new len.new }
 {
     let Some((word, bytes)) = side.exchange.answer() else {
         return code::STATE;

@@ -11,8 +11,8 @@ use crate::code;
 use std::alloc::Global;
 use t0_core::{End, Recorder};
 
-/// The characters of the last operation, each with its sender, where there is room for them all, and
-/// how many there are.
+/// The characters of the last operation, each with its sender, where there is room for them all,
+/// and how many there are.
 #[unsafe(no_mangle)]
 pub extern "C" fn galliumtoad_session_heard(
     alloc: Global,

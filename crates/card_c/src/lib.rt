@@ -13,6 +13,7 @@ mod code;
 mod copied;
 mod exchange;
 mod exchange_handle;
+mod find;
 mod head;
 mod heard;
 mod held_exchange;

@@ -4,14 +4,15 @@ ghost use Rattle.tlv_core.specs.Listing.{Placed, Lists};
 ghost use Rattle.tlv_core.specs.declared.fault.Reason.{Reason};
 ghost use Rattle.tlv_core.specs.FirstFault.{IsFirstFault};
 ghost use Rattle.card_c.specs.Codes.{gt_ok, gt_buffer, reason_code};
-ghost use Rattle.card_c.specs.Reading.{tag_number, with_from, with_front, recorded};
+ghost use Rattle.card_c.specs.Reading.{with_from, with_front, recorded};
 
 use crate::code;
 use crate::reader::ObjectRecord;
-use tlv_core::{Obj, Objects, Tag};
+use crate::tag_number::number;
+use tlv_core::{Obj, Objects};
 
-/// All objects of all levels in the order of their bytes, as many as there is room for, and how many
-/// there are; or the first fault and its place. Without an array they are checked and counted.
+/// All objects of all levels in the order of their bytes, as many as there is room for, and how
+/// many there are; or the first fault and its place. Without an array they are checked and counted.
 #[unsafe(no_mangle)]
 pub extern "C" fn galliumtoad_objects(
     bytes: &[u8],
@@ -59,7 +60,8 @@ fn listed(list: Objects<'_>, end: usize, objects: &mut [ObjectRecord], before: u
     requires inside { before + length list.bytes ≤ end }
     ensures { (all : List Placed)
         × Lists list.entry.bytes (end - length list.entry.bytes) list.entry.level all
-        × (result ≡ before + length all) × (objects.new ≡ with_from objects.old before (map recorded all))
+        × (result ≡ before + length all)
+        × (objects.new ≡ with_from objects.old before (map recorded all))
         × (result ≤ end) }
 {
     let mut list = list;
@@ -76,7 +78,7 @@ fn listed(list: Objects<'_>, end: usize, objects: &mut [ObjectRecord], before: u
 }
 
 /// An object that ends at this place.
-fn record(object: &Obj<'_>, after: usize) -> ObjectRecord
+pub fn record(object: &Obj<'_>, after: usize) -> ObjectRecord
     requires { length object.now.tag + length object.now.size + length object.now.value ≤ after }
     ensures { result ≡ recorded (record {
       tag = object.now.tag;
@@ -106,17 +108,5 @@ fn put(objects: &mut [ObjectRecord], at: usize, object: ObjectRecord)
 {
     if at < objects.len() {
         objects[at] = object;
-    }
-}
-
-/// A tag as a number.
-pub fn number(tag: Tag) -> u32
-    ensures { result ≡ tag_number tag }
-{
-    match tag.bytes() {
-        [a] => u32::from(*a),
-        [a, b] => u32::from(*a) * 256 + u32::from(*b),
-        [a, b, c] => (u32::from(*a) * 256 + u32::from(*b)) * 256 + u32::from(*c),
-        _ => unreachable!(),
     }
 }

@@ -5,8 +5,8 @@ use std::alloc::{AllocError, Global};
 use std::marker::Model;
 use t0_core::{Plan, Plans};
 
-/// The plans that C has given for the TPDUs to come, and the one of the TPDU under way. Contracts see
-/// it as a cursor over the plans.
+/// The plans that C has given for the TPDUs to come, and the one of the TPDU under way. Contracts
+/// see it as a cursor over the plans.
 #[derive(Drop)]
 pub struct PlanQueue {
     to_come: Vec<Plan>,
@@ -34,7 +34,8 @@ impl PlanQueue {
 
     /// One more plan, after those that are to come. Its error is want of memory.
     pub fn push(&mut self, plan: Plan) -> Result<(), AllocError>
-        ensures ok { OnOk result (self.new ≡ record self.old { rest = self.old.rest ++ plan ∷ [] }) }
+        ensures ok { OnOk result
+            (self.new ≡ record self.old { rest = self.old.rest ++ plan ∷ [] }) }
         ensures stays { OnErr result (self.new ≡ self.old) }
     {
         self.to_come.push(plan).map_err(AllocError::from)

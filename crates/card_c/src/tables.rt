@@ -85,8 +85,8 @@ fn tell(found: Option<Aid>, aid: &mut [u8], len: &mut usize) -> i32
     }
 }
 
-/// The data object at a place, from 0, of the application at a place: its tag, whether it is locked,
-/// and its value where there is room for it.
+/// The data object at a place, from 0, of the application at a place: its tag, whether it is
+/// locked, and its value where there is room for it.
 #[unsafe(no_mangle)]
 pub extern "C" fn galliumtoad_card_entry_at(
     alloc: Global,

@@ -1,23 +1,61 @@
+//! Tags as numbers.
 ghost use Rattle.std.specs.Prelude.{◌≡◌, ℕ, List, MatchOption};
-ghost use Rattle.card_c.specs.TagNumbers.{IsNumbered};
+ghost use Rattle.tlv_core.specs.TagForm.{IsTag};
+ghost use Rattle.card_c.specs.TagNumbers.{IsNumbered, IsTagNumber, tag_number};
 
-use tlv_core::ObjectTag;
+use tlv_core::{ObjectTag, Tag};
 
-/// The tag of a number, where GET DATA and PUT DATA can name it.
+/// The tag with this number, if there is one.
+pub fn tag_with(number: u32) -> Option<Tag>
+    ensures { MatchOption result ((tag : List ℕ) → ¬ IsTagNumber number tag)
+        (λ tag. IsTagNumber number tag) }
+{
+    let low = (number % 256) as u8;
+    let middle = (number / 256 % 256) as u8;
+    if number < 256 {
+        return whole_tag(&[low]);
+    }
+    if number < 65536 {
+        return whole_tag(&[middle, low]);
+    }
+    if number > 0xFF_FFFF {
+        return None;
+    }
+    whole_tag(&[(number / 65536) as u8, middle, low])
+}
+
+/// The tag that these bytes are.
+fn whole_tag(bytes: &[u8]) -> Option<Tag>
+    ensures { MatchOption result (IsTag bytes.now → ⊥)
+        (λ tag. (tag ≡ bytes.now) × IsTag bytes.now) }
+{
+    let (tag, size) = Tag::read(bytes).ok()?;
+    if size == bytes.len() { Some(tag) } else { None }
+}
+
+/// The number of a tag.
+pub fn number(tag: Tag) -> u32
+    ensures { result ≡ tag_number tag }
+{
+    match tag.bytes() {
+        [a] => u32::from(*a),
+        [a, b] => u32::from(*a) * 256 + u32::from(*b),
+        [a, b, c] => (u32::from(*a) * 256 + u32::from(*b)) * 256 + u32::from(*c),
+        _ => unreachable!(),
+    }
+}
+
+/// The tag with this number, where GET DATA and PUT DATA can name it.
 pub fn tag_of(number: u32) -> Option<ObjectTag>
     ensures { MatchOption result ((tag : List ℕ) → ¬ IsNumbered number tag)
         (λ tag. IsNumbered number tag) }
 {
-    if number > 0xFFFF {
-        return None;
-    }
-    ObjectTag::from_p1p2((number / 256) as u8, (number % 256) as u8)
+    ObjectTag::new(tag_with(number)?)
 }
 
-/// The number of a tag.
+/// The number of a tag that they can name.
 pub fn number_of(tag: ObjectTag) -> u32
     ensures { IsNumbered result tag }
 {
-    let (p1, p2) = tag.p1p2();
-    u32::from(p1) * 256 + u32::from(p2)
+    number(tag.tag())
 }

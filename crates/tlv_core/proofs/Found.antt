@@ -1,9 +1,9 @@
 -- Objects found by their tags, step by step.
-use Rattle.std.proofs.Common.{◌≡◌, ◌≢◌, ℕ, suc, ◌+◌, ◌<◌, List, [], ◌∷◌, ◌++◌, length, refl, sym, ap, arith, length-append, ◌∙◌, ◌⊎◌, inl, inr, true}
+use Rattle.std.proofs.Common.{◌≡◌, ◌≢◌, ℕ, suc, ◌+◌, ◌<◌, List, [], ◌∷◌, ◌++◌, length, refl, sym, ap, arith, append_assoc, append-nil, length-append, ◌∙◌, ◌⊎◌, inl, inr, true}
 use Rattle.tlv_core.specs.TagForm.{is_constructed}
 use Rattle.tlv_core.specs.Object.{Object}
-use Rattle.tlv_core.specs.Path.{LiesAt, IsFirstAt, NoneLiesAt}
-use Rattle.tlv_core.specs.Place.{StartsWith, at_front, past_padding, past_object, into_template}
+use Rattle.tlv_core.specs.Path.{LiesAt, IsFirstPlaced, NoneLiesAt, StandsAt}
+use Rattle.tlv_core.specs.Place.{StartsWith, Reached, at_front, past_padding, past_object, into_template}
 use Rattle.tlv_core.specs.StartLaws.{starts_at_object, starts_agree}
 use Rattle.tlv_core.proofs.PlaceFacts.{object_is_long, padded_place, object_place, reached_inside}
 
@@ -112,71 +112,83 @@ stands_inside bytes level place path o h =
       object_is_long h.left (starts_at_object h.left o.tag o.size o.value h.rest h.stands),
     )
 
--- What is left of a list, as a reader looks for a path: none stands before it.
-pub record Seeks (bytes : List ℕ) (level : ℕ) (path : List (List ℕ)) (rest : List ℕ) : Type 0 where
+-- A part of a list, so many bytes behind its front, as a reader looks for a path: none stands before it.
+pub record Seeks (bytes : List ℕ) (level : ℕ) (path : List (List ℕ)) (by : ℕ) (rest : List ℕ) : Type 0 where
   pub none : NoneLiesAt rest level path → NoneLiesAt bytes level path
-  pub first : (o : Object) → IsFirstAt rest level path o → IsFirstAt bytes level path o
+  pub first : (place : ℕ) (o : Object) → IsFirstPlaced rest level path place o → IsFirstPlaced bytes level path (by + place) o
 
-pub seeks_at_start : (bytes : List ℕ) (level : ℕ) (path : List (List ℕ)) → Seeks bytes level path bytes
-seeks_at_start bytes level path = record { none = λ h. h; first = λ o h. h }
-
-pub seeks_one_zero : (bytes rest : List ℕ) (level : ℕ) (path : List (List ℕ)) → Seeks bytes level path (0 ∷ rest) → Seeks bytes level path rest
-seeks_one_zero bytes rest level path c = record {
-  none = λ h. c.none (λ place o g. let (next, at, k) = stands_in_padded rest level place path o g in h next o k);
-  first = λ o h. c.first o (record {
-    place = 1 + h.place;
-    here = stands_past_padding rest level h.place path o h.here;
+pub seeks_one_zero : (rest : List ℕ) (level : ℕ) (path : List (List ℕ)) → Seeks (0 ∷ rest) level path 1 rest
+seeks_one_zero rest level path = record {
+  none = λ h place o g. let (next, at, k) = stands_in_padded rest level place path o g in h next o k;
+  first = λ place o h. record {
+    here = stands_past_padding rest level place path o h.here;
     none_before = λ p q g. let (next, at, k) = stands_in_padded rest level p path q g in omega (arith, h.none_before next q k);
-  });
+  };
 }
 
 -- An object is passed that is not the one sought, and does not hold it.
-pub seeks_past_object : (bytes at t s v r : List ℕ) (level : ℕ) (path : List (List ℕ)) → StartsWith at t s v r → (path ≡ t ∷ [] → ⊥)
+pub seeks_past_object : (at t s v r : List ℕ) (level : ℕ) (path : List (List ℕ)) → StartsWith at t s v r → (path ≡ t ∷ [] → ⊥)
     → ((below : List (List ℕ)) → path ≡ t ∷ below → is_constructed t ≡ true → NoneLiesAt v (suc level) below)
-    → Seeks bytes level path at → Seeks bytes level path r
-seeks_past_object bytes at t s v r level path b here inside c = record {
-  none = λ h. c.none (λ place o g. elim (stands_in_object at t s v r level place path o b g) [
+    → Seeks at level path (length (t ++ s ++ v)) r
+seeks_past_object at t s v r level path b here inside = record {
+  none = λ h place o g. elim (stands_in_object at t s v r level place path o b g) [
     | inl is ↦ here is
     | inr (inl past) ↦ h past.next o past.stands
     | inr (inr within) ↦ inside within.below within.through within.kind within.inner o within.stands
-  ]);
-  first = λ o h. c.first o (record {
-    place = length (t ++ s ++ v) + h.place;
-    here = stands_past_object at t s v r level h.place path o b h.here;
+  ];
+  first = λ place o h. record {
+    here = stands_past_object at t s v r level place path o b h.here;
     none_before = λ p q g. elim (stands_in_object at t s v r level p path q b g) [
       | inl is ↦ absurd (here is)
       | inr (inl past) ↦ omega (arith, past.at, h.none_before past.next q past.stands)
       | inr (inr within) ↦ absurd (inside within.below within.through within.kind within.inner q within.stands)
     ];
-  });
+  };
 }
 
 -- The object in front is the one sought.
-pub found_here : (bytes at t s v r : List ℕ) (level : ℕ) (path : List (List ℕ)) → StartsWith at t s v r → path ≡ t ∷ []
-    → Seeks bytes level path at → IsFirstAt bytes level path (record { tag = t; size = s; value = v; level = level })
-found_here bytes at t s v r level path b e c = c.first (record { tag = t; size = s; value = v; level = level }) (record {
-  place = 0;
+pub found_here : (at t s v r : List ℕ) (level : ℕ) (path : List (List ℕ)) → StartsWith at t s v r → path ≡ t ∷ []
+    → IsFirstPlaced at level path 0 (record { tag = t; size = s; value = v; level = level })
+found_here at t s v r level path b e = record {
   here = rw e (stands_in_front at t s v r level b);
   none_before = λ p q g. omega arith;
-})
+}
 
 -- The first one in the object in front, under a longer path, is the one sought.
-pub found_within : (bytes at t s v r : List ℕ) (level : ℕ) (path below : List (List ℕ)) (o : Object) → StartsWith at t s v r
-    → is_constructed t ≡ true → path ≡ t ∷ below → below ≢ [] → IsFirstAt v (suc level) below o
-    → Seeks bytes level path at → IsFirstAt bytes level path o
-found_within bytes at t s v r level path below o b kind e more h c = c.first o (record {
-  place = length (t ++ s) + h.place;
-  here = rw e (stands_in_template at t s v r level h.place below o b kind h.here);
+pub found_within : (at t s v r : List ℕ) (level : ℕ) (path below : List (List ℕ)) (place : ℕ) (o : Object) → StartsWith at t s v r
+    → is_constructed t ≡ true → path ≡ t ∷ below → below ≢ [] → IsFirstPlaced v (suc level) below place o
+    → IsFirstPlaced at level path (length (t ++ s) + place) o
+found_within at t s v r level path below place o b kind e more h = record {
+  here = rw e (stands_in_template at t s v r level place below o b kind h.here);
   none_before = λ p q g. elim (stands_in_object at t s v r level p path q b g) [
     | inl is ↦ absurd (more (let f : t ∷ below ≡ t ∷ [] = sym e ∙ is in cc))
-    | inr (inl past) ↦ omega (arith, past.at, length-append (t ++ s) v, stands_inside v (suc level) h.place below o h.here)
+    | inr (inl past) ↦ omega (arith, past.at, length-append (t ++ s) v, stands_inside v (suc level) place below o h.here)
     | inr (inr within) ↦
         let same : within.below ≡ below = (let f : t ∷ within.below ≡ t ∷ below = sym within.through ∙ e in cc) in
         let k : LiesAt v (suc level) below within.inner q = rw (← same) within.stands in
         omega (arith, within.at, h.none_before within.inner q k)
   ];
-})
+}
 
 -- Nothing stands in what is left at the end.
 pub none_in_nil : (level : ℕ) (path : List (List ℕ)) → NoneLiesAt [] level path
 none_in_nil level path place o h = omega (arith, stands_inside [] level place path o h)
+
+-- The bytes of an object stand at its place.
+reached_stands : (bytes : List ℕ) (level place : ℕ) (left : List ℕ) (depth : ℕ) (path : List (List ℕ))
+    → Reached bytes level place left depth path → (before after : List ℕ) × (place ≡ length before) × (bytes ≡ before ++ left ++ after)
+reached_stands bytes level place left depth path (at_front p l d t) = ([], [], p, sym (append-nil left ∙ l))
+reached_stands bytes level place left depth path (past_padding rest next b p r) =
+    let (before, after, at, e) = reached_stands rest level next left depth path r in
+    (0 ∷ before, after, omega (arith, p, at), b ∙ ap (λ x. 0 ∷ x) e)
+reached_stands bytes level place left depth path (past_object t s v rest next h p r) =
+    let (before, after, at, e) = reached_stands rest level next left depth path r in
+    (t ++ s ++ v ++ before, after, omega (arith, p, at, length-append (t ++ s ++ v) before), h.spelled ∙ ap (λ x. t ++ s ++ v ++ x) e ∙ simp append_assoc)
+reached_stands bytes level place left depth path (into_template t s v rest inner below h kind p q r) =
+    let (before, after, at, e) = reached_stands v (suc level) inner left depth below r in
+    (t ++ s ++ before, after ++ rest, omega (arith, p, at, length-append (t ++ s) before), h.spelled ∙ ap (λ x. t ++ s ++ x ++ rest) e ∙ simp append_assoc)
+
+pub lies_stands : (bytes : List ℕ) (level place : ℕ) (path : List (List ℕ)) (o : Object) → LiesAt bytes level path place o → StandsAt bytes place o
+lies_stands bytes level place path o h =
+    let (before, after, at, e) = reached_stands bytes level place h.left o.level h.above h.reached in
+    (before, h.rest ++ after, at, e ∙ ap (λ x. before ++ x ++ after) h.stands.spelled ∙ simp append_assoc)

@@ -1,16 +1,16 @@
 -- A reader that looks for a path in open templates, and enters those on the path alone.
-use Rattle.std.proofs.Common.{◌≡◌, ◌≢◌, ℕ, suc, ◌+◌, ◌-◌, ◌<◌, ◌≤◌, List, [], ◌∷◌, ◌++◌, length, get_or, drop, sym, ap, subst, arith, length-append, ◌∙◌, true, false}
+use Rattle.std.proofs.Common.{◌≡◌, ◌≢◌, ℕ, suc, ◌+◌, ◌-◌, ◌<◌, ◌≤◌, List, [], ◌∷◌, ◌++◌, length, get_or, drop, refl, sym, ap, subst, arith, length-append, ◌∙◌, true, false}
 use Rattle.std.proofs.lemmas.List.{take_all, drop_all, length-drop}
 use Rattle.std.proofs.Math.Seq.{drop-cons}
 use Rattle.tlv_core.specs.TagForm.{is_constructed}
 use Rattle.tlv_core.specs.Object.{Object, IsObject}
 use Rattle.tlv_core.specs.Spelling.{AreObjects, deepest}
-use Rattle.tlv_core.specs.Path.{IsFirstAt, NoneLiesAt}
+use Rattle.tlv_core.specs.Path.{IsFirstPlaced, NoneLiesAt, StandsAt}
 use Rattle.tlv_core.specs.Place.{StartsWith, StartsWithObject}
 use Rattle.tlv_core.specs.SpellingLaws.{after_is_spelled, inside_is_spelled}
 use Rattle.tlv_core.proofs.SpellingFacts.{objects_past_zero, spelled_starts, spelled_is_object}
 use Rattle.tlv_core.proofs.PlaceFacts.{starts_length}
-use Rattle.tlv_core.proofs.Found.{Seeks, seeks_at_start, seeks_one_zero, seeks_past_object, found_here, found_within, none_in_nil}
+use Rattle.tlv_core.proofs.Found.{Seeks, seeks_one_zero, seeks_past_object, found_here, found_within, none_in_nil, lies_stands}
 use Rattle.tlv_core.proofs.Cuts.{cut, cut_length, cut_empty, padding_first, object_first, cut_rest, cut_value}
 
 -- The reader stands at a place of a list that ends in the bytes, and the first object on the path
@@ -19,7 +19,7 @@ pub record IsIn (bytes : List ℕ) (path : List (List ℕ)) (place end depth : �
   pub inside : place ≤ end
   pub within : end ≤ length bytes
   pub objects : AreObjects (cut bytes place end) depth
-  pub first : (o : Object) → IsFirstAt (cut bytes place end) depth below o → IsFirstAt bytes 1 path o
+  pub first : (p : ℕ) (o : Object) → IsFirstPlaced (cut bytes place end) depth below p o → IsFirstPlaced bytes 1 path (place + p) o
 
 -- Where none is in the rest of the innermost list, the reader goes on behind its template in the next
 -- one, and past the outermost one there is none.
@@ -35,19 +35,26 @@ pub looks_in : (outer bytes : List ℕ) (path : List (List ℕ)) (place end : �
 looks_in [] bytes path place end h = h.0
 looks_in (e ∷ outer) bytes path place end h = h.0
 
-goes_in : (bytes : List ℕ) (path : List (List ℕ)) (place end depth next : ℕ) (below : List (List ℕ)) → next ≤ end
-    → Seeks (cut bytes place end) depth below (cut bytes next end) → AreObjects (cut bytes next end) depth
+goes_in : (bytes : List ℕ) (path : List (List ℕ)) (place end depth next by : ℕ) (below : List (List ℕ)) → next ≡ place + by → next ≤ end
+    → Seeks (cut bytes place end) depth below by (cut bytes next end) → AreObjects (cut bytes next end) depth
     → IsIn bytes path place end depth below → IsIn bytes path next end depth below
-goes_in bytes path place end depth next below low step objects h =
-    record { inside = low; within = h.within; objects = objects; first = λ o at. h.first o (step.first o at) }
+goes_in bytes path place end depth next by below e low step objects h = record {
+  inside = low;
+  within = h.within;
+  objects = objects;
+  first = λ p o at.
+      let there : place + (by + p) ≡ next + p = omega (arith, e) in
+      subst (λ (n : ℕ). IsFirstPlaced bytes 1 path n o) there (h.first (by + p) o (step.first p o at));
+}
 
-goes_on : (outer bytes : List ℕ) (path : List (List ℕ)) (place end next : ℕ) → next ≤ end
-    → Seeks (cut bytes place end) (suc (length outer)) (drop (length outer) path) (cut bytes next end) → AreObjects (cut bytes next end) (suc (length outer))
+goes_on : (outer bytes : List ℕ) (path : List (List ℕ)) (place end next by : ℕ) → next ≡ place + by → next ≤ end
+    → Seeks (cut bytes place end) (suc (length outer)) (drop (length outer) path) by (cut bytes next end)
+    → AreObjects (cut bytes next end) (suc (length outer))
     → Looks outer bytes path place end → Looks outer bytes path next end
-goes_on [] bytes path place end next low step objects (h, done) =
-    (goes_in bytes path place end 1 next path low step objects h, λ none. done (step.none none))
-goes_on (outer_end ∷ outer) bytes path place end next low step objects (h, done) =
-    (goes_in bytes path place end (suc (suc (length outer))) next (drop (suc (length outer)) path) low step objects h, λ none. done (step.none none))
+goes_on [] bytes path place end next by e low step objects (h, done) =
+    (goes_in bytes path place end 1 next by path e low step objects h, λ none. done (step.none none))
+goes_on (outer_end ∷ outer) bytes path place end next by e low step objects (h, done) =
+    (goes_in bytes path place end (suc (suc (length outer))) next by (drop (suc (length outer)) path) e low step objects h, λ none. done (step.none none))
 
 -- A reader at a place of a list, which lies in templates of lists that end at `outer`.
 pub record Stands (outer bytes : List ℕ) (path : List (List ℕ)) (place end : ℕ) : Type 0 where
@@ -63,12 +70,17 @@ stands outer bytes path place end low deep h =
     let i = looks_in outer bytes path place end h in
     record { inside = i.inside; within = i.within; on_path = low; in_depth = deep; looks = h }
 
+starts_at_front : (bytes : List ℕ) (path : List (List ℕ)) (place : ℕ) (o : Object) → IsFirstPlaced bytes 1 path place o
+    → IsFirstPlaced bytes 1 path (0 + place) o
+starts_at_front bytes path place o h =
+    let same : place ≡ 0 + place = omega arith in subst (λ (n : ℕ). IsFirstPlaced bytes 1 path n o) same h
+
 pub stands_at_start : (outer bytes : List ℕ) (path : List (List ℕ)) → outer ≡ [] → 0 < length path → AreObjects bytes 1
     → Stands outer bytes path 0 (length bytes)
 stands_at_start outer bytes path e some objects =
     let all : cut bytes 0 (length bytes) ≡ bytes = take_all (length bytes - 0) bytes (omega arith) in
     rw e (stands [] bytes path 0 (length bytes) some (omega arith) (
-      record { inside = omega arith; within = omega arith; objects = rw all objects; first = λ o at. rw all at at },
+      record { inside = omega arith; within = omega arith; objects = rw all objects; first = λ p o at. starts_at_front bytes path p o (rw all at at) },
       λ none. rw all at none,
     ))
 
@@ -79,9 +91,8 @@ stands_past_zero outer bytes path place end low first h =
     let e = padding_first bytes place end low h.within first in
     let depth = suc (length outer) in
     let below = drop (length outer) path in
-    stands outer bytes path (place + 1) end h.on_path h.in_depth (goes_on outer bytes path place end (place + 1) (omega arith)
-    (rw e (seeks_one_zero (0 ∷ cut bytes (place + 1) end) (cut bytes (place + 1) end) (suc (length outer)) (drop (length outer) path)
-    (seeks_at_start (0 ∷ cut bytes (place + 1) end) (suc (length outer)) (drop (length outer) path))))
+    stands outer bytes path (place + 1) end h.on_path h.in_depth (goes_on outer bytes path place end (place + 1) 1 refl (omega arith)
+    (rw e (seeks_one_zero (cut bytes (place + 1) end) (suc (length outer)) (drop (length outer) path)))
     (objects_past_zero (cut bytes place end) (cut bytes (place + 1) end) (suc (length outer)) e i.objects) h.looks)
 
 -- The object in front is not the one sought, and does not hold it.
@@ -94,9 +105,8 @@ passes outer bytes path t s v r place end next starts here inside e h =
     let fits : next ≤ end =
     omega (arith, starts_length (cut bytes place end) t s v r starts, cut_length bytes place end i.inside i.within, length-append (t ++ s) v) in
     let rest : cut bytes next end ≡ r = cut_rest bytes t s v r place end next starts e fits in
-    goes_on outer bytes path place end next fits
-    (rw rest (seeks_past_object (cut bytes place end) (cut bytes place end) t s v r (suc (length outer)) (drop (length outer) path) starts here inside
-    (seeks_at_start (cut bytes place end) (suc (length outer)) (drop (length outer) path))))
+    goes_on outer bytes path place end next (length (t ++ s ++ v)) e fits
+    (rw rest (seeks_past_object (cut bytes place end) t s v r (suc (length outer)) (drop (length outer) path) starts here inside))
     (rw rest (after_is_spelled (cut bytes place end) t s v r (suc (length outer)) starts i.objects)) h
 
 -- The reader stands at an object, and has the tag that is next on the path.
@@ -167,11 +177,12 @@ stands_in_template outer inner bytes path place end n wanted t s v r g e deep f 
         inside = omega arith;
         within = omega (arith, f.stands.within);
         objects = rw inside (inside_is_spelled (cut bytes place end) t s v r (suc (length outer)) f.starts kind i.objects);
-        first = λ o at.
-            let there : IsFirstAt v (suc (suc (length outer))) (drop (suc (length outer)) path) o = rw (← inside) at in
-            i.first o (found_within (cut bytes place end) (cut bytes place end) t s v r (suc (length outer)) (drop (length outer) path)
-            (drop (suc (length outer)) path) o f.starts kind below some there
-            (seeks_at_start (cut bytes place end) (suc (length outer)) (drop (length outer) path)));
+        first = λ p o at.
+            let there : IsFirstPlaced v (suc (suc (length outer))) (drop (suc (length outer)) path) p o = rw (← inside) at in
+            let behind : place + (length (t ++ s) + p) ≡ end - length r - length v + p = omega (arith, f.within) in
+            subst (λ (n : ℕ). IsFirstPlaced bytes 1 path n o) behind
+            (i.first (length (t ++ s) + p) o (found_within (cut bytes place end) t s v r (suc (length outer)) (drop (length outer) path)
+            (drop (suc (length outer)) path) p o f.starts kind below some there));
       },
       λ none.
           let nowhere : NoneLiesAt v (suc (suc (length outer))) (drop (suc (length outer)) path) = rw (← inside) none in
@@ -186,16 +197,18 @@ stands_in_template outer inner bytes path place end n wanted t s v r g e deep f 
 -- The object is the one sought.
 pub found : (outer bytes : List ℕ) (path : List (List ℕ)) (place end n : ℕ) (wanted t s v r : List ℕ) (o : Object) → n ≡ length outer
     → Faces outer bytes path place end wanted t s v r → t ≡ wanted → n + 1 ≡ length path
-    → o ≡ record { tag = t; size = s; value = v; level = n + 1 } → IsFirstAt bytes 1 path o
+    → o ≡ record { tag = t; size = s; value = v; level = n + 1 } → IsFirstPlaced bytes 1 path place o × StandsAt bytes place o
 found outer bytes path place end n wanted t s v r o e f same last is =
     let i = looks_in outer bytes path place end f.stands.looks in
     let nil : drop (suc (length outer)) path ≡ [] = drop_all (suc (length outer)) path (omega arith) in
     let below : drop (length outer) path ≡ t ∷ [] = goes_below path (length outer) wanted t f.next same ∙ ap (λ x. t ∷ x) nil in
     let level : n + 1 ≡ suc (length outer) = omega arith in
-    let P : ℕ → Type 0 = λ x. IsFirstAt bytes 1 path (record { tag = t; size = s; value = v; level = x }) in
-    rw is (subst P (sym level) (i.first (record { tag = t; size = s; value = v; level = suc (length outer) })
-    (found_here (cut bytes place end) (cut bytes place end) t s v r (suc (length outer)) (drop (length outer) path) f.starts below
-    (seeks_at_start (cut bytes place end) (suc (length outer)) (drop (length outer) path)))))
+    let here : place + 0 ≡ place = omega arith in
+    let P : ℕ → ℕ → Type 0 = λ p x. IsFirstPlaced bytes 1 path p (record { tag = t; size = s; value = v; level = x }) in
+    let first : IsFirstPlaced bytes 1 path place o = rw is (subst (P place) (sym level) (subst (λ (p : ℕ). P p (suc (length outer))) here
+    (i.first 0 (record { tag = t; size = s; value = v; level = suc (length outer) })
+    (found_here (cut bytes place end) t s v r (suc (length outer)) (drop (length outer) path) f.starts below)))) in
+    (first, lies_stands bytes 1 place path o first.here)
 
 pub stands_behind : (outer inner bytes : List ℕ) (path : List (List ℕ)) (place end outer_end : ℕ) → inner ≡ outer_end ∷ outer → place ≡ end
     → Stands inner bytes path place end → Stands outer bytes path place outer_end

@@ -19,5 +19,6 @@ pub mod LengthLaws
 pub mod StartLaws
 pub mod SpellingLaws
 pub mod PlaceLaws
+pub mod PathLaws
 pub mod FaultLaws
 pub mod AddressLaws

@@ -1,5 +1,5 @@
 -- Objects found by the tags that lead to them (this project's profile).
-use Rattle.std.specs.Prelude.{◌≡◌, ℕ, ◌≤◌, List, [], ◌∷◌, ◌++◌}
+use Rattle.std.specs.Prelude.{◌≡◌, ℕ, ◌≤◌, List, [], ◌∷◌, ◌++◌, length}
 use Rattle.tlv_core.specs.Object.{Object}
 use Rattle.tlv_core.specs.Place.{Reached, StartsWith}
 
@@ -14,13 +14,20 @@ pub record LiesAt (bytes : List ℕ) (level : ℕ) (path : List (List ℕ)) (pla
   pub stands : StartsWith left object.tag object.size object.value rest
   pub is_path : path ≡ above ++ object.tag ∷ []
 
--- the first of them in the order of the bytes
-pub record IsFirstAt (bytes : List ℕ) (level : ℕ) (path : List (List ℕ)) (object : Object) : Type 0
-  where
-    pub place : ℕ
-    pub here : LiesAt bytes level path place object
-    pub none_before : (p : ℕ) (other : Object) → LiesAt bytes level path p other → place ≤ p
+-- the first of them in the order of the bytes, with its place
+pub record IsFirstPlaced (bytes : List ℕ) (level : ℕ) (path : List (List ℕ)) (place : ℕ)
+    (object : Object) : Type 0 where
+  pub here : LiesAt bytes level path place object
+  pub none_before : (p : ℕ) (other : Object) → LiesAt bytes level path p other → place ≤ p
+
+abbrev pub IsFirstAt : List ℕ → ℕ → List (List ℕ) → Object → Type 0
+IsFirstAt bytes level path object = (place : ℕ) × IsFirstPlaced bytes level path place object
 
 abbrev pub NoneLiesAt : List ℕ → ℕ → List (List ℕ) → Type 0
 NoneLiesAt bytes level path = (place : ℕ) (object : Object)
     → LiesAt bytes level path place object → ⊥
+
+-- the object's bytes stand at this place
+abbrev pub StandsAt : List ℕ → ℕ → Object → Type 0
+StandsAt bytes place object = (before after : List ℕ) × (place ≡ length before)
+    × (bytes ≡ before ++ object.tag ++ object.size ++ object.value ++ after)

@@ -27,7 +27,7 @@ pub use head_bytes::Head;
 pub use node::Node;
 pub use object_tag::ObjectTag;
 pub use objects::{Obj, Objects};
-pub use path::find;
+pub use path::{find, find_placed};
 pub use read_fault::ReadFault;
 pub use shortest_head::head;
 pub use tag::Tag;

@@ -1,6 +1,6 @@
 ghost use Rattle.std.specs.Prelude.{◌↔◌, IsOk, IfOk, IfErr, MatchOption};
 ghost use Rattle.tlv_core.specs.FirstFault.{IsFirstFault};
-ghost use Rattle.tlv_core.specs.Path.{IsFirstAt, NoneLiesAt};
+ghost use Rattle.tlv_core.specs.Path.{IsFirstAt, IsFirstPlaced, NoneLiesAt, StandsAt};
 ghost use Rattle.tlv_core.specs.Spelling.{AreObjects};
 
 use crate::fault::TlvFault;
@@ -16,15 +16,29 @@ pub fn find<'a>(bytes: &'a [u8], path: &[Tag]) -> Result<Option<Obj<'a>>, TlvFau
         (IsFirstAt bytes.now 1 path.now)) }
     ensures fault { IfErr result (λ fault. IsFirstFault bytes.now 1 fault.place fault.reason) }
 {
+    match find_placed(bytes, path)? {
+        Some((_, object)) => Ok(Some(object)),
+        None => Ok(None),
+    }
+}
+
+/// The object that `find` finds, with the place of its first byte, from 0. None and the faults are
+/// those of `find`.
+pub fn find_placed<'a>(bytes: &'a [u8], path: &[Tag]) -> Result<Option<(usize, Obj<'a>)>, TlvFault>
+    ensures objects { IsOk result ↔ AreObjects bytes.now 1 }
+    ensures found { IfOk result (λ found. MatchOption found (NoneLiesAt bytes.now 1 path.now)
+        (λ f. IsFirstPlaced bytes.now 1 path.now f.0 f.1 × StandsAt bytes.now f.0 f.1)) }
+    ensures fault { IfErr result (λ fault. IsFirstFault bytes.now 1 fault.place fault.reason) }
+{
     Objects::over(bytes)?;
     Ok(find_in(bytes, path))
 }
 
-/// The first object on the path.
-fn find_in<'a>(bytes: &'a [u8], path: &[Tag]) -> Option<Obj<'a>>
+/// The first object on the path, and its place.
+fn find_in<'a>(bytes: &'a [u8], path: &[Tag]) -> Option<(usize, Obj<'a>)>
     requires { AreObjects bytes.now 1 }
     ensures { MatchOption result (NoneLiesAt bytes.now 1 path.now)
-        (IsFirstAt bytes.now 1 path.now) }
+        (λ f. IsFirstPlaced bytes.now 1 path.now f.0 f.1 × StandsAt bytes.now f.0 f.1) }
 {
     if path.is_empty() {
         return None;
@@ -48,7 +62,7 @@ fn find_in<'a>(bytes: &'a [u8], path: &[Tag]) -> Option<Obj<'a>>
             if object.tag != path[open as usize] {
                 place = after;
             } else if open as usize + 1 == path.len() {
-                return Some(Obj::at_level(object, open + 1));
+                return Some((place, Obj::at_level(object, open + 1)));
             } else if object.tag.is_constructed() {
                 ends[open as usize] = end;
                 open += 1;

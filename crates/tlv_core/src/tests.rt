@@ -1,4 +1,4 @@
-use crate::{Obj, ObjectTag, Objects, Reason, Tag, TlvFault, find, head, value_fault};
+use crate::{Obj, ObjectTag, Objects, Reason, Tag, TlvFault, find, find_placed, head, value_fault};
 use std::process::Abort;
 use std::test::Fail;
 
@@ -212,6 +212,44 @@ fn finds_by_path(rt: HostRuntime) {
         find(templates, &[template, first]).expect(&rt, "objects"),
         b"\x50",
         b"\x41",
+    );
+}
+
+/// That the first object on the path stands at a place, and has so many bytes.
+fn stands_at(rt: &impl Abort, bytes: &[u8], path: &[Tag], place: usize, size: usize) {
+    let (start, object) = find_placed(bytes, path)
+        .expect(rt, "objects")
+        .expect(rt, "an object");
+    assert_eq!(rt; (start, object.size()), (place, size), "in {bytes:?}");
+}
+
+#[test]
+fn finds_places(rt: HostRuntime) {
+    let (template, first, second) = (tag(&rt, b"\x70"), tag(&rt, b"\x50"), tag(&rt, b"\x51"));
+    let templates = b"\x70\x03\x50\x01\x41\x70\x03\x51\x01\x42\x70\x03\x50\x01\x43";
+    stands_at(&rt, templates, &[template], 0, 5);
+    stands_at(&rt, templates, &[template, first], 2, 3);
+    stands_at(&rt, templates, &[template, second], 7, 3);
+    let padded = b"\x00\x50\x00\x00\x70\x07\x00\x51\x81\x01\x42\x00\x00";
+    stands_at(&rt, padded, &[template, second], 7, 4);
+    stands_at(&rt, SIXTEEN_LEVELS, &[template; 16], 30, 2);
+    assert!(rt;
+        find_placed(SIXTEEN_LEVELS, &[template; 17])
+            .expect(&rt, "objects")
+            .is_none()
+    );
+    assert!(rt;
+        find_placed(padded, &[second])
+            .expect(&rt, "objects")
+            .is_none()
+    );
+    assert!(rt; find_placed(padded, &[]).expect(&rt, "objects").is_none());
+    assert_eq!(rt;
+        find_placed(b"\x70\x03\x50\x02\xAA", &[template]).err(),
+        Some(TlvFault {
+            place: 2,
+            reason: Reason::ValueCut
+        })
     );
 }
 

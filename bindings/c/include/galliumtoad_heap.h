@@ -1,9 +1,11 @@
-/* The three functions by which the library takes memory. A program has one set of them: those of
- * heap.c (malloc), those of arena.c (a static array), or its own.
+/* galliumtoad_heap.h: the three functions by which the library takes memory. libgalliumtoad.a has a
+ * set of them over malloc, realloc and free; a program that defines all three is linked with its
+ * own.
  *
  * - gt_taken has `some` false and any `at` but NULL where memory is wanting.
  * - A block is aligned to `align`, a power of two up to 16, and has `size` bytes, at least one.
- * - rattle_realloc keeps the first bytes; where memory is wanting the old block stays as it is.
+ * - rattle_realloc keeps the first bytes, as many as both sizes have; where memory is wanting the
+ *   old block stays as it is.
  * - None of them is called from within another, and none may call the library.
  */
 #ifndef GALLIUMTOAD_HEAP_H

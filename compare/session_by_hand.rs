@@ -2,14 +2,18 @@
 //! over a line in memory. They are asked the same as the proved ones, and timed in the same way as
 //! `crates/session_speed` times those.
 //!
-//!     mkdir -p out && rustc --edition 2021 -O -C target-cpu=x86-64-v2 compare/session_by_hand.rs \
-//!         -o out/session_by_hand && out/session_by_hand measure
+//!     mkdir -p out && rustc --edition 2021 -O -C target-cpu=x86-64-v2 -C codegen-units=1 -C lto=fat \
+//!         -C panic=abort compare/session_by_hand.rs -o out/session_by_hand
+//!     out/session_by_hand measure
 //!
 //! The card refuses headers by the same rules in the same order, finds objects by hash, and changes
-//! nothing before the second status character; the terminal follows `6CXX` and `61XX`. There are no
-//! plans and no watch, and the value of a constructed tag, which no load puts, is not checked.
+//! nothing before the second status character; the terminal follows `6CXX` and `61XX`. Want of memory
+//! is told where the proved ones tell it: an operation's room and the place of its answer are taken
+//! before its first character, an answer keeps its data alone, and a put that finds no memory is
+//! answered `6581`. There are no plans and no watch, the data of a TPDU are not cleared after it, and
+//! the value of a constructed tag, which no load puts, is not checked.
 
-use std::collections::HashMap;
+use std::collections::{HashMap, TryReserveError};
 use std::env;
 use std::hash::{BuildHasherDefault, Hasher};
 use std::time::Instant;
@@ -85,6 +89,13 @@ enum Fault {
     NotListening,
     AfterEnd,
     Stalled,
+    OutOfMemory,
+}
+
+impl From<TryReserveError> for Fault {
+    fn from(_: TryReserveError) -> Fault {
+        Fault::OutOfMemory
+    }
 }
 
 enum HostTurn {
@@ -301,6 +312,18 @@ struct Application {
 }
 
 impl Application {
+    /// A copy of a value, and a place for its tag if it has none.
+    fn made_ready(&mut self, is_new: bool, value: &[u8]) -> Result<Vec<u8>, TryReserveError> {
+        if is_new {
+            self.places.try_reserve(1)?;
+            self.entries.try_reserve(1)?;
+        }
+        let mut copy = Vec::new();
+        copy.try_reserve_exact(value.len())?;
+        copy.extend_from_slice(value);
+        Ok(copy)
+    }
+
     fn store(&mut self, tag: u16, value: Vec<u8>, locked: bool) {
         match self.places.get(&tag) {
             Some(place) => self.entries[*place].value = value,
@@ -625,15 +648,20 @@ impl Card {
     }
 
     /// The answer to the last command of a put.
-    fn put(&self, header: Header) -> (Status, Outcome) {
-        let (Some(tag), Some(application)) = (named_tag(header), self.chosen()) else {
-            return (status(0x69, 0x85), Outcome::Leaves { response: None });
+    fn put(&mut self, header: Header) -> (Status, Outcome) {
+        let refused = Outcome::Leaves { response: None };
+        let (Some(tag), Some(selected)) = (named_tag(header), self.selected) else {
+            return (status(0x69, 0x85), refused);
         };
-        if !application.places.contains_key(&tag) && application.entries.len() == ENTRY_LIMIT {
-            return (status(0x6A, 0x84), Outcome::Leaves { response: None });
+        let application = &mut self.applications[selected];
+        let is_new = !application.places.contains_key(&tag);
+        if is_new && application.entries.len() == ENTRY_LIMIT {
+            return (status(0x6A, 0x84), refused);
         }
-        let value = self.chained.clone();
-        (OK, Outcome::Stores { tag, value })
+        match application.made_ready(is_new, &self.chained) {
+            Ok(value) => (OK, Outcome::Stores { tag, value }),
+            Err(_) => (status(0x65, 0x81), refused),
+        }
     }
 
     /// What was decided comes to stand.
@@ -720,6 +748,7 @@ fn converse(
 
 fn carry_out(op: &Op, card: &mut Card, mut seen: impl FnMut(u8)) -> Result<Answer, Fault> {
     let mut room = Vec::new();
+    room.try_reserve_exact(RESPONSE_LIMIT)?;
     let status = match op {
         Op::Select(aid) => {
             let header = Header::new(0x00, SELECT, 0x04, 0x00);
@@ -752,17 +781,32 @@ fn carry_out(op: &Op, card: &mut Card, mut seen: impl FnMut(u8)) -> Result<Answe
             }
         }
     };
+    room.shrink_to_fit();
     Ok(Answer {
         status,
         content: room,
     })
 }
 
-fn run(ops: &[Op], card: &mut Card, mut seen: impl FnMut(u8)) {
-    let mut answers = Vec::new();
+/// Carries out the operations in turn, and appends an answer for each. A fault comes before the first
+/// character of an operation, or from the line.
+fn run(
+    ops: &[Op],
+    card: &mut Card,
+    mut seen: impl FnMut(u8),
+    answers: &mut Vec<Answer>,
+) -> Result<(), Fault> {
     for op in ops {
-        answers.push(carry_out(op, card, &mut seen).expect("no fault on the line"));
+        answers.try_reserve(1)?;
+        answers.push(carry_out(op, card, &mut seen)?);
     }
+    Ok(())
+}
+
+/// Carries out operations, all of which the card answers with `9000`.
+fn run_all(ops: &[Op], card: &mut Card, seen: impl FnMut(u8)) {
+    let mut answers = Vec::new();
+    run(ops, card, seen, &mut answers).expect("no fault");
     for answer in &answers {
         assert_eq!(answer.status, OK);
         std::hint::black_box(&answer.content);
@@ -798,7 +842,7 @@ fn selected() -> Card {
         application.store(tag, vec![CONTENT; object.size], false);
     }
     let mut card = Card::new(vec![application]);
-    run(&[Op::Select(AID.to_vec())], &mut card, |_| {});
+    run_all(&[Op::Select(AID.to_vec())], &mut card, |_| {});
     card
 }
 
@@ -807,7 +851,7 @@ fn main() {
     let mut card = selected();
     for load in &LOADS {
         let mut characters = 0;
-        run(&[operation(load)], &mut card, |_| characters += 1);
+        run_all(&[operation(load)], &mut card, |_| characters += 1);
         println!(
             "{}: {} TPDUs, {characters} characters",
             load.name, load.tpdus
@@ -816,7 +860,7 @@ fn main() {
             let ops: Vec<Op> = (0..load.length).map(|_| operation(load)).collect();
             let start = Instant::now();
             for _ in 0..load.rounds {
-                run(&ops, &mut card, |_| {});
+                run_all(&ops, &mut card, |_| {});
             }
             let seconds = start.elapsed().as_secs_f64();
             let rate = load.operations() as f64 / seconds;

@@ -24,6 +24,7 @@ impl Wanted {
     }
 
     /// What is still wanted where so many bytes are gathered.
+    #[inline(never)]
     pub fn less(self, gathered: usize) -> Wanted
         ensures { result ≡ less self gathered }
     {

@@ -369,7 +369,8 @@ fn hand_out<C: TpduCard, A: Allocator>(
 {
     match phase {
         Phase::Opening { bytes, .. } => {
-            *phase = judged(card, *bytes, plans.advance());
+            let header = *bytes;
+            judge(card, phase, header, plans.advance());
             go_on(card, phase, came, plans.steps())
         }
         Phase::Refused { .. } | Phase::Accepted { .. } | Phase::SecondStatus { .. } => {
@@ -378,29 +379,32 @@ fn hand_out<C: TpduCard, A: Allocator>(
     }
 }
 
-/// The card's verdict on a header.
-fn judged<C: TpduCard>(card: &mut C, bytes: [u8; 5], cut: u16) -> Phase
+/// Takes the phase past a header, by the card's verdict on it. It stands apart from what each
+/// character comes through.
+#[inline(never)]
+fn judge<C: TpduCard>(card: &mut C, phase: &mut Phase, bytes: [u8; 5], cut: u16)
     requires five { length bytes ≡ 5 }
     requires cut { (1 ≤ cut) × (cut ≤ 256) }
-    ensures fits { Fits (C.prepared card.new) result }
-    ensures judged { IsVerdict result }
-    ensures due { (came : List ℕ) → listens (stage_of result came) ≡ false }
+    ensures fits { Fits (C.prepared card.new) phase.new }
+    ensures judged { IsVerdict phase.new }
+    ensures due { (came : List ℕ) → listens (stage_of phase.new came) ≡ false }
     ensures falls { (came : List ℕ) (plan : Course)
-        → still_to_go (stage_of result came) plan < length plan.steps + 300 }
+        → still_to_go (stage_of phase.new came) plan < length plan.steps + 300 }
     ensures stands { C.standing card.new ≡ C.standing card.old }
-    ensures permitted { (header : Header) (p3 : ℕ) (came : List ℕ) → bytes ≡ begins_with header p3 →
-        IsPermitted C.MayReceive C.MaySend header.ins (stage_of result came) }
+    ensures permitted { (header : Header) (p3 : ℕ) (came : List ℕ)
+        → bytes ≡ begins_with header p3 →
+        IsPermitted C.MayReceive C.MaySend header.ins (stage_of phase.new came) }
     ensures opens { (header : Header) (p3 : ℕ) (direction : Direction) (came : List ℕ)
         → bytes ≡ begins_with header p3 →
-        SuitsFront (stage_of result came) (In_body (header_only header p3 direction)) →
-        StandsAt C.Does (C.standing card.old) (C.prepared card.new) (stage_of result came) cut
+        SuitsFront (stage_of phase.new came) (In_body (header_only header p3 direction)) →
+        StandsAt C.Does (C.standing card.old) (C.prepared card.new) (stage_of phase.new came) cut
         (In_body (header_only header p3 direction))
-        × ((plan : Course) → IsOnPlan (stage_of result came) plan
+        × ((plan : Course) → IsOnPlan (stage_of phase.new came) plan
         (In_body (header_only header p3 direction))) }
 {
     let [cla, ins, p1, p2, p3] = bytes;
     let header = Header { cla, ins, p1, p2 };
-    match card.header(header, p3, cut) {
+    *phase = match card.header(header, p3, cut) {
         Verdict::Refuse(status) => Phase::Refused {
             header,
             p3,
@@ -413,7 +417,7 @@ fn judged<C: TpduCard>(card: &mut C, bytes: [u8; 5], cut: u16) -> Phase
         Verdict::Send => Phase::Accepted {
             service: Service::new(header, p3, Direction::FromCard),
         },
-    }
+    };
 }
 
 /// Hands out the card's next character after its verdict, and takes the phase past it.

@@ -84,6 +84,6 @@ impl<A: Allocator> Gather<A> {
               self.old.limit;
         } }
     {
-        self.bytes.push(byte).unwrap();
+        self.bytes.push_reserved(byte);
     }
 }

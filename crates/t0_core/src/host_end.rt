@@ -317,7 +317,11 @@ fn take_at<A: Allocator>(
         HostStage::Moving { moved, until } => {
             let (place, end) = (*moved, *until);
             take_data(&request.transfer, byte, gather)?;
-            *stage = stage_moving(place + 1, end);
+            if place + 1 < end {
+                *moved = place + 1;
+            } else {
+                *stage = HostStage::Awaiting { moved: place + 1 };
+            }
         }
         HostStage::SendingHeader { .. } => return Err(LineFault::NotListening),
         HostStage::Awaiting { moved } => {

@@ -198,6 +198,7 @@ impl<C: DataCard> Session<C> {
     }
 
     /// Passes the characters of an exchange that is begun until it is over, and answers its status.
+    #[inline(always)]
     fn converse<A: Allocator, B: Allocator, W: Watch>(
         &mut self,
         exchange: &mut Exchange<'_, A>,

@@ -13,32 +13,32 @@ returns-in-Opening-clause-advances g c = λ cut front taken stands.
     let came = c.args.came.now in
     let plan = plan_kept c.advance.new.self in
     let old = card.standing c.args.card.now in
-    let judged = stage_of c.judged.result came in
+    let judged = stage_of c.judge.new.phase came in
     let new = card.standing c.go_on.new.card in
     let stage = stage_of c.go_on.new.phase came in
     let Held : Phase → Type 0 = λ p. Fits (card.prepared c.args.card.now) p in
     let held = subst Held c.in-Opening.is c.requires.fits in
     let takes = taken (takes_a_plan c.args.phase.now c.in-Opening.bytes came c.in-Opening.taken
     c.in-Opening.is held c.requires.due) in
-    opening_advances card.Does cut plan c.args.phase.now c.judged.result c.in-Opening.bytes came
+    opening_advances card.Does cut plan c.args.phase.now c.judge.new.phase c.in-Opening.bytes came
     c.in-Opening.taken c.go_on.result front old new
     (card.prepared c.args.card.now) (card.prepared c.go_on.new.card) stage c.in-Opening.is held
-    c.requires.due c.judged.ensures.judged c.go_on.ensures.keeps takes.1
+    c.requires.due c.judge.ensures.judged c.go_on.ensures.keeps takes.1
     (λ h p3 d whole suits.
-    let at = c.judged.ensures.opens h p3 d came whole suits in
+    let at = c.judge.ensures.opens h p3 d came whole suits in
     let AtCut : ℕ → Type 0 =
-    λ n. StandsAt card.Does old (card.prepared c.judged.new.card) judged n
+    λ n. StandsAt card.Does old (card.prepared c.judge.new.card) judged n
     (In_body (header_only h p3 d)) in
     let AtState : card.State → Type 0 =
-    λ s. StandsAt card.Does s (card.prepared c.judged.new.card) judged cut
+    λ s. StandsAt card.Does s (card.prepared c.judge.new.card) judged cut
     (In_body (header_only h p3 d)) in
     let From : card.State → Type 0 =
     λ s. Advances card.Does cut plan judged (In_body (header_only h p3 d)) c.go_on.result s
     new (card.prepared c.go_on.new.card) stage in
     let cut_is : cut ≡ c.advance.result = takes.0 ∙ sym c.advance.ensures.cut in (
-      subst From c.judged.ensures.stands
+      subst From c.judge.ensures.stands
           (c.go_on.ensures.advances cut plan (In_body (header_only h p3 d)) (sym c.steps.ensures)
-          (subst AtState (sym c.judged.ensures.stands) (subst AtCut (sym cut_is) at.0))),
+          (subst AtState (sym c.judge.ensures.stands) (subst AtCut (sym cut_is) at.0))),
       at.1 plan,
     )) stands
 

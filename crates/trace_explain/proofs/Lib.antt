@@ -1,0 +1,3 @@
+pub mod NotedLemmas
+pub mod ExplainedLemmas
+pub mod TraceLemmas

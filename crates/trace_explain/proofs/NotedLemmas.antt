@@ -1,0 +1,325 @@
+-- What is told of dialogues, one character or one reset further.
+use Rattle.std.proofs.Common.{◌≡◌, ℕ, ◌<◌, List, [], ◌∷◌, ◌++◌, refl, sym, subst, ◌∙◌, ap, ◌⊎◌, inl, inr, lit<, true, false, append-nil, append_assoc, map, ◌+◌, length, take, get_or}
+use Rattle.std.proofs.lemmas.List.{map-append, take_more}
+use Rattle.std.specs.List.{flat_map}
+use Rattle.std.proofs.lemmas.List.Sums.{fold-append}
+use Rattle.t0_core.specs.declared.direction.Direction.{Direction}
+use Rattle.t0_core.specs.declared.plan.Step.{Step}
+use Rattle.t0_core.specs.declared.heard.Heard.{Heard}
+use Rattle.t0_core.specs.declared.heard.Heard.TheVariants as heard
+use Rattle.t0_core.specs.declared.end.End.{End}
+use Rattle.t0_core.specs.Character.{Character, sent_by}
+use Rattle.t0_core.specs.Dialogue.{Body, Dialogue}
+use Rattle.t0_core.specs.DialogueLaws.{all_more, flat_map_last}
+use Rattle.t0_core.specs.Front.{Front, In_header, In_body, After_first, GoesOn, Ends, fresh, front_characters, with_segment, with_moved}
+use Rattle.t0_core.specs.History.{Event, Passed, Reset, Item, Whole, Cut_off, events_of, passed}
+use Rattle.t0_core.specs.TapSide.{Place, In_opening, Between, In_data, After_sw1, TapStandsAt, IsReadFront, Makes, Concludes, turned, turned_body, afresh}
+use Rattle.t0_core.specs.TapHistory.{HasHeard, HearsOn, IsOverheard}
+use Rattle.trace_explain.specs.declared.listener.Listener.{Listener}
+use Rattle.trace_explain.specs.declared.tpdu.Tpdu.{Tpdu}
+use Rattle.trace_explain.specs.Told.{Told, told_by, counted, uncounted, untold, noted, is_last, TellsBody, TellsFront, Tells}
+use Rattle.trace_explain.specs.Noted.{HasNoted, TellsItems}
+
+-- what is told says nothing of a direction that nobody has seen
+tells_turned_body : (t : Told) (way : Direction) (b : Body) → TellsBody t b
+    → TellsBody t (turned_body way b)
+tells_turned_body t way b h =
+    record { header_is = h.header_is; tally_is = h.tally_is; moved_is = h.moved_is }
+
+tells_turned : (t : Told) (way : Direction) (front : Front) → TellsFront t front
+    → TellsFront t (turned way front)
+tells_turned t way (In_header bytes) h = h
+tells_turned t way (In_body b) h = (tells_turned_body t way b h.0, h.1)
+tells_turned t way (After_first b sw1) h = (tells_turned_body t way b h.0, h.1)
+
+-- one character more
+in_header : (t : Told) (bytes : List ℕ) (c : Character) (new : Front)
+    → TellsFront t (In_header bytes) → GoesOn (In_header bytes) c new
+    → TellsFront (noted t heard.Header c.1) new
+in_header t bytes c new h (way, inl (short, is)) =
+    let P : Front → Type 0 = λ f. TellsFront (noted t heard.Header c.1) f in
+    subst P (sym is) (
+      record {
+        header_is = ap (λ x. x ++ c.1 ∷ []) h.0.header_is;
+        tally_is = h.0.tally_is;
+        moved_is = h.0.moved_is;
+      },
+      h.1,
+    )
+in_header t bytes c new h (way, inr (header, direction, bytes_are, is)) =
+    let P : Front → Type 0 = λ f. TellsFront (noted t heard.Header c.1) f in
+    subst P (sym is) (
+      record {
+        header_is = ap (λ x. x ++ c.1 ∷ []) (h.0.header_is ∙ bytes_are);
+        tally_is = h.0.tally_is;
+        moved_is = h.0.moved_is;
+      },
+      h.1,
+    )
+
+in_segment : (t : Told) (b : Body) (step : Step) (byte : ℕ) → TellsFront t (In_body b)
+    → TellsFront (noted t (heard.Procedure step) byte) (In_body (with_segment b step))
+in_segment t b step byte h = (
+  record {
+    header_is = h.0.header_is;
+    tally_is = ap (λ x. counted x step) h.0.tally_is
+        ∙ sym (fold-append counted uncounted b.segments (step ∷ []));
+    moved_is = h.0.moved_is;
+  },
+  h.1,
+)
+
+in_data : (t : Told) (b : Body) (direction : Direction) (byte : ℕ) → TellsFront t (In_body b)
+    → TellsFront (noted t (heard.Data direction) byte) (In_body (with_moved b byte))
+in_data t b direction byte h = (
+  record {
+    header_is = h.0.header_is;
+    tally_is = h.0.tally_is;
+    moved_is = ap (λ x. x ++ byte ∷ []) h.0.moved_is;
+  },
+  h.1,
+)
+
+in_first : (t : Told) (b : Body) (byte : ℕ) → TellsFront t (In_body b)
+    → TellsFront (noted t heard.FirstStatus byte) (After_first b byte)
+in_first t b byte h = (
+  record {
+    header_is = h.0.header_is;
+    tally_is = h.0.tally_is;
+    moved_is = h.0.moved_is;
+  },
+  ap (λ x. x ++ byte ∷ []) h.1,
+)
+
+noted_goes : (t : Told) (front new : Front) (h : Heard) (c : Character) → TellsFront t front
+    → GoesOn front c new → Makes h front c new → TellsFront (noted t h c.1) new
+noted_goes t front new heard.Header c tells goes (bytes, is) =
+    let P : Front → Type 0 = λ f. TellsFront t f in
+    let G : Front → Type 0 = λ f. GoesOn f c new in
+    in_header t bytes c new (subst P is tells) (subst G is goes)
+noted_goes t front new (heard.Procedure step) c tells goes (b, is, next) =
+    let P : Front → Type 0 = λ f. TellsFront t f in
+    let Q : Front → Type 0 = λ f. TellsFront (noted t (heard.Procedure step) c.1) f in
+    subst Q (sym next) (in_segment t b step c.1 (subst P is tells))
+noted_goes t front new (heard.Data direction) c tells goes (b, is, way, next) =
+    let P : Front → Type 0 = λ f. TellsFront t f in
+    let Q : Front → Type 0 = λ f. TellsFront (noted t (heard.Data direction) c.1) f in
+    subst Q (sym next) (in_data t b direction c.1 (subst P is tells))
+noted_goes t front new heard.FirstStatus c tells goes (b, is, next) =
+    let P : Front → Type 0 = λ f. TellsFront t f in
+    let Q : Front → Type 0 = λ f. TellsFront (noted t heard.FirstStatus c.1) f in
+    subst Q (sym next) (in_first t b c.1 (subst P is tells))
+noted_goes t front new (heard.SecondStatus said status) c tells goes bad = absurd bad
+
+-- and the last one
+noted_ends : (t : Told) (front : Front) (d : Dialogue) (h : Heard) (c : Character)
+    → TellsFront t front → Ends front c d → Concludes h d → Tells (noted t h c.1) d
+noted_ends t (In_header bytes) d h c tells ends ends_so = absurd ends
+noted_ends t (In_body b) d h c tells ends ends_so = absurd ends
+noted_ends t (After_first b sw1) d heard.Header c tells ends bad = absurd bad
+noted_ends t (After_first b sw1) d (heard.Procedure step) c tells ends bad = absurd bad
+noted_ends t (After_first b sw1) d (heard.Data direction) c tells ends bad = absurd bad
+noted_ends t (After_first b sw1) d heard.FirstStatus c tells ends bad = absurd bad
+noted_ends t (After_first b sw1) d (heard.SecondStatus said status) c tells ends ends_so =
+    let t2 : Told = noted t (heard.SecondStatus said status) c.1 in
+    let P : Dialogue → Type 0 = λ e. TellsBody t2 e.body in
+    record {
+      body = subst P (sym ends.2) (record {
+        header_is = tells.0.header_is;
+        tally_is = tells.0.tally_is;
+        moved_is = tells.0.moved_is;
+      });
+      way = ends_so.0.shows;
+      status_is = ap (λ x. x ++ c.1 ∷ []) tells.1
+          ∙ sym (ap (λ (e : Dialogue). e.status.0 ∷ e.status.1 ∷ []) ends.2);
+    }
+
+-- which of the two it is
+makes_no_last : (h : Heard) (front new : Front) (c : Character) → Makes h front c new
+    → is_last h ≡ true → ⊥
+makes_no_last heard.Header front new c makes last = absurd (cc)
+makes_no_last (heard.Procedure step) front new c makes last = absurd (cc)
+makes_no_last (heard.Data direction) front new c makes last = absurd (cc)
+makes_no_last heard.FirstStatus front new c makes last = absurd (cc)
+makes_no_last (heard.SecondStatus said status) front new c makes last = absurd makes
+
+ends_last : (h : Heard) (d : Dialogue) → Concludes h d → is_last h ≡ false → ⊥
+ends_last heard.Header d ends_so last = absurd ends_so
+ends_last (heard.Procedure step) d ends_so last = absurd ends_so
+ends_last (heard.Data direction) d ends_so last = absurd ends_so
+ends_last heard.FirstStatus d ends_so last = absurd ends_so
+ends_last (heard.SecondStatus said status) d ends_so last = absurd (cc)
+
+-- one dialogue more, or one that was cut off
+tells_one_more : (items : List Item) (told : List Told) (d : Dialogue) (t : Told)
+    → TellsItems items told → Tells t d → TellsItems (items ++ Whole d ∷ []) (told ++ t ∷ [])
+tells_one_more [] [] d t h this = (this, tt)
+tells_one_more [] (u ∷ told) d t h this = absurd h
+tells_one_more (Whole e ∷ items) [] d t h this = absurd h
+tells_one_more (Whole e ∷ items) (u ∷ told) d t h this =
+    (h.0, tells_one_more items told d t h.1 this)
+tells_one_more (Cut_off part ∷ items) told d t h this = tells_one_more items told d t h this
+
+tells_cut_off : (items : List Item) (told : List Told) (part : List Character)
+    → TellsItems items told → TellsItems (items ++ Cut_off part ∷ []) told
+tells_cut_off [] [] part h = tt
+tells_cut_off [] (u ∷ told) part h = absurd h
+tells_cut_off (Whole e ∷ items) [] part h = absurd h
+tells_cut_off (Whole e ∷ items) (u ∷ told) part h = (h.0, tells_cut_off items told part h.1)
+tells_cut_off (Cut_off other ∷ items) told part h = tells_cut_off items told part h
+
+tells_nothing : TellsFront untold fresh
+tells_nothing = (record { header_is = refl; tally_is = refl; moved_is = refl }, refl)
+
+-- A character has been heard that ends no dialogue, or one that does.
+pub heard_inside : (events : List Event) (told : List Told) (old new : Listener) (h : Heard)
+    (c : Character) (n : HasNoted events told old) → HearsOn n.heard h c new.tap
+    → is_last h ≡ false → told_by new.under_way ≡ noted (told_by old.under_way) h c.1
+    → HasNoted (events ++ Passed c ∷ []) told new
+heard_inside events told old new h c n on inside is = split on.goes
+  where
+    split : (GoesOn (turned on.way n.heard.front) c on.now.front
+        × Makes h (turned on.way n.heard.front) c on.now.front
+        × (on.now.items ≡ n.heard.items))
+        ⊎ ((d : Dialogue) × Ends (turned on.way n.heard.front) c d × Concludes h d
+        × (on.now.front ≡ fresh) × (on.now.items ≡ n.heard.items ++ Whole d ∷ []))
+        → HasNoted (events ++ Passed c ∷ []) told new
+    split (inl (goes, makes, items_are)) =
+        let P : List Item → Type 0 = λ items. TellsItems items told in
+        let Q : Told → Type 0 = λ t. TellsFront t on.now.front in
+        record {
+          heard = on.now;
+          are_told = subst P (sym items_are) n.are_told;
+          under_way = subst Q (sym is)
+              (noted_goes (told_by old.under_way) (turned on.way n.heard.front) on.now.front h c
+              (tells_turned (told_by old.under_way) on.way n.heard.front n.under_way) goes makes);
+        }
+    split (inr (d, ends, ends_so, front_is, items_are)) = absurd (ends_last h d ends_so inside)
+
+pub heard_last : (events : List Event) (told : List Told) (old new : Listener) (h : Heard)
+    (c : Character) (n : HasNoted events told old) → HearsOn n.heard h c new.tap
+    → is_last h ≡ true → told_by new.under_way ≡ untold
+    → HasNoted (events ++ Passed c ∷ []) (told ++ noted (told_by old.under_way) h c.1 ∷ []) new
+heard_last events told old new h c n on last is = split on.goes
+  where
+    split : (GoesOn (turned on.way n.heard.front) c on.now.front
+        × Makes h (turned on.way n.heard.front) c on.now.front
+        × (on.now.items ≡ n.heard.items))
+        ⊎ ((d : Dialogue) × Ends (turned on.way n.heard.front) c d × Concludes h d
+        × (on.now.front ≡ fresh) × (on.now.items ≡ n.heard.items ++ Whole d ∷ []))
+        → HasNoted (events ++ Passed c ∷ []) (told ++ noted (told_by old.under_way) h c.1 ∷ []) new
+    split (inl (goes, makes, items_are)) =
+        absurd (makes_no_last h (turned on.way n.heard.front) on.now.front c makes last)
+    split (inr (d, ends, ends_so, front_is, items_are)) =
+        let t2 : Told = noted (told_by old.under_way) h c.1 in
+        let P : List Item → Type 0 = λ items. TellsItems items (told ++ t2 ∷ []) in
+        let Q : Told → Type 0 = λ t. TellsFront t on.now.front in
+        let R : Front → Type 0 = λ f. TellsFront untold f in
+        record {
+          heard = on.now;
+          are_told = subst P (sym items_are) (tells_one_more n.heard.items told d t2 n.are_told
+              (noted_ends (told_by old.under_way) (turned on.way n.heard.front) d h c
+              (tells_turned (told_by old.under_way) on.way n.heard.front n.under_way) ends ends_so));
+          under_way = subst Q (sym is) (subst R (sym front_is) tells_nothing);
+        }
+
+-- a front at which a tap stands is one that it reads
+stands_read : (place : Place) (front : Front) → TapStandsAt place front → IsReadFront front
+stands_read (In_opening bytes) (In_header heard) s = tt
+stands_read (In_opening bytes) (In_body b) s = absurd s
+stands_read (In_opening bytes) (After_first b first) s = absurd s
+stands_read (Between said) (In_header heard) s = absurd s
+stands_read (Between said) (In_body b) s = s.0.is_read
+stands_read (Between said) (After_first b first) s = absurd s
+stands_read (In_data said until) (In_header heard) s = absurd s
+stands_read (In_data said until) (In_body b) s = s.0.is_read
+stands_read (In_data said until) (After_first b first) s = absurd s
+stands_read (After_sw1 said sw1) (In_header heard) s = absurd s
+stands_read (After_sw1 said sw1) (In_body b) s = absurd s
+stands_read (After_sw1 said sw1) (After_first b first) s = s.0.is_read
+
+events_cut_off : (events : List Event) (items : List Item) (part : List Character)
+    → events ≡ flat_map events_of items ++ passed part
+    → events ++ Reset ∷ [] ≡ flat_map events_of (items ++ Cut_off part ∷ [])
+    ++ passed (front_characters fresh)
+events_cut_off events items part is =
+    ap (λ es. es ++ Reset ∷ []) is
+    ∙ append_assoc (flat_map events_of items) (passed part) (Reset ∷ [])
+    ∙ sym (flat_map_last events_of items (Cut_off part))
+    ∙ sym (append-nil (flat_map events_of (items ++ Cut_off part ∷ [])))
+
+-- a reset has come
+pub heard_reset : (events : List Event) (told : List Told) (old new : Listener)
+    → HasNoted events told old → new.tap ≡ afresh → told_by new.under_way ≡ untold
+    → HasNoted (events ++ Reset ∷ []) told new
+heard_reset events told old new n tap_is is =
+    let part = front_characters n.heard.front in
+    let S : Place → Type 0 = λ p. TapStandsAt p fresh in
+    let Q : Told → Type 0 = λ t. TellsFront t fresh in
+    record {
+      heard = record {
+        items = n.heard.items ++ Cut_off part ∷ [];
+        front = fresh;
+        events_are = events_cut_off events n.heard.items part n.heard.events_are;
+        are_overheard = all_more IsOverheard n.heard.items (Cut_off part) n.heard.are_overheard
+            (n.heard.front, n.heard.is_front, stands_read old.tap n.heard.front n.heard.stands, refl);
+        is_front = lit< tt;
+        stands = subst S (sym tap_is) (refl, lit< tt);
+      };
+      are_told = tells_cut_off n.heard.items told part n.are_told;
+      under_way = subst Q (sym is) tells_nothing;
+    }
+
+-- nothing has come
+pub heard_nothing : (new : Listener) → HasHeard [] new.tap → told_by new.under_way ≡ untold
+    → new.tap ≡ afresh → HasNoted [] [] new
+heard_nothing new led is tap_is =
+    let S : Place → Type 0 = λ p. TapStandsAt p fresh in
+    let Q : Told → Type 0 = λ t. TellsFront t fresh in
+    record {
+      heard = record {
+        items = [];
+        front = fresh;
+        events_are = refl;
+        are_overheard = tt;
+        is_front = lit< tt;
+        stands = subst S (sym tap_is) (refl, lit< tt);
+      };
+      are_told = tt;
+      under_way = subst Q (sym is) tells_nothing;
+    }
+
+-- one more is told
+pub told_more : (before : List Told) (old new : List Tpdu) (whole : Tpdu) (t : Told)
+    → new ≡ old ++ whole ∷ [] → told_by whole ≡ t
+    → before ++ map told_by old ++ t ∷ [] ≡ before ++ map told_by new
+told_more before old new whole t more is =
+    append_assoc before (map told_by old) (t ∷ [])
+    ∙ ap (λ x. before ++ (map told_by old ++ x ∷ [])) (sym is)
+    ∙ ap (λ x. before ++ x) (sym (map-append told_by old (whole ∷ [])) ∙ ap (map told_by) (sym more))
+
+pub heard_told : (events : List Event) (before : List Told) (was now : List Tpdu) (whole : Tpdu)
+    (old new : Listener) (h : Heard) (c : Character)
+    (n : HasNoted events (before ++ map told_by was) old) → HearsOn n.heard h c new.tap
+    → is_last h ≡ true → told_by new.under_way ≡ untold
+    → now ≡ was ++ whole ∷ [] → told_by whole ≡ noted (told_by old.under_way) h c.1
+    → HasNoted (events ++ Passed c ∷ []) (before ++ map told_by now) new
+heard_told events before was now whole old new h c n on last is more whole_is =
+    let P : List Told → Type 0 = λ told. HasNoted (events ++ Passed c ∷ []) told new in
+    subst P (told_more before was now whole (noted (told_by old.under_way) h c.1) more whole_is)
+    (heard_last events (before ++ map told_by was) old new h c n on last is)
+
+-- the characters of a line up to a place, and one more
+pub events_more : (events : List Event) (from : End) (bytes : List ℕ) (place : ℕ)
+    → place < length bytes
+    → events ++ passed (sent_by from (take place bytes)) ++ Passed (from, get_or bytes place 0) ∷ []
+    ≡ events ++ passed (sent_by from (take (place + 1) bytes))
+events_more events from bytes place lt =
+    append_assoc events (passed (sent_by from (take place bytes)))
+    (Passed (from, get_or bytes place 0) ∷ [])
+    ∙ ap (λ x. events ++ x)
+    (sym (map-append (λ c. Passed c) (sent_by from (take place bytes))
+    ((from, get_or bytes place 0) ∷ []))
+    ∙ ap passed (sym (map-append (λ byte. (from, byte)) (take place bytes)
+    (get_or bytes place 0 ∷ [])))
+    ∙ ap (λ x. passed (sent_by from x)) (sym (take_more bytes place 0 lt)))

@@ -1,0 +1,305 @@
+-- A whole trace, one byte or one line further.
+use Rattle.std.proofs.Common.{◌≡◌, ℕ, ◌+◌, ◌<◌, ◌≤◌, List, [], ◌∷◌, ◌++◌, length, drop, add-one, get_or, Bool, true, false, ◌==◌, refl, sym, ap, subst, ◌∙◌, append-nil, append_assoc, Result, Ok, Err, IfErr, OnOk, IsErrAnd, Option, Some, None, IfSome, take}
+use Rattle.std.proofs.Math.Seq.{drop-cons}
+use Rattle.std.proofs.lemmas.List.{drop_all}
+use Rattle.std.specs.Io.KnownBytes.{Consumes, IsAtEnd}
+use Rattle.std.specs.Str.Lines.{strip_carriage_return}
+use Rattle.t0_core.specs.History.{Event}
+use Rattle.trace_explain.specs.declared.explain_fault.ExplainFault.{ExplainFault}
+use Rattle.trace_explain.specs.declared.explain_fault.ExplainFault.TheVariants as fault
+use Rattle.trace_explain.specs.declared.explainer.Explainer.{Explainer}
+use Rattle.trace_explain.specs.declared.trace_line.TraceLine.{TraceLine}
+use Rattle.trace_explain.specs.Told.{Told}
+use Rattle.trace_explain.specs.Lines.{Says, events_in, begins_then}
+use Rattle.trace_explain.specs.Explained.{HasExplained, ExplainsLine, StopsAtLine}
+use Rattle.trace_explain.specs.Trace.{lines_from, lines_of, IsResumed, SayInTurn, IsExplained, StopsIn, HasCome}
+
+-- one line more says its events behind the others
+say_more : (begins mid after : Bool) (before : List (List ℕ)) (line : List ℕ) (said : TraceLine)
+    (events : List Event) → SayInTurn begins before events mid → Says line said
+    → after ≡ begins_then mid said
+    → SayInTurn begins (before ++ line ∷ []) (events ++ events_in mid said) after
+say_more begins mid after [] line said events (none, same) says is =
+    let P : List Event → Type 0 = λ es.
+    SayInTurn begins (line ∷ []) (es ++ events_in mid said) after in
+    let Q : Bool → Type 0 = λ b. SayInTurn begins (line ∷ []) (events_in b said) after in
+    let at : after ≡ begins_then begins said = is ∙ ap (λ b. begins_then b said) same in
+    subst P (sym none) (subst Q (sym same)
+    (said, [], says, sym (append-nil (events_in begins said)), (refl, at)))
+say_more begins mid after (first ∷ before) line said events (one, rest, first_says, cut, others)
+    says is = (
+      one,
+      rest ++ events_in mid said,
+      first_says,
+      ap (λ es. es ++ events_in mid said) cut
+          ∙ append_assoc (events_in begins one) rest (events_in mid said),
+      say_more (begins_then begins one) mid after before line said rest others says is,
+    )
+
+fed : (line given left bytes : List ℕ) (b : ℕ) → bytes ≡ b ∷ left → b ≡ 10
+    → given ≡ strip_carriage_return line
+    → lines_from line bytes ≡ given ∷ lines_from [] left
+fed line given left bytes b left_is is same =
+    ap (lines_from line) (left_is ∙ ap (λ x. x ∷ left) is)
+    ∙ ap (λ l. l ∷ lines_from [] left) (sym same)
+
+goes_on : (line left : List ℕ) (b : ℕ) → (b == 10) ≡ false
+    → lines_from line (b ∷ left) ≡ lines_from (line ++ b ∷ []) left
+goes_on line left b other = rw other refl
+
+-- a fault that is passed on
+fault_passed : {T E : Type 0} (r : Result T E) (e : E) (Q : E → Type 0)
+    → IsErrAnd r (λ x. x ≡ e) → Q e → IfErr r Q
+fault_passed (Ok x) e Q same h = absurd same
+fault_passed (Err f) e Q same h = subst Q (sym same) h
+
+-- a line is over, which was this
+pub line_more : (all : List (List ℕ)) (line given next bytes left : List ℕ)
+    (others : List (List ℕ)) (old new : Explainer) → HasCome all line bytes old
+    → lines_from line bytes ≡ given ∷ others → others ≡ lines_from next left
+    → ((events : List Event) (before : List Told) → HasExplained events before old
+    → ExplainsLine given events before old new)
+    → HasCome all next left new
+line_more all line given next bytes left others old new come ends rest explains =
+    let (said, says, more) = explains come.events come.told come.explained in
+    record {
+      before = come.before ++ given ∷ [];
+      is_cut = come.is_cut ∙ ap (λ ls. come.before ++ ls) (ends ∙ ap (λ ls. given ∷ ls) rest)
+          ∙ sym (append_assoc come.before (given ∷ []) (lines_from next left));
+      events = come.events ++ events_in old.begins said;
+      says = say_more true old.begins new.begins come.before given said come.events come.says says
+          more.begins_is;
+      told = come.told ++ more.told;
+      explained = more.explained;
+    }
+
+-- and it ended with LF
+pub line_fed : (all : List (List ℕ)) (line given left bytes : List ℕ) (b : ℕ)
+    (old new : Explainer) → HasCome all line bytes old → bytes ≡ b ∷ left → b ≡ 10
+    → given ≡ strip_carriage_return line
+    → ((events : List Event) (before : List Told) → HasExplained events before old
+    → ExplainsLine given events before old new)
+    → HasCome all [] left new
+line_fed all line given left bytes b old new come left_is is same explains =
+    line_more all line given [] bytes left (lines_from [] left) old new come
+    (fed line given left bytes b left_is is same) refl explains
+
+-- a byte more has come of a line
+pub byte_more : (all : List (List ℕ)) (line next left bytes : List ℕ) (b : ℕ) (e : Explainer)
+    → HasCome all line bytes e → bytes ≡ b ∷ left → (b == 10) ≡ false → next ≡ line ++ b ∷ []
+    → HasCome all next left e
+byte_more all line next left bytes b e come left_is other same =
+    record {
+      before = come.before;
+      is_cut = come.is_cut ∙ ap (λ ls. come.before ++ ls)
+          (ap (lines_from line) left_is ∙ goes_on line left b other
+          ∙ ap (λ l. lines_from l left) (sym same));
+      events = come.events;
+      says = come.says;
+      told = come.told;
+      explained = come.explained;
+    }
+
+-- what is left of a chunk, and behind it
+pub next_byte : (chunk left : List ℕ) (i : ℕ) → i < length chunk
+    → drop i chunk ++ left ≡ get_or chunk i 0 ∷ (drop (i + 1) chunk ++ left)
+next_byte chunk left i within =
+    ap (λ bytes. bytes ++ left) (drop-cons chunk i 0 within)
+    ∙ ap (λ n. get_or chunk i 0 ∷ (drop n chunk ++ left)) (sym (add-one i))
+
+-- at the end all lines are explained
+all_explained : (all : List (List ℕ)) (line : List ℕ) (e : Explainer) → HasCome all line [] e
+    → lines_from line [] ≡ [] → IsExplained all
+all_explained all line e come none =
+    let whole : all ≡ come.before =
+    come.is_cut ∙ ap (λ ls. come.before ++ ls) none ∙ append-nil come.before in
+    let P : List (List ℕ) → Type 0 = λ ls. SayInTurn true ls come.events e.begins in
+    record {
+      events = come.events;
+      begins = e.begins;
+      says = subst P (sym whole) come.says;
+      told = come.told;
+      listener = e.listener;
+      noted = come.explained.noted;
+    }
+
+pub none_is_left : (all : List (List ℕ)) (line : List ℕ) (e : Explainer)
+    → (length line == 0) ≡ true → HasCome all line [] e → IsExplained all
+none_is_left all line e none come = all_explained all line e come (rw none refl)
+
+last_line : (line : List ℕ) → (length line == 0) ≡ false → lines_from line [] ≡ line ∷ []
+last_line line some = rw some refl
+
+pub last_explained : {T : Type 0} (result : Result T ExplainFault) (all : List (List ℕ))
+    (line : List ℕ) (old new : Explainer) → (length line == 0) ≡ false → HasCome all line [] old
+    → ((events : List Event) (before : List Told) → HasExplained events before old
+    → OnOk result (ExplainsLine line events before old new))
+    → OnOk result (IsExplained all)
+last_explained (Err f) all line old new some come explains = tt
+last_explained (Ok x) all line old new some come explains =
+    all_explained all [] new
+    (line_more all line line [] [] [] [] old new come (last_line line some) refl explains) refl
+
+-- a line at which an explainer stops
+pub line_stops_in : (f : ExplainFault) (all : List (List ℕ)) (line given left : List ℕ)
+    (others : List (List ℕ)) (old : Explainer) → HasCome all line left old
+    → lines_from line left ≡ given ∷ others
+    → ((events : List Event) (before : List Told) → HasExplained events before old
+    → StopsAtLine f given old events before)
+    → StopsIn all f
+line_stops_in (fault.NoDialogue c) all line given left others old come ends stops =
+    let (from, bytes, spells, number, is_right) = stops come.events come.told come.explained in
+    record {
+      before = come.before;
+      line = given;
+      others = others;
+      is_cut = come.is_cut ∙ ap (λ ls. come.before ++ ls) ends;
+      events = come.events;
+      begins = old.begins;
+      says = come.says;
+      told = come.told;
+      from = from;
+      bytes = bytes;
+      spells = spells;
+      is_right = is_right;
+    }
+line_stops_in (fault.BadHex m) all line given left others old come ends stops = tt
+line_stops_in (fault.LineTooLong m) all line given left others old come ends stops = tt
+line_stops_in (fault.Resumed m c) all line given left others old come ends stops = tt
+line_stops_in fault.Read all line given left others old come ends stops = tt
+line_stops_in fault.Write all line given left others old come ends stops = tt
+line_stops_in fault.InputTooLong all line given left others old come ends stops = tt
+line_stops_in fault.OutOfMemory all line given left others old come ends stops = tt
+
+pub fed_stops : {T : Type 0} (r : Result T ExplainFault) (f : ExplainFault)
+    (all : List (List ℕ)) (line given left bytes : List ℕ) (b : ℕ) (old : Explainer)
+    → IsErrAnd r (λ x. x ≡ f) → HasCome all line bytes old → bytes ≡ b ∷ left → b ≡ 10
+    → given ≡ strip_carriage_return line
+    → ((events : List Event) (before : List Told) → HasExplained events before old
+    → StopsAtLine f given old events before)
+    → IfErr r (StopsIn all)
+fed_stops r f all line given left bytes b old passed come left_is is same stops =
+    fault_passed r f (StopsIn all) passed
+    (line_stops_in f all line given bytes (lines_from [] left) old come
+    (fed line given left bytes b left_is is same) stops)
+
+pub last_stops : {T : Type 0} (result : Result T ExplainFault) (all : List (List ℕ))
+    (line : List ℕ) (old : Explainer) → (length line == 0) ≡ false → HasCome all line [] old
+    → ((events : List Event) (before : List Told) → HasExplained events before old
+    → IfErr result (λ f. StopsAtLine f line old events before))
+    → IfErr result (StopsIn all)
+last_stops (Ok x) all line old some come stops = tt
+last_stops (Err f) all line old some come stops =
+    line_stops_in f all line line [] [] old come (last_line line some) stops
+
+-- a chunk is over
+pub none_of_chunk : (all : List (List ℕ)) (line chunk left : List ℕ) (i : ℕ) (e : Explainer)
+    → length chunk ≤ i → HasCome all line (drop i chunk ++ left) e → HasCome all line left e
+none_of_chunk all line chunk left i e past come =
+    let P : List ℕ → Type 0 = λ bytes. HasCome all line (bytes ++ left) e in
+    subst P (drop_all i chunk past) come
+
+-- of known bytes these are left, and so much has come
+abbrev pub StillComes : Option (List ℕ) → Option (List ℕ) → List ℕ → Explainer → Type 0
+StillComes None new line e = Unit {0}
+StillComes (Some bytes) None line e = ⊥
+StillComes (Some bytes) (Some left) line e = HasCome (lines_of bytes) line left e
+
+pub all_comes : (a : Option (List ℕ)) (line : List ℕ) (e : Explainer) → line ≡ []
+    → HasExplained [] [] e → e.begins ≡ true → StillComes a a line e
+all_comes None line e none h begins = tt
+all_comes (Some bytes) line e none h begins = record {
+  before = [];
+  is_cut = ap (λ l. lines_from l bytes) (sym none);
+  events = [];
+  says = (refl, begins);
+  told = [];
+  explained = h;
+}
+
+-- a chunk was read, and explained
+pub chunk_comes : (a b c : Option (List ℕ)) (chunk line next : List ℕ) (old new : Explainer)
+    → StillComes a b line old → Consumes b c chunk
+    → ((all : List (List ℕ)) (left : List ℕ) → HasCome all line (chunk ++ left) old
+    → HasCome all next left new)
+    → StillComes a c next new
+chunk_comes None b c chunk line next old new come reads explains = tt
+chunk_comes (Some bytes) None c chunk line next old new come reads explains = absurd come
+chunk_comes (Some bytes) (Some left) None chunk line next old new come reads explains = absurd reads
+chunk_comes (Some bytes) (Some left) (Some rest) chunk line next old new come reads explains =
+    let P : List ℕ → Type 0 = λ l. HasCome (lines_of bytes) line l old in
+    explains (lines_of bytes) rest (subst P reads come)
+
+chunk_stops_at : (a b c : Option (List ℕ)) (chunk line : List ℕ) (old : Explainer)
+    (f : ExplainFault) → StillComes a b line old → Consumes b c chunk
+    → ((all : List (List ℕ)) (left : List ℕ) → HasCome all line (chunk ++ left) old
+    → StopsIn all f)
+    → IfSome a (λ bytes. StopsIn (lines_of bytes) f)
+chunk_stops_at None b c chunk line old f come reads stops = tt
+chunk_stops_at (Some bytes) None c chunk line old f come reads stops = absurd come
+chunk_stops_at (Some bytes) (Some left) None chunk line old f come reads stops = absurd reads
+chunk_stops_at (Some bytes) (Some left) (Some rest) chunk line old f come reads stops =
+    let P : List ℕ → Type 0 = λ l. HasCome (lines_of bytes) line l old in
+    stops (lines_of bytes) rest (subst P reads come)
+
+pub chunk_stops : {T : Type 0} (r : Result T ExplainFault) (f : ExplainFault)
+    (a b c : Option (List ℕ)) (chunk line : List ℕ) (old : Explainer)
+    → IsErrAnd r (λ x. x ≡ f) → StillComes a b line old → Consumes b c chunk
+    → ((all : List (List ℕ)) (left : List ℕ) → HasCome all line (chunk ++ left) old
+    → StopsIn all f)
+    → IfErr r (λ x. IfSome a (λ bytes. StopsIn (lines_of bytes) x))
+chunk_stops r f a b c chunk line old passed come reads stops =
+    fault_passed r f (λ x. IfSome a (λ bytes. StopsIn (lines_of bytes) x)) passed
+    (chunk_stops_at a b c chunk line old f come reads stops)
+
+-- nothing was read, and nothing is left
+pub none_comes : (a b c : Option (List ℕ)) (n : ℕ) (chunk line given : List ℕ) (e : Explainer)
+    → n ≡ 0 → given ≡ line → StillComes a b line e
+    → Consumes b c (take n chunk) × (n ≡ 0 → 0 < length chunk → IsAtEnd c) → 0 < length chunk
+    → IfSome a (λ bytes. HasCome (lines_of bytes) given [] e)
+none_comes None b c n chunk line given e zero_is same come (reads, ends) room = tt
+none_comes (Some bytes) None c n chunk line given e zero_is same come (reads, ends) room =
+    absurd come
+none_comes (Some bytes) (Some left) None n chunk line given e zero_is same come (reads, ends) room =
+    absurd reads
+none_comes (Some bytes) (Some left) (Some rest) n chunk line given e zero_is same come (reads, ends)
+    room =
+    let P : List ℕ → Type 0 = λ l. HasCome (lines_of bytes) line l e in
+    let Q : List ℕ → Type 0 = λ l. HasCome (lines_of bytes) l [] e in
+    let none : left ≡ [] =
+    reads ∙ ap (λ m. take m chunk ++ rest) zero_is ∙ ends zero_is room in
+    subst Q (sym same) (subst P none come)
+
+pub known_explained : {T : Type 0} (r : Result T ExplainFault) (a : Option (List ℕ))
+    (line : List ℕ) (e : Explainer) → IfSome a (λ bytes. HasCome (lines_of bytes) line [] e)
+    → ((all : List (List ℕ)) → HasCome all line [] e → OnOk r (IsExplained all))
+    → OnOk r (IfSome a (λ bytes. IsExplained (lines_of bytes)))
+known_explained (Err f) a line e come explains = tt
+known_explained (Ok x) None line e come explains = tt
+known_explained (Ok x) (Some bytes) line e come explains = explains (lines_of bytes) come
+
+pub known_stops : {T : Type 0} (r : Result T ExplainFault) (a : Option (List ℕ))
+    (line : List ℕ) (e : Explainer) → IfSome a (λ bytes. HasCome (lines_of bytes) line [] e)
+    → ((all : List (List ℕ)) → HasCome all line [] e → IfErr r (StopsIn all))
+    → IfErr r (λ f. IfSome a (λ bytes. StopsIn (lines_of bytes) f))
+known_stops (Ok x) a line e come stops = tt
+known_stops (Err f) None line e come stops = tt
+known_stops (Err f) (Some bytes) line e come stops = stops (lines_of bytes) come
+
+resumed_at : (f : ExplainFault) (a : Option (List ℕ)) → IsResumed f
+    → IfSome a (λ bytes. StopsIn (lines_of bytes) f)
+resumed_at f None resumed = tt
+resumed_at (fault.Resumed m c) (Some bytes) resumed = tt
+resumed_at (fault.NoDialogue c) (Some bytes) resumed = absurd resumed
+resumed_at (fault.BadHex m) (Some bytes) resumed = tt
+resumed_at (fault.LineTooLong m) (Some bytes) resumed = tt
+resumed_at fault.Read (Some bytes) resumed = tt
+resumed_at fault.Write (Some bytes) resumed = tt
+resumed_at fault.InputTooLong (Some bytes) resumed = tt
+resumed_at fault.OutOfMemory (Some bytes) resumed = tt
+
+-- what is answered at the end of a trace is no complaint
+pub resumed_stops : {T : Type 0} (r : Result T ExplainFault) (a : Option (List ℕ))
+    → IfErr r IsResumed → IfErr r (λ f. IfSome a (λ bytes. StopsIn (lines_of bytes) f))
+resumed_stops (Ok x) a resumed = tt
+resumed_stops (Err f) a resumed = resumed_at f a resumed

@@ -1,0 +1,13 @@
+use Rattle.std.proofs.Common.{◌≡◌, ◌+◌, ◌-◌, [], true}
+use Rattle.trace_explain.specs.Explained.{HasExplained}
+use Rattle.trace_explain.proofs.TraceLemmas.{StillComes}
+use Rattle.trace_explain.proofs.explain.explain_chunks.Given as goal
+
+-- the bytes that are known of the reader are explained, or still to come
+abbrev pub invariant-reading : goal.invariant-reading
+invariant-reading g l = HasExplained [] [] l.initial.explainer → l.initial.explainer.begins ≡ true
+    → StillComes (g.R.Read.remaining l.initial.reader) (g.R.Read.remaining l.reader) l.line.items
+    l.explainer
+
+abbrev pub decreases-reading : goal.decreases-reading
+decreases-reading g l = 67108864 + 1 - l.size

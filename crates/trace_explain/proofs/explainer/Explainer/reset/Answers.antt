@@ -1,0 +1,12 @@
+use Rattle.std.proofs.Common.{[], ◌∷◌, true, refl}
+use Rattle.t0_core.specs.History.{Reset}
+use Rattle.trace_explain.proofs.ExplainedLemmas.{explains_events}
+use Rattle.trace_explain.proofs.explainer.Explainer.reset.Goals as goal
+
+pub returns : goal.returns
+returns c = λ events before h.
+    let cut = c.in_ok-cut_off.ensures.cut_off events before
+    (record { noted = h.noted; resumes = h.resumes; passes_over = refl }) in
+    explains_events (Reset ∷ []) events before true _
+    (record { noted = cut.noted; resumes = cut.resumes; passes_over = cut.passes_over })
+    c.in_ok-cut_off.ensures.keeps.0

@@ -1,0 +1,5 @@
+pub mod Told
+pub mod Noted
+pub mod Lines
+pub mod Explained
+pub mod Trace

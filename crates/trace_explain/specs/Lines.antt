@@ -1,0 +1,58 @@
+-- The lines of a trace, and what is heard of each.
+use Rattle.std.specs.Prelude.{◌≡◌, ◌≢◌, ◌⊎◌, ℕ, List, [], ◌∷◌, codes, Bool, true, false, ◌==◌, ◌&&◌, ◌||◌, if◌then◌else◌, Ok}
+use Rattle.hex.specs.Hex.{decode_of}
+use Rattle.t0_core.specs.declared.end.End.{End}
+use Rattle.t0_core.specs.declared.end.End.TheVariants as end
+use Rattle.t0_core.specs.Character.{sent_by}
+use Rattle.t0_core.specs.History as history
+use Rattle.t0_core.specs.History.{Event, passed}
+use Rattle.trace_explain.specs.declared.trace_line.TraceLine.{TraceLine}
+use Rattle.trace_explain.specs.declared.trace_line.TraceLine.TheVariants as said
+
+-- the sign of an end, `>` or `<`
+abbrev pub sign_of : End → ℕ
+sign_of end.Terminal = 62
+sign_of end.Card = 60
+
+-- characters of one end: its sign alone, or with a space and their digits
+abbrev pub SpellsCharacters : List ℕ → End → List ℕ → Type 0
+SpellsCharacters line from bytes = ((line ≡ sign_of from ∷ []) × (bytes ≡ []))
+    ⊎ ((digits : List ℕ) × (line ≡ sign_of from ∷ 32 ∷ digits) × (decode_of digits ≡ Ok bytes))
+
+-- the line starts with one of the signs
+abbrev pub is_signed : List ℕ → Bool
+is_signed [] = false
+is_signed (b ∷ rest) = (b == 62) || (b == 60)
+
+-- what a line says
+abbrev pub Says : List ℕ → TraceLine → Type 0
+Says line (said.Characters from bytes) = SpellsCharacters line from bytes.items
+Says line said.Reset = line ≡ codes "reset"
+Says line (said.Note note) = (is_signed line ≡ false) × (line ≢ codes "reset")
+
+abbrev pub is_card : End → Bool
+is_card end.Terminal = false
+is_card end.Card = true
+
+abbrev pub is_none : List ℕ → Bool
+is_none [] = true
+is_none (b ∷ bytes) = false
+
+-- Characters of the card that come before the first of the terminal, since the trace began or the
+-- card was reset, are no part of a dialogue: they are told, and not heard.
+abbrev pub heard_in : Bool → End → List ℕ → List Event
+heard_in begins from bytes = if begins && is_card from then [] else passed (sent_by from bytes)
+
+-- whether no character of the terminal has come since then
+abbrev pub begins_after : Bool → End → List ℕ → Bool
+begins_after begins from bytes = begins && (is_card from || is_none bytes)
+
+abbrev pub events_in : Bool → TraceLine → List Event
+events_in begins (said.Characters from bytes) = heard_in begins from bytes.items
+events_in begins said.Reset = history.Reset ∷ []
+events_in begins (said.Note note) = []
+
+abbrev pub begins_then : Bool → TraceLine → Bool
+begins_then begins (said.Characters from bytes) = begins_after begins from bytes.items
+begins_then begins said.Reset = true
+begins_then begins (said.Note note) = begins

@@ -1,0 +1,92 @@
+-- What is told of a TPDU, and of which dialogue that is true.
+use Rattle.std.specs.Prelude.{◌≡◌, ℕ, ◌+◌, ◌-◌, ◌^◌, min, List, [], ◌∷◌, ◌++◌, Option, Some, None, Bool, true, false, fold}
+use Rattle.apdu_core.specs.HeaderBytes.{header_bytes}
+use Rattle.t0_core.specs.declared.direction.Direction.{Direction}
+use Rattle.t0_core.specs.declared.plan.Step.{Step}
+use Rattle.t0_core.specs.declared.plan.Step.TheVariants.{Null, One, All}
+use Rattle.t0_core.specs.declared.heard.Heard.{Heard}
+use Rattle.t0_core.specs.declared.heard.Heard.TheVariants as heard
+use Rattle.t0_core.specs.Dialogue.{Body, Dialogue}
+use Rattle.t0_core.specs.Front.{Front, In_header, In_body, After_first}
+use Rattle.t0_core.specs.TapSide.{Shows}
+use Rattle.trace_explain.specs.declared.tally.Tally.{Tally}
+use Rattle.trace_explain.specs.declared.tpdu.Tpdu.{Tpdu}
+
+-- the characters of the header, how many procedure bytes, which way data moved, the data, and the
+-- characters of the status
+pub record Told : Type 0 where
+  pub header : List ℕ
+  pub tally : Tally
+  pub way : Option Direction
+  pub moved : List ℕ
+  pub status : List ℕ
+
+abbrev pub told_by : Tpdu → Told
+told_by t = record {
+  header = t.header.items;
+  tally = t.tally;
+  way = t.way;
+  moved = t.moved.items;
+  status = t.status.items;
+}
+
+-- one more, up to the greatest number that is counted
+abbrev pub one_more : ℕ → ℕ
+one_more n = min (n + 1) (2 ^ 64 - 1)
+
+abbrev pub counted : Tally → Step → Tally
+counted t Null = record { nulls = one_more t.nulls; ones = t.ones; alls = t.alls }
+counted t One = record { nulls = t.nulls; ones = one_more t.ones; alls = t.alls }
+counted t All = record { nulls = t.nulls; ones = t.ones; alls = one_more t.alls }
+
+abbrev pub uncounted : Tally
+uncounted = record { nulls = 0; ones = 0; alls = 0 }
+
+-- how many procedure bytes of each kind began these segments
+abbrev pub tally_of : List Step → Tally
+tally_of segments = fold counted uncounted segments
+
+abbrev pub untold : Told
+untold = record { header = []; tally = uncounted; way = None; moved = []; status = [] }
+
+-- this much is told of a header, segments and data
+pub record TellsBody (t : Told) (b : Body) : Type 0 where
+  pub header_is : t.header ≡ header_bytes b.header ++ b.p3 ∷ []
+  pub tally_is : t.tally ≡ tally_of b.segments
+  pub moved_is : t.moved ≡ b.moved
+
+-- no more than some characters of a header is told
+pub record TellsHeader (t : Told) (bytes : List ℕ) : Type 0 where
+  pub header_is : t.header ≡ bytes
+  pub tally_is : t.tally ≡ uncounted
+  pub moved_is : t.moved ≡ []
+
+-- this much is told of a dialogue that has come so far
+abbrev pub TellsFront : Told → Front → Type 0
+TellsFront t (In_header bytes) = TellsHeader t bytes × (t.status ≡ [])
+TellsFront t (In_body b) = TellsBody t b × (t.status ≡ [])
+TellsFront t (After_first b sw1) = TellsBody t b × (t.status ≡ sw1 ∷ [])
+
+-- and this is told of a whole one
+pub record Tells (t : Told) (d : Dialogue) : Type 0 where
+  pub body : TellsBody t d.body
+  pub way : Shows t.way d.body.direction d.body.moved
+  pub status_is : t.status ≡ d.status.0 ∷ d.status.1 ∷ []
+
+-- what is told with one character more, which was this
+abbrev pub noted : Told → Heard → ℕ → Told
+noted t heard.Header byte = record t { header = t.header ++ byte ∷ [] }
+noted t (heard.Procedure step) byte = record t { tally = counted t.tally step }
+noted t (heard.Data direction) byte =
+    record t { way = Some direction; moved = t.moved ++ byte ∷ [] }
+noted t heard.FirstStatus byte = record t { status = t.status ++ byte ∷ [] }
+noted t (heard.SecondStatus said status) byte =
+    record t { way = said.direction; status = t.status ++ byte ∷ [] }
+
+-- a dialogue ends with this
+abbrev pub is_last : Heard → Bool
+is_last heard.Header = false
+is_last (heard.Procedure step) = false
+is_last (heard.Data direction) = false
+is_last heard.FirstStatus = false
+is_last (heard.SecondStatus said status) = true

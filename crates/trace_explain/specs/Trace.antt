@@ -1,0 +1,80 @@
+-- A whole trace: its lines, and what an explainer that does not resume has explained of them.
+use Rattle.std.specs.Prelude.{◌≡◌, ℕ, List, [], ◌∷◌, ◌++◌, length, Bool, true, ◌==◌, if◌then◌else◌}
+use Rattle.std.specs.Str.Lines.{strip_carriage_return}
+use Rattle.t0_core.specs.declared.end.End.{End}
+use Rattle.t0_core.specs.History.{Event}
+use Rattle.trace_explain.specs.declared.complaint.Complaint.{Complaint}
+use Rattle.trace_explain.specs.declared.explain_fault.ExplainFault.{ExplainFault}
+use Rattle.trace_explain.specs.declared.explain_fault.ExplainFault.TheVariants as fault
+use Rattle.trace_explain.specs.declared.explainer.Explainer.{Explainer}
+use Rattle.trace_explain.specs.declared.listener.Listener.{Listener}
+use Rattle.trace_explain.specs.declared.trace_line.TraceLine.{TraceLine}
+use Rattle.trace_explain.specs.Explained.{HasExplained, IsRight}
+use Rattle.trace_explain.specs.Lines.{SpellsCharacters, Says, events_in, begins_then}
+use Rattle.trace_explain.specs.Noted.{HasNoted}
+use Rattle.trace_explain.specs.Told.{Told}
+
+-- The lines of bytes, where this much of the first line came before them: cut at LF, which the last
+-- may lack, and without the one CR right before an LF. Where nothing comes after the last LF, that
+-- is no line.
+abbrev pub lines_from : List ℕ → List ℕ → List (List ℕ)
+lines_from line [] = if length line == 0 then [] else line ∷ []
+lines_from line (b ∷ bytes) =
+    if b == 10 then strip_carriage_return line ∷ lines_from [] bytes
+    else lines_from (line ++ b ∷ []) bytes
+
+abbrev pub lines_of : List ℕ → List (List ℕ)
+lines_of bytes = lines_from [] bytes
+
+-- Lines say these events, one after another. The flags before and after them say whether no
+-- character of the terminal has come since the trace began or the card was reset.
+abbrev pub SayInTurn : Bool → List (List ℕ) → List Event → Bool → Type 0
+SayInTurn begins [] events after = (events ≡ []) × (after ≡ begins)
+SayInTurn begins (line ∷ others) events after = (said : TraceLine) × (rest : List Event)
+    × Says line said × (events ≡ events_in begins said ++ rest)
+    × SayInTurn (begins_then begins said) others rest after
+
+-- All events of these lines have been heard, and each whole dialogue in them was told, in turn.
+pub record IsExplained (all : List (List ℕ)) : Type 0 where
+  pub events : List Event
+  pub begins : Bool
+  pub says : SayInTurn true all events begins
+  pub told : List Told
+  pub listener : Listener
+  pub noted : HasNoted events told listener
+
+-- One of these lines has a character with which no dialogue goes on, as the complaint tells: the
+-- lines before it, and the characters before it in the line, have been heard and told.
+pub record IsRightIn (all : List (List ℕ)) (c : Complaint) : Type 0 where
+  pub before : List (List ℕ)
+  pub line : List ℕ
+  pub others : List (List ℕ)
+  pub is_cut : all ≡ before ++ line ∷ others
+  pub events : List Event
+  pub begins : Bool
+  pub says : SayInTurn true before events begins
+  pub told : List Told
+  pub from : End
+  pub bytes : List ℕ
+  pub spells : SpellsCharacters line from bytes
+  pub is_right : IsRight c from bytes events told
+
+-- of a fault: where it is a complaint, it is right
+abbrev pub StopsIn : List (List ℕ) → ExplainFault → Type 0
+StopsIn all (fault.NoDialogue c) = IsRightIn all c
+StopsIn all other = Unit {0}
+
+-- the fault at the end of a trace that was explained on
+abbrev pub IsResumed : ExplainFault → Type 0
+IsResumed (fault.Resumed complaints first) = Unit {0}
+IsResumed other = ⊥
+
+-- Of all lines those so far are explained; of the next this much has come, and these bytes are
+-- left.
+pub record HasCome (all : List (List ℕ)) (line left : List ℕ) (e : Explainer) : Type 0 where
+  pub before : List (List ℕ)
+  pub is_cut : all ≡ before ++ lines_from line left
+  pub events : List Event
+  pub says : SayInTurn true before events e.begins
+  pub told : List Told
+  pub explained : HasExplained events told e

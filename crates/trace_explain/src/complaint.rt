@@ -1,0 +1,52 @@
+use std::fmt;
+use t0_core::{Direction, Due, End};
+
+/// A character with which no dialogue goes on: where it stands, what was due, and what came.
+#[derive(Clone, Copy, Debug, PartialEq, Eq)]
+pub struct Complaint {
+    /// The line, counted from 1.
+    pub line: u64,
+    /// The character's place in the line, counted from 0.
+    pub place: usize,
+    /// What a dialogue goes on with.
+    pub due: Due,
+    /// Who sent the character.
+    pub from: End,
+    /// The character.
+    pub byte: u8,
+}
+
+impl fmt::Display for Complaint {
+    fn fmt<W: fmt::Write>(&self, f: &mut fmt::Formatter<W>) -> fmt::Result {
+        let line = self.line;
+        let character = self.place.saturating_add(1);
+        let due = due_text(self.due);
+        let byte = self.byte;
+        let from = end_text(self.from);
+        write!(
+            f,
+            "line {line}, character {character}: no dialogue: {due} was due, and {byte:02X} of the \
+             {from} came"
+        )
+    }
+}
+
+/// What a dialogue goes on with, in words.
+pub fn due_text(due: Due) -> &'static str {
+    match due {
+        Due::Header => "a character of a header",
+        Due::Procedure => "a procedure byte or SW1 of the card",
+        Due::Data(None) => "a data character of either end",
+        Due::Data(Some(Direction::ToCard)) => "a data character of the terminal",
+        Due::Data(Some(Direction::FromCard)) => "a data character of the card",
+        Due::SecondStatus => "SW2 of the card",
+    }
+}
+
+/// An end of the line, in words.
+pub fn end_text(from: End) -> &'static str {
+    match from {
+        End::Terminal => "terminal",
+        End::Card => "card",
+    }
+}

@@ -1,0 +1,146 @@
+//! A whole trace.
+ghost use Rattle.std.specs.Prelude.{◌≡◌, ◌++◌, ◌∷◌, List, [], ℕ, true, false, IfErr, IfSome, OnOk};
+ghost use Rattle.std.specs.Str.Lines.{strip_carriage_return};
+ghost use Rattle.trace_explain.specs.Explained.{HasExplained};
+ghost use Rattle.trace_explain.specs.Trace.{HasCome, IsExplained, StopsIn, lines_of};
+
+use crate::explain_fault::ExplainFault;
+use crate::explainer::Explainer;
+use crate::layout::Layout;
+use std::alloc::{AllocError, Global};
+use std::io::{Read, Write};
+
+/// The most bytes of a trace (this project's profile).
+pub const TRACE_LIMIT: usize = 67_108_864;
+
+/// The most bytes of a line (this project's profile).
+pub const LINE_LIMIT: usize = 4_194_304;
+
+/// How many bytes are asked of the reader at once.
+const CHUNK: usize = 16_384;
+
+/// Explains a trace, and writes what it explains.
+pub fn explain<R: Read, W: Write>(
+    alloc: Global,
+    layout: Layout,
+    resumes: bool,
+    reader: &mut R,
+    writer: &mut W,
+) -> Result<(), ExplainFault>
+    ensures explained { resumes ≡ false →
+        OnOk result (IfSome (R.remaining reader.old) (λ bytes. IsExplained (lines_of bytes))) }
+    ensures stops { resumes ≡ false → IfErr result (λ fault.
+        IfSome (R.remaining reader.old) (λ bytes. StopsIn (lines_of bytes) fault)) }
+{
+    let mut explainer = Explainer::new(alloc, layout, resumes);
+    let mut text = String::new(alloc);
+    explainer.begin(&mut text)?;
+    let outcome = explain_chunks(alloc, &mut explainer, reader, writer, &mut text);
+    explainer.end(&mut text)?;
+    write_text(&mut text, writer)?;
+    outcome?;
+    explainer.outcome()
+}
+
+/// Reads the trace, and explains line after line.
+fn explain_chunks<R: Read, W: Write>(
+    alloc: Global,
+    explainer: &mut Explainer,
+    reader: &mut R,
+    writer: &mut W,
+    text: &mut String,
+) -> Result<(), ExplainFault>
+    ensures explained { HasExplained [] [] explainer.old → explainer.old.begins ≡ true →
+        OnOk result (IfSome (R.remaining reader.old) (λ bytes. IsExplained (lines_of bytes))) }
+    ensures stops { HasExplained [] [] explainer.old → explainer.old.begins ≡ true →
+        IfErr result (λ fault.
+        IfSome (R.remaining reader.old) (λ bytes. StopsIn (lines_of bytes) fault)) }
+{
+    let mut chunk = [0; CHUNK];
+    let mut line = Vec::new(alloc);
+    let mut size: usize = 0;
+    'reading: while size <= TRACE_LIMIT {
+        match reader.read(&mut chunk) {
+            Ok(0) => return explain_last(explainer, line.as_slice(), text),
+            Ok(count) => {
+                size += count;
+                explain_chunk(explainer, &chunk[..count], &mut line, text)?;
+                write_text(text, writer)?;
+            }
+            Err(_) => return Err(ExplainFault::Read),
+        }
+    }
+    Err(ExplainFault::InputTooLong)
+}
+
+/// Explains the lines that end in a chunk, and keeps the line that does not.
+fn explain_chunk(
+    explainer: &mut Explainer,
+    chunk: &[u8],
+    line: &mut Vec<u8>,
+    text: &mut String,
+) -> Result<(), ExplainFault>
+    ensures explained { (all : List (List ℕ)) (left : List ℕ) →
+        HasCome all line.old.items (chunk.now ++ left) explainer.old →
+        OnOk result (HasCome all line.new.items left explainer.new) }
+    ensures stops { (all : List (List ℕ)) (left : List ℕ) →
+        HasCome all line.old.items (chunk.now ++ left) explainer.old →
+        IfErr result (StopsIn all) }
+{
+    for &byte in chunk {
+        if byte == b'\n' {
+            explainer.line(without_return(line.as_slice()), text)?;
+            line.clear();
+        } else if line.len() < LINE_LIMIT {
+            push(line, byte)?;
+        } else {
+            return Err(ExplainFault::LineTooLong {
+                line: explainer.next_line(),
+            });
+        }
+    }
+    Ok(())
+}
+
+/// Adds a byte to the line that is kept.
+fn push(line: &mut Vec<u8>, byte: u8) -> Result<(), AllocError>
+    ensures { OnOk result (line.new.items ≡ line.old.items ++ byte ∷ []) }
+{
+    line.push(byte).map_err(AllocError::from)
+}
+
+/// Explains the last line, where it has no LF.
+fn explain_last(
+    explainer: &mut Explainer,
+    line: &[u8],
+    text: &mut String,
+) -> Result<(), ExplainFault>
+    ensures explained { (all : List (List ℕ)) → HasCome all line.now [] explainer.old →
+        OnOk result (IsExplained all) }
+    ensures stops { (all : List (List ℕ)) → HasCome all line.now [] explainer.old →
+        IfErr result (StopsIn all) }
+{
+    if line.is_empty() {
+        return Ok(());
+    }
+    explainer.line(line, text)
+}
+
+/// The line without the CR at its end, if it has one.
+fn without_return(line: &[u8]) -> &[u8]
+    ensures { result.now ≡ strip_carriage_return line.now }
+{
+    match line {
+        [front @ .., b'\r'] => front,
+        _ => line,
+    }
+}
+
+/// Writes the text, and empties it.
+fn write_text<W: Write>(text: &mut String, writer: &mut W) -> Result<(), ExplainFault>
+    ensures { IfErr result (λ fault. fault ≡ ExplainFault.Write) }
+{
+    let outcome = writer.write_all(text.as_bytes());
+    text.clear();
+    outcome.map_err(|_| ExplainFault::Write)
+}

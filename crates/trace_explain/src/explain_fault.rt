@@ -1,0 +1,44 @@
+use crate::complaint::Complaint;
+use std::alloc::AllocError;
+use thiserror::Error;
+
+/// Why the program ends with status 1.
+#[derive(Debug, Drop, Error)]
+pub enum ExplainFault {
+    /// Characters of a line, counted from 1, are not of their form; what the lines before it say
+    /// was explained.
+    #[error("line {line}: bad hex")]
+    BadHex { line: u64 },
+    /// A line has more bytes than a line may have.
+    #[error("line {line}: line too long")]
+    LineTooLong { line: u64 },
+    /// No dialogue goes on with a character.
+    #[error("{0}")]
+    NoDialogue(Complaint),
+    /// There are such characters, after which the explanation went on.
+    #[error("{first} (complaints: {complaints})")]
+    Resumed { complaints: u64, first: Complaint },
+    /// The reader failed; what came before was explained.
+    #[error("read fault")]
+    Read,
+    /// The writer failed; how much it took is not known.
+    #[error("write fault")]
+    Write,
+    /// The trace has more bytes than a trace may have; what came before was explained.
+    #[error("input too long")]
+    InputTooLong,
+    /// Memory was wanting.
+    #[error("out of memory")]
+    OutOfMemory,
+}
+
+impl From<AllocError> for ExplainFault {
+    ghost use Rattle.std.specs.Prelude.{◌≡◌};
+    ghost use Rattle.trace_explain.specs.declared.explain_fault.ExplainFault.TheVariants.{OutOfMemory};
+
+    ghost from_gives = { λ _ fault. fault ≡ OutOfMemory };
+
+    fn from(_error: AllocError) -> ExplainFault {
+        ExplainFault::OutOfMemory
+    }
+}

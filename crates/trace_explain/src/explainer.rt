@@ -1,0 +1,462 @@
+ghost use Rattle.std.specs.Prelude.{◌≡◌, ◌<◌, ◌∷◌, ◌++◌, ◌&&◌, List, [], true, false, get_or, OnOk, IfErr};
+ghost use Rattle.t0_core.specs.Character.{sent_by};
+ghost use Rattle.t0_core.specs.History.{Event, Reset, passed};
+ghost use Rattle.t0_core.specs.TapSide.{due_at};
+ghost use Rattle.trace_explain.specs.Explained.{HasExplained, ExplainsMore, ExplainsLine, StopsRightly, StopsAtLine, Stopped, KeepsAll, next_line};
+ghost use Rattle.trace_explain.specs.Trace.{IsResumed};
+ghost use Rattle.trace_explain.specs.Lines.{heard_in, begins_after, is_card};
+ghost use Rattle.trace_explain.specs.Told.{Told};
+
+use crate::complaint::{Complaint, due_text, end_text};
+use crate::explain_fault::ExplainFault;
+use crate::layout::{Kind, Layout, Side};
+use crate::links::{Links, Whole};
+use crate::listener::{Listener, Stop};
+use crate::meaning::push_meaning;
+use crate::phrases;
+use crate::refusal::Refusal;
+use crate::story::{Story, brought, header_of, sent, status_of};
+use crate::tpdu::Tpdu;
+use crate::trace_line::{BadLine, TraceLine, read_line};
+use crate::tree::{hex_lines, push_hex, tree_of};
+use std::alloc::{AllocError, Global};
+use t0_core::{Direction, End};
+
+/// How many bytes of a note stand in a line.
+const NOTE_BYTES: usize = 96;
+
+/// The same where some are told by their numbers, in four columns each.
+const ODD_BYTES: usize = 24;
+
+/// Explains the lines of a trace, one after another.
+#[derive(Drop)]
+pub struct Explainer {
+    alloc: Global,
+    layout: Layout,
+    resumes: bool,
+    passes_over: bool,
+    begins: bool,
+    line: u64,
+    began: u64,
+    listener: Listener,
+    story: Story,
+    complaints: u64,
+    first: Option<Complaint>,
+}
+
+impl Explainer {
+    /// No line has come. Where it resumes, it goes on after a character with which no dialogue
+    /// does.
+    pub fn new(alloc: Global, layout: Layout, resumes: bool) -> Explainer
+        ensures explained { resumes ≡ false → HasExplained [] [] result }
+        ensures begins { result.begins ≡ true }
+    {
+        Explainer {
+            alloc,
+            layout,
+            resumes,
+            passes_over: false,
+            begins: true,
+            line: 0,
+            began: 0,
+            listener: Listener::new(alloc),
+            story: Story::new(alloc),
+            complaints: 0,
+            first: None,
+        }
+    }
+
+    /// The number of the line that comes next, from 1.
+    pub fn next_line(&self) -> u64 {
+        self.line.saturating_add(1)
+    }
+
+    /// Adds what comes before the first line.
+    pub fn begin(&self, out: &mut String) -> Result<(), AllocError> {
+        self.layout.begin(out)
+    }
+
+    /// Explains the next line.
+    ///
+    /// `BadHex` is a line of characters that are not of their form, and `NoDialogue` a character
+    /// with which no dialogue goes on, where it does not resume. `OutOfMemory` may come after a
+    /// part of the line.
+    pub fn line(&mut self, line: &[u8], out: &mut String) -> Result<(), ExplainFault>
+        ensures explained { (events : List Event) (before : List Told) →
+            HasExplained events before self.old →
+            OnOk result (ExplainsLine line.now events before self.old self.new) }
+        ensures stops { (events : List Event) (before : List Told) →
+            HasExplained events before self.old →
+            IfErr result (λ fault. StopsAtLine fault line.now self.old events before) }
+    {
+        self.line = self.line.saturating_add(1);
+        match read_line(self.alloc, line) {
+            Ok(TraceLine::Characters(from, bytes)) => self.characters(from, bytes.as_slice(), out),
+            Ok(TraceLine::Reset) => {
+                self.reset(out)?;
+                Ok(())
+            }
+            Ok(TraceLine::Note(note)) => {
+                self.note(note, out)?;
+                Ok(())
+            }
+            Err(BadLine::Hex) => Err(ExplainFault::BadHex { line: self.line }),
+            Err(BadLine::OutOfMemory) => Err(ExplainFault::OutOfMemory),
+        }
+    }
+
+    /// Explains the characters of a line, if they are not passed over.
+    fn characters(&mut self, from: End, bytes: &[u8], out: &mut String) -> Result<(), ExplainFault>
+        ensures explained { (events : List Event) (before : List Told) →
+            HasExplained events before self.old →
+            OnOk result (ExplainsMore (heard_in self.old.begins from bytes.now)
+            (begins_after self.old.begins from bytes.now) events before self.new) }
+        ensures stops { (events : List Event) (before : List Told) →
+            HasExplained events before self.old →
+            IfErr result (λ fault.
+            StopsRightly fault self.old.line from bytes.now events before) }
+    {
+        if self.is_passed_over(from, bytes) {
+            return Ok(());
+        }
+        let is_before = is_before_header(self.begins, from);
+        self.begins = begins_after(self.begins, from, bytes);
+        if is_before {
+            self.before_header(bytes, out)?;
+            return Ok(());
+        }
+        self.hear(from, bytes, out)
+    }
+
+    /// Whether such a line is passed over; a header ends that.
+    fn is_passed_over(&mut self, from: End, bytes: &[u8]) -> bool
+        ensures { self.old.passes_over ≡ false →
+            (result ≡ false) × (self.new ≡ self.old) }
+    {
+        if self.passes_over && is_header(from, bytes) {
+            self.passes_over = false;
+        }
+        self.passes_over
+    }
+
+    /// Hears the characters of a line, and tells of them.
+    fn hear(&mut self, from: End, bytes: &[u8], out: &mut String) -> Result<(), ExplainFault>
+        ensures explained { (events : List Event) (before : List Told) →
+            HasExplained events before self.old →
+            OnOk result (ExplainsMore (passed (sent_by from bytes.now)) self.old.begins events
+            before self.new) }
+        ensures stops { (events : List Event) (before : List Told) →
+            HasExplained events before self.old →
+            IfErr result (λ fault.
+            StopsRightly fault self.old.line from bytes.now events before) }
+    {
+        self.note_beginning();
+        let mut told = Vec::new(self.alloc);
+        let heard = self.listener.hear_all(from, bytes, &mut told);
+        self.tell_all(told.as_slice(), out)?;
+        match heard {
+            Ok(()) => Ok(()),
+            Err(stop) => self.stop(from, bytes, stop, out),
+        }
+    }
+
+    /// Notes the line in which a TPDU begins, where none is under way.
+    fn note_beginning(&mut self)
+        ensures { KeepsAll self.old self.new }
+    {
+        if self.listener.under_way().is_empty() {
+            self.began = self.line;
+        }
+    }
+
+    /// Tells of the TPDUs that ended.
+    fn tell_all(&mut self, told: &[Tpdu], out: &mut String) -> Result<(), AllocError>
+        ensures { OnOk result (KeepsAll self.old self.new) }
+    {
+        for tpdu in told {
+            let links = self.story.tell(tpdu)?;
+            self.tell(tpdu, links, out)?;
+        }
+        Ok(())
+    }
+
+    /// Tells characters of the card that come before the first of the terminal, since the trace
+    /// began or the card was reset: an answer to reset, or the end of what was not heard.
+    fn before_header(&self, bytes: &[u8], out: &mut String) -> Result<(), AllocError> {
+        if bytes.is_empty() {
+            return Ok(());
+        }
+        let mut lines = String::new(self.alloc);
+        lines.push_str("before a header, from the card:\n")?;
+        lines.push_str(hex_lines(self.alloc, bytes)?.as_str())?;
+        self.layout.note(out, lines.as_str())
+    }
+
+    /// Tells of a character that is not taken, and stops or passes over what follows.
+    fn stop(
+        &mut self,
+        from: End,
+        bytes: &[u8],
+        stop: Stop,
+        out: &mut String,
+    ) -> Result<(), ExplainFault>
+        ensures stopped { self.old.resumes ≡ false → Stopped result stop.refusal (record {
+          line = self.old.line;
+          place = stop.place;
+          due = due_at self.old.listener.tap;
+          from = from;
+          byte = get_or bytes.now stop.place 0;
+        }) }
+    {
+        if let Refusal::OutOfMemory = stop.refusal {
+            return Err(ExplainFault::OutOfMemory);
+        }
+        let complaint = Complaint {
+            line: self.line,
+            place: stop.place,
+            due: self.listener.due(),
+            from,
+            byte: bytes.get(stop.place).copied().unwrap_or(0),
+        };
+        self.cut_off(out)?;
+        self.story.reset();
+        self.complain(complaint, out)?;
+        if !self.resumes {
+            return Err(ExplainFault::NoDialogue(complaint));
+        }
+        self.complaints = self.complaints.saturating_add(1);
+        self.first = Some(self.first.unwrap_or(complaint));
+        self.passes_over = true;
+        Ok(())
+    }
+
+    /// Adds a box for a complaint.
+    fn complain(&self, complaint: Complaint, out: &mut String) -> Result<(), AllocError> {
+        let Complaint {
+            line,
+            place,
+            due,
+            from,
+            byte,
+        } = complaint;
+        self.layout.open(out, Kind::Complaint, "no dialogue", line)?;
+        let character = place.saturating_add(1);
+        let stands = format!(in self.alloc; "line {line}, character {character}\n")?;
+        self.layout.row(out, Side::Told, "place", stands.as_str())?;
+        let due = due_text(due);
+        let wanted = format!(in self.alloc; "{due}\n")?;
+        self.layout.row(out, Side::Told, "due", wanted.as_str())?;
+        let from = end_text(from);
+        let came = format!(in self.alloc; "{byte:02X} of the {from}\n")?;
+        self.layout.row(out, Side::Told, "came", came.as_str())?;
+        self.layout.close(out)
+    }
+
+    /// Explains a reset.
+    fn reset(&mut self, out: &mut String) -> Result<(), AllocError>
+        ensures { (events : List Event) (before : List Told) →
+            HasExplained events before self.old →
+            OnOk result (ExplainsMore (Reset ∷ []) true events before self.new) }
+    {
+        self.passes_over = false;
+        self.begins = true;
+        self.cut_off(out)?;
+        let drops = self.story.reset();
+        let note = if drops {
+            "reset: the chain is dropped\n"
+        } else {
+            "reset\n"
+        };
+        self.layout.note(out, note)?;
+        Ok(())
+    }
+
+    /// Tells what was under way, if anything was, and drops it.
+    fn cut_off(&mut self, out: &mut String) -> Result<(), AllocError>
+        ensures cut_off { (events : List Event) (before : List Told) →
+            HasExplained events before self.old →
+            OnOk result (HasExplained (events ++ Reset ∷ []) before self.new) }
+        ensures keeps { OnOk result ((self.new.begins ≡ self.old.begins)
+            × (self.new.resumes ≡ self.old.resumes)) }
+    {
+        let part = self.listener.reset();
+        if part.is_empty() {
+            return Ok(());
+        }
+        let links = self.story.tell(&part)?;
+        self.tell(&part, links, out)
+    }
+
+    /// Keeps a line that is none of characters.
+    fn note(&self, note: &[u8], out: &mut String) -> Result<(), AllocError> {
+        if note.is_empty() {
+            return Ok(());
+        }
+        let mut text = String::new(self.alloc);
+        for piece in note.chunks(note_width(note)) {
+            push_printable(&mut text, piece)?;
+            text.push('\n')?;
+        }
+        self.layout.note(out, text.as_str())
+    }
+
+    /// Whether all of it was a dialogue.
+    pub fn outcome(&self) -> Result<(), ExplainFault>
+        ensures { IfErr result IsResumed }
+    {
+        match self.first {
+            None => Ok(()),
+            Some(complaint) => Err(ExplainFault::Resumed {
+                complaints: self.complaints,
+                first: complaint,
+            }),
+        }
+    }
+
+    /// Explains what is under way where the trace ends.
+    pub fn end(&mut self, out: &mut String) -> Result<(), AllocError> {
+        self.cut_off(out)?;
+        self.layout.end(out)
+    }
+
+    /// Adds the box of a TPDU.
+    fn tell(&self, tpdu: &Tpdu, links: Links, out: &mut String) -> Result<(), AllocError> {
+        let number = links.number;
+        let name = phrases::title(self.alloc, tpdu)?;
+        let mut title = format!(in self.alloc; "#{number} {name}")?;
+        phrases::push_links(&mut title, links)?;
+        let kind = if tpdu.status.len() == 2 {
+            Kind::Whole
+        } else {
+            Kind::CutOff
+        };
+        self.layout.open(out, kind, title.as_str(), self.began)?;
+        if links.drops_before {
+            self.layout
+                .row(out, Side::Told, "before", "the chain is dropped\n")?;
+        }
+        self.tell_rows(tpdu, out)?;
+        if links.drops_after {
+            self.layout
+                .row(out, Side::Told, "after", "the chain is dropped\n")?;
+        }
+        self.tell_whole(links.whole, out)?;
+        self.layout.close(out)
+    }
+
+    /// Adds the rows of what went over the line.
+    fn tell_rows(&self, tpdu: &Tpdu, out: &mut String) -> Result<(), AllocError> {
+        let header = hex_lines(self.alloc, tpdu.header.as_slice())?;
+        self.layout
+            .row(out, Side::Terminal, "header", header.as_str())?;
+        let procedure = phrases::procedure(self.alloc, tpdu.tally)?;
+        self.layout
+            .row(out, Side::Card, "procedure", procedure.as_str())?;
+        self.tell_data(tpdu, out)?;
+        self.tell_status(tpdu, out)
+    }
+
+    /// Adds the row of the data: as a tree where they come from the card and are objects.
+    fn tell_data(&self, tpdu: &Tpdu, out: &mut String) -> Result<(), AllocError> {
+        match tpdu.way {
+            None => Ok(()),
+            Some(Direction::ToCard) => {
+                let lines = hex_lines(self.alloc, sent(tpdu))?;
+                self.layout.row(out, Side::Terminal, "data", lines.as_str())
+            }
+            Some(Direction::FromCard) => {
+                let lines = data_lines(self.alloc, brought(tpdu))?;
+                self.layout.row(out, Side::Card, "data", lines.as_str())
+            }
+        }
+    }
+
+    /// Adds the row of the status, or that none came.
+    fn tell_status(&self, tpdu: &Tpdu, out: &mut String) -> Result<(), AllocError> {
+        let Some(status) = status_of(tpdu) else {
+            let mut lines = String::new(self.alloc);
+            push_hex(self.alloc, &mut lines, tpdu.status.as_slice())?;
+            let space = if lines.is_empty() { "" } else { " " };
+            lines.push_str(space)?;
+            lines.push_str("cut off\n")?;
+            return self.layout.row(out, Side::Told, "status", lines.as_str());
+        };
+        let mut lines = String::new(self.alloc);
+        push_hex(self.alloc, &mut lines, tpdu.status.as_slice())?;
+        lines.push(' ')?;
+        push_meaning(&mut lines, status)?;
+        lines.push('\n')?;
+        self.layout.row(out, Side::Card, "status", lines.as_str())
+    }
+
+    /// Adds the row of what has come together.
+    fn tell_whole(&self, whole: Whole, out: &mut String) -> Result<(), AllocError> {
+        let bytes = self.story.whole(whole);
+        if bytes.is_empty() {
+            return Ok(());
+        }
+        let mut lines = phrases::whole(self.alloc, whole, bytes.len())?;
+        let data = match whole {
+            Whole::Response(_) => data_lines(self.alloc, bytes)?,
+            _ => hex_lines(self.alloc, bytes)?,
+        };
+        lines.push_str(data.as_str())?;
+        self.layout.row(out, Side::Told, "together", lines.as_str())
+    }
+}
+
+/// The data as a tree where they are objects, else as digits.
+fn data_lines(alloc: Global, bytes: &[u8]) -> Result<String, AllocError> {
+    match tree_of(alloc, bytes)? {
+        Some(tree) => Ok(tree),
+        None => hex_lines(alloc, bytes),
+    }
+}
+
+/// Whether characters of this end come before the first of the terminal.
+fn is_before_header(begins: bool, from: End) -> bool
+    ensures { result ≡ (begins && is_card from) }
+{
+    match from {
+        End::Terminal => false,
+        End::Card => begins,
+    }
+}
+
+/// Whether no character of the terminal has come after these either.
+fn begins_after(begins: bool, from: End, bytes: &[u8]) -> bool
+    ensures { result ≡ begins_after begins from bytes.now }
+{
+    match from {
+        End::Terminal => begins && bytes.is_empty(),
+        End::Card => begins,
+    }
+}
+
+/// Whether these can be the five characters of a header, alone in a line.
+fn is_header(from: End, bytes: &[u8]) -> bool {
+    from == End::Terminal && bytes.len() == 5
+}
+
+/// How many bytes of this note stand in a line.
+fn note_width(note: &[u8]) -> usize
+    ensures { 0 < result }
+{
+    for &byte in note {
+        if !matches!(byte, b' '..=b'~') {
+            return ODD_BYTES;
+        }
+    }
+    NOTE_BYTES
+}
+
+/// Adds the bytes of a note, those that are no printable ASCII by their numbers.
+fn push_printable(text: &mut String, bytes: &[u8]) -> Result<(), AllocError> {
+    for &byte in bytes {
+        match byte {
+            b' '..=b'~' => text.push(char::from(byte))?,
+            _ => write!(text, "\\x{byte:02X}")?,
+        }
+    }
+    Ok(())
+}

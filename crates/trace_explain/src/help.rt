@@ -1,0 +1,48 @@
+//! What `--help` and `--version` say, and what is said of words that are not UTF-8.
+
+/// Of the program.
+pub const PROGRAM: &str = "Explains the trace of a dialogue with a smart card over the T=0 \
+    protocol: what each command was, and what it brought";
+
+/// The version.
+pub const VERSION: &str = "0.1.0";
+
+/// Of `--html`.
+pub const HTML: &str = "Writes one page of HTML, which needs nothing else, and no text";
+
+/// Of `--resume`.
+pub const RESUME: &str = "Goes on after a character with which no dialogue goes on";
+
+/// What a trace is, and what comes where it is no dialogue.
+pub const TRACE: &str = "\
+The trace stands on standard input, in lines as `card_trace play` prints them:
+
+  > HEX    characters of the terminal
+  < HEX    characters of the card, or `<` alone for none
+  reset    the card was reset
+
+Every other line is a note, and is kept at its place, behind `| `. Characters of the card that come
+before the first of the terminal, since the trace began or the card was reset, are told as such: an
+answer to reset, or the end of what was not heard. A trace has at most 67,108,864 bytes, and a line
+at most 4,194,304.
+
+Where no dialogue goes on with a character, the line and the character are told, counted from 1,
+with what was due and what came. Then the program stops. With `--resume` it passes over what
+follows, up to the next line `reset`, or the next line `> HEX` of just five characters, which it
+takes for a header. In both cases the status is 1.
+
+A TPDU that a reset or the end of the trace has cut off is told as far as it came, and is no fault.
+
+Example:
+
+  card_trace play < examples/read.play | trace_explain
+  card_trace play < examples/read.play | trace_explain --html > read.html";
+
+/// Of words of which one is not UTF-8, in the form in which `clap` tells of a mistake.
+pub const NO_UTF_8: &str = "\
+error: invalid UTF-8 was detected in one or more arguments
+
+Usage: trace_explain [OPTIONS]
+
+For more information, try '--help'.
+";

@@ -1,0 +1,40 @@
+/// How a command goes on with those before it.
+#[derive(Clone, Copy, Debug, PartialEq, Eq)]
+pub enum Link {
+    /// It stands alone.
+    None,
+    /// The one before it, which was answered `6CXX`, with this many bytes asked for.
+    AskedAgain(u16),
+    /// A GET RESPONSE after `61XX`, for this many bytes.
+    Fetches(u16),
+    /// The piece of this number of a chain, which goes on.
+    Piece(u64),
+    /// The piece of this number of a chain, which is its last.
+    LastPiece(u64),
+}
+
+/// What has come together with a TPDU.
+#[derive(Clone, Copy, Debug, PartialEq, Eq)]
+pub enum Whole {
+    /// Nothing, or all of it in this TPDU.
+    None,
+    /// A response, in this many parts.
+    Response(u64),
+    /// The value of a chain, in this many pieces.
+    Value(u64),
+}
+
+/// What a TPDU is among the others.
+#[derive(Clone, Copy, Debug, PartialEq, Eq)]
+pub struct Links {
+    /// The number of the TPDU, counted from 1.
+    pub number: u64,
+    /// How it goes on with those before it.
+    pub link: Link,
+    /// A chain was pending, and it does not go on with it.
+    pub drops_before: bool,
+    /// It is of a chain, and its status drops that.
+    pub drops_after: bool,
+    /// What has come together with it.
+    pub whole: Whole,
+}

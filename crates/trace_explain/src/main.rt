@@ -1,0 +1,53 @@
+//! A trace of both ends of a line, explained.
+#![tactic(auto)]
+
+mod chain;
+mod command_line;
+mod command_name;
+mod complaint;
+mod explain;
+mod explain_fault;
+mod explainer;
+mod help;
+mod html;
+mod layout;
+mod links;
+mod listener;
+mod main_status;
+mod meaning;
+mod phrases;
+mod refusal;
+mod response;
+mod story;
+mod tally;
+mod text;
+mod tpdu;
+mod trace_line;
+mod tree;
+
+use main_status::{main_status, status_without_words};
+use std::process::ExitCode;
+use std::{env, io};
+
+/// Runs the program on its own words and streams.
+fn main(rt: HostRuntime) -> ExitCode {
+    let stderr = rt.stderr();
+    let mut faults = io::writer(&stderr);
+    let status = match words(&rt) {
+        Ok(words) => main_status(
+            rt.alloc(),
+            words.as_slice(),
+            &mut rt.stdin(),
+            &mut io::writer(&rt),
+            &mut faults,
+        ),
+        Err(error) => status_without_words(&error, &mut faults),
+    };
+    ExitCode::from(status)
+}
+
+/// The program's own words.
+fn words(rt: &HostRuntime) -> io::Result<Vec<String>> {
+    let words = env::args(rt)?;
+    Ok(words.collect(rt.alloc())?)
+}

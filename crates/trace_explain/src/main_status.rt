@@ -1,0 +1,83 @@
+//! The program over any reader and writers.
+ghost use Rattle.std.specs.Prelude.{◌≡◌, ◌≤◌, OnOk, OnErr};
+
+use crate::command_line::parsed;
+use crate::explain::explain;
+use crate::explain_fault::ExplainFault;
+use crate::help;
+use clap::Error;
+use clap::error::ErrorKind;
+use std::alloc::Global;
+use std::io;
+use std::io::{Read, Write};
+
+/// Runs the program on its words, of which the first is its name, and answers its exit status.
+///
+/// 0: the trace was explained, or help was asked for, which goes to `output`. 1: a fault, which is
+/// told on `faults`. 2: the words were refused, as `faults` tells. That `faults` fails changes no
+/// status.
+pub fn main_status<R: Read, W: Write, F: Write>(
+    alloc: Global,
+    words: &[String],
+    input: &mut R,
+    output: &mut W,
+    faults: &mut F,
+) -> u8
+    ensures status { result ≤ 2 }
+{
+    match parsed(alloc, words) {
+        Ok(request) => {
+            let outcome = explain(alloc, request.layout, request.resumes, input, output);
+            told(&outcome, faults)
+        }
+        Err(error) => answered(&error, output, faults),
+    }
+}
+
+/// The status for what the parser answered in place of matches. Help goes to `output`, and a
+/// refusal to `faults`.
+fn answered<W: Write, F: Write>(error: &Error, output: &mut W, faults: &mut F) -> u8
+    ensures status { result ≤ 2 }
+{
+    match error.kind() {
+        ErrorKind::OutOfMemory => told(&Err(ExplainFault::OutOfMemory), faults),
+        ErrorKind::DisplayHelp | ErrorKind::DisplayVersion => told(&shown(error, output), faults),
+        _ => {
+            let _ = faults.write_fmt(error);
+            2
+        }
+    }
+}
+
+/// Writes the help.
+fn shown<W: Write>(error: &Error, output: &mut W) -> Result<(), ExplainFault> {
+    output.write_fmt(error).map_err(|_| ExplainFault::Write)
+}
+
+/// The status for an outcome: 0, or 1 for a fault, which is told on `faults` in one line.
+fn told<F: Write>(outcome: &Result<(), ExplainFault>, faults: &mut F) -> u8
+    ensures success { OnOk outcome.now (result ≡ 0) }
+    ensures fault { OnErr outcome.now (result ≡ 1) }
+{
+    match outcome {
+        Ok(()) => 0,
+        Err(fault) => {
+            let _ = faults.writeln(fault);
+            1
+        }
+    }
+}
+
+/// The exit status where the words can't be had, which is told on `faults`: 1 for want of memory,
+/// and else 2, as one of them is not UTF-8. That `faults` fails changes no status.
+pub fn status_without_words<F: Write>(error: &io::Error, faults: &mut F) -> u8
+    ensures status { result ≤ 2 }
+{
+    match error.kind() {
+        io::ErrorKind::OutOfMemory => told(&Err(ExplainFault::OutOfMemory), faults),
+        _ => {
+            let _ = faults.write_all(help::NO_UTF_8.as_bytes());
+            2
+        }
+    }
+}

@@ -1,0 +1,89 @@
+//! A response that comes in parts (ISO/IEC 7816-3, clause 12).
+
+use crate::links::Link;
+use apdu_core::{Header, Status, count};
+use std::alloc::{AllocError, Global};
+
+/// The least bytes of a response that is not told as a whole (this project's profile).
+pub const RESPONSE_LIMIT: usize = 65_536;
+
+/// What the last status asks of the terminal.
+#[derive(Clone, Copy, Debug, PartialEq, Eq)]
+enum Asked {
+    Nothing,
+    /// `61XX`: a GET RESPONSE.
+    Fetch,
+    /// `6CXX`: the same header with this P3.
+    Again(Header, u8),
+}
+
+/// The response under way, as the characters show it.
+#[derive(Drop)]
+pub struct ResponseHeard {
+    asked: Asked,
+    parts: u64,
+    bytes: Vec<u8>,
+}
+
+impl ResponseHeard {
+    /// None has come.
+    pub fn new(alloc: Global) -> ResponseHeard {
+        ResponseHeard {
+            asked: Asked::Nothing,
+            parts: 0,
+            bytes: Vec::new(alloc),
+        }
+    }
+
+    /// Drops it.
+    pub fn drop_all(&mut self) {
+        self.asked = Asked::Nothing;
+        self.parts = 0;
+        self.bytes.clear();
+    }
+
+    /// How a command with this header and P3 goes on with what the last status asked.
+    pub fn link_of(&self, header: Header, p3: u8) -> Link {
+        match self.asked {
+            Asked::Again(other, le) if other == header && le == p3 => Link::AskedAgain(count(p3)),
+            Asked::Fetch if header.ins == 0xC0 => Link::Fetches(count(p3)),
+            _ => Link::None,
+        }
+    }
+
+    /// Takes the data that a command brought.
+    pub fn take(&mut self, part: &[u8]) -> Result<(), AllocError> {
+        if part.is_empty() {
+            return Ok(());
+        }
+        if self.bytes.len() < RESPONSE_LIMIT {
+            self.bytes.extend_from_slice(part)?;
+        }
+        self.parts = self.parts.saturating_add(1);
+        Ok(())
+    }
+
+    /// Ends a command with this header by its status, and says in how many parts the response came,
+    /// where it is over.
+    pub fn end(&mut self, header: Header, status: Status) -> u64 {
+        match (status.sw1(), status.sw2()) {
+            (0x61, _) => {
+                self.asked = Asked::Fetch;
+                0
+            }
+            (0x6C, le) => {
+                self.asked = Asked::Again(header, le);
+                0
+            }
+            _ => {
+                self.asked = Asked::Nothing;
+                self.parts
+            }
+        }
+    }
+
+    /// The bytes of all parts; only the first of them where they are `RESPONSE_LIMIT` or more.
+    pub fn bytes(&self) -> &[u8] {
+        self.bytes.as_slice()
+    }
+}

@@ -3,12 +3,12 @@
 //! answers.
 
 use crate::trace::{bytes, word};
-use crate::{Answers, Bytes, Op, Session};
-use object_card::{Aid, CardBuilder, ObjectCard};
+use crate::{Answer, Answers, Bytes, Op, Session, SessionFault};
+use object_card::{Aid, CardBuilder, DataCard, Entries, ObjectCard};
 use std::alloc::{Allocator, Global};
 use std::process::Abort;
 use std::test::Fail;
-use t0_core::{CardEnd, Plans, Silent};
+use t0_core::{CardEnd, Plans, Silent, Watch};
 use tlv_core::{ObjectTag, Tag};
 
 /// The identifier of the one application.
@@ -33,19 +33,54 @@ fn object(alloc: Global, text: &str) -> Result<(ObjectTag, Vec<u8>), Fail> {
     Ok((tag(alloc, name)?, bytes(alloc, value)?))
 }
 
+/// Adds a data object of this text. Without a clause: what is proved of it is nothing that a test
+/// has to know, and costs each proof that has it at hand.
+fn add<A: Allocator + Copy>(
+    builder: &mut CardBuilder<A>,
+    alloc: Global,
+    text: &str,
+) -> Result<(), Fail> {
+    let (tag, value) = object(alloc, text)?;
+    builder.object(tag, &value)?;
+    Ok(())
+}
+
+/// A builder with the one application, likewise.
+fn begun<A: Allocator + Copy>(memory: A, alloc: Global) -> Result<CardBuilder<A>, Fail> {
+    let mut builder = CardBuilder::new(memory);
+    builder.app(aid(alloc, AID)?)?;
+    Ok(builder)
+}
+
 /// A card that holds these data objects in this memory.
 pub fn card<A: Allocator + Copy>(
     memory: A,
     alloc: Global,
     objects: &str,
 ) -> Result<ObjectCard<A>, Fail> {
-    let mut builder = CardBuilder::new(memory);
-    builder.app(aid(alloc, AID)?)?;
+    let mut builder = begun(memory, alloc)?;
     for text in objects.split(';') {
-        let (tag, value) = object(alloc, text.trim())?;
-        builder.object(tag, &value)?;
+        add(&mut builder, alloc, text.trim())?;
     }
     Ok(builder.finish()?)
+}
+
+/// The data objects of a card, likewise without a clause.
+fn entries<A: Allocator + Copy>(
+    card: &ObjectCard<A>,
+    alloc: Global,
+) -> Result<Entries<'_, A>, Fail> {
+    Ok(card.entries(&aid(alloc, AID)?).ok_or("no application")?)
+}
+
+/// Whether two cards hold the same data objects, in one order.
+fn hold_alike<A: Allocator + Copy>(
+    alloc: Global,
+    held: &ObjectCard<A>,
+    wanted: &ObjectCard,
+) -> Result<bool, Fail> {
+    let others = entries(wanted, alloc)?;
+    Ok(entries(held, alloc)?.eq(others))
 }
 
 /// The card holds these data objects in this order, and no others.
@@ -55,11 +90,8 @@ pub fn holds<A: Allocator + Copy>(
     held: &ObjectCard<A>,
     objects: &str,
 ) -> Result<(), Fail> {
-    let aid = aid(alloc, AID)?;
     let wanted = card(alloc, alloc, objects)?;
-    let entries = held.entries(&aid).ok_or("no application")?;
-    let others = wanted.entries(&aid).ok_or("no application")?;
-    assert!(rt; entries.eq(others), "{objects}");
+    assert!(rt; hold_alike(alloc, held, &wanted)?, "{objects}");
     Ok(())
 }
 
@@ -67,7 +99,7 @@ pub fn holds<A: Allocator + Copy>(
 pub fn full(alloc: Global) -> Result<String, Fail> {
     let mut objects = format!(in alloc; "DF01 01")?;
     for last in 0x02..=0x40u8 {
-        objects = format!(in alloc; "{objects}; DF{last:02X} {last:02X}")?;
+        objects.push_str(format!(in alloc; "; DF{last:02X} {last:02X}")?.as_str())?;
     }
     Ok(objects)
 }
@@ -89,6 +121,19 @@ pub fn operations(alloc: Global, text: &str) -> Result<Vec<Op>, Fail> {
     Ok(ops)
 }
 
+/// The answer is this, status and data.
+fn is_answer<A: Allocator>(
+    rt: &impl Abort,
+    alloc: Global,
+    answer: &Answer<A>,
+    line: &str,
+) -> Result<(), Fail> {
+    let mut said = Vec::from_slice(alloc, &[answer.status().sw1(), answer.status().sw2()])?;
+    said.extend_from_slice(answer.data())?;
+    assert_eq!(rt; said, bytes(alloc, line)?, "{line}");
+    Ok(())
+}
+
 /// The answers are these, status and data.
 pub fn are_answered<A: Allocator>(
     rt: &impl Abort,
@@ -98,15 +143,56 @@ pub fn are_answered<A: Allocator>(
 ) -> Result<(), Fail> {
     let mut at: usize = 0;
     for line in text.split(';') {
-        let answer = out.get(at).ok_or("no answer")?;
-        let (status, rest) = line.trim().split_once(' ').unwrap_or((line.trim(), ""));
-        let word = [answer.status().sw1(), answer.status().sw2()];
-        assert_eq!(rt; bytes(alloc, status)?.as_slice(), word.as_slice(), "{line}");
-        assert_eq!(rt; answer.data(), bytes(alloc, rest)?.as_slice(), "{line}");
+        is_answer(rt, alloc, out.get(at).ok_or("no answer")?, line.trim())?;
         at = at.saturating_add(1);
     }
     assert_eq!(rt; out.len(), at);
     Ok(())
+}
+
+/// Carries out operations over a card that is idle. Without a clause, as `add`.
+pub fn ran<A: Allocator + Copy, B: Allocator, C: DataCard, W: Watch>(
+    session: &mut Session<C>,
+    memory: A,
+    ops: &[Op],
+    plans: &mut Plans<B>,
+    watch: &mut W,
+    out: &mut Answers<A>,
+) -> Result<Result<(), SessionFault>, Fail> {
+    if session.is_idle() {
+        Ok(session.run(memory, ops, plans, watch, out))
+    } else {
+        Err("busy".into())
+    }
+}
+
+/// The same where no fault comes.
+pub fn carried_out<A: Allocator + Copy, B: Allocator, C: DataCard, W: Watch>(
+    session: &mut Session<C>,
+    memory: A,
+    ops: &[Op],
+    plans: &mut Plans<B>,
+    watch: &mut W,
+    out: &mut Answers<A>,
+) -> Result<(), Fail> {
+    Ok(ran(session, memory, ops, plans, watch, out)??)
+}
+
+/// A session with the card of these objects.
+pub fn session_over<A: Allocator + Copy>(
+    memory: A,
+    alloc: Global,
+    objects: &str,
+) -> Result<Session<ObjectCard<A>>, Fail> {
+    Ok(Session::new(CardEnd::new(card(memory, alloc, objects)?)))
+}
+
+/// Selects the application.
+fn select<C: DataCard>(session: &mut Session<C>, alloc: Global) -> Result<(), Fail> {
+    let ops = operations(alloc, "select A0000000031010")?;
+    let mut out = Answers::new(alloc);
+    let mut plans = Plans::<Global>::over(&[]);
+    carried_out(session, alloc, &ops, &mut plans, &mut Silent, &mut out)
 }
 
 /// A session with the card of these objects, in which the application is selected.
@@ -115,18 +201,7 @@ pub fn selected<A: Allocator + Copy>(
     alloc: Global,
     objects: &str,
 ) -> Result<Session<ObjectCard<A>>, Fail> {
-    let mut session = Session::new(CardEnd::new(card(memory, alloc, objects)?));
-    let mut out = Answers::new(alloc);
-    if !session.is_idle() {
-        return Err("busy".into());
-    }
-    let select = operations(alloc, "select A0000000031010")?;
-    session.run(
-        alloc,
-        &select,
-        &mut Plans::<Global>::over(&[]),
-        &mut Silent,
-        &mut out,
-    )?;
+    let mut session = session_over(memory, alloc, objects)?;
+    select(&mut session, alloc)?;
     Ok(session)
 }

@@ -1,7 +1,7 @@
 //! Exchanges driven by hand over characters.
 
 use crate::trace::{bytes, characters, pass, word};
-use crate::{Exchange, RESPONSE_LIMIT};
+use crate::{Answer, Exchange, RESPONSE_LIMIT};
 use apdu_core::Command;
 use std::alloc::{Allocator, Global};
 use std::process::Abort;
@@ -15,41 +15,59 @@ fn command(bytes: &[u8]) -> Result<Command<'_>, Fail> {
     Ok(Command::read(bytes).ok().ok_or("no command")?)
 }
 
+/// An exchange of a command, given by its bytes. Without a clause: what is proved of it is nothing
+/// that a test has to know, and costs each proof that has it at hand.
+fn begun<'a>(alloc: Global, of: &'a [u8]) -> Result<Exchange<'a>, Fail> {
+    Ok(Exchange::start(alloc, command(of)?)?)
+}
+
+/// What an exchange says to a character, likewise without a clause.
+fn said(exchange: &mut Exchange<'_>, byte: u8) -> Result<(), LineFault> {
+    exchange.take(byte)
+}
+
+/// These characters pass, as a trace has them.
+fn pass_all(
+    rt: &impl Abort,
+    alloc: Global,
+    exchange: &mut Exchange<'_>,
+    trace: &str,
+) -> Result<(), Fail> {
+    pass(rt, exchange, &characters(alloc, trace)?);
+    Ok(())
+}
+
+/// The status of an exchange that is over, and takes nothing more.
+fn status_of(rt: &impl Abort, exchange: &mut Exchange<'_>) -> Result<u16, Fail> {
+    let HostTurn::Done(status) = exchange.next() else {
+        return Err("not done".into());
+    };
+    assert_eq!(rt; said(exchange, 0x90), Err(LineFault::AfterEnd));
+    Ok(word(status))
+}
+
 /// The exchange of a command, given by its bytes, has these characters, and then this answer.
 fn answers(
     rt: &impl Abort,
     alloc: Global,
     of: &str,
     trace: &str,
-    answer: (u16, &str),
+    (status, data): (u16, &str),
 ) -> Result<(), Fail> {
     let of = bytes(alloc, of)?;
-    let mut exchange = Exchange::start(alloc, command(&of)?)?;
-    pass(rt, &mut exchange, &characters(alloc, trace)?);
-    let HostTurn::Done(status) = exchange.next() else {
-        return Err("not done".into());
-    };
-    assert_eq!(rt; word(status), answer.0, "{trace}");
-    assert_eq!(rt; exchange.take(0x90), Err(LineFault::AfterEnd));
-    let answered = exchange.into_answer().ok_or("no answer")?;
-    assert_eq!(rt; word(answered.status()), answer.0, "{trace}");
-    assert_eq!(rt;
-        answered.data(),
-        bytes(alloc, answer.1)?.as_slice(),
-        "{trace}"
-    );
+    let mut exchange = begun(alloc, &of)?;
+    pass_all(rt, alloc, &mut exchange, trace)?;
+    assert_eq!(rt; status_of(rt, &mut exchange)?, status, "{trace}");
+    let answer = exchange.into_answer().ok_or("no answer")?;
+    assert_eq!(rt; word(answer.status()), status, "{trace}");
+    assert_eq!(rt; answer.data(), bytes(alloc, data)?.as_slice(), "{trace}");
     Ok(())
 }
 
-/// How to drive an exchange over a reader's characters: begin it, ask what it does, hand in what
-/// the card sends, read the answer.
-#[test]
-fn driven_by_hand(rt: HostRuntime) -> Result<(), Fail> {
-    let from_card = bytes(rt.alloc(), "6C06 CA5F20034A4F459000")?;
+/// How to drive an exchange over a reader's characters: ask what it does, and hand in what the card
+/// sends.
+fn driven(exchange: &mut Exchange<'_>, from_card: &[u8], sent: &mut Vec<u8>) -> Result<(), Fail> {
     let mut reader = from_card.iter();
-    let mut sent = Vec::new(rt.alloc());
-
-    let mut exchange = Exchange::start(rt.alloc(), command(GET)?)?;
     for _ in 0..100 {
         match exchange.next() {
             HostTurn::Sends(byte) => sent.push(byte)?,
@@ -60,14 +78,21 @@ fn driven_by_hand(rt: HostRuntime) -> Result<(), Fail> {
             HostTurn::Done(_) | HostTurn::Failed => break,
         }
     }
-    let answer = exchange.into_answer().ok_or("no answer")?;
+    Ok(())
+}
 
+/// Begin it, drive it, and read the answer.
+#[test]
+fn driven_by_hand(rt: HostRuntime) -> Result<(), Fail> {
+    let from_card = bytes(rt.alloc(), "6C06 CA5F20034A4F459000")?;
+    let mut sent = Vec::new(rt.alloc());
+    let mut exchange = Exchange::start(rt.alloc(), command(GET)?)?;
+    driven(&mut exchange, &from_card, &mut sent)?;
     assert_eq!(rt; sent, bytes(rt.alloc(), "00CA5F2000 00CA5F2006")?);
+    let answer = exchange.into_answer().ok_or("no answer")?;
     assert!(rt; answer.status().is_ok());
-    assert_eq!(rt;
-        answer.data(),
-        bytes(rt.alloc(), "5F20034A4F45")?.as_slice()
-    );
+    let object = bytes(rt.alloc(), "5F20034A4F45")?;
+    assert_eq!(rt; answer.data(), object.as_slice());
     Ok(())
 }
 
@@ -197,20 +222,23 @@ fn has_failed<A: Allocator>(rt: &impl Abort, mut exchange: Exchange<'_, A>) {
 
 #[test]
 fn no_procedure_byte_ends_it(rt: HostRuntime) -> Result<(), Fail> {
-    let mut exchange = Exchange::start(rt.alloc(), command(GET)?)?;
-    pass(&rt, &mut exchange, &characters(rt.alloc(), "> 00CA5F2000")?);
-    assert_eq!(rt; exchange.take(0x41), Err(LineFault::BadProcedure(0x41)));
+    let mut exchange = begun(rt.alloc(), GET)?;
+    pass_all(&rt, rt.alloc(), &mut exchange, "> 00CA5F2000")?;
+    assert_eq!(rt;
+        said(&mut exchange, 0x41),
+        Err(LineFault::BadProcedure(0x41))
+    );
     has_failed(&rt, exchange);
     Ok(())
 }
 
 #[test]
 fn listens_to_nothing_while_it_sends(rt: HostRuntime) -> Result<(), Fail> {
-    let mut exchange = Exchange::start(rt.alloc(), command(GET)?)?;
+    let mut exchange = begun(rt.alloc(), GET)?;
     for trace in ["> 00CA5F2000 < 6C06", "> 00CA5F2006 < CA", "< 0102"] {
         for character in characters(rt.alloc(), trace)? {
             if character.0 == End::Terminal {
-                assert_eq!(rt; exchange.take(0x90), Err(LineFault::NotListening));
+                assert_eq!(rt; said(&mut exchange, 0x90), Err(LineFault::NotListening));
             }
             pass(&rt, &mut exchange, &[character]);
         }
@@ -228,11 +256,31 @@ fn no_answer_before_the_end(rt: HostRuntime) -> Result<(), Fail> {
         "> 00CA5F2000 < 6C06",
         "> 00CA5F2000 < 6105 > 00C0000005 < C00102",
     ] {
-        let mut exchange = Exchange::start(rt.alloc(), command(GET)?)?;
-        pass(&rt, &mut exchange, &characters(rt.alloc(), front)?);
+        let mut exchange = begun(rt.alloc(), GET)?;
+        pass_all(&rt, rt.alloc(), &mut exchange, front)?;
         assert!(rt; exchange.into_answer().is_none(), "{front}");
     }
     Ok(())
+}
+
+/// The exchange of a command, given by its bytes, stalls at the last character of the last fetch.
+fn stalls(rt: &impl Abort, alloc: Global, of: &str, trace: &str) -> Result<(), Fail> {
+    let of = bytes(alloc, of)?;
+    let mut exchange = begun(alloc, &of)?;
+    pass_all(rt, alloc, &mut exchange, trace)?;
+    assert_eq!(rt;
+        said(&mut exchange, 0x05),
+        Err(LineFault::Stalled),
+        "{trace}"
+    );
+    has_failed(rt, exchange);
+    Ok(())
+}
+
+/// How many headers the terminal sends in a trace without data of its own.
+fn headers_in(alloc: Global, trace: &str) -> Result<usize, Fail> {
+    let passed = characters(alloc, trace)?;
+    Ok(passed.iter().filter(|c| c.0 == End::Terminal).count() / 5)
 }
 
 /// A first `61XX` without data is no stall. A fetch that brings nothing is, after so many headers.
@@ -247,42 +295,41 @@ fn fetch_that_brings_nothing_stalls(rt: HostRuntime) -> Result<(), Fail> {
         ),
         ("00C0000000", "> 00C0000000 < 6105 > 00C0000005 < 61", 2),
     ] {
-        let of = bytes(rt.alloc(), of)?;
-        let mut exchange = Exchange::start(rt.alloc(), command(&of)?)?;
-        let passed = characters(rt.alloc(), trace)?;
-        pass(&rt, &mut exchange, &passed);
-        let sent = passed.iter().filter(|c| c.0 == End::Terminal).count();
-        assert_eq!(rt; sent / 5, headers, "{trace}");
-        assert_eq!(rt; exchange.take(0x05), Err(LineFault::Stalled), "{trace}");
-        has_failed(&rt, exchange);
+        assert_eq!(rt; headers_in(rt.alloc(), trace)?, headers, "{trace}");
+        stalls(&rt, rt.alloc(), of, trace)?;
     }
     Ok(())
 }
 
-/// One byte more than all the room is too long. The same room then serves another command, emptied.
+/// All the room is filled but the last 256 bytes, which are announced.
+fn nearly_filled(rt: &impl Abort, alloc: Global, exchange: &mut Exchange<'_>) -> Result<(), Fail> {
+    pass_all(rt, alloc, exchange, "> 00CA5F2000 < CA 42*256 6100")?;
+    for _ in 0..62 {
+        pass_all(rt, alloc, exchange, "> 00C0000000 < C0 42*256 6100")?;
+    }
+    Ok(())
+}
+
+/// One byte more than all the room is too long.
+fn is_overfilled(rt: &impl Abort, alloc: Global, exchange: &mut Exchange<'_>) -> Result<(), Fail> {
+    nearly_filled(rt, alloc, exchange)?;
+    let last = "> 00C0000000 < C0 42*256 6101 > 00C0000001 < C0";
+    pass_all(rt, alloc, exchange, last)?;
+    assert_eq!(rt; said(exchange, 0x41), Err(LineFault::TooLong));
+    assert_eq!(rt; said(exchange, 0x90), Err(LineFault::AfterEnd));
+    Ok(())
+}
+
+/// The same room serves another command, emptied.
 #[test]
 fn room_is_filled_and_emptied(rt: HostRuntime) -> Result<(), Fail> {
-    let first = characters(rt.alloc(), "> 00CA5F2000 < CA 42*256 6100")?;
-    let further = characters(rt.alloc(), "> 00C0000000 < C0 42*256 6100")?;
-    let last = characters(rt.alloc(), "> 00C0000000 < C0 42*256 6101")?;
-    let mut exchange = Exchange::start(rt.alloc(), command(GET)?)?;
+    let mut exchange = begun(rt.alloc(), GET)?;
     for _ in 0..2 {
-        pass(&rt, &mut exchange, &first);
-        for _ in 0..62 {
-            pass(&rt, &mut exchange, &further);
-        }
-        pass(&rt, &mut exchange, &last);
-        pass(
-            &rt,
-            &mut exchange,
-            &characters(rt.alloc(), "> 00C0000001 < C0")?,
-        );
-        assert_eq!(rt; exchange.take(0x41), Err(LineFault::TooLong));
-        assert_eq!(rt; exchange.take(0x90), Err(LineFault::AfterEnd));
+        is_overfilled(&rt, rt.alloc(), &mut exchange)?;
         exchange = exchange.again(command(GET)?);
     }
-    let answer = characters(rt.alloc(), "> 00CA5F2000 < CA 43*256 9000")?;
-    pass(&rt, &mut exchange, &answer);
+    let trace = "> 00CA5F2000 < CA 43*256 9000";
+    pass_all(&rt, rt.alloc(), &mut exchange, trace)?;
     let answer = exchange.into_answer().ok_or("no answer")?;
     assert_eq!(rt; answer.data(), bytes(rt.alloc(), "43*256")?.as_slice());
     Ok(())
@@ -291,49 +338,47 @@ fn room_is_filled_and_emptied(rt: HostRuntime) -> Result<(), Fail> {
 /// All the room may be filled: the data of an answer are so many bytes at most.
 #[test]
 fn whole_room_is_an_answer(rt: HostRuntime) -> Result<(), Fail> {
-    let mut exchange = Exchange::start(rt.alloc(), command(GET)?)?;
-    pass(
+    let mut exchange = begun(rt.alloc(), GET)?;
+    nearly_filled(&rt, rt.alloc(), &mut exchange)?;
+    pass_all(
         &rt,
+        rt.alloc(),
         &mut exchange,
-        &characters(rt.alloc(), "> 00CA5F2000 < CA 42*256 6100")?,
-    );
-    for _ in 0..62 {
-        pass(
-            &rt,
-            &mut exchange,
-            &characters(rt.alloc(), "> 00C0000000 < C0 42*256 6100")?,
-        );
-    }
-    pass(
-        &rt,
-        &mut exchange,
-        &characters(rt.alloc(), "> 00C0000000 < C0 42*256 9000")?,
-    );
+        "> 00C0000000 < C0 42*256 9000",
+    )?;
     let answer = exchange.into_answer().ok_or("no answer")?;
     assert_eq!(rt; answer.data().len(), RESPONSE_LIMIT);
     Ok(())
 }
 
+/// The answer to a command, given by its bytes, over these characters.
+fn answer_to(rt: &impl Abort, alloc: Global, of: &str, trace: &str) -> Result<Answer, Fail> {
+    let of = bytes(alloc, of)?;
+    let mut exchange = begun(alloc, &of)?;
+    pass_all(rt, alloc, &mut exchange, trace)?;
+    Ok(exchange.into_answer().ok_or("no answer")?)
+}
+
+/// Whether the answer is an object: then it is `50 01 41`.
+fn is_object(rt: &impl Abort, answer: &Answer) -> bool {
+    let Some(object) = answer.object() else {
+        return false;
+    };
+    assert_eq!(rt; object.tag().bytes(), [0x50].as_slice());
+    assert_eq!(rt; object.value(), [0x41].as_slice());
+    true
+}
+
 #[test]
 fn object_is_all_the_data(rt: HostRuntime) -> Result<(), Fail> {
-    for (of, trace, is_object) in [
+    for (of, trace, wanted) in [
         ("00CA005003", "> 00CA005003 < CA 500141 9000", true),
         ("00CA005004", "> 00CA005004 < CA 50014100 9000", false),
         ("00CA005004", "> 00CA005004 < CA 00500141 9000", false),
         ("00CA005006", "> 00CA005006 < CA 500141510142 9000", false),
     ] {
-        let of = bytes(rt.alloc(), of)?;
-        let mut exchange = Exchange::start(rt.alloc(), command(&of)?)?;
-        pass(&rt, &mut exchange, &characters(rt.alloc(), trace)?);
-        let answer = exchange.into_answer().ok_or("no answer")?;
-        match answer.object() {
-            Some(object) => {
-                assert!(rt; is_object, "{trace}");
-                assert_eq!(rt; object.tag().bytes(), [0x50].as_slice());
-                assert_eq!(rt; object.value(), [0x41].as_slice());
-            }
-            None => assert!(rt; !is_object, "{trace}"),
-        }
+        let answer = answer_to(&rt, rt.alloc(), of, trace)?;
+        assert!(rt; is_object(&rt, &answer) == wanted, "{trace}");
     }
     Ok(())
 }

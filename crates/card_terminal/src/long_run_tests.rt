@@ -1,6 +1,6 @@
 //! Lists of many operations, also where memory is wanting before one in their middle.
 
-use crate::data_objects::{operations, selected};
+use crate::data_objects::{operations, ran, selected};
 use crate::trace::{bytes, characters, word};
 use crate::{Answers, Op, Session, SessionFault};
 use linked_list_allocator::LocalHeap;
@@ -49,12 +49,10 @@ fn is_run<A: Allocator + Copy, B: Allocator, C: DataCard>(
     recorder: &mut Recorder<B>,
     out: &mut Answers<A>,
 ) -> Result<bool, Fail> {
-    if !session.is_idle() {
-        return Err("busy".into());
-    }
-    let ran = session.run(memory, ops, &mut Plans::<Global>::over(&[]), recorder, out);
+    let mut plans = Plans::<Global>::over(&[]);
+    let ended = ran(session, memory, ops, &mut plans, recorder, out)?;
     assert!(rt; session.is_idle());
-    match ran {
+    match ended {
         Ok(()) => Ok(true),
         Err(fault) => {
             assert_eq!(rt; fault, SessionFault::OutOfMemory);
@@ -98,6 +96,31 @@ fn are_heard(
     Ok(())
 }
 
+/// The same over a card of the two objects.
+fn is_run_anew<A: Allocator + Copy, B: Allocator>(
+    rt: &impl Abort,
+    alloc: Global,
+    memory: A,
+    ops: &[Op],
+    recorder: &mut Recorder<B>,
+    out: &mut Answers<A>,
+) -> Result<bool, Fail> {
+    let mut session = selected(alloc, alloc, OBJECTS)?;
+    is_run(rt, &mut session, memory, ops, recorder, out)
+}
+
+/// What was heard is what was answered, and none of it is lost.
+fn are_told<A: Allocator, B: Allocator>(
+    rt: &impl Abort,
+    alloc: Global,
+    recorder: &Recorder<B>,
+    out: &Answers<A>,
+) -> Result<(), Fail> {
+    assert!(rt; !recorder.lost());
+    are_answered(rt, alloc, out)?;
+    are_heard(rt, alloc, recorder.heard(), out.len())
+}
+
 /// A list of so many pairs of gets, with so many bytes for what is received and for the list of
 /// answers. The answer is how many operations were carried out.
 fn carried_out(
@@ -109,15 +132,12 @@ fn carried_out(
 ) -> Result<usize, Fail> {
     let memory = LocalHeap::new(alloc, received)?;
     let list = LocalHeap::new(alloc, answers)?;
-    let mut session = selected(alloc, alloc, OBJECTS)?;
     let ops = gets(alloc, times)?;
     let mut recorder = Recorder::new(alloc);
     let mut out = Answers::new(&list);
-    let whole = is_run(rt, &mut session, &memory, &ops, &mut recorder, &mut out)?;
+    let whole = is_run_anew(rt, alloc, &memory, &ops, &mut recorder, &mut out)?;
     assert_eq!(rt; whole, out.len() == ops.len());
-    assert!(rt; !recorder.lost());
-    are_answered(rt, alloc, &out)?;
-    are_heard(rt, alloc, recorder.heard(), out.len())?;
+    are_told(rt, alloc, &recorder, &out)?;
     Ok(out.len())
 }
 
@@ -125,15 +145,12 @@ fn carried_out(
 #[test]
 fn a_list_of_thousands(rt: HostRuntime) -> Result<(), Fail> {
     let alloc = rt.alloc();
-    let mut session = selected(alloc, alloc, OBJECTS)?;
     let ops = gets(alloc, 2_550)?;
     let mut recorder = Recorder::new(alloc);
     let mut out = Answers::new(alloc);
-    assert!(rt; is_run(&rt, &mut session, alloc, &ops, &mut recorder, &mut out)?);
+    assert!(rt; is_run_anew(&rt, alloc, alloc, &ops, &mut recorder, &mut out)?);
     assert_eq!(rt; out.len(), 5_100);
-    assert!(rt; !recorder.lost());
-    are_answered(&rt, alloc, &out)?;
-    are_heard(&rt, alloc, recorder.heard(), 5_100)
+    are_told(&rt, alloc, &recorder, &out)
 }
 
 /// Memory for a response is wanting before each of the operations in turn, and before none.

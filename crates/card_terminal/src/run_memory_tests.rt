@@ -1,7 +1,9 @@
 //! Operations of which each growth is refused in turn, by heaps of ever more bytes: at the
 //! terminal, at the card, and at the watch.
 
-use crate::data_objects::{NAME, are_answered, card, full, holds, operations, selected};
+use crate::data_objects::{
+    NAME, are_answered, full, holds, operations, ran, selected, session_over,
+};
 use crate::trace::{characters, word};
 use crate::{Answers, Op, Session, SessionFault};
 use linked_list_allocator::LocalHeap;
@@ -9,7 +11,7 @@ use object_card::DataCard;
 use std::alloc::{AllocError, Allocator, Global};
 use std::process::Abort;
 use std::test::Fail;
-use t0_core::{CardEnd, End, Plans, Recorder};
+use t0_core::{End, Plans, Recorder};
 
 /// Bytes that are enough at either end, for a full table too.
 const AMPLE: usize = 32_768;
@@ -66,18 +68,34 @@ fn is_begun<A: Allocator + Copy, B: Allocator, C: DataCard>(
     out: &mut Answers<A>,
 ) -> Result<bool, Fail> {
     let mut plans = Plans::<Global>::over(&[]);
-    if !session.is_idle() {
-        return Err("busy".into());
-    }
-    let ran = session.run(memory, ops, &mut plans, recorder, out);
+    let ended = ran(session, memory, ops, &mut plans, recorder, out)?;
     assert!(rt; session.is_idle());
-    let Err(fault) = ran else {
+    let Err(fault) = ended else {
         return Ok(true);
     };
     assert_eq!(rt; fault, SessionFault::OutOfMemory);
     assert_eq!(rt; out.len(), 0);
     assert!(rt; recorder.heard().is_empty());
     Ok(false)
+}
+
+/// Puts with so many bytes at the terminal.
+fn puts_over<C: DataCard>(
+    rt: &impl Abort,
+    alloc: Global,
+    session: &mut Session<C>,
+    put: &Put<'_>,
+    at_terminal: usize,
+) -> Result<Outcome, Fail> {
+    let terminal = LocalHeap::new(alloc, at_terminal)?;
+    let ops = operations(alloc, put.operation)?;
+    let mut recorder = Recorder::new(alloc);
+    let mut out = Answers::new(&terminal);
+    if is_begun(rt, session, &ops, &terminal, &mut recorder, &mut out)? {
+        answered(rt, alloc, put, &out, &recorder)
+    } else {
+        Ok(Outcome::NotBegun)
+    }
 }
 
 /// Puts with so many bytes at the terminal, and so many that are left at the card.
@@ -88,20 +106,11 @@ fn puts(
     at_terminal: usize,
     at_card: usize,
 ) -> Result<Outcome, Fail> {
-    let terminal = LocalHeap::new(alloc, at_terminal)?;
     let memory = LocalHeap::new(alloc, AMPLE)?;
     let mut session = selected(&memory, alloc, put.objects)?;
     let taken = all_but(alloc, &memory, at_card)?;
-    let ops = operations(alloc, put.operation)?;
-    let mut recorder = Recorder::new(alloc);
-    let mut out = Answers::new(&terminal);
-    let begun = is_begun(rt, &mut session, &ops, &terminal, &mut recorder, &mut out)?;
+    let outcome = puts_over(rt, alloc, &mut session, put, at_terminal)?;
     drop(taken);
-    let outcome = if begun {
-        answered(rt, alloc, put, &out, &recorder)?
-    } else {
-        Outcome::NotBegun
-    };
     let objects = if outcome == Outcome::AsEver {
         put.after
     } else {
@@ -109,6 +118,14 @@ fn puts(
     };
     holds(rt, alloc, session.card(), objects)?;
     Ok(outcome)
+}
+
+/// The status of the one answer, which has no data.
+fn status_of<A: Allocator>(rt: &impl Abort, out: &Answers<A>) -> Result<u16, Fail> {
+    assert_eq!(rt; out.len(), 1);
+    let answer = out.get(0).ok_or("no answer")?;
+    assert_eq!(rt; answer.data().len(), 0);
+    Ok(word(answer.status()))
 }
 
 /// What the one answer says. It was heard after all the rest.
@@ -119,19 +136,18 @@ fn answered<A: Allocator, B: Allocator>(
     out: &Answers<A>,
     recorder: &Recorder<B>,
 ) -> Result<Outcome, Fail> {
-    assert_eq!(rt; out.len(), 1);
-    let answer = out.get(0).ok_or("no answer")?;
-    assert_eq!(rt; answer.data().len(), 0);
-    let status = word(answer.status());
+    let status = status_of(rt, out)?;
     let mut heard = characters(alloc, put.heard)?;
     for byte in status.to_be_bytes() {
         heard.push((End::Card, byte))?;
     }
     assert!(rt; recorder.heard() == heard.as_slice(), "{}", put.operation);
-    match status {
-        _ if status == put.status => Ok(Outcome::AsEver),
-        0x6581 => Ok(Outcome::Failed),
-        _ => Err("another status".into()),
+    if status == put.status {
+        Ok(Outcome::AsEver)
+    } else if status == 0x6581 {
+        Ok(Outcome::Failed)
+    } else {
+        Err("another status".into())
     }
 }
 
@@ -215,6 +231,24 @@ enum Selection {
     Heard,
 }
 
+/// Selects with so many bytes at the terminal. The answer is whether that was begun.
+fn is_selected<B: Allocator>(
+    rt: &impl Abort,
+    alloc: Global,
+    at_terminal: usize,
+    recorder: &mut Recorder<B>,
+) -> Result<bool, Fail> {
+    let terminal = LocalHeap::new(alloc, at_terminal)?;
+    let ops = operations(alloc, "select A0000000031010")?;
+    let mut session = session_over(alloc, alloc, NAME)?;
+    let mut out = Answers::new(&terminal);
+    let begun = is_begun(rt, &mut session, &ops, &terminal, recorder, &mut out)?;
+    if begun {
+        are_answered(rt, alloc, &out, "9000 6F098407A0000000031010")?;
+    }
+    Ok(begun)
+}
+
 /// Selects with so many bytes at the terminal, and so many at the watch.
 fn selects(
     rt: &impl Abort,
@@ -222,17 +256,13 @@ fn selects(
     at_terminal: usize,
     at_watch: usize,
 ) -> Result<Selection, Fail> {
-    let terminal = LocalHeap::new(alloc, at_terminal)?;
     let watch = LocalHeap::new(alloc, at_watch)?;
-    let mut session = Session::new(CardEnd::new(card(alloc, alloc, NAME)?));
-    let ops = operations(alloc, "select A0000000031010")?;
     let mut recorder = Recorder::new(&watch);
-    let mut out = Answers::new(&terminal);
-    if !is_begun(rt, &mut session, &ops, &terminal, &mut recorder, &mut out)? {
-        return Ok(Selection::NotBegun);
+    if is_selected(rt, alloc, at_terminal, &mut recorder)? {
+        hears(rt, alloc, &recorder)
+    } else {
+        Ok(Selection::NotBegun)
     }
-    are_answered(rt, alloc, &out, "9000 6F098407A0000000031010")?;
-    hears(rt, alloc, &recorder)
 }
 
 /// The watch has heard the selection, or a front of it and says that it has lost the rest.

@@ -1,9 +1,11 @@
 //! Operations over the card of data objects, with what goes over the line.
 
 use crate::counting_card::CountingCard;
-use crate::data_objects::{NAME, are_answered, card, full, holds, operations, selected};
+use crate::data_objects::{
+    NAME, are_answered, card, carried_out, full, holds, operations, selected, session_over,
+};
 use crate::trace::{characters, plans, word};
-use crate::{Answers, Op, Session};
+use crate::{Answer, Answers, Op, Session};
 use apdu_core::{Command, Header};
 use object_card::{DataCard, ObjectCard};
 use std::alloc::Global;
@@ -50,10 +52,7 @@ fn passes<C: DataCard>(
 ) -> Result<Answers, Fail> {
     let mut recorder = Recorder::new(alloc);
     let mut out = Answers::new(alloc);
-    if !session.is_idle() {
-        return Err("busy".into());
-    }
-    session.run(alloc, ops, plans, &mut recorder, &mut out)?;
+    carried_out(session, alloc, ops, plans, &mut recorder, &mut out)?;
     let heard = repeated(alloc, trace)?;
     assert!(rt; recorder.heard() == heard.as_slice(), "{trace}");
     assert!(rt; !recorder.lost());
@@ -100,7 +99,7 @@ const EACH: Row<'static> = Row {
 
 #[test]
 fn operations_in_turn(rt: HostRuntime) -> Result<(), Fail> {
-    let mut session = Session::new(CardEnd::new(card(rt.alloc(), rt.alloc(), EACH.objects)?));
+    let mut session = session_over(rt.alloc(), rt.alloc(), EACH.objects)?;
     carries_out(&rt, rt.alloc(), &mut session, &EACH)?;
     holds(&rt, rt.alloc(), session.card(), "5F20 4A4F45; 9F36 01")
 }
@@ -115,13 +114,12 @@ fn each_answer_comes_over_the_line(rt: HostRuntime) -> Result<(), Fail> {
     Ok(())
 }
 
-/// Two commands bring the two parts of an object. The second, a GET RESPONSE of its own, is
-/// corrected and repeated as any other.
-#[test]
-fn an_object_in_two_parts(rt: HostRuntime) -> Result<(), Fail> {
-    let mut session = selected(rt.alloc(), rt.alloc(), NAME)?;
-    let mut recorder = Recorder::new(rt.alloc());
-    let mut cursor = Plans::<Global>::over(&[]);
+/// GET DATA of the first two bytes of `5F20`.
+fn first_part(
+    session: &mut Session<ObjectCard>,
+    alloc: Global,
+    recorder: &mut Recorder,
+) -> Result<Answer, Fail> {
     let get = Header {
         cla: 0x00,
         ins: 0xCA,
@@ -129,9 +127,16 @@ fn an_object_in_two_parts(rt: HostRuntime) -> Result<(), Fail> {
         p2: 0x20,
     };
     let command = Command::new(get, &[], Some(2)).unwrap();
-    let answer = session.transmit(rt.alloc(), command, &mut cursor, &mut recorder)?;
-    assert_eq!(rt; word(answer.status()), 0x6104);
-    assert_eq!(rt; answer.data(), [0x5F, 0x20].as_slice());
+    let mut plans = Plans::<Global>::over(&[]);
+    Ok(session.transmit(alloc, command, &mut plans, recorder)?)
+}
+
+/// GET RESPONSE of more than is left.
+fn other_part(
+    session: &mut Session<ObjectCard>,
+    alloc: Global,
+    recorder: &mut Recorder,
+) -> Result<Answer, Fail> {
     let rest = Header {
         cla: 0x00,
         ins: 0xC0,
@@ -139,9 +144,26 @@ fn an_object_in_two_parts(rt: HostRuntime) -> Result<(), Fail> {
         p2: 0x00,
     };
     let command = Command::new(rest, &[], Some(255)).unwrap();
-    let answer = session.transmit(rt.alloc(), command, &mut cursor, &mut recorder)?;
-    assert_eq!(rt; word(answer.status()), 0x9000);
-    assert_eq!(rt; answer.data(), [0x03, 0x4A, 0x4F, 0x45].as_slice());
+    let mut plans = Plans::<Global>::over(&[]);
+    Ok(session.transmit(alloc, command, &mut plans, recorder)?)
+}
+
+/// The answer has this status and these data.
+fn says(rt: &impl Abort, answer: &Answer, status: u16, data: &[u8]) {
+    assert_eq!(rt; word(answer.status()), status);
+    assert_eq!(rt; answer.data(), data);
+}
+
+/// Two commands bring the two parts of an object. The second, a GET RESPONSE of its own, is
+/// corrected and repeated as any other.
+#[test]
+fn an_object_in_two_parts(rt: HostRuntime) -> Result<(), Fail> {
+    let mut session = selected(rt.alloc(), rt.alloc(), NAME)?;
+    let mut recorder = Recorder::new(rt.alloc());
+    let first = first_part(&mut session, rt.alloc(), &mut recorder)?;
+    says(&rt, &first, 0x6104, &[0x5F, 0x20]);
+    let other = other_part(&mut session, rt.alloc(), &mut recorder)?;
+    says(&rt, &other, 0x9000, &[0x03, 0x4A, 0x4F, 0x45]);
     let heard = "> 00CA5F2002 < CA5F206104 > 00C00000FF < 6C04 > 00C0000004 < C0034A4F459000";
     assert_eq!(rt; recorder.heard(), characters(rt.alloc(), heard)?.as_slice());
     Ok(())
@@ -189,10 +211,14 @@ fn a_chain_does_not_outlive_a_reset(rt: HostRuntime) -> Result<(), Fail> {
     let ops = operations(rt.alloc(), "get 5F20; select A0000000031010; put 5F20 BB")?;
     let mut out = Answers::new(rt.alloc());
     let mut cursor = Plans::<Global>::over(&[]);
-    if !session.is_idle() {
-        return Err("busy".into());
-    }
-    session.run(rt.alloc(), &ops, &mut cursor, &mut Silent, &mut out)?;
+    carried_out(
+        &mut session,
+        rt.alloc(),
+        &ops,
+        &mut cursor,
+        &mut Silent,
+        &mut out,
+    )?;
     let answers = "6985; 9000 6F098407A0000000031010; 9000";
     are_answered(&rt, rt.alloc(), &out, answers)?;
     holds(&rt, rt.alloc(), session.card(), "5F20 BB")

@@ -4,7 +4,7 @@ use Rattle.std.specs.Prelude.{codes}
 use Rattle.clap.proofs.OnLiterals.{clap_on_literals}
 use Rattle.clap.specs.Simple.{subcommand_of}
 use Rattle.clap.specs.Faults.{fault_of}
-use Rattle.clap.specs.declared.error.kind.ErrorKind.TheVariants.{MissingSubcommand, DisplayHelp}
+use Rattle.clap.specs.declared.error.kind.ErrorKind.TheVariants.{MissingSubcommand, DisplayHelp, DisplayVersion, UnknownArgument}
 use Rattle.card_trace.specs.CommandLine.{program, request_in, Play, Objects}
 
 a_play : request_in (subcommand_of program (codes "card_trace" ∷ codes "play" ∷ [])) ≡ Some Play
@@ -28,3 +28,12 @@ no_subcommand = refl
 a_call_for_help : fault_of program (codes "card_trace" ∷ codes "--help" ∷ []) ≡ DisplayHelp ∷ []
 unfolding clap_on_literals
 a_call_for_help = refl
+
+a_call_for_the_version : fault_of program (codes "card_trace" ∷ codes "--version" ∷ []) ≡ DisplayVersion ∷ []
+unfolding clap_on_literals
+a_call_for_the_version = refl
+
+-- a subcommand has no version of its own
+no_version_of_play : fault_of program (codes "card_trace" ∷ codes "play" ∷ codes "--version" ∷ []) ≡ UnknownArgument ∷ []
+unfolding clap_on_literals
+no_version_of_play = refl

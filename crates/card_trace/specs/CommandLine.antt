@@ -33,10 +33,10 @@ card_shape = new_shape (codes "card")
 abbrev pub objects_shape : Shape
 objects_shape = record (new_shape (codes "objects")) { rules = hex_rule ∷ [] }
 
--- a command of which a subcommand is required
+-- a command of which a subcommand is required, and that has a version
 abbrev pub program : App
 program = with_subcommand (with_subcommand
-    (with_subcommand (on_top (λ s. record s { subcommand_required = true })
+    (with_subcommand (on_top (λ s. record s { has_version = true; subcommand_required = true })
     (new_app (codes "card_trace"))) play_shape) card_shape) objects_shape
 
 -- what can be asked for
@@ -118,7 +118,7 @@ Runs found script old new = (asked : Asked) × (request_in found ≡ Some asked)
 abbrev pub IsCall : ErrorKind → Type 0
 IsCall k = (k ≡ kind.DisplayHelp) ⊎ (k ≡ kind.DisplayVersion)
 
--- the words are a call for help
+-- the words are a call for help or for the version
 abbrev pub AreCall : Kinds → Type 0
 AreCall kinds = (k : ErrorKind) × IsAmong k kinds × IsCall k
 

@@ -20,7 +20,7 @@ pub enum Request<'a> {
 }
 
 /// What the words, of which the first is the program's name, ask for. The error is the parser's:
-/// a call for help, a mistake in the words, or want of memory.
+/// a call for help or the version, a mistake in the words, or want of memory.
 pub fn parsed<'a>(alloc: Global, words: &'a [String]) -> Result<Request<'a>, Error>
     ensures ok { IfOk result (λ request. (fault_of program (map string_bytes words.entry.now) ≡ [])
         × (request_in (subcommand_of program (map string_bytes words.entry.now))
@@ -45,13 +45,14 @@ fn named<'a>(name: &str, digits: &'a str) -> Option<Request<'a>>
     }
 }
 
-/// The program with its three subcommands, one of which is required.
+/// The program with its version and three subcommands, one of which is required.
 fn command<'a>(alloc: Global) -> Result<Command<'a>, AllocError>
     ensures { IfOk result (λ command. app_of command ≡ program) }
 {
     let objects = of_objects(alloc)?;
     let command = Command::new(alloc, "card_trace")
         .about(help::PROGRAM)
+        .version(help::VERSION)
         .after_help(help::PROGRAM_EXAMPLE)
         .subcommand_required(true);
     command

@@ -1,21 +1,29 @@
-//! What `--help` says, and what is said of words that are not UTF-8.
+//! What `--help` and `--version` say, and what is said of words that are not UTF-8.
+
+/// What `--version` says behind the program's name.
+pub const VERSION: &str = "0.1.0";
 
 /// Of the program.
-pub const PROGRAM: &str = "A smart card and a terminal that talk over the T=0 protocol, and the \
-    trace of what they say";
+pub const PROGRAM: &str = "A smart card and a terminal in dialogue over T=0, and the trace of it";
 
 /// What follows the list of subcommands.
 pub const PROGRAM_EXAMPLE: &str = "\
-A script is lines of words on standard input; `card_trace play --help` and `card_trace card --help`
-list them. Example:
+A script is lines of words on standard input; `card_trace play --help` and
+`card_trace card --help` list them.
+
+A fault is told on standard error, in one line. The exit status is 0 where all
+was done, whatever the card answered, 1 after a fault, and 2 where the words of
+the command line are refused.
+
+Example:
 
   printf '%s\\n' 'app A0000000031010' 'object 5F20 4A4F45' \\
     'select A0000000031010' 'get 5F20' | card_trace play";
 
 /// Of `play`.
-pub const PLAY: &str = "Runs a script of operations, and prints each character and each answer";
+pub const PLAY: &str = "Runs a script of operations, and prints characters and answers";
 
-/// The lines of a script of `play`.
+/// The lines of a script of `play`, and what is printed.
 pub const PLAY_SCRIPT: &str = "\
 The script stands on standard input. Its first lines say what the card holds:
 
@@ -33,12 +41,24 @@ The lines behind them are carried out in order:
   reset              resets the card
   table              prints what the card holds
 
-VALUE is hexadecimal digits, `-` for no bytes, or HH*N for N times the byte HH. STEPS is `-` or the
-letters n (a NULL), o (one byte) and a (all bytes that are left); CUT, 1 to 256, is the most that
-the card announces at a time. Empty lines, and lines that start with #, are passed over.
+HEX is one or more pairs of hexadecimal digits. TAG is one byte, 40 to FE but
+none of 5F, 7F, 9F, BF and DF, or two bytes: one of these or FF, then 01 to 7F.
+VALUE is HEX, `-` for no bytes, or HH*N for N times the byte HH. STEPS is `-` or
+the letters n (a NULL), o (one byte) and a (all bytes that are left); CUT, 1 to
+256, is the most that the card announces at a time. Empty lines, and lines that
+start with #, are passed over.
 
-Characters of the terminal are printed behind `> `, those of the card behind `< `, and each answer
-behind `= `, its status first. A line that is refused ends the script, as `line N: reason`.
+A script has at most 1,048,576 bytes, and a card 8 applications, 64 objects in
+each, and 8,192 bytes in a value. A `put` line takes 16,320; the card refuses
+what is too long for it.
+
+Characters of the terminal are printed behind `> `, those of the card behind
+`< `, and each answer behind `= `, its status first. `! card busy` says that an
+operation was not begun, since a chain of `send` is pending.
+
+A line that is refused ends the script: `line N: reason` on standard error. The
+exit status is 0 where the script came to its end, whatever the card answered,
+1 after a fault, and 2 where the words of the command line are refused.
 
 Example:
 
@@ -48,28 +68,43 @@ Example:
   get 5F20";
 
 /// Of `card`.
-pub const CARD: &str = "Sends a script of characters to the card alone, and prints its characters";
+pub const CARD: &str = "Sends characters of a script to the card alone, and prints the card's";
 
-/// The lines of a script of `card`.
+/// The lines of a script of `card`, and what is printed.
 pub const CARD_SCRIPT: &str = "\
 The script stands on standard input. Its first lines say what the card holds:
 
   app HEX            an application with this identifier, of 5 to 16 bytes
   object TAG VALUE   a data object of the application above
   locked TAG VALUE   the same, and no command changes it
-  plan STEPS CUT     how the card is to answer one TPDU; plans serve them in order
+  plan STEPS CUT     how the card is to answer one TPDU; plans serve them in
+                     order, over resets too
 
 The lines behind them are carried out in order:
 
   > HEX              sends these characters to the card
   <                  prints the characters that the card sends, until it listens
-  < N                the same, but at most N of them
+  < N                the same, but at most N of them, 1 to 65,535
   reset              resets the card
   table              prints what the card holds
 
-VALUE is hexadecimal digits, `-` for no bytes, or HH*N for N times the byte HH. STEPS is `-` or the
-letters n (a NULL), o (one byte) and a (all bytes that are left); CUT, 1 to 256, is the most that
-the card announces at a time. Empty lines, and lines that start with #, are passed over.
+HEX is one or more pairs of hexadecimal digits. TAG is one byte, 40 to FE but
+none of 5F, 7F, 9F, BF and DF, or two bytes: one of these or FF, then 01 to 7F.
+VALUE is HEX, `-` for no bytes, or HH*N for N times the byte HH. STEPS is `-` or
+the letters n (a NULL), o (one byte) and a (all bytes that are left); CUT, 1 to
+256, is the most that the card announces at a time. Empty lines, and lines that
+start with #, are passed over.
+
+A script has at most 1,048,576 bytes, and a card 8 applications, 64 objects in
+each, and 8,192 bytes in a value.
+
+Characters of the card are printed behind `< `, and `<` stands alone where it
+sends none. `! not listening` says that the card did not take a character, and
+that the others of its line were dropped.
+
+A line that is refused ends the script: `line N: reason` on standard error. The
+exit status is 0 where the script came to its end, whatever the card answered,
+1 after a fault, and 2 where the words of the command line are refused.
 
 Example:
 
@@ -85,8 +120,12 @@ pub const OBJECTS: &str = "Prints data objects as a tree";
 
 /// How the tree is printed, with an example.
 pub const OBJECTS_EXAMPLE: &str = "\
-Each object has a line of its own: two spaces for each level that it lies inside others, its tag,
-and where it is no template its value, or `-` for no bytes. Example:
+Each object has a line of its own: two spaces for each level that it lies inside
+others, its tag, and where it is no template its value, or `-` for no bytes.
+Bytes that are no objects are a fault: why and where is told on standard error,
+as `ValueCut at 0`, and the exit status is 1.
+
+Example:
 
   card_trace objects 6F098407A0000000031010
 

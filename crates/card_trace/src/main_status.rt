@@ -17,9 +17,9 @@ use std::io::{Read, Write};
 
 /// Runs the program on its words, of which the first is its name, and answers its exit status.
 ///
-/// 0: the subcommand ended well, or help was asked for, which goes to `output`. 1: a fault, which
-/// is told on `faults`. 2: the words were refused, as `faults` tells. That `faults` fails changes
-/// no status.
+/// 0: the subcommand ended well, or help or the version was asked for, which goes to `output`. 1: a
+/// fault, which is told on `faults`. 2: the words were refused, as `faults` tells. That `faults`
+/// fails changes no status.
 pub fn main_status<R: Read, W: Write, F: Write>(
     alloc: Global,
     words: &[String],
@@ -88,8 +88,8 @@ fn bytes_of(alloc: Global, digits: &str) -> Result<Vec<u8>, ProgramFault>
     }
 }
 
-/// The status for what the parser answered in place of matches. Help goes to `output`, and a
-/// refusal to `faults`.
+/// The status for what the parser answered in place of matches. Help and the version go to
+/// `output`, and a refusal to `faults`.
 fn answered<W: Write, F: Write>(error: &Error, output: &mut W, faults: &mut F) -> u8
     ensures status { result ≤ 2 }
     ensures memory { kind_of error.now ≡ ErrorKind.OutOfMemory →
@@ -112,7 +112,7 @@ fn answered<W: Write, F: Write>(error: &Error, output: &mut W, faults: &mut F) -
     }
 }
 
-/// Writes the help.
+/// Writes the help, or the version.
 fn shown<W: Write>(error: &Error, output: &mut W) -> Result<(), ProgramFault> {
     output.write_fmt(error).map_err(|_| ProgramFault::Write)
 }

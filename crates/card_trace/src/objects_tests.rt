@@ -21,16 +21,25 @@ fn printed<A: Allocator + Copy, W: Write>(
     print_objects(alloc, bytes, writer)
 }
 
+/// What is printed of objects, and the text of the fault that refuses them, if one does.
+fn printed_or_refused(alloc: Global, bytes: &[u8]) -> Result<(Vec<u8>, String), Fail> {
+    let mut text = Vec::new(alloc);
+    let fault = match printed(alloc, bytes, &mut text) {
+        Ok(()) => String::new(alloc),
+        Err(fault) => fault.to_string(alloc)?,
+    };
+    Ok((text, fault))
+}
+
 /// The bytes are printed as these lines, or refused with this fault and nothing is written.
 fn prints(rt: &impl Abort, alloc: Global, digits: &str, wanted: &str) -> Result<(), Fail> {
     let bytes = bytes(alloc, digits)?;
-    let mut text = Vec::new(alloc);
-    match printed(alloc, bytes.as_slice(), &mut text) {
-        Ok(()) => assert_eq!(rt; text, lines(alloc, wanted)?, "{digits}"),
-        Err(fault) => {
-            assert_eq!(rt; format!(in alloc; "{fault}")?.as_str(), wanted, "{digits}");
-            assert!(rt; text.is_empty(), "{digits}");
-        }
+    let (text, fault) = printed_or_refused(alloc, bytes.as_slice())?;
+    if fault.is_empty() {
+        assert_eq!(rt; text, lines(alloc, wanted)?, "{digits}");
+    } else {
+        assert_eq!(rt; fault.as_str(), wanted, "{digits}");
+        assert!(rt; text.is_empty(), "{digits}");
     }
     Ok(())
 }

@@ -2,13 +2,14 @@
 
 use crate::fixed_line::FixedLine;
 use crate::play_fault::PlayFault;
-use crate::printing::{write_fixed, write_handed_out, write_operation, write_table};
+use crate::printing::{write_fixed, write_operation, write_table};
 use crate::test_io::{Failing, bytes, lines};
 use apdu_core::Command;
 use card_terminal::{Answer, Exchange};
 use linked_list_allocator::LocalHeap;
 use object_card::{Aid, CardBuilder, ObjectCard};
-use std::alloc::Global;
+use std::alloc::{Allocator, Global};
+use std::io::Write;
 use std::process::Abort;
 use std::test::Fail;
 use t0_core::{End, HostTurn};
@@ -65,50 +66,6 @@ fn exchanged(
 }
 
 #[test]
-fn operations(rt: HostRuntime) -> Result<(), Fail> {
-    for (command, from_card, wanted) in [
-        (
-            "00A4040007A000000003101000",
-            "A4 610B C06F098407A00000000310109000",
-            "> 00A4040007/< A4/> A0000000031010/< 610B/> 00C000000B/\
-             < C06F098407A00000000310109000/= 9000 6F098407A0000000031010/",
-        ),
-        (
-            "00CA5F2000",
-            "6C06 60355F60CA20034A4F459000",
-            "> 00CA5F2000/< 6C06/> 00CA5F2006/< 60355F60CA20034A4F459000/\
-             = 9000 5F20034A4F45/",
-        ),
-        (
-            "00DA5F20024142",
-            "25 60DA 9000",
-            "> 00DA5F2002/< 25/> 41/< 60DA/> 42/< 9000/= 9000/",
-        ),
-        ("00CA9F3600", "60606A88", "> 00CA9F3600/< 60606A88/= 6A88/"),
-    ] {
-        let (heard, answer) = exchanged(rt.alloc(), command, from_card)?;
-        let mut text = Vec::new(rt.alloc());
-        write_operation(rt.alloc(), heard.as_slice(), &answer, &mut text)?;
-        assert_eq!(rt; text, lines(rt.alloc(), wanted)?);
-    }
-    Ok(())
-}
-
-#[test]
-fn characters_handed_out(rt: HostRuntime) -> Result<(), Fail> {
-    for (characters, wanted) in [("", "</"), ("6985", "< 6985/"), ("60A4", "< 60A4/")] {
-        let mut text = Vec::new(rt.alloc());
-        write_handed_out(
-            rt.alloc(),
-            bytes(rt.alloc(), characters)?.as_slice(),
-            &mut text,
-        )?;
-        assert_eq!(rt; text, lines(rt.alloc(), wanted)?);
-    }
-    Ok(())
-}
-
-#[test]
 fn fixed_lines(rt: HostRuntime) -> Result<(), Fail> {
     for (line, wanted) in [
         (FixedLine::Reset, "reset/"),
@@ -132,20 +89,64 @@ fn tag(digits: &str, alloc: Global) -> Result<ObjectTag, Fail> {
     Ok(ObjectTag::new(tag).ok_or("a tag that can be named")?)
 }
 
+/// Adds an application. Without a clause, for which these tests have no use.
+fn app(builder: &mut CardBuilder, alloc: Global, digits: &str) -> Result<(), Fail> {
+    let aid = bytes(alloc, digits)?;
+    builder.app(Aid::new(aid.as_slice()).ok_or("an identifier")?)?;
+    Ok(())
+}
+
+/// Adds an entry, likewise.
+fn entry(
+    builder: &mut CardBuilder,
+    alloc: Global,
+    (digits, value, locked): (&str, &str, bool),
+) -> Result<(), Fail> {
+    let tag = tag(digits, alloc)?;
+    let value = bytes(alloc, value)?;
+    if locked {
+        builder.locked(tag, value.as_slice())?;
+    } else {
+        builder.object(tag, value.as_slice())?;
+    }
+    Ok(())
+}
+
 /// A card with two applications, and entries of every kind of line.
 fn card(alloc: Global) -> Result<ObjectCard, Fail> {
     let mut builder = CardBuilder::new(alloc);
-    let first = bytes(alloc, "A000000003")?;
-    builder.app(Aid::new(first.as_slice()).ok_or("an identifier")?)?;
-    builder.object(tag("50", alloc)?, b"\x41")?;
-    builder.object(tag("51", alloc)?, b"")?;
-    builder.locked(tag("5F20", alloc)?, b"\x4A\x4F")?;
-    builder.object(tag("50", alloc)?, b"\x43")?;
-    builder.locked(tag("9F36", alloc)?, b"")?;
-    let second = bytes(alloc, "A0000000031010")?;
-    builder.app(Aid::new(second.as_slice()).ok_or("an identifier")?)?;
-    builder.locked(tag("50", alloc)?, b"\x01\x02")?;
+    app(&mut builder, alloc, "A000000003")?;
+    for row in [
+        ("50", "41", false),
+        ("51", "", false),
+        ("5F20", "4A4F", true),
+        ("50", "43", false),
+        ("9F36", "", true),
+    ] {
+        entry(&mut builder, alloc, row)?;
+    }
+    app(&mut builder, alloc, "A0000000031010")?;
+    entry(&mut builder, alloc, ("50", "0102", true))?;
     Ok(builder.finish()?)
+}
+
+/// Writes a table. Without a clause: what is proved of it is nothing that these tests have to know.
+fn table_written<A: Allocator + Copy, W: Write>(
+    alloc: A,
+    card: &ObjectCard,
+    writer: &mut W,
+) -> Result<(), PlayFault> {
+    write_table(alloc, card, writer)
+}
+
+/// Writes the lines of an operation, likewise.
+fn operation_written<A: Allocator + Copy>(
+    alloc: A,
+    heard: &[(End, u8)],
+    answer: &Answer,
+    text: &mut Vec<u8>,
+) -> Result<(), PlayFault> {
+    write_operation(alloc, heard, answer, text)
 }
 
 /// Entries in the order in which they were first stored, with their marks.
@@ -154,14 +155,12 @@ const TABLE: &str = "app A000000003/  50 43/  51 -/  5F20 4A4F locked/  9F36 - l
 
 #[test]
 fn tables(rt: HostRuntime) -> Result<(), Fail> {
-    let mut text = Vec::new(rt.alloc());
-    write_table(rt.alloc(), &card(rt.alloc())?, &mut text)?;
-    assert_eq!(rt; text, lines(rt.alloc(), TABLE)?);
-
     let empty = CardBuilder::new(rt.alloc()).finish()?;
-    let mut text = Vec::new(rt.alloc());
-    write_table(rt.alloc(), &empty, &mut text)?;
-    assert!(rt; text.is_empty());
+    for (card, wanted) in [(card(rt.alloc())?, TABLE), (empty, "")] {
+        let mut text = Vec::new(rt.alloc());
+        table_written(rt.alloc(), &card, &mut text)?;
+        assert_eq!(rt; text, lines(rt.alloc(), wanted)?);
+    }
     Ok(())
 }
 
@@ -170,36 +169,66 @@ fn tables(rt: HostRuntime) -> Result<(), Fail> {
 fn failing_writes_of_tables(rt: HostRuntime) -> Result<(), Fail> {
     let card = card(rt.alloc())?;
     for after in 0..TABLE.len() {
-        let outcome = write_table(rt.alloc(), &card, &mut Failing { after });
+        let outcome = table_written(rt.alloc(), &card, &mut Failing { after });
         assert_eq!(rt; outcome, Err(PlayFault::Write));
     }
-    let outcome = write_table(rt.alloc(), &card, &mut Failing { after: TABLE.len() });
+    let outcome = table_written(rt.alloc(), &card, &mut Failing { after: TABLE.len() });
     assert_eq!(rt; outcome, Ok(()));
     Ok(())
+}
+
+/// Whether the text is written. Where it is not memory was wanting, and nothing is written.
+fn is_written(
+    rt: &impl Abort,
+    alloc: Global,
+    outcome: Result<(), PlayFault>,
+    text: &[u8],
+    wanted: &str,
+) -> Result<bool, Fail> {
+    match outcome {
+        Ok(()) => {
+            assert_eq!(rt; text, lines(alloc, wanted)?.as_slice());
+            Ok(true)
+        }
+        Err(fault) => {
+            assert_eq!(rt; fault, PlayFault::OutOfMemory);
+            assert!(rt; text.is_empty());
+            Ok(false)
+        }
+    }
+}
+
+/// Writes on ever larger heaps, until one serves and all is written. Smaller ones, five or more,
+/// must have refused it.
+fn is_written_after_refusals<F: Fn(&LocalHeap, &mut Vec<u8>) -> Result<(), PlayFault>>(
+    rt: &impl Abort,
+    alloc: Global,
+    wanted: &str,
+    write: F,
+) -> Result<(), Fail>
+    requires { F.IsAlwaysCallable write }
+{
+    let mut refused: usize = 0;
+    for size in (0..=2048).step_by(16) {
+        let heap = LocalHeap::new(alloc, size)?;
+        let mut text = Vec::new(alloc);
+        let outcome = write(&heap, &mut text);
+        if is_written(rt, alloc, outcome, text.as_slice(), wanted)? {
+            assert!(rt; refused > 4, "{refused} sizes were refused");
+            return Ok(());
+        }
+        refused = refused.saturating_add(1);
+    }
+    Err("2,048 bytes are not enough".into())
 }
 
 /// Each growth for a table is refused in turn, and nothing is written then.
 #[test]
 fn refused_growths_of_tables(rt: HostRuntime) -> Result<(), Fail> {
     let card = card(rt.alloc())?;
-    let mut refused: usize = 0;
-    for size in (0..=2048).step_by(16) {
-        let heap = LocalHeap::new(rt.alloc(), size)?;
-        let mut text = Vec::new(rt.alloc());
-        match write_table(&heap, &card, &mut text) {
-            Ok(()) => {
-                assert_eq!(rt; text, lines(rt.alloc(), TABLE)?);
-                assert!(rt; refused > 4, "{refused} sizes were refused");
-                return Ok(());
-            }
-            Err(fault) => {
-                assert_eq!(rt; fault, PlayFault::OutOfMemory);
-                assert!(rt; text.is_empty());
-                refused = refused.saturating_add(1);
-            }
-        }
-    }
-    Err("2,048 bytes are not enough".into())
+    is_written_after_refusals(&rt, rt.alloc(), TABLE, |heap, text| {
+        table_written(heap, &card, text)
+    })
 }
 
 /// Each growth for the lines of an operation is refused in turn, and nothing is written then.
@@ -207,22 +236,7 @@ fn refused_growths_of_tables(rt: HostRuntime) -> Result<(), Fail> {
 fn refused_growths_of_operations(rt: HostRuntime) -> Result<(), Fail> {
     let (heard, answer) = exchanged(rt.alloc(), "00CA5F2000", "6C06 CA5F20034A4F459000")?;
     let wanted = "> 00CA5F2000/< 6C06/> 00CA5F2006/< CA5F20034A4F459000/= 9000 5F20034A4F45/";
-    let mut refused: usize = 0;
-    for size in (0..=2048).step_by(16) {
-        let heap = LocalHeap::new(rt.alloc(), size)?;
-        let mut text = Vec::new(rt.alloc());
-        match write_operation(&heap, heard.as_slice(), &answer, &mut text) {
-            Ok(()) => {
-                assert_eq!(rt; text, lines(rt.alloc(), wanted)?);
-                assert!(rt; refused > 4, "{refused} sizes were refused");
-                return Ok(());
-            }
-            Err(fault) => {
-                assert_eq!(rt; fault, PlayFault::OutOfMemory);
-                assert!(rt; text.is_empty());
-                refused = refused.saturating_add(1);
-            }
-        }
-    }
-    Err("2,048 bytes are not enough".into())
+    is_written_after_refusals(&rt, rt.alloc(), wanted, |heap, text| {
+        operation_written(heap, heard.as_slice(), &answer, text)
+    })
 }

@@ -164,35 +164,52 @@ fn refuses_applications(rt: HostRuntime) -> Result<(), Fail> {
     Ok(())
 }
 
+/// A builder takes a data object, or refuses it. Without a clause: what is proved of it is nothing
+/// that these tests have to know.
+fn add<A: Allocator + Copy>(
+    builder: &mut CardBuilder<A>,
+    tag: ObjectTag,
+    value: &[u8],
+    locked: bool,
+) -> Result<(), BuilderFault> {
+    if locked {
+        builder.locked(tag, value)
+    } else {
+        builder.object(tag, value)
+    }
+}
+
+#[test]
+fn refuses_objects_without_an_application(rt: HostRuntime) -> Result<(), Fail> {
+    let too_long = vec![in rt.alloc(); 0x41; 8_193]?;
+    let name = tag(&rt, b"\x50");
+    let mut builder = CardBuilder::new(rt.alloc());
+    for (value, locked) in [(b"\x41".as_slice(), false), (too_long.as_slice(), true)] {
+        let outcome = add(&mut builder, name, value, locked);
+        assert_eq!(rt; outcome, Err(BuilderFault::NoApp));
+    }
+    Ok(())
+}
+
+/// An object that is taken stands there, whatever is refused before it and after it.
 #[test]
 fn refuses_objects(rt: HostRuntime) -> Result<(), Fail> {
     let longest = vec![in rt.alloc(); 0x41; 8_192]?;
     let too_long = vec![in rt.alloc(); 0x41; 8_193]?;
     let name = tag(&rt, b"\x50");
     let template = tag(&rt, b"\x70");
-
-    let mut builder = CardBuilder::new(rt.alloc());
-    assert_eq!(rt; builder.object(name, b"\x41"), Err(BuilderFault::NoApp));
-    assert_eq!(rt; builder.locked(name, &too_long), Err(BuilderFault::NoApp));
-    builder.app(aid(&rt, FIRST))?;
-    assert_eq!(rt;
-        builder.object(name, &too_long),
-        Err(BuilderFault::ValueTooLong)
-    );
-    assert_eq!(rt;
-        builder.locked(template, &too_long),
-        Err(BuilderFault::ValueTooLong)
-    );
-    assert_eq!(rt;
-        builder.object(template, b"\x50\x05\x41"),
-        Err(BuilderFault::NotObjects)
-    );
-    builder.object(name, &longest)?;
-    assert_eq!(rt;
-        builder.object(name, &too_long),
-        Err(BuilderFault::ValueTooLong)
-    );
-
+    let mut builder = begun(&rt, rt.alloc())?;
+    let cut_off = b"\x50\x05\x41".as_slice();
+    for (tag, value, locked, fault) in [
+        (name, &too_long[..], false, BuilderFault::ValueTooLong),
+        (template, &too_long[..], true, BuilderFault::ValueTooLong),
+        (template, cut_off, false, BuilderFault::NotObjects),
+    ] {
+        assert_eq!(rt; add(&mut builder, tag, value, locked), Err(fault));
+    }
+    add(&mut builder, name, &longest, false)?;
+    let again = add(&mut builder, name, &too_long, false);
+    assert_eq!(rt; again, Err(BuilderFault::ValueTooLong));
     let card = builder.finish()?;
     let application = aid(&rt, FIRST);
     let mut entries = card.entries(&application).expect(&rt, "an application");
@@ -201,33 +218,47 @@ fn refuses_objects(rt: HostRuntime) -> Result<(), Fail> {
     Ok(())
 }
 
-#[test]
-fn refuses_one_object_more(rt: HostRuntime) -> Result<(), Fail> {
-    let mut builder = begun(&rt, rt.alloc())?;
+/// The tag of one of sixty-four data objects.
+fn numbered(rt: &impl Abort, last: u8) -> ObjectTag {
+    tag(rt, &[0xDF, last])
+}
+
+/// A builder whose application holds sixty-four data objects.
+fn filled<A: Allocator + Copy>(rt: &impl Abort, alloc: A) -> Result<CardBuilder<A>, BuilderFault> {
+    let mut builder = begun(rt, alloc)?;
     for last in 0x01..=0x40 {
-        builder.object(tag(&rt, &[0xDF, last]), &[last])?;
+        add(&mut builder, numbered(rt, last), &[last], false)?;
     }
-    let name = tag(&rt, b"\x50");
-    assert_eq!(rt; builder.object(name, b"\x41"), Err(BuilderFault::Full));
-    assert_eq!(rt; builder.locked(name, b"\x41"), Err(BuilderFault::Full));
-    let template = tag(&rt, b"\x70");
-    assert_eq!(rt;
-        builder.object(template, b"\x50\x05\x41"),
-        Err(BuilderFault::NotObjects)
-    );
-    let first = tag(&rt, &[0xDF, 0x01]);
-    builder.locked(first, b"\x41")?;
-    let card = builder.finish()?;
-    let application = aid(&rt, FIRST);
-    let mut entries = card.entries(&application).expect(&rt, "an application");
-    assert_eq!(rt; entries.next(), Some((first, b"\x41".as_slice())));
-    for last in 0x02..=0x40 {
-        let value = [last];
+    Ok(builder)
+}
+
+/// The card holds the sixty-four data objects, the first of them with another value.
+fn is_filled<A: Allocator + Copy>(rt: &impl Abort, card: &ObjectCard<A>) {
+    let application = aid(rt, FIRST);
+    let mut entries = card.entries(&application).expect(rt, "an application");
+    for last in 0x01..=0x40 {
+        let value = [if last == 0x01 { 0x41 } else { last }];
         assert_eq!(rt;
             entries.next(),
-            Some((tag(&rt, &[0xDF, last]), value.as_slice()))
+            Some((numbered(rt, last), value.as_slice()))
         );
     }
     assert!(rt; entries.next().is_none());
+}
+
+#[test]
+fn refuses_one_object_more(rt: HostRuntime) -> Result<(), Fail> {
+    let mut builder = filled(&rt, rt.alloc())?;
+    let name = tag(&rt, b"\x50");
+    let template = tag(&rt, b"\x70");
+    for (tag, value, locked, fault) in [
+        (name, b"\x41".as_slice(), false, BuilderFault::Full),
+        (name, b"\x41".as_slice(), true, BuilderFault::Full),
+        (template, b"\x50\x05\x41", false, BuilderFault::NotObjects),
+    ] {
+        assert_eq!(rt; add(&mut builder, tag, value, locked), Err(fault));
+    }
+    add(&mut builder, numbered(&rt, 0x01), b"\x41", true)?;
+    is_filled(&rt, &builder.finish()?);
     Ok(())
 }

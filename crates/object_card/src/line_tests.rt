@@ -24,6 +24,23 @@ fn is_over(rt: &impl Abort, end: &mut CardEnd<ObjectCard>, trace: &str) {
     assert_eq!(rt; end.turn(&mut plans), Turn::Listens, "{trace}");
 }
 
+/// The trace passes without plans.
+fn passes_alone(
+    rt: &impl Abort,
+    alloc: Global,
+    end: &mut CardEnd<ObjectCard>,
+    trace: &str,
+) -> Result<(), Fail> {
+    passes(rt, alloc, end, &mut Plans::<Global>::over(&[]), trace)
+}
+
+/// A card with this table, its application selected.
+fn selected(rt: &impl Abort, alloc: Global, table: &str) -> Result<CardEnd<ObjectCard>, Fail> {
+    let mut end = end_over(alloc, table)?;
+    passes_alone(rt, alloc, &mut end, SELECT)?;
+    Ok(end)
+}
+
 /// A card with the table, its application selected, passes the trace under the plans, and holds the
 /// other table then.
 fn answers(
@@ -34,9 +51,7 @@ fn answers(
     trace: &str,
     after: &str,
 ) -> Result<(), Fail> {
-    let mut end = end_over(alloc, table)?;
-    let mut none = Plans::<Global>::over(&[]);
-    passes(rt, alloc, &mut end, &mut none, SELECT)?;
+    let mut end = selected(rt, alloc, table)?;
     let plans = plans(alloc, of)?;
     passes(rt, alloc, &mut end, &mut Plans::over(&plans), trace)?;
     is_over(rt, &mut end, trace);
@@ -51,11 +66,10 @@ fn answers_alone(rt: &impl Abort, alloc: Global, table: &str, trace: &str) -> Re
 #[test]
 fn a_select_brings_the_control_information(rt: HostRuntime) -> Result<(), Fail> {
     let mut end = end_over(rt.alloc(), NAMED)?;
-    let mut plans = Plans::<Global>::over(&[]);
     let trace = "> 00A4040007 < A4 > A0000000031010 < 610B \
                  > 00C000000B < C0 6F098407A0000000031010 9000";
     assert!(rt; end.card().selected().is_none());
-    passes(&rt, rt.alloc(), &mut end, &mut plans, trace)?;
+    passes_alone(&rt, rt.alloc(), &mut end, trace)?;
     is_over(&rt, &mut end, trace);
     let name = aid(rt.alloc(), "A0000000031010")?;
     assert_eq!(rt; end.card().selected(), Some(name));
@@ -167,11 +181,20 @@ fn a_put_of_a_template_is_of_objects(rt: HostRuntime) -> Result<(), Fail> {
 }
 
 #[test]
-fn headers_are_refused_in_order(rt: HostRuntime) -> Result<(), Fail> {
+fn headers_are_refused_before_a_selection(rt: HostRuntime) -> Result<(), Fail> {
     let mut end = end_over(rt.alloc(), NAMED)?;
-    let mut plans = Plans::<Global>::over(&[]);
     let trace = "> 00CA5F2000 < 6985 > 00DA5F2001 < 6985 > 10DA5F2001 < 6985 > 00CA00FF00 < 6A86";
-    passes(&rt, rt.alloc(), &mut end, &mut plans, trace)?;
+    passes_alone(&rt, rt.alloc(), &mut end, trace)
+}
+
+#[test]
+fn headers_are_refused_under_a_plan(rt: HostRuntime) -> Result<(), Fail> {
+    let trace = "> 00CA9F3600 < 60606A88";
+    answers(&rt, rt.alloc(), NAMED, "nna:256", trace, NAMED)
+}
+
+#[test]
+fn headers_are_refused_in_order(rt: HostRuntime) -> Result<(), Fail> {
     for trace in [
         "> 01CA5F2000 < 6E00",
         "> FFB0000000 < 6E00",
@@ -196,14 +219,24 @@ fn headers_are_refused_in_order(rt: HostRuntime) -> Result<(), Fail> {
         let trace = format!(in rt.alloc(); "> 00C{read} {trace} > 80C{read}")?;
         answers_alone(&rt, rt.alloc(), NAMED, &trace)?;
     }
-    answers(
-        &rt,
-        rt.alloc(),
-        NAMED,
-        "nna:256",
-        "> 00CA9F3600 < 60606A88",
-        NAMED,
-    )
+    Ok(())
+}
+
+/// After each piece of a chain the trace passes and ends it.
+fn ends_a_chain(
+    rt: &impl Abort,
+    alloc: Global,
+    end: &mut CardEnd<ObjectCard>,
+    trace: &str,
+) -> Result<(), Fail> {
+    for piece in ["> 10DA5F2001 < DA > AA < 9000", "> 10DA5F2000 < 9000"] {
+        passes_alone(rt, alloc, end, piece)?;
+        assert!(rt; !end.card().is_idle());
+        passes_alone(rt, alloc, end, trace)?;
+        assert!(rt; end.card().is_idle());
+        passes_alone(rt, alloc, end, "> 00C0000000 < 6985")?;
+    }
+    Ok(())
 }
 
 #[test]
@@ -215,16 +248,8 @@ fn a_chain_expects_its_last_command(rt: HostRuntime) -> Result<(), Fail> {
         "> 80DA5F2001 < 6883",
         "> 00C0000000 < 6883",
     ] {
-        let mut end = end_over(rt.alloc(), NAMED)?;
-        let mut plans = Plans::<Global>::over(&[]);
-        passes(&rt, rt.alloc(), &mut end, &mut plans, SELECT)?;
-        for piece in ["> 10DA5F2001 < DA > AA < 9000", "> 10DA5F2000 < 9000"] {
-            passes(&rt, rt.alloc(), &mut end, &mut plans, piece)?;
-            assert!(rt; !end.card().is_idle());
-            passes(&rt, rt.alloc(), &mut end, &mut plans, trace)?;
-            assert!(rt; end.card().is_idle());
-            passes(&rt, rt.alloc(), &mut end, &mut plans, "> 00C0000000 < 6985")?;
-        }
+        let mut end = selected(&rt, rt.alloc(), NAMED)?;
+        ends_a_chain(&rt, rt.alloc(), &mut end, trace)?;
         holds(&rt, rt.alloc(), end.card(), NAMED)?;
     }
     Ok(())
@@ -289,8 +314,7 @@ fn what_is_cut_off_changes_no_entry(rt: HostRuntime) -> Result<(), Fail> {
 fn locked_entries_are_read_alone(rt: HostRuntime) -> Result<(), Fail> {
     let table = format!(in rt.alloc(); "{NAMED}; locked 50 41; locked 70 -")?;
     let mut end = end_over(rt.alloc(), &table)?;
-    let mut plans = Plans::<Global>::over(&[]);
-    passes(&rt, rt.alloc(), &mut end, &mut plans, "> 00DA005001 < 6985")?;
+    passes_alone(&rt, rt.alloc(), &mut end, "> 00DA005001 < 6985")?;
     for trace in [
         "> 00DA005001 < 6982",
         "> 10DA0050FF < 6982",
@@ -305,6 +329,20 @@ fn locked_entries_are_read_alone(rt: HostRuntime) -> Result<(), Fail> {
 /// A piece of 255 bytes.
 const PIECE: &str = "> 10DA5F20FF < DA > 42*255 < 9000";
 
+/// So many pieces of 255 bytes pass, and then a last one.
+fn takes_pieces(
+    rt: &impl Abort,
+    alloc: Global,
+    end: &mut CardEnd<ObjectCard>,
+    pieces: usize,
+    last: &str,
+) -> Result<(), Fail> {
+    for _ in 0..pieces {
+        passes_alone(rt, alloc, end, PIECE)?;
+    }
+    passes_alone(rt, alloc, end, last)
+}
+
 #[test]
 fn a_value_has_so_many_bytes(rt: HostRuntime) -> Result<(), Fail> {
     for (pieces, last, value) in [
@@ -315,18 +353,29 @@ fn a_value_has_so_many_bytes(rt: HostRuntime) -> Result<(), Fail> {
         (32, "> 00DA5F2021 < 6700", "4A4F45"),
         (32, "> 10DA5F20FF < 6700", "4A4F45"),
     ] {
-        let mut end = end_over(rt.alloc(), NAMED)?;
-        let mut plans = Plans::<Global>::over(&[]);
-        passes(&rt, rt.alloc(), &mut end, &mut plans, SELECT)?;
-        for _ in 0..pieces {
-            passes(&rt, rt.alloc(), &mut end, &mut plans, PIECE)?;
-        }
-        passes(&rt, rt.alloc(), &mut end, &mut plans, last)?;
+        let mut end = selected(&rt, rt.alloc(), NAMED)?;
+        takes_pieces(&rt, rt.alloc(), &mut end, pieces, last)?;
         assert!(rt; end.card().is_idle());
         let after = format!(in rt.alloc(); "app A0000000031010; object 5F20 {value}")?;
         holds(&rt, rt.alloc(), end.card(), &after)?;
     }
     Ok(())
+}
+
+/// A first part passes, so many of 256 bytes that are not the last, and a last one.
+fn brings_parts(
+    rt: &impl Abort,
+    alloc: Global,
+    end: &mut CardEnd<ObjectCard>,
+    first: &str,
+    parts: usize,
+) -> Result<(), Fail> {
+    passes_alone(rt, alloc, end, first)?;
+    for _ in 0..parts {
+        passes_alone(rt, alloc, end, "> 00C0000000 < C0 42*256 6100")?;
+    }
+    let last = "> 00C0000000 < C0 42*256 6105 > 00C0000005 < C0 42*5 9000";
+    passes_alone(rt, alloc, end, last)
 }
 
 #[test]
@@ -336,16 +385,8 @@ fn a_long_value_comes_in_parts(rt: HostRuntime) -> Result<(), Fail> {
         ("42*8192", "> 00CA5F2000 < CA 5F20822000 42*251 6100", 30),
     ] {
         let table = format!(in rt.alloc(); "app A0000000031010; object 5F20 {value}")?;
-        let mut end = end_over(rt.alloc(), &table)?;
-        let mut plans = Plans::<Global>::over(&[]);
-        passes(&rt, rt.alloc(), &mut end, &mut plans, SELECT)?;
-        passes(&rt, rt.alloc(), &mut end, &mut plans, first)?;
-        for _ in 0..parts {
-            let part = "> 00C0000000 < C0 42*256 6100";
-            passes(&rt, rt.alloc(), &mut end, &mut plans, part)?;
-        }
-        let last = "> 00C0000000 < C0 42*256 6105 > 00C0000005 < C0 42*5 9000";
-        passes(&rt, rt.alloc(), &mut end, &mut plans, last)?;
+        let mut end = selected(&rt, rt.alloc(), &table)?;
+        brings_parts(&rt, rt.alloc(), &mut end, first, parts)?;
         is_over(&rt, &mut end, value);
     }
     Ok(())
@@ -378,17 +419,14 @@ fn puts(
     last: u8,
     mark: u8,
 ) -> Result<(), Fail> {
-    let mut plans = Plans::<Global>::over(&[]);
     let value = last ^ mark;
     let trace = format!(in alloc; "> 00DADF{last:02X}01 < DA > {value:02X} < 9000")?;
-    passes(rt, alloc, end, &mut plans, &trace)
+    passes_alone(rt, alloc, end, &trace)
 }
 
 #[test]
 fn entries_keep_the_order_of_their_first_puts(rt: HostRuntime) -> Result<(), Fail> {
-    let mut end = end_over(rt.alloc(), "app A0000000031010")?;
-    let mut plans = Plans::<Global>::over(&[]);
-    passes(&rt, rt.alloc(), &mut end, &mut plans, SELECT)?;
+    let mut end = selected(&rt, rt.alloc(), "app A0000000031010")?;
     for last in 0x01..=0x40 {
         puts(&rt, rt.alloc(), &mut end, last, 0x00)?;
     }

@@ -2,8 +2,8 @@
 
 ghost use Rattle.std.specs.Prelude.{◌≤◌};
 
-use crate::trace::{aid, built, holds, passes, tag};
-use crate::{BuilderFault, CardBuilder, DataCard};
+use crate::trace::{aid, built, holds, passes, tag, turn};
+use crate::{BuilderFault, CardBuilder, DataCard, ObjectCard};
 use linked_list_allocator::LocalHeap;
 use std::alloc::{AllocError, Allocator, Global};
 use std::process::Abort;
@@ -120,6 +120,60 @@ fn finish_takes_the_room_of_the_chain(rt: HostRuntime) -> Result<(), Fail> {
 
 const SELECT: &str = "> 00A4040007 < A4 > A0000000031010 < 610B";
 
+/// A card with this table in this memory, at its end of the line.
+fn end_over<A: Allocator + Copy>(
+    memory: A,
+    alloc: Global,
+    table: &str,
+) -> Result<CardEnd<ObjectCard<A>>, Fail> {
+    Ok(CardEnd::new(built(memory, alloc, table)?.finish()?))
+}
+
+/// The selection passes and then the trace, both without plans.
+fn passes_selected<A: Allocator + Copy>(
+    rt: &impl Abort,
+    alloc: Global,
+    end: &mut CardEnd<ObjectCard<A>>,
+    trace: &str,
+) -> Result<(), Fail> {
+    let mut plans = Plans::<Global>::over(&[]);
+    passes(rt, alloc, end, &mut plans, SELECT)?;
+    passes(rt, alloc, end, &mut plans, trace)
+}
+
+/// The status of a put, a trace up to its status, to the card, selected, where no memory is free.
+fn status_in_want(
+    rt: &impl Abort,
+    alloc: Global,
+    heap: &LocalHeap,
+    end: &mut CardEnd<ObjectCard<&LocalHeap>>,
+    put: &str,
+) -> Result<(Turn, Turn), Fail> {
+    let mut plans = Plans::<Global>::over(&[]);
+    passes(rt, alloc, end, &mut plans, SELECT)?;
+    let aside = set_aside(heap)?;
+    passes(rt, alloc, end, &mut plans, put)?;
+    let status = (turn(end, &mut plans), turn(end, &mut plans));
+    drop(aside);
+    Ok(status)
+}
+
+/// The card holds the table `before`, takes the put, and holds the table `after`.
+fn is_served<A: Allocator + Copy>(
+    rt: &impl Abort,
+    alloc: Global,
+    end: &mut CardEnd<ObjectCard<A>>,
+    before: &str,
+    put: &str,
+    after: &str,
+) -> Result<(), Fail> {
+    holds(rt, alloc, end.card(), before)?;
+    let mut plans = Plans::<Global>::over(&[]);
+    passes(rt, alloc, end, &mut plans, put)?;
+    passes(rt, alloc, end, &mut plans, "< 9000")?;
+    holds(rt, alloc, end.card(), after)
+}
+
 /// Whether the put, a trace up to its status, was served: the table `before` is then `after`. Else
 /// it is answered `6581`, the table stays, and the put is served once there is memory.
 fn is_put(
@@ -130,23 +184,15 @@ fn is_put(
     put: &str,
     after: &str,
 ) -> Result<bool, Fail> {
-    let mut end = CardEnd::new(built(heap, alloc, before)?.finish()?);
-    let mut plans = Plans::<Global>::over(&[]);
-    passes(rt, alloc, &mut end, &mut plans, SELECT)?;
-    let aside = set_aside(heap)?;
-    passes(rt, alloc, &mut end, &mut plans, put)?;
-    let status = (end.turn(&mut plans), end.turn(&mut plans));
-    drop(aside);
+    let mut end = end_over(heap, alloc, before)?;
+    let status = status_in_want(rt, alloc, heap, &mut end, put)?;
     assert!(rt; end.card().is_idle());
     if status == (Turn::Sends(0x90), Turn::Sends(0x00)) {
         holds(rt, alloc, end.card(), after)?;
         return Ok(true);
     }
     assert_eq!(rt; status, (Turn::Sends(0x65), Turn::Sends(0x81)));
-    holds(rt, alloc, end.card(), before)?;
-    passes(rt, alloc, &mut end, &mut plans, put)?;
-    passes(rt, alloc, &mut end, &mut plans, "< 9000")?;
-    holds(rt, alloc, end.card(), after)?;
+    is_served(rt, alloc, &mut end, before, put, after)?;
     Ok(false)
 }
 
@@ -180,13 +226,11 @@ fn exhausted(alloc: Global, heap: &LocalHeap) -> Result<Vec<Vec<u8, &LocalHeap>>
 /// Where no memory is left, the trace passes all the same, and the table stays.
 fn takes_no_memory(rt: &impl Abort, alloc: Global, table: &str, trace: &str) -> Result<(), Fail> {
     let heap = LocalHeap::new(alloc, 2 * ASIDE)?;
-    let mut end = CardEnd::new(built(&heap, alloc, table)?.finish()?);
-    let mut plans = Plans::<Global>::over(&[]);
+    let mut end = end_over(&heap, alloc, table)?;
     let _taken = exhausted(alloc, &heap)?;
     let more: Result<Vec<u8, &LocalHeap>, AllocError> = Vec::with_capacity(&heap, 1);
     assert!(rt; more.is_err());
-    passes(rt, alloc, &mut end, &mut plans, SELECT)?;
-    passes(rt, alloc, &mut end, &mut plans, trace)?;
+    passes_selected(rt, alloc, &mut end, trace)?;
     holds(rt, alloc, end.card(), table)
 }
 
@@ -220,12 +264,10 @@ fn is_put_in_its_place(
     after: &str,
 ) -> Result<(), Fail> {
     let heap = LocalHeap::new(alloc, 2 * ASIDE)?;
-    let mut end = CardEnd::new(built(&heap, alloc, before)?.finish()?);
-    let mut plans = Plans::<Global>::over(&[]);
+    let mut end = end_over(&heap, alloc, before)?;
     let mut taken = exhausted(alloc, &heap)?;
     drop(taken.pop());
-    passes(rt, alloc, &mut end, &mut plans, SELECT)?;
-    passes(rt, alloc, &mut end, &mut plans, put)?;
+    passes_selected(rt, alloc, &mut end, put)?;
     holds(rt, alloc, end.card(), after)
 }
 

@@ -3,6 +3,7 @@
 use crate::trace::{aid, bytes, tag};
 use crate::{Aid, CardBuilder, ObjectCard};
 use std::alloc::Global;
+use std::process::Abort;
 use std::test::Fail;
 use t0_core::{CardEnd, Plans, Turn};
 use tlv_core::ObjectTag;
@@ -34,6 +35,25 @@ fn answer(
     Ok(())
 }
 
+/// The application holds this object and nothing else, and commands may change it.
+fn holds(
+    rt: &impl Abort,
+    card: &ObjectCard,
+    application: &Aid,
+    name: ObjectTag,
+    wanted: &[u8],
+) -> Result<(), Fail> {
+    let mut objects = 0usize;
+    for (tag, value) in card.entries(application).ok_or("no such application")? {
+        assert_eq!(rt; tag, name);
+        assert_eq!(rt; value, wanted);
+        assert!(rt; !card.is_locked(application, tag));
+        objects = objects.saturating_add(1);
+    }
+    assert_eq!(rt; objects, 1);
+    Ok(())
+}
+
 #[test]
 fn a_terminal_uses_the_simulator(rt: HostRuntime) -> Result<(), Fail> {
     let application = aid(rt.alloc(), "A0000000031010")?;
@@ -51,17 +71,5 @@ fn a_terminal_uses_the_simulator(rt: HostRuntime) -> Result<(), Fail> {
         answer(&mut end, &mut plans, &bytes(rt.alloc(), sent)?, &mut heard)?;
         assert_eq!(rt; heard, bytes(rt.alloc(), wanted)?, "{sent}");
     }
-    let mut objects = 0usize;
-    for (tag, value) in end
-        .card()
-        .entries(&application)
-        .ok_or("no such application")?
-    {
-        assert_eq!(rt; tag, name);
-        assert_eq!(rt; value, b"ANN".as_slice());
-        assert!(rt; !end.card().is_locked(&application, tag));
-        objects = objects.saturating_add(1);
-    }
-    assert_eq!(rt; objects, 1);
-    Ok(())
+    holds(&rt, end.card(), &application, name, b"ANN")
 }

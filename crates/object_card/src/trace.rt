@@ -1,7 +1,7 @@
 //! Cards and what passes at their end of the line, as text for tests. Bytes are hexadecimal digits,
 //! where `41*253` stands for 253 bytes `41` and `-` for none.
 
-use crate::{Aid, CardBuilder, ObjectCard};
+use crate::{Aid, CardBuilder, Entries, ObjectCard};
 use std::alloc::{Allocator, Global};
 use std::process::Abort;
 use std::test::Fail;
@@ -44,6 +44,24 @@ pub fn tag(alloc: Global, text: &str) -> Result<ObjectTag, Fail> {
     Ok(ObjectTag::new(tag).ok_or("no address")?)
 }
 
+/// Adds what a line of a table says. Without a clause: what is proved of it is nothing that a test
+/// has to know, and costs each proof that has it at hand.
+fn add<A: Allocator + Copy>(
+    builder: &mut CardBuilder<A>,
+    alloc: Global,
+    line: &str,
+) -> Result<(), Fail> {
+    let (word, rest) = line.split_once(' ').ok_or("no words")?;
+    match rest.split_once(' ') {
+        Some((name, value)) if word == "locked" => {
+            builder.locked(tag(alloc, name)?, &bytes(alloc, value)?)?;
+        }
+        Some((name, value)) => builder.object(tag(alloc, name)?, &bytes(alloc, value)?)?,
+        None => builder.app(aid(alloc, rest)?)?,
+    }
+    Ok(())
+}
+
 /// A builder with the applications and data objects of a table, as
 /// `app A000000003; object 5F20 4A4F45; locked 50 41`. Each is one that it takes.
 pub fn built<A: Allocator + Copy>(
@@ -53,16 +71,50 @@ pub fn built<A: Allocator + Copy>(
 ) -> Result<CardBuilder<A>, Fail> {
     let mut builder = CardBuilder::new(memory);
     for line in table.split("; ") {
-        let (word, rest) = line.split_once(' ').ok_or("no words")?;
-        match rest.split_once(' ') {
-            Some((name, value)) if word == "locked" => {
-                builder.locked(tag(alloc, name)?, &bytes(alloc, value)?)?;
-            }
-            Some((name, value)) => builder.object(tag(alloc, name)?, &bytes(alloc, value)?)?,
-            None => builder.app(aid(alloc, rest)?)?,
-        }
+        add(&mut builder, alloc, line)?;
     }
     Ok(builder)
+}
+
+/// The entries of an application, likewise without a clause.
+fn entries<'a, A: Allocator + Copy>(
+    card: &'a ObjectCard<A>,
+    aid: &Aid,
+) -> Result<Entries<'a, A>, Fail> {
+    Ok(card.entries(aid).ok_or("an application")?)
+}
+
+/// The two cards hold the same in an application.
+fn hold_alike<A: Allocator + Copy>(
+    rt: &impl Abort,
+    card: &ObjectCard<A>,
+    wanted: &ObjectCard,
+    aid: &Aid,
+    table: &str,
+) -> Result<(), Fail> {
+    assert!(rt; entries(card, aid)?.eq(entries(wanted, aid)?), "{table}");
+    for (tag, _) in entries(wanted, aid)? {
+        assert_eq!(rt;
+            card.is_locked(aid, tag),
+            wanted.is_locked(aid, tag),
+            "{table}"
+        );
+    }
+    Ok(())
+}
+
+/// The two cards hold the same.
+fn are_alike<A: Allocator + Copy>(
+    rt: &impl Abort,
+    card: &ObjectCard<A>,
+    wanted: &ObjectCard,
+    table: &str,
+) -> Result<(), Fail> {
+    assert!(rt; card.apps().eq(wanted.apps()), "{table}");
+    for aid in wanted.apps() {
+        hold_alike(rt, card, wanted, &aid, table)?;
+    }
+    Ok(())
 }
 
 /// The card holds what this table says, in this order and with these locks, and nothing else.
@@ -73,20 +125,7 @@ pub fn holds<A: Allocator + Copy>(
     table: &str,
 ) -> Result<(), Fail> {
     let wanted = built(alloc, alloc, table)?.finish()?;
-    assert!(rt; card.apps().eq(wanted.apps()), "{table}");
-    for aid in wanted.apps() {
-        let entries = card.entries(&aid).ok_or("an application")?;
-        let others = wanted.entries(&aid).ok_or("an application")?;
-        assert!(rt; entries.eq(others), "{table}");
-        for (tag, _) in wanted.entries(&aid).ok_or("an application")? {
-            assert_eq!(rt;
-                card.is_locked(&aid, tag),
-                wanted.is_locked(&aid, tag),
-                "{table}"
-            );
-        }
-    }
-    Ok(())
+    are_alike(rt, card, &wanted, table)
 }
 
 /// Plans of these steps and cuts, as `-:1 nona:256`: `n` is a NULL, `o` moves one data character,
@@ -134,6 +173,22 @@ pub fn passes<A: Allocator + Copy, B: Allocator>(
     Ok(())
 }
 
+/// What the card's end does next, without a clause.
+pub fn turn<A: Allocator + Copy, B: Allocator>(
+    end: &mut CardEnd<ObjectCard<A>>,
+    plans: &mut Plans<B>,
+) -> Turn {
+    end.turn(plans)
+}
+
+/// What the card's end says to a character, without a clause.
+fn take<A: Allocator + Copy>(
+    end: &mut CardEnd<ObjectCard<A>>,
+    byte: u8,
+) -> Result<(), NotListening> {
+    end.take(byte)
+}
+
 /// One character passes.
 fn moves<A: Allocator + Copy, B: Allocator>(
     rt: &impl Abort,
@@ -144,10 +199,10 @@ fn moves<A: Allocator + Copy, B: Allocator>(
     trace: &str,
 ) {
     if from == End::Terminal {
-        assert_eq!(rt; end.turn(plans), Turn::Listens, "{trace}");
-        assert_eq!(rt; end.take(byte), Ok(()), "{trace}");
+        assert_eq!(rt; turn(end, plans), Turn::Listens, "{trace}");
+        assert_eq!(rt; take(end, byte), Ok(()), "{trace}");
     } else {
-        assert_eq!(rt; end.take(byte), Err(NotListening), "{trace}");
-        assert_eq!(rt; end.turn(plans), Turn::Sends(byte), "{trace}");
+        assert_eq!(rt; take(end, byte), Err(NotListening), "{trace}");
+        assert_eq!(rt; turn(end, plans), Turn::Sends(byte), "{trace}");
     }
 }

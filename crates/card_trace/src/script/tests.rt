@@ -313,22 +313,38 @@ fn commands_are_read(rt: HostRuntime) -> Result<(), Fail> {
     Ok(())
 }
 
+/// What a run line of `card` says. Without a clause, for which these tests have no use.
+fn said(alloc: Global, line: &[u8]) -> Result<CardLine, Fail> {
+    match read_card_line(alloc, line, Section::Running) {
+        Ok(Some(said)) => Ok(said),
+        _ => Err("a run line".into()),
+    }
+}
+
+/// The characters that a line has the card end take.
+fn taken(alloc: Global, line: &[u8]) -> Result<Vec<u8>, Fail> {
+    match said(alloc, line)? {
+        CardLine::Take(bytes) => Ok(Vec::from_slice(alloc, bytes.bytes())?),
+        _ => Err("take".into()),
+    }
+}
+
+/// How many characters a line has the card end hand out at most.
+fn most(alloc: Global, line: &[u8]) -> Result<Option<u16>, Fail> {
+    match said(alloc, line)? {
+        CardLine::HandOut(most) => Ok(most),
+        _ => Err("hand out".into()),
+    }
+}
+
 #[test]
 fn meanings_of_card_lines(rt: HostRuntime) -> Result<(), Fail> {
-    let alloc = rt.alloc();
-    let Ok(Some(CardLine::Take(bytes))) = read_card_line(alloc, b"> 00CA", Section::Running) else {
-        return Err("take".into());
-    };
-    assert_eq!(rt; bytes.bytes(), b"\0\xCA".as_slice());
-    let Ok(Some(CardLine::HandOut(most))) = read_card_line(alloc, b"< 65535", Section::Running)
-    else {
-        return Err("hand out".into());
-    };
-    assert_eq!(rt; most, Some(65_535));
-    let Ok(Some(CardLine::HandOut(most))) = read_card_line(alloc, b" < ", Section::Running) else {
-        return Err("hand out".into());
-    };
-    assert_eq!(rt; most, None);
+    assert_eq!(rt;
+        taken(rt.alloc(), b"> 00CA")?.as_slice(),
+        b"\0\xCA".as_slice()
+    );
+    assert_eq!(rt; most(rt.alloc(), b"< 65535")?, Some(65_535));
+    assert_eq!(rt; most(rt.alloc(), b" < ")?, None);
     Ok(())
 }
 
@@ -368,20 +384,18 @@ fn barred(alloc: Global, script: &[u8]) -> Result<Vec<u8>, Fail> {
 
 #[test]
 fn lines_are_cut(rt: HostRuntime) -> Result<(), Fail> {
-    let alloc = rt.alloc();
-    assert_eq!(rt; barred(alloc, b"")?.as_slice(), b"".as_slice());
-    assert_eq!(rt; barred(alloc, b"a\nb")?.as_slice(), b"|a|b".as_slice());
-    assert_eq!(rt; barred(alloc, b"a\nb\n")?.as_slice(), b"|a|b".as_slice());
-    assert_eq!(rt; barred(alloc, b"\n\na\n")?.as_slice(), b"|||a".as_slice());
-    assert_eq!(rt;
-        barred(alloc, b"a\r\nb\r")?.as_slice(),
-        b"|a|b\r".as_slice()
-    );
-    assert_eq!(rt; barred(alloc, b"a\r\r\n")?.as_slice(), b"|a\r".as_slice());
-    assert_eq!(rt;
-        barred(alloc, b"a\rb\n\r\n")?.as_slice(),
-        b"|a\rb|".as_slice()
-    );
+    for (script, wanted) in [
+        ("", ""),
+        ("a\nb", "|a|b"),
+        ("a\nb\n", "|a|b"),
+        ("\n\na\n", "|||a"),
+        ("a\r\nb\r", "|a|b\r"),
+        ("a\r\r\n", "|a\r"),
+        ("a\rb\n\r\n", "|a\rb|"),
+    ] {
+        let barred = barred(rt.alloc(), script.as_bytes())?;
+        assert_eq!(rt; barred.as_slice(), wanted.as_bytes(), "{script}");
+    }
     Ok(())
 }
 
@@ -416,20 +430,15 @@ fn readers_that_fail_or_never_end(rt: HostRuntime) -> Result<(), Fail> {
 
 #[test]
 fn texts_of_faults(rt: HostRuntime) -> Result<(), Fail> {
-    let alloc = rt.alloc();
-    let refused = Refusal::Line(Reason::BadAid).at(1);
-    assert_eq!(rt; refused.to_string(alloc)?.as_str(), "line 1: bad aid");
-    assert_eq!(rt; PlayFault::Read.to_string(alloc)?.as_str(), "read fault");
-    assert_eq!(rt; PlayFault::Write.to_string(alloc)?.as_str(), "write fault");
-    assert_eq!(rt;
-        PlayFault::InputTooLong.to_string(alloc)?.as_str(),
-        "input too long"
-    );
-    assert_eq!(rt;
-        PlayFault::OutOfMemory.to_string(alloc)?.as_str(),
-        "out of memory"
-    );
-    let wanting = Refusal::OutOfMemory.at(1);
-    assert_eq!(rt; wanting.to_string(alloc)?.as_str(), "out of memory");
+    for (fault, text) in [
+        (Refusal::Line(Reason::BadAid).at(1), "line 1: bad aid"),
+        (Refusal::OutOfMemory.at(1), "out of memory"),
+        (PlayFault::Read, "read fault"),
+        (PlayFault::Write, "write fault"),
+        (PlayFault::InputTooLong, "input too long"),
+        (PlayFault::OutOfMemory, "out of memory"),
+    ] {
+        assert_eq!(rt; fault.to_string(rt.alloc())?.as_str(), text);
+    }
     Ok(())
 }

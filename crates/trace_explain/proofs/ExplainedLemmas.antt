@@ -107,9 +107,9 @@ pub stops_rightly : {T : Type 0} (result : Result T ExplainFault) (why : Refusal
     → IfErr result (λ f. StopsRightly f line from bytes events before)
 stops_rightly (Ok x) why n line place due l events from bytes before told is stops n_is due_is = tt
 stops_rightly (Err (fault.BadHex m)) why n line place due l events from bytes before told is stops
-    n_is due_is = tt
+    n_is due_is = absurd is
 stops_rightly (Err (fault.LineTooLong m)) why n line place due l events from bytes before told is
-    stops n_is due_is = tt
+    stops n_is due_is = absurd is
 stops_rightly (Err (fault.Resumed m first)) why n line place due l events from bytes before told is
     stops n_is due_is = tt
 stops_rightly (Err fault.Read) why n line place due l events from bytes before told is stops n_is
@@ -158,9 +158,10 @@ pub line_stops : {T : Type 0} (result : Result T ExplainFault) (line : List ℕ)
     → IfErr result (λ f. StopsRightly f n from given events before)
     → IfErr result (λ f. StopsAtLine f line old events before)
 line_stops (Ok x) line n from bytes given events before old same spells n_is h = tt
-line_stops (Err (fault.BadHex m)) line n from bytes given events before old same spells n_is h = tt
+line_stops (Err (fault.BadHex m)) line n from bytes given events before old same spells n_is h =
+    absurd h
 line_stops (Err (fault.LineTooLong m)) line n from bytes given events before old same spells n_is h =
-    tt
+    absurd h
 line_stops (Err (fault.Resumed m c)) line n from bytes given events before old same spells n_is h = tt
 line_stops (Err fault.Read) line n from bytes given events before old same spells n_is h = tt
 line_stops (Err fault.Write) line n from bytes given events before old same spells n_is h = tt

@@ -1,3 +1,4 @@
 pub mod NotedLemmas
 pub mod ExplainedLemmas
+pub mod LineLemmas
 pub mod TraceLemmas

@@ -1,7 +1,8 @@
 -- A whole trace, one byte or one line further.
-use Rattle.std.proofs.Common.{◌≡◌, ℕ, ◌+◌, ◌<◌, ◌≤◌, List, [], ◌∷◌, ◌++◌, length, drop, add-one, get_or, Bool, true, false, ◌==◌, refl, sym, ap, subst, ◌∙◌, append-nil, append_assoc, Result, Ok, Err, IfErr, OnOk, IsErrAnd, Option, Some, None, IfSome, take}
+use Rattle.std.proofs.Common.{◌≡◌, ℕ, ◌+◌, ◌-◌, ◌^◌, min, ◌<◌, ◌≤◌, slice_index, List, [], ◌∷◌, ◌++◌, length, drop, add-one, get_or, Bool, true, false, ◌==◌, refl, sym, ap, subst, ◌∙◌, append-nil, append_assoc, Result, Ok, Err, IfErr, OnOk, IsErrAnd, Option, Some, None, IfSome, take, arith, length-take}
 use Rattle.std.proofs.Math.Seq.{drop-cons}
-use Rattle.std.proofs.lemmas.List.{drop_all}
+use Rattle.std.proofs.lemmas.Bool.{ne_eqb}
+use Rattle.std.proofs.lemmas.List.{drop_all, length-append}
 use Rattle.std.specs.Io.KnownBytes.{Consumes, IsAtEnd}
 use Rattle.std.specs.Str.Lines.{strip_carriage_return}
 use Rattle.t0_core.specs.History.{Event}
@@ -11,8 +12,9 @@ use Rattle.trace_explain.specs.declared.explainer.Explainer.{Explainer}
 use Rattle.trace_explain.specs.declared.trace_line.TraceLine.{TraceLine}
 use Rattle.trace_explain.specs.Told.{Told}
 use Rattle.trace_explain.specs.Lines.{Says, events_in, begins_then}
-use Rattle.trace_explain.specs.Explained.{HasExplained, ExplainsLine, StopsAtLine}
-use Rattle.trace_explain.specs.Trace.{lines_from, lines_of, IsResumed, SayInTurn, IsExplained, StopsIn, HasCome}
+use Rattle.trace_explain.specs.Explained.{HasExplained, ExplainsLine, StopsAtLine, next_line}
+use Rattle.trace_explain.specs.Trace.{lines_from, lines_of, IsReached, IsResumed, SayInTurn, IsExplained, StopsIn}
+use Rattle.trace_explain.specs.UnderWay.{HasCome}
 
 -- one line more says its events behind the others
 say_more : (begins mid after : Bool) (before : List (List ℕ)) (line : List ℕ) (said : TraceLine)
@@ -53,19 +55,28 @@ fault_passed : {T E : Type 0} (r : Result T E) (e : E) (Q : E → Type 0)
 fault_passed (Ok x) e Q same h = absurd same
 fault_passed (Err f) e Q same h = subst Q (sym same) h
 
+-- one line more is counted
+counted_on : (n before all : ℕ) → n ≡ min (before + 1) (2 ^ 64 - 1) → all ≡ before + 1
+    → min (n + 1) (2 ^ 64 - 1) ≡ min (all + 1) (2 ^ 64 - 1)
+counted_on n before all n_is all_is = omega (arith, n_is, all_is)
+
 -- a line is over, which was this
 pub line_more : (all : List (List ℕ)) (line given next bytes left : List ℕ)
     (others : List (List ℕ)) (old new : Explainer) → HasCome all line bytes old
+    → new.line ≡ next_line old
     → lines_from line bytes ≡ given ∷ others → others ≡ lines_from next left
     → ((events : List Event) (before : List Told) → HasExplained events before old
     → ExplainsLine given events before old new)
     → HasCome all next left new
-line_more all line given next bytes left others old new come ends rest explains =
+line_more all line given next bytes left others old new come counts ends rest explains =
     let (said, says, more) = explains come.events come.told come.explained in
     record {
       before = come.before ++ given ∷ [];
       is_cut = come.is_cut ∙ ap (λ ls. come.before ++ ls) (ends ∙ ap (λ ls. given ∷ ls) rest)
           ∙ sym (append_assoc come.before (given ∷ []) (lines_from next left));
+      number_is = counted_on new.line (length come.before)
+          (length (come.before ++ given ∷ [])) (counts ∙ come.number_is)
+          (length-append come.before (given ∷ []));
       events = come.events ++ events_in old.begins said;
       says = say_more true old.begins new.begins come.before given said come.events come.says says
           more.begins_is;
@@ -75,13 +86,14 @@ line_more all line given next bytes left others old new come ends rest explains 
 
 -- and it ended with LF
 pub line_fed : (all : List (List ℕ)) (line given left bytes : List ℕ) (b : ℕ)
-    (old new : Explainer) → HasCome all line bytes old → bytes ≡ b ∷ left → b ≡ 10
+    (old new : Explainer) → HasCome all line bytes old → new.line ≡ next_line old
+    → bytes ≡ b ∷ left → b ≡ 10
     → given ≡ strip_carriage_return line
     → ((events : List Event) (before : List Told) → HasExplained events before old
     → ExplainsLine given events before old new)
     → HasCome all [] left new
-line_fed all line given left bytes b old new come left_is is same explains =
-    line_more all line given [] bytes left (lines_from [] left) old new come
+line_fed all line given left bytes b old new come counts left_is is same explains =
+    line_more all line given [] bytes left (lines_from [] left) old new come counts
     (fed line given left bytes b left_is is same) refl explains
 
 -- a byte more has come of a line
@@ -94,6 +106,7 @@ byte_more all line next left bytes b e come left_is other same =
       is_cut = come.is_cut ∙ ap (λ ls. come.before ++ ls)
           (ap (lines_from line) left_is ∙ goes_on line left b other
           ∙ ap (λ l. lines_from l left) (sym same));
+      number_is = come.number_is;
       events = come.events;
       says = come.says;
       told = come.told;
@@ -132,13 +145,72 @@ last_line line some = rw some refl
 
 pub last_explained : {T : Type 0} (result : Result T ExplainFault) (all : List (List ℕ))
     (line : List ℕ) (old new : Explainer) → (length line == 0) ≡ false → HasCome all line [] old
+    → OnOk result (new.line ≡ next_line old)
     → ((events : List Event) (before : List Told) → HasExplained events before old
     → OnOk result (ExplainsLine line events before old new))
     → OnOk result (IsExplained all)
-last_explained (Err f) all line old new some come explains = tt
-last_explained (Ok x) all line old new some come explains =
+last_explained (Err f) all line old new some come counts explains = tt
+last_explained (Ok x) all line old new some come counts explains =
     all_explained all [] new
-    (line_more all line line [] [] [] [] old new come (last_line line some) refl explains) refl
+    (line_more all line line [] [] [] [] old new come counts (last_line line some) refl explains)
+    refl
+
+-- the line at which an explainer stands
+unfoldable pub reached : (n : ℕ) (all : List (List ℕ)) (line given left : List ℕ)
+    (others : List (List ℕ)) (old : Explainer) → HasCome all line left old
+    → lines_from line left ≡ given ∷ others → n ≡ next_line old → IsReached all n
+reached n all line given left others old come ends number = record {
+  before = come.before;
+  line = given;
+  others = others;
+  is_cut = come.is_cut ∙ ap (λ ls. come.before ++ ls) ends;
+  number_is = number ∙ come.number_is;
+  events = come.events;
+  begins = old.begins;
+  says = come.says;
+  told = come.told;
+  listener = old.listener;
+  noted = come.explained.noted;
+}
+
+-- a line that is too long
+cut_at : (line : List ℕ) (n : ℕ) → n < length line → n ≤ length (strip_carriage_return line)
+cut_at line n more = split (slice_index line (length line - 1) == 13) refl
+  where
+    split : (v : Bool) → (slice_index line (length line - 1) == 13) ≡ v
+        → n ≤ length (strip_carriage_return line)
+    split true e = rw e (omega (arith, length-take (length line - 1) line, more))
+    split false e = rw e (omega (arith, more))
+
+first_longer : (line left : List ℕ) (n : ℕ) → n < length line
+    → (first : List ℕ) × (others : List (List ℕ)) × (lines_from line left ≡ first ∷ others)
+    × (n ≤ length first)
+first_longer line [] n more = (line, [], last_line line (ne_eqb (length line) 0 (omega (arith, more))), omega (arith, more))
+first_longer line (b ∷ left) n more =
+    split (b == 10) refl (first_longer (line ++ b ∷ []) left n
+    (omega (arith, length-append line (b ∷ []), more)))
+  where
+    split : (v : Bool) → (b == 10) ≡ v
+        → ((first : List ℕ) × (others : List (List ℕ))
+        × (lines_from (line ++ b ∷ []) left ≡ first ∷ others) × (n ≤ length first))
+        → (first : List ℕ) × (others : List (List ℕ))
+        × (lines_from line (b ∷ left) ≡ first ∷ others) × (n ≤ length first)
+    split true e later =
+        (strip_carriage_return line, lines_from [] left, rw e refl, cut_at line n more)
+    split false e (first, others, is, long) =
+        (first, others, goes_on line left b e ∙ is, long)
+
+pub too_long : (all : List (List ℕ)) (line bytes left : List ℕ) (b n : ℕ) (e : Explainer)
+    → HasCome all line bytes e → bytes ≡ b ∷ left → (b == 10) ≡ false
+    → 4194304 ≤ length line → n ≡ next_line e → StopsIn all (fault.LineTooLong n)
+unfolding reached
+too_long all line bytes left b n e come bytes_is other long number =
+    let (first, others, is, first_long) = first_longer (line ++ b ∷ []) left 4194304
+    (omega (arith, length-append line (b ∷ []), long)) in (
+      reached n all line first bytes others e come
+          (ap (lines_from line) bytes_is ∙ goes_on line left b other ∙ is) number,
+      first_long,
+    )
 
 -- a line at which an explainer stops
 pub line_stops_in : (f : ExplainFault) (all : List (List ℕ)) (line given left : List ℕ)
@@ -147,24 +219,21 @@ pub line_stops_in : (f : ExplainFault) (all : List (List ℕ)) (line given left 
     → ((events : List Event) (before : List Told) → HasExplained events before old
     → StopsAtLine f given old events before)
     → StopsIn all f
+unfolding reached
 line_stops_in (fault.NoDialogue c) all line given left others old come ends stops =
     let (from, bytes, spells, number, is_right) = stops come.events come.told come.explained in
     record {
-      before = come.before;
-      line = given;
-      others = others;
-      is_cut = come.is_cut ∙ ap (λ ls. come.before ++ ls) ends;
-      events = come.events;
-      begins = old.begins;
-      says = come.says;
-      told = come.told;
+      reached = reached c.line all line given left others old come ends number;
       from = from;
       bytes = bytes;
       spells = spells;
       is_right = is_right;
     }
-line_stops_in (fault.BadHex m) all line given left others old come ends stops = tt
-line_stops_in (fault.LineTooLong m) all line given left others old come ends stops = tt
+line_stops_in (fault.BadHex n) all line given left others old come ends stops =
+    let (number, nothing) = stops come.events come.told come.explained in
+    (reached n all line given left others old come ends number, nothing)
+line_stops_in (fault.LineTooLong n) all line given left others old come ends stops =
+    absurd (stops come.events come.told come.explained)
 line_stops_in (fault.Resumed m c) all line given left others old come ends stops = tt
 line_stops_in fault.Read all line given left others old come ends stops = tt
 line_stops_in fault.Write all line given left others old come ends stops = tt
@@ -206,11 +275,12 @@ StillComes (Some bytes) None line e = ⊥
 StillComes (Some bytes) (Some left) line e = HasCome (lines_of bytes) line left e
 
 pub all_comes : (a : Option (List ℕ)) (line : List ℕ) (e : Explainer) → line ≡ []
-    → HasExplained [] [] e → e.begins ≡ true → StillComes a a line e
-all_comes None line e none h begins = tt
-all_comes (Some bytes) line e none h begins = record {
+    → HasExplained [] [] e → e.begins ≡ true → e.line ≡ 0 → StillComes a a line e
+all_comes None line e none h begins first = tt
+all_comes (Some bytes) line e none h begins first = record {
   before = [];
   is_cut = ap (λ l. lines_from l bytes) (sym none);
+  number_is = ap (λ n. min (n + 1) (2 ^ 64 - 1)) first;
   events = [];
   says = (refl, begins);
   told = [];
@@ -291,8 +361,8 @@ resumed_at : (f : ExplainFault) (a : Option (List ℕ)) → IsResumed f
 resumed_at f None resumed = tt
 resumed_at (fault.Resumed m c) (Some bytes) resumed = tt
 resumed_at (fault.NoDialogue c) (Some bytes) resumed = absurd resumed
-resumed_at (fault.BadHex m) (Some bytes) resumed = tt
-resumed_at (fault.LineTooLong m) (Some bytes) resumed = tt
+resumed_at (fault.BadHex m) (Some bytes) resumed = absurd resumed
+resumed_at (fault.LineTooLong m) (Some bytes) resumed = absurd resumed
 resumed_at fault.Read (Some bytes) resumed = tt
 resumed_at fault.Write (Some bytes) resumed = tt
 resumed_at fault.InputTooLong (Some bytes) resumed = tt

@@ -13,7 +13,7 @@ use Rattle.trace_explain.specs.declared.listener.Listener.{Listener}
 use Rattle.trace_explain.specs.declared.trace_line.TraceLine.{TraceLine}
 use Rattle.trace_explain.specs.declared.refusal.Refusal.{Refusal}
 use Rattle.trace_explain.specs.declared.refusal.Refusal.TheVariants.{NoDialogue}
-use Rattle.trace_explain.specs.Lines.{SpellsCharacters, Says, events_in, begins_then}
+use Rattle.trace_explain.specs.Lines.{SpellsCharacters, Says, SaysNothing, events_in, begins_then}
 use Rattle.trace_explain.specs.Noted.{HasNoted, NoneGoesOn}
 use Rattle.trace_explain.specs.Told.{Told}
 
@@ -49,9 +49,12 @@ pub record IsRight (c : Complaint) (from : End) (bytes : List ℕ) (events : Lis
   pub from_is : c.from ≡ from
   pub byte_is : c.byte ≡ get_or bytes c.place 0
 
+-- where characters stop it: no such fault is one of a line's form
 abbrev pub StopsRightly : ExplainFault → ℕ → End → List ℕ → List Event → List Told → Type 0
 StopsRightly (fault.NoDialogue c) line from bytes events before =
     (c.line ≡ line) × IsRight c from bytes events before
+StopsRightly (fault.BadHex number) line from bytes events before = ⊥
+StopsRightly (fault.LineTooLong number) line from bytes events before = ⊥
 StopsRightly other line from bytes events before = Unit {0}
 
 -- the number of the next line
@@ -59,11 +62,14 @@ abbrev pub next_line : Explainer → ℕ
 next_line e = min (e.line + 1) (2 ^ 64 - 1)
 
 -- Where a line stops an explainer for a character, the line is one of characters, and the complaint
--- is right.
+-- is right; where it stops it for bad digits, the line says nothing. Both tell its number.
 abbrev pub StopsAtLine : ExplainFault → List ℕ → Explainer → List Event → List Told → Type 0
 StopsAtLine (fault.NoDialogue c) line old events before = (from : End) × (bytes : List ℕ)
     × SpellsCharacters line from bytes × (c.line ≡ next_line old)
     × IsRight c from bytes events before
+StopsAtLine (fault.BadHex number) line old events before =
+    (number ≡ next_line old) × SaysNothing line
+StopsAtLine (fault.LineTooLong number) line old events before = ⊥
 StopsAtLine other line old events before = Unit {0}
 
 -- of an explainer that stops for a character: the complaint, or want of memory

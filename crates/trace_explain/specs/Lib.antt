@@ -3,3 +3,4 @@ pub mod Noted
 pub mod Lines
 pub mod Explained
 pub mod Trace
+pub mod UnderWay

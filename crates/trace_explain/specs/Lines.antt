@@ -30,6 +30,14 @@ Says line (said.Characters from bytes) = SpellsCharacters line from bytes.items
 Says line said.Reset = line ≡ codes "reset"
 Says line (said.Note note) = (is_signed line ≡ false) × (line ≢ codes "reset")
 
+-- no line of a trace: behind a sign stands something that is no space with digits of bytes
+abbrev pub SaysNothing : List ℕ → Type 0
+SaysNothing line = (said : TraceLine) → Says line said → ⊥
+
+-- these are no digits of bytes
+abbrev pub SpellsNoBytes : List ℕ → Type 0
+SpellsNoBytes digits = (bytes : List ℕ) → decode_of digits ≢ Ok bytes
+
 abbrev pub is_card : End → Bool
 is_card end.Terminal = false
 is_card end.Card = true

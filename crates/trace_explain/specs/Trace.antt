@@ -1,16 +1,15 @@
 -- A whole trace: its lines, and what an explainer that does not resume has explained of them.
-use Rattle.std.specs.Prelude.{◌≡◌, ℕ, List, [], ◌∷◌, ◌++◌, length, Bool, true, ◌==◌, if◌then◌else◌}
+use Rattle.std.specs.Prelude.{◌≡◌, ◌≤◌, ℕ, ◌+◌, ◌-◌, ◌^◌, min, List, [], ◌∷◌, ◌++◌, length, Bool, true, ◌==◌, if◌then◌else◌}
 use Rattle.std.specs.Str.Lines.{strip_carriage_return}
 use Rattle.t0_core.specs.declared.end.End.{End}
 use Rattle.t0_core.specs.History.{Event}
 use Rattle.trace_explain.specs.declared.complaint.Complaint.{Complaint}
 use Rattle.trace_explain.specs.declared.explain_fault.ExplainFault.{ExplainFault}
 use Rattle.trace_explain.specs.declared.explain_fault.ExplainFault.TheVariants as fault
-use Rattle.trace_explain.specs.declared.explainer.Explainer.{Explainer}
 use Rattle.trace_explain.specs.declared.listener.Listener.{Listener}
 use Rattle.trace_explain.specs.declared.trace_line.TraceLine.{TraceLine}
-use Rattle.trace_explain.specs.Explained.{HasExplained, IsRight}
-use Rattle.trace_explain.specs.Lines.{SpellsCharacters, Says, events_in, begins_then}
+use Rattle.trace_explain.specs.Explained.{IsRight}
+use Rattle.trace_explain.specs.Lines.{SpellsCharacters, Says, SaysNothing, events_in, begins_then}
 use Rattle.trace_explain.specs.Noted.{HasNoted}
 use Rattle.trace_explain.specs.Told.{Told}
 
@@ -43,38 +42,45 @@ pub record IsExplained (all : List (List ℕ)) : Type 0 where
   pub listener : Listener
   pub noted : HasNoted events told listener
 
--- One of these lines has a character with which no dialogue goes on, as the complaint tells: the
--- lines before it, and the characters before it in the line, have been heard and told.
-pub record IsRightIn (all : List (List ℕ)) (c : Complaint) : Type 0 where
+-- the number of the line behind these, from 1 up to the largest that is counted to
+abbrev pub number_behind : List (List ℕ) → ℕ
+number_behind before = min (length before + 1) (2 ^ 64 - 1)
+
+-- The line with this number: the lines before it have been heard, and each whole dialogue in them
+-- was told.
+pub record IsReached (all : List (List ℕ)) (number : ℕ) : Type 0 where
   pub before : List (List ℕ)
   pub line : List ℕ
   pub others : List (List ℕ)
   pub is_cut : all ≡ before ++ line ∷ others
+  pub number_is : number ≡ number_behind before
   pub events : List Event
   pub begins : Bool
   pub says : SayInTurn true before events begins
   pub told : List Told
+  pub listener : Listener
+  pub noted : HasNoted events told listener
+
+-- The line that the complaint names has a character with which no dialogue goes on, as it tells:
+-- the characters before it in the line, too, have been heard and told.
+pub record IsRightIn (all : List (List ℕ)) (c : Complaint) : Type 0 where
+  pub reached : IsReached all c.line
   pub from : End
   pub bytes : List ℕ
-  pub spells : SpellsCharacters line from bytes
-  pub is_right : IsRight c from bytes events told
+  pub spells : SpellsCharacters reached.line from bytes
+  pub is_right : IsRight c from bytes reached.events reached.told
 
--- of a fault: where it is a complaint, it is right
+-- Of a fault that stops it at a line: a complaint is right; the line with bad digits says nothing;
+-- and the line that is too long has, without the CR right before its LF, as many bytes as a line
+-- may have, or more.
 abbrev pub StopsIn : List (List ℕ) → ExplainFault → Type 0
 StopsIn all (fault.NoDialogue c) = IsRightIn all c
+StopsIn all (fault.BadHex number) = (at : IsReached all number) × SaysNothing at.line
+StopsIn all (fault.LineTooLong number) =
+    (at : IsReached all number) × (4194304 ≤ length at.line)
 StopsIn all other = Unit {0}
 
 -- the fault at the end of a trace that was explained on
 abbrev pub IsResumed : ExplainFault → Type 0
 IsResumed (fault.Resumed complaints first) = Unit {0}
 IsResumed other = ⊥
-
--- Of all lines those so far are explained; of the next this much has come, and these bytes are
--- left.
-pub record HasCome (all : List (List ℕ)) (line left : List ℕ) (e : Explainer) : Type 0 where
-  pub before : List (List ℕ)
-  pub is_cut : all ≡ before ++ lines_from line left
-  pub events : List Event
-  pub says : SayInTurn true before events e.begins
-  pub told : List Told
-  pub explained : HasExplained events told e

@@ -2,7 +2,8 @@
 ghost use Rattle.std.specs.Prelude.{◌≡◌, ◌++◌, ◌∷◌, List, [], ℕ, true, false, IfErr, IfSome, OnOk};
 ghost use Rattle.std.specs.Str.Lines.{strip_carriage_return};
 ghost use Rattle.trace_explain.specs.Explained.{HasExplained};
-ghost use Rattle.trace_explain.specs.Trace.{HasCome, IsExplained, StopsIn, lines_of};
+ghost use Rattle.trace_explain.specs.Trace.{IsExplained, StopsIn, lines_of};
+ghost use Rattle.trace_explain.specs.UnderWay.{HasCome};
 
 use crate::explain_fault::ExplainFault;
 use crate::explainer::Explainer;
@@ -51,8 +52,10 @@ fn explain_chunks<R: Read, W: Write>(
     text: &mut String,
 ) -> Result<(), ExplainFault>
     ensures explained { HasExplained [] [] explainer.old → explainer.old.begins ≡ true →
+        explainer.old.line ≡ 0 →
         OnOk result (IfSome (R.remaining reader.old) (λ bytes. IsExplained (lines_of bytes))) }
     ensures stops { HasExplained [] [] explainer.old → explainer.old.begins ≡ true →
+        explainer.old.line ≡ 0 →
         IfErr result (λ fault.
         IfSome (R.remaining reader.old) (λ bytes. StopsIn (lines_of bytes) fault)) }
 {

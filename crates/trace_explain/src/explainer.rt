@@ -50,6 +50,7 @@ impl Explainer {
     pub fn new(alloc: Global, layout: Layout, resumes: bool) -> Explainer
         ensures explained { resumes ≡ false → HasExplained [] [] result }
         ensures begins { result.begins ≡ true }
+        ensures line { result.line ≡ 0 }
     {
         Explainer {
             alloc,
@@ -67,7 +68,9 @@ impl Explainer {
     }
 
     /// The number of the line that comes next, from 1.
-    pub fn next_line(&self) -> u64 {
+    pub fn next_line(&self) -> u64
+        ensures { result ≡ next_line self.now }
+    {
         self.line.saturating_add(1)
     }
 
@@ -88,6 +91,7 @@ impl Explainer {
         ensures stops { (events : List Event) (before : List Told) →
             HasExplained events before self.old →
             IfErr result (λ fault. StopsAtLine fault line.now self.old events before) }
+        ensures counts { OnOk result (self.new.line ≡ next_line self.old) }
     {
         self.line = self.line.saturating_add(1);
         match read_line(self.alloc, line) {
@@ -115,6 +119,7 @@ impl Explainer {
             HasExplained events before self.old →
             IfErr result (λ fault.
             StopsRightly fault self.old.line from bytes.now events before) }
+        ensures counts { OnOk result (self.new.line ≡ self.old.line) }
     {
         if self.is_passed_over(from, bytes) {
             return Ok(());
@@ -130,8 +135,9 @@ impl Explainer {
 
     /// Whether such a line is passed over; a header ends that.
     fn is_passed_over(&mut self, from: End, bytes: &[u8]) -> bool
-        ensures { self.old.passes_over ≡ false →
+        ensures none { self.old.passes_over ≡ false →
             (result ≡ false) × (self.new ≡ self.old) }
+        ensures counts { self.new.line ≡ self.old.line }
     {
         if self.passes_over && is_header(from, bytes) {
             self.passes_over = false;
@@ -149,6 +155,7 @@ impl Explainer {
             HasExplained events before self.old →
             IfErr result (λ fault.
             StopsRightly fault self.old.line from bytes.now events before) }
+        ensures counts { OnOk result (self.new.line ≡ self.old.line) }
     {
         self.note_beginning();
         let mut told = Vec::new(self.alloc);
@@ -207,6 +214,7 @@ impl Explainer {
           from = from;
           byte = get_or bytes.now stop.place 0;
         }) }
+        ensures counts { OnOk result (self.new.line ≡ self.old.line) }
     {
         if let Refusal::OutOfMemory = stop.refusal {
             return Err(ExplainFault::OutOfMemory);
@@ -254,9 +262,10 @@ impl Explainer {
 
     /// Explains a reset.
     fn reset(&mut self, out: &mut String) -> Result<(), AllocError>
-        ensures { (events : List Event) (before : List Told) →
+        ensures explained { (events : List Event) (before : List Told) →
             HasExplained events before self.old →
             OnOk result (ExplainsMore (Reset ∷ []) true events before self.new) }
+        ensures counts { OnOk result (self.new.line ≡ self.old.line) }
     {
         self.passes_over = false;
         self.begins = true;
@@ -277,7 +286,8 @@ impl Explainer {
             HasExplained events before self.old →
             OnOk result (HasExplained (events ++ Reset ∷ []) before self.new) }
         ensures keeps { OnOk result ((self.new.begins ≡ self.old.begins)
-            × (self.new.resumes ≡ self.old.resumes)) }
+            × (self.new.resumes ≡ self.old.resumes)
+            × (self.new.line ≡ self.old.line)) }
     {
         let part = self.listener.reset();
         if part.is_empty() {

@@ -1,7 +1,7 @@
 //! The lines of a trace.
-ghost use Rattle.std.specs.Prelude.{◌≡◌, ◌∷◌, Ok, IfOk};
+ghost use Rattle.std.specs.Prelude.{◌≡◌, ◌∷◌, Ok, IfOk, IfErr};
 ghost use Rattle.hex.specs.Hex.{decode_of};
-ghost use Rattle.trace_explain.specs.Lines.{Says, sign_of};
+ghost use Rattle.trace_explain.specs.Lines.{Says, SaysNothing, SpellsNoBytes, sign_of};
 
 use hex::FromHexError;
 use std::alloc::Global;
@@ -31,6 +31,7 @@ pub enum BadLine {
 /// What the line is.
 pub fn read_line(alloc: Global, line: &[u8]) -> Result<TraceLine<'_>, BadLine>
     ensures says { IfOk result (λ said. Says line.now said) }
+    ensures hex { IfErr result (λ why. why ≡ BadLine.Hex → SaysNothing line.now) }
 {
     match line {
         [b'>', rest @ ..] => characters(alloc, End::Terminal, rest),
@@ -43,6 +44,8 @@ pub fn read_line(alloc: Global, line: &[u8]) -> Result<TraceLine<'_>, BadLine>
 /// The characters of an end, from what stands behind its sign.
 fn characters<'a>(alloc: Global, from: End, rest: &[u8]) -> Result<TraceLine<'a>, BadLine>
     ensures says { IfOk result (λ said. Says (sign_of from ∷ rest.now) said) }
+    ensures hex { IfErr result (λ why.
+        why ≡ BadLine.Hex → SaysNothing (sign_of from ∷ rest.now)) }
 {
     match rest {
         [] => Ok(TraceLine::Characters(from, Vec::new(alloc))),
@@ -56,7 +59,8 @@ fn characters<'a>(alloc: Global, from: End, rest: &[u8]) -> Result<TraceLine<'a>
 
 /// The bytes of hexadecimal digits.
 fn bytes_of(alloc: Global, digits: &[u8]) -> Result<Vec<u8>, BadLine>
-    ensures { IfOk result (λ bytes. decode_of digits.now ≡ Ok bytes.items) }
+    ensures spells { IfOk result (λ bytes. decode_of digits.now ≡ Ok bytes.items) }
+    ensures hex { IfErr result (λ why. why ≡ BadLine.Hex → SpellsNoBytes digits.now) }
 {
     match hex::decode(alloc, digits) {
         Ok(bytes) => Ok(bytes),

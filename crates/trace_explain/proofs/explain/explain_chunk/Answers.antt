@@ -1,8 +1,8 @@
-use Rattle.std.proofs.Common.{◌++◌, ◌∙◌, ◌+◌, ℕ, List, sym, ap, subst, drop}
+use Rattle.std.proofs.Common.{◌++◌, ◌∙◌, ◌+◌, ℕ, List, sym, ap, subst, drop, arith}
 use Rattle.std.proofs.lemmas.Bool.{ne_eqb}
 use Rattle.std.specs.Str.Lines.{strip_carriage_return}
-use Rattle.trace_explain.specs.Trace.{HasCome}
-use Rattle.trace_explain.proofs.TraceLemmas.{line_fed, byte_more, next_byte, fed_stops, none_of_chunk}
+use Rattle.trace_explain.specs.UnderWay.{HasCome}
+use Rattle.trace_explain.proofs.TraceLemmas.{line_fed, byte_more, next_byte, fed_stops, too_long, none_of_chunk}
 use Rattle.trace_explain.proofs.explain.explain_chunk.Goals as goal
 use Rattle.trace_explain.proofs.explain.explain_chunk.Goals.{then-byte-eq10+in_ok-line, else-byte-eq10+then-len-lt-LINE_LIMIT+in_ok-push}
 
@@ -28,7 +28,7 @@ loop-byte-preserved c = λ all left come.
           rw (w.explainer-is) (subst P (sym (ap (λ r. r.items) w.line-is ∙ w.clear.ensures.items))
           (line_fed all c.loop-byte.line.items w.without_return.result.now
           (drop (i + 1) c.args.chunk.now ++ left) _ _ c.loop-byte.explainer w.line.new.self before
-          next
+          w.in_ok-line.ensures.counts next
           w.if-byte-eq10.true
           (w.without_return.ensures ∙ ap strip_carriage_return w.as_slice.ensures.value)
           w.in_ok-line.ensures.explained))
@@ -43,3 +43,11 @@ pub returns-clause-explained : goal.returns-clause-explained
 returns-clause-explained c = λ all left come.
     none_of_chunk all c.loop-byte.line.items c.args.chunk.now left c.loop-byte.byte-index
     c.loop-byte.explainer c.loop-byte-test.false (c.loop-byte.invariant all left come)
+
+pub returns-else-len-lt-LINE_LIMIT-clause-stops : goal.returns-else-len-lt-LINE_LIMIT-clause-stops
+returns-else-len-lt-LINE_LIMIT-clause-stops c = λ all left come.
+    let i = c.loop-byte.byte-index in
+    too_long all c.loop-byte.line.items _ (drop (i + 1) c.args.chunk.now ++ left) _
+    c.next_line.result c.loop-byte.explainer (c.loop-byte.invariant all left come)
+    (next_byte c.args.chunk.now left i c.loop-byte-test.true) (ne_eqb _ 10 c.if-byte-eq10.false)
+    (omega (arith, c.if-len-lt-LINE_LIMIT.false, c.len.ensures)) c.next_line.ensures

@@ -1,5 +1,5 @@
 use Rattle.std.proofs.Common.{◌++◌, ℕ, List, drop}
-use Rattle.trace_explain.specs.Trace.{HasCome}
+use Rattle.trace_explain.specs.UnderWay.{HasCome}
 use Rattle.trace_explain.proofs.explain.explain_chunk.Given as goal
 
 -- wherever the chunk began, what is left of it is still to come

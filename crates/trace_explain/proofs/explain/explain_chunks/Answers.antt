@@ -3,40 +3,40 @@ use Rattle.trace_explain.proofs.TraceLemmas.{all_comes, chunk_comes, chunk_stops
 use Rattle.trace_explain.proofs.explain.explain_chunks.Goals as goal
 
 pub reading-init : goal.reading-init
-reading-init g c = λ fresh begins. all_comes _ _ _ c.new-line.ensures.items fresh begins
+reading-init g c = λ fresh begins first. all_comes _ _ _ c.new-line.ensures.items fresh begins first
 
 pub reading-preserved : goal.reading-preserved
-reading-preserved g c = λ fresh begins.
+reading-preserved g c = λ fresh begins first.
     chunk_comes _ _ _ _ c.reading.line.items c.explain_chunk.new.line.items c.reading.explainer
-    c.explain_chunk.new.explainer (c.reading.invariant fresh begins) c.in-Ok.ensures.bytes.0
+    c.explain_chunk.new.explainer (c.reading.invariant fresh begins first) c.in-Ok.ensures.bytes.0
     c.in_ok-explain_chunk-in-Ok.ensures.explained
 
 pub returns-in-Ok-eq0-clause-explained : goal.returns-in-Ok-eq0-clause-explained
-returns-in-Ok-eq0-clause-explained g c = λ fresh begins.
+returns-in-Ok-eq0-clause-explained g c = λ fresh begins first.
     let room : 0 < length c.read.new.buf = omega (arith, c.read.auto.buf) in
     let zero_is : c.in-Ok-eq0.field-0 ≡ 0 = c.in-Ok-eq0.field-0-test in
     known_explained c.explain_last.result (g.R.Read.remaining c.args.reader.now)
     c.as_slice.result.now c.reading.explainer
     (none_comes _ _ _ c.in-Ok-eq0.field-0 c.read.new.buf c.reading.line.items c.as_slice.result.now
     c.reading.explainer zero_is c.as_slice.ensures.value
-    (c.reading.invariant fresh begins) c.in-Ok-eq0.ensures.bytes room)
+    (c.reading.invariant fresh begins first) c.in-Ok-eq0.ensures.bytes room)
     c.explain_last.ensures.explained
 
 pub returns-in-Ok-eq0-clause-stops : goal.returns-in-Ok-eq0-clause-stops
-returns-in-Ok-eq0-clause-stops g c = λ fresh begins.
+returns-in-Ok-eq0-clause-stops g c = λ fresh begins first.
     let room : 0 < length c.read.new.buf = omega (arith, c.read.auto.buf) in
     let zero_is : c.in-Ok-eq0.field-0 ≡ 0 = c.in-Ok-eq0.field-0-test in
     known_stops c.explain_last.result (g.R.Read.remaining c.args.reader.now)
     c.as_slice.result.now c.reading.explainer
     (none_comes _ _ _ c.in-Ok-eq0.field-0 c.read.new.buf c.reading.line.items c.as_slice.result.now
     c.reading.explainer zero_is c.as_slice.ensures.value
-    (c.reading.invariant fresh begins) c.in-Ok-eq0.ensures.bytes room)
+    (c.reading.invariant fresh begins first) c.in-Ok-eq0.ensures.bytes room)
     c.explain_last.ensures.stops
 
 pub returns-in_err-explain_chunk-in-Ok-clause-stops :
     goal.returns-in_err-explain_chunk-in-Ok-clause-stops
-returns-in_err-explain_chunk-in-Ok-clause-stops g c = λ fresh begins.
+returns-in_err-explain_chunk-in-Ok-clause-stops g c = λ fresh begins first.
     chunk_stops c.from_residual.result c.in_err-explain_chunk-in-Ok.field-0.0 _ _ _ _
     c.reading.line.items c.reading.explainer c.from_residual.ensures.1
-    (c.reading.invariant fresh begins) c.in-Ok.ensures.bytes.0
+    (c.reading.invariant fresh begins first) c.in-Ok.ensures.bytes.0
     c.in_err-explain_chunk-in-Ok.ensures.stops

@@ -6,7 +6,7 @@ use Rattle.trace_explain.proofs.explain.explain_chunks.Given as goal
 -- the bytes that are known of the reader are explained, or still to come
 abbrev pub invariant-reading : goal.invariant-reading
 invariant-reading g l = HasExplained [] [] l.initial.explainer → l.initial.explainer.begins ≡ true
-    → StillComes (g.R.Read.remaining l.initial.reader) (g.R.Read.remaining l.reader) l.line.items
+    → l.initial.explainer.line ≡ 0 → StillComes (g.R.Read.remaining l.initial.reader) (g.R.Read.remaining l.reader) l.line.items
     l.explainer
 
 abbrev pub decreases-reading : goal.decreases-reading

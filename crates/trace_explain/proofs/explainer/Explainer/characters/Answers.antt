@@ -7,7 +7,7 @@ use Rattle.trace_explain.proofs.explainer.Explainer.characters.Goals as goal
 
 pub returns-then-is_before-clause-explained : goal.returns-then-is_before-clause-explained
 returns-then-is_before-clause-explained c = λ events before h.
-    let same = (c.is_passed_over.ensures h.passes_over).1 in
+    let same = (c.is_passed_over.ensures.none h.passes_over).1 in
     let P : Explainer → Type 0 = λ e. HasExplained events before e in
     let still = subst P (sym same) h in
     explains_before c.args.self.now.begins c.args.from c.args.bytes.now events before _

@@ -3,8 +3,8 @@ use Rattle.t0_core.specs.History.{Reset}
 use Rattle.trace_explain.proofs.ExplainedLemmas.{explains_events}
 use Rattle.trace_explain.proofs.explainer.Explainer.reset.Goals as goal
 
-pub returns : goal.returns
-returns c = λ events before h.
+pub returns-clause-explained : goal.returns-clause-explained
+returns-clause-explained c = λ events before h.
     let cut = c.in_ok-cut_off.ensures.cut_off events before
     (record { noted = h.noted; resumes = h.resumes; passes_over = refl }) in
     explains_events (Reset ∷ []) events before true _

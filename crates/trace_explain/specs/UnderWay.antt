@@ -1,0 +1,18 @@
+-- What is kept from one byte of a trace to the next: for proofs alone, no part of a promise.
+use Rattle.std.specs.Prelude.{◌≡◌, ℕ, List, ◌++◌, true}
+use Rattle.t0_core.specs.History.{Event}
+use Rattle.trace_explain.specs.declared.explainer.Explainer.{Explainer}
+use Rattle.trace_explain.specs.Explained.{HasExplained, next_line}
+use Rattle.trace_explain.specs.Told.{Told}
+use Rattle.trace_explain.specs.Trace.{SayInTurn, lines_from, number_behind}
+
+-- Of all lines those so far are explained; of the next this much has come, and these bytes are
+-- left.
+pub record HasCome (all : List (List ℕ)) (line left : List ℕ) (e : Explainer) : Type 0 where
+  pub before : List (List ℕ)
+  pub is_cut : all ≡ before ++ lines_from line left
+  pub number_is : next_line e ≡ number_behind before
+  pub events : List Event
+  pub says : SayInTurn true before events e.begins
+  pub told : List Told
+  pub explained : HasExplained events told e

@@ -13,8 +13,8 @@ use Rattle.trace_explain.specs.declared.trace_line.TraceLine.{TraceLine}
 use Rattle.trace_explain.specs.Told.{Told}
 use Rattle.trace_explain.specs.Lines.{Says, events_in, begins_then}
 use Rattle.trace_explain.specs.Explained.{HasExplained, ExplainsLine, StopsAtLine, next_line}
-use Rattle.trace_explain.specs.Trace.{lines_from, lines_of, IsReached, IsResumed, SayInTurn, IsExplained, StopsIn}
-use Rattle.trace_explain.specs.UnderWay.{HasCome}
+use Rattle.trace_explain.specs.Trace.{lines_from, lines_of, IsReached, IsResumed, SayInTurn, IsExplained, IsOver, KeepsLimit, StopsIn}
+use Rattle.trace_explain.specs.UnderWay.{HasCome, IsOfLines}
 
 -- one line more says its events behind the others
 say_more : (begins mid after : Bool) (before : List (List ℕ)) (line : List ℕ) (said : TraceLine)
@@ -212,6 +212,18 @@ too_long all line bytes left b n e come bytes_is other long number =
       first_long,
     )
 
+-- faults of lines say nothing of the trace's length
+of_lines_kept : (f : ExplainFault) (bytes : List ℕ) → IsOfLines f
+    → IsOver bytes f
+of_lines_kept (fault.BadHex m) bytes h = tt
+of_lines_kept (fault.LineTooLong m) bytes h = tt
+of_lines_kept (fault.NoDialogue c) bytes h = tt
+of_lines_kept (fault.Resumed m c) bytes h = tt
+of_lines_kept fault.OutOfMemory bytes h = tt
+of_lines_kept fault.Read bytes h = tt
+of_lines_kept fault.Write bytes h = tt
+of_lines_kept fault.InputTooLong bytes h = absurd h
+
 -- a line at which an explainer stops
 pub line_stops_in : (f : ExplainFault) (all : List (List ℕ)) (line given left : List ℕ)
     (others : List (List ℕ)) (old : Explainer) → HasCome all line left old
@@ -367,6 +379,57 @@ resumed_at fault.Read (Some bytes) resumed = tt
 resumed_at fault.Write (Some bytes) resumed = tt
 resumed_at fault.InputTooLong (Some bytes) resumed = tt
 resumed_at fault.OutOfMemory (Some bytes) resumed = tt
+
+-- of known bytes so many have come
+abbrev pub HaveComeOf : Option (List ℕ) → Option (List ℕ) → ℕ → Type 0
+HaveComeOf None new size = Unit {0}
+HaveComeOf (Some bytes) None size = ⊥
+HaveComeOf (Some bytes) (Some left) size = length bytes ≡ size + length left
+
+pub none_has_come : (a : Option (List ℕ)) → HaveComeOf a a 0
+none_has_come None = tt
+none_has_come (Some bytes) = omega arith
+
+pub more_has_come : (a b c : Option (List ℕ)) (chunk : List ℕ) (size more : ℕ)
+    → HaveComeOf a b size → Consumes b c chunk → more ≡ length chunk → HaveComeOf a c (size + more)
+more_has_come None b c chunk size more h reads is = tt
+more_has_come (Some bytes) None c chunk size more h reads is = absurd h
+more_has_come (Some bytes) (Some left) None chunk size more h reads is = absurd reads
+more_has_come (Some bytes) (Some left) (Some rest) chunk size more h reads is =
+    omega (arith, h, is, ap length reads, length-append chunk rest)
+
+-- all has come, and it is no more than may
+pub limit_kept : {T : Type 0} (r : Result T ExplainFault) (a b c : Option (List ℕ))
+    (chunk : List ℕ) (n size : ℕ) → n ≡ 0 → size ≤ 67108864 → HaveComeOf a b size
+    → Consumes b c (take n chunk) × (n ≡ 0 → 0 < length chunk → IsAtEnd c) → 0 < length chunk
+    → IfErr r IsOfLines → IfSome a (λ bytes. KeepsLimit bytes r)
+limit_kept r None b c chunk n size zero_is within h (reads, ends) room faults = tt
+limit_kept r (Some bytes) None c chunk n size zero_is within h (reads, ends) room faults = absurd h
+limit_kept r (Some bytes) (Some left) None chunk n size zero_is within h (reads, ends) room faults =
+    absurd reads
+limit_kept (Ok x) (Some bytes) (Some left) (Some rest) chunk n size zero_is within h (reads, ends)
+    room faults =
+    let none : left ≡ [] =
+    reads ∙ ap (λ m. take m chunk ++ rest) zero_is ∙ ends zero_is room in
+    omega (arith, within, h, ap length none)
+limit_kept (Err f) (Some bytes) (Some left) (Some rest) chunk n size zero_is within h (reads, ends)
+    room faults = of_lines_kept f bytes faults
+
+pub too_many : (a b : Option (List ℕ)) (size : ℕ) → HaveComeOf a b size → 67108864 < size
+    → IfSome a (λ bytes. 67108864 < length bytes)
+too_many None b size h more = tt
+too_many (Some bytes) None size h more = absurd h
+too_many (Some bytes) (Some left) size h more = omega (arith, h, more)
+
+-- a fault of a line, which is none of the trace's length
+pub limit_passed : {T : Type 0} (r : Result T ExplainFault) (f : ExplainFault)
+    (a : Option (List ℕ)) → IsErrAnd r (λ x. x ≡ f) → IsOfLines f
+    → IfSome a (λ bytes. KeepsLimit bytes r)
+limit_passed (Ok x) f a same h = absurd same
+limit_passed (Err g) f None same h = tt
+limit_passed (Err g) f (Some bytes) same h =
+    let P : ExplainFault → Type 0 = λ x. IsOfLines x in
+    of_lines_kept g bytes (subst P (sym same) h)
 
 -- what is answered at the end of a trace is no complaint
 pub resumed_stops : {T : Type 0} (r : Result T ExplainFault) (a : Option (List ℕ))

@@ -1,5 +1,5 @@
 -- A whole trace: its lines, and what an explainer that does not resume has explained of them.
-use Rattle.std.specs.Prelude.{◌≡◌, ◌≤◌, ℕ, ◌+◌, ◌-◌, ◌^◌, min, List, [], ◌∷◌, ◌++◌, length, Bool, true, ◌==◌, if◌then◌else◌}
+use Rattle.std.specs.Prelude.{◌≡◌, ◌≤◌, ◌<◌, ℕ, ◌+◌, ◌-◌, ◌^◌, min, List, [], ◌∷◌, ◌++◌, length, Bool, true, ◌==◌, if◌then◌else◌, Result, Ok, Err}
 use Rattle.std.specs.Str.Lines.{strip_carriage_return}
 use Rattle.t0_core.specs.declared.end.End.{End}
 use Rattle.t0_core.specs.History.{Event}
@@ -79,6 +79,17 @@ StopsIn all (fault.BadHex number) = (at : IsReached all number) × SaysNothing a
 StopsIn all (fault.LineTooLong number) =
     (at : IsReached all number) × (4194304 ≤ length at.line)
 StopsIn all other = Unit {0}
+
+-- of a fault: where it is one of the trace's length, the trace is longer than a trace may be
+abbrev pub IsOver : List ℕ → ExplainFault → Type 0
+IsOver bytes fault.InputTooLong = 67108864 < length bytes
+IsOver bytes other = Unit {0}
+
+-- A trace that was explained to its end is no longer than a trace may be, and one that is refused for
+-- its length is longer.
+abbrev pub KeepsLimit : {T : Type 0} → List ℕ → Result T ExplainFault → Type 0
+KeepsLimit bytes (Ok x) = length bytes ≤ 67108864
+KeepsLimit bytes (Err f) = IsOver bytes f
 
 -- the fault at the end of a trace that was explained on
 abbrev pub IsResumed : ExplainFault → Type 0

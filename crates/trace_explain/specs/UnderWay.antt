@@ -1,6 +1,8 @@
 -- What is kept from one byte of a trace to the next: for proofs alone, no part of a promise.
 use Rattle.std.specs.Prelude.{◌≡◌, ℕ, List, ◌++◌, true}
 use Rattle.t0_core.specs.History.{Event}
+use Rattle.trace_explain.specs.declared.explain_fault.ExplainFault.{ExplainFault}
+use Rattle.trace_explain.specs.declared.explain_fault.ExplainFault.TheVariants as fault
 use Rattle.trace_explain.specs.declared.explainer.Explainer.{Explainer}
 use Rattle.trace_explain.specs.Explained.{HasExplained, next_line}
 use Rattle.trace_explain.specs.Told.{Told}
@@ -16,3 +18,10 @@ pub record HasCome (all : List (List ℕ)) (line left : List ℕ) (e : Explainer
   pub says : SayInTurn true before events e.begins
   pub told : List Told
   pub explained : HasExplained events told e
+
+-- faults that lines and their characters have
+abbrev pub IsOfLines : ExplainFault → Type 0
+IsOfLines fault.Read = ⊥
+IsOfLines fault.Write = ⊥
+IsOfLines fault.InputTooLong = ⊥
+IsOfLines other = Unit {0}

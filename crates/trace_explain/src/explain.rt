@@ -2,8 +2,8 @@
 ghost use Rattle.std.specs.Prelude.{◌≡◌, ◌++◌, ◌∷◌, List, [], ℕ, true, false, IfErr, IfSome, OnOk};
 ghost use Rattle.std.specs.Str.Lines.{strip_carriage_return};
 ghost use Rattle.trace_explain.specs.Explained.{HasExplained};
-ghost use Rattle.trace_explain.specs.Trace.{IsExplained, StopsIn, lines_of};
-ghost use Rattle.trace_explain.specs.UnderWay.{HasCome};
+ghost use Rattle.trace_explain.specs.Trace.{IsExplained, KeepsLimit, StopsIn, lines_of};
+ghost use Rattle.trace_explain.specs.UnderWay.{HasCome, IsOfLines};
 
 use crate::explain_fault::ExplainFault;
 use crate::explainer::Explainer;
@@ -32,6 +32,7 @@ pub fn explain<R: Read, W: Write>(
         OnOk result (IfSome (R.remaining reader.old) (λ bytes. IsExplained (lines_of bytes))) }
     ensures stops { resumes ≡ false → IfErr result (λ fault.
         IfSome (R.remaining reader.old) (λ bytes. StopsIn (lines_of bytes) fault)) }
+    ensures limited { IfSome (R.remaining reader.old) (λ bytes. KeepsLimit bytes result) }
 {
     let mut explainer = Explainer::new(alloc, layout, resumes);
     let mut text = String::new(alloc);
@@ -58,6 +59,7 @@ fn explain_chunks<R: Read, W: Write>(
         explainer.old.line ≡ 0 →
         IfErr result (λ fault.
         IfSome (R.remaining reader.old) (λ bytes. StopsIn (lines_of bytes) fault)) }
+    ensures limited { IfSome (R.remaining reader.old) (λ bytes. KeepsLimit bytes result) }
 {
     let mut chunk = [0; CHUNK];
     let mut line = Vec::new(alloc);
@@ -89,6 +91,7 @@ fn explain_chunk(
     ensures stops { (all : List (List ℕ)) (left : List ℕ) →
         HasCome all line.old.items (chunk.now ++ left) explainer.old →
         IfErr result (StopsIn all) }
+    ensures of_lines { IfErr result IsOfLines }
 {
     for &byte in chunk {
         if byte == b'\n' {
@@ -122,6 +125,7 @@ fn explain_last(
         OnOk result (IsExplained all) }
     ensures stops { (all : List (List ℕ)) → HasCome all line.now [] explainer.old →
         IfErr result (StopsIn all) }
+    ensures of_lines { IfErr result IsOfLines }
 {
     if line.is_empty() {
         return Ok(());

@@ -4,6 +4,7 @@ ghost use Rattle.t0_core.specs.History.{Event, Reset, passed};
 ghost use Rattle.t0_core.specs.TapSide.{due_at};
 ghost use Rattle.trace_explain.specs.Explained.{HasExplained, ExplainsMore, ExplainsLine, StopsRightly, StopsAtLine, Stopped, KeepsAll, next_line};
 ghost use Rattle.trace_explain.specs.Trace.{IsResumed};
+ghost use Rattle.trace_explain.specs.UnderWay.{IsOfLines};
 ghost use Rattle.trace_explain.specs.Lines.{heard_in, begins_after, is_card};
 ghost use Rattle.trace_explain.specs.Told.{Told};
 
@@ -92,6 +93,7 @@ impl Explainer {
             HasExplained events before self.old →
             IfErr result (λ fault. StopsAtLine fault line.now self.old events before) }
         ensures counts { OnOk result (self.new.line ≡ next_line self.old) }
+        ensures of_lines { IfErr result IsOfLines }
     {
         self.line = self.line.saturating_add(1);
         match read_line(self.alloc, line) {
@@ -120,6 +122,7 @@ impl Explainer {
             IfErr result (λ fault.
             StopsRightly fault self.old.line from bytes.now events before) }
         ensures counts { OnOk result (self.new.line ≡ self.old.line) }
+        ensures of_lines { IfErr result IsOfLines }
     {
         if self.is_passed_over(from, bytes) {
             return Ok(());
@@ -156,6 +159,7 @@ impl Explainer {
             IfErr result (λ fault.
             StopsRightly fault self.old.line from bytes.now events before) }
         ensures counts { OnOk result (self.new.line ≡ self.old.line) }
+        ensures of_lines { IfErr result IsOfLines }
     {
         self.note_beginning();
         let mut told = Vec::new(self.alloc);
@@ -215,6 +219,7 @@ impl Explainer {
           byte = get_or bytes.now stop.place 0;
         }) }
         ensures counts { OnOk result (self.new.line ≡ self.old.line) }
+        ensures of_lines { IfErr result IsOfLines }
     {
         if let Refusal::OutOfMemory = stop.refusal {
             return Err(ExplainFault::OutOfMemory);

@@ -1,13 +1,15 @@
 use Rattle.std.proofs.Common.{◌≡◌, ◌+◌, ◌-◌, [], true}
 use Rattle.trace_explain.specs.Explained.{HasExplained}
-use Rattle.trace_explain.proofs.TraceLemmas.{StillComes}
+use Rattle.trace_explain.proofs.TraceLemmas.{StillComes, HaveComeOf}
 use Rattle.trace_explain.proofs.explain.explain_chunks.Given as goal
 
--- the bytes that are known of the reader are explained, or still to come
+-- the bytes that are known of the reader are explained, or still to come, and so many have come
 abbrev pub invariant-reading : goal.invariant-reading
-invariant-reading g l = HasExplained [] [] l.initial.explainer → l.initial.explainer.begins ≡ true
-    → l.initial.explainer.line ≡ 0 → StillComes (g.R.Read.remaining l.initial.reader) (g.R.Read.remaining l.reader) l.line.items
-    l.explainer
+invariant-reading g l = (HasExplained [] [] l.initial.explainer
+    → l.initial.explainer.begins ≡ true → l.initial.explainer.line ≡ 0
+    → StillComes (g.R.Read.remaining l.initial.reader) (g.R.Read.remaining l.reader) l.line.items
+    l.explainer)
+    × HaveComeOf (g.R.Read.remaining l.initial.reader) (g.R.Read.remaining l.reader) l.size
 
 abbrev pub decreases-reading : goal.decreases-reading
 decreases-reading g l = 67108864 + 1 - l.size

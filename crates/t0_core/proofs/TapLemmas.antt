@@ -24,7 +24,7 @@ use Rattle.t0_core.specs.Character.{Character, sent_by}
 use Rattle.t0_core.specs.Dialogue.{Body, Dialogue, IsDialogue, characters, body_characters, segment_characters, data_sender, foreseen, procedure_byte, moves, all_moves, to_move}
 use Rattle.t0_core.specs.Front.{Front, IsFront, front_characters, fresh, In_header, In_body, After_first, GoesOn, Ends, IsBetween, IsBegun, EndInLast, with_segment, with_moved, header_only}
 use Rattle.t0_core.specs.FrontLaws.{goes_on, all_moves-more, all_moves-within}
-use Rattle.t0_core.specs.History.{Event, Passed, Reset, Whole, Cut_off, events_of, passed}
+use Rattle.t0_core.specs.History.{Event, Passed, Whole, events_of, passed}
 use Rattle.t0_core.specs.TapHistory.{HasHeard, HearsOn, IsOverheard}
 use Rattle.t0_core.specs.TapView.{place_of, IsHeldAt}
 use Rattle.t0_core.specs.DialogueLaws.{all_more, ends_with}
@@ -769,36 +769,6 @@ heard_nothing = record {
   is_front = lit< tt;
   stands = (refl, lit< tt);
 }
-
--- what is read of a front at which the tap stands
-stands_read : (place : Place) (front : Front) → TapStandsAt place front → IsReadFront front
-stands_read (In_opening bytes) (In_header heard) at = tt
-stands_read (Between said) (In_body b) at = at.0.is_read
-stands_read (In_data said until) (In_body b) at = at.0.is_read
-stands_read (After_sw1 said sw1) (After_first b first) at = at.0.is_read
-stands_read (In_opening bytes) (In_body b) at = absurd at
-stands_read (In_opening bytes) (After_first b first) at = absurd at
-stands_read (Between said) (In_header heard) at = absurd at
-stands_read (Between said) (After_first b first) at = absurd at
-stands_read (In_data said until) (In_header heard) at = absurd at
-stands_read (In_data said until) (After_first b first) at = absurd at
-stands_read (After_sw1 said sw1) (In_header heard) at = absurd at
-stands_read (After_sw1 said sw1) (In_body b) at = absurd at
-
-pub heard_reset : (seen : Place) (events : List Event) → HasHeard events seen
-    → HasHeard (events ++ Reset ∷ []) afresh
-heard_reset seen events led =
-    let part = front_characters led.front in
-    record {
-      items = led.items ++ Cut_off part ∷ [];
-      front = fresh;
-      events_are = events_item events led.items (passed part) Reset (Cut_off part) led.events_are
-          refl;
-      are_overheard = all_more IsOverheard led.items (Cut_off part) led.are_overheard
-          (led.front, led.is_front, stands_read seen led.front led.stands, refl);
-      is_front = lit< tt;
-      stands = (refl, lit< tt);
-    }
 
 -- ---- the stage
 

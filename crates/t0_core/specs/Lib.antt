@@ -27,3 +27,4 @@ pub mod TapSide
 pub mod TapView
 pub mod TapHistory
 pub mod TapLine
+pub mod TapLaws

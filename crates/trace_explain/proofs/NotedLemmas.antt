@@ -1,7 +1,6 @@
 -- What is told of dialogues, one character or one reset further.
-use Rattle.std.proofs.Common.{◌≡◌, ℕ, ◌<◌, List, [], ◌∷◌, ◌++◌, refl, sym, subst, ◌∙◌, ap, ◌⊎◌, inl, inr, lit<, true, false, append-nil, append_assoc, map, ◌+◌, length, take, get_or}
+use Rattle.std.proofs.Common.{◌≡◌, ℕ, ◌<◌, List, [], ◌∷◌, ◌++◌, refl, sym, subst, ◌∙◌, ap, ◌⊎◌, inl, inr, lit<, true, false, append_assoc, map, ◌+◌, length, take, get_or}
 use Rattle.std.proofs.lemmas.List.{map-append, take_more}
-use Rattle.std.specs.List.{flat_map}
 use Rattle.std.proofs.lemmas.List.Sums.{fold-append}
 use Rattle.t0_core.specs.declared.direction.Direction.{Direction}
 use Rattle.t0_core.specs.declared.plan.Step.{Step}
@@ -10,11 +9,11 @@ use Rattle.t0_core.specs.declared.heard.Heard.TheVariants as heard
 use Rattle.t0_core.specs.declared.end.End.{End}
 use Rattle.t0_core.specs.Character.{Character, sent_by}
 use Rattle.t0_core.specs.Dialogue.{Body, Dialogue}
-use Rattle.t0_core.specs.DialogueLaws.{all_more, flat_map_last}
 use Rattle.t0_core.specs.Front.{Front, In_header, In_body, After_first, GoesOn, Ends, fresh, front_characters, with_segment, with_moved}
-use Rattle.t0_core.specs.History.{Event, Passed, Reset, Item, Whole, Cut_off, events_of, passed}
-use Rattle.t0_core.specs.TapSide.{Place, In_opening, Between, In_data, After_sw1, TapStandsAt, IsReadFront, Makes, Concludes, turned, turned_body, afresh}
-use Rattle.t0_core.specs.TapHistory.{HasHeard, HearsOn, IsOverheard}
+use Rattle.t0_core.specs.History.{Event, Passed, Reset, Item, Whole, Cut_off, passed}
+use Rattle.t0_core.specs.TapSide.{Place, TapStandsAt, Makes, Concludes, turned, turned_body, afresh}
+use Rattle.t0_core.specs.TapHistory.{HasHeard, HearsOn}
+use Rattle.t0_core.specs.TapLaws as law
 use Rattle.trace_explain.specs.declared.listener.Listener.{Listener}
 use Rattle.trace_explain.specs.declared.tpdu.Tpdu.{Tpdu}
 use Rattle.trace_explain.specs.Told.{Told, told_by, counted, uncounted, untold, noted, is_last, TellsBody, TellsFront, Tells}
@@ -223,51 +222,20 @@ heard_last events told old new h c n on last is = split on.goes
           under_way = subst Q (sym is) (subst R (sym front_is) tells_nothing);
         }
 
--- a front at which a tap stands is one that it reads
-stands_read : (place : Place) (front : Front) → TapStandsAt place front → IsReadFront front
-stands_read (In_opening bytes) (In_header heard) s = tt
-stands_read (In_opening bytes) (In_body b) s = absurd s
-stands_read (In_opening bytes) (After_first b first) s = absurd s
-stands_read (Between said) (In_header heard) s = absurd s
-stands_read (Between said) (In_body b) s = s.0.is_read
-stands_read (Between said) (After_first b first) s = absurd s
-stands_read (In_data said until) (In_header heard) s = absurd s
-stands_read (In_data said until) (In_body b) s = s.0.is_read
-stands_read (In_data said until) (After_first b first) s = absurd s
-stands_read (After_sw1 said sw1) (In_header heard) s = absurd s
-stands_read (After_sw1 said sw1) (In_body b) s = absurd s
-stands_read (After_sw1 said sw1) (After_first b first) s = s.0.is_read
-
-events_cut_off : (events : List Event) (items : List Item) (part : List Character)
-    → events ≡ flat_map events_of items ++ passed part
-    → events ++ Reset ∷ [] ≡ flat_map events_of (items ++ Cut_off part ∷ [])
-    ++ passed (front_characters fresh)
-events_cut_off events items part is =
-    ap (λ es. es ++ Reset ∷ []) is
-    ∙ append_assoc (flat_map events_of items) (passed part) (Reset ∷ [])
-    ∙ sym (flat_map_last events_of items (Cut_off part))
-    ∙ sym (append-nil (flat_map events_of (items ++ Cut_off part ∷ [])))
-
 -- a reset has come
 pub heard_reset : (events : List Event) (told : List Told) (old new : Listener)
     → HasNoted events told old → new.tap ≡ afresh → told_by new.under_way ≡ untold
     → HasNoted (events ++ Reset ∷ []) told new
 heard_reset events told old new n tap_is is =
-    let part = front_characters n.heard.front in
-    let S : Place → Type 0 = λ p. TapStandsAt p fresh in
-    let Q : Told → Type 0 = λ t. TellsFront t fresh in
+    let (cut, items_are, front_is) = law.heard_reset events old.tap new.tap tap_is n.heard in
+    let P : List Item → Type 0 = λ items. TellsItems items told in
+    let Q : Told → Type 0 = λ t. TellsFront t cut.front in
+    let R : Front → Type 0 = λ f. TellsFront untold f in
     record {
-      heard = record {
-        items = n.heard.items ++ Cut_off part ∷ [];
-        front = fresh;
-        events_are = events_cut_off events n.heard.items part n.heard.events_are;
-        are_overheard = all_more IsOverheard n.heard.items (Cut_off part) n.heard.are_overheard
-            (n.heard.front, n.heard.is_front, stands_read old.tap n.heard.front n.heard.stands, refl);
-        is_front = lit< tt;
-        stands = subst S (sym tap_is) (refl, lit< tt);
-      };
-      are_told = tells_cut_off n.heard.items told part n.are_told;
-      under_way = subst Q (sym is) tells_nothing;
+      heard = cut;
+      are_told = subst P (sym items_are)
+          (tells_cut_off n.heard.items told (front_characters n.heard.front) n.are_told);
+      under_way = subst Q (sym is) (subst R (sym front_is) tells_nothing);
     }
 
 -- nothing has come

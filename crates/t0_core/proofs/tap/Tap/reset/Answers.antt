@@ -1,5 +1,6 @@
-use Rattle.t0_core.proofs.TapLemmas.{heard_reset}
+use Rattle.std.proofs.Common.{refl}
+use Rattle.t0_core.specs.TapLaws.{heard_reset}
 use Rattle.t0_core.proofs.tap.Tap.reset.Goals as goal
 
 pub returns-clause-led : goal.returns-clause-led
-returns-clause-led c = heard_reset _
+returns-clause-led c = λ events led. (heard_reset events _ _ refl led).0

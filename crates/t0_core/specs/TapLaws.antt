@@ -1,0 +1,55 @@
+-- Laws of what a tap has heard.
+use Rattle.std.specs.Prelude.{◌≡◌, List, [], ◌∷◌, ◌++◌}
+use Rattle.std.specs.List.{flat_map}
+use Rattle.std.proofs.Common.{refl, sym, subst, ◌∙◌, ap, append-nil, append_assoc, lit<}
+use Rattle.t0_core.specs.Character.{Character}
+use Rattle.t0_core.specs.DialogueLaws.{all_more, flat_map_last}
+use Rattle.t0_core.specs.Front.{Front, In_header, In_body, After_first, fresh, front_characters}
+use Rattle.t0_core.specs.History.{Event, Reset, Item, Cut_off, events_of, passed}
+use Rattle.t0_core.specs.TapSide.{Place, In_opening, Between, In_data, After_sw1, TapStandsAt, IsReadFront, afresh}
+use Rattle.t0_core.specs.TapHistory.{HasHeard, IsOverheard}
+
+-- a front at which a tap stands is one that it reads
+stands_read : (place : Place) (front : Front) → TapStandsAt place front → IsReadFront front
+stands_read (In_opening bytes) (In_header heard) at = tt
+stands_read (Between said) (In_body b) at = at.0.is_read
+stands_read (In_data said until) (In_body b) at = at.0.is_read
+stands_read (After_sw1 said sw1) (After_first b first) at = at.0.is_read
+stands_read (In_opening bytes) (In_body b) at = absurd at
+stands_read (In_opening bytes) (After_first b first) at = absurd at
+stands_read (Between said) (In_header heard) at = absurd at
+stands_read (Between said) (After_first b first) at = absurd at
+stands_read (In_data said until) (In_header heard) at = absurd at
+stands_read (In_data said until) (After_first b first) at = absurd at
+stands_read (After_sw1 said sw1) (In_header heard) at = absurd at
+stands_read (After_sw1 said sw1) (In_body b) at = absurd at
+
+events_cut_off : (events : List Event) (items : List Item) (part : List Character)
+    → events ≡ flat_map events_of items ++ passed part
+    → events ++ Reset ∷ [] ≡ flat_map events_of (items ++ Cut_off part ∷ [])
+    ++ passed (front_characters fresh)
+events_cut_off events items part is =
+    ap (λ es. es ++ Reset ∷ []) is
+    ∙ append_assoc (flat_map events_of items) (passed part) (Reset ∷ [])
+    ∙ sym (flat_map_last events_of items (Cut_off part))
+    ∙ sym (append-nil (flat_map events_of (items ++ Cut_off part ∷ [])))
+
+-- A reset cuts off the front under way, and nothing of the dialogue to come has been heard.
+pub heard_reset : (events : List Event) (before after : Place) → after ≡ afresh
+    → (led : HasHeard events before) → (now : HasHeard (events ++ Reset ∷ []) after)
+    × (now.items ≡ led.items ++ Cut_off (front_characters led.front) ∷ []) × (now.front ≡ fresh)
+heard_reset events before after is led =
+    let part = front_characters led.front in
+    let S : Place → Type 0 = λ place. TapStandsAt place fresh in (
+      record {
+        items = led.items ++ Cut_off part ∷ [];
+        front = fresh;
+        events_are = events_cut_off events led.items part led.events_are;
+        are_overheard = all_more IsOverheard led.items (Cut_off part) led.are_overheard
+            (led.front, led.is_front, stands_read before led.front led.stands, refl);
+        is_front = lit< tt;
+        stands = subst S (sym is) (refl, lit< tt);
+      },
+      refl,
+      refl,
+    )

@@ -119,8 +119,8 @@ fn past_length(bytes: &[u8], place: usize, end: usize) -> Result<(usize, usize),
     }
 }
 
-/// The objects of checked bytes and of so many levels below them, and the bytes of their tags and of
-/// the values of primitives.
+/// The objects of checked bytes and of so many levels below them, and the bytes of their tags and
+/// of the values of primitives.
 #[inline(never)]
 fn walk(bytes: &[u8], levels: u8) -> (usize, usize) {
     let (mut count, mut sum) = (0, 0);

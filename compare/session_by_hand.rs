@@ -1,17 +1,17 @@
-//! A terminal and a card of data objects written by hand in Rust, which pass one character at a time
-//! over a line in memory. They are asked the same as the proved ones, and timed in the same way as
-//! `crates/session_speed` times those.
+//! A terminal and a card of data objects written by hand in Rust, which pass one character at a
+//! time over a line in memory. They are asked the same as the proved ones, and timed in the same way
+//! as `crates/session_speed` times those.
 //!
-//!     mkdir -p out && rustc --edition 2021 -O -C target-cpu=x86-64-v2 -C codegen-units=1 -C lto=fat \
-//!         -C panic=abort compare/session_by_hand.rs -o out/session_by_hand
+//!     mkdir -p out && rustc --edition 2021 -O -C target-cpu=x86-64-v2 -C codegen-units=1 \
+//!         -C lto=fat -C panic=abort compare/session_by_hand.rs -o out/session_by_hand
 //!     out/session_by_hand measure
 //!
 //! The card refuses headers by the same rules in the same order, finds objects by hash, and changes
-//! nothing before the second status character; the terminal follows `6CXX` and `61XX`. Want of memory
-//! is told where the proved ones tell it: an operation's room and the place of its answer are taken
-//! before its first character, an answer keeps its data alone, and a put that finds no memory is
-//! answered `6581`. There are no plans and no watch, the data of a TPDU are not cleared after it, and
-//! the value of a constructed tag, which no load puts, is not checked.
+//! nothing before the second status character; the terminal follows `6CXX` and `61XX`. Want of
+//! memory is told where the proved ones tell it: an operation's room and the place of its answer are
+//! taken before its first character, an answer keeps its data alone, and a put that finds no memory
+//! is answered `6581`. There are no plans and no watch, the data of a TPDU are not cleared after it,
+//! and the value of a constructed tag, which no load puts, is not checked.
 
 use std::collections::{HashMap, TryReserveError};
 use std::env;
@@ -788,8 +788,8 @@ fn carry_out(op: &Op, card: &mut Card, mut seen: impl FnMut(u8)) -> Result<Answe
     })
 }
 
-/// Carries out the operations in turn, and appends an answer for each. A fault comes before the first
-/// character of an operation, or from the line.
+/// Carries out the operations in turn, and appends an answer for each. A fault comes before the
+/// first character of an operation, or from the line.
 fn run(
     ops: &[Op],
     card: &mut Card,
@@ -867,7 +867,8 @@ fn main() {
             let tpdus = rate * load.tpdus as f64 / 1e6;
             let each = 1e9 / (rate * characters as f64);
             println!(
-                "  {} times in {seconds:.2} s: {tpdus:.2} million TPDUs a second, {each:.2} ns a character",
+                "  {} times in {seconds:.2} s: {tpdus:.2} million TPDUs a second, \
+                 {each:.2} ns a character",
                 load.operations()
             );
         }

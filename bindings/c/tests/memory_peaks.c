@@ -1,5 +1,5 @@
-/* How many bytes each handle asks of the heap at once, at most: the figures are those of the header,
- * where it declares the handles. */
+/* How many bytes each handle asks of the heap at once, at most: the figures are those of the
+ * header, where it declares the handles. */
 #include "galliumtoad.h"
 #include "check.h"
 #include "counting_heap.h"

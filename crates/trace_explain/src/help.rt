@@ -1,8 +1,8 @@
 //! What `--help` and `--version` say, and what is said of words that are not UTF-8.
 
 /// Of the program.
-pub const PROGRAM: &str = "Explains the trace of a dialogue with a smart card over the T=0 \
-    protocol: what each command was, and what it brought";
+pub const PROGRAM: &str = "Explains the trace of a dialogue with a smart card over T=0: each \
+    command, and what it brought";
 
 /// The version.
 pub const VERSION: &str = "0.1.0";
@@ -21,17 +21,20 @@ The trace stands on standard input, in lines as `card_trace play` prints them:
   < HEX    characters of the card, or `<` alone for none
   reset    the card was reset
 
-Every other line is a note, and is kept at its place, behind `| `. Characters of the card that come
-before the first of the terminal, since the trace began or the card was reset, are told as such: an
-answer to reset, or the end of what was not heard. A trace has at most 67,108,864 bytes, and a line
-at most 4,194,304.
+Every other line is a note, and is told behind `| `; one within a TPDU stands before it. An empty
+line is passed over. Characters of the card that come before the first of the terminal, since the
+trace began or the card was reset, are told as such: an answer to reset, or the end of what was not
+heard. A trace has at most 67,108,864 bytes, and a line at most 4,194,304.
 
 Where no dialogue goes on with a character, the line and the character are told, counted from 1,
 with what was due and what came. Then the program stops. With `--resume` it passes over what
 follows, up to the next line `reset`, or the next line `> HEX` of just five characters, which it
-takes for a header. In both cases the status is 1.
+takes for a header.
 
 A TPDU that a reset or the end of the trace has cut off is told as far as it came, and is no fault.
+
+The exit status is 0 where the trace came to its end as dialogues, 1 after a fault or where no
+dialogue goes on with a character, and 2 where the words of the command line are refused.
 
 Example:
 

@@ -316,22 +316,25 @@ fn take_into(phase: &mut Phase, byte: u8, came: &mut [u8; 255]) -> Result<(), No
     ensures fits { OnOk result (IsAfter phase.old phase.new) }
     ensures none { IsForgotten phase.old came.old → OnOk result (IsForgotten phase.new came.new) }
 {
-    match phase {
-        Phase::Accepted { service } if service.is_listening() => {
-            came[service.moved() as usize] = byte;
-            service.one_moved();
-            Ok(())
+    if let Phase::Accepted { service } = phase {
+        if !service.is_listening() {
+            return Err(NotListening);
         }
-        Phase::Opening { taken, .. } if *taken < 5 => {
-            let place = *taken;
-            *taken += 1;
+        came[service.moved() as usize] = byte;
+        service.one_moved();
+        return Ok(());
+    }
+    if let Phase::Opening { taken, .. } = phase {
+        let place = *taken;
+        if place < 5 {
+            *taken = place + 1;
             if let Phase::Opening { bytes, .. } = phase {
                 bytes[place] = byte;
             }
-            Ok(())
+            return Ok(());
         }
-        _ => Err(NotListening),
     }
+    Err(NotListening)
 }
 
 /// Hands out the card's next character, and takes the phase past it.

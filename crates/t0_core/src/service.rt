@@ -22,9 +22,9 @@ pub struct Service {
     p3: u8,
     direction: Direction,
     /// Data characters that have moved.
-    moved: u16,
+    moved: u32,
     /// Data characters that the procedure bytes so far are to move.
-    until: u16,
+    until: u32,
     /// Steps of the plan that are carried out or passed over.
     done: usize,
 }
@@ -54,7 +54,7 @@ impl Service {
 
     /// How many data characters have moved.
     #[inline(always)]
-    pub(crate) fn moved(&self) -> u16
+    pub(crate) fn moved(&self) -> u32
         ensures { result ≡ self.now.moved }
     {
         self.moved
@@ -90,9 +90,9 @@ impl Service {
             (λ byte. (step : Step) × (byte ≡ dialogue.procedure_byte self.old.header.ins step)
             × IsNext self.old steps.now step self.new) }
     {
-        let left = self.direction.foreseen(self.p3) - self.moved;
+        let left = self.direction.foreseen(self.p3) - self.moved as u16;
         let (step, done) = next_step(steps, self.done, left)?;
-        self.until = self.moved + moves(step, left);
+        self.until = self.moved + u32::from(moves(step, left));
         self.done = done;
         Some(procedure_byte(self.header.ins, step))
     }
@@ -127,7 +127,7 @@ pub(crate) fn serve<C: TpduCard>(
         (stage_of (phase_after service.new result.1) came.now) }
 {
     if service.moved < service.until {
-        let byte = card.byte(service.moved);
+        let byte = card.byte(service.moved as u16);
         service.one_moved();
         return (byte, None);
     }

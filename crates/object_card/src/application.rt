@@ -137,6 +137,9 @@ impl<A: Allocator> Application<A> {
         ensures held { is_some (value_under tag self.old.entries) ≡ true →
             IsOk result × (self.new ≡ self.old) }
     {
+        if self.objects.len() < self.objects.capacity() {
+            return Ok(());
+        }
         if self.objects.contains_key(&tag) {
             return Ok(());
         }

@@ -89,7 +89,7 @@ fn refused_value<A: Allocator>(
     if value_fault(tag.tag(), value).is_some() {
         return Some(status(0x6A, 0x80));
     }
-    if application.find(tag).is_none() && application.len() >= ENTRY_LIMIT {
+    if application.len() >= ENTRY_LIMIT && application.find(tag).is_none() {
         return Some(status(0x6A, 0x84));
     }
     None

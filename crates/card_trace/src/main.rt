@@ -4,37 +4,19 @@
 mod card;
 mod card_run;
 mod card_table;
-#[cfg(test)]
-mod card_tests;
 mod command_line;
 mod fixed_line;
 mod help;
 mod main_status;
-#[cfg(test)]
-mod memory_tests;
 mod objects;
 mod objects_fault;
-#[cfg(test)]
-mod objects_tests;
 mod play;
 mod play_fault;
-#[cfg(test)]
-mod play_fault_tests;
-#[cfg(test)]
-mod play_tests;
 mod player;
 mod printing;
-#[cfg(test)]
-mod printing_tests;
 mod program_fault;
 mod script;
-#[cfg(test)]
-mod status_tests;
 mod table;
-#[cfg(test)]
-mod test_io;
-#[cfg(test)]
-mod test_script;
 mod text;
 mod trace;
 mod unread_words;

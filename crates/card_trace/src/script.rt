@@ -10,6 +10,4 @@ pub mod reason;
 pub mod refusal;
 pub mod section;
 pub mod table_line;
-#[cfg(test)]
-mod tests;
 pub mod words;

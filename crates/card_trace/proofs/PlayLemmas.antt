@@ -21,7 +21,10 @@ use Rattle.card_trace.specs.declared.fixed_line.FixedLine.TheVariants as fixed
 use Rattle.card_trace.specs.FixedText.{fixed_text}
 use Rattle.card_trace.specs.TraceText.{operation_text}
 use Rattle.card_trace.specs.ScriptTable.{Addition}
-use Rattle.card_trace.specs.ScriptPlay.{PlayMeaning, Adds, Plan, Run, Send, Reset, Table, IsPlayLine}
+use Rattle.card_trace.specs.ScriptPlay.{PlayMeaning, Adds, Plan, Run, Send, Reset, Table, IsPlayLine, play_meaning, is_play_table_line}
+use Rattle.card_trace.specs.declared.script.play_line.PlayLine.{PlayLine}
+use Rattle.card_trace.specs.declared.script.play_line.PlayLine.TheVariants as line
+use Rattle.card_trace.specs.declared.script.table_line.TableLine.{TableLine}
 use Rattle.card_trace.specs.Scripts.{PlayState, Building, Running, section_of, card_in, plans_in, IsAdded, IsRun, talks, is_busy, Plays, PlaysLine, PlaysAll, PlayWrites, RefusesPlayLine, PlayStops}
 use Rattle.card_trace.specs.Playing.{state_of, RefusesSaid}
 use Rattle.card_trace.specs.ScriptWords.{words_of}
@@ -235,6 +238,38 @@ pub planned : (old running new : PlayState) (plan : Course)
     → running ≡ Running (card_in old) (plans_in old) → new ≡ with_plan running plan
     → Plays old (Plan plan) [] new
 planned old running new plan is same = (refl, same ∙ ap (λ s. with_plan s plan) is)
+
+-- a line that adds nothing is a run line
+pub is_run_line : {A : Type 0} (said : PlayLine A) → ((addition : TableLine A) → said ≡ line.Adds addition → ⊥)
+    → is_play_table_line (play_meaning said) ≡ false
+is_run_line (line.Adds addition) other = absurd (other addition refl)
+is_run_line (line.Plan plan) other = refl
+is_run_line (line.Run op) other = refl
+is_run_line (line.Send bytes) other = refl
+is_run_line line.Reset other = refl
+is_run_line line.Table other = refl
+
+-- a run line does to the card that has begun to run what it does to the state before
+pub run_plays : (old running new : PlayState) (meaning : PlayMeaning) (text : List ℕ)
+    → is_play_table_line meaning ≡ false → running ≡ Running (card_in old) (plans_in old)
+    → Plays running meaning text new → Plays old meaning text new
+run_plays old running new (Adds addition) text late is plays = absurd (true≢false late)
+run_plays old running new (Plan plan) text late is plays = subst (λ s. Plays s (Plan plan) text new) is plays
+run_plays old running new (Run op) text late is plays = subst (λ s. Plays s (Run op) text new) is plays
+run_plays old running new (Send bytes) text late is plays = subst (λ s. Plays s (Send bytes) text new) is plays
+run_plays old running new Reset text late is plays = subst (λ s. Plays s Reset text new) is plays
+run_plays old running new Table text late is plays = subst (λ s. Plays s Table text new) is plays
+
+-- and what is refused of it is refused in either
+pub run_refuses : (old running : PlayState) (meaning : PlayMeaning) (reason : Reason)
+    → is_play_table_line meaning ≡ false → RefusesSaid running meaning reason
+    → RefusesSaid old meaning reason
+run_refuses old running (Adds addition) reason late refused = absurd (true≢false late)
+run_refuses old running (Plan plan) reason late refused = refused
+run_refuses old running (Run op) reason late refused = refused
+run_refuses old running (Send bytes) reason late refused = refused
+run_refuses old running Reset reason late refused = refused
+run_refuses old running Table reason late refused = refused
 
 pub when_none : {X : Type 0} (o : Option X) (P : Type 0) (Q : X → Type 0) → o ≡ None
     → MatchOption o P Q → P

@@ -5,7 +5,7 @@ ghost use Rattle.object_card.specs.OneStep.{Reply};
 ghost use Rattle.card_terminal.specs.Operations.{operation_of};
 ghost use Rattle.card_trace.specs.TraceText.{operation_text};
 ghost use Rattle.card_trace.specs.ScriptTable.{addition_of};
-ghost use Rattle.card_trace.specs.ScriptPlay.{Adds, play_meaning};
+ghost use Rattle.card_trace.specs.ScriptPlay.{Adds, play_meaning, is_play_table_line};
 ghost use Rattle.card_trace.specs.Scripts as script;
 ghost use Rattle.card_trace.specs.Scripts.{section_of, card_in, plans_in, IsRun, IsSent, IsRefused, Plays, PlaysLine, RefusesPlayLine};
 ghost use Rattle.card_trace.specs.Playing.{state_of, running_of, RefusesSaid};
@@ -104,30 +104,9 @@ impl<A: Allocator + Copy> Player<A> {
                 Ok(player) => Ok(player),
                 Err(refusal) => Err(refusal.at(number)),
             },
-            PlayLine::Plan(plan) => {
+            said => {
                 let mut running = self.run(alloc)?;
-                running.keep(plan)?;
-                Ok(Player::Running(running))
-            }
-            PlayLine::Run(op) => {
-                let mut running = self.run(alloc)?;
-                running.operate(alloc, op, writer)?;
-                Ok(Player::Running(running))
-            }
-            PlayLine::Send(bytes) => {
-                let mut running = self.run(alloc)?;
-                running.send(alloc, bytes.bytes(), number, writer)?;
-                Ok(Player::Running(running))
-            }
-            PlayLine::Reset => {
-                let mut running = self.run(alloc)?;
-                running.session.reset();
-                write_fixed(FixedLine::Reset, writer)?;
-                Ok(Player::Running(running))
-            }
-            PlayLine::Table => {
-                let running = self.run(alloc)?;
-                write_table(alloc, running.session.card(), writer)?;
+                running.carry_out(alloc, said, number, writer)?;
                 Ok(Player::Running(running))
             }
         }
@@ -165,6 +144,39 @@ impl<A: Allocator + Copy> Player<A> {
 }
 
 impl<A: Allocator + Copy> Running<A> {
+    /// Carries out what the run line of this number says. It borrows the card, so that no way out
+    /// of it drops one.
+    fn carry_out<W: Write>(
+        &mut self,
+        alloc: A,
+        said: PlayLine<A>,
+        number: usize,
+        writer: &mut W,
+    ) -> Result<(), PlayFault>
+        requires { is_play_table_line (play_meaning said) ≡ false }
+        ensures played { OnOk result ((text : List ℕ)
+            × Appends (W.contents writer.old) (W.contents writer.new) text
+            × Plays (running_of self.old) (play_meaning said) text (running_of self.new)) }
+        ensures fault { IfErr result (IsFaultOfLine
+            (RefusesSaid (running_of self.old) (play_meaning said)) number
+            (W.contents writer.old) (W.contents writer.new)) }
+    {
+        match said {
+            PlayLine::Adds(_) => unreachable!(),
+            PlayLine::Plan(plan) => {
+                self.keep(plan)?;
+                Ok(())
+            }
+            PlayLine::Run(op) => self.operate(alloc, op, writer),
+            PlayLine::Send(bytes) => self.send(alloc, bytes.bytes(), number, writer),
+            PlayLine::Reset => {
+                self.session.reset();
+                write_fixed(FixedLine::Reset, writer)
+            }
+            PlayLine::Table => write_table(alloc, self.session.card(), writer),
+        }
+    }
+
     /// Keeps a plan for the next operation.
     fn keep(&mut self, plan: Plan<A>) -> Result<(), AllocError>
         ensures { OnOk result (running_of self.new

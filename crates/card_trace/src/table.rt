@@ -3,7 +3,7 @@ ghost use Rattle.std.specs.Prelude.{◌≡◌, ◌++◌, List, Some, map, codes,
 ghost use Rattle.hex.specs.Hex.{encode_upper};
 ghost use Rattle.object_card.specs.Tables.{Entry, entries_in};
 ghost use Rattle.card_trace.specs.LineText.{newline};
-ghost use Rattle.card_trace.specs.TableText.{entry_line, table_text as text_of_table};
+ghost use Rattle.card_trace.specs.TableText.{mark, entry_line, table_text as text_of_table};
 ghost use Rattle.card_trace.specs.MarkedLines.{marked_lines};
 
 use crate::text::{push_hex, push_value};
@@ -79,8 +79,13 @@ fn push_entry<A: Allocator + Copy>(
     push_hex(alloc, text, tag.tag().bytes())?;
     text.push(b' ')?;
     push_value(alloc, text, value)?;
-    if locked {
-        text.extend_from_slice(b" locked")?;
-    }
+    push_mark(text, locked)?;
     text.extend_from_slice(b"\n")
+}
+
+/// Adds what stands behind a locked entry, where it is one.
+fn push_mark<A: Allocator>(text: &mut Vec<u8, A>, locked: bool) -> Result<(), AllocError>
+    ensures { OnOk result (text.new.items ≡ text.old.items ++ mark locked) }
+{
+    text.extend_from_slice(if locked { b" locked" } else { b"" })
 }

@@ -3,102 +3,104 @@
 use crate::trace::{bytes, characters, pass, word};
 use crate::{Answer, Exchange, RESPONSE_LIMIT};
 use apdu_core::Command;
-use std::alloc::{Allocator, Global};
+use std::alloc::AllocGlobal;
 use std::process::Abort;
-use std::test::Fail;
 use t0_core::{End, HostTurn, LineFault};
 
 /// A GET DATA of `5F20` that wants everything.
 const GET: &[u8] = &[0x00, 0xCA, 0x5F, 0x20, 0x00];
 
-fn command(bytes: &[u8]) -> Result<Command<'_>, Fail> {
-    Ok(Command::read(bytes).ok().ok_or("no command")?)
+fn command<'a>(rt: &(impl Abort + AllocGlobal), bytes: &'a [u8]) -> Command<'a> {
+    Command::read(bytes).expect(rt, "a command")
 }
 
 /// An exchange of a command, given by its bytes. Without a clause: what is proved of it is nothing
 /// that a test has to know, and costs each proof that has it at hand.
-fn begun<'a>(alloc: Global, of: &'a [u8]) -> Result<Exchange<'a>, Fail> {
-    Ok(Exchange::start(alloc, command(of)?)?)
+fn begun<'a>(rt: &(impl Abort + AllocGlobal), of: &'a [u8]) -> Exchange<'a> {
+    Exchange::start(rt.alloc(), command(rt, of)).expect(rt, "memory")
 }
 
-/// What an exchange says to a character, likewise without a clause.
-fn said(exchange: &mut Exchange<'_>, byte: u8) -> Result<(), LineFault> {
-    exchange.take(byte)
+/// What an exchange does, what it says to a character, and its answer, likewise without a clause.
+fn turn(exchange: &mut Exchange<'_>) -> HostTurn {
+    exchange.next()
+}
+
+fn said(exchange: &mut Exchange<'_>, byte: u8) -> Option<LineFault> {
+    exchange.take(byte).err()
+}
+
+fn answer_of(rt: &(impl Abort + AllocGlobal), exchange: Exchange<'_>) -> Answer {
+    exchange.into_answer().expect(rt, "an answer")
 }
 
 /// These characters pass, as a trace has them.
-fn pass_all(
-    rt: &impl Abort,
-    alloc: Global,
-    exchange: &mut Exchange<'_>,
-    trace: &str,
-) -> Result<(), Fail> {
-    pass(rt, exchange, &characters(alloc, trace)?);
-    Ok(())
+fn pass_all(rt: &(impl Abort + AllocGlobal), exchange: &mut Exchange<'_>, trace: &str) {
+    pass(rt, exchange, &characters(rt, trace));
 }
 
-/// The status of an exchange that is over, and takes nothing more.
-fn status_of(rt: &impl Abort, exchange: &mut Exchange<'_>) -> Result<u16, Fail> {
-    let HostTurn::Done(status) = exchange.next() else {
-        return Err("not done".into());
-    };
-    assert_eq!(rt; said(exchange, 0x90), Err(LineFault::AfterEnd));
-    Ok(word(status))
+/// An exchange that these characters have passed.
+fn passed<'a>(rt: &(impl Abort + AllocGlobal), of: &'a [u8], trace: &str) -> Exchange<'a> {
+    let mut exchange = begun(rt, of);
+    pass_all(rt, &mut exchange, trace);
+    exchange
+}
+
+/// The answer to a command, given by its bytes, over these characters. Nothing is taken after it.
+fn answer_to(rt: &(impl Abort + AllocGlobal), of: &[u8], trace: &str) -> Answer {
+    let mut exchange = passed(rt, of, trace);
+    assert!(rt; matches!(turn(&mut exchange), HostTurn::Done(_)), "{trace}");
+    assert!(rt; said(&mut exchange, 0x90) == Some(LineFault::AfterEnd));
+    answer_of(rt, exchange)
 }
 
 /// The exchange of a command, given by its bytes, has these characters, and then this answer.
-fn answers(
-    rt: &impl Abort,
-    alloc: Global,
-    of: &str,
-    trace: &str,
-    (status, data): (u16, &str),
-) -> Result<(), Fail> {
-    let of = bytes(alloc, of)?;
-    let mut exchange = begun(alloc, &of)?;
-    pass_all(rt, alloc, &mut exchange, trace)?;
-    assert_eq!(rt; status_of(rt, &mut exchange)?, status, "{trace}");
-    let answer = exchange.into_answer().ok_or("no answer")?;
-    assert_eq!(rt; word(answer.status()), status, "{trace}");
-    assert_eq!(rt; answer.data(), bytes(alloc, data)?.as_slice(), "{trace}");
-    Ok(())
+fn answers(rt: &(impl Abort + AllocGlobal), of: &str, trace: &str, status: u16, data: &str) {
+    let answer = answer_to(rt, &bytes(rt, of), trace);
+    assert!(rt; word(answer.status()) == status, "{trace}");
+    assert!(rt; answer.data() == bytes(rt, data).as_slice(), "{trace}");
 }
 
 /// How to drive an exchange over a reader's characters: ask what it does, and hand in what the card
-/// sends.
-fn driven(exchange: &mut Exchange<'_>, from_card: &[u8], sent: &mut Vec<u8>) -> Result<(), Fail> {
+/// sends. The answer is what the terminal sent.
+fn driven(
+    rt: &(impl Abort + AllocGlobal),
+    exchange: &mut Exchange<'_>,
+    from_card: &[u8],
+) -> Vec<u8> {
+    let mut sent = Vec::new(rt.alloc());
     let mut reader = from_card.iter();
     for _ in 0..100 {
-        match exchange.next() {
-            HostTurn::Sends(byte) => sent.push(byte)?,
+        match turn(exchange) {
+            HostTurn::Sends(byte) => sent.push(byte).expect(rt, "memory"),
             HostTurn::Listens => {
-                let byte = reader.next().ok_or("the card is silent")?;
-                exchange.take(*byte)?;
+                let byte = reader.next().expect(rt, "a character");
+                assert!(rt; said(exchange, *byte).is_none());
             }
             HostTurn::Done(_) | HostTurn::Failed => break,
         }
     }
-    Ok(())
+    sent
+}
+
+/// The answer is `9000` with the object.
+fn is_name(rt: &(impl Abort + AllocGlobal), answer: &Answer) {
+    assert!(rt; answer.status().is_ok());
+    assert!(rt; answer.data() == bytes(rt, "5F20034A4F45").as_slice());
 }
 
 /// Begin it, drive it, and read the answer.
 #[test]
-fn driven_by_hand(rt: HostRuntime) -> Result<(), Fail> {
-    let from_card = bytes(rt.alloc(), "6C06 CA5F20034A4F459000")?;
-    let mut sent = Vec::new(rt.alloc());
-    let mut exchange = Exchange::start(rt.alloc(), command(GET)?)?;
-    driven(&mut exchange, &from_card, &mut sent)?;
-    assert_eq!(rt; sent, bytes(rt.alloc(), "00CA5F2000 00CA5F2006")?);
-    let answer = exchange.into_answer().ok_or("no answer")?;
-    assert!(rt; answer.status().is_ok());
-    let object = bytes(rt.alloc(), "5F20034A4F45")?;
-    assert_eq!(rt; answer.data(), object.as_slice());
-    Ok(())
+fn driven_by_hand(rt: HostRuntime) {
+    let mut exchange = begun(&rt, GET);
+    let from_card = bytes(&rt, "6C06 CA5F20034A4F459000");
+    let sent = driven(&rt, &mut exchange, &from_card);
+    assert!(rt; sent == bytes(&rt, "00CA5F2000 00CA5F2006"));
+    is_name(&rt, &answer_of(&rt, exchange));
 }
 
 #[test]
-fn each_case_of_a_command(rt: HostRuntime) -> Result<(), Fail> {
-    for (of, trace, answer) in [
+fn each_case_of_a_command(rt: HostRuntime) {
+    for (of, trace, (status, data)) in [
         (
             "00A4040007A000000003101000",
             "> 00A4040007 < A4 > A0000000031010 < 610B \
@@ -123,14 +125,13 @@ fn each_case_of_a_command(rt: HostRuntime) -> Result<(), Fail> {
         ),
         ("00CA9F3600", "> 00CA9F3600 < 60606A88", (0x6A88, "")),
     ] {
-        answers(&rt, rt.alloc(), of, trace, answer)?;
+        answers(&rt, of, trace, status, data);
     }
-    Ok(())
 }
 
 #[test]
-fn correction_is_followed_once_and_up_to_what_is_wanted(rt: HostRuntime) -> Result<(), Fail> {
-    for (of, trace, answer) in [
+fn correction_is_followed_once_and_up_to_what_is_wanted(rt: HostRuntime) {
+    for (of, trace, (status, data)) in [
         ("00CA5F2004", "> 00CA5F2004 < 6C06", (0x6C06, "")),
         (
             "00CA5F2004",
@@ -153,14 +154,13 @@ fn correction_is_followed_once_and_up_to_what_is_wanted(rt: HostRuntime) -> Resu
             (0x9000, "034A4F45"),
         ),
     ] {
-        answers(&rt, rt.alloc(), of, trace, answer)?;
+        answers(&rt, of, trace, status, data);
     }
-    Ok(())
 }
 
 #[test]
-fn fetches_what_is_announced_of_what_is_wanted(rt: HostRuntime) -> Result<(), Fail> {
-    for (of, trace, answer) in [
+fn fetches_what_is_announced_of_what_is_wanted(rt: HostRuntime) {
+    for (of, trace, (status, data)) in [
         (
             "00CA5F2002",
             "> 00CA5F2002 < 6105 > 00C0000002 < C001026103",
@@ -195,59 +195,61 @@ fn fetches_what_is_announced_of_what_is_wanted(rt: HostRuntime) -> Result<(), Fa
             (0x9000, "50820254 41*596"),
         ),
     ] {
-        answers(&rt, rt.alloc(), of, trace, answer)?;
+        answers(&rt, of, trace, status, data);
     }
-    Ok(())
 }
 
 #[test]
-fn any_status_and_any_number_of_nulls(rt: HostRuntime) -> Result<(), Fail> {
+fn any_status_and_any_number_of_nulls(rt: HostRuntime) {
     for (trace, status) in [
         ("> 00CA5F2000 < 9123", 0x9123),
         ("> 00CA5F2000 < 60*1000 6A88", 0x6A88),
     ] {
-        answers(&rt, rt.alloc(), "00CA5F2000", trace, (status, ""))?;
+        answers(&rt, "00CA5F2000", trace, status, "");
     }
-    Ok(())
 }
 
 /// A fault has ended it: whatever comes is after the end, and there is no answer.
-fn has_failed<A: Allocator>(rt: &impl Abort, mut exchange: Exchange<'_, A>) {
+fn has_failed(rt: &(impl Abort + AllocGlobal), mut exchange: Exchange<'_>) {
     for byte in [0x41, 0x90, 0x00, 0xCA] {
-        assert_eq!(rt; exchange.next(), HostTurn::Failed);
-        assert_eq!(rt; exchange.take(byte), Err(LineFault::AfterEnd));
+        assert!(rt; turn(&mut exchange) == HostTurn::Failed);
+        assert!(rt; said(&mut exchange, byte) == Some(LineFault::AfterEnd));
     }
     assert!(rt; exchange.into_answer().is_none());
 }
 
-#[test]
-fn no_procedure_byte_ends_it(rt: HostRuntime) -> Result<(), Fail> {
-    let mut exchange = begun(rt.alloc(), GET)?;
-    pass_all(&rt, rt.alloc(), &mut exchange, "> 00CA5F2000")?;
-    assert_eq!(rt;
-        said(&mut exchange, 0x41),
-        Err(LineFault::BadProcedure(0x41))
-    );
-    has_failed(&rt, exchange);
-    Ok(())
+/// After these characters another one is this fault, which ends the exchange.
+fn fails(rt: &(impl Abort + AllocGlobal), of: &[u8], trace: &str, byte: u8, fault: LineFault) {
+    let mut exchange = passed(rt, of, trace);
+    assert!(rt; turn(&mut exchange) == HostTurn::Listens);
+    assert!(rt; said(&mut exchange, byte) == Some(fault), "{trace}");
+    has_failed(rt, exchange);
 }
 
 #[test]
-fn listens_to_nothing_while_it_sends(rt: HostRuntime) -> Result<(), Fail> {
-    let mut exchange = begun(rt.alloc(), GET)?;
-    for trace in ["> 00CA5F2000 < 6C06", "> 00CA5F2006 < CA", "< 0102"] {
-        for character in characters(rt.alloc(), trace)? {
-            if character.0 == End::Terminal {
-                assert_eq!(rt; said(&mut exchange, 0x90), Err(LineFault::NotListening));
-            }
-            pass(&rt, &mut exchange, &[character]);
-        }
+fn no_procedure_byte_ends_it(rt: HostRuntime) {
+    let fault = LineFault::BadProcedure(0x41);
+    fails(&rt, GET, "> 00CA5F2000", 0x41, fault);
+}
+
+/// One character passes. While it is the terminal's, the exchange takes none.
+fn passes(rt: &(impl Abort + AllocGlobal), exchange: &mut Exchange<'_>, character: (End, u8)) {
+    if character.0 == End::Terminal {
+        assert!(rt; said(exchange, 0x90) == Some(LineFault::NotListening));
     }
-    Ok(())
+    pass(rt, exchange, &[character]);
 }
 
 #[test]
-fn no_answer_before_the_end(rt: HostRuntime) -> Result<(), Fail> {
+fn listens_to_nothing_while_it_sends(rt: HostRuntime) {
+    let mut exchange = begun(&rt, GET);
+    for character in characters(&rt, "> 00CA5F2000 < 6C06 > 00CA5F2006 < CA 0102") {
+        passes(&rt, &mut exchange, character);
+    }
+}
+
+#[test]
+fn no_answer_before_the_end(rt: HostRuntime) {
     for front in [
         "",
         "> 00CA",
@@ -256,129 +258,91 @@ fn no_answer_before_the_end(rt: HostRuntime) -> Result<(), Fail> {
         "> 00CA5F2000 < 6C06",
         "> 00CA5F2000 < 6105 > 00C0000005 < C00102",
     ] {
-        let mut exchange = begun(rt.alloc(), GET)?;
-        pass_all(&rt, rt.alloc(), &mut exchange, front)?;
-        assert!(rt; exchange.into_answer().is_none(), "{front}");
+        let answer = passed(&rt, GET, front).into_answer();
+        assert!(rt; answer.is_none(), "{front}");
     }
-    Ok(())
 }
 
-/// The exchange of a command, given by its bytes, stalls at the last character of the last fetch.
-fn stalls(rt: &impl Abort, alloc: Global, of: &str, trace: &str) -> Result<(), Fail> {
-    let of = bytes(alloc, of)?;
-    let mut exchange = begun(alloc, &of)?;
-    pass_all(rt, alloc, &mut exchange, trace)?;
-    assert_eq!(rt;
-        said(&mut exchange, 0x05),
-        Err(LineFault::Stalled),
-        "{trace}"
-    );
-    has_failed(rt, exchange);
-    Ok(())
-}
-
-/// How many headers the terminal sends in a trace without data of its own.
-fn headers_in(alloc: Global, trace: &str) -> Result<usize, Fail> {
-    let passed = characters(alloc, trace)?;
-    Ok(passed.iter().filter(|c| c.0 == End::Terminal).count() / 5)
-}
-
-/// A first `61XX` without data is no stall. A fetch that brings nothing is, after so many headers.
+/// A first `61XX` without data is no stall. A fetch that brings nothing is, at the last character
+/// of its status.
 #[test]
-fn fetch_that_brings_nothing_stalls(rt: HostRuntime) -> Result<(), Fail> {
-    for (of, trace, headers) in [
-        ("00CA5F2000", "> 00CA5F2000 < 6105 > 00C0000005 < 61", 2),
+fn fetch_that_brings_nothing_stalls(rt: HostRuntime) {
+    for (of, trace) in [
+        ("00CA5F2000", "> 00CA5F2000 < 6105 > 00C0000005 < 61"),
         (
             "00CA5F2000",
             "> 00CA5F2000 < 6C05 > 00CA5F2005 < 6105 > 00C0000005 < 6C05 > 00C0000005 < 61",
-            4,
         ),
-        ("00C0000000", "> 00C0000000 < 6105 > 00C0000005 < 61", 2),
+        ("00C0000000", "> 00C0000000 < 6105 > 00C0000005 < 61"),
     ] {
-        assert_eq!(rt; headers_in(rt.alloc(), trace)?, headers, "{trace}");
-        stalls(&rt, rt.alloc(), of, trace)?;
+        fails(&rt, &bytes(&rt, of), trace, 0x05, LineFault::Stalled);
     }
-    Ok(())
 }
 
 /// All the room is filled but the last 256 bytes, which are announced.
-fn nearly_filled(rt: &impl Abort, alloc: Global, exchange: &mut Exchange<'_>) -> Result<(), Fail> {
-    pass_all(rt, alloc, exchange, "> 00CA5F2000 < CA 42*256 6100")?;
+fn nearly_fill(rt: &(impl Abort + AllocGlobal), exchange: &mut Exchange<'_>) {
+    pass_all(rt, exchange, "> 00CA5F2000 < CA 42*256 6100");
     for _ in 0..62 {
-        pass_all(rt, alloc, exchange, "> 00C0000000 < C0 42*256 6100")?;
+        pass_all(rt, exchange, "> 00C0000000 < C0 42*256 6100");
     }
-    Ok(())
 }
 
 /// One byte more than all the room is too long.
-fn is_overfilled(rt: &impl Abort, alloc: Global, exchange: &mut Exchange<'_>) -> Result<(), Fail> {
-    nearly_filled(rt, alloc, exchange)?;
+fn overfill(rt: &(impl Abort + AllocGlobal), exchange: &mut Exchange<'_>) {
+    nearly_fill(rt, exchange);
     let last = "> 00C0000000 < C0 42*256 6101 > 00C0000001 < C0";
-    pass_all(rt, alloc, exchange, last)?;
-    assert_eq!(rt; said(exchange, 0x41), Err(LineFault::TooLong));
-    assert_eq!(rt; said(exchange, 0x90), Err(LineFault::AfterEnd));
-    Ok(())
+    pass_all(rt, exchange, last);
+    assert!(rt; said(exchange, 0x41) == Some(LineFault::TooLong));
+    assert!(rt; said(exchange, 0x90) == Some(LineFault::AfterEnd));
+}
+
+/// The exchange of another command in the same room.
+fn again<'a>(rt: &(impl Abort + AllocGlobal), exchange: Exchange<'_>) -> Exchange<'a> {
+    exchange.again(command(rt, GET))
 }
 
 /// The same room serves another command, emptied.
 #[test]
-fn room_is_filled_and_emptied(rt: HostRuntime) -> Result<(), Fail> {
-    let mut exchange = begun(rt.alloc(), GET)?;
+fn room_is_filled_and_emptied(rt: HostRuntime) {
+    let mut exchange = begun(&rt, GET);
     for _ in 0..2 {
-        is_overfilled(&rt, rt.alloc(), &mut exchange)?;
-        exchange = exchange.again(command(GET)?);
+        overfill(&rt, &mut exchange);
+        exchange = again(&rt, exchange);
     }
     let trace = "> 00CA5F2000 < CA 43*256 9000";
-    pass_all(&rt, rt.alloc(), &mut exchange, trace)?;
-    let answer = exchange.into_answer().ok_or("no answer")?;
-    assert_eq!(rt; answer.data(), bytes(rt.alloc(), "43*256")?.as_slice());
-    Ok(())
+    pass_all(&rt, &mut exchange, trace);
+    let answer = answer_of(&rt, exchange);
+    assert!(rt; answer.data() == bytes(&rt, "43*256").as_slice());
 }
 
 /// All the room may be filled: the data of an answer are so many bytes at most.
 #[test]
-fn whole_room_is_an_answer(rt: HostRuntime) -> Result<(), Fail> {
-    let mut exchange = begun(rt.alloc(), GET)?;
-    nearly_filled(&rt, rt.alloc(), &mut exchange)?;
-    pass_all(
-        &rt,
-        rt.alloc(),
-        &mut exchange,
-        "> 00C0000000 < C0 42*256 9000",
-    )?;
-    let answer = exchange.into_answer().ok_or("no answer")?;
-    assert_eq!(rt; answer.data().len(), RESPONSE_LIMIT);
-    Ok(())
-}
-
-/// The answer to a command, given by its bytes, over these characters.
-fn answer_to(rt: &impl Abort, alloc: Global, of: &str, trace: &str) -> Result<Answer, Fail> {
-    let of = bytes(alloc, of)?;
-    let mut exchange = begun(alloc, &of)?;
-    pass_all(rt, alloc, &mut exchange, trace)?;
-    Ok(exchange.into_answer().ok_or("no answer")?)
+fn whole_room_is_an_answer(rt: HostRuntime) {
+    let mut exchange = begun(&rt, GET);
+    nearly_fill(&rt, &mut exchange);
+    pass_all(&rt, &mut exchange, "> 00C0000000 < C0 42*256 9000");
+    let answer = answer_of(&rt, exchange);
+    assert!(rt; answer.data().len() == RESPONSE_LIMIT);
 }
 
 /// Whether the answer is an object: then it is `50 01 41`.
-fn is_object(rt: &impl Abort, answer: &Answer) -> bool {
+fn is_object(rt: &(impl Abort + AllocGlobal), answer: &Answer) -> bool {
     let Some(object) = answer.object() else {
         return false;
     };
-    assert_eq!(rt; object.tag().bytes(), [0x50].as_slice());
-    assert_eq!(rt; object.value(), [0x41].as_slice());
+    assert!(rt; object.tag().bytes() == [0x50].as_slice() && object.value() == [0x41].as_slice());
     true
 }
 
 #[test]
-fn object_is_all_the_data(rt: HostRuntime) -> Result<(), Fail> {
+fn object_is_all_the_data(rt: HostRuntime) {
     for (of, trace, wanted) in [
         ("00CA005003", "> 00CA005003 < CA 500141 9000", true),
         ("00CA005004", "> 00CA005004 < CA 50014100 9000", false),
         ("00CA005004", "> 00CA005004 < CA 00500141 9000", false),
         ("00CA005006", "> 00CA005006 < CA 500141510142 9000", false),
     ] {
-        let answer = answer_to(&rt, rt.alloc(), of, trace)?;
+        let answer = answer_to(&rt, &bytes(&rt, of), trace);
         assert!(rt; is_object(&rt, &answer) == wanted, "{trace}");
     }
-    Ok(())
 }

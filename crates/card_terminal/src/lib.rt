@@ -7,8 +7,6 @@ mod answers;
 mod attempt;
 mod bytes;
 #[cfg(test)]
-mod counting_card;
-#[cfg(test)]
 mod data_objects;
 mod exchange;
 #[cfg(test)]

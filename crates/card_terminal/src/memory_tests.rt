@@ -1,32 +1,35 @@
 //! Each growth is refused in turn, by heaps of ever more bytes.
 
-use crate::test_card::{Manner, TestCard};
+use crate::data_objects::{NAME, selected};
 use crate::trace::{bytes, characters};
-use crate::{Answer, Exchange, Session, SessionFault};
+use crate::{Answer, Exchange, SessionFault};
 use apdu_core::{Command, Header};
 use linked_list_allocator::LocalHeap;
-use std::alloc::{Allocator, Global};
+use std::alloc::{AllocGlobal, Allocator, Global};
 use std::process::Abort;
-use std::test::Fail;
-use t0_core::{CardEnd, End, Plans, Recorder};
+use t0_core::{End, Plans, Recorder};
 
 /// GET DATA of `5F20`.
-const NAME: Header = Header {
+const GET: Header = Header {
     cla: 0x00,
     ins: 0xCA,
     p1: 0x5F,
     p2: 0x20,
 };
 
+/// Whether an exchange has room, without a clause.
+fn has_room(heap: &LocalHeap) -> bool {
+    let command = Command::new(GET, &[], Some(256)).unwrap();
+    Exchange::start(heap, command).is_ok()
+}
+
 /// The one growth of `start` is refused, and then granted.
 #[test]
-fn no_room_for_an_exchange(rt: HostRuntime) -> Result<(), Fail> {
+fn no_room_for_an_exchange(rt: HostRuntime) {
     for (size, granted) in [(0, false), (16_368, false), (16_384, true)] {
-        let heap = LocalHeap::new(rt.alloc(), size)?;
-        let command = Command::new(NAME, &[], Some(256)).unwrap();
-        assert_eq!(rt; Exchange::start(&heap, command).is_ok(), granted);
+        let heap = LocalHeap::new(rt.alloc(), size).expect(&rt, "memory");
+        assert!(rt; has_room(&heap) == granted, "{size} bytes");
     }
-    Ok(())
 }
 
 /// What came of a command over a heap.
@@ -40,69 +43,64 @@ enum Outcome {
     Heard,
 }
 
-/// Brings an object in this memory: what came of it, and how often the card was reset.
+/// Brings an object in this memory.
 fn transmitted<A: Allocator, B: Allocator>(
+    rt: &(impl Abort + AllocGlobal),
     memory: A,
-    object: &[u8],
     recorder: &mut Recorder<B>,
-) -> (Result<Answer<A>, SessionFault>, u32) {
-    let mut session = Session::new(CardEnd::new(TestCard::new(Manner::Holds, object)));
-    let command = Command::new(NAME, &[], Some(256)).unwrap();
+) -> Result<Answer<A>, SessionFault> {
+    let mut session = selected(rt, rt.alloc(), NAME);
+    let command = Command::new(GET, &[], Some(256)).unwrap();
     let mut plans = Plans::<Global>::over(&[]);
-    let ended = session.transmit(memory, command, &mut plans, recorder);
-    (ended, session.card().resets())
+    session.transmit(memory, command, &mut plans, recorder)
 }
 
-/// What came of it, by what was heard of all these characters.
-fn outcome_of<A: Allocator, B: Allocator>(
-    rt: &impl Abort,
+/// Whether the object was brought: the one fault is want of memory.
+fn is_brought<A: Allocator>(
+    rt: &(impl Abort + AllocGlobal),
     ended: Result<Answer<A>, SessionFault>,
-    recorder: &Recorder<B>,
-    object: &[u8],
-    all: &[(End, u8)],
-) -> Outcome {
+) -> bool {
     match ended {
         Err(fault) => {
-            assert_eq!(rt; fault, SessionFault::OutOfMemory);
-            assert!(rt; recorder.heard().is_empty());
-            Outcome::Refused
+            assert!(rt; fault == SessionFault::OutOfMemory);
+            false
         }
         Ok(answer) => {
-            assert_eq!(rt; answer.data(), object);
-            assert!(rt; all.starts_with(recorder.heard()));
-            if recorder.lost() {
-                Outcome::Lost
-            } else {
-                assert_eq!(rt; recorder.heard().len(), all.len());
-                Outcome::Heard
-            }
+            assert!(rt; answer.data() == bytes(rt, "5F20034A4F45").as_slice());
+            true
         }
     }
 }
 
+/// How much was heard of the whole: all, or a front of it where some is lost.
+fn heard_of(rt: &(impl Abort + AllocGlobal), heard: &[(End, u8)], lost: bool) -> Outcome {
+    let all = characters(rt, "> 00CA5F2000 < 6C06 > 00CA5F2006 < CA5F20034A4F459000");
+    assert!(rt; all.starts_with(heard));
+    assert!(rt; lost || heard.len() == all.len());
+    if lost { Outcome::Lost } else { Outcome::Heard }
+}
+
 /// Brings an object by a command over a heap of so many bytes, which the recorder shares.
-fn brought(rt: &impl Abort, alloc: Global, size: usize) -> Result<Outcome, Fail> {
-    let object = bytes(alloc, "5F20034A4F45")?;
-    let all = characters(
-        alloc,
-        "> 00CA5F2000 < 6C06 > 00CA5F2006 < CA5F20034A4F459000",
-    )?;
-    let heap = LocalHeap::new(alloc, size)?;
+fn brought(rt: &(impl Abort + AllocGlobal), size: usize) -> Outcome {
+    let heap = LocalHeap::new(rt.alloc(), size).expect(rt, "memory");
     let mut recorder = Recorder::new(&heap);
-    let (ended, resets) = transmitted(&heap, &object, &mut recorder);
-    assert_eq!(rt; resets, 1);
-    Ok(outcome_of(rt, ended, &recorder, &object, &all))
+    let ended = transmitted(rt, &heap, &mut recorder);
+    if is_brought(rt, ended) {
+        return heard_of(rt, recorder.heard(), recorder.lost());
+    }
+    assert!(rt; recorder.heard().is_empty());
+    Outcome::Refused
 }
 
 /// Without room for the response nothing is heard. With it the answer is as ever, and the recorder
 /// has heard all, or a front of it where it has lost the rest.
 #[test]
-fn no_memory_for_a_command_or_its_recorder(rt: HostRuntime) -> Result<(), Fail> {
+fn no_memory_for_a_command_or_its_recorder(rt: HostRuntime) {
     let mut refused: usize = 0;
     let mut lost: usize = 0;
     let mut heard = false;
     for size in (16_352..=17_408).step_by(16) {
-        match brought(&rt, rt.alloc(), size)? {
+        match brought(&rt, size) {
             Outcome::Refused => refused = refused.saturating_add(1),
             Outcome::Lost => lost = lost.saturating_add(1),
             Outcome::Heard => heard = true,
@@ -111,5 +109,4 @@ fn no_memory_for_a_command_or_its_recorder(rt: HostRuntime) -> Result<(), Fail> 
     assert!(rt; refused > 1, "{refused} sizes were refused");
     assert!(rt; lost > 3, "{lost} sizes lost some");
     assert!(rt; heard);
-    Ok(())
 }

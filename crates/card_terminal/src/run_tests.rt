@@ -1,17 +1,15 @@
 //! Operations over the card of data objects, with what goes over the line.
 
-use crate::counting_card::CountingCard;
 use crate::data_objects::{
-    NAME, are_answered, card, carried_out, full, holds, operations, selected, session_over,
+    NAME, are_answered, full, holds, operations, ran, selected, session_over,
 };
 use crate::trace::{characters, plans, word};
 use crate::{Answer, Answers, Op, Session};
 use apdu_core::{Command, Header};
 use object_card::{DataCard, ObjectCard};
-use std::alloc::Global;
+use std::alloc::{AllocGlobal, Global};
 use std::process::Abort;
-use std::test::Fail;
-use t0_core::{CardEnd, End, Plans, Recorder, Silent};
+use t0_core::{End, Plans, Recorder, Silent};
 
 /// What a session has before it, and what it is asked.
 #[derive(Clone, Copy)]
@@ -29,61 +27,56 @@ struct Row<'a> {
 }
 
 /// The characters of a trace in which `32: > 10DA5F20FF |` stands for 32 times what is between.
-fn repeated(alloc: Global, trace: &str) -> Result<Vec<(End, u8)>, Fail> {
-    let mut all = Vec::new(alloc);
+fn repeated(rt: &(impl Abort + AllocGlobal), trace: &str) -> Vec<(End, u8)> {
+    let mut all = Vec::new(rt.alloc());
     for group in trace.split('|') {
         let (times, passed) = group.split_once(':').unwrap_or(("1", group));
-        for _ in 0..times.trim().parse::<u32>()? {
-            all.extend_from_slice(&characters(alloc, passed)?)?;
+        let times = times.trim().parse::<u32>().expect(rt, "a number");
+        let passed = characters(rt, passed);
+        for _ in 0..times {
+            all.extend_from_slice(&passed).expect(rt, "memory");
         }
     }
-    Ok(all)
+    all
 }
 
-/// The session carries out operations under these plans, with these characters and the answers that
-/// it gives.
+/// The session carries out operations under these plans, with these characters and answers.
 fn passes<C: DataCard>(
-    rt: &impl Abort,
-    alloc: Global,
+    rt: &(impl Abort + AllocGlobal),
     session: &mut Session<C>,
     ops: &[Op],
     plans: &mut Plans<'_>,
     trace: &str,
-) -> Result<Answers, Fail> {
-    let mut recorder = Recorder::new(alloc);
-    let mut out = Answers::new(alloc);
-    carried_out(session, alloc, ops, plans, &mut recorder, &mut out)?;
-    let heard = repeated(alloc, trace)?;
-    assert!(rt; recorder.heard() == heard.as_slice(), "{trace}");
-    assert!(rt; !recorder.lost());
-    Ok(out)
+    answers: &str,
+) {
+    let mut recorder = Recorder::new(rt.alloc());
+    let mut out = Answers::new(rt.alloc());
+    let ended = ran(rt, session, rt.alloc(), ops, plans, &mut recorder, &mut out);
+    assert!(rt; ended.is_ok() && !recorder.lost());
+    assert!(rt;
+        recorder.heard() == repeated(rt, trace).as_slice(),
+        "{trace}"
+    );
+    are_answered(rt, &out, answers);
 }
 
 /// The session carries out the operations of a row, with its characters and answers.
 fn carries_out<C: DataCard>(
-    rt: &impl Abort,
-    alloc: Global,
+    rt: &(impl Abort + AllocGlobal),
     session: &mut Session<C>,
     row: &Row<'_>,
-) -> Result<(), Fail> {
-    let plans = plans(alloc, row.plans)?;
-    let ops = operations(alloc, row.operations)?;
-    let out = passes(
-        rt,
-        alloc,
-        session,
-        &ops,
-        &mut Plans::over(&plans),
-        row.heard,
-    )?;
-    are_answered(rt, alloc, &out, row.answers)
+) {
+    let plans = plans(rt, row.plans);
+    let ops = operations(rt, row.operations);
+    let mut cursor = Plans::over(&plans);
+    passes(rt, session, &ops, &mut cursor, row.heard, row.answers);
 }
 
 /// A session in which the application is selected does so.
-fn is_run(rt: &impl Abort, alloc: Global, row: &Row<'_>) -> Result<Session<ObjectCard>, Fail> {
-    let mut session = selected(alloc, alloc, row.objects)?;
-    carries_out(rt, alloc, &mut session, row)?;
-    Ok(session)
+fn is_run(rt: &(impl Abort + AllocGlobal), row: &Row<'_>) -> Session<ObjectCard> {
+    let mut session = selected(rt, rt.alloc(), row.objects);
+    carries_out(rt, &mut session, row);
+    session
 }
 
 /// One operation of each kind, of which the first finds a NULL in its plan.
@@ -98,28 +91,18 @@ const EACH: Row<'static> = Row {
 };
 
 #[test]
-fn operations_in_turn(rt: HostRuntime) -> Result<(), Fail> {
-    let mut session = session_over(rt.alloc(), rt.alloc(), EACH.objects)?;
-    carries_out(&rt, rt.alloc(), &mut session, &EACH)?;
-    holds(&rt, rt.alloc(), session.card(), "5F20 4A4F45; 9F36 01")
-}
-
-/// Any card of data objects will do. This one has answered five TPDUs then.
-#[test]
-fn each_answer_comes_over_the_line(rt: HostRuntime) -> Result<(), Fail> {
-    let counting = CountingCard::new(card(rt.alloc(), rt.alloc(), EACH.objects)?);
-    let mut session = Session::new(CardEnd::new(counting));
-    carries_out(&rt, rt.alloc(), &mut session, &EACH)?;
-    assert_eq!(rt; session.card().answered(), 5);
-    Ok(())
+fn operations_in_turn(rt: HostRuntime) {
+    let mut session = session_over(&rt, rt.alloc(), EACH.objects);
+    carries_out(&rt, &mut session, &EACH);
+    holds(&rt, session.card(), "5F20 4A4F45; 9F36 01");
 }
 
 /// GET DATA of the first two bytes of `5F20`.
 fn first_part(
+    rt: &(impl Abort + AllocGlobal),
     session: &mut Session<ObjectCard>,
-    alloc: Global,
     recorder: &mut Recorder,
-) -> Result<Answer, Fail> {
+) -> Answer {
     let get = Header {
         cla: 0x00,
         ins: 0xCA,
@@ -128,15 +111,16 @@ fn first_part(
     };
     let command = Command::new(get, &[], Some(2)).unwrap();
     let mut plans = Plans::<Global>::over(&[]);
-    Ok(session.transmit(alloc, command, &mut plans, recorder)?)
+    let ended = session.transmit(rt.alloc(), command, &mut plans, recorder);
+    ended.expect(rt, "an answer")
 }
 
 /// GET RESPONSE of more than is left.
 fn other_part(
+    rt: &(impl Abort + AllocGlobal),
     session: &mut Session<ObjectCard>,
-    alloc: Global,
     recorder: &mut Recorder,
-) -> Result<Answer, Fail> {
+) -> Answer {
     let rest = Header {
         cla: 0x00,
         ins: 0xC0,
@@ -145,33 +129,32 @@ fn other_part(
     };
     let command = Command::new(rest, &[], Some(255)).unwrap();
     let mut plans = Plans::<Global>::over(&[]);
-    Ok(session.transmit(alloc, command, &mut plans, recorder)?)
+    let ended = session.transmit(rt.alloc(), command, &mut plans, recorder);
+    ended.expect(rt, "an answer")
 }
 
 /// The answer has this status and these data.
-fn says(rt: &impl Abort, answer: &Answer, status: u16, data: &[u8]) {
-    assert_eq!(rt; word(answer.status()), status);
-    assert_eq!(rt; answer.data(), data);
+fn says(rt: &(impl Abort + AllocGlobal), answer: &Answer, status: u16, data: &[u8]) {
+    assert!(rt; word(answer.status()) == status);
+    assert!(rt; answer.data() == data);
 }
 
 /// Two commands bring the two parts of an object. The second, a GET RESPONSE of its own, is
 /// corrected and repeated as any other.
 #[test]
-fn an_object_in_two_parts(rt: HostRuntime) -> Result<(), Fail> {
-    let mut session = selected(rt.alloc(), rt.alloc(), NAME)?;
+fn an_object_in_two_parts(rt: HostRuntime) {
+    let mut session = selected(&rt, rt.alloc(), NAME);
     let mut recorder = Recorder::new(rt.alloc());
-    let first = first_part(&mut session, rt.alloc(), &mut recorder)?;
+    let first = first_part(&rt, &mut session, &mut recorder);
     says(&rt, &first, 0x6104, &[0x5F, 0x20]);
-    let other = other_part(&mut session, rt.alloc(), &mut recorder)?;
+    let other = other_part(&rt, &mut session, &mut recorder);
     says(&rt, &other, 0x9000, &[0x03, 0x4A, 0x4F, 0x45]);
     let heard = "> 00CA5F2002 < CA5F206104 > 00C00000FF < 6C04 > 00C0000004 < C0034A4F459000";
-    assert_eq!(rt; recorder.heard(), characters(rt.alloc(), heard)?.as_slice());
-    Ok(())
+    assert!(rt; recorder.heard() == characters(&rt, heard).as_slice());
 }
 
-/// The card has taken the piece `AA` of a chain for `5F20`, and is busy.
-fn with_a_chain(rt: &impl Abort, alloc: Global) -> Result<Session<ObjectCard>, Fail> {
-    let mut session = selected(alloc, alloc, NAME)?;
+/// The session sends the piece `AA` of a chain for `5F20`.
+fn send_piece(rt: &(impl Abort + AllocGlobal), session: &mut Session<ObjectCard>) -> Answer {
     let piece = Header {
         cla: 0x10,
         ins: 0xDA,
@@ -180,66 +163,71 @@ fn with_a_chain(rt: &impl Abort, alloc: Global) -> Result<Session<ObjectCard>, F
     };
     let command = Command::new(piece, &[0xAA], None).unwrap();
     let mut cursor = Plans::<Global>::over(&[]);
-    let answer = session.transmit(alloc, command, &mut cursor, &mut Silent)?;
-    assert_eq!(rt; word(answer.status()), 0x9000);
+    let ended = session.transmit(rt.alloc(), command, &mut cursor, &mut Silent);
+    ended.expect(rt, "an answer")
+}
+
+/// The card has taken a piece of a chain, and is busy.
+fn with_a_chain(rt: &(impl Abort + AllocGlobal)) -> Session<ObjectCard> {
+    let mut session = selected(rt, rt.alloc(), NAME);
+    says(rt, &send_piece(rt, &mut session), 0x9000, &[]);
     assert!(rt; !session.is_idle());
-    Ok(session)
+    session
 }
 
 /// Any other command, refused, ends a chain.
 #[test]
-fn a_chain_is_pending(rt: HostRuntime) -> Result<(), Fail> {
-    let mut session = with_a_chain(&rt, rt.alloc())?;
-    let get = Header {
-        cla: 0x00,
-        ins: 0xCA,
-        p1: 0x5F,
-        p2: 0x20,
-    };
-    let command = Command::new(get, &[], Some(256)).unwrap();
-    let mut cursor = Plans::<Global>::over(&[]);
-    let answer = session.transmit(rt.alloc(), command, &mut cursor, &mut Silent)?;
-    assert_eq!(rt; word(answer.status()), 0x6883);
+fn a_chain_is_pending(rt: HostRuntime) {
+    let mut session = with_a_chain(&rt);
+    let mut recorder = Recorder::new(rt.alloc());
+    let refused = first_part(&rt, &mut session, &mut recorder);
+    says(&rt, &refused, 0x6883, &[]);
     assert!(rt; session.is_idle());
-    holds(&rt, rt.alloc(), session.card(), NAME)
+    holds(&rt, session.card(), NAME);
 }
 
 #[test]
-fn a_chain_does_not_outlive_a_reset(rt: HostRuntime) -> Result<(), Fail> {
-    let mut session = with_a_chain(&rt, rt.alloc())?;
+fn a_chain_does_not_outlive_a_reset(rt: HostRuntime) {
+    let mut session = with_a_chain(&rt);
     session.reset();
-    let ops = operations(rt.alloc(), "get 5F20; select A0000000031010; put 5F20 BB")?;
+    let row = Row {
+        objects: NAME,
+        plans: "",
+        operations: "get 5F20; select A0000000031010; put 5F20 BB",
+        heard: "> 00CA5F2000 < 6985 > 00A4040007 < A4 > A0000000031010 < 610B > 00C000000B \
+                < C06F098407A00000000310109000 > 00DA5F2001 < DA > BB < 9000",
+        answers: "6985; 9000 6F098407A0000000031010; 9000",
+    };
+    carries_out(&rt, &mut session, &row);
+    holds(&rt, session.card(), "5F20 BB");
+}
+
+/// No operations are carried out, and no plan is used.
+fn does_nothing(
+    rt: &(impl Abort + AllocGlobal),
+    session: &mut Session<ObjectCard>,
+    plans: &mut Plans<'_>,
+) {
+    let mut recorder = Recorder::new(rt.alloc());
     let mut out = Answers::new(rt.alloc());
-    let mut cursor = Plans::<Global>::over(&[]);
-    carried_out(
-        &mut session,
-        rt.alloc(),
-        &ops,
-        &mut cursor,
-        &mut Silent,
-        &mut out,
-    )?;
-    let answers = "6985; 9000 6F098407A0000000031010; 9000";
-    are_answered(&rt, rt.alloc(), &out, answers)?;
-    holds(&rt, rt.alloc(), session.card(), "5F20 BB")
+    let ended = ran(rt, session, rt.alloc(), &[], plans, &mut recorder, &mut out);
+    assert!(rt; ended.is_ok() && out.len() == 0 && recorder.heard().is_empty());
 }
 
 /// The plan is left for the operation that comes then.
 #[test]
-fn no_operations(rt: HostRuntime) -> Result<(), Fail> {
-    let plans = plans(rt.alloc(), "n:256")?;
-    let get = operations(rt.alloc(), "get 9F36")?;
-    let mut session = selected(rt.alloc(), rt.alloc(), NAME)?;
+fn no_operations(rt: HostRuntime) {
+    let plans = plans(&rt, "n:256");
+    let get = operations(&rt, "get 9F36");
+    let mut session = selected(&rt, rt.alloc(), NAME);
     let mut cursor = Plans::over(&plans);
-    let out = passes(&rt, rt.alloc(), &mut session, &[], &mut cursor, "")?;
-    assert_eq!(rt; out.len(), 0);
+    does_nothing(&rt, &mut session, &mut cursor);
     let trace = "> 00CA9F3600 < 606A88";
-    let out = passes(&rt, rt.alloc(), &mut session, &get, &mut cursor, trace)?;
-    are_answered(&rt, rt.alloc(), &out, "6A88")
+    passes(&rt, &mut session, &get, &mut cursor, trace, "6A88");
 }
 
 #[test]
-fn gets(rt: HostRuntime) -> Result<(), Fail> {
+fn gets(rt: HostRuntime) {
     for row in [
         Row {
             objects: NAME,
@@ -294,13 +282,12 @@ fn gets(rt: HostRuntime) -> Result<(), Fail> {
             answers: "6A88; 6A82; 9000 5F20034A4F45",
         },
     ] {
-        is_run(&rt, rt.alloc(), &row)?;
+        is_run(&rt, &row);
     }
-    Ok(())
 }
 
 #[test]
-fn puts(rt: HostRuntime) -> Result<(), Fail> {
+fn puts(rt: HostRuntime) {
     for row in [
         Row {
             objects: NAME,
@@ -349,13 +336,12 @@ fn puts(rt: HostRuntime) -> Result<(), Fail> {
             answers: "9000",
         },
     ] {
-        is_run(&rt, rt.alloc(), &row)?;
+        is_run(&rt, &row);
     }
-    Ok(())
 }
 
 #[test]
-fn long_values(rt: HostRuntime) -> Result<(), Fail> {
+fn long_values(rt: HostRuntime) {
     for row in [
         Row {
             objects: NAME,
@@ -385,14 +371,13 @@ fn long_values(rt: HostRuntime) -> Result<(), Fail> {
             answers: "9000; 9000 5F20822000 42*8192",
         },
     ] {
-        is_run(&rt, rt.alloc(), &row)?;
+        is_run(&rt, &row);
     }
-    Ok(())
 }
 
 /// The piece that passes what the card holds is refused, and no other follows.
 #[test]
-fn values_that_are_too_long(rt: HostRuntime) -> Result<(), Fail> {
+fn values_that_are_too_long(rt: HostRuntime) {
     for row in [
         Row {
             objects: NAME,
@@ -409,16 +394,15 @@ fn values_that_are_too_long(rt: HostRuntime) -> Result<(), Fail> {
             answers: "6700",
         },
     ] {
-        let session = is_run(&rt, rt.alloc(), &row)?;
-        holds(&rt, rt.alloc(), session.card(), NAME)?;
+        let session = is_run(&rt, &row);
+        holds(&rt, session.card(), NAME);
     }
-    Ok(())
 }
 
 /// The 65th tag finds no place. One of the 64 has its value replaced in its place.
 #[test]
-fn a_full_table_takes_no_new_tag(rt: HostRuntime) -> Result<(), Fail> {
-    let full = full(rt.alloc())?;
+fn a_full_table_takes_no_new_tag(rt: HostRuntime) {
+    let full = full(&rt);
     let row = Row {
         objects: &full,
         plans: "",
@@ -426,7 +410,7 @@ fn a_full_table_takes_no_new_tag(rt: HostRuntime) -> Result<(), Fail> {
         heard: "> 00DADF4101 < DA > 01 < 6A84 > 00DADF0101 < DA > 02 < 9000",
         answers: "6A84; 9000",
     };
-    let session = is_run(&rt, rt.alloc(), &row)?;
-    let after = format!(in rt.alloc(); "{full}; DF01 02")?;
-    holds(&rt, rt.alloc(), session.card(), &after)
+    let session = is_run(&rt, &row);
+    let after = format!(in rt.alloc(); "{full}; DF01 02").expect(&rt, "memory");
+    holds(&rt, session.card(), &after);
 }

@@ -1,13 +1,10 @@
 //! Each growth is refused in turn, by heaps of ever more bytes.
 
-ghost use Rattle.std.specs.Prelude.{◌≤◌};
-
-use crate::trace::{aid, built, holds, passes, tag, turn};
-use crate::{BuilderFault, CardBuilder, DataCard, ObjectCard};
+use crate::trace::{add, built, end_over, holds, passes_alone, turn};
+use crate::{BuilderFault, DataCard, ObjectCard};
 use linked_list_allocator::LocalHeap;
-use std::alloc::{AllocError, Allocator, Global};
+use std::alloc::{AllocGlobal, Allocator, Global};
 use std::process::Abort;
-use std::test::Fail;
 use t0_core::{CardEnd, Plans, Turn};
 
 /// Bytes of a heap that a call does not get: they hold what was there before, and later the card
@@ -18,48 +15,61 @@ const ASIDE: usize = 16_384;
 const AMPLE: usize = 4_096;
 
 /// Takes what is free of `ASIDE`.
-fn set_aside(heap: &LocalHeap) -> Result<Vec<u8, &LocalHeap>, AllocError> {
-    Vec::with_capacity(heap, ASIDE.saturating_sub(heap.used()))
+fn set_aside<'a>(rt: &impl Abort, heap: &'a LocalHeap) -> Vec<u8, &'a LocalHeap> {
+    Vec::with_capacity(heap, ASIDE.saturating_sub(heap.used())).expect(rt, "memory")
+}
+
+/// A call that takes memory, the table before it, and the one after it where it is served.
+#[derive(Clone, Copy)]
+enum Call {
+    /// A builder takes what a line of a table says.
+    Add(&'static str, &'static str, &'static str),
+    /// A builder makes a card.
+    Finish(&'static str),
+    /// A card, its application selected, takes a put, a trace up to its status.
+    Put(&'static str, &'static str, &'static str),
+}
+
+/// Whether the call is served where nothing but what is beyond `ASIDE` is left of the heap.
+fn is_served(rt: &(impl Abort + AllocGlobal), heap: &LocalHeap, call: Call) -> bool {
+    match call {
+        Call::Add(before, line, after) => is_added(rt, heap, before, line, after),
+        Call::Finish(table) => is_finished(rt, heap, table),
+        Call::Put(before, put, after) => is_put(rt, heap, before, put, after),
+    }
 }
 
 /// Takes ever larger heaps until one serves the call. A smaller one must have refused it.
-fn serves_after_refusals<F: Fn(&LocalHeap) -> Result<bool, Fail>>(
-    alloc: Global,
-    least: usize,
-    is_served: F,
-) -> Result<(), Fail>
-    requires callable { F.IsAlwaysCallable is_served }
-    requires small { least ≤ 8192 }
-{
+fn serves_after_refusals(rt: &(impl Abort + AllocGlobal), least: u16, call: Call) {
     let mut refused = false;
     for size in (0..AMPLE).step_by(16) {
-        let heap = LocalHeap::new(alloc, ASIDE + least + size)?;
-        if !is_served(&heap)? {
-            refused = true;
-        } else if refused {
-            return Ok(());
-        } else {
-            return Err(Fail::new("no heap was too small"));
+        let heap = LocalHeap::new(rt.alloc(), ASIDE + usize::from(least) + size);
+        if is_served(rt, &heap.expect(rt, "memory"), call) {
+            assert!(rt; refused, "no heap was too small");
+            return;
         }
+        refused = true;
     }
-    Err(Fail::new("no heap was large enough"))
+    panic!(rt; "no heap was large enough");
 }
 
-/// Whether the call was served. The builder has the table `after` then, and `before` where memory
-/// was refused.
-fn is_added<A: Allocator + Copy>(
-    rt: &impl Abort,
-    alloc: Global,
-    builder: CardBuilder<A>,
-    answer: Result<(), BuilderFault>,
+/// Whether the builder takes the line. It has the table `after` then, and `before` where memory was
+/// refused.
+fn is_added(
+    rt: &(impl Abort + AllocGlobal),
+    heap: &LocalHeap,
     before: &str,
+    line: &str,
     after: &str,
-) -> Result<bool, Fail> {
+) -> bool {
+    let mut builder = built(rt, heap, before);
+    let aside = set_aside(rt, heap);
+    let answer = add(rt, &mut builder, line);
+    drop(aside);
     assert!(rt; matches!(answer, Ok(()) | Err(BuilderFault::OutOfMemory)));
-    let card = builder.finish()?;
     let table = if answer.is_ok() { after } else { before };
-    holds(rt, alloc, &card, table)?;
-    Ok(answer.is_ok())
+    holds(rt, &builder.finish().expect(rt, "memory"), table);
+    answer.is_ok()
 }
 
 const EMPTY: &str = "app A000000003";
@@ -67,175 +77,164 @@ const EMPTY: &str = "app A000000003";
 const LOCKED: &str = "app A000000003; locked 50 41";
 
 #[test]
-fn a_refused_application_leaves_the_builder(rt: HostRuntime) -> Result<(), Fail> {
-    serves_after_refusals(rt.alloc(), 0, |heap| {
-        let mut builder = CardBuilder::new(heap);
-        let aside = set_aside(heap)?;
-        let answer = builder.app(aid(rt.alloc(), "A000000003")?);
-        drop(aside);
-        assert!(rt; matches!(answer, Ok(()) | Err(BuilderFault::OutOfMemory)));
-        let apps = if answer.is_ok() { 1 } else { 0 };
-        assert_eq!(rt; builder.finish()?.apps().count(), apps);
-        Ok(answer.is_ok())
-    })
+fn a_refused_application_leaves_the_builder(rt: HostRuntime) {
+    serves_after_refusals(&rt, 0, Call::Add("", EMPTY, EMPTY));
 }
 
 #[test]
-fn a_refused_object_leaves_the_builder(rt: HostRuntime) -> Result<(), Fail> {
-    serves_after_refusals(rt.alloc(), 0, |heap| {
-        let mut builder = built(heap, rt.alloc(), EMPTY)?;
-        let aside = set_aside(heap)?;
-        let answer = builder.locked(tag(rt.alloc(), "50")?, b"\x41");
-        drop(aside);
-        is_added(&rt, rt.alloc(), builder, answer, EMPTY, LOCKED)
-    })
+fn a_refused_object_leaves_the_builder(rt: HostRuntime) {
+    serves_after_refusals(&rt, 0, Call::Add(EMPTY, "locked 50 41", LOCKED));
 }
 
 #[test]
-fn a_refused_value_leaves_the_one_before(rt: HostRuntime) -> Result<(), Fail> {
-    serves_after_refusals(rt.alloc(), 0, |heap| {
-        let mut builder = built(heap, rt.alloc(), LOCKED)?;
-        let aside = set_aside(heap)?;
-        let answer = builder.object(tag(rt.alloc(), "50")?, b"\x42");
-        drop(aside);
-        let after = "app A000000003; object 50 42";
-        is_added(&rt, rt.alloc(), builder, answer, LOCKED, after)
-    })
+fn a_refused_value_leaves_the_one_before(rt: HostRuntime) {
+    let after = "app A000000003; object 50 42";
+    serves_after_refusals(&rt, 0, Call::Add(LOCKED, "object 50 42", after));
+}
+
+/// Whether no byte is left of the heap.
+fn is_exhausted(heap: &LocalHeap, least: usize) -> bool {
+    let more: Result<Vec<u8, &LocalHeap>, _> = Vec::with_capacity(heap, least);
+    more.is_err()
+}
+
+/// Whether a builder with this table makes a card, which takes the room of a chain.
+fn is_finished(rt: &(impl Abort + AllocGlobal), heap: &LocalHeap, table: &str) -> bool {
+    let builder = built(rt, heap, table);
+    let _aside = set_aside(rt, heap);
+    let Ok(card) = builder.finish() else {
+        return false;
+    };
+    assert!(rt; is_exhausted(heap, 64));
+    holds(rt, &card, table);
+    true
 }
 
 #[test]
-fn finish_takes_the_room_of_the_chain(rt: HostRuntime) -> Result<(), Fail> {
-    serves_after_refusals(rt.alloc(), 8_128, |heap| {
-        let builder = built(heap, rt.alloc(), EMPTY)?;
-        let _aside = set_aside(heap)?;
-        let Ok(card) = builder.finish() else {
-            return Ok(false);
-        };
-        let more: Result<Vec<u8, &LocalHeap>, AllocError> = Vec::with_capacity(heap, 64);
-        assert!(rt; more.is_err());
-        holds(&rt, rt.alloc(), &card, EMPTY)?;
-        Ok(true)
-    })
+fn finish_takes_the_room_of_the_chain(rt: HostRuntime) {
+    serves_after_refusals(&rt, 8_128, Call::Finish(EMPTY));
 }
 
 const SELECT: &str = "> 00A4040007 < A4 > A0000000031010 < 610B";
 
-/// A card with this table in this memory, at its end of the line.
-fn end_over<A: Allocator + Copy>(
-    memory: A,
-    alloc: Global,
-    table: &str,
-) -> Result<CardEnd<ObjectCard<A>>, Fail> {
-    Ok(CardEnd::new(built(memory, alloc, table)?.finish()?))
-}
-
-/// The selection passes and then the trace, both without plans.
-fn passes_selected<A: Allocator + Copy>(
-    rt: &impl Abort,
-    alloc: Global,
-    end: &mut CardEnd<ObjectCard<A>>,
-    trace: &str,
-) -> Result<(), Fail> {
+/// What a card sends next, or 0 where it listens.
+fn sent<A: Allocator + Copy>(end: &mut CardEnd<ObjectCard<A>>) -> u8 {
     let mut plans = Plans::<Global>::over(&[]);
-    passes(rt, alloc, end, &mut plans, SELECT)?;
-    passes(rt, alloc, end, &mut plans, trace)
+    match turn(end, &mut plans) {
+        Turn::Sends(byte) => byte,
+        Turn::Listens => 0,
+    }
 }
 
-/// The status of a put, a trace up to its status, to the card, selected, where no memory is free.
+/// The status of a put to the card, where no memory is free but what is beyond `ASIDE`.
 fn status_in_want(
-    rt: &impl Abort,
-    alloc: Global,
+    rt: &(impl Abort + AllocGlobal),
     heap: &LocalHeap,
     end: &mut CardEnd<ObjectCard<&LocalHeap>>,
     put: &str,
-) -> Result<(Turn, Turn), Fail> {
-    let mut plans = Plans::<Global>::over(&[]);
-    passes(rt, alloc, end, &mut plans, SELECT)?;
-    let aside = set_aside(heap)?;
-    passes(rt, alloc, end, &mut plans, put)?;
-    let status = (turn(end, &mut plans), turn(end, &mut plans));
-    drop(aside);
-    Ok(status)
+) -> u16 {
+    let _aside = set_aside(rt, heap);
+    passes_alone(rt, end, put);
+    u16::from_be_bytes([sent(end), sent(end)])
 }
 
-/// The card holds the table `before`, takes the put, and holds the table `after`.
-fn is_served<A: Allocator + Copy>(
-    rt: &impl Abort,
-    alloc: Global,
-    end: &mut CardEnd<ObjectCard<A>>,
-    before: &str,
-    put: &str,
-    after: &str,
-) -> Result<(), Fail> {
-    holds(rt, alloc, end.card(), before)?;
-    let mut plans = Plans::<Global>::over(&[]);
-    passes(rt, alloc, end, &mut plans, put)?;
-    passes(rt, alloc, end, &mut plans, "< 9000")?;
-    holds(rt, alloc, end.card(), after)
-}
-
-/// Whether the put, a trace up to its status, was served: the table `before` is then `after`. Else
-/// it is answered `6581`, the table stays, and the put is served once there is memory.
+/// Whether the put was served: the table `before` is then `after`. Else it is answered `6581`, the
+/// table stays, and the put is served once there is memory.
 fn is_put(
-    rt: &impl Abort,
-    alloc: Global,
+    rt: &(impl Abort + AllocGlobal),
     heap: &LocalHeap,
     before: &str,
     put: &str,
     after: &str,
-) -> Result<bool, Fail> {
-    let mut end = end_over(heap, alloc, before)?;
-    let status = status_in_want(rt, alloc, heap, &mut end, put)?;
+) -> bool {
+    let mut end = end_over(rt, heap, before);
+    passes_alone(rt, &mut end, SELECT);
+    let status = status_in_want(rt, heap, &mut end, put);
     assert!(rt; end.card().is_idle());
-    if status == (Turn::Sends(0x90), Turn::Sends(0x00)) {
-        holds(rt, alloc, end.card(), after)?;
-        return Ok(true);
+    if status != 0x9000 {
+        assert!(rt; status == 0x6581);
+        is_served_later(rt, &mut end, before, put);
     }
-    assert_eq!(rt; status, (Turn::Sends(0x65), Turn::Sends(0x81)));
-    is_served(rt, alloc, &mut end, before, put, after)?;
-    Ok(false)
+    holds(rt, end.card(), after);
+    status == 0x9000
+}
+
+/// The card holds the table `before`, and takes the put.
+fn is_served_later<A: Allocator + Copy>(
+    rt: &(impl Abort + AllocGlobal),
+    end: &mut CardEnd<ObjectCard<A>>,
+    before: &str,
+    put: &str,
+) {
+    holds(rt, end.card(), before);
+    passes_alone(rt, end, put);
+    passes_alone(rt, end, "< 9000");
 }
 
 #[test]
-fn a_put_that_is_refused_memory_changes_no_entry(rt: HostRuntime) -> Result<(), Fail> {
-    serves_after_refusals(rt.alloc(), 0, |heap| {
-        let put = "> 00DA9F3601 < DA > 01";
-        let after = "app A0000000031010; object 9F36 01";
-        is_put(&rt, rt.alloc(), heap, "app A0000000031010", put, after)
-    })?;
-    serves_after_refusals(rt.alloc(), 0, |heap| {
-        let before = "app A0000000031010; object 5F20 4A4F45; object 50 41";
-        let put = "> 10DA5F20FF < DA > 42*255 < 9000 > 00DA5F2001 < DA > 42";
-        let after = "app A0000000031010; object 5F20 42*256; object 50 41";
-        is_put(&rt, rt.alloc(), heap, before, put, after)
-    })
+fn a_put_that_is_refused_memory_changes_no_entry(rt: HostRuntime) {
+    let new = Call::Put(
+        "app A0000000031010",
+        "> 00DA9F3601 < DA > 01",
+        "app A0000000031010; object 9F36 01",
+    );
+    serves_after_refusals(&rt, 0, new);
+    let held = Call::Put(
+        "app A0000000031010; object 5F20 4A4F45; object 50 41",
+        "> 10DA5F20FF < DA > 42*255 < 9000 > 00DA5F2001 < DA > 42",
+        "app A0000000031010; object 5F20 42*256; object 50 41",
+    );
+    serves_after_refusals(&rt, 0, held);
 }
 
 /// Takes all that is left of the heap, however it is cut up.
-fn exhausted(alloc: Global, heap: &LocalHeap) -> Result<Vec<Vec<u8, &LocalHeap>>, AllocError> {
-    let mut taken = Vec::new(alloc);
+fn exhausted<'a>(
+    rt: &(impl Abort + AllocGlobal),
+    heap: &'a LocalHeap,
+) -> Vec<Vec<u8, &'a LocalHeap>> {
+    let mut taken = Vec::new(rt.alloc());
     for _ in 0..2 * ASIDE / 16 {
         match Vec::with_capacity(heap, 16) {
-            Ok(block) => taken.push(block)?,
+            Ok(block) => taken.push(block).expect(rt, "memory"),
             Err(_) => break,
         }
     }
-    Ok(taken)
+    taken
+}
+
+/// A card in this memory, its application selected.
+fn selected<'a>(
+    rt: &(impl Abort + AllocGlobal),
+    heap: &'a LocalHeap,
+    table: &str,
+) -> CardEnd<ObjectCard<&'a LocalHeap>> {
+    let mut end = end_over(rt, heap, table);
+    passes_alone(rt, &mut end, SELECT);
+    end
+}
+
+/// The trace passes where no memory is left.
+fn passes_in_want(
+    rt: &(impl Abort + AllocGlobal),
+    heap: &LocalHeap,
+    end: &mut CardEnd<ObjectCard<&LocalHeap>>,
+    trace: &str,
+) {
+    let _taken = exhausted(rt, heap);
+    assert!(rt; is_exhausted(heap, 1));
+    passes_alone(rt, end, trace);
 }
 
 /// Where no memory is left, the trace passes all the same, and the table stays.
-fn takes_no_memory(rt: &impl Abort, alloc: Global, table: &str, trace: &str) -> Result<(), Fail> {
-    let heap = LocalHeap::new(alloc, 2 * ASIDE)?;
-    let mut end = end_over(&heap, alloc, table)?;
-    let _taken = exhausted(alloc, &heap)?;
-    let more: Result<Vec<u8, &LocalHeap>, AllocError> = Vec::with_capacity(&heap, 1);
-    assert!(rt; more.is_err());
-    passes_selected(rt, alloc, &mut end, trace)?;
-    holds(rt, alloc, end.card(), table)
+fn takes_no_memory(rt: &(impl Abort + AllocGlobal), table: &str, trace: &str) {
+    let heap = LocalHeap::new(rt.alloc(), 2 * ASIDE).expect(rt, "memory");
+    let mut end = selected(rt, &heap, table);
+    passes_in_want(rt, &heap, &mut end, trace);
+    holds(rt, end.card(), table);
 }
 
 #[test]
-fn only_a_put_that_is_not_refused_takes_memory(rt: HostRuntime) -> Result<(), Fail> {
+fn only_a_put_that_is_not_refused_takes_memory(rt: HostRuntime) {
     let table = "app A0000000031010; object 5F20 4A4F45; locked 50 41";
     for trace in [
         "> 00C000000B < C0 6F098407A0000000031010 9000 > 00CA5F2002 < CA 5F20 6104 \
@@ -245,40 +244,47 @@ fn only_a_put_that_is_not_refused_takes_memory(rt: HostRuntime) -> Result<(), Fa
         "> 00DA005001 < 6982",
         "> 00DA9F3601 < DA > 01 < 6581",
     ] {
-        takes_no_memory(&rt, rt.alloc(), table, trace)?;
+        takes_no_memory(&rt, table, trace);
     }
-    let mut full = format!(in rt.alloc(); "app A0000000031010")?;
-    for last in 0x01..=0x40u8 {
-        full = format!(in rt.alloc(); "{full}; object DF{last:02X} -")?;
-    }
-    takes_no_memory(&rt, rt.alloc(), &full, "> 00DADF4101 < DA > 01 < 6A84")
+    let full = empties(&rt, 0x40);
+    takes_no_memory(&rt, &full, "> 00DADF4101 < DA > 01 < 6A84");
 }
 
-/// Where 16 bytes are left, a put of as many under a tag that is held is served, and changes the
-/// table to the other.
-fn is_put_in_its_place(
-    rt: &impl Abort,
-    alloc: Global,
-    before: &str,
+/// A table of empty objects, from `DF01` on to this last byte.
+fn empties(rt: &(impl Abort + AllocGlobal), last: u8) -> String {
+    let mut table = format!(in rt.alloc(); "app A0000000031010").expect(rt, "memory");
+    for byte in 0x01..=last {
+        table = format!(in rt.alloc(); "{table}; object DF{byte:02X} -").expect(rt, "memory");
+    }
+    table
+}
+
+/// The put passes where 16 bytes are left.
+fn passes_in_its_place(
+    rt: &(impl Abort + AllocGlobal),
+    heap: &LocalHeap,
+    end: &mut CardEnd<ObjectCard<&LocalHeap>>,
     put: &str,
-    after: &str,
-) -> Result<(), Fail> {
-    let heap = LocalHeap::new(alloc, 2 * ASIDE)?;
-    let mut end = end_over(&heap, alloc, before)?;
-    let mut taken = exhausted(alloc, &heap)?;
+) {
+    let mut taken = exhausted(rt, heap);
     drop(taken.pop());
-    passes_selected(rt, alloc, &mut end, put)?;
-    holds(rt, alloc, end.card(), after)
+    passes_alone(rt, end, put);
+}
+
+/// A put of 16 bytes under the last tag of a table, where as many are left, is served in its place.
+fn is_put_in_its_place(rt: &(impl Abort + AllocGlobal), last: u8) {
+    let heap = LocalHeap::new(rt.alloc(), 2 * ASIDE).expect(rt, "memory");
+    let before = empties(rt, last);
+    let put = format!(in rt.alloc(); "> 00DADF{last:02X}10 < DA > 42*16 < 9000");
+    let mut end = selected(rt, &heap, &before);
+    passes_in_its_place(rt, &heap, &mut end, &put.expect(rt, "memory"));
+    let after = format!(in rt.alloc(); "{before}; object DF{last:02X} 42*16");
+    holds(rt, end.card(), &after.expect(rt, "memory"));
 }
 
 #[test]
-fn a_put_of_a_held_tag_takes_no_place(rt: HostRuntime) -> Result<(), Fail> {
-    let mut table = format!(in rt.alloc(); "app A0000000031010")?;
-    for last in 0x01..=0x40u8 {
-        let after = format!(in rt.alloc(); "{table}; object DF{last:02X} 42*16")?;
-        table = format!(in rt.alloc(); "{table}; object DF{last:02X} -")?;
-        let put = format!(in rt.alloc(); "> 00DADF{last:02X}10 < DA > 42*16 < 9000")?;
-        is_put_in_its_place(&rt, rt.alloc(), &table, &put, &after)?;
+fn a_put_of_a_held_tag_takes_no_place(rt: HostRuntime) {
+    for last in 0x01..=0x40 {
+        is_put_in_its_place(&rt, last);
     }
-    Ok(())
 }

@@ -1,8 +1,8 @@
 //! The card simulator of the crate's page, and a terminal that uses it.
 
-use crate::trace::{aid, bytes, tag};
+use crate::trace::{aid, bytes, holds, tag};
 use crate::{Aid, CardBuilder, ObjectCard};
-use std::alloc::Global;
+use std::alloc::{AllocGlobal, Global};
 use std::process::Abort;
 use std::test::Fail;
 use t0_core::{CardEnd, Plans, Turn};
@@ -35,30 +35,24 @@ fn answer(
     Ok(())
 }
 
-/// The application holds this object and nothing else, and commands may change it.
-fn holds(
-    rt: &impl Abort,
-    card: &ObjectCard,
-    application: &Aid,
-    name: ObjectTag,
-    wanted: &[u8],
+/// The card sends these characters to those.
+fn is_answered(
+    rt: &(impl Abort + AllocGlobal),
+    end: &mut CardEnd<ObjectCard>,
+    plans: &mut Plans,
+    sent: &str,
+    wanted: &str,
 ) -> Result<(), Fail> {
-    let mut objects = 0usize;
-    for (tag, value) in card.entries(application).ok_or("no such application")? {
-        assert_eq!(rt; tag, name);
-        assert_eq!(rt; value, wanted);
-        assert!(rt; !card.is_locked(application, tag));
-        objects = objects.saturating_add(1);
-    }
-    assert_eq!(rt; objects, 1);
+    let mut heard = Vec::new(rt.alloc());
+    answer(end, plans, &bytes(rt, sent), &mut heard)?;
+    assert!(rt; heard == bytes(rt, wanted), "{sent}");
     Ok(())
 }
 
 #[test]
 fn a_terminal_uses_the_simulator(rt: HostRuntime) -> Result<(), Fail> {
-    let application = aid(rt.alloc(), "A0000000031010")?;
-    let name = tag(rt.alloc(), "5F20")?;
-    let mut end = card(rt.alloc(), application, name)?;
+    let name = tag(&rt, "5F20");
+    let mut end = card(rt.alloc(), aid(&rt, "A0000000031010"), name)?;
     let mut plans = Plans::over(&[]);
     for (sent, wanted) in [
         ("00A4040007", "A4"),
@@ -67,9 +61,8 @@ fn a_terminal_uses_the_simulator(rt: HostRuntime) -> Result<(), Fail> {
         ("00DA5F2003", "DA"),
         ("414E4E", "9000"),
     ] {
-        let mut heard = Vec::new(rt.alloc());
-        answer(&mut end, &mut plans, &bytes(rt.alloc(), sent)?, &mut heard)?;
-        assert_eq!(rt; heard, bytes(rt.alloc(), wanted)?, "{sent}");
+        is_answered(&rt, &mut end, &mut plans, sent, wanted)?;
     }
-    holds(&rt, end.card(), &application, name, b"ANN")
+    holds(&rt, end.card(), "app A0000000031010; object 5F20 414E4E");
+    Ok(())
 }

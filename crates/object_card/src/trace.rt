@@ -1,106 +1,151 @@
 //! Cards and what passes at their end of the line, as text for tests. Bytes are hexadecimal digits,
-//! where `41*253` stands for 253 bytes `41` and `-` for none.
+//! where `41*253` stands for 253 bytes `41` and `-` for none. What a test can't go on without is had
+//! by `expect`: a `?` is an exit, on which all that is alive is dropped, and each drop is one more
+//! proof.
 
-use crate::{Aid, CardBuilder, Entries, ObjectCard};
-use std::alloc::{Allocator, Global};
+use crate::{Aid, BuilderFault, CardBuilder, Entries, ObjectCard};
+use std::alloc::{AllocGlobal, Allocator, Global};
 use std::process::Abort;
-use std::test::Fail;
-use t0_core::{CardEnd, End, NotListening, Plan, Plans, Step, Turn};
+use t0_core::{CardEnd, End, Plan, Plans, Step, Turn};
 use tlv_core::{ObjectTag, Tag};
 
 /// The bytes of a text.
-pub fn bytes(alloc: Global, text: &str) -> Result<Vec<u8>, Fail> {
-    let mut bytes = Vec::new(alloc);
+pub fn bytes(rt: &(impl Abort + AllocGlobal), text: &str) -> Vec<u8> {
+    let mut bytes = Vec::new(rt.alloc());
     let (digits, times) = match text.split_once('*') {
-        Some((digits, times)) => (digits, times.parse::<u16>()?),
+        Some((digits, times)) => (digits, times.parse::<u16>().expect(rt, "a number")),
         None => (text, 1),
     };
     for _ in 0..times {
-        for pair in digits.as_bytes().as_chunks::<2>().0 {
-            bytes.push((digit(pair[0])? << 4) | digit(pair[1])?)?;
-        }
+        push_digits(rt, &mut bytes, digits);
     }
-    Ok(bytes)
+    bytes
 }
 
-fn digit(letter: u8) -> Result<u8, Fail> {
+/// Appends the bytes of digits.
+fn push_digits(rt: &impl Abort, bytes: &mut Vec<u8>, digits: &str) {
+    for pair in digits.as_bytes().as_chunks::<2>().0 {
+        let byte = (digit(rt, pair[0]) << 4) | digit(rt, pair[1]);
+        bytes.push(byte).expect(rt, "memory");
+    }
+}
+
+fn digit(rt: &impl Abort, letter: u8) -> u8 {
     match letter {
-        b'0'..=b'9' => Ok(letter - b'0'),
-        b'A'..=b'F' => Ok(letter - b'A' + 10),
-        _ => Err("no digit".into()),
+        b'0'..=b'9' => letter - b'0',
+        b'A'..=b'F' => letter - b'A' + 10,
+        _ => panic!(rt; "no digit"),
     }
 }
 
 /// The identifier of a text.
-pub fn aid(alloc: Global, text: &str) -> Result<Aid, Fail> {
-    Ok(Aid::new(&bytes(alloc, text)?).ok_or("no identifier")?)
+pub fn aid(rt: &(impl Abort + AllocGlobal), text: &str) -> Aid {
+    Aid::new(&bytes(rt, text)).expect(rt, "an identifier")
 }
 
 /// The tag of a text.
-pub fn tag(alloc: Global, text: &str) -> Result<ObjectTag, Fail> {
-    let Ok((tag, _)) = Tag::read(&bytes(alloc, text)?) else {
-        return Err("no tag".into());
-    };
-    Ok(ObjectTag::new(tag).ok_or("no address")?)
+pub fn tag(rt: &(impl Abort + AllocGlobal), text: &str) -> ObjectTag {
+    let (tag, _) = Tag::read(&bytes(rt, text)).expect(rt, "a tag");
+    ObjectTag::new(tag).expect(rt, "an address")
 }
 
 /// Adds what a line of a table says. Without a clause: what is proved of it is nothing that a test
 /// has to know, and costs each proof that has it at hand.
-fn add<A: Allocator + Copy>(
+pub fn add<A: Allocator + Copy>(
+    rt: &(impl Abort + AllocGlobal),
     builder: &mut CardBuilder<A>,
-    alloc: Global,
     line: &str,
-) -> Result<(), Fail> {
-    let (word, rest) = line.split_once(' ').ok_or("no words")?;
+) -> Result<(), BuilderFault> {
+    let (word, rest) = line.split_once(' ').expect(rt, "words");
     match rest.split_once(' ') {
-        Some((name, value)) if word == "locked" => {
-            builder.locked(tag(alloc, name)?, &bytes(alloc, value)?)?;
+        Some((name, value)) => {
+            add_object(builder, tag(rt, name), &bytes(rt, value), word == "locked")
         }
-        Some((name, value)) => builder.object(tag(alloc, name)?, &bytes(alloc, value)?)?,
-        None => builder.app(aid(alloc, rest)?)?,
+        None => builder.app(aid(rt, rest)),
     }
-    Ok(())
+}
+
+/// Adds a data object, likewise.
+fn add_object<A: Allocator + Copy>(
+    builder: &mut CardBuilder<A>,
+    tag: ObjectTag,
+    value: &[u8],
+    locked: bool,
+) -> Result<(), BuilderFault> {
+    if locked {
+        builder.locked(tag, value)
+    } else {
+        builder.object(tag, value)
+    }
 }
 
 /// A builder with the applications and data objects of a table, as
 /// `app A000000003; object 5F20 4A4F45; locked 50 41`. Each is one that it takes.
 pub fn built<A: Allocator + Copy>(
+    rt: &(impl Abort + AllocGlobal),
     memory: A,
-    alloc: Global,
     table: &str,
-) -> Result<CardBuilder<A>, Fail> {
+) -> CardBuilder<A> {
     let mut builder = CardBuilder::new(memory);
-    for line in table.split("; ") {
-        add(&mut builder, alloc, line)?;
+    if !table.is_empty() {
+        for line in table.split("; ") {
+            assert!(rt; add(rt, &mut builder, line).is_ok(), "{line}");
+        }
     }
-    Ok(builder)
+    builder
+}
+
+/// A table of 64 data objects, `DF01` to `DF40`, each with a byte that its tag and the mark make.
+pub fn full(rt: &(impl Abort + AllocGlobal), mark: u8) -> String {
+    let mut table = format!(in rt.alloc(); "app A0000000031010").expect(rt, "memory");
+    for last in 0x01..=0x40u8 {
+        let value = last ^ mark;
+        table = format!(in rt.alloc(); "{table}; object DF{last:02X} {value:02X}").expect(
+            rt, "memory",
+        );
+    }
+    table
+}
+
+/// A card with a table, at its end of the line.
+pub fn end_over<A: Allocator + Copy>(
+    rt: &(impl Abort + AllocGlobal),
+    memory: A,
+    table: &str,
+) -> CardEnd<ObjectCard<A>> {
+    CardEnd::new(built(rt, memory, table).finish().expect(rt, "memory"))
 }
 
 /// The entries of an application, likewise without a clause.
 fn entries<'a, A: Allocator + Copy>(
+    rt: &impl Abort,
     card: &'a ObjectCard<A>,
     aid: &Aid,
-) -> Result<Entries<'a, A>, Fail> {
-    Ok(card.entries(aid).ok_or("an application")?)
+) -> Entries<'a, A> {
+    card.entries(aid).expect(rt, "an application")
 }
 
-/// The two cards hold the same in an application.
+/// Whether an entry is locked, likewise.
+fn is_locked<A: Allocator + Copy>(card: &ObjectCard<A>, aid: &Aid, tag: ObjectTag) -> bool {
+    card.is_locked(aid, tag)
+}
+
+/// Whether the two cards hold the same in an application.
 fn hold_alike<A: Allocator + Copy>(
     rt: &impl Abort,
     card: &ObjectCard<A>,
     wanted: &ObjectCard,
     aid: &Aid,
-    table: &str,
-) -> Result<(), Fail> {
-    assert!(rt; entries(card, aid)?.eq(entries(wanted, aid)?), "{table}");
-    for (tag, _) in entries(wanted, aid)? {
-        assert_eq!(rt;
-            card.is_locked(aid, tag),
-            wanted.is_locked(aid, tag),
-            "{table}"
-        );
+) -> bool {
+    if !entries(rt, card, aid).eq(entries(rt, wanted, aid)) {
+        return false;
     }
-    Ok(())
+    for (tag, _) in entries(rt, wanted, aid) {
+        if is_locked(card, aid, tag) != is_locked(wanted, aid, tag) {
+            return false;
+        }
+    }
+    true
 }
 
 /// The two cards hold the same.
@@ -109,68 +154,80 @@ fn are_alike<A: Allocator + Copy>(
     card: &ObjectCard<A>,
     wanted: &ObjectCard,
     table: &str,
-) -> Result<(), Fail> {
+) {
     assert!(rt; card.apps().eq(wanted.apps()), "{table}");
     for aid in wanted.apps() {
-        hold_alike(rt, card, wanted, &aid, table)?;
+        assert!(rt; hold_alike(rt, card, wanted, &aid), "{table}");
     }
-    Ok(())
 }
 
 /// The card holds what this table says, in this order and with these locks, and nothing else.
 pub fn holds<A: Allocator + Copy>(
-    rt: &impl Abort,
-    alloc: Global,
+    rt: &(impl Abort + AllocGlobal),
     card: &ObjectCard<A>,
     table: &str,
-) -> Result<(), Fail> {
-    let wanted = built(alloc, alloc, table)?.finish()?;
-    are_alike(rt, card, &wanted, table)
+) {
+    let wanted = built(rt, rt.alloc(), table).finish().expect(rt, "memory");
+    are_alike(rt, card, &wanted, table);
 }
 
 /// Plans of these steps and cuts, as `-:1 nona:256`: `n` is a NULL, `o` moves one data character,
 /// `a` all that remain, and `-` stands for no steps.
-pub fn plans(alloc: Global, text: &str) -> Result<Vec<Plan>, Fail> {
-    let mut plans = Vec::new(alloc);
+pub fn plans(rt: &(impl Abort + AllocGlobal), text: &str) -> Vec<Plan> {
+    let mut plans = Vec::new(rt.alloc());
     for word in text.split_whitespace() {
-        let (letters, cut) = word.split_once(':').ok_or("no cut")?;
-        let mut steps = Vec::new(alloc);
-        for letter in letters.bytes() {
-            match letter {
-                b'n' => steps.push(Step::Null)?,
-                b'o' => steps.push(Step::One)?,
-                b'a' => steps.push(Step::All)?,
-                _ => {}
-            }
-        }
-        plans.push(Plan::new(steps, cut.parse()?).ok_or("no plan")?)?;
+        plans.push(plan(rt, word)).expect(rt, "memory");
     }
-    Ok(plans)
+    plans
+}
+
+fn plan(rt: &(impl Abort + AllocGlobal), word: &str) -> Plan {
+    let (letters, cut) = word.split_once(':').expect(rt, "a cut");
+    let cut = cut.parse::<u16>().expect(rt, "a number");
+    Plan::new(steps(rt, letters), cut).expect(rt, "a plan")
+}
+
+fn steps(rt: &(impl Abort + AllocGlobal), letters: &str) -> Vec<Step> {
+    let mut steps = Vec::new(rt.alloc());
+    for letter in letters.bytes() {
+        let step = match letter {
+            b'n' => Step::Null,
+            b'o' => Step::One,
+            b'a' => Step::All,
+            _ => continue,
+        };
+        steps.push(step).expect(rt, "memory");
+    }
+    steps
 }
 
 /// What stands in a trace passes, as `> 00CA5F2000 < 6C06`: the card's end takes the characters of
 /// the terminal, and hands out those of the card, each where it alone is due; `reset` resets it.
 pub fn passes<A: Allocator + Copy, B: Allocator>(
-    rt: &impl Abort,
-    alloc: Global,
+    rt: &(impl Abort + AllocGlobal),
     end: &mut CardEnd<ObjectCard<A>>,
     plans: &mut Plans<B>,
     trace: &str,
-) -> Result<(), Fail> {
+) {
     let mut from = End::Card;
     for word in trace.split_whitespace() {
         match word {
             ">" => from = End::Terminal,
             "<" => from = End::Card,
             "reset" => end.reset(),
-            _ => {
-                for byte in bytes(alloc, word)? {
-                    moves(rt, end, plans, from, byte, trace);
-                }
-            }
+            _ => assert!(rt; move_all(end, plans, from, &bytes(rt, word)), "{trace}"),
         }
     }
-    Ok(())
+}
+
+/// The same without plans.
+pub fn passes_alone<A: Allocator + Copy>(
+    rt: &(impl Abort + AllocGlobal),
+    end: &mut CardEnd<ObjectCard<A>>,
+    trace: &str,
+) {
+    let mut plans = Plans::<Global>::over(&[]);
+    passes(rt, end, &mut plans, trace);
 }
 
 /// What the card's end does next, without a clause.
@@ -181,28 +238,36 @@ pub fn turn<A: Allocator + Copy, B: Allocator>(
     end.turn(plans)
 }
 
-/// What the card's end says to a character, without a clause.
-fn take<A: Allocator + Copy>(
-    end: &mut CardEnd<ObjectCard<A>>,
-    byte: u8,
-) -> Result<(), NotListening> {
-    end.take(byte)
+/// Whether the card's end takes a character, without a clause.
+pub fn is_taken<A: Allocator + Copy>(end: &mut CardEnd<ObjectCard<A>>, byte: u8) -> bool {
+    end.take(byte).is_ok()
 }
 
-/// One character passes.
+/// Whether these characters pass.
+fn move_all<A: Allocator + Copy, B: Allocator>(
+    end: &mut CardEnd<ObjectCard<A>>,
+    plans: &mut Plans<B>,
+    from: End,
+    bytes: &[u8],
+) -> bool {
+    for byte in bytes {
+        if !moves(end, plans, from, *byte) {
+            return false;
+        }
+    }
+    true
+}
+
+/// Whether one character passes.
 fn moves<A: Allocator + Copy, B: Allocator>(
-    rt: &impl Abort,
     end: &mut CardEnd<ObjectCard<A>>,
     plans: &mut Plans<B>,
     from: End,
     byte: u8,
-    trace: &str,
-) {
+) -> bool {
     if from == End::Terminal {
-        assert_eq!(rt; turn(end, plans), Turn::Listens, "{trace}");
-        assert_eq!(rt; take(end, byte), Ok(()), "{trace}");
+        turn(end, plans) == Turn::Listens && is_taken(end, byte)
     } else {
-        assert_eq!(rt; take(end, byte), Err(NotListening), "{trace}");
-        assert_eq!(rt; turn(end, plans), Turn::Sends(byte), "{trace}");
+        !is_taken(end, byte) && turn(end, plans) == Turn::Sends(byte)
     }
 }

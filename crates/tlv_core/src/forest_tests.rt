@@ -1,119 +1,134 @@
-ghost use Rattle.std.specs.Prelude.{◌<◌};
-
 use crate::{BuildFault, Forest, ReadFault, Reason, Tag, TlvFault, Tree};
-use std::alloc::{AllocError, Global};
-use std::test::Fail;
+use std::alloc::{AllocGlobal, Global};
+use std::process::Abort;
 
 /// Sixteen templates, each in the one before it.
 const SIXTEEN_LEVELS: &str = "701E701C701A70187016701470127010700E700C700A70087006700470027000";
 
-fn digit(text: u8) -> u8
-    ensures { result < 16 }
-{
+fn digit(rt: &impl Abort, text: u8) -> u8 {
     match text {
         b'0'..=b'9' => text - b'0',
         b'A'..=b'F' => text - b'A' + 10,
-        _ => 0,
+        _ => panic!(rt; "no digit"),
     }
 }
 
 /// The bytes of a text in hexadecimal digits.
-fn bytes(alloc: Global, text: &str) -> Result<Vec<u8>, AllocError> {
-    let mut bytes = Vec::new(alloc);
-    for pair in text.as_bytes().chunks(2) {
-        if let [high, low] = pair {
-            bytes.push(16 * digit(*high) + digit(*low))?;
-        }
+fn bytes(rt: &(impl Abort + AllocGlobal), text: &str) -> Vec<u8> {
+    let mut bytes = Vec::new(rt.alloc());
+    for pair in text.as_bytes().as_chunks::<2>().0 {
+        let byte = (digit(rt, pair[0]) << 4) | digit(rt, pair[1]);
+        bytes.push(byte).expect(rt, "memory");
     }
-    Ok(bytes)
+    bytes
 }
 
 /// The tag of one byte.
-fn tag(byte: u8) -> Result<Tag, TlvFault> {
-    let (tag, _) = Tag::read(&[byte])?;
-    Ok(tag)
+fn tag(rt: &impl Abort, byte: u8) -> Tag {
+    let (tag, _) = Tag::read(&[byte]).expect(rt, "a tag");
+    tag
+}
+
+/// The forest that a text spells. Without a clause: what is proved of it is nothing that a test has
+/// to know, and costs each proof that has it at hand.
+fn read(rt: &(impl Abort + AllocGlobal), text: &str) -> Forest<Global> {
+    Tree::read(rt.alloc(), &bytes(rt, text)).expect(rt, "a forest")
+}
+
+/// The forest is written as this text.
+fn spells(rt: &(impl Abort + AllocGlobal), forest: &Forest<Global>, text: &str) {
+    let written = forest.write().expect(rt, "memory");
+    assert!(rt; written == bytes(rt, text), "{text}");
+}
+
+/// What comes of a primitive or a template more, likewise without a clause.
+fn push(
+    rt: &impl Abort,
+    forest: &mut Forest<Global>,
+    name: u8,
+    value: Vec<u8>,
+) -> Result<(), BuildFault> {
+    forest.push_primitive(tag(rt, name), value)
+}
+
+fn push_template(
+    rt: &impl Abort,
+    forest: &mut Forest<Global>,
+    name: u8,
+    children: Forest<Global>,
+) -> Result<(), BuildFault> {
+    forest.push_template(tag(rt, name), children)
 }
 
 /// A forest of one primitive.
-fn primitive(alloc: Global, name: u8, value: Vec<u8>) -> Result<Forest<Global>, Fail> {
-    let mut forest = Forest::new(alloc);
-    forest.push_primitive(tag(name)?, value)?;
-    Ok(forest)
+fn primitive(rt: &(impl Abort + AllocGlobal), name: u8, value: Vec<u8>) -> Forest<Global> {
+    let mut forest = Forest::new(rt.alloc());
+    assert!(rt; push(rt, &mut forest, name, value).is_ok());
+    forest
 }
 
 /// A forest of one template.
-fn template(alloc: Global, name: u8, children: Forest<Global>) -> Result<Forest<Global>, Fail> {
-    let mut forest = Forest::new(alloc);
-    forest.push_template(tag(name)?, children)?;
-    Ok(forest)
+fn template(rt: &(impl Abort + AllocGlobal), name: u8, children: Forest<Global>) -> Forest<Global> {
+    let mut forest = Forest::new(rt.alloc());
+    assert!(rt; push_template(rt, &mut forest, name, children).is_ok());
+    forest
 }
 
 #[test]
-fn writes_what_was_added(rt: HostRuntime) -> Result<(), Fail> {
-    let alloc = rt.alloc();
-    let name = primitive(alloc, 0x84, bytes(alloc, "A0000000031010")?)?;
-    let information = template(alloc, 0x6F, name)?;
-    assert_eq!(rt;
-        information.write()?,
-        bytes(alloc, "6F098407A0000000031010")?
-    );
-    let empty = template(alloc, 0x70, Forest::new(alloc))?;
-    assert_eq!(rt; empty.write()?, bytes(alloc, "7000")?);
-    Ok(())
+fn writes_what_was_added(rt: HostRuntime) {
+    let name = primitive(&rt, 0x84, bytes(&rt, "A0000000031010"));
+    spells(&rt, &template(&rt, 0x6F, name), "6F098407A0000000031010");
+    let empty = template(&rt, 0x70, Forest::new(rt.alloc()));
+    spells(&rt, &empty, "7000");
+}
+
+/// So many bytes.
+fn long(rt: &(impl Abort + AllocGlobal), len: usize) -> Vec<u8> {
+    vec![in rt.alloc(); 0x41; len].expect(rt, "memory")
+}
+
+/// The longest value that a primitive takes is too long for a template with its head.
+#[test]
+fn writes_the_longest_value(rt: HostRuntime) {
+    let longest = primitive(&rt, 0x50, long(&rt, 65_535));
+    let written = longest.write().expect(&rt, "memory");
+    assert!(rt; written.len() == 65_539 && written.starts_with(&[0x50, 0x82, 0xFF, 0xFF]));
+    refuses(&rt, 0x70, longest, BuildFault::TooLong);
 }
 
 #[test]
-fn writes_the_longest_value(rt: HostRuntime) -> Result<(), Fail> {
-    let alloc = rt.alloc();
-    let longest = primitive(alloc, 0x50, vec![in alloc; 0x41; 65_535]?)?;
-    let written = longest.write()?;
-    assert_eq!(rt; written.len(), 65_539);
-    assert!(rt; written.starts_with(&[0x50, 0x82, 0xFF, 0xFF]));
-    let mut forest = Forest::new(alloc);
-    assert_eq!(rt;
-        forest.push_template(tag(0x70)?, longest),
-        Err(BuildFault::TooLong)
-    );
-    assert!(rt; forest.is_empty());
-    Ok(())
-}
-
-#[test]
-fn refuses_primitives(rt: HostRuntime) -> Result<(), Fail> {
-    let alloc = rt.alloc();
-    let mut forest = Forest::new(alloc);
+fn refuses_primitives(rt: HostRuntime) {
     for (name, len, fault) in [
         (0x70, 1, BuildFault::WrongKind),
         (0x50, 65_536, BuildFault::TooLong),
         (0x70, 65_536, BuildFault::WrongKind),
     ] {
-        let value = vec![in alloc; 0x41; len]?;
-        assert_eq!(rt; forest.push_primitive(tag(name)?, value), Err(fault));
+        let mut forest = Forest::new(rt.alloc());
+        assert!(rt; push(&rt, &mut forest, name, long(&rt, len)) == Err(fault));
         assert!(rt; forest.is_empty());
     }
-    Ok(())
+}
+
+/// An empty forest refuses a template, and stays empty.
+fn refuses(rt: &(impl Abort + AllocGlobal), name: u8, children: Forest<Global>, fault: BuildFault) {
+    let mut forest = Forest::new(rt.alloc());
+    assert!(rt; push_template(rt, &mut forest, name, children) == Err(fault));
+    assert!(rt; forest.is_empty());
 }
 
 #[test]
-fn refuses_templates(rt: HostRuntime) -> Result<(), Fail> {
-    let alloc = rt.alloc();
-    let deepest = bytes(alloc, SIXTEEN_LEVELS)?;
-    let mut forest = Forest::new(alloc);
+fn refuses_templates(rt: HostRuntime) {
     for (name, children, fault) in [
-        (0x50, [].as_slice(), BuildFault::WrongKind),
-        (0x70, deepest.as_slice(), BuildFault::TooDeep),
-        (0x50, deepest.as_slice(), BuildFault::WrongKind),
+        (0x50, "", BuildFault::WrongKind),
+        (0x70, SIXTEEN_LEVELS, BuildFault::TooDeep),
+        (0x50, SIXTEEN_LEVELS, BuildFault::WrongKind),
     ] {
-        let children = Tree::read(alloc, children)?;
-        assert_eq!(rt; forest.push_template(tag(name)?, children), Err(fault));
-        assert!(rt; forest.is_empty());
+        refuses(&rt, name, read(&rt, children), fault);
     }
-    Ok(())
 }
 
 #[test]
-fn reads_what_bytes_spell(rt: HostRuntime) -> Result<(), Fail> {
-    let alloc = rt.alloc();
+fn reads_what_bytes_spell(rt: HostRuntime) {
     for (spelled, written) in [
         ("", ""),
         ("00", ""),
@@ -128,45 +143,36 @@ fn reads_what_bytes_spell(rt: HostRuntime) -> Result<(), Fail> {
         ("DF81010142", "DF81010142"),
         (SIXTEEN_LEVELS, SIXTEEN_LEVELS),
     ] {
-        let forest = Tree::read(alloc, &bytes(alloc, spelled)?)?;
-        assert_eq!(rt; forest.write()?, bytes(alloc, written)?, "{spelled}");
+        spells(&rt, &read(&rt, spelled), written);
     }
-    Ok(())
 }
 
 #[test]
-fn gives_the_objects_by_their_places(rt: HostRuntime) -> Result<(), Fail> {
-    let alloc = rt.alloc();
-    let forest = Tree::read(alloc, &bytes(alloc, "005A01120070040051014100")?)?;
-    assert_eq!(rt; forest.len(), 2);
-    let first = forest.get(0).ok_or("no first object")?;
-    assert_eq!(rt; first.tag(), tag(0x5A)?);
-    assert_eq!(rt; first.value(), Some([0x12].as_slice()));
-    assert!(rt; first.children().is_none());
-    let second = forest.get(1).ok_or("no second object")?;
-    assert_eq!(rt; second.tag(), tag(0x70)?);
-    assert!(rt; second.value().is_none());
-    let inner = second.children().ok_or("no children")?;
-    assert_eq!(rt; inner.write()?, bytes(alloc, "510141")?);
-    assert!(rt; forest.get(2).is_none());
-    Ok(())
+fn gives_the_objects_by_their_places(rt: HostRuntime) {
+    let forest = read(&rt, "005A01120070040051014100");
+    assert!(rt; forest.len() == 2 && forest.get(2).is_none());
+    let first = forest.get(0).expect(&rt, "a first object");
+    assert!(rt; first.tag() == tag(&rt, 0x5A) && first.children().is_none());
+    assert!(rt; first.value() == Some([0x12].as_slice()));
+    let second = forest.get(1).expect(&rt, "a second object");
+    assert!(rt; second.tag() == tag(&rt, 0x70) && second.value().is_none());
+    spells(&rt, second.children().expect(&rt, "children"), "510141");
 }
 
 #[test]
-fn puts_what_was_read_into_a_template(rt: HostRuntime) -> Result<(), Fail> {
-    let alloc = rt.alloc();
-    let forest = template(
-        alloc,
-        0x70,
-        Tree::read(alloc, &bytes(alloc, "5081014100")?)?,
-    )?;
-    assert_eq!(rt; forest.write()?, bytes(alloc, "7003500141")?);
-    Ok(())
+fn puts_what_was_read_into_a_template(rt: HostRuntime) {
+    let forest = template(&rt, 0x70, read(&rt, "5081014100"));
+    spells(&rt, &forest, "7003500141");
+}
+
+/// The text has this first fault.
+fn has_fault(rt: &(impl Abort + AllocGlobal), text: &str, fault: TlvFault) {
+    let refusal = Tree::read(rt.alloc(), &bytes(rt, text)).err();
+    assert!(rt; refusal == Some(ReadFault::Tlv(fault)), "{text}");
 }
 
 #[test]
-fn finds_the_first_fault(rt: HostRuntime) -> Result<(), Fail> {
-    let alloc = rt.alloc();
+fn finds_the_first_fault(rt: HostRuntime) {
     let seventeen_levels = "7020701E701C701A70187016701470127010700E700C700A70087006700470027000";
     for (text, place, reason) in [
         ("500541", 0, Reason::ValueCut),
@@ -184,12 +190,6 @@ fn finds_the_first_fault(rt: HostRuntime) -> Result<(), Fail> {
         ("50014100500241", 4, Reason::ValueCut),
         (seventeen_levels, 32, Reason::TooDeep),
     ] {
-        let fault = Tree::read(alloc, &bytes(alloc, text)?).err();
-        assert_eq!(rt;
-            fault,
-            Some(ReadFault::Tlv(TlvFault { place, reason })),
-            "{text}"
-        );
+        has_fault(&rt, text, TlvFault { place, reason });
     }
-    Ok(())
 }

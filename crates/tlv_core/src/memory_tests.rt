@@ -2,24 +2,29 @@
 
 use crate::{BuildFault, Forest, ReadFault, Tag, Tree};
 use linked_list_allocator::LocalHeap;
-use std::alloc::{AllocError, Global};
-use std::test::Fail;
+use std::alloc::{AllocGlobal, Allocator};
+use std::process::Abort;
 
 /// The name of an application, `84`, in a template `6F`.
 const OBJECTS: [u8; 11] = [
     0x6F, 0x09, 0x84, 0x07, 0xA0, 0x00, 0x00, 0x00, 0x03, 0x10, 0x10,
 ];
 
-/// Five primitives. Room for the fifth comes by a growth.
-const PRIMITIVES: [u8; 15] = [
-    0x50, 0x01, 0x41, 0x50, 0x01, 0x41, 0x50, 0x01, 0x41, 0x50, 0x01, 0x41, 0x50, 0x01, 0x41,
-];
+/// A primitive, four and five of them. Room for the fifth comes by a growth.
+const PRIMITIVE: &[u8] = b"\x50\x01\x41";
 
-/// The same five, each in a template.
-const TEMPLATES: [u8; 25] = [
-    0x70, 0x03, 0x50, 0x01, 0x41, 0x70, 0x03, 0x50, 0x01, 0x41, 0x70, 0x03, 0x50, 0x01, 0x41, 0x70,
-    0x03, 0x50, 0x01, 0x41, 0x70, 0x03, 0x50, 0x01, 0x41,
-];
+const FOUR: &[u8] = b"\x50\x01\x41\x50\x01\x41\x50\x01\x41\x50\x01\x41";
+
+const FIVE: &[u8] = b"\x50\x01\x41\x50\x01\x41\x50\x01\x41\x50\x01\x41\x50\x01\x41";
+
+/// The same, each in a template.
+const TEMPLATE: &[u8] = b"\x70\x03\x50\x01\x41";
+
+const FOUR_TEMPLATES: &[u8] = b"\x70\x03\x50\x01\x41\x70\x03\x50\x01\x41\
+      \x70\x03\x50\x01\x41\x70\x03\x50\x01\x41";
+
+const FIVE_TEMPLATES: &[u8] = b"\x70\x03\x50\x01\x41\x70\x03\x50\x01\x41\
+      \x70\x03\x50\x01\x41\x70\x03\x50\x01\x41\x70\x03\x50\x01\x41";
 
 /// Bytes that are enough for each call here.
 const AMPLE: usize = 4096;
@@ -29,108 +34,137 @@ const AMPLE: usize = 4096;
 const ASIDE: usize = 2048;
 
 /// Takes what is free of `ASIDE`.
-fn set_aside(heap: &LocalHeap) -> Result<Vec<u8, &LocalHeap>, AllocError> {
-    Vec::with_capacity(heap, ASIDE.saturating_sub(heap.used()))
+fn set_aside<'a>(rt: &impl Abort, heap: &'a LocalHeap) -> Vec<u8, &'a LocalHeap> {
+    Vec::with_capacity(heap, ASIDE.saturating_sub(heap.used())).expect(rt, "memory")
+}
+
+/// A call that takes memory.
+#[derive(Clone, Copy)]
+enum Call {
+    Read,
+    Write,
+    /// One more primitive, or template, after these objects, and how they are written with it.
+    Push(bool, &'static [u8], &'static [u8]),
+}
+
+/// Whether the call is served where nothing but what is beyond `ASIDE` is left of the heap.
+fn is_served(rt: &(impl Abort + AllocGlobal), heap: &LocalHeap, call: Call) -> bool {
+    match call {
+        Call::Read => is_read(rt, heap),
+        Call::Write => is_written(rt, heap),
+        Call::Push(template, before, after) => is_pushed(rt, heap, template, before, after),
+    }
 }
 
 /// Takes ever larger heaps until one serves the call. A smaller one must have refused it.
-fn serves_after_refusals<F: Fn(&LocalHeap) -> Result<bool, Fail>>(
-    alloc: Global,
-    is_served: F,
-) -> Result<(), Fail>
-    requires { F.IsAlwaysCallable is_served }
-{
+fn serves_after_refusals(rt: &(impl Abort + AllocGlobal), call: Call) {
     let mut refused = false;
     for size in (0..AMPLE).step_by(16) {
-        let heap = LocalHeap::new(alloc, ASIDE + size)?;
-        if !is_served(&heap)? {
-            refused = true;
-        } else if refused {
-            return Ok(());
-        } else {
-            return Err(Fail::new("no heap was too small"));
+        let heap = LocalHeap::new(rt.alloc(), ASIDE + size).expect(rt, "memory");
+        if is_served(rt, &heap, call) {
+            assert!(rt; refused, "no heap was too small");
+            return;
+        }
+        refused = true;
+    }
+    panic!(rt; "no heap was large enough");
+}
+
+/// A forest that bytes spell. Without a clause: what is proved of it is nothing that a test has to
+/// know, and costs each proof that has it at hand.
+fn read<A: Allocator + Copy>(alloc: A, bytes: &[u8]) -> Result<Forest<A>, ReadFault> {
+    Tree::read(alloc, bytes)
+}
+
+/// The forest is written as these bytes.
+fn spells<A: Allocator + Clone>(rt: &impl Abort, forest: &Forest<A>, bytes: &[u8]) {
+    let written = forest.write().expect(rt, "memory");
+    assert!(rt; written.as_slice() == bytes);
+}
+
+fn is_read(rt: &impl Abort, heap: &LocalHeap) -> bool {
+    let aside = set_aside(rt, heap);
+    let answer = read(heap, &OBJECTS);
+    drop(aside);
+    match answer {
+        Ok(forest) => {
+            spells(rt, &forest, &OBJECTS);
+            true
+        }
+        Err(fault) => {
+            assert!(rt; fault == ReadFault::OutOfMemory);
+            false
         }
     }
-    Err(Fail::new("no heap was large enough"))
 }
 
-#[test]
-fn reading_needs_memory(rt: HostRuntime) -> Result<(), Fail> {
-    serves_after_refusals(rt.alloc(), |heap| {
-        let aside = set_aside(heap)?;
-        match Tree::read(heap, &OBJECTS) {
-            Ok(forest) => {
-                drop(aside);
-                assert_eq!(rt; forest.write()?.as_slice(), OBJECTS.as_slice());
-                Ok(true)
-            }
-            Err(fault) => {
-                assert_eq!(rt; fault, ReadFault::OutOfMemory);
-                Ok(false)
-            }
-        }
-    })
+fn is_written(rt: &impl Abort, heap: &LocalHeap) -> bool {
+    let forest = read(heap, &OBJECTS).expect(rt, "memory");
+    let _aside = set_aside(rt, heap);
+    let Ok(bytes) = forest.write() else {
+        return false;
+    };
+    assert!(rt; bytes.as_slice() == OBJECTS.as_slice());
+    true
 }
 
-#[test]
-fn writing_needs_memory(rt: HostRuntime) -> Result<(), Fail> {
-    serves_after_refusals(rt.alloc(), |heap| {
-        let forest = Tree::read(heap, &OBJECTS)?;
-        let _aside = set_aside(heap)?;
-        match forest.write() {
-            Ok(bytes) => {
-                assert_eq!(rt; bytes.as_slice(), OBJECTS.as_slice());
-                Ok(true)
-            }
-            Err(AllocError) => Ok(false),
-        }
-    })
-}
-
-#[test]
-fn a_refused_primitive_leaves_the_forest(rt: HostRuntime) -> Result<(), Fail> {
-    let ample = LocalHeap::new(rt.alloc(), AMPLE)?;
-    let (tag, _) = Tag::read(&[0x50])?;
-    for (before, after) in [
-        (&PRIMITIVES[..0], &PRIMITIVES[..3]),
-        (&PRIMITIVES[..12], &PRIMITIVES[..]),
-    ] {
-        serves_after_refusals(rt.alloc(), |heap| {
-            let mut forest = Tree::read(heap, before)?;
-            let aside = set_aside(heap)?;
-            let value = Vec::from_slice(&ample, &[0x41])?;
-            let answer = forest.push_primitive(tag, value);
-            drop(aside);
-            let left = if answer.is_ok() { after } else { before };
-            assert_eq!(rt; forest.len(), left.len() / 3);
-            assert_eq!(rt; forest.write()?.as_slice(), left);
-            assert!(rt; matches!(answer, Ok(()) | Err(BuildFault::OutOfMemory)));
-            Ok(answer.is_ok())
-        })?;
+/// Adds a primitive, or a template that holds one, in this memory. Without a clause, as `read`.
+fn push<'a>(
+    rt: &impl Abort,
+    forest: &mut Forest<&'a LocalHeap>,
+    ample: &'a LocalHeap,
+    template: bool,
+) -> Result<(), BuildFault> {
+    if template {
+        let children = read(ample, PRIMITIVE).expect(rt, "memory");
+        forest.push_template(tag(rt, 0x70), children)
+    } else {
+        let value = Vec::from_slice(ample, &[0x41]).expect(rt, "memory");
+        forest.push_primitive(tag(rt, 0x50), value)
     }
-    Ok(())
+}
+
+/// The tag of one byte.
+fn tag(rt: &impl Abort, byte: u8) -> Tag {
+    let (tag, _) = Tag::read(&[byte]).expect(rt, "a tag");
+    tag
+}
+
+fn is_pushed(
+    rt: &(impl Abort + AllocGlobal),
+    heap: &LocalHeap,
+    template: bool,
+    before: &[u8],
+    after: &[u8],
+) -> bool {
+    let ample = LocalHeap::new(rt.alloc(), AMPLE).expect(rt, "memory");
+    let mut forest = read(heap, before).expect(rt, "memory");
+    let aside = set_aside(rt, heap);
+    let answer = push(rt, &mut forest, &ample, template);
+    drop(aside);
+    assert!(rt; matches!(answer, Ok(()) | Err(BuildFault::OutOfMemory)));
+    spells(rt, &forest, if answer.is_ok() { after } else { before });
+    answer.is_ok()
 }
 
 #[test]
-fn a_refused_template_leaves_the_forest(rt: HostRuntime) -> Result<(), Fail> {
-    let ample = LocalHeap::new(rt.alloc(), AMPLE)?;
-    let (tag, _) = Tag::read(&[0x70])?;
-    for (before, after) in [
-        (&TEMPLATES[..0], &TEMPLATES[..5]),
-        (&TEMPLATES[..20], &TEMPLATES[..]),
-    ] {
-        serves_after_refusals(rt.alloc(), |heap| {
-            let mut forest = Tree::read(heap, before)?;
-            let aside = set_aside(heap)?;
-            let children = Tree::read(&ample, &PRIMITIVES[..3])?;
-            let answer = forest.push_template(tag, children);
-            drop(aside);
-            let left = if answer.is_ok() { after } else { before };
-            assert_eq!(rt; forest.len(), left.len() / 5);
-            assert_eq!(rt; forest.write()?.as_slice(), left);
-            assert!(rt; matches!(answer, Ok(()) | Err(BuildFault::OutOfMemory)));
-            Ok(answer.is_ok())
-        })?;
-    }
-    Ok(())
+fn reading_needs_memory(rt: HostRuntime) {
+    serves_after_refusals(&rt, Call::Read);
+}
+
+#[test]
+fn writing_needs_memory(rt: HostRuntime) {
+    serves_after_refusals(&rt, Call::Write);
+}
+
+#[test]
+fn a_refused_primitive_leaves_the_forest(rt: HostRuntime) {
+    serves_after_refusals(&rt, Call::Push(false, b"", PRIMITIVE));
+    serves_after_refusals(&rt, Call::Push(false, FOUR, FIVE));
+}
+
+#[test]
+fn a_refused_template_leaves_the_forest(rt: HostRuntime) {
+    serves_after_refusals(&rt, Call::Push(true, b"", TEMPLATE));
+    serves_after_refusals(&rt, Call::Push(true, FOUR_TEMPLATES, FIVE_TEMPLATES));
 }

@@ -2,9 +2,8 @@
 //! early.
 
 use crate::{BuildFault, Forest, Objects, ReadFault, Reason, Tag, TlvFault, Tree};
-use std::alloc::{AllocError, Global};
+use std::alloc::{AllocGlobal, Global};
 use std::process::Abort;
-use std::test::Fail;
 
 /// A primitive of three bytes.
 const PRIMITIVE: &[u8] = b"\x50\x01\x41";
@@ -22,202 +21,222 @@ const FAULTS: [(&[u8], Reason); 7] = [
 
 /// These bytes, of fewer than 96, in so many templates, one in the other, of which each has a head
 /// of two bytes.
-fn nested(alloc: Global, inner: &[u8], templates: usize) -> Result<Vec<u8>, AllocError> {
-    let mut bytes = Vec::from_slice(alloc, inner)?;
+fn nested(rt: &(impl Abort + AllocGlobal), inner: &[u8], templates: usize) -> Vec<u8> {
+    let mut bytes = Vec::from_slice(rt.alloc(), inner).expect(rt, "memory");
     for _ in 0..templates {
-        let mut outer = Vec::from_slice(alloc, &[0x70, (bytes.len() % 128) as u8])?;
-        outer.extend_from_slice(&bytes)?;
-        bytes = outer;
+        bytes = in_template(rt, &bytes);
     }
-    Ok(bytes)
+    bytes
+}
+
+/// Bytes in a template with a head of two bytes.
+fn in_template(rt: &(impl Abort + AllocGlobal), inner: &[u8]) -> Vec<u8> {
+    let head = [0x70, (inner.len() % 128) as u8];
+    let mut outer = Vec::from_slice(rt.alloc(), &head).expect(rt, "memory");
+    outer.extend_from_slice(inner).expect(rt, "memory");
+    outer
 }
 
 /// The tag of one byte.
-fn tag(byte: u8) -> Result<Tag, TlvFault> {
-    let (tag, _) = Tag::read(&[byte])?;
-    Ok(tag)
+fn tag(rt: &impl Abort, byte: u8) -> Tag {
+    let (tag, _) = Tag::read(&[byte]).expect(rt, "a tag");
+    tag
 }
 
 /// The bytes spell a forest, whose own spelling they are.
-fn is_read(rt: &impl Abort, alloc: Global, bytes: &[u8]) -> Result<(), Fail> {
-    let forest = Tree::read(alloc, bytes)?;
-    assert_eq!(rt; forest.write()?.as_slice(), bytes);
-    Ok(())
+fn is_read(rt: &(impl Abort + AllocGlobal), bytes: &[u8]) {
+    let forest = Tree::read(rt.alloc(), bytes).expect(rt, "a forest");
+    assert!(rt; written(rt, &forest).as_slice() == bytes);
+}
+
+/// How a forest is written. Without a clause: what is proved of it is nothing that a test has to
+/// know, and costs each proof that has it at hand.
+fn written(rt: &impl Abort, forest: &Forest<Global>) -> Vec<u8> {
+    forest.write().expect(rt, "memory")
 }
 
 /// The bytes have this first fault, whether a forest is made or not.
-fn has_fault(rt: &impl Abort, alloc: Global, bytes: &[u8], fault: TlvFault) {
-    assert_eq!(rt; Objects::over(bytes).err(), Some(fault), "{bytes:?}");
-    let refusal = Tree::read(alloc, bytes).err();
-    assert_eq!(rt; refusal, Some(ReadFault::Tlv(fault)), "{bytes:?}");
+fn has_fault(rt: &(impl Abort + AllocGlobal), bytes: &[u8], place: usize, reason: Reason) {
+    let fault = TlvFault { place, reason };
+    assert!(rt; Objects::over(bytes).err() == Some(fault), "{bytes:?}");
+    let refusal = Tree::read(rt.alloc(), bytes).err();
+    assert!(rt; refusal == Some(ReadFault::Tlv(fault)), "{bytes:?}");
 }
 
 #[test]
-fn reads_at_every_depth(rt: HostRuntime) -> Result<(), Fail> {
-    let alloc = rt.alloc();
+fn reads_at_every_depth(rt: HostRuntime) {
     for templates in 0..16 {
-        is_read(&rt, alloc, &nested(alloc, PRIMITIVE, templates)?)?;
-        is_read(&rt, alloc, &nested(alloc, b"\x70\x00", templates)?)?;
+        is_read(&rt, &nested(&rt, PRIMITIVE, templates));
+        is_read(&rt, &nested(&rt, b"\x70\x00", templates));
     }
-    let (place, reason) = (32, Reason::TooDeep);
     for inner in [PRIMITIVE, b"\x70\x00", b"\x9F"] {
-        let deeper = nested(alloc, inner, 16)?;
-        has_fault(&rt, alloc, &deeper, TlvFault { place, reason });
+        has_fault(&rt, &nested(&rt, inner, 16), 32, Reason::TooDeep);
     }
-    Ok(())
 }
 
 #[test]
-fn finds_each_fault_at_every_depth(rt: HostRuntime) -> Result<(), Fail> {
-    let alloc = rt.alloc();
+fn finds_each_fault_at_every_depth(rt: HostRuntime) {
     for place in (0..32).step_by(2) {
         for (inner, reason) in FAULTS {
-            let bytes = nested(alloc, inner, place / 2)?;
-            has_fault(&rt, alloc, &bytes, TlvFault { place, reason });
+            has_fault(&rt, &nested(&rt, inner, place / 2), place, reason);
         }
     }
-    Ok(())
+}
+
+/// A fault behind templates in so many of sixteen templates stands at byte 32.
+fn has_fault_behind(
+    rt: &(impl Abort + AllocGlobal),
+    templates: usize,
+    inner: &[u8],
+    reason: Reason,
+) {
+    let mut list = nested(rt, b"", 16_usize.saturating_sub(templates));
+    list.extend_from_slice(inner).expect(rt, "memory");
+    has_fault(rt, &nested(rt, &list, templates), 32, reason);
 }
 
 #[test]
-fn finds_faults_behind_templates_at_every_depth(rt: HostRuntime) -> Result<(), Fail> {
-    let alloc = rt.alloc();
+fn finds_faults_behind_templates_at_every_depth(rt: HostRuntime) {
     for templates in 0..16 {
         for (inner, reason) in FAULTS {
-            let mut list = nested(alloc, b"", 16_usize.saturating_sub(templates))?;
-            list.extend_from_slice(inner)?;
-            let bytes = nested(alloc, &list, templates)?;
-            has_fault(&rt, alloc, &bytes, TlvFault { place: 32, reason });
+            has_fault_behind(&rt, templates, inner, reason);
         }
     }
-    Ok(())
 }
 
-#[test]
-fn builds_at_every_depth(rt: HostRuntime) -> Result<(), Fail> {
-    let alloc = rt.alloc();
-    let mut forest = Forest::new(alloc);
-    forest.push_primitive(tag(0x50)?, Vec::from_slice(alloc, b"\x41")?)?;
-    for templates in 1..16 {
-        let mut outer = Forest::new(alloc);
-        outer.push_template(tag(0x70)?, forest)?;
-        assert_eq!(rt; outer.write()?, nested(alloc, PRIMITIVE, templates)?);
-        forest = outer;
-    }
-    let mut outer = Forest::new(alloc);
-    assert_eq!(rt;
-        outer.push_template(tag(0x70)?, forest),
-        Err(BuildFault::TooDeep)
-    );
-    assert!(rt; outer.is_empty());
-    Ok(())
+/// What comes of a template more, without a clause.
+fn push_template(
+    rt: &impl Abort,
+    forest: &mut Forest<Global>,
+    name: u8,
+    children: Forest<Global>,
+) -> Result<(), BuildFault> {
+    forest.push_template(tag(rt, name), children)
+}
+
+/// A forest of one primitive, of so many bytes.
+fn primitive(rt: &(impl Abort + AllocGlobal), len: usize) -> Forest<Global> {
+    let value = vec![in rt.alloc(); 0x41; len].expect(rt, "memory");
+    let mut forest = Forest::new(rt.alloc());
+    assert!(rt; forest.push_primitive(tag(rt, 0x50), value).is_ok());
+    forest
+}
+
+/// A forest in a template.
+fn template(rt: &(impl Abort + AllocGlobal), children: Forest<Global>) -> Forest<Global> {
+    let mut forest = Forest::new(rt.alloc());
+    assert!(rt; push_template(rt, &mut forest, 0x70, children).is_ok());
+    forest
 }
 
 /// So many templates, one in the other, around a value of so many bytes.
-fn built(alloc: Global, len: usize, templates: usize) -> Result<Forest<Global>, Fail> {
-    let mut forest = Forest::new(alloc);
-    forest.push_primitive(tag(0x50)?, vec![in alloc; 0x41; len]?)?;
+fn built(rt: &(impl Abort + AllocGlobal), len: usize, templates: usize) -> Forest<Global> {
+    let mut forest = primitive(rt, len);
     for _ in 0..templates {
-        let mut outer = Forest::new(alloc);
-        outer.push_template(tag(0x70)?, forest)?;
-        forest = outer;
+        forest = template(rt, forest);
     }
-    Ok(forest)
+    forest
+}
+
+#[test]
+fn builds_at_every_depth(rt: HostRuntime) {
+    for templates in 0..16 {
+        let bytes = written(&rt, &built(&rt, 1, templates));
+        assert!(rt; bytes == nested(&rt, PRIMITIVE, templates));
+    }
+    let deepest = built(&rt, 1, 15);
+    is_refused(
+        &rt,
+        Forest::new(rt.alloc()),
+        0x70,
+        deepest,
+        BuildFault::TooDeep,
+    );
 }
 
 /// The template does not take the children for this reason, and is left as it was.
 fn is_refused(
     rt: &impl Abort,
     mut forest: Forest<Global>,
-    name: Tag,
+    name: u8,
     children: Forest<Global>,
     fault: BuildFault,
-) -> Result<(), Fail> {
-    let before = forest.write()?;
-    assert_eq!(rt; forest.push_template(name, children), Err(fault));
-    assert_eq!(rt; forest.write()?, before);
-    Ok(())
+) {
+    let before = written(rt, &forest);
+    assert!(rt; push_template(rt, &mut forest, name, children) == Err(fault));
+    assert!(rt; written(rt, &forest) == before);
 }
 
 /// Heads of four bytes bring the innermost value to 65,535 bytes at each depth, and one byte more
 /// is too long.
 #[test]
-fn refuses_templates_at_every_depth(rt: HostRuntime) -> Result<(), Fail> {
-    let alloc = rt.alloc();
+fn refuses_templates_at_every_depth(rt: HostRuntime) {
     for templates in 0..16_usize {
         let longest = 65_535_usize.saturating_sub(templates.saturating_mul(4));
-        let children = built(alloc, longest, templates)?;
-        is_refused(
-            &rt,
-            built(alloc, 1, templates)?,
-            tag(0x70)?,
-            children,
-            BuildFault::TooLong,
-        )?;
-        let children = built(alloc, 1, templates)?;
-        is_refused(
-            &rt,
-            built(alloc, 1, templates)?,
-            tag(0x50)?,
-            children,
-            BuildFault::WrongKind,
-        )?;
+        let before = built(&rt, 1, templates);
+        let children = built(&rt, longest, templates);
+        is_refused(&rt, before, 0x70, children, BuildFault::TooLong);
+        let before = built(&rt, 1, templates);
+        let children = built(&rt, 1, templates);
+        is_refused(&rt, before, 0x50, children, BuildFault::WrongKind);
     }
-    Ok(())
 }
 
 #[test]
-fn takes_long_values(rt: HostRuntime) -> Result<(), Fail> {
-    let alloc = rt.alloc();
+fn takes_long_values(rt: HostRuntime) {
     for (len, head) in [
         (4, b"\x50\x04".as_slice()),
         (300, b"\x50\x82\x01\x2C".as_slice()),
         (5_000, b"\x50\x82\x13\x88".as_slice()),
     ] {
-        let written = built(alloc, len, 0)?.write()?;
-        assert!(rt; written.starts_with(head));
-        is_read(&rt, alloc, &written)?;
+        let bytes = written(&rt, &primitive(&rt, len));
+        assert!(rt; bytes.starts_with(head));
+        is_read(&rt, &bytes);
     }
-    Ok(())
 }
 
-/// Five thousand primitives.
-fn five_thousand(alloc: Global) -> Result<Forest<Global>, Fail> {
-    let mut forest = Forest::new(alloc);
+/// Five thousand times the same bytes.
+fn five_thousand(rt: &(impl Abort + AllocGlobal), object: &[u8]) -> Vec<u8> {
+    let mut bytes = Vec::new(rt.alloc());
     for _ in 0..5_000 {
-        forest.push_primitive(tag(0x50)?, Vec::from_slice(alloc, b"\x41")?)?;
+        bytes.extend_from_slice(object).expect(rt, "memory");
     }
-    Ok(forest)
+    bytes
+}
+
+/// A forest of five thousand primitives.
+fn primitives(rt: &(impl Abort + AllocGlobal)) -> Forest<Global> {
+    let mut forest = Forest::new(rt.alloc());
+    for _ in 0..5_000 {
+        let value = Vec::from_slice(rt.alloc(), b"\x41").expect(rt, "memory");
+        assert!(rt; forest.push_primitive(tag(rt, 0x50), value).is_ok());
+    }
+    forest
 }
 
 #[test]
-fn takes_five_thousand_primitives(rt: HostRuntime) -> Result<(), Fail> {
-    let alloc = rt.alloc();
-    let written = five_thousand(alloc)?.write()?;
-    assert_eq!(rt; written.len(), 15_000);
-    assert!(rt; written.chunks(3).all(|object| object == PRIMITIVE));
-    is_read(&rt, alloc, &written)?;
-    let mut outer = Forest::new(alloc);
-    outer.push_template(tag(0x70)?, five_thousand(alloc)?)?;
-    let outer = outer.write()?;
-    assert!(rt; outer.starts_with(b"\x70\x82\x3A\x98"));
-    assert_eq!(rt; &outer[4..], written.as_slice());
-    is_read(&rt, alloc, &outer)
+fn takes_five_thousand_primitives(rt: HostRuntime) {
+    let all = written(&rt, &primitives(&rt));
+    assert!(rt; all == five_thousand(&rt, PRIMITIVE));
+    is_read(&rt, &all);
+    let outer = written(&rt, &template(&rt, primitives(&rt)));
+    let (head, inner) = outer.split_at_checked(4).expect(&rt, "a head");
+    assert!(rt; head == b"\x70\x82\x3A\x98".as_slice() && inner == all.as_slice());
+    is_read(&rt, &outer);
+}
+
+/// A forest of five thousand templates, each with a primitive.
+fn templates(rt: &(impl Abort + AllocGlobal)) -> Forest<Global> {
+    let mut forest = Forest::new(rt.alloc());
+    for _ in 0..5_000 {
+        assert!(rt; push_template(rt, &mut forest, 0x70, primitive(rt, 1)).is_ok());
+    }
+    forest
 }
 
 #[test]
-fn takes_five_thousand_templates(rt: HostRuntime) -> Result<(), Fail> {
-    let alloc = rt.alloc();
-    let mut forest = Forest::new(alloc);
-    for _ in 0..5_000 {
-        forest.push_template(tag(0x70)?, Tree::read(alloc, PRIMITIVE)?)?;
-    }
-    let written = forest.write()?;
-    assert_eq!(rt; written.len(), 25_000);
-    assert!(rt;
-        written
-            .chunks(5)
-            .all(|object| object == b"\x70\x03\x50\x01\x41".as_slice())
-    );
-    is_read(&rt, alloc, &written)
+fn takes_five_thousand_templates(rt: HostRuntime) {
+    let all = written(&rt, &templates(&rt));
+    assert!(rt; all == five_thousand(&rt, b"\x70\x03\x50\x01\x41"));
+    is_read(&rt, &all);
 }

@@ -81,16 +81,6 @@ pub fn holds<A: Allocator + Copy>(
     assert!(rt; entries(rt, held).eq(entries(rt, &wanted)), "{objects}");
 }
 
-/// As many data objects as an application holds: `DF01` to `DF40`, each with its last tag byte.
-pub fn full(rt: &(impl Abort + AllocGlobal)) -> String {
-    let mut objects = format!(in rt.alloc(); "DF01 01").expect(rt, "memory");
-    for last in 0x02..=0x40u8 {
-        let object = format!(in rt.alloc(); "; DF{last:02X} {last:02X}").expect(rt, "memory");
-        objects.push_str(&object).expect(rt, "memory");
-    }
-    objects
-}
-
 /// Operations, in turn.
 pub fn operations(rt: &(impl Abort + AllocGlobal), text: &str) -> Vec<Op> {
     let mut ops = Vec::new(rt.alloc());

@@ -124,6 +124,8 @@ fn each_case_of_a_command(rt: HostRuntime) {
             (0x9000, "5F20034A4F45"),
         ),
         ("00CA9F3600", "> 00CA9F3600 < 60606A88", (0x6A88, "")),
+        ("00CA5F2000", "> 00CA5F2000 < 9123", (0x9123, "")),
+        ("00CA5F2000", "> 00CA5F2000 < 60*1000 6A88", (0x6A88, "")),
     ] {
         answers(&rt, of, trace, status, data);
     }
@@ -196,16 +198,6 @@ fn fetches_what_is_announced_of_what_is_wanted(rt: HostRuntime) {
         ),
     ] {
         answers(&rt, of, trace, status, data);
-    }
-}
-
-#[test]
-fn any_status_and_any_number_of_nulls(rt: HostRuntime) {
-    for (trace, status) in [
-        ("> 00CA5F2000 < 9123", 0x9123),
-        ("> 00CA5F2000 < 60*1000 6A88", 0x6A88),
-    ] {
-        answers(&rt, "00CA5F2000", trace, status, "");
     }
 }
 

@@ -1,8 +1,6 @@
 //! Operations over the card of data objects, with what goes over the line.
 
-use crate::data_objects::{
-    NAME, are_answered, full, holds, operations, ran, selected, session_over,
-};
+use crate::data_objects::{NAME, are_answered, holds, operations, ran, selected, session_over};
 use crate::trace::{characters, plans, word};
 use crate::{Answer, Answers, Op, Session};
 use apdu_core::{Command, Header};
@@ -32,12 +30,16 @@ fn repeated(rt: &(impl Abort + AllocGlobal), trace: &str) -> Vec<(End, u8)> {
     for group in trace.split('|') {
         let (times, passed) = group.split_once(':').unwrap_or(("1", group));
         let times = times.trim().parse::<u32>().expect(rt, "a number");
-        let passed = characters(rt, passed);
-        for _ in 0..times {
-            all.extend_from_slice(&passed).expect(rt, "memory");
-        }
+        push_times(rt, &mut all, times, &characters(rt, passed));
     }
     all
+}
+
+/// Appends characters so many times.
+fn push_times(rt: &impl Abort, to: &mut Vec<(End, u8)>, times: u32, characters: &[(End, u8)]) {
+    for _ in 0..times {
+        to.extend_from_slice(characters).expect(rt, "memory");
+    }
 }
 
 /// The session carries out operations under these plans, with these characters and answers.
@@ -73,10 +75,9 @@ fn carries_out<C: DataCard>(
 }
 
 /// A session in which the application is selected does so.
-fn is_run(rt: &(impl Abort + AllocGlobal), row: &Row<'_>) -> Session<ObjectCard> {
+fn is_run(rt: &(impl Abort + AllocGlobal), row: &Row<'_>) {
     let mut session = selected(rt, rt.alloc(), row.objects);
     carries_out(rt, &mut session, row);
-    session
 }
 
 /// One operation of each kind, of which the first finds a NULL in its plan.
@@ -202,30 +203,6 @@ fn a_chain_does_not_outlive_a_reset(rt: HostRuntime) {
     holds(&rt, session.card(), "5F20 BB");
 }
 
-/// No operations are carried out, and no plan is used.
-fn does_nothing(
-    rt: &(impl Abort + AllocGlobal),
-    session: &mut Session<ObjectCard>,
-    plans: &mut Plans<'_>,
-) {
-    let mut recorder = Recorder::new(rt.alloc());
-    let mut out = Answers::new(rt.alloc());
-    let ended = ran(rt, session, rt.alloc(), &[], plans, &mut recorder, &mut out);
-    assert!(rt; ended.is_ok() && out.len() == 0 && recorder.heard().is_empty());
-}
-
-/// The plan is left for the operation that comes then.
-#[test]
-fn no_operations(rt: HostRuntime) {
-    let plans = plans(&rt, "n:256");
-    let get = operations(&rt, "get 9F36");
-    let mut session = selected(&rt, rt.alloc(), NAME);
-    let mut cursor = Plans::over(&plans);
-    does_nothing(&rt, &mut session, &mut cursor);
-    let trace = "> 00CA9F3600 < 606A88";
-    passes(&rt, &mut session, &get, &mut cursor, trace, "6A88");
-}
-
 #[test]
 fn gets(rt: HostRuntime) {
     for row in [
@@ -340,6 +317,7 @@ fn puts(rt: HostRuntime) {
     }
 }
 
+/// The piece that passes what the card holds is refused, and no other follows.
 #[test]
 fn long_values(rt: HostRuntime) {
     for row in [
@@ -370,47 +348,23 @@ fn long_values(rt: HostRuntime) {
                     | > 00C0000000 < C0 42*256 6105 > 00C0000005 < C0 42*5 9000",
             answers: "9000; 9000 5F20822000 42*8192",
         },
+        Row {
+            objects: NAME,
+            plans: "",
+            operations: "put 5F20 42*8193; get 5F20",
+            heard: "32: > 10DA5F20FF < DA > 42*255 < 9000 | > 00DA5F2021 < 6700 \
+                    > 00CA5F2000 < 6C06 > 00CA5F2006 < CA5F20034A4F459000",
+            answers: "6700; 9000 5F20034A4F45",
+        },
+        Row {
+            objects: NAME,
+            plans: "",
+            operations: "put 5F20 42*16320; get 5F20",
+            heard: "32: > 10DA5F20FF < DA > 42*255 < 9000 | > 10DA5F20FF < 6700 \
+                    > 00CA5F2000 < 6C06 > 00CA5F2006 < CA5F20034A4F459000",
+            answers: "6700; 9000 5F20034A4F45",
+        },
     ] {
         is_run(&rt, &row);
     }
-}
-
-/// The piece that passes what the card holds is refused, and no other follows.
-#[test]
-fn values_that_are_too_long(rt: HostRuntime) {
-    for row in [
-        Row {
-            objects: NAME,
-            plans: "",
-            operations: "put 5F20 42*8193",
-            heard: "32: > 10DA5F20FF < DA > 42*255 < 9000 | > 00DA5F2021 < 6700",
-            answers: "6700",
-        },
-        Row {
-            objects: NAME,
-            plans: "",
-            operations: "put 5F20 42*16320",
-            heard: "32: > 10DA5F20FF < DA > 42*255 < 9000 | > 10DA5F20FF < 6700",
-            answers: "6700",
-        },
-    ] {
-        let session = is_run(&rt, &row);
-        holds(&rt, session.card(), NAME);
-    }
-}
-
-/// The 65th tag finds no place. One of the 64 has its value replaced in its place.
-#[test]
-fn a_full_table_takes_no_new_tag(rt: HostRuntime) {
-    let full = full(&rt);
-    let row = Row {
-        objects: &full,
-        plans: "",
-        operations: "put DF41 01; put DF01 02",
-        heard: "> 00DADF4101 < DA > 01 < 6A84 > 00DADF0101 < DA > 02 < 9000",
-        answers: "6A84; 9000",
-    };
-    let session = is_run(&rt, &row);
-    let after = format!(in rt.alloc(); "{full}; DF01 02").expect(&rt, "memory");
-    holds(&rt, session.card(), &after);
 }

@@ -11,14 +11,13 @@ const SEVENTEEN_LEVELS: &[u8] =
 
 fn tag(rt: &impl Abort, bytes: &[u8]) -> Tag {
     let (tag, size) = Tag::read(bytes).expect(rt, "a tag");
-    assert_eq!(rt; size, bytes.len(), "in {bytes:?}");
+    assert!(rt; size == bytes.len());
     tag
 }
 
 fn is_object(rt: &impl Abort, object: Option<Obj<'_>>, tag: &[u8], value: &[u8]) {
     let object = object.expect(rt, "an object");
-    assert_eq!(rt; object.tag().bytes(), tag);
-    assert_eq!(rt; object.value(), value);
+    assert!(rt; object.tag().bytes() == tag && object.value() == value);
 }
 
 fn is_one_object(rt: &impl Abort, bytes: &[u8], tag: &[u8], value: &[u8]) {
@@ -28,11 +27,8 @@ fn is_one_object(rt: &impl Abort, bytes: &[u8], tag: &[u8], value: &[u8]) {
 }
 
 fn has_fault(rt: &impl Abort, bytes: &[u8], place: usize, reason: Reason) {
-    assert_eq!(rt;
-        Objects::over(bytes).err(),
-        Some(TlvFault { place, reason }),
-        "in {bytes:?}"
-    );
+    let fault = Some(TlvFault { place, reason });
+    assert!(rt; Objects::over(bytes).err() == fault, "in {bytes:?}");
 }
 
 #[test]
@@ -148,8 +144,8 @@ fn counts_levels_from_the_object(rt: HostRuntime) {
             reason: Reason::ValueCut
         })
     );
-    assert_eq!(rt; value_fault(template, b"\x00\x50\x81\x01\x41\x00"), None);
-    assert_eq!(rt; value_fault(tag(&rt, b"\x50"), b"\x50\x05\x41"), None);
+    assert!(rt; value_fault(template, b"\x00\x50\x81\x01\x41\x00").is_none());
+    assert!(rt; value_fault(tag(&rt, b"\x50"), b"\x50\x05\x41").is_none());
 }
 
 #[test]
@@ -220,7 +216,7 @@ fn stands_at(rt: &impl Abort, bytes: &[u8], path: &[Tag], place: usize, size: us
     let (start, object) = find_placed(bytes, path)
         .expect(rt, "objects")
         .expect(rt, "an object");
-    assert_eq!(rt; (start, object.size()), (place, size), "in {bytes:?}");
+    assert!(rt; start == place && object.size() == size, "in {bytes:?}");
 }
 
 #[test]
@@ -253,37 +249,41 @@ fn finds_places(rt: HostRuntime) {
     );
 }
 
+/// The head of so long a value is these bytes.
+fn has_head(rt: &impl Abort, name: &[u8], len: u16, bytes: &[u8]) {
+    assert!(rt; head(tag(rt, name), len).bytes() == bytes, "{len}");
+}
+
 #[test]
 fn writes_heads(rt: HostRuntime) {
-    let name = tag(&rt, b"\x50");
-    assert_eq!(rt; head(name, 127).bytes(), b"\x50\x7F".as_slice());
-    assert_eq!(rt; head(name, 128).bytes(), b"\x50\x81\x80".as_slice());
-    assert_eq!(rt; head(name, 255).bytes(), b"\x50\x81\xFF".as_slice());
-    assert_eq!(rt; head(name, 256).bytes(), b"\x50\x82\x01\x00".as_slice());
-    assert_eq!(rt;
-        head(tag(&rt, b"\x5F\x20"), 2048).bytes(),
-        b"\x5F\x20\x82\x08\x00".as_slice()
-    );
+    has_head(&rt, b"\x50", 127, b"\x50\x7F");
+    has_head(&rt, b"\x50", 128, b"\x50\x81\x80");
+    has_head(&rt, b"\x50", 255, b"\x50\x81\xFF");
+    has_head(&rt, b"\x50", 256, b"\x50\x82\x01\x00");
+    has_head(&rt, b"\x5F\x20", 2048, b"\x5F\x20\x82\x08\x00");
+}
+
+/// The tag that P1 and P2 name. Without a clause: what is proved of it is nothing that a test has to
+/// know, and costs each proof that has it at hand.
+fn named(p1: u8, p2: u8) -> Option<ObjectTag> {
+    ObjectTag::from_p1p2(p1, p2)
+}
+
+/// P1 and P2 name the tag of these bytes, and it has no others.
+fn is_named(rt: &impl Abort, p1: u8, p2: u8, bytes: &[u8]) {
+    let tag = named(p1, p2).expect(rt, "an address");
+    assert!(rt; tag.p1p2() == (p1, p2));
+    assert!(rt; ObjectTag::new(tag.tag()) == Some(tag));
+    assert!(rt; tag.tag().bytes() == bytes);
 }
 
 #[test]
 fn names_tags_by_p1p2(rt: HostRuntime) {
-    for (p1, p2) in [
-        (0x00, 0x40),
-        (0x00, 0x50),
-        (0x5F, 0x20),
-        (0x9F, 0x36),
-        (0x00, 0xFE),
-        (0xFF, 0x7F),
-    ] {
-        let named = ObjectTag::from_p1p2(p1, p2).expect(&rt, "an address");
-        assert_eq!(rt; named.p1p2(), (p1, p2));
-        assert_eq!(rt; ObjectTag::new(named.tag()), Some(named));
-        if p1 == 0 {
-            assert_eq!(rt; named.tag().bytes(), [p2].as_slice());
-        } else {
-            assert_eq!(rt; named.tag().bytes(), [p1, p2].as_slice());
-        }
+    for p2 in [0x40, 0x50, 0xFE] {
+        is_named(&rt, 0x00, p2, &[p2]);
+    }
+    for (p1, p2) in [(0x5F, 0x20), (0x9F, 0x36), (0xFF, 0x7F)] {
+        is_named(&rt, p1, p2, &[p1, p2]);
     }
     for (p1, p2) in [
         (0x00, 0xFF),
@@ -292,12 +292,16 @@ fn names_tags_by_p1p2(rt: HostRuntime) {
         (0x9F, 0x80),
         (0x01, 0x40),
     ] {
-        assert_eq!(rt; ObjectTag::from_p1p2(p1, p2), None, "at {p1} {p2}");
+        assert!(rt; named(p1, p2).is_none(), "at {p1} {p2}");
     }
-    assert_eq!(rt; ObjectTag::new(tag(&rt, b"\x3E")), None);
-    assert_eq!(rt; ObjectTag::new(tag(&rt, b"\x1F\x20")), None);
-    assert_eq!(rt; ObjectTag::new(tag(&rt, b"\x3F\x20")), None);
-    assert_eq!(rt; ObjectTag::new(tag(&rt, b"\xDF\x81\x01")), None);
+    for bytes in [
+        b"\x3E".as_slice(),
+        b"\x1F\x20",
+        b"\x3F\x20",
+        b"\xDF\x81\x01",
+    ] {
+        assert!(rt; ObjectTag::new(tag(&rt, bytes)).is_none());
+    }
 }
 
 #[test]

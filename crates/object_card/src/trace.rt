@@ -1,7 +1,7 @@
 //! Cards and what passes at their end of the line, as text for tests. Bytes are hexadecimal digits,
-//! where `41*253` stands for 253 bytes `41` and `-` for none. What a test can't go on without is had
-//! by `expect`: a `?` is an exit, on which all that is alive is dropped, and each drop is one more
-//! proof.
+//! where `41*253` stands for 253 bytes `41` and `-` for none. What a test can't go on without is
+//! had by `expect`: a `?` is an exit, on which all that is alive is dropped, and each drop is one
+//! more proof.
 
 use crate::{Aid, BuilderFault, CardBuilder, Entries, ObjectCard};
 use std::alloc::{AllocGlobal, Allocator, Global};

@@ -340,36 +340,6 @@ fn a_value_has_so_many_bytes(rt: HostRuntime) {
     }
 }
 
-/// A first part passes, so many of 256 bytes that are not the last, and a last one.
-fn brings_parts(
-    rt: &(impl Abort + AllocGlobal),
-    end: &mut CardEnd<ObjectCard>,
-    first: &str,
-    parts: usize,
-) {
-    passes_alone(rt, end, first);
-    for _ in 0..parts {
-        passes_alone(rt, end, "> 00C0000000 < C0 42*256 6100");
-    }
-    let last = "> 00C0000000 < C0 42*256 6105 > 00C0000005 < C0 42*5 9000";
-    passes_alone(rt, end, last);
-}
-
-#[test]
-fn a_long_value_comes_in_parts(rt: HostRuntime) {
-    for (value, first, parts) in [
-        ("42*2048", "> 00CA5F2000 < CA 5F20820800 42*251 6100", 6),
-        ("42*8192", "> 00CA5F2000 < CA 5F20822000 42*251 6100", 30),
-    ] {
-        let table = format!(in rt.alloc(); "app A0000000031010; object 5F20 {value}").expect(
-            &rt, "memory",
-        );
-        let mut end = selected(&rt, &table);
-        brings_parts(&rt, &mut end, first, parts);
-        is_over(&rt, &mut end, value);
-    }
-}
-
 #[test]
 fn a_full_table_takes_no_new_tag(rt: HostRuntime) {
     let table = full(&rt, 0x00);

@@ -254,9 +254,15 @@ fn only_a_put_that_is_not_refused_takes_memory(rt: HostRuntime) {
 fn empties(rt: &(impl Abort + AllocGlobal), last: u8) -> String {
     let mut table = format!(in rt.alloc(); "app A0000000031010").expect(rt, "memory");
     for byte in 0x01..=last {
-        table = format!(in rt.alloc(); "{table}; object DF{byte:02X} -").expect(rt, "memory");
+        push_empty(rt, &mut table, byte);
     }
     table
+}
+
+/// Appends an empty data object to a table.
+fn push_empty(rt: &(impl Abort + AllocGlobal), table: &mut String, last: u8) {
+    let object = format!(in rt.alloc(); "; object DF{last:02X} -").expect(rt, "memory");
+    table.push_str(&object).expect(rt, "memory");
 }
 
 /// The put passes where 16 bytes are left.

@@ -98,13 +98,16 @@ pub fn built<A: Allocator + Copy>(
 /// A table of 64 data objects, `DF01` to `DF40`, each with a byte that its tag and the mark make.
 pub fn full(rt: &(impl Abort + AllocGlobal), mark: u8) -> String {
     let mut table = format!(in rt.alloc(); "app A0000000031010").expect(rt, "memory");
-    for last in 0x01..=0x40u8 {
-        let value = last ^ mark;
-        table = format!(in rt.alloc(); "{table}; object DF{last:02X} {value:02X}").expect(
-            rt, "memory",
-        );
+    for last in 0x01..=0x40 {
+        push_object(rt, &mut table, last, last ^ mark);
     }
     table
+}
+
+/// Appends a data object of one byte to a table.
+fn push_object(rt: &(impl Abort + AllocGlobal), table: &mut String, last: u8, value: u8) {
+    let object = format!(in rt.alloc(); "; object DF{last:02X} {value:02X}").expect(rt, "memory");
+    table.push_str(&object).expect(rt, "memory");
 }
 
 /// A card with a table, at its end of the line.

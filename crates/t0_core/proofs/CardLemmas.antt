@@ -20,8 +20,8 @@ use Rattle.t0_core.specs.Meaning.{Tpdu, tpdu_of, Ask, Prepared, Nothing, Receivi
 use Rattle.t0_core.specs.Front.{Front, In_header, In_body, After_first, IsBetween, header_only, with_segment, with_moved}
 use Rattle.t0_core.specs.declared.card_end.Phase.{Phase}
 use Rattle.t0_core.specs.declared.card_end.Phase.TheVariants.{Opening, Refused, Accepted, SecondStatus}
-use Rattle.t0_core.specs.CardView.{IsNext, Concludes, IsHeld, IsAfter, IsJudged, IsVerdict, Refuses, KeepsDirection, stage_of}
-use Rattle.t0_core.specs.CardSide.{Stage, Taking_header, Refusing, Serving, Ending, StandsAt, Advances, IsServed, IsRefused, ServesBy, Starts, IsFrugal, IsOnPlan, FollowsItself, SuitsFront, begins_with, takes_plan, listens, one_moved, ask_of, whole_of, comes_from_terminal}
+use Rattle.t0_core.specs.CardView.{IsNext, Concludes, IsHeld, IsAfter, IsVerdict, Refuses, KeepsDirection, stage_of}
+use Rattle.t0_core.specs.CardSide.{Stage, Taking_header, Refusing, Serving, Ending, StandsAt, Advances, IsServed, IsRefused, ServesBy, Starts, IsFrugal, IsOnPlan, FollowsItself, SuitsFront, begins_with, takes_plan, listens, one_moved, ask_of, whole_of, comes_from_terminal, IsPermitted, PermitsData}
 use Rattle.t0_core.specs.FrontLaws.{moves-within, all_moves-more}
 use Rattle.t0_core.specs.DialogueLaws.{all_more}
 use Rattle.t0_core.specs.CardLaws.{due_data}
@@ -726,7 +726,7 @@ opening_advances Does cut plan phase judged bytes came taken byte front old new 
         (In_body (header_only b.header b.p3 d)) byte old new prepared stage first.1 first.0))
         suits
 
--- with the first character after a header a plan is taken, and with no other
+-- with the first character after a header a plan is taken
 pub takes_a_plan : (phase : Phase) (bytes came : List ℕ) (taken : ℕ) → phase ≡ Opening bytes taken
     → (length bytes ≡ 5) × (taken ≤ 5) → listens (stage_of phase came) ≡ false
     → takes_plan (stage_of phase came) ≡ true
@@ -736,19 +736,35 @@ takes_a_plan phase bytes came taken is held due =
     subst Takes (sym is)
     (λ due. eq-eqb _ _ (ap length (whole_header bytes taken held.0 held.1 due) ∙ held.0)) due
 
-pub takes_none : (phase : Phase) (came : List ℕ) → IsJudged phase
-    → takes_plan (stage_of phase came) ≡ false
-takes_none (Opening bytes taken) came judged = absurd judged
-takes_none (Refused h p3 status done) came judged = refl
-takes_none (Accepted s) came judged = refl
-takes_none (SecondStatus status) came judged = refl
-
-pub no_header : (phase : Phase) (came bytes : List ℕ) → IsJudged phase
+-- only a header in the making is taken
+pub no_header : (phase : Phase) (came bytes : List ℕ)
+    → ((all : List ℕ) (taken : ℕ) → phase ≡ Opening all taken → ⊥)
     → stage_of phase came ≡ Taking_header bytes → ⊥
-no_header (Opening all taken) came bytes judged is = absurd judged
-no_header (Refused h p3 status done) came bytes judged is = absurd (cc)
-no_header (Accepted s) came bytes judged is = absurd (cc)
-no_header (SecondStatus status) came bytes judged is = absurd (cc)
+no_header (Opening all taken) came bytes never is = absurd (never all taken refl)
+no_header (Refused h p3 status done) came bytes never is = absurd (cc)
+no_header (Accepted s) came bytes never is = absurd (cc)
+no_header (SecondStatus status) came bytes never is = absurd (cc)
 
-pub judged_when : (phase like : Phase) → phase ≡ like → IsJudged like → IsJudged phase
-judged_when phase like is judged = subst IsJudged (sym is) judged
+-- a whole header is what the end has taken
+pub header_taken : (phase : Phase) (bytes came : List ℕ) (taken : ℕ) (h : Header) (p3 : ℕ)
+    → phase ≡ Opening bytes taken → (length bytes ≡ 5) × (taken ≤ 5)
+    → listens (stage_of phase came) ≡ false → stage_of phase came ≡ Taking_header (begins_with h p3)
+    → bytes ≡ begins_with h p3
+header_taken phase bytes came taken h p3 is held due whole =
+    let Taken : Phase → Type 0 = λ p. listens (stage_of p came) ≡ false
+    → stage_of p came ≡ Taking_header (begins_with h p3) → bytes ≡ begins_with h p3 in
+    subst Taken (sym is)
+    (λ due whole. let e : take taken bytes ≡ begins_with h p3 = cc in
+    sym (whole_header bytes taken held.0 held.1 due) ∙ e) due whole
+
+-- what a verdict permits stays so until the status
+pub stays_permitted : (MayReceive MaySend : ℕ → Type 0) (ins : ℕ) (judged stage : Stage)
+    → KeepsDirection judged stage → IsPermitted MayReceive MaySend ins judged
+    → IsPermitted MayReceive MaySend ins stage
+stays_permitted MayReceive MaySend ins judged (Taking_header bytes) keeps permitted = tt
+stays_permitted MayReceive MaySend ins judged (Refusing h p3 status done) keeps permitted = tt
+stays_permitted MayReceive MaySend ins judged (Ending status) keeps permitted = tt
+stays_permitted MayReceive MaySend ins judged (Serving s came) keeps permitted =
+    let At : Stage → Type 0 = λ j. IsPermitted MayReceive MaySend ins j in
+    let By : Direction → Type 0 = λ d. PermitsData MayReceive MaySend ins d in
+    subst By keeps.3 (subst At keeps.2 permitted)

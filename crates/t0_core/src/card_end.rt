@@ -370,16 +370,11 @@ fn hand_out<C: TpduCard, A: Allocator>(
         (C.standing card.old) (C.standing card.new) (C.prepared card.new)
         (stage_of phase.new came.now) }
 {
-    match phase {
-        Phase::Opening { bytes, .. } => {
-            let header = *bytes;
-            judge(card, phase, header, plans.advance());
-            go_on(card, phase, came, plans.steps())
-        }
-        Phase::Refused { .. } | Phase::Accepted { .. } | Phase::SecondStatus { .. } => {
-            go_on(card, phase, came, plans.steps())
-        }
+    if let Phase::Opening { bytes, .. } = phase {
+        let header = *bytes;
+        judge(card, phase, header, plans.advance());
     }
+    go_on(card, phase, came, plans)
 }
 
 /// Takes the phase past a header, by the card's verdict on it. It stands apart from what each
@@ -425,43 +420,50 @@ fn judge<C: TpduCard>(card: &mut C, phase: &mut Phase, bytes: [u8; 5], cut: u16)
 
 /// Hands out the card's next character after its verdict, and takes the phase past it.
 #[inline(always)]
-fn go_on<C: TpduCard>(card: &mut C, phase: &mut Phase, came: &[u8; 255], steps: &[Step]) -> u8
+fn go_on<C: TpduCard, A: Allocator>(
+    card: &mut C,
+    phase: &mut Phase,
+    came: &[u8; 255],
+    plans: &Plans<A>,
+) -> u8
     requires judged { IsJudged phase.old }
     requires fits { Fits (C.prepared card.old) phase.old }
     requires room { length came.now ≡ 255 }
     requires due { listens (stage_of phase.old came.now) ≡ false }
     ensures fits { Fits (C.prepared card.new) phase.new }
-    ensures falls { (plan : Course) → plan.steps ≡ steps.now
+    ensures falls { (plan : Course) → plan.steps ≡ (plan_kept plans.now).steps
         → (stage_of phase.new came.now ≡ Taking_header [])
         ⊎ (still_to_go (stage_of phase.new came.now) plan
         < still_to_go (stage_of phase.old came.now) plan) }
-    ensures counts { (plan : Course) → plan.steps ≡ steps.now →
+    ensures counts { (plan : Course) → plan.steps ≡ (plan_kept plans.now).steps →
         GoesByCount (stage_of phase.old came.now) plan result (stage_of phase.new came.now) }
     ensures keeps { KeepsDirection (stage_of phase.old came.now) (stage_of phase.new came.now) }
-    ensures advances { (cut : ℕ) (plan : Course) (front : Front) → plan.steps ≡ steps.now →
+    ensures advances { (cut : ℕ) (plan : Course) (front : Front)
+        → plan.steps ≡ (plan_kept plans.now).steps →
         StandsAt C.Does (C.standing card.old) (C.prepared card.old) (stage_of phase.old came.now)
         cut front →
         Advances C.Does cut plan (stage_of phase.old came.now) front result
         (C.standing card.old) (C.standing card.new) (C.prepared card.new)
         (stage_of phase.new came.now) }
 {
+    // A service is asked for first, without a jump through a table: all data come this way.
+    if let Phase::Accepted { service } = phase {
+        let (byte, status) = serve(card, service, came, plans);
+        if let Some(status) = status {
+            *phase = Phase::SecondStatus { status };
+        }
+        return byte;
+    }
     match phase {
-        Phase::Opening { .. } => unreachable!(),
+        Phase::Opening { .. } | Phase::Accepted { .. } => unreachable!(),
         Phase::Refused {
             header,
             p3,
             status,
             done,
         } => {
-            let (next, byte) = refuse(*header, *p3, *status, *done, steps);
+            let (next, byte) = refuse(*header, *p3, *status, *done, plans.steps());
             *phase = next;
-            byte
-        }
-        Phase::Accepted { service } => {
-            let (byte, status) = serve(card, service, came, steps);
-            if let Some(status) = status {
-                *phase = Phase::SecondStatus { status };
-            }
             byte
         }
         Phase::SecondStatus { status } => {

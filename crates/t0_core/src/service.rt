@@ -7,13 +7,14 @@ ghost use Rattle.t0_core.specs.CardSide.{comes_from_terminal, Advances, GoesByCo
 ghost use Rattle.t0_core.specs.Dialogue as dialogue;
 ghost use Rattle.t0_core.specs.Dialogue.{Body};
 ghost use Rattle.t0_core.specs.Front.{In_body};
-ghost use Rattle.t0_core.specs.Plan.{Course, segments_of};
+ghost use Rattle.t0_core.specs.Plan.{Course, plan_kept, segments_of};
 
 use crate::direction::Direction;
-use crate::plan::{Step, next_step};
+use crate::plan::{Plans, Step, next_step};
 use crate::procedure::{moves, procedure_byte};
 use crate::tpdu_card::TpduCard;
 use apdu_core::{Header, Status};
+use std::alloc::Allocator;
 
 /// How far the data of a TPDU have moved, whose header the card has accepted.
 #[derive(Clone, Copy, Debug, PartialEq, Eq)]
@@ -101,25 +102,26 @@ impl Service {
 /// Hands out a data character, the next procedure byte, or SW1, and with that the status. `came`
 /// begins with the data characters that have come from the terminal.
 #[inline(always)]
-pub(crate) fn serve<C: TpduCard>(
+pub(crate) fn serve<C: TpduCard, A: Allocator>(
     card: &mut C,
     service: &mut Service,
     came: &[u8; 255],
-    steps: &[Step],
+    plans: &Plans<A>,
 ) -> (u8, Option<Status>)
     requires fits { IsInService (C.prepared card.old) service.old }
     requires room { length came.now ≡ 255 }
     requires due { listens (Serving service.old (take service.old.moved came.now)) ≡ false }
     ensures fits { Fits (C.prepared card.new) (phase_after service.new result.1) }
-    ensures falls { (plan : Course) → plan.steps ≡ steps.now →
+    ensures falls { (plan : Course) → plan.steps ≡ (plan_kept plans.now).steps →
         still_to_go (stage_of (phase_after service.new result.1) came.now) plan
         < still_to_go (Serving service.old (take service.old.moved came.now)) plan }
-    ensures counts { (plan : Course) → plan.steps ≡ steps.now →
+    ensures counts { (plan : Course) → plan.steps ≡ (plan_kept plans.now).steps →
         GoesByCount (Serving service.old (take service.old.moved came.now)) plan result.0
         (stage_of (phase_after service.new result.1) came.now) }
     ensures keeps { KeepsDirection (Serving service.old (take service.old.moved came.now))
         (stage_of (phase_after service.new result.1) came.now) }
-    ensures advances { (cut : ℕ) (plan : Course) (b : Body) → plan.steps ≡ steps.now →
+    ensures advances { (cut : ℕ) (plan : Course) (b : Body)
+        → plan.steps ≡ (plan_kept plans.now).steps →
         IsServed (C.prepared card.old) service.old (take service.old.moved came.now) cut b →
         Advances C.Does cut plan (Serving service.old (take service.old.moved came.now)) (In_body b)
         result.0
@@ -131,7 +133,7 @@ pub(crate) fn serve<C: TpduCard>(
         service.one_moved();
         return (byte, None);
     }
-    match service.next(steps) {
+    match service.next(plans.steps()) {
         Some(byte) => (byte, None),
         None => {
             let status = conclude(card, service.direction, &came[..service.p3 as usize]);

@@ -1,4 +1,4 @@
-use Rattle.std.proofs.Common.{subst, Option}
+use Rattle.std.proofs.Common.{sym, subst, ◌∙◌, Option}
 use Rattle.apdu_core.specs.StatusWord.{StatusWord}
 use Rattle.t0_core.specs.CardView.{phase_after, stage_of}
 use Rattle.t0_core.specs.CardSide.{Advances}
@@ -11,7 +11,8 @@ returns-in-Refused-clause-advances g c = λ cut plan front steps stands.
     refusal_advances card.Does (card.standing c.args.card.now) (card.prepared c.args.card.now) cut
     plan c.args.phase.now c.refuse-next.result.0 c.args.came.now
     c.in-Refused.header c.in-Refused.p3 c.in-Refused.status c.in-Refused.done
-    c.refuse-next.result.1 front c.args.steps.now c.in-Refused.is steps c.refuse-next.ensures
+    c.refuse-next.result.1 front c.steps.result.now c.in-Refused.is
+    (steps ∙ sym c.steps.ensures) c.refuse-next.ensures
     stands
 
 pub returns-in-Some-clause-advances : goal.returns-in-Some-clause-advances
@@ -31,8 +32,8 @@ returns-in-Some-clause-advances g c = λ cut plan front steps stands.
     (stage served.result.1) came c.in-Accepted.service served.result.0 front c.in-Accepted.is
     (λ b serves. served.ensures.advances cut plan b steps serves) stands)
 
-pub returns-in_default-clause-advances : goal.returns-in_default-clause-advances
-returns-in_default-clause-advances g c = λ cut plan front steps stands.
+pub returns-in_default-status-clause-advances : goal.returns-in_default-status-clause-advances
+returns-in_default-status-clause-advances g c = λ cut plan front steps stands.
     let card = g.C.TpduCard in
     let served = c.serve-byte in
     let came = c.args.came.now in
@@ -42,7 +43,7 @@ returns-in_default-clause-advances g c = λ cut plan front steps stands.
     let Goes : Option StatusWord → Type 0 =
     λ status. Advances card.Does cut plan (stage_of c.args.phase.now came) front served.result.0 old
     (card.standing served.new.card) (card.prepared served.new.card) (stage status) in
-    subst Goes c.in_default.is
+    subst Goes c.in_default-status.is
     (service_advances card.Does old (card.standing served.new.card)
     (card.prepared c.args.card.now) (card.prepared served.new.card) cut plan c.args.phase.now
     (stage served.result.1) came c.in-Accepted.service served.result.0 front c.in-Accepted.is

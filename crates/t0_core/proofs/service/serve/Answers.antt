@@ -29,7 +29,7 @@ returns-in-Some-clause-advances g c = λ cut plan b steps served.
     (take c.args.service.now.moved c.args.came.now) (take c.next.new.self.moved c.args.came.now)
     next.0 c.in-Some.byte b
     c.if-service.false (ap (λ n. take n c.args.came.now) next.2.same.3) next.1
-    (subst Next (sym steps) next.2) served
+    (subst Next (c.steps.ensures ∙ sym steps) next.2) served
 
 pub returns-in-None-clause-advances : goal.returns-in-None-clause-advances
 returns-in-None-clause-advances g c = λ cut plan b steps served.
@@ -50,5 +50,5 @@ returns-in-None-clause-advances g c = λ cut plan b steps served.
     c.if-service.false
     (λ moved way. ap (λ n. take n c.args.came.now)
     (moved ∙ ap (λ (d : Direction). foreseen d s.p3) way))
-    (subst None (sym steps) c.in-None.ensures.1) c.sw1.ensures.status
+    (subst None (c.steps.ensures ∙ sym steps) c.in-None.ensures.1) c.sw1.ensures.status
     (subst Answers c.in-None.ensures.0 c.conclude-status.ensures.answer) served))

@@ -1,12 +1,12 @@
-//! Sessions with cards of the tests, which bring about a fault.
+//! Sessions with a card of the tests, which takes what is put and brings about faults.
 
 use crate::test_card::{Manner, TestCard};
-use crate::trace::characters;
+use crate::trace::{characters, plans, word};
 use crate::{Session, SessionFault};
 use apdu_core::{Command, Header};
 use std::alloc::{AllocGlobal, Global};
 use std::process::Abort;
-use t0_core::{CardEnd, LineFault, Plans, Recorder};
+use t0_core::{CardEnd, LineFault, Plan, Plans, Recorder};
 
 /// GET DATA of `5F20`.
 const NAME: Header = Header {
@@ -15,6 +15,41 @@ const NAME: Header = Header {
     p1: 0x5F,
     p2: 0x20,
 };
+
+/// PUT DATA of `5F20`.
+const PUT: Header = Header {
+    cla: 0x00,
+    ins: 0xDA,
+    p1: 0x5F,
+    p2: 0x20,
+};
+
+/// The status of a put of two bytes under these plans, without a clause.
+fn put_under(
+    rt: &(impl Abort + AllocGlobal),
+    session: &mut Session<TestCard>,
+    plans: &[Plan],
+    recorder: &mut Recorder,
+) -> u16 {
+    let command = Command::new(PUT, &[0x41, 0x42], None).unwrap();
+    let answer = session
+        .transmit(rt.alloc(), command, &mut Plans::over(plans), recorder)
+        .expect(rt, "an answer");
+    assert!(rt; answer.data().is_empty());
+    word(answer.status())
+}
+
+/// A command without a fault resets nothing.
+#[test]
+fn data_go_to_the_card_as_it_plans(rt: HostRuntime) {
+    let plans = plans(&rt, "ona:256");
+    let mut session = Session::new(CardEnd::new(TestCard::new(Manner::Floods)));
+    let mut recorder = Recorder::new(rt.alloc());
+    assert!(rt; put_under(&rt, &mut session, &plans, &mut recorder) == 0x9000);
+    assert!(rt; session.card().resets() == 1 && !recorder.lost());
+    let trace = characters(&rt, "> 00DA5F2002 < 25 > 41 < 60DA > 42 < 9000");
+    assert!(rt; recorder.heard() == trace.as_slice());
+}
 
 /// The fault that ends a command, without a clause.
 fn faulted(

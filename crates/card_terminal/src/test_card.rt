@@ -1,7 +1,7 @@
 //! A card for tests, which keeps to the line and counts its resets.
 ghost use Rattle.std.specs.Prelude.{◌≡◌, ℕ, ◌≤◌, ◌⊎◌, length, take};
 ghost use Rattle.apdu_core.specs.StatusWord.{count};
-ghost use Rattle.t0_core.specs.Meaning.{Prepared, Nothing, Sending, Decided};
+ghost use Rattle.t0_core.specs.Meaning.{Prepared, Nothing, Receiving, Sending, Decided};
 ghost use Rattle.card_terminal.specs.declared.test_card.Ready.TheVariants as ready;
 
 use apdu_core::{Header, Status};
@@ -12,8 +12,8 @@ use t0_core::{TpduCard, Verdict};
 pub enum Manner {
     /// It refuses every header with `6105`.
     Announces,
-    /// It sends as many bytes as it is asked for to `CA` and `C0`, each time with `6100`, and
-    /// refuses all else with `6105`.
+    /// It sends as many bytes as it is asked for to `CA` and `C0`, each time with `6100`, takes
+    /// data to `DA`, and refuses all else with `6105`.
     Floods,
 }
 
@@ -21,6 +21,7 @@ pub enum Manner {
 #[derive(Clone, Copy)]
 enum Ready {
     Idle,
+    Takes { header: Header, p3: u8, cut: u16 },
     Gives { header: Header, p3: u8, cut: u16 },
     Answered,
 }
@@ -65,18 +66,26 @@ impl TpduCard for TestCard {
 
     ghost prepared = { λ c. elim c.ready [
       | ready.Idle ↦ Nothing
+      | ready.Takes header p3 cut ↦ Receiving (record { header = header; p3 = p3; cut = cut })
       | ready.Gives header p3 cut ↦
           Sending (record { header = header; p3 = p3; cut = cut }) (take (count p3) c.bytes)
       | ready.Answered ↦ Decided tt
     ] };
 
     fn header(&mut self, header: Header, p3: u8, cut: u16) -> Verdict {
-        if self.manner == Manner::Floods && matches!(header.ins, 0xCA | 0xC0) {
-            self.ready = Ready::Gives { header, p3, cut };
-            Verdict::Send
-        } else {
-            self.ready = Ready::Answered;
-            Verdict::Refuse(Status::new(0x61, 0x05).unwrap())
+        match (self.manner, header.ins) {
+            (Manner::Floods, 0xCA | 0xC0) => {
+                self.ready = Ready::Gives { header, p3, cut };
+                Verdict::Send
+            }
+            (Manner::Floods, 0xDA) => {
+                self.ready = Ready::Takes { header, p3, cut };
+                Verdict::Receive
+            }
+            _ => {
+                self.ready = Ready::Answered;
+                Verdict::Refuse(Status::new(0x61, 0x05).unwrap())
+            }
         }
     }
 

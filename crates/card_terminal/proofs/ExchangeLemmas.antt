@@ -1,15 +1,15 @@
 -- An exchange goes through the dialogues of its units.
-use Rattle.std.proofs.Common.{◌≡◌, ℕ, ◌<◌, List, [], ◌∷◌, ◌++◌, refl, sym, subst, ◌∙◌, ap, inl, inr, Option, Some, None, false, if◌then◌else◌}
+use Rattle.std.proofs.Common.{◌≡◌, ℕ, ◌<◌, List, [], ◌∷◌, ◌++◌, refl, sym, subst, ◌∙◌, ap, inl, inr, Option, Some, None, Bool, true, false, if◌then◌else◌}
 use Rattle.std.specs.List.{flat_map}
 use Rattle.apdu_core.specs.declared.header.Header.{Header}
-use Rattle.apdu_core.specs.StatusWord.{count}
+use Rattle.apdu_core.specs.StatusWord.{StatusWord, count}
 use Rattle.apdu_core.specs.CommandBytes.{Command}
 use Rattle.t0_core.specs.declared.end.End.{End}
 use Rattle.t0_core.specs.declared.end.End.TheVariants.{Terminal, Card}
 use Rattle.t0_core.specs.declared.direction.Direction.{Direction}
 use Rattle.t0_core.specs.declared.direction.Direction.TheVariants.{ToCard, FromCard}
 use Rattle.t0_core.specs.declared.host_end.HostTurn.{HostTurn}
-use Rattle.t0_core.specs.declared.host_end.HostTurn.TheVariants.{Failed}
+use Rattle.t0_core.specs.declared.host_end.HostTurn.TheVariants.{Sends, Done, Failed}
 use Rattle.t0_core.specs.Dialogue.{Dialogue, data_sender}
 use Rattle.t0_core.specs.Meaning.{received}
 use Rattle.t0_core.specs.Front.{Front, In_header, In_body, After_first, GoesOn, brought, from_card}
@@ -20,7 +20,7 @@ use Rattle.card_terminal.specs.declared.wanted.Wanted.{Wanted}
 use Rattle.card_terminal.specs.declared.attempt.Attempt.{Attempt}
 use Rattle.object_card.specs.CarryingOut.{get_response}
 use Rattle.card_terminal.specs.Gathered.{Opening, By_command, By_fetch, UnitOf}
-use Rattle.card_terminal.specs.ExchangeSide.{ExchangeOf, HostAsks, HostSends, HostOpens, HostOpensBy, IsOpenedAs, IsPlaceOf, UnderWay, so_far, asks_card, exchange_turn}
+use Rattle.card_terminal.specs.ExchangeSide.{ExchangeOf, HostAsks, HostSends, HostOpens, HostOpensBy, IsOpenedAs, IsPlaceOf, IsKept, UnderWay, so_far, asks_card, exchange_turn}
 
 -- what an end opened its TPDU with stays
 pub record IsSameRequest (old new : Hosting) : Type 0 where
@@ -165,3 +165,22 @@ pub tells : (ex seen : ExchangeOf) (turn : HostTurn) → ex ≡ seen → ex.stal
 tells ex seen turn is going does =
     let P : ExchangeOf → Type 0 = λ e. exchange_turn e ≡ turn in
     subst P is (ap (λ b. if b then Failed else turn_of ex.host) going ∙ does)
+
+-- an exchange that has stalled has nothing to send
+pub sending_is_going : (ex : ExchangeOf) (byte : ℕ) → IsKept ex → turn_of ex.host ≡ Sends byte
+    → ex.stalled ≡ false
+sending_is_going ex byte kept sends = by ex.stalled refl where
+  by : (v : Bool) → ex.stalled ≡ v → ex.stalled ≡ false
+  by true stalled =
+      let done = kept.stalled_at_end stalled in
+      let e : Sends byte ≡ Done done.0 = sym sends ∙ done.1 in absurd (cc)
+  by false going = going
+
+-- an end that is done stays so, whether it is asked for a character or not
+pub done_stays : (old new : Hosting) (given : Option ℕ)
+    → ((byte : ℕ) → given ≡ Some byte → turn_of old ≡ Sends byte) → (given ≡ None → new ≡ old)
+    → (status : StatusWord) × (turn_of old ≡ Done status)
+    → (status : StatusWord) × (turn_of new ≡ Done status)
+done_stays old new None sends stays done = (done.0, ap turn_of (stays refl) ∙ done.1)
+done_stays old new (Some byte) sends stays done =
+    let e : Sends byte ≡ Done done.0 = sym (sends byte refl) ∙ done.1 in absurd (cc)

@@ -144,6 +144,22 @@ impl<'a, A: Allocator> Exchange<'a, A> {
         self.end.next()
     }
 
+    /// Hands out a character of the command's data, if one is due, as `next` does; else nothing
+    /// changes.
+    #[inline(always)]
+    pub(crate) fn next_data(&mut self) -> Option<u8>
+        ensures sends { (byte : ℕ) → result ≡ Some byte
+            → exchange_turn self.old ≡ HostTurn.Sends byte }
+        ensures stays { result ≡ None → self.new ≡ self.old }
+        ensures goes_on { (c : spec.Command) (units : List UnitOf) (first : Option Dialogue)
+            (front : Front) (byte : ℕ) →
+            UnderWay c self.old units first front → result ≡ Some byte →
+            (new : Front) × GoesOn front (Terminal, byte) new
+            × UnderWay c self.new units first new }
+    {
+        self.end.next_data()
+    }
+
     /// Takes a character of the card. With a status the next TPDU is begun, if one follows.
     ///
     /// `BadProcedure` comes where a procedure byte is due and this is neither one nor a first

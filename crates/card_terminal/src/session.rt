@@ -1,8 +1,8 @@
-ghost use Rattle.std.specs.Prelude.{◌≡◌, ℕ, ◌<◌, ◌++◌, List, [], ◌⊎◌, true, false, MatchResult, OnOk, OnErr, IfOk, IfErr};
+ghost use Rattle.std.specs.Prelude.{◌≡◌, ℕ, ◌<◌, ◌≤◌, ◌++◌, List, [], ◌⊎◌, true, false, MatchResult, OnOk, OnErr, IfOk, IfErr};
 ghost use Rattle.apdu_core.specs.CommandBytes as spec;
 ghost use Rattle.t0_core.specs.CardHistory.{Leads, LeadsUnder};
 ghost use Rattle.t0_core.specs.CardSide.{Taking_header};
-ghost use Rattle.t0_core.specs.Plan.{Course};
+ghost use Rattle.t0_core.specs.Plan.{Course, Cursor};
 ghost use Rattle.t0_core.specs.Watch.{Hearing};
 ghost use Rattle.card_terminal.specs.Agreed.{IsAgreed};
 ghost use Rattle.card_terminal.specs.ExchangeSide.{IsBounded};
@@ -170,6 +170,41 @@ fn pass_character<A: Allocator, B: Allocator, C: TpduCard, W: Watch>(
     }
 }
 
+/// Passes the data that the terminal has to send now, so that nobody asks before each of them whose
+/// turn it is.
+#[inline(always)]
+fn pass_data<A: Allocator, C: TpduCard, W: Watch>(
+    exchange: &mut Exchange<'_, A>,
+    end: &mut CardEnd<C>,
+    watch: &mut W,
+)
+    requires { (c : spec.Command) × (first : C.State) × (all : List Course) × (since : Hearing) ×
+        (cursor : Cursor) × (IsUnderWay C.Does C.MayReceive C.MaySend first all since c
+        (C.standing end.old.card) (C.prepared end.old.card) end.old.stage exchange.old cursor
+        (W.hearing watch.old)
+        ⊎ IsFinished C.Does first all since c (C.standing end.old.card) end.old.stage
+        exchange.old cursor (W.hearing watch.old)) }
+    ensures goes_on { (c : spec.Command) (first : C.State) (all : List Course) (since : Hearing)
+        (cursor : Cursor) →
+        IsUnderWay C.Does C.MayReceive C.MaySend first all since c (C.standing end.old.card)
+        (C.prepared end.old.card) end.old.stage exchange.old cursor (W.hearing watch.old) →
+        (characters_left exchange.new end.new.stage cursor ≤ characters_left exchange.old
+        end.old.stage cursor) ×
+        IsUnderWay C.Does C.MayReceive C.MaySend first all since c (C.standing end.new.card)
+        (C.prepared end.new.card) end.new.stage exchange.new cursor (W.hearing watch.new) }
+    ensures finished { (c : spec.Command) (first : C.State) (all : List Course) (since : Hearing)
+        (cursor : Cursor) →
+        IsFinished C.Does first all since c (C.standing end.old.card) end.old.stage exchange.old
+        cursor (W.hearing watch.old) →
+        IsFinished C.Does first all since c (C.standing end.new.card) end.new.stage exchange.new
+        cursor (W.hearing watch.new) }
+{
+    'data: while let Some(byte) = exchange.next_data() {
+        end.take(byte).unwrap();
+        watch.seen(End::Terminal, byte);
+    }
+}
+
 /// Passes characters until the exchange is over, or has failed.
 #[inline(always)]
 fn converse<A: Allocator, B: Allocator, C: TpduCard, W: Watch>(
@@ -193,6 +228,7 @@ fn converse<A: Allocator, B: Allocator, C: TpduCard, W: Watch>(
     let mut going = true;
     'talk: while going {
         going = pass_character(exchange, end, plans, watch)?;
+        pass_data(exchange, end, watch);
     }
     Ok(())
 }

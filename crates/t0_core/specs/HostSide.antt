@@ -85,6 +85,21 @@ turn_of host = Turn host.stage where
   Turn (Ended status) = Done status
   Turn Broken = Failed
 
+-- the data character of its own that it sends now, if one is due
+abbrev pub own_due : Direction → List ℕ → ℕ → Option ℕ
+own_due ToCard content moved = Some (slice_index content moved)
+own_due FromCard content moved = None
+
+abbrev pub data_due : Hosting → Option ℕ
+data_due host = Due host.stage where
+  Due : HostStage → Option ℕ
+  Due (SendingHeader sent) = None
+  Due (Awaiting moved) = None
+  Due (Moving moved until) = own_due host.direction host.content moved
+  Due (AwaitingSecond sw1) = None
+  Due (Ended status) = None
+  Due Broken = None
+
 -- the data of a segment move up to a place, or have all moved
 abbrev pub moving : ℕ → ℕ → HostStage
 moving moved until = if nat_lt moved until then Moving moved until else Awaiting moved

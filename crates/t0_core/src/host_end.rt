@@ -1,10 +1,10 @@
-ghost use Rattle.std.specs.Prelude.{◌≡◌, ℕ, ◌≤◌, ◌<◌, List, [], ◌∷◌, ◌++◌, true, OnOk, OnErr, IfErr, MatchResult, IsOk, length, IfOk, is_ok, if◌then◌else◌, ◌⊎◌, ◌↔◌, Some};
+ghost use Rattle.std.specs.Prelude.{◌≡◌, ℕ, ◌≤◌, ◌<◌, List, [], ◌∷◌, ◌++◌, true, OnOk, OnErr, IfErr, MatchResult, IsOk, length, IfOk, is_ok, if◌then◌else◌, ◌⊎◌, ◌↔◌, Some, None};
 ghost use Rattle.std.specs.Result.{result_err};
 ghost use Rattle.apdu_core.specs.HeaderBytes.{ins_is_valid};
 ghost use Rattle.apdu_core.specs.StatusWord.{StatusWord, count};
-ghost use Rattle.t0_core.specs.declared.host_end.HostStage.TheVariants.{Awaiting};
+ghost use Rattle.t0_core.specs.declared.host_end.HostStage.TheVariants.{Awaiting, Moving};
 ghost use Rattle.t0_core.specs.declared.direction.Direction.TheVariants.{ToCard, FromCard};
-ghost use Rattle.t0_core.specs.HostSide.{IsInRange, IsStage, turn_of, data_turn, after_turn, moving, fault_of, data_fault, procedure_fault, step_of, after_fault, after_taking, data_in, gathered};
+ghost use Rattle.t0_core.specs.HostSide.{IsInRange, IsStage, turn_of, data_turn, data_due, after_turn, moving, fault_of, data_fault, procedure_fault, step_of, after_fault, after_taking, data_in, gathered};
 ghost use Rattle.t0_core.specs.HostView.{host_of, direction_of, content_of};
 ghost use Rattle.t0_core.specs.HostMark.{HasOnly, with_data};
 
@@ -171,6 +171,24 @@ impl<'a> HostEnd<'a> {
         turn_at(&self.request, &mut self.stage)
     }
 
+    /// Hands out a character of the command's data, if one is due, as `next` does; else nothing
+    /// changes. A loop over it passes what a procedure byte has asked for.
+    #[inline(always)]
+    pub fn next_data(&mut self) -> Option<u8>
+        ensures due { result ≡ data_due self.old }
+        ensures sends { (byte : ℕ) → result ≡ Some byte → (turn_of self.old ≡ HostTurn.Sends byte)
+            × (self.new ≡ at_stage self.old (after_turn self.old)) }
+        ensures stays { result ≡ None → self.new ≡ self.old }
+        ensures keeps { IsRequest self.new }
+
+        // With it a dialogue that the end opened goes on.
+        ensures goes_on { (front : Front) (byte : ℕ) → HostStandsAt self.old front
+            → result ≡ Some byte →
+            (new : Front) × GoesOn front (Terminal, byte) new × HostStandsAt self.new new }
+    {
+        data_at(&self.request, &mut self.stage)
+    }
+
     /// The status, if the TPDU has ended.
     #[inline(always)]
     pub fn status(&self) -> Option<Status>
@@ -252,6 +270,33 @@ fn mark_of(request: Request, stage: HostStage) -> HostMark
     }
 }
 
+/// The data character that an end at this stage sends, if one is due. It takes it to the next.
+#[inline(always)]
+fn data_at(request: &Request, stage: &mut HostStage) -> Option<u8>
+    requires { IsInRange (host_of request.now stage.old) }
+    ensures due { result ≡ data_due (host_of request.now stage.old) }
+    ensures sends { (byte : ℕ) → result ≡ Some byte →
+        (turn_of (host_of request.now stage.old) ≡ HostTurn.Sends byte)
+        × (stage.new ≡ after_turn (host_of request.now stage.old)) }
+    ensures stays { result ≡ None → stage.new ≡ stage.old }
+    ensures listens { (moved until : ℕ) → stage.old ≡ Moving moved until → result ≡ None →
+        (turn_of (host_of request.now stage.old) ≡ HostTurn.Listens)
+        × (after_turn (host_of request.now stage.old) ≡ stage.old) }
+    ensures range { IsInRange (host_of request.now stage.new) }
+{
+    match stage {
+        HostStage::Moving { moved, until } => match request.transfer {
+            Transfer::Sending(content) => {
+                let (place, end) = (*moved, *until);
+                *stage = stage_moving(place + 1, end);
+                Some(content[usize::from(place)])
+            }
+            Transfer::Asking => None,
+        },
+        _ => None,
+    }
+}
+
 /// What an end at this stage does. A character to send takes it to the next.
 #[inline(always)]
 fn turn_at(request: &Request, stage: &mut HostStage) -> HostTurn
@@ -261,13 +306,9 @@ fn turn_at(request: &Request, stage: &mut HostStage) -> HostTurn
     ensures range { IsInRange (host_of request.now stage.new) }
 {
     match stage {
-        HostStage::Moving { moved, until } => match request.transfer {
-            Transfer::Sending(content) => {
-                let (place, end) = (*moved, *until);
-                *stage = stage_moving(place + 1, end);
-                HostTurn::Sends(content[usize::from(place)])
-            }
-            Transfer::Asking => HostTurn::Listens,
+        HostStage::Moving { .. } => match data_at(request, stage) {
+            Some(byte) => HostTurn::Sends(byte),
+            None => HostTurn::Listens,
         },
         HostStage::SendingHeader { sent } => {
             let byte = opening_character(&request.header, request.p3, *sent);

@@ -107,6 +107,44 @@ fn sends_data_under_each_procedure_byte(rt: HostRuntime) -> Result<(), Fail> {
 }
 
 #[test]
+fn hands_out_data_and_nothing_else(rt: HostRuntime) -> Result<(), Fail> {
+    let mut gather = Gather::with_room(rt.alloc(), 1)?;
+    let mut end = HostEnd::sending(PUT, b"\x41\x42\x43");
+    for (run, data) in [
+        ((End::Terminal, b"".as_slice()), b"".as_slice()),
+        (
+            (End::Terminal, b"\x00\xDA\x00\x00\x03".as_slice()),
+            b"".as_slice(),
+        ),
+        ((End::Card, b"\x60".as_slice()), b"".as_slice()),
+        ((End::Card, b"\x25".as_slice()), b"\x41".as_slice()),
+        ((End::Card, b"\xDA".as_slice()), b"\x42\x43".as_slice()),
+        ((End::Card, b"\x90".as_slice()), b"".as_slice()),
+        ((End::Card, b"\x00".as_slice()), b"".as_slice()),
+    ] {
+        pass(&rt, &mut end, &mut gather, &[run]);
+        for &byte in data {
+            assert_eq!(rt; end.next_data(), Some(byte));
+        }
+        assert_eq!(rt; end.next_data(), None);
+    }
+    is_done(&rt, &mut end, 0x9000);
+
+    let mut end = HostEnd::asking(GET, 1);
+    let opening = b"\x00\xCA\x00\x00\x01".as_slice();
+    pass(
+        &rt,
+        &mut end,
+        &mut gather,
+        &[(End::Terminal, opening), (End::Card, b"\xCA")],
+    );
+    assert_eq!(rt; end.next_data(), None);
+    pass(&rt, &mut end, &mut gather, &[(End::Card, b"\x41\x90\x00")]);
+    is_done(&rt, &mut end, 0x9000);
+    Ok(())
+}
+
+#[test]
 fn listens_to_nothing_while_it_sends(rt: HostRuntime) -> Result<(), Fail> {
     let mut gather = Gather::with_room(rt.alloc(), 2)?;
     let mut end = HostEnd::sending(PUT, b"\x41\x42");

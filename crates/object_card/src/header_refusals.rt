@@ -200,5 +200,5 @@ pub(crate) fn object_asked<A: Allocator>(view: &View<A>, header: Header) -> Opti
         return None;
     };
     let len = application.value(place).len();
-    Some(Response::object(head(tag.tag(), len as u16).bytes(), place))
+    Some(Response::object(&head(tag.tag(), len as u16), place))
 }

@@ -6,6 +6,7 @@ ghost use Rattle.object_card.specs.CardFields.{IsResponse, IsWhole, entries_at, 
 use crate::aid::Aid;
 use crate::application::Application;
 use std::alloc::Allocator;
+use tlv_core::Head;
 
 /// The most bytes that stand before a value, or of the file control information.
 const ROOM: usize = 20;
@@ -27,20 +28,28 @@ impl Response {
     {
         let bytes = aid.bytes();
         let len = bytes.len() as u8;
-        Response::new(&[0x6F, len + 2, 0x84, len], bytes, None)
+        Response::new(&[0x6F, len + 2, 0x84, len], bytes)
     }
 
-    /// The data object whose tag and length these are, and whose value stands at this place, whole.
-    pub(crate) fn object(head: &[u8], place: usize) -> Response
-        requires { length head.now ≤ 20 }
+    /// The data object with this tag and length, whose value stands at this place, whole. What
+    /// stands before the value is copied with its padding, since six bytes are copied faster than
+    /// as many as there are.
+    pub(crate) fn object(head: &Head, place: usize) -> Response
         ensures { IsWhole result head.now (Some place) }
     {
-        Response::new(head, &[], Some(place))
+        let mut front = [0; ROOM];
+        front[..6].copy_from_slice(&head.padded());
+        Response {
+            front,
+            len: head.bytes().len(),
+            value: Some(place),
+            sent: 0,
+        }
     }
 
-    fn new(first: &[u8], second: &[u8], value: Option<usize>) -> Response
+    fn new(first: &[u8], second: &[u8]) -> Response
         requires { length first.now + length second.now ≤ 20 }
-        ensures { IsWhole result (first.now ++ second.now) value }
+        ensures { IsWhole result (first.now ++ second.now) None }
     {
         let mut front = [0; ROOM];
         let len = first.len() + second.len();
@@ -49,7 +58,7 @@ impl Response {
         Response {
             front,
             len,
-            value,
+            value: None,
             sent: 0,
         }
     }

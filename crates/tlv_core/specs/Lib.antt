@@ -2,6 +2,7 @@ pub mod TagForm
 pub mod Tag
 pub mod FrontParts
 pub mod Length
+pub mod HeadCells
 pub mod Spelling
 pub mod Items
 pub mod ItemCodes

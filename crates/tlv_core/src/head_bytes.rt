@@ -10,20 +10,30 @@ pub struct Head {
 }
 
 impl Model for Head {
-    ghost use Rattle.std.specs.Prelude.{List, ℕ, take, ◌≤◌};
+    ghost use Rattle.std.specs.Prelude.{List, ℕ, take};
+    ghost use Rattle.tlv_core.specs.HeadCells.{IsPaddedHead};
 
     ghost Value = { List ℕ };
 
     ghost view = { λ h. take h.len h.bytes };
 
-    ghost invariant = { λ h. h.len ≤ 6 };
+    ghost invariant = { λ h. IsPaddedHead h.bytes h.len };
 }
 
 impl Head {
+    ghost use Rattle.tlv_core.specs.HeadCells.{padded};
+
     /// The bytes: a tag and a length, two to six of them.
     pub fn bytes(&self) -> &[u8]
         ensures { result.now ≡ self.now }
     {
         &self.bytes[..self.len]
+    }
+
+    /// The bytes, with `00` after them up to six, so that they can be copied all at once.
+    pub fn padded(&self) -> [u8; 6]
+        ensures { result ≡ padded self.now }
+    {
+        self.bytes
     }
 }

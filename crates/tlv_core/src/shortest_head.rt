@@ -16,15 +16,16 @@ pub fn head(tag: Tag, len: u16) -> Head
     }
 }
 
-/// The tag, followed by a spelled length.
+/// The tag, followed by a spelled length. The tag is copied with its padding, which the length and
+/// the padding of the whole then replace.
 fn joined(tag: Tag, size: &[u8]) -> Head
     requires { length size.now ≤ 3 }
     ensures { result ≡ tag ++ size.now }
 {
-    let mut bytes = [0; 6];
-    let front = tag.bytes();
-    let len = front.len() + size.len();
-    bytes[..front.len()].copy_from_slice(front);
-    bytes[front.len()..len].copy_from_slice(size);
+    let [first, second, third] = tag.padded();
+    let mut bytes = [first, second, third, 0, 0, 0];
+    let place = tag.bytes().len();
+    let len = place + size.len();
+    bytes[place..len].copy_from_slice(size);
     Head { bytes, len }
 }

@@ -29,6 +29,8 @@ impl Model for Tag {
 }
 
 impl Tag {
+    ghost use Rattle.tlv_core.specs.Tag.{padded};
+
     /// Reads the tag at the front of `bytes`, with its size in bytes.
     ///
     /// Both faults are at place 0: `TagCut` where the bytes end before the tag does, also where
@@ -67,6 +69,13 @@ impl Tag {
             },
             _ => unreachable!(),
         }
+    }
+
+    /// The bytes of the tag, with `00` after them up to three.
+    pub(crate) fn padded(&self) -> [u8; 3]
+        ensures { result ≡ padded self.now }
+    {
+        self.bytes
     }
 
     /// Whether the value is a list of objects: bit 6 of the first byte.

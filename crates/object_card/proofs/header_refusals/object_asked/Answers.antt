@@ -24,7 +24,7 @@ returns-clause-asked g c =
     let value = value_at c.in_ok-application.application.now.entries (Some c.in-Some.place) in
     let whole : left_of (entries_at c.args.view.now.applications.now c.args.view.now.selected) c.object.result ≡ object_bytes c.in_ok-tag.tag value =
     ap (λ es. left_of es c.object.result) entries ∙ held.whole_left _ c.object.result _ _ c.object.ensures
-    ∙ ap (λ f. f ++ value) (c.bytes.ensures ∙ c.head.ensures ∙ ap (λ t. t ++ shortest (length c.value-len.result.now)) c.tag.ensures.tag)
+    ∙ ap (λ f. f ++ value) (c.head.ensures ∙ ap (λ t. t ++ shortest (length c.value-len.result.now)) c.tag.ensures.tag)
     ∙ ap (λ v. c.in_ok-tag.tag ++ shortest (length v) ++ value) c.value-len.ensures in
     ap Some whole ∙ sym (refusals.asked_known (state_of c.args.view.now.applications.now c.args.view.now.selected c.args.view.now.chain.now c.args.view.now.response) c.args.header _ _ selected named ∙ ap (option_map (object_bytes c.in_ok-tag.tag)) found)
 

@@ -1,18 +1,99 @@
--- The first `len` cells are what the two copies wrote, one after the other.
-use Rattle.std.proofs.Common.{ℕ, List, ◌≡◌, ◌++◌, ◌∙◌, ◌+◌, ◌-◌, ap, take, length, drop, arith, length-append}
-use Rattle.std.proofs.lemmas.Slice.{take-put_mid}
-use Rattle.std.proofs.lemmas.List.{take_at}
+-- The tag with its padding, and then the length, and what is left of the padding.
+use Rattle.std.proofs.Common.{◌≡◌, ℕ, ◌+◌, ◌-◌, ◌≤◌, List, [], ◌∷◌, ◌++◌, length, take, drop, replicate, refl, sym, subst, ◌∙◌, ap, arith, append_assoc, length-append}
+use Rattle.std.specs.Prelude.{slice_index_or}
+use Rattle.std.proofs.lemmas.List.{take_at, drop_at, drop-replicate, length-replicate, replicate-append-replicate}
 use borrow.Rule.Slice.PartMut.{put_mid}
+use Rattle.tlv_core.specs.TagForm.{IsTag}
+use Rattle.tlv_core.specs.HeadCells.{padded, IsPaddedHead}
 use Rattle.tlv_core.proofs.shortest_head.joined.Goals as goal
 
-both_copied : (tag size first second cells : List ℕ) (a n : ℕ) → first ≡ tag → second ≡ size → length first ≡ a → n ≡ a + length second
-    → take n (put_mid a (n - a) (first ++ drop a cells) second) ≡ tag ++ size
-both_copied tag size first second cells a n e1 e2 ea en =
-    take-put_mid a (n - a) (first ++ drop a cells) second n en (omega (arith, length-append first (drop a cells)))
-    ∙ ap (λ x. x ++ second) (take_at first (drop a cells) a ea) ∙ cc
+at_most_three : (tag : List ℕ) → IsTag tag → length tag ≤ 3
+at_most_three [] is = absurd is
+at_most_three (a ∷ []) is = omega arith
+at_most_three (a ∷ b ∷ []) is = omega arith
+at_most_three (a ∷ b ∷ c ∷ []) is = omega arith
+at_most_three (a ∷ b ∷ c ∷ d ∷ rest) is = absurd is
+
+three_long : (tag p : List ℕ) → IsTag tag → p ≡ tag ++ replicate (3 - length tag) 0
+    → length p ≡ 3
+three_long tag p is e =
+    let left : List ℕ = replicate (3 - length tag) 0 in
+    omega (
+      arith,
+      ap length e,
+      length-append tag left,
+      length-replicate {A = ℕ} (3 - length tag) 0,
+      at_most_three tag is,
+    )
+
+three : (p : List ℕ) → length p ≡ 3
+    → slice_index_or p 0 0 ∷ slice_index_or p 1 0 ∷ slice_index_or p 2 0 ∷ 0 ∷ 0 ∷ 0 ∷ []
+    ≡ p ++ replicate 3 0
+three [] long = absurd (omega (arith, long))
+three (a ∷ []) long = absurd (omega (arith, long))
+three (a ∷ b ∷ []) long = absurd (omega (arith, long))
+three (a ∷ b ∷ c ∷ []) long = refl
+three (a ∷ b ∷ c ∷ d ∷ rest) long = absurd (omega (arith, long))
+
+-- three cells with the tag in front, and three more
+six : (tag : List ℕ) → length tag ≤ 3
+    → (tag ++ replicate (3 - length tag) 0) ++ replicate 3 0 ≡ padded tag
+six tag short =
+    let e : 3 - length tag + 3 ≡ 6 - length tag = omega (arith, short) in
+    append_assoc tag (replicate (3 - length tag) 0) (replicate 3 0)
+    ∙ ap (λ l. tag ++ l) (replicate-append-replicate (3 - length tag) 3 0
+    ∙ ap (λ n. replicate n 0) e)
+
+length_put : (tag size : List ℕ)
+    → put_mid (length tag) (length size) (padded tag) size ≡ padded (tag ++ size)
+length_put tag size =
+    let left = replicate (6 - length tag) 0 in
+    let n = length tag in
+    let k = length size in
+    let e : 6 - n - k ≡ 6 - length (tag ++ size) = omega (arith, length-append tag size) in
+    ap (λ l. l ++ (size ++ drop k (drop n (tag ++ left)))) (take_at tag left n refl)
+    ∙ ap (λ l. tag ++ (size ++ drop k l)) (drop_at tag left n refl)
+    ∙ ap (λ l. tag ++ (size ++ l)) (drop-replicate k (6 - n) 0 ∙ ap (λ m. replicate m 0) e)
+    ∙ sym (append_assoc tag size (replicate (6 - length (tag ++ size)) 0))
+
+-- all cells, once the length is put behind the tag
+cells : (tag size start rest p : List ℕ) (a k : ℕ) → IsTag tag
+    → p ≡ tag ++ replicate (3 - length tag) 0 → a ≡ length tag → rest ≡ size → k ≡ length size
+    → start ≡ p ++ replicate 3 0 → put_mid a k start rest ≡ padded (tag ++ size)
+cells tag size start rest p a k is e_p e_a e_rest e_k e_start =
+    let whole : start ≡ padded tag = e_start ∙ ap (λ l. l ++ replicate 3 0) e_p
+    ∙ six tag (at_most_three tag is) in
+    ap (λ n. put_mid n k start rest) e_a ∙ ap (λ n. put_mid (length tag) n start rest) e_k
+    ∙ ap (λ xs. put_mid (length tag) (length size) xs rest) whole
+    ∙ ap (λ ys. put_mid (length tag) (length size) (padded tag) ys) e_rest
+    ∙ length_put tag size
+
+view : (bytes all : List ℕ) (len : ℕ) → all ≡ padded bytes → length bytes ≡ len
+    → take len all ≡ bytes
+view bytes all len e long = ap (take len) e
+    ∙ take_at bytes (replicate (6 - length bytes) 0) len long
 
 pub returns : goal.returns
 returns c =
-    let first : length c.copy_from_slice.new.self ≡ length c.bytes-front.result.now = ap length c.copy_from_slice.ensures.after in
-    let second : length c.copy_from_slice-2.new.self ≡ length c.args.size.now = ap length c.copy_from_slice-2.ensures.after in
-    both_copied _ _ _ _ _ _ _ (c.copy_from_slice.ensures.after ∙ c.bytes-front.ensures.bytes) c.copy_from_slice-2.ensures.after first (omega arith)
+    let tag = c.args.tag in
+    let size = c.args.size.now in
+    let place : length c.bytes-place.result.now ≡ length tag =
+    ap length c.bytes-place.ensures.bytes in
+    let is = c.bytes-place.ensures.tag in
+    view (tag ++ size) _ _ (cells tag size _ c.copy_from_slice.new.self c.padded.result _ _ is
+    c.padded.ensures place c.copy_from_slice.ensures.after (omega arith)
+    (three c.padded.result (three_long tag _ is c.padded.ensures))) (omega (arith, length-append tag size, place))
+
+pub invariant_of-result : goal.invariant_of-result
+invariant_of-result c =
+    let tag = c.args.tag in
+    let size = c.args.size.now in
+    let place : length c.bytes-place.result.now ≡ length tag =
+    ap length c.bytes-place.ensures.bytes in
+    let is = c.bytes-place.ensures.tag in
+    record {
+      fits = omega (arith, place, at_most_three tag is, c.requires);
+      is_padded = cells tag size _ c.copy_from_slice.new.self c.padded.result _ _ is
+          c.padded.ensures place c.copy_from_slice.ensures.after (omega arith)
+          (three c.padded.result (three_long tag _ is c.padded.ensures)) ∙ ap padded (sym (returns c));
+    }

@@ -861,6 +861,17 @@ pub under_too : (c : Command) (old new : ExchangeOf) (units : List UnitOf)
 under_too c old new units tried front is under = let P : ExchangeOf
     → Type 0 = λ e. UnderWay c e units tried front in subst P (sym is) under
 
+pub under_way_too : {State : Type 0} (Does : State → ℕ → Tpdu → State → Type 0)
+    (R S : ℕ → Type 0) (first : State) (plans : List Course) (since : Hearing) (c : Command)
+    (standing : State) (prepared : Prepared State) (stage : Stage) (old new : ExchangeOf)
+    (cursor : Cursor) (now : Hearing) → new ≡ old
+    → IsUnderWay Does R S first plans since c standing prepared stage old cursor now
+    → IsUnderWay Does R S first plans since c standing prepared stage new cursor now
+under_way_too Does R S first plans since c standing prepared stage old new cursor now is under =
+    let P : ExchangeOf → Type 0 =
+    λ e. IsUnderWay Does R S first plans since c standing prepared stage e cursor now in
+    subst P (sym is) under
+
 pub never_under : (R S : ℕ → Type 0) (c : Command) (ex : ExchangeOf) (units : List UnitOf)
     (tried : Option Dialogue) (front : Front) → IsAgreed R S c → UnderWay c ex units tried front
     → Never R S ex.host.direction ex.host.header.ins

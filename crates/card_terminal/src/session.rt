@@ -5,7 +5,7 @@ ghost use Rattle.t0_core.specs.CardSide.{Taking_header};
 ghost use Rattle.t0_core.specs.Plan.{Course, Cursor};
 ghost use Rattle.t0_core.specs.Watch.{Hearing};
 ghost use Rattle.card_terminal.specs.Agreed.{IsAgreed};
-ghost use Rattle.card_terminal.specs.ExchangeSide.{IsBounded};
+ghost use Rattle.card_terminal.specs.ExchangeSide.{IsBounded, exchange_turn};
 ghost use Rattle.card_terminal.specs.Conversing.{IsUnderWay, IsFinished, IsCaused, characters_left};
 
 mod run;
@@ -115,10 +115,80 @@ impl<C: TpduCard> Session<C> {
     }
 }
 
-/// Passes one character from the end whose turn it is to the other, and tells the watch. The answer
-/// is whether there was one.
+/// Passes the card's next character to the terminal, and tells the watch.
 #[inline(always)]
-fn pass_character<A: Allocator, B: Allocator, C: TpduCard, W: Watch>(
+fn pass_from_card<A: Allocator, B: Allocator, C: TpduCard, W: Watch>(
+    exchange: &mut Exchange<'_, A>,
+    end: &mut CardEnd<C>,
+    plans: &mut Plans<B>,
+    watch: &mut W,
+) -> Result<(), LineFault>
+    requires under_way { (c : spec.Command) × (first : C.State) × (all : List Course)
+        × (since : Hearing) × IsUnderWay C.Does C.MayReceive C.MaySend first all since c
+        (C.standing end.old.card) (C.prepared end.old.card) end.old.stage exchange.old plans.old
+        (W.hearing watch.old) }
+    requires listens { exchange_turn exchange.old ≡ HostTurn.Listens }
+    ensures { (c : spec.Command) (first : C.State) (all : List Course) (since : Hearing) →
+        IsUnderWay C.Does C.MayReceive C.MaySend first all since c (C.standing end.old.card)
+        (C.prepared end.old.card) end.old.stage exchange.old plans.old (W.hearing watch.old) →
+        MatchResult result
+        (λ _. (characters_left exchange.new end.new.stage plans.new < characters_left
+        exchange.old end.old.stage plans.old) ×
+        (IsUnderWay C.Does C.MayReceive C.MaySend first all since c (C.standing end.new.card)
+        (C.prepared end.new.card) end.new.stage exchange.new plans.new (W.hearing watch.new)
+        ⊎ IsFinished C.Does first all since c (C.standing end.new.card) end.new.stage
+        exchange.new plans.new (W.hearing watch.new)))
+        (λ fault. IsCaused C.Does first all since c (C.standing end.new.card) plans.new
+        (W.hearing watch.new) fault) }
+{
+    let Turn::Sends(byte) = end.turn(plans) else {
+        unreachable!()
+    };
+    watch.seen(End::Card, byte);
+    exchange.take(byte)?;
+    Ok(())
+}
+
+/// Passes the data that the terminal has to send now, so that nobody asks before each of them whose
+/// turn it is.
+#[inline(always)]
+fn pass_data<A: Allocator, C: TpduCard, W: Watch>(
+    exchange: &mut Exchange<'_, A>,
+    end: &mut CardEnd<C>,
+    watch: &mut W,
+)
+    requires { (c : spec.Command) × (first : C.State) × (all : List Course) × (since : Hearing) ×
+        (cursor : Cursor) × (IsUnderWay C.Does C.MayReceive C.MaySend first all since c
+        (C.standing end.old.card) (C.prepared end.old.card) end.old.stage exchange.old cursor
+        (W.hearing watch.old)
+        ⊎ IsFinished C.Does first all since c (C.standing end.old.card) end.old.stage
+        exchange.old cursor (W.hearing watch.old)) }
+    ensures goes_on { (c : spec.Command) (first : C.State) (all : List Course) (since : Hearing)
+        (cursor : Cursor) →
+        IsUnderWay C.Does C.MayReceive C.MaySend first all since c (C.standing end.old.card)
+        (C.prepared end.old.card) end.old.stage exchange.old cursor (W.hearing watch.old) →
+        (characters_left exchange.new end.new.stage cursor ≤ characters_left exchange.old
+        end.old.stage cursor) ×
+        IsUnderWay C.Does C.MayReceive C.MaySend first all since c (C.standing end.new.card)
+        (C.prepared end.new.card) end.new.stage exchange.new cursor (W.hearing watch.new) }
+    ensures finished { (c : spec.Command) (first : C.State) (all : List Course) (since : Hearing)
+        (cursor : Cursor) →
+        IsFinished C.Does first all since c (C.standing end.old.card) end.old.stage exchange.old
+        cursor (W.hearing watch.old) →
+        IsFinished C.Does first all since c (C.standing end.new.card) end.new.stage exchange.new
+        cursor (W.hearing watch.new) }
+{
+    'data: while let Some(byte) = exchange.next_data() {
+        end.take(byte).unwrap();
+        watch.seen(End::Terminal, byte);
+    }
+}
+
+/// Passes one character from the end whose turn it is to the other, and after one of the card the
+/// data that the terminal then has to send, and tells the watch. The answer is whether there was
+/// one.
+#[inline(always)]
+fn pass_characters<A: Allocator, B: Allocator, C: TpduCard, W: Watch>(
     exchange: &mut Exchange<'_, A>,
     end: &mut CardEnd<C>,
     plans: &mut Plans<B>,
@@ -158,50 +228,12 @@ fn pass_character<A: Allocator, B: Allocator, C: TpduCard, W: Watch>(
             Ok(true)
         }
         HostTurn::Listens => {
-            let Turn::Sends(byte) = end.turn(plans) else {
-                unreachable!()
-            };
-            watch.seen(End::Card, byte);
-            exchange.take(byte)?;
+            pass_from_card(exchange, end, plans, watch)?;
+            pass_data(exchange, end, watch);
             Ok(true)
         }
         HostTurn::Done(_) => Ok(false),
         HostTurn::Failed => unreachable!(),
-    }
-}
-
-/// Passes the data that the terminal has to send now, so that nobody asks before each of them whose
-/// turn it is.
-#[inline(always)]
-fn pass_data<A: Allocator, C: TpduCard, W: Watch>(
-    exchange: &mut Exchange<'_, A>,
-    end: &mut CardEnd<C>,
-    watch: &mut W,
-)
-    requires { (c : spec.Command) × (first : C.State) × (all : List Course) × (since : Hearing) ×
-        (cursor : Cursor) × (IsUnderWay C.Does C.MayReceive C.MaySend first all since c
-        (C.standing end.old.card) (C.prepared end.old.card) end.old.stage exchange.old cursor
-        (W.hearing watch.old)
-        ⊎ IsFinished C.Does first all since c (C.standing end.old.card) end.old.stage
-        exchange.old cursor (W.hearing watch.old)) }
-    ensures goes_on { (c : spec.Command) (first : C.State) (all : List Course) (since : Hearing)
-        (cursor : Cursor) →
-        IsUnderWay C.Does C.MayReceive C.MaySend first all since c (C.standing end.old.card)
-        (C.prepared end.old.card) end.old.stage exchange.old cursor (W.hearing watch.old) →
-        (characters_left exchange.new end.new.stage cursor ≤ characters_left exchange.old
-        end.old.stage cursor) ×
-        IsUnderWay C.Does C.MayReceive C.MaySend first all since c (C.standing end.new.card)
-        (C.prepared end.new.card) end.new.stage exchange.new cursor (W.hearing watch.new) }
-    ensures finished { (c : spec.Command) (first : C.State) (all : List Course) (since : Hearing)
-        (cursor : Cursor) →
-        IsFinished C.Does first all since c (C.standing end.old.card) end.old.stage exchange.old
-        cursor (W.hearing watch.old) →
-        IsFinished C.Does first all since c (C.standing end.new.card) end.new.stage exchange.new
-        cursor (W.hearing watch.new) }
-{
-    'data: while let Some(byte) = exchange.next_data() {
-        end.take(byte).unwrap();
-        watch.seen(End::Terminal, byte);
     }
 }
 
@@ -227,8 +259,7 @@ fn converse<A: Allocator, B: Allocator, C: TpduCard, W: Watch>(
 {
     let mut going = true;
     'talk: while going {
-        going = pass_character(exchange, end, plans, watch)?;
-        pass_data(exchange, end, watch);
+        going = pass_characters(exchange, end, plans, watch)?;
     }
     Ok(())
 }

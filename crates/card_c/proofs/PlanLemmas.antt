@@ -9,7 +9,8 @@ use Rattle.card_c.proofs.SessionLemmas.{as_it_is}
 abbrev IsLetter : ℕ → Type 0
 IsLetter b = (b ≡ 0x6E) ⊎ ((b ≡ 0x6F) ⊎ (b ≡ 0x61))
 
-letter_at : (steps : List Step) (k : ℕ) → k < length (map letter_of steps) → IsLetter (get_or (map letter_of steps) k 0)
+letter_at : (steps : List Step) (k : ℕ) → k < length (map letter_of steps)
+    → IsLetter (get_or (map letter_of steps) k 0)
 letter_at [] k lt = absurd (omega arith)
 letter_at (Null ∷ steps) zero lt = inl refl
 letter_at (One ∷ steps) zero lt = inr (inl refl)
@@ -17,13 +18,15 @@ letter_at (All ∷ steps) zero lt = inr (inr refl)
 letter_at (step ∷ steps) (suc k) lt = letter_at steps k (omega (arith, lt))
 
 -- each of them is a letter
-pub is_letter : (letters : List ℕ) (k : ℕ) → k < length letters → AreSteps letters → IsLetter (get_or letters k 0)
+pub is_letter : (letters : List ℕ) (k : ℕ) → k < length letters → AreSteps letters
+    → IsLetter (get_or letters k 0)
 is_letter letters k lt (steps, e) =
     let P : List ℕ → Type 0 = λ xs. k < length xs → IsLetter (get_or xs k 0) in
     subst P (sym e) (letter_at steps k) lt
 
 -- where another letter stands there are no steps
-pub no_steps : (letters : List ℕ) (k : ℕ) → k < length letters → get_or letters k 0 ≢ 0x6E → get_or letters k 0 ≢ 0x6F
+pub no_steps : (letters : List ℕ) (k : ℕ) → k < length letters → get_or letters k 0 ≢ 0x6E
+    → get_or letters k 0 ≢ 0x6F
     → get_or letters k 0 ≢ 0x61 → AreSteps letters → ⊥
 no_steps letters k lt null one all h = of (is_letter letters k lt h)
   where
@@ -47,8 +50,11 @@ one_letter (b ∷ letters) (suc k) lt letter ([], e) = absurd (cc e)
 one_letter (b ∷ letters) (suc k) lt letter (step ∷ steps, e) =
     let head : b ≡ letter_of step = cc in
     let tail : take k letters ≡ map letter_of steps = cc in
-    let more = one_letter letters k (omega (arith, lt)) letter (steps, tail) in
-    (step ∷ more.0, ap (λ (x : ℕ). x ∷ take (suc k) letters) head ∙ ap (λ (xs : List ℕ). letter_of step ∷ xs) more.1)
+    let more = one_letter letters k (omega (arith, lt)) letter (steps, tail) in (
+      step ∷ more.0,
+      ap (λ (x : ℕ). x ∷ take (suc k) letters) head
+          ∙ ap (λ (xs : List ℕ). letter_of step ∷ xs) more.1,
+    )
 
 -- one letter more
 pub one_more : (letters : List ℕ) (k : ℕ) → k < length letters → IsLetter (get_or letters k 0)
@@ -58,11 +64,14 @@ one_more letters k lt letter h =
     subst (λ (n : ℕ). AreSteps (take n letters)) next (one_letter letters k lt letter h)
 
 -- memory is wanting for a plan that is one
-pub wanting : (letters : List ℕ) (cut : ℕ) → AreSteps letters → 1 ≤ cut → cut ≤ 256 → IsRefused letters cut gt_memory
-wanting letters cut (steps, e) low high = inr (record { steps = steps; cut = cut }, (e, refl, (low, high)), refl)
+pub wanting : (letters : List ℕ) (cut : ℕ) → AreSteps letters → 1 ≤ cut → cut ≤ 256
+    → IsRefused letters cut gt_memory
+wanting letters cut (steps, e) low high = inr
+    (record { steps = steps; cut = cut }, (e, refl, (low, high)), refl)
 
 -- the code of what refuses a plan goes through a register as it is
-pub refused_code : (letters : List ℕ) (cut : ℕ) (code : ℤ) → IsRefused letters cut code → to_z w32 (of_z w32 code) ≡ code
+pub refused_code : (letters : List ℕ) (cut : ℕ) (code : ℤ) → IsRefused letters cut code
+    → to_z w32 (of_z w32 code) ≡ code
 refused_code letters cut code (inl (none, is)) =
     subst (λ (z : ℤ). to_z w32 (of_z w32 z) ≡ z) (sym is) (as_it_is gt_argument (lit< tt))
 refused_code letters cut code (inr (plan, spelt, is)) =

@@ -855,12 +855,6 @@ silent_turn stage byte whose = by (listens stage) whose.1
 pub listening_sends_nothing : (byte : ℕ) → Listens ≡ Sends byte → ⊥
 listening_sends_nothing byte e = absurd (cc)
 
-pub under_too : (c : Command) (old new : ExchangeOf) (units : List UnitOf)
-    (tried : Option Dialogue) (front : Front) → new ≡ old → UnderWay c old units tried front
-    → UnderWay c new units tried front
-under_too c old new units tried front is under = let P : ExchangeOf
-    → Type 0 = λ e. UnderWay c e units tried front in subst P (sym is) under
-
 pub under_way_too : {State : Type 0} (Does : State → ℕ → Tpdu → State → Type 0)
     (R S : ℕ → Type 0) (first : State) (plans : List Course) (since : Hearing) (c : Command)
     (standing : State) (prepared : Prepared State) (stage : Stage) (old new : ExchangeOf)
@@ -903,16 +897,6 @@ pub on_its_plan : {State : Type 0} (Does : State → ℕ → Tpdu → State → 
     → Advances Does cut plan stage front byte old new prepared next
 on_its_plan Does cut stage next front byte old new prepared kept plan is steps = let P : Course
     → Type 0 = λ k. Advances Does cut k stage front byte old new prepared next in subst P is steps
-
--- the fault that a character is
-abbrev pub IsFaultOf : ExchangeOf → ℕ → LineFault → Type 0
-IsFaultOf ex byte fault = (fault_of ex.host ex.gather byte ≡ Some fault)
-    ⊎ ((fault ≡ Stalled) × (fault_of ex.host ex.gather byte ≡ None))
-
-pub fault_too : (old new : ExchangeOf) (byte : ℕ) (fault : LineFault) → new ≡ old
-    → IsFaultOf new byte fault → IsFaultOf old byte fault
-fault_too old new byte fault is faults = let P : ExchangeOf
-    → Type 0 = λ e. IsFaultOf e byte fault in subst P is faults
 
 -- a step of the loop: what goes on falls, and what is over stops
 pub smaller : (old new : ℕ) (going : Bool) (A B : Type 0) → A ⊎ B

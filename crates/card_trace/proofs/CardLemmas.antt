@@ -78,7 +78,8 @@ ready_both past a b p q now ready =
       taken = l;
     }) now in
     let events : (past.events ++ passed a) ++ passed b ≡ past.events ++ passed (a ++ b) =
-    append_assoc past.events (passed a) (passed b) ∙ ap (λ l. past.events ++ l) (sym (passed_both a b)) in
+    append_assoc past.events (passed a) (passed b)
+    ∙ ap (λ l. past.events ++ l) (sym (passed_both a b)) in
     subst T (append_assoc past.taken p q)
     (subst C (append_assoc past.came a b) (subst E events ready))
 
@@ -86,10 +87,13 @@ in_turn_both : (left p mid q still : List Course) → TakeInTurn left p mid → 
     → TakeInTurn left (p ++ q) still
 in_turn_both left [] mid q still same then_q =
     let P : List Course → Type 0 = λ l. TakeInTurn l q still in subst P same then_q
-in_turn_both [] (x ∷ p) mid q still first then_q = (first.0, in_turn_both [] p mid q still first.1 then_q)
-in_turn_both (n ∷ left) (x ∷ p) mid q still first then_q = (first.0, in_turn_both left p mid q still first.1 then_q)
+in_turn_both [] (x ∷ p) mid q still first then_q =
+    (first.0, in_turn_both [] p mid q still first.1 then_q)
+in_turn_both (n ∷ left) (x ∷ p) mid q still first then_q =
+    (first.0, in_turn_both left p mid q still first.1 then_q)
 
-lead_both : (old mid new : AtWork) (a b : List Character) → LeadOn old a mid → LeadOn mid b new → LeadOn old (a ++ b) new
+lead_both : (old mid new : AtWork) (a b : List Character) → LeadOn old a mid → LeadOn mid b new
+    → LeadOn old (a ++ b) new
 lead_both old mid new a b first second = λ past ready.
     let f = first past ready in
     let s = second (heard past a f.0) f.2 in (
@@ -121,7 +125,8 @@ ready_same past now ready =
       came = past.came ++ [];
       taken = l;
     }) now in
-    subst T (sym (append-nil past.taken)) (subst C (sym (append-nil past.came)) (subst E (sym (append-nil past.events)) ready))
+    subst T (sym (append-nil past.taken))
+    (subst C (sym (append-nil past.came)) (subst E (sym (append-nil past.events)) ready))
 
 -- by no characters
 pub lead_none : (now : AtWork) (none : List Character) → none ≡ [] → LeadOn now none now
@@ -132,11 +137,14 @@ lead_none now none is =
 -- none is no more than are asked for
 pub none_within : (most : Option ℕ) (none : List ℕ) → none ≡ [] → IfSome most (λ n. length none ≤ n)
 none_within None none is = tt
-none_within (Some n) none is = let no_length : length none ≡ 0 = ap length is in omega (arith, no_length)
+none_within (Some n) none is = let no_length : length none ≡ 0 = ap length is in
+    omega (arith, no_length)
 
 -- one more character, of those that so far have passed
-pub lead_one_more : (from : End) (old mid new : AtWork) (bytes more : List ℕ) (byte : ℕ) → more ≡ bytes ++ byte ∷ []
-    → LeadOn old (sent_by from bytes) mid → LeadOn mid ((from, byte) ∷ []) new → LeadOn old (sent_by from more) new
+pub lead_one_more : (from : End) (old mid new : AtWork) (bytes more : List ℕ) (byte : ℕ) → more
+    ≡ bytes ++ byte ∷ []
+    → LeadOn old (sent_by from bytes) mid → LeadOn mid ((from, byte) ∷ []) new
+    → LeadOn old (sent_by from more) new
 lead_one_more from old mid new bytes more byte is so_far one =
     let P : List Character → Type 0 = λ l. LeadOn old l new in
     subst P (sym (sent_one_more from bytes byte) ∙ ap (sent_by from) (sym is))
@@ -151,77 +159,92 @@ takes_next [] kept = (refl, refl)
 takes_next (p ∷ left) kept = (refl, refl)
 
 -- at its turn, with a plan taken before, the end is on the plan that is kept
-kept_is_last : (past : Past) (now : AtWork) → IsReady past now → listens now.0.stage ≡ false → takes_plan now.0.stage ≡ false
+kept_is_last : (past : Past) (now : AtWork) → IsReady past now → listens now.0.stage ≡ false
+    → takes_plan now.0.stage ≡ false
     → IsTakenLast (plan_kept now.1) past.taken
 kept_is_last past now ready silent none =
     let under = ready.led.under_plans in
-    ready.keeps plain (answers_on Does now.0.card.state now.0.card.prepared now.0.stage under.plan.cut plain under.front
+    ready.keeps plain (answers_on Does now.0.card.state now.0.card.prepared now.0.stage
+    under.plan.cut plain under.front
     under.at_front.stands silent none)
 
 -- a character of the card
-pub lead_turn : (old new : EndOf CardView) (before after : Cursor) (byte : ℕ) → listens old.stage ≡ false
+pub lead_turn : (old new : EndOf CardView) (before after : Cursor) (byte : ℕ) → listens old.stage
+    ≡ false
     → after ≡ (if takes_plan old.stage then advanced before else before)
     → ((first : CardState) (events : List Event)
     → Leads Does after_reset first events old.card.state old.card.prepared old.stage
-    → Leads Does after_reset first (events ++ Passed (Card, byte) ∷ []) new.card.state new.card.prepared new.stage)
+    → Leads Does after_reset first (events ++ Passed (Card, byte) ∷ []) new.card.state
+    new.card.prepared new.stage)
     → ((first : CardState) (came : List Character) (taken : List Course)
     → LeadsUnder Does first came taken old.card.state old.card.prepared old.stage
     → (takes_plan old.stage ≡ false → IsTakenLast (plan_kept before) taken)
-    → LeadsUnder Does first (came ++ (Card, byte) ∷ []) (if takes_plan old.stage then taken ++ plan_kept after ∷ [] else taken)
+    → LeadsUnder Does first (came ++ (Card, byte) ∷ [])
+    (if takes_plan old.stage then taken ++ plan_kept after ∷ [] else taken)
     new.card.state new.card.prepared new.stage)
     → LeadOn (old, before) ((Card, byte) ∷ []) (new, after)
-lead_turn old new before after byte silent is led led_under = λ past ready. by past ready (takes_plan old.stage) refl where
-  by : (past : Past) → IsReady past (old, before) → (v : Bool) → takes_plan old.stage ≡ v
-      → IsReadyBy past before.rest ((Card, byte) ∷ []) (new, after)
-  by past ready true e =
-      let is_next : after ≡ advanced before = rw e at is in
-      let T : Cursor → Type 0 = λ c. TakeInTurn before.rest (plan_kept c ∷ []) c.rest in
-      let U : Bool → Type 0 = λ w. LeadsUnder Does past.stood (past.came ++ (Card, byte) ∷ [])
-      (if w then past.taken ++ plan_kept after ∷ [] else past.taken) new.card.state new.card.prepared new.stage in (
-        plan_kept after ∷ [],
-        subst T (sym is_next) (takes_next before.rest before.kept),
-        record {
-          led = record {
-            by_all = led past.first past.events ready.led.by_all;
-            under_plans = subst U e (led_under past.stood past.came past.taken ready.led.under_plans
-                (λ none. kept_is_last past (old, before) ready silent none));
-          };
-          keeps = λ plan has. (past.taken, refl);
-        },
-      )
-  by past ready false e =
-      let same : after ≡ before = rw e at is in
-      let U : Bool → Type 0 = λ w. LeadsUnder Does past.stood (past.came ++ (Card, byte) ∷ [])
-      (if w then past.taken ++ plan_kept after ∷ [] else past.taken) new.card.state new.card.prepared new.stage in
-      let N : List Course → Type 0 = λ l. LeadsUnder Does past.stood (past.came ++ (Card, byte) ∷ []) l
-      new.card.state new.card.prepared new.stage in
-      let last : IsTakenLast (plan_kept before) past.taken = kept_is_last past (old, before) ready silent e in (
-        [],
-        ap (λ c. c.rest) same,
-        record {
-          led = record {
-            by_all = led past.first past.events ready.led.by_all;
-            under_plans = subst N (sym (append-nil past.taken))
-                (subst U e (led_under past.stood past.came past.taken ready.led.under_plans (λ none. last)));
-          };
-          keeps = λ plan has. (
-            last.0,
-            append-nil past.taken ∙ last.1 ∙ ap (λ c. last.0 ++ plan_kept c ∷ []) (sym same),
-          );
-        },
-      )
+lead_turn old new before after byte silent is led led_under =
+    λ past ready. by past ready (takes_plan old.stage) refl where
+      by : (past : Past) → IsReady past (old, before) → (v : Bool) → takes_plan old.stage ≡ v
+          → IsReadyBy past before.rest ((Card, byte) ∷ []) (new, after)
+      by past ready true e =
+          let is_next : after ≡ advanced before = rw e at is in
+          let T : Cursor → Type 0 = λ c. TakeInTurn before.rest (plan_kept c ∷ []) c.rest in
+          let U : Bool → Type 0 = λ w. LeadsUnder Does past.stood (past.came ++ (Card, byte) ∷ [])
+          (if w then past.taken ++ plan_kept after ∷ [] else past.taken) new.card.state
+          new.card.prepared new.stage in (
+            plan_kept after ∷ [],
+            subst T (sym is_next) (takes_next before.rest before.kept),
+            record {
+              led = record {
+                by_all = led past.first past.events ready.led.by_all;
+                under_plans = subst U e
+                    (led_under past.stood past.came past.taken ready.led.under_plans
+                    (λ none. kept_is_last past (old, before) ready silent none));
+              };
+              keeps = λ plan has. (past.taken, refl);
+            },
+          )
+      by past ready false e =
+          let same : after ≡ before = rw e at is in
+          let U : Bool → Type 0 = λ w. LeadsUnder Does past.stood (past.came ++ (Card, byte) ∷ [])
+          (if w then past.taken ++ plan_kept after ∷ [] else past.taken) new.card.state
+          new.card.prepared new.stage in
+          let N : List Course → Type 0 = λ l. LeadsUnder Does past.stood
+          (past.came ++ (Card, byte) ∷ []) l
+          new.card.state new.card.prepared new.stage in
+          let last : IsTakenLast (plan_kept before) past.taken =
+          kept_is_last past (old, before) ready silent e in (
+            [],
+            ap (λ c. c.rest) same,
+            record {
+              led = record {
+                by_all = led past.first past.events ready.led.by_all;
+                under_plans = subst N (sym (append-nil past.taken))
+                    (subst U e (led_under past.stood past.came past.taken ready.led.under_plans
+                    (λ none. last)));
+              };
+              keeps = λ plan has. (
+                last.0,
+                append-nil past.taken ∙ last.1 ∙ ap (λ c. last.0 ++ plan_kept c ∷ []) (sym same),
+              );
+            },
+          )
 
 -- before the card's turn no plan is taken
 no_plan_yet : (stage : Stage) → listens stage ≡ true → takes_plan stage ≡ false
 no_plan_yet (Taking_header bytes) listening =
-    let few : length bytes < 5 = ltb-true (length bytes) 5 listening in ne_eqb (length bytes) 5 (λ e. absurd (omega (arith, few, e)))
+    let few : length bytes < 5 = ltb-true (length bytes) 5 listening in
+    ne_eqb (length bytes) 5 (λ e. absurd (omega (arith, few, e)))
 no_plan_yet (Refusing h p3 status done) listening = refl
 no_plan_yet (Serving s came) listening = refl
 no_plan_yet (Ending status) listening = refl
 
 -- the end listens, and nothing changes
-pub lead_listens : (start : AtWork) (characters : List Character) (old new : EndOf CardView) (before after : Cursor)
-    → listens old.stage ≡ true → new ≡ old → after ≡ (if takes_plan old.stage then advanced before else before)
+pub lead_listens : (start : AtWork) (characters : List Character) (old new : EndOf CardView)
+    (before after : Cursor)
+    → listens old.stage ≡ true → new ≡ old → after
+    ≡ (if takes_plan old.stage then advanced before else before)
     → LeadOn start characters (old, before) → LeadOn start characters (new, after)
 lead_listens start characters old new before after listening same is led =
     let still : after ≡ before = rw (no_plan_yet old.stage listening) at is in
@@ -231,35 +254,44 @@ lead_listens start characters old new before after listening same is led =
 
 keeps_with : (stage : Stage) (byte : ℕ) (cursor : Cursor) (taken : List Course)
     → ((plan : Course) → under_way stage plan ≡ plan ∷ [] → IsTakenLast (plan_kept cursor) taken)
-    → (plan : Course) → under_way (with_character stage byte) plan ≡ plan ∷ [] → IsTakenLast (plan_kept cursor) taken
+    → (plan : Course) → under_way (with_character stage byte) plan ≡ plan ∷ []
+    → IsTakenLast (plan_kept cursor) taken
 keeps_with (Taking_header bytes) byte cursor taken keeps = keeps
 keeps_with (Refusing h p3 status done) byte cursor taken keeps = keeps
 keeps_with (Serving s came) byte cursor taken keeps = keeps
 keeps_with (Ending status) byte cursor taken keeps = keeps
 
 -- a character of the terminal
-pub lead_take : (old new : EndOf CardView) (byte : ℕ) → new ≡ record old { stage = with_character old.stage byte }
+pub lead_take : (old new : EndOf CardView) (byte : ℕ) → new
+    ≡ record old { stage = with_character old.stage byte }
     → ((first : CardState) (events : List Event)
     → Leads Does after_reset first events old.card.state old.card.prepared old.stage
-    → Leads Does after_reset first (events ++ Passed (Terminal, byte) ∷ []) new.card.state new.card.prepared new.stage)
+    → Leads Does after_reset first (events ++ Passed (Terminal, byte) ∷ []) new.card.state
+    new.card.prepared new.stage)
     → ((first : CardState) (came : List Character) (taken : List Course)
     → LeadsUnder Does first came taken old.card.state old.card.prepared old.stage
-    → LeadsUnder Does first (came ++ (Terminal, byte) ∷ []) taken new.card.state new.card.prepared new.stage)
+    → LeadsUnder Does first (came ++ (Terminal, byte) ∷ []) taken new.card.state new.card.prepared
+    new.stage)
     → (plans : Cursor) → LeadOn (old, plans) ((Terminal, byte) ∷ []) (new, plans)
 lead_take old new byte is led led_under plans = λ past ready.
-    let N : List Course → Type 0 = λ l. LeadsUnder Does past.stood (past.came ++ (Terminal, byte) ∷ []) l
+    let N : List Course → Type 0 = λ l. LeadsUnder Does past.stood
+    (past.came ++ (Terminal, byte) ∷ []) l
     new.card.state new.card.prepared new.stage in
-    let K : Stage → Type 0 = λ s. (plan : Course) → under_way s plan ≡ plan ∷ [] → IsTakenLast (plan_kept plans) past.taken in
-    let L : List Course → Type 0 = λ l. (plan : Course) → under_way new.stage plan ≡ plan ∷ [] → IsTakenLast (plan_kept plans) l in (
+    let K : Stage → Type 0 = λ s. (plan : Course) → under_way s plan ≡ plan ∷ []
+    → IsTakenLast (plan_kept plans) past.taken in
+    let L : List Course → Type 0 = λ l. (plan : Course) → under_way new.stage plan ≡ plan ∷ []
+    → IsTakenLast (plan_kept plans) l in (
       [],
       refl,
       record {
         led = record {
           by_all = led past.first past.events ready.led.by_all;
-          under_plans = subst N (sym (append-nil past.taken)) (led_under past.stood past.came past.taken ready.led.under_plans);
+          under_plans = subst N (sym (append-nil past.taken))
+              (led_under past.stood past.came past.taken ready.led.under_plans);
         };
         keeps = subst L (sym (append-nil past.taken))
-            (subst K (sym (ap (λ e. e.stage) is)) (keeps_with old.stage byte plans past.taken ready.keeps));
+            (subst K (sym (ap (λ e. e.stage) is))
+            (keeps_with old.stage byte plans past.taken ready.keeps));
       },
     )
 
@@ -278,16 +310,19 @@ keeps_none stage cursor taken is plan has =
 pub ready_reset : (old new : EndOf CardView) (plans : Cursor) → new.stage ≡ Taking_header []
     → ((first : CardState) (events : List Event)
     → Leads Does after_reset first events old.card.state old.card.prepared old.stage
-    → Leads Does after_reset first (events ++ history.Reset ∷ []) new.card.state new.card.prepared new.stage)
+    → Leads Does after_reset first (events ++ history.Reset ∷ []) new.card.state new.card.prepared
+    new.stage)
     → LeadsUnder Does new.card.state [] [] new.card.state new.card.prepared new.stage
-    → (past : Past) → IsReady past (old, plans) → IsReady (reset_to past new.card.state) (new, plans)
+    → (past : Past) → IsReady past (old, plans) → IsReady (reset_to past new.card.state)
+    (new, plans)
 ready_reset old new plans stage led led_under past ready = record {
   led = record { by_all = led past.first past.events ready.led.by_all; under_plans = led_under };
   keeps = keeps_none new.stage plans [] stage;
 }
 
 -- a card's end that is made
-ready_made : (state : CardState) (made : EndOf CardView) (plans : Cursor) → made.stage ≡ Taking_header []
+ready_made : (state : CardState) (made : EndOf CardView) (plans : Cursor) → made.stage
+    ≡ Taking_header []
     → Leads Does after_reset state [] made.card.state made.card.prepared made.stage
     → LeadsUnder Does state [] [] made.card.state made.card.prepared made.stage
     → IsReady (no_past state) (made, plans)
@@ -305,7 +340,8 @@ steps_in (p ∷ plans) = length p.steps + steps_in plans
 abbrev pub may_hand_out : Stage → Cursor → ℕ
 may_hand_out stage cursor =
     if listens stage then 0
-    else suc (steps_in cursor.rest + (if takes_plan stage then 300 else still_to_go stage (plan_kept cursor)))
+    else suc (steps_in cursor.rest
+    + (if takes_plan stage then 300 else still_to_go stage (plan_kept cursor)))
 
 -- at most what is to come under the plan that is kept
 hands_at_most : (stage : Stage) (cursor : Cursor)
@@ -318,12 +354,15 @@ hands_at_most stage cursor = by (listens stage) refl where
   header (Ending status) plan e = cc e
 
   at : (v : Bool) → takes_plan stage ≡ v → listens stage ≡ false
-      → may_hand_out stage cursor ≤ suc (steps_in cursor.rest + still_to_go stage (plan_kept cursor))
-  at true e l = let many : 300 ≤ still_to_go stage (plan_kept cursor) = header stage (plan_kept cursor) e in rw l (rw e (omega arith))
+      → may_hand_out stage cursor
+      ≤ suc (steps_in cursor.rest + still_to_go stage (plan_kept cursor))
+  at true e l = let many : 300 ≤ still_to_go stage (plan_kept cursor) =
+      header stage (plan_kept cursor) e in rw l (rw e (omega arith))
   at false e l = rw l (rw e (omega arith))
 
   by : (v : Bool) → listens stage ≡ v
-      → may_hand_out stage cursor ≤ suc (steps_in cursor.rest + still_to_go stage (plan_kept cursor))
+      → may_hand_out stage cursor
+      ≤ suc (steps_in cursor.rest + still_to_go stage (plan_kept cursor))
   by true l = rw l (omega arith)
   by false l = at (takes_plan stage) refl l
 
@@ -331,13 +370,17 @@ hands_at_most stage cursor = by (listens stage) refl where
 header_by : (bytes : List ℕ) (rest : List Course) (kept : Option Course)
     → listens (Taking_header bytes) ≡ false → takes_plan (Taking_header bytes) ≡ true
     → suc (steps_in (advanced (record { rest = rest; kept = kept })).rest
-    + still_to_go (Taking_header bytes) (plan_kept (advanced (record { rest = rest; kept = kept }))))
+    + still_to_go (Taking_header bytes)
+    (plan_kept (advanced (record { rest = rest; kept = kept }))))
     ≤ may_hand_out (Taking_header bytes) (record { rest = rest; kept = kept })
-header_by bytes [] kept l e = let five : length bytes ≡ 5 = eqb-true (length bytes) 5 e in rw l (rw e (omega arith))
-header_by bytes (p ∷ rest) kept l e = let five : length bytes ≡ 5 = eqb-true (length bytes) 5 e in rw l (rw e (omega arith))
+header_by bytes [] kept l e = let five : length bytes ≡ 5 = eqb-true (length bytes) 5 e in
+    rw l (rw e (omega arith))
+header_by bytes (p ∷ rest) kept l e = let five : length bytes ≡ 5 = eqb-true (length bytes) 5 e in
+    rw l (rw e (omega arith))
 
 header_hands : (stage : Stage) (cursor : Cursor) → listens stage ≡ false → takes_plan stage ≡ true
-    → suc (steps_in (advanced cursor).rest + still_to_go stage (plan_kept (advanced cursor))) ≤ may_hand_out stage cursor
+    → suc (steps_in (advanced cursor).rest + still_to_go stage (plan_kept (advanced cursor)))
+    ≤ may_hand_out stage cursor
 header_hands (Taking_header bytes) cursor l e = header_by bytes cursor.rest cursor.kept l e
 header_hands (Refusing h p3 status done) cursor l e = cc e
 header_hands (Serving s came) cursor l e = cc e
@@ -351,12 +394,15 @@ turn_hands stage before after l is = by (takes_plan stage) refl where
       → suc (steps_in after.rest + still_to_go stage (plan_kept after)) ≤ may_hand_out stage before
   by true e =
       let new : after ≡ advanced before = rw e at is in
-      let P : Cursor → Type 0 = λ c. suc (steps_in c.rest + still_to_go stage (plan_kept c)) ≤ may_hand_out stage before in
+      let P : Cursor → Type 0 = λ c. suc (steps_in c.rest + still_to_go stage (plan_kept c))
+      ≤ may_hand_out stage before in
       subst P (sym new) (header_hands stage before l e)
   by false e =
       let new : after ≡ before = rw e at is in
-      let P : Cursor → Type 0 = λ c. suc (steps_in c.rest + still_to_go stage (plan_kept c)) ≤ may_hand_out stage before in
-      let here : suc (steps_in before.rest + still_to_go stage (plan_kept before)) ≤ may_hand_out stage before = rw l (rw e (omega arith)) in
+      let P : Cursor → Type 0 = λ c. suc (steps_in c.rest + still_to_go stage (plan_kept c))
+      ≤ may_hand_out stage before in
+      let here : suc (steps_in before.rest + still_to_go stage (plan_kept before))
+      ≤ may_hand_out stage before = rw l (rw e (omega arith)) in
       subst P (sym new) here
 
 less : (m n a x y : ℕ) → m ≤ suc (a + x) → x < y → suc (a + y) ≤ n → m < n
@@ -364,15 +410,18 @@ less m n a x y h k l = omega arith
 
 pub hands_out_less : (old new : Stage) (before after : Cursor) → listens old ≡ false
     → after ≡ (if takes_plan old then advanced before else before)
-    → (new ≡ Taking_header []) ⊎ (still_to_go new (plan_kept after) < still_to_go old (plan_kept after))
+    → (new ≡ Taking_header [])
+    ⊎ (still_to_go new (plan_kept after) < still_to_go old (plan_kept after))
     → may_hand_out new after < may_hand_out old before
 hands_out_less old new before after l is (inl e) =
     let some : 0 < may_hand_out old before = rw l (omega arith) in
     let P : Stage → Type 0 = λ s. may_hand_out s after < may_hand_out old before in
     subst P (sym e) some
 hands_out_less old new before after l is (inr falls) =
-    less (may_hand_out new after) (may_hand_out old before) (steps_in after.rest) (still_to_go new (plan_kept after))
-    (still_to_go old (plan_kept after)) (hands_at_most new after) falls (turn_hands old before after l is)
+    less (may_hand_out new after) (may_hand_out old before) (steps_in after.rest)
+    (still_to_go new (plan_kept after))
+    (still_to_go old (plan_kept after)) (hands_at_most new after) falls
+    (turn_hands old before after l is)
 
 -- ---- how many are asked for
 
@@ -380,8 +429,10 @@ pub is_false : (v : Bool) → (v ≡ true → ⊥) → v ≡ false
 is_false true h = absurd (h refl)
 is_false false h = refl
 
-pub within_by_one : (most : Option ℕ) (handed : ℕ) (items more : List ℕ) (byte : ℕ) (v : Bool) → v ≡ true
-    → handed ≡ length items → more ≡ items ++ byte ∷ [] → ((n : ℕ) → most ≡ Some n → v ≡ nat_lt handed n)
+pub within_by_one : (most : Option ℕ) (handed : ℕ) (items more : List ℕ) (byte : ℕ) (v : Bool) → v
+    ≡ true
+    → handed ≡ length items → more ≡ items ++ byte ∷ []
+    → ((n : ℕ) → most ≡ Some n → v ≡ nat_lt handed n)
     → IfSome most (λ n. length more ≤ n)
 within_by_one None handed items more byte v e count is some = tt
 within_by_one (Some n) handed items more byte v e count is some =
@@ -389,16 +440,20 @@ within_by_one (Some n) handed items more byte v e count is some =
     let long : length more ≡ length items + 1 = ap length is ∙ length-append items (byte ∷ []) in
     omega arith
 
-pub enough_handed : (most : Option ℕ) (handed : ℕ) (items : List ℕ) (stage : Stage) (v : Bool) → v ≡ false
-    → handed ≡ length items → (most ≡ None → v ≡ true) → ((n : ℕ) → most ≡ Some n → v ≡ nat_lt handed n)
+pub enough_handed : (most : Option ℕ) (handed : ℕ) (items : List ℕ) (stage : Stage) (v : Bool) → v
+    ≡ false
+    → handed ≡ length items → (most ≡ None → v ≡ true)
+    → ((n : ℕ) → most ≡ Some n → v ≡ nat_lt handed n)
     → IfSome most (λ n. length items ≤ n) → IsEnough most (length items) stage
-enough_handed None handed items stage v e count none some within = absurd (true≢false (sym (none refl) ∙ e))
+enough_handed None handed items stage v e count none some within =
+    absurd (true≢false (sym (none refl) ∙ e))
 enough_handed (Some n) handed items stage v e count none some within =
     let ge : n ≤ handed = ltb-false handed n (sym (some n refl) ∙ e) in (within, inr (omega arith))
 
 -- ---- what is written
 
-pub writes_handed : (old new : AtWork) (most : Option ℕ) (handed shown : List ℕ) (before after : Option (List ℕ))
+pub writes_handed : (old new : AtWork) (most : Option ℕ) (handed shown : List ℕ)
+    (before after : Option (List ℕ))
     → shown ≡ handed
     → IsEnough most (length handed) new.0.stage
     → LeadOn old (sent_by Card handed) new
@@ -443,7 +498,8 @@ pub whole : (i : ℕ) (bytes : List ℕ) → length bytes ≤ i → take i bytes
 whole zero [] h = refl
 whole zero (b ∷ bytes) h = absurd (omega (arith, h))
 whole (suc i) [] h = refl
-whole (suc i) (b ∷ bytes) h = let shorter : length bytes ≤ i = omega (arith, h) in ap (λ l. b ∷ l) (whole i bytes shorter)
+whole (suc i) (b ∷ bytes) h = let shorter : length bytes ≤ i = omega (arith, h) in
+    ap (λ l. b ∷ l) (whole i bytes shorter)
 
 -- a character that is refused changes nothing, and the next one is the card's
 pub refused_end : {T E : Type 0} (r : Result T E) (old new : EndOf CardView) → is_err r ≡ true
@@ -457,14 +513,16 @@ some_left zero (b ∷ bytes) within none = cc none
 some_left (suc i) [] within none = omega (arith, within)
 some_left (suc i) (b ∷ bytes) within none = some_left i bytes (omega (arith, within)) none
 
-pub writes_refused : (start : AtWork) (old new : EndOf CardView) (plans : Cursor) (bytes : List ℕ) (i : ℕ)
+pub writes_refused : (start : AtWork) (old new : EndOf CardView) (plans : Cursor) (bytes : List ℕ)
+    (i : ℕ)
     (w before after : Option (List ℕ))
     → i < length bytes → (new ≡ old) × (listens old.stage ≡ false) → before ≡ w
     → LeadOn start (sent_by Terminal (take i bytes)) (old, plans)
     → Appends before after (fixed_text fixed.NotListening)
     → Writes (λ o text n. Takes o bytes text n) start (new, plans) w after
 writes_refused start old new plans bytes i w before after within refused unwritten led appends =
-    let P : EndOf CardView → Type 0 = λ e. Writes (λ o text n. Takes o bytes text n) start (e, plans) w after in
+    let P : EndOf CardView → Type 0 = λ e. Writes (λ o text n. Takes o bytes text n) start
+    (e, plans) w after in
     subst P (sym refused.0) (λ past ready.
     let l = led past ready in (
       fixed_text fixed.NotListening,
@@ -477,20 +535,24 @@ writes_refused start old new plans bytes i w before after within refused unwritt
         goes_on = record { taken = l.0; past_is = refl; in_turn = l.1; is_led = l.2.led };
         prints = inr (some_left i bytes within, refused.1, refl);
       },
-      subst (λ (x : Option (List ℕ)). Appends x after (fixed_text fixed.NotListening)) unwritten appends,
+      subst (λ (x : Option (List ℕ)). Appends x after (fixed_text fixed.NotListening)) unwritten
+          appends,
     ))
 
 -- what a line says is this
-pub runs_as : (meaning other : CardMeaning) (old new : AtWork) (before after : Option (List ℕ)) → meaning ≡ other
+pub runs_as : (meaning other : CardMeaning) (old new : AtWork) (before after : Option (List ℕ))
+    → meaning ≡ other
     → Writes (λ o text n. RunsLine o other text n) old new before after
     → Writes (λ o text n. RunsLine o meaning text n) old new before after
 runs_as meaning other old new before after is writes =
-    let P : CardMeaning → Type 0 = λ m. Writes (λ o text n. RunsLine o m text n) old new before after in
+    let P : CardMeaning → Type 0 = λ m. Writes (λ o text n. RunsLine o m text n) old new before
+    after in
     subst P (sym is) writes
 
 pub writes_reset : (old new : EndOf CardView) (plans : Cursor) (before after : Option (List ℕ))
     → new.card.state ≡ after_reset old.card.state
-    → ((past : Past) → IsReady past (old, plans) → IsReady (reset_to past new.card.state) (new, plans))
+    → ((past : Past) → IsReady past (old, plans)
+    → IsReady (reset_to past new.card.state) (new, plans))
     → Appends before after (fixed_text fixed.Reset)
     → Writes (λ o text n. RunsLine o Reset text n) (old, plans) (new, plans) before after
 writes_reset old new plans before after state anew appends = λ past ready.
@@ -520,7 +582,8 @@ pub writes_passed : (old : AtWork) (line : List ℕ) (w : Option (List ℕ)) →
     → Writes (λ o text n. DoesOrPasses (Running o) line text (Running n)) old old w w
 writes_passed old line w none = λ past h. ([], past, h, inl (none, refl, refl), Appends-nil w)
 
-pub run_line_is : (meaning : CardMeaning) → MayStandIn section.Running (is_card_table_line meaning) → is_card_table_line meaning ≡ false
+pub run_line_is : (meaning : CardMeaning) → MayStandIn section.Running (is_card_table_line meaning)
+    → is_card_table_line meaning ≡ false
 run_line_is (Adds addition) h = search rules
 run_line_is (Plan plan) h = search rules
 run_line_is (Take bytes) h = refl
@@ -528,7 +591,8 @@ run_line_is (HandOut most) h = refl
 run_line_is Reset h = refl
 run_line_is Table h = refl
 
-pub writes_line : (old new : AtWork) (line : List ℕ) (meaning : CardMeaning) (before after : Option (List ℕ))
+pub writes_line : (old new : AtWork) (line : List ℕ) (meaning : CardMeaning)
+    (before after : Option (List ℕ))
     → IsCardLine section.Running (words_of line) meaning
     → Writes (λ o text n. RunsLine o meaning text n) old new before after
     → Writes (λ o text n. DoesOrPasses (Running o) line text (Running n)) old new before after
@@ -565,9 +629,12 @@ pub one_more_run : (start old new : AtWork) (all left others : List (List ℕ)) 
     → AreRun start old all left passed m w before
     → Writes (λ o text n. DoesOrPasses (Running o) line text (Running n)) old new before after
     → AreRun start new all others passed number w after
-one_more_run start old new all left others line passed m number w before after is few saturated so_far one =
-    let cut : all ≡ so_far.before ++ line ∷ others = so_far.is_cut ∙ ap (λ l. so_far.before ++ l) is in
-    let counted = next_behind all so_far.before others line passed m number cut so_far.is_number few saturated in
+one_more_run start old new all left others line passed m number w before after is few saturated
+    so_far one =
+    let cut : all ≡ so_far.before ++ line ∷ others =
+    so_far.is_cut ∙ ap (λ l. so_far.before ++ l) is in
+    let counted = next_behind all so_far.before others line passed m number cut so_far.is_number few
+    saturated in
     let both = length-append so_far.before (line ∷ []) in record {
       before = so_far.before ++ line ∷ [];
       is_cut = cut_behind all so_far.before others line cut;
@@ -578,9 +645,11 @@ one_more_run start old new all left others line passed m number w before after i
             a.0 ++ b.0,
             b.1,
             b.2,
-            done_both DoesOrPasses (Running (end_at past start)) (Running (end_at a.1 old)) (Running (end_at b.1 new))
+            done_both DoesOrPasses (Running (end_at past start)) (Running (end_at a.1 old))
+                (Running (end_at b.1 new))
                 so_far.before (line ∷ []) a.0 b.0 a.3
-                (done_one DoesOrPasses (Running (end_at a.1 old)) (Running (end_at b.1 new)) line b.0 b.3),
+                (done_one DoesOrPasses (Running (end_at a.1 old)) (Running (end_at b.1 new)) line
+                b.0 b.3),
             Appends-trans w before after a.0 b.0 a.4 b.4,
           );
     }
@@ -592,8 +661,10 @@ pub all_run : (start end : AtWork) (these all left : List (List ℕ)) (passed nu
 all_run start end these all left passed number before after same none so_far = λ past ready.
     let a = so_far.writes past ready in
     let whole : so_far.before ≡ these =
-    sym (append-nil so_far.before) ∙ ap (λ l. so_far.before ++ l) (sym none) ∙ sym so_far.is_cut ∙ same in
-    let P : List (List ℕ) → Type 0 = λ l. DoesAll (Running (end_at past start)) l a.0 (Running (end_at a.1 end)) in
+    sym (append-nil so_far.before) ∙ ap (λ l. so_far.before ++ l) (sym none) ∙ sym so_far.is_cut
+    ∙ same in
+    let P : List (List ℕ) → Type 0 = λ l. DoesAll (Running (end_at past start)) l a.0
+    (Running (end_at a.1 end)) in
     (a.0, a.1, a.2, subst P whole a.3, a.4)
 
 -- a run line that is refused, for its words, or for want of memory
@@ -604,11 +675,14 @@ pub run_stops : (start now : AtWork) (these all left others : List (List ℕ)) (
     → IsFaultOfLine (λ _. SaysNothing (IsCardLine section.Running) line) number before after fault
     → (past : Past) → IsReady past start
     → LinesStop (DoesAll (Running (end_at past start))) RefusesCardLine these passed w after fault
-run_stops start now these all left others line passed m number w before after (Script n reason) same is few
+run_stops start now these all left others line passed m number w before after
+    (Script n reason) same is few
     saturated so_far (at, nothing, unwritten) = λ past ready.
     let a = so_far.writes past ready in
-    let cut : all ≡ so_far.before ++ line ∷ others = so_far.is_cut ∙ ap (λ l. so_far.before ++ l) is in
-    let counted = next_behind all so_far.before others line passed m number cut so_far.is_number few saturated in
+    let cut : all ≡ so_far.before ++ line ∷ others =
+    so_far.is_cut ∙ ap (λ l. so_far.before ++ l) is in
+    let counted = next_behind all so_far.before others line passed m number cut so_far.is_number few
+    saturated in
     let A : Option (List ℕ) → Type 0 = λ x. Appends w x a.0 in (
       a.0,
       subst A (sym unwritten) a.4,
@@ -625,7 +699,8 @@ run_stops start now these all left others line passed m number w before after (S
         refuses = inl nothing;
       },
     )
-run_stops start now these all left others line passed m number w before after NoMemory same is few saturated
+run_stops start now these all left others line passed m number w before after NoMemory same is few
+    saturated
     so_far unwritten = λ past ready.
     let a = so_far.writes past ready in
     let A : Option (List ℕ) → Type 0 = λ x. Appends w x a.0 in (
@@ -639,11 +714,14 @@ run_stops start now these all left others line passed m number w before after No
         does = a.3;
       },
     )
-run_stops start now these all left others line passed m number w before after Write same is few saturated
+run_stops start now these all left others line passed m number w before after Write same is few
+    saturated
     so_far unknown = λ past ready. tt
-run_stops start now these all left others line passed m number w before after Read same is few saturated
+run_stops start now these all left others line passed m number w before after Read same is few
+    saturated
     so_far never = absurd never
-run_stops start now these all left others line passed m number w before after InputTooLong same is few
+run_stops start now these all left others line passed m number w before after InputTooLong same is
+    few
     saturated so_far never = absurd never
 
 -- ---- lines of the table
@@ -667,13 +745,16 @@ pub one_more_built : (start old new : CardRun) (all left others : List (List ℕ
     → number ≡ min (m + 1) (2 ^ 64 - 1) → AreBuilt start old all left passed m
     → DoesOrPasses old line [] new → AreBuilt start new all others passed number
 one_more_built start old new all left others line passed m number is few saturated so_far one =
-    let cut : all ≡ so_far.before ++ line ∷ others = so_far.is_cut ∙ ap (λ l. so_far.before ++ l) is in
-    let counted = next_behind all so_far.before others line passed m number cut so_far.is_number few saturated in
+    let cut : all ≡ so_far.before ++ line ∷ others =
+    so_far.is_cut ∙ ap (λ l. so_far.before ++ l) is in
+    let counted = next_behind all so_far.before others line passed m number cut so_far.is_number few
+    saturated in
     let both = length-append so_far.before (line ∷ []) in record {
       before = so_far.before ++ line ∷ [];
       is_cut = cut_behind all so_far.before others line cut;
       is_number = counted ∙ ap (λ n. n + passed) (sym both);
-      does = done_both DoesOrPasses start old new so_far.before (line ∷ []) [] [] so_far.does (done_one DoesOrPasses old new line [] one);
+      does = done_both DoesOrPasses start old new so_far.before (line ∷ []) [] [] so_far.does
+          (done_one DoesOrPasses old new line [] one);
     }
 
 pub all_built : (start end : CardRun) (all left : List (List ℕ)) (passed number : ℕ) → left ≡ []
@@ -690,15 +771,18 @@ pub first_found : (start : CardRun) (tables now : List Application) (plans these
     → AreBuilt start (Building tables plans) all left passed m → now ≡ tables → these ≡ plans
     → IsCardLine section.Building (words_of line) meaning → is_card_table_line meaning ≡ false
     → IsFirstRunLine start (Building now these) all others passed number meaning
-first_found start tables now plans these all left others line passed m number meaning is few saturated so_far
+first_found start tables now plans these all left others line passed m number meaning is few
+    saturated so_far
     same same_plans is_line runs =
-    let cut : all ≡ so_far.before ++ line ∷ others = so_far.is_cut ∙ ap (λ l. so_far.before ++ l) is in
+    let cut : all ≡ so_far.before ++ line ∷ others =
+    so_far.is_cut ∙ ap (λ l. so_far.before ++ l) is in
     let T : List Application → Type 0 = λ t. DoesAll start so_far.before [] (Building t plans) in
     let C : List Course → Type 0 = λ p. DoesAll start so_far.before [] (Building now p) in record {
       before = so_far.before;
       line = line;
       is_cut = cut;
-      is_number = next_behind all so_far.before others line passed m number cut so_far.is_number few saturated;
+      is_number = next_behind all so_far.before others line passed m number cut so_far.is_number few
+          saturated;
       does = subst C (sym same_plans) (subst T (sym same) so_far.does);
       is_line = is_line;
       is_run_line = runs;
@@ -719,7 +803,12 @@ pub not_added : (tables : List Application) (plans : List Course) (line : List �
     → IsCardLine section.Building (words_of line) meaning → IsNotAdded tables addition refusal
     → OnReason refusal (RefusesCardLine (Building tables plans) line)
 not_added tables plans line meaning addition (Line reason) is says refused =
-    inr (addition, subst (λ (m : CardMeaning). IsCardLine section.Building (words_of line) m) is says, refused)
+    inr (
+      addition,
+      subst (λ (m : CardMeaning). IsCardLine section.Building (words_of line) m) is
+          says,
+      refused,
+    )
 not_added tables plans line meaning addition OutOfMemory is says refused = tt
 
 -- a table line that is refused, or that wants memory
@@ -729,10 +818,13 @@ pub build_stops : (start now : CardRun) (all left others : List (List ℕ)) (lin
     → AreBuilt start now all left passed m → fault ≡ fault_at number refusal
     → OnReason refusal (RefusesCardLine now line) → (written : Option (List ℕ))
     → LinesStop (DoesAll start) RefusesCardLine all passed written written fault
-build_stops start now all left others line passed m number (Line reason) fault is few saturated so_far at
+build_stops start now all left others line passed m number
+    (Line reason) fault is few saturated so_far at
     refuses = λ written.
-    let cut : all ≡ so_far.before ++ line ∷ others = so_far.is_cut ∙ ap (λ l. so_far.before ++ l) is in
-    let P : PlayFault → Type 0 = λ f. LinesStop (DoesAll start) RefusesCardLine all passed written written f in
+    let cut : all ≡ so_far.before ++ line ∷ others =
+    so_far.is_cut ∙ ap (λ l. so_far.before ++ l) is in
+    let P : PlayFault → Type 0 = λ f. LinesStop (DoesAll start) RefusesCardLine all passed written
+    written f in
     subst P (sym at) (
       [],
       Appends-nil written,
@@ -749,23 +841,30 @@ build_stops start now all left others line passed m number (Line reason) fault i
         refuses = refuses;
       },
     )
-build_stops start now all left others line passed m number OutOfMemory fault is few saturated so_far at
+build_stops start now all left others line passed m number OutOfMemory fault is few saturated so_far
+    at
     refuses = λ written.
-    let P : PlayFault → Type 0 = λ f. LinesStop (DoesAll start) RefusesCardLine all passed written written f in
+    let P : PlayFault → Type 0 = λ f. LinesStop (DoesAll start) RefusesCardLine all passed written
+    written f in
     subst P (sym at) (stops_at_once start all passed written)
 
-first_does : (tables : List Application) (plans : List Course) (meaning : CardMeaning) (first next : RunningEnd) (text : List ℕ)
+first_does : (tables : List Application) (plans : List Course) (meaning : CardMeaning)
+    (first next : RunningEnd) (text : List ℕ)
     → is_card_table_line meaning ≡ false → IsFresh tables plans first
-    → RunsLine first meaning text next → DoesLine (Building tables plans) meaning text (Running next)
+    → RunsLine first meaning text next → DoesLine (Building tables plans) meaning text
+    (Running next)
 first_does tables plans (Adds addition) first next text other fresh runs = cc other
 first_does tables plans (Plan plan) first next text other fresh runs = cc other
-first_does tables plans (Take bytes) first next text other fresh runs = (first, next, fresh, runs, refl)
-first_does tables plans (HandOut most) first next text other fresh runs = (first, next, fresh, runs, refl)
+first_does tables plans (Take bytes) first next text other fresh runs =
+    (first, next, fresh, runs, refl)
+first_does tables plans (HandOut most) first next text other fresh runs =
+    (first, next, fresh, runs, refl)
 first_does tables plans Reset first next text other fresh runs = (first, next, fresh, runs, refl)
 first_does tables plans Table first next text other fresh runs = (first, next, fresh, runs, refl)
 
 -- the end of the card that is built
-pub is_made : (tables : List Application) (card : CardView) (made : EndOf CardView) (plans : Cursor) → card ≡ new_card tables
+pub is_made : (tables : List Application) (card : CardView) (made : EndOf CardView) (plans : Cursor)
+    → card ≡ new_card tables
     → made.stage ≡ Taking_header []
     → Leads Does after_reset card.state [] made.card.state made.card.prepared made.stage
     → LeadsUnder Does card.state [] [] made.card.state made.card.prepared made.stage
@@ -819,7 +918,8 @@ pub first_done : (script : List ℕ) (all others : List (List ℕ)) (start : Car
     → IsReady (no_past (new_card tables).state) made → made.1.rest ≡ plans
     → Writes (λ o text n. RunsLine o meaning text n) made old w before
     → IsBegun script others number old w before
-first_done script all others start tables plans number meaning made old w before is empty f ready all_left one =
+first_done script all others start tables plans number meaning made old w before is empty f ready
+    all_left one =
     let a = one (no_past (new_card tables).state) ready in
     let fresh : IsFresh tables plans (end_at (no_past (new_card tables).state) made) =
     record { past_is = refl; all_left = all_left; is_led = ready.led } in
@@ -832,7 +932,8 @@ first_done script all others start tables plans number meaning made old w before
       text = a.0;
       past = a.1;
       ready = a.2;
-      does = done_both DoesOrPasses (Building [] []) (Building tables plans) (Running (end_at a.1 old)) f.before
+      does = done_both DoesOrPasses (Building [] []) (Building tables plans)
+          (Running (end_at a.1 old)) f.before
           (f.line ∷ []) [] a.0 (subst P empty f.does)
           (done_one DoesOrPasses (Building tables plans) (Running (end_at a.1 old)) f.line a.0
           (inr (meaning, f.is_line, does)));
@@ -845,26 +946,31 @@ pub writes_script : (script : List ℕ) (others : List (List ℕ)) (number : ℕ
     → CardWrites (Some script) w after
 writes_script script others number old new w before after begun rest =
     let b = rest begun.past begun.ready in
-    let P : List (List ℕ) → Type 0 = λ l. DoesAll (Building [] []) l (begun.text ++ b.0) (Running (end_at b.1 new)) in (
+    let P : List (List ℕ) → Type 0 = λ l. DoesAll (Building [] []) l (begun.text ++ b.0)
+    (Running (end_at b.1 new)) in (
       begun.text ++ b.0,
       Appends-trans w before after begun.text b.0 begun.appends b.4,
       (
         Running (end_at b.1 new),
         subst P (sym begun.is_cut)
-            (done_both DoesOrPasses (Building [] []) (Running (end_at begun.past old)) (Running (end_at b.1 new)) begun.before
+            (done_both DoesOrPasses (Building [] []) (Running (end_at begun.past old))
+            (Running (end_at b.1 new)) begun.before
             others begun.text b.0 begun.does b.3),
       ),
     )
 
 pub script_left : (script : List ℕ) (others : List (List ℕ)) (number : ℕ) (old : AtWork)
-    (w before after : Option (List ℕ)) (fault : PlayFault) → IsBegun script others number old w before
+    (w before after : Option (List ℕ)) (fault : PlayFault)
+    → IsBegun script others number old w before
     → ((past : Past) → IsReady past old
-    → LinesStop (DoesAll (Running (end_at past old))) RefusesCardLine others number before after fault)
+    → LinesStop (DoesAll (Running (end_at past old))) RefusesCardLine others number before after
+    fault)
     → LinesStop (DoesAll (Building [] [])) RefusesCardLine (lines script) 0 w after fault
 script_left script others number old w before after (Script n reason) begun stops =
     let (text, appends, k, at, r) = stops begun.past begun.ready in
     let both = length-append begun.before r.before in
-    let counted : n ≡ length (begun.before ++ r.before) + 1 = omega (arith, at, r.is_number, begun.is_number, both) in (
+    let counted : n ≡ length (begun.before ++ r.before) + 1 =
+    omega (arith, at, r.is_number, begun.is_number, both) in (
       begun.text ++ text,
       Appends-trans w before after begun.text text begun.appends appends,
       n,
@@ -873,10 +979,12 @@ script_left script others number old w before after (Script n reason) begun stop
         before = begun.before ++ r.before;
         line = r.line;
         others = r.others;
-        is_cut = begun.is_cut ∙ ap (λ l. begun.before ++ l) r.is_cut ∙ sym (append_assoc begun.before r.before (r.line ∷ r.others));
+        is_cut = begun.is_cut ∙ ap (λ l. begun.before ++ l) r.is_cut
+            ∙ sym (append_assoc begun.before r.before (r.line ∷ r.others));
         is_number = counted;
         state = r.state;
-        does = done_both DoesOrPasses (Building [] []) (Running (end_at begun.past old)) r.state begun.before r.before
+        does = done_both DoesOrPasses (Building [] []) (Running (end_at begun.past old)) r.state
+            begun.before r.before
             begun.text text begun.does r.does;
         refuses = r.refuses;
       },
@@ -888,22 +996,27 @@ script_left script others number old w before after NoMemory begun stops =
       record {
         before = begun.before ++ r.before;
         others = r.others;
-        is_cut = begun.is_cut ∙ ap (λ l. begun.before ++ l) r.is_cut ∙ sym (append_assoc begun.before r.before r.others);
+        is_cut = begun.is_cut ∙ ap (λ l. begun.before ++ l) r.is_cut
+            ∙ sym (append_assoc begun.before r.before r.others);
         state = r.state;
-        does = done_both DoesOrPasses (Building [] []) (Running (end_at begun.past old)) r.state begun.before r.before
+        does = done_both DoesOrPasses (Building [] []) (Running (end_at begun.past old)) r.state
+            begun.before r.before
             begun.text text begun.does r.does;
       },
     )
 script_left script others number old w before after Write begun stops = tt
-script_left script others number old w before after Read begun stops = absurd (stops begun.past begun.ready)
-script_left script others number old w before after InputTooLong begun stops = absurd (stops begun.past begun.ready)
+script_left script others number old w before after Read begun stops =
+    absurd (stops begun.past begun.ready)
+script_left script others number old w before after InputTooLong begun stops =
+    absurd (stops begun.past begun.ready)
 
 -- where the first run line can't be written, or wants memory
 pub first_left : (script : List ℕ) (w after : Option (List ℕ)) (fault : PlayFault)
     → IsWritingFault w after fault
     → LinesStop (DoesAll (Building [] [])) RefusesCardLine (lines script) 0 w after fault
 first_left script w after NoMemory unwritten =
-    let P : Option (List ℕ) → Type 0 = λ x. LinesStop (DoesAll (Building [] [])) RefusesCardLine (lines script) 0 w x NoMemory in
+    let P : Option (List ℕ) → Type 0 = λ x. LinesStop (DoesAll (Building [] [])) RefusesCardLine
+    (lines script) 0 w x NoMemory in
     subst P (sym unwritten) (stops_at_once (Building [] []) (lines script) 0 w)
 first_left script w after Write unknown = tt
 first_left script w after (Script n reason) never = absurd never
@@ -917,9 +1030,12 @@ pub table_left : (script : List ℕ) (all : List (List ℕ)) (none : List Applic
     → LinesStop (DoesAll (Building none no_plans)) RefusesCardLine all 0 w w fault
     → LinesStop (DoesAll (Building [] [])) RefusesCardLine (lines script) 0 w w fault
 table_left script all none no_plans w fault l e p stops =
-    let T : List Application → Type 0 = λ t. LinesStop (DoesAll (Building t no_plans)) RefusesCardLine all 0 w w fault in
-    let C : List Course → Type 0 = λ c. LinesStop (DoesAll (Building [] c)) RefusesCardLine all 0 w w fault in
-    let L : List (List ℕ) → Type 0 = λ x. LinesStop (DoesAll (Building [] [])) RefusesCardLine x 0 w w fault in
+    let T : List Application → Type 0 = λ t. LinesStop
+    (DoesAll (Building t no_plans)) RefusesCardLine all 0 w w fault in
+    let C : List Course → Type 0 = λ c. LinesStop (DoesAll (Building [] c)) RefusesCardLine all 0 w
+    w fault in
+    let L : List (List ℕ) → Type 0 = λ x. LinesStop (DoesAll (Building [] [])) RefusesCardLine x 0 w
+    w fault in
     subst L l (subst C p (subst T e stops))
 
 -- a script of table lines alone
@@ -928,7 +1044,8 @@ pub only_built : (script : List ℕ) (all : List (List ℕ)) (none tables : List
     → no_plans ≡ [] → DoesAll (Building none no_plans) all [] (Building tables plans)
     → CardWrites (Some script) w w
 only_built script all none tables no_plans plans w l e p does =
-    let T : List Application → Type 0 = λ t. DoesAll (Building t no_plans) all [] (Building tables plans) in
+    let T : List Application → Type 0 = λ t. DoesAll (Building t no_plans) all []
+    (Building tables plans) in
     let C : List Course → Type 0 = λ c. DoesAll (Building [] c) all [] (Building tables plans) in
     let L : List (List ℕ) → Type 0 = λ x. DoesAll (Building [] []) x [] (Building tables plans) in
     ([], Appends-nil w, (Building tables plans, subst L l (subst C p (subst T e does))))

@@ -15,7 +15,8 @@ a_play_is_taken : fault_of program (codes "card_trace" ∷ codes "play" ∷ []) 
 unfolding clap_on_literals
 a_play_is_taken = refl
 
-some_objects : request_in (subcommand_of program (codes "card_trace" ∷ codes "objects" ∷ codes "5000" ∷ []))
+some_objects : request_in
+    (subcommand_of program (codes "card_trace" ∷ codes "objects" ∷ codes "5000" ∷ []))
     ≡ Some (Objects (codes "5000"))
 unfolding clap_on_literals
 some_objects = refl
@@ -29,11 +30,13 @@ a_call_for_help : fault_of program (codes "card_trace" ∷ codes "--help" ∷ []
 unfolding clap_on_literals
 a_call_for_help = refl
 
-a_call_for_the_version : fault_of program (codes "card_trace" ∷ codes "--version" ∷ []) ≡ DisplayVersion ∷ []
+a_call_for_the_version : fault_of program (codes "card_trace" ∷ codes "--version" ∷ [])
+    ≡ DisplayVersion ∷ []
 unfolding clap_on_literals
 a_call_for_the_version = refl
 
 -- a subcommand has no version of its own
-no_version_of_play : fault_of program (codes "card_trace" ∷ codes "play" ∷ codes "--version" ∷ []) ≡ UnknownArgument ∷ []
+no_version_of_play : fault_of program (codes "card_trace" ∷ codes "play" ∷ codes "--version" ∷ [])
+    ≡ UnknownArgument ∷ []
 unfolding clap_on_literals
 no_version_of_play = refl

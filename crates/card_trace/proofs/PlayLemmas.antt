@@ -41,7 +41,8 @@ pub added : {A : Type 0} (self : Player A) (before after : List Application) (ad
     → self ≡ player.Building before → IsAdded before addition after
     → Plays (state_of self) (Adds addition) [] (Building after)
 added self before after addition is adds =
-    subst (λ s. Plays s (Adds addition) [] (Building after)) (sym (ap state_of is)) (refl, after, adds, refl)
+    subst (λ s. Plays s (Adds addition) [] (Building after)) (sym (ap state_of is))
+    (refl, after, adds, refl)
 
 -- a recorder that has lost nothing has heard the whole line
 heard_whole : (line : List Character) (now : Hearing) → now.lost ≡ false
@@ -123,17 +124,21 @@ pub one_more_played : (all left others : List (List ℕ)) (line more : List ℕ)
     → ArePlayed all old mid state left m → left ≡ line ∷ others → length all < 2 ^ 63
     → number ≡ min (m + 1) (2 ^ 64 - 1) → Appends mid new more → PlaysLine state line more next
     → ArePlayed all old new next others number
-one_more_played all left others line more old mid new state next m number so_far is few saturated adds
+one_more_played all left others line more old mid new state next m number so_far is few saturated
+    adds
     plays =
-    let cut : all ≡ so_far.before ++ line ∷ others = so_far.is_cut ∙ ap (λ l. so_far.before ++ l) is in
-    let counted = next_number all so_far.before others line m number cut so_far.is_number few saturated in
+    let cut : all ≡ so_far.before ++ line ∷ others =
+    so_far.is_cut ∙ ap (λ l. so_far.before ++ l) is in
+    let counted = next_number all so_far.before others line m number cut so_far.is_number few
+    saturated in
     let both = length-append so_far.before (line ∷ []) in record {
       before = so_far.before ++ line ∷ [];
       text = so_far.text ++ more;
       is_cut = cut_behind all so_far.before others line cut;
       is_number = counted ∙ sym both;
       appends = Appends-trans old mid new so_far.text more so_far.appends adds;
-      plays = done_both PlaysLine (Building []) state next so_far.before (line ∷ []) so_far.text more
+      plays = done_both PlaysLine (Building []) state next so_far.before
+          (line ∷ []) so_far.text more
           so_far.plays (done_one PlaysLine state next line more plays);
     }
 
@@ -147,8 +152,13 @@ all_played all left old new state number script items read is none so_far =
     sym is ∙ so_far.is_cut ∙ ap (λ l. so_far.before ++ l) none ∙ append-nil so_far.before in (
       so_far.text,
       so_far.appends,
-      of_script script items (λ bytes. (end : PlayState) × PlaysAll (Building []) (lines bytes) so_far.text end)
-          read (state, subst (λ ls. PlaysAll (Building []) ls so_far.text state) (sym whole) so_far.plays),
+      of_script script items (λ bytes. (end : PlayState)
+          × PlaysAll (Building []) (lines bytes) so_far.text end)
+          read (
+            state,
+            subst (λ ls. PlaysAll (Building []) ls so_far.text state)
+                (sym whole) so_far.plays,
+          ),
     )
 
 -- where a line is not played, those before it are
@@ -157,21 +167,26 @@ pub stops_at : (all left others : List (List ℕ)) (line : List ℕ) (old mid ne
     (fault : PlayFault) → IfSome script (λ bytes. items ≡ bytes) → all ≡ lines items
     → ArePlayed all old mid state left m → left ≡ line ∷ others → length all < 2 ^ 63
     → number ≡ min (m + 1) (2 ^ 64 - 1)
-    → IsFaultOfLine (RefusesPlayLine state line) number mid new fault → PlayStops script old new fault
-stops_at all left others line old mid new state m number script items (Script n reason) read is so_far
+    → IsFaultOfLine (RefusesPlayLine state line) number mid new fault
+    → PlayStops script old new fault
+stops_at all left others line old mid new state m number script items
+    (Script n reason) read is so_far
     at_line few saturated (same, refuses, unwritten) =
-    let cut : all ≡ so_far.before ++ line ∷ others = so_far.is_cut ∙ ap (λ l. so_far.before ++ l) at_line in (
+    let cut : all ≡ so_far.before ++ line ∷ others =
+    so_far.is_cut ∙ ap (λ l. so_far.before ++ l) at_line in (
       so_far.text,
       subst (λ w. Appends old w so_far.text) (sym unwritten) so_far.appends,
       of_script script items
-          (λ bytes. IsRefusedAt (PlaysAll (Building [])) RefusesPlayLine (lines bytes) so_far.text n reason)
+          (λ bytes. IsRefusedAt (PlaysAll (Building [])) RefusesPlayLine
+          (lines bytes) so_far.text n reason)
           read
           (record {
             before = so_far.before;
             line = line;
             others = others;
             is_cut = sym is ∙ cut;
-            is_number = same ∙ next_number all so_far.before others line m number cut so_far.is_number few saturated;
+            is_number = same ∙ next_number all so_far.before others line m number cut
+                so_far.is_number few saturated;
             state = state;
             does = so_far.plays;
             refuses = refuses;
@@ -181,7 +196,8 @@ stops_at all left others line old mid new state m number script items OutOfMemor
     at_line few saturated unwritten = (
       so_far.text,
       subst (λ w. Appends old w so_far.text) (sym unwritten) so_far.appends,
-      of_script script items (λ bytes. IsLeftAfter (PlaysAll (Building [])) (lines bytes) so_far.text) read
+      of_script script items (λ bytes. IsLeftAfter (PlaysAll (Building []))
+          (lines bytes) so_far.text) read
           (record {
             before = so_far.before;
             others = left;
@@ -190,9 +206,11 @@ stops_at all left others line old mid new state m number script items OutOfMemor
             does = so_far.plays;
           }),
     )
-stops_at all left others line old mid new state m number script items Write read is so_far at_line few
+stops_at all left others line old mid new state m number script items Write read is so_far at_line
+    few
     saturated unknown = tt
-stops_at all left others line old mid new state m number script items Read read is so_far at_line few
+stops_at all left others line old mid new state m number script items Read read is so_far at_line
+    few
     saturated never = absurd never
 stops_at all left others line old mid new state m number script items InputTooLong read is so_far
     at_line few saturated never = absurd never
@@ -202,7 +220,8 @@ said_refused : (state : PlayState) (line : List ℕ) (meaning : PlayMeaning) (re
     → IsPlayLine (section_of state) (words_of line) meaning → RefusesSaid state meaning reason
     → RefusesPlayLine state line reason
 said_refused (Building tables) line (Adds addition) reason is refused = inr (addition, is, refused)
-said_refused (Running card plans) line (Adds addition) reason is refused = absurd (true≢false is.stands)
+said_refused (Running card plans) line (Adds addition) reason is refused =
+    absurd (true≢false is.stands)
 said_refused state line (Send bytes) reason is refused = absurd (refused is.are_fields.2.command)
 said_refused state line (Plan plan) reason is refused = absurd refused
 said_refused state line (Run operation) reason is refused = absurd refused
@@ -240,7 +259,8 @@ pub planned : (old running new : PlayState) (plan : Course)
 planned old running new plan is same = (refl, same ∙ ap (λ s. with_plan s plan) is)
 
 -- a line that adds nothing is a run line
-pub is_run_line : {A : Type 0} (said : PlayLine A) → ((addition : TableLine A) → said ≡ line.Adds addition → ⊥)
+pub is_run_line : {A : Type 0} (said : PlayLine A)
+    → ((addition : TableLine A) → said ≡ line.Adds addition → ⊥)
     → is_play_table_line (play_meaning said) ≡ false
 is_run_line (line.Adds addition) other = absurd (other addition refl)
 is_run_line (line.Plan plan) other = refl
@@ -254,9 +274,12 @@ pub run_plays : (old running new : PlayState) (meaning : PlayMeaning) (text : Li
     → is_play_table_line meaning ≡ false → running ≡ Running (card_in old) (plans_in old)
     → Plays running meaning text new → Plays old meaning text new
 run_plays old running new (Adds addition) text late is plays = absurd (true≢false late)
-run_plays old running new (Plan plan) text late is plays = subst (λ s. Plays s (Plan plan) text new) is plays
-run_plays old running new (Run op) text late is plays = subst (λ s. Plays s (Run op) text new) is plays
-run_plays old running new (Send bytes) text late is plays = subst (λ s. Plays s (Send bytes) text new) is plays
+run_plays old running new (Plan plan) text late is plays =
+    subst (λ s. Plays s (Plan plan) text new) is plays
+run_plays old running new (Run op) text late is plays =
+    subst (λ s. Plays s (Run op) text new) is plays
+run_plays old running new (Send bytes) text late is plays =
+    subst (λ s. Plays s (Send bytes) text new) is plays
 run_plays old running new Reset text late is plays = subst (λ s. Plays s Reset text new) is plays
 run_plays old running new Table text late is plays = subst (λ s. Plays s Table text new) is plays
 

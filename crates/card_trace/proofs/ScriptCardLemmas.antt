@@ -14,16 +14,20 @@ use Rattle.card_trace.proofs.ScriptKeywordLemmas.{of_first_word, of_keyword, wit
 -- what a line of each word says
 pub table_line_says : (meaning : CardMeaning) (fields : List (List ℕ)) (w : TableWord)
     → card_keyword meaning ≡ keyword.Adds w → AreCardFields meaning fields
-    → (addition : Addition) × (table_word addition ≡ w) × AreTableFields addition fields × (is_card_table_line meaning ≡ true)
-table_line_says (Adds addition) fields w e h = let same : table_word addition ≡ w = cc in (addition, same, h, refl)
+    → (addition : Addition) × (table_word addition ≡ w) × AreTableFields addition fields
+    × (is_card_table_line meaning ≡ true)
+table_line_says (Adds addition) fields w e h = let same : table_word addition ≡ w = cc in
+    (addition, same, h, refl)
 table_line_says (Plan plan) fields w e h = cc e
 table_line_says (Take bytes) fields w e h = cc e
 table_line_says (HandOut most) fields w e h = cc e
 table_line_says Reset fields w e h = cc e
 table_line_says Table fields w e h = cc e
 
-pub plan_says : (meaning : CardMeaning) (fields : List (List ℕ)) → card_keyword meaning ≡ keyword.Plan
-    → AreCardFields meaning fields → (plan : Course) × ArePlanFields fields plan × (is_card_table_line meaning ≡ true)
+pub plan_says : (meaning : CardMeaning) (fields : List (List ℕ)) → card_keyword meaning
+    ≡ keyword.Plan
+    → AreCardFields meaning fields → (plan : Course) × ArePlanFields fields plan
+    × (is_card_table_line meaning ≡ true)
 plan_says (Adds addition) fields e h = cc e
 plan_says (Plan plan) fields e h = (plan, h, refl)
 plan_says (Take bytes) fields e h = cc e
@@ -31,8 +35,10 @@ plan_says (HandOut most) fields e h = cc e
 plan_says Reset fields e h = cc e
 plan_says Table fields e h = cc e
 
-pub take_says : (meaning : CardMeaning) (fields : List (List ℕ)) → card_keyword meaning ≡ keyword.Take
-    → AreCardFields meaning fields → (bytes : List ℕ) × OneField fields (λ text. IsHexText text bytes)
+pub take_says : (meaning : CardMeaning) (fields : List (List ℕ)) → card_keyword meaning
+    ≡ keyword.Take
+    → AreCardFields meaning fields → (bytes : List ℕ)
+    × OneField fields (λ text. IsHexText text bytes)
 take_says (Adds addition) fields e h = cc e
 take_says (Plan plan) fields e h = cc e
 take_says (Take bytes) fields e h = (bytes, h)
@@ -40,7 +46,8 @@ take_says (HandOut most) fields e h = cc e
 take_says Reset fields e h = cc e
 take_says Table fields e h = cc e
 
-pub hand_out_says : (meaning : CardMeaning) (fields : List (List ℕ)) → card_keyword meaning ≡ keyword.HandOut
+pub hand_out_says : (meaning : CardMeaning) (fields : List (List ℕ)) → card_keyword meaning
+    ≡ keyword.HandOut
     → AreCardFields meaning fields → (most : Option ℕ) × IsMostText fields most
 hand_out_says (Adds addition) fields e h = cc e
 hand_out_says (Plan plan) fields e h = cc e
@@ -49,7 +56,8 @@ hand_out_says (HandOut most) fields e h = (most, h)
 hand_out_says Reset fields e h = cc e
 hand_out_says Table fields e h = cc e
 
-pub reset_says : (meaning : CardMeaning) (fields : List (List ℕ)) → card_keyword meaning ≡ keyword.Reset
+pub reset_says : (meaning : CardMeaning) (fields : List (List ℕ)) → card_keyword meaning
+    ≡ keyword.Reset
     → AreCardFields meaning fields → fields ≡ []
 reset_says (Adds addition) fields e h = cc e
 reset_says (Plan plan) fields e h = cc e
@@ -58,7 +66,8 @@ reset_says (HandOut most) fields e h = cc e
 reset_says Reset fields e h = h
 reset_says Table fields e h = cc e
 
-pub table_says : (meaning : CardMeaning) (fields : List (List ℕ)) → card_keyword meaning ≡ keyword.Table
+pub table_says : (meaning : CardMeaning) (fields : List (List ℕ)) → card_keyword meaning
+    ≡ keyword.Table
     → AreCardFields meaning fields → fields ≡ []
 table_says (Adds addition) fields e h = cc e
 table_says (Plan plan) fields e h = cc e
@@ -69,7 +78,8 @@ table_says Table fields e h = h
 
 -- no run line has another word
 pub run_says_nothing : (meaning : CardMeaning) (k : Keyword) → card_keyword meaning ≡ k
-    → is_card_table_line meaning ≡ false → k ≢ keyword.Take → k ≢ keyword.HandOut → k ≢ keyword.Reset → k ≢ keyword.Table → ⊥
+    → is_card_table_line meaning ≡ false → k ≢ keyword.Take → k ≢ keyword.HandOut
+    → k ≢ keyword.Reset → k ≢ keyword.Table → ⊥
 run_says_nothing (Adds addition) k e early take hand_out reset table = true≢false early
 run_says_nothing (Plan plan) k e early take hand_out reset table = true≢false early
 run_says_nothing (Take bytes) k e early take hand_out reset table = take (sym e)
@@ -88,18 +98,22 @@ run_line_says Reset k e other plan = refl
 run_line_says Table k e other plan = refl
 
 -- the first word of a line is the one of what it says
-pub first_word_is : (s : Section) (words : List (List ℕ)) (meaning : CardMeaning) (word : List ℕ) (rest : List (List ℕ))
+pub first_word_is : (s : Section) (words : List (List ℕ)) (meaning : CardMeaning) (word : List ℕ)
+    (rest : List (List ℕ))
     → words ≡ word ∷ rest → IsCardLine s words meaning
     → (word ≡ keyword_text (card_keyword meaning)) × AreCardFields meaning rest
 first_word_is = of_first_word card_keyword AreCardFields is_card_table_line
 
-pub keyword_is : (s : Section) (words : List (List ℕ)) (meaning : CardMeaning) (word : List ℕ) (rest : List (List ℕ)) (k : Keyword)
+pub keyword_is : (s : Section) (words : List (List ℕ)) (meaning : CardMeaning) (word : List ℕ)
+    (rest : List (List ℕ)) (k : Keyword)
     → words ≡ word ∷ rest → word ≡ keyword_text k → IsCardLine s words meaning
     → (card_keyword meaning ≡ k) × AreCardFields meaning rest
 keyword_is = of_keyword card_keyword AreCardFields is_card_table_line
 
 -- a line with this word and these fields
-pub says : (s : Section) (words : List (List ℕ)) (meaning : CardMeaning) (word : List ℕ) (rest : List (List ℕ)) (k : Keyword)
-    → words ≡ word ∷ rest → word ≡ keyword_text k → card_keyword meaning ≡ k → AreCardFields meaning rest
+pub says : (s : Section) (words : List (List ℕ)) (meaning : CardMeaning) (word : List ℕ)
+    (rest : List (List ℕ)) (k : Keyword)
+    → words ≡ word ∷ rest → word ≡ keyword_text k → card_keyword meaning ≡ k
+    → AreCardFields meaning rest
     → MayStandIn s (is_card_table_line meaning) → IsCardLine s words meaning
 says = with_keyword card_keyword AreCardFields is_card_table_line

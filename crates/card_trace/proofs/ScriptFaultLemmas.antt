@@ -57,7 +57,8 @@ pub next_number : (all before others : List (List ℕ)) (line : List ℕ) (m num
 next_number all before others line m number cut is few next =
     let counted : m ≡ length before + 0 = omega (arith, is) in
     let few_behind : length all + 0 < 2 ^ 63 = omega (arith, few) in
-    let at = next_behind all before others line 0 m number cut counted few_behind next in omega (arith, at)
+    let at = next_behind all before others line 0 m number cut counted few_behind next in
+    omega (arith, at)
 
 -- one line more stands before the others
 pub cut_behind : (all before others : List (List ℕ)) (line : List ℕ) → all ≡ before ++ line ∷ others
@@ -85,7 +86,8 @@ faults_more (Err e) P Q f h = f e h
 pub of_line_more : (R S : Reason → Type 0) (number : ℕ) (old new : Option (List ℕ))
     (fault : PlayFault) → ((reason : Reason) → R reason → S reason)
     → IsFaultOfLine R number old new fault → IsFaultOfLine S number old new fault
-of_line_more R S number old new (Script n reason) f (same, refuses, unwritten) = (same, f reason refuses, unwritten)
+of_line_more R S number old new (Script n reason) f (same, refuses, unwritten) =
+    (same, f reason refuses, unwritten)
 of_line_more R S number old new OutOfMemory f h = h
 of_line_more R S number old new Write f h = h
 of_line_more R S number old new Read f h = h
@@ -117,16 +119,17 @@ pub stops_unread : {State : Type 0} (Does : List (List ℕ) → List ℕ → Sta
     → Stops Does Refuses script old old fault
 stops_unread Does Refuses start none script old Read is long = refl
 stops_unread Does Refuses start none script old InputTooLong is long = (refl, long refl)
-stops_unread Does Refuses start none script old OutOfMemory is long = ([], Appends-nil old, of script) where
-  of : (s : Option (List ℕ)) → IfSome s (λ bytes. IsLeftAfter Does (lines bytes) [])
-  of None = tt
-  of (Some bytes) = record {
-    before = [];
-    others = lines bytes;
-    is_cut = refl;
-    state = start;
-    does = none;
-  }
+stops_unread Does Refuses start none script old OutOfMemory is long =
+    ([], Appends-nil old, of script) where
+      of : (s : Option (List ℕ)) → IfSome s (λ bytes. IsLeftAfter Does (lines bytes) [])
+      of None = tt
+      of (Some bytes) = record {
+        before = [];
+        others = lines bytes;
+        is_cut = refl;
+        state = start;
+        does = none;
+      }
 stops_unread Does Refuses start none script old (Script line reason) is long = absurd is
 stops_unread Does Refuses start none script old Write is long = absurd is
 
@@ -135,7 +138,8 @@ pub not_begun : {T : Type 0} (r : Result T PlayFault) (fault : PlayFault)
     → IfSome script (λ bytes. SCRIPT_LIMIT < length bytes → IsNotBegun r old old)
 not_begun r fault None old same is = tt
 not_begun (Ok x) fault (Some bytes) old same is = λ long. absurd same
-not_begun (Err e) fault (Some bytes) old same is = λ long. (subst IsReadingFault (sym same) is, refl)
+not_begun (Err e) fault (Some bytes) old same is =
+    λ long. (subst IsReadingFault (sym same) is, refl)
 
 -- a script that was read has no more bytes than one may have
 pub within_limit : (script : Option (List ℕ)) (items : List ℕ) (P : Type 0)
@@ -150,14 +154,16 @@ pub script_stops : {State : Type 0} (Does : List (List ℕ) → List ℕ → Sta
     (Refuses : State → List ℕ → Reason → Type 0) (script : Option (List ℕ)) (items : List ℕ)
     (old new : Option (List ℕ)) (fault : PlayFault) → IfSome script (λ bytes. items ≡ bytes)
     → LinesStop Does Refuses (lines items) 0 old new fault → Stops Does Refuses script old new fault
-script_stops Does Refuses script items old new (Script n reason) read (text, appends, number, is, refused) = (
-  text,
-  appends,
-  of_script script items (λ bytes. IsRefusedAt Does Refuses (lines bytes) text n reason) read
-      (subst (λ k. IsRefusedAt Does Refuses (lines items) text k reason) (same_number number n is) refused),
-) where
-  same_number : (k m : ℕ) → m ≡ k + 0 → k ≡ m
-  same_number k m e = omega (arith, e)
+script_stops Does Refuses script items old new (Script n reason) read
+    (text, appends, number, is, refused) = (
+      text,
+      appends,
+      of_script script items (λ bytes. IsRefusedAt Does Refuses (lines bytes) text n reason) read
+          (subst (λ k. IsRefusedAt Does Refuses (lines items) text k reason)
+          (same_number number n is) refused),
+    ) where
+      same_number : (k m : ℕ) → m ≡ k + 0 → k ≡ m
+      same_number k m e = omega (arith, e)
 script_stops Does Refuses script items old new OutOfMemory read (text, appends, left) = (
   text,
   appends,

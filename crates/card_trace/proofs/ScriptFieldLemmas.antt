@@ -39,24 +39,33 @@ pub no_bytes_of : (text : List ℕ) (e : FromHexError) → decode_of text ≡ Er
 no_bytes_of text e refused bytes h = cc (sym refused ∙ h.digits)
 
 -- two digits that stand for a byte
-pub sized_text : (text bytes : List ℕ) (n : ℕ) → 0 < n → decode_sized text n ≡ Ok bytes → IsHexText text bytes
+pub sized_text : (text bytes : List ℕ) (n : ℕ) → 0 < n → decode_sized text n ≡ Ok bytes
+    → IsHexText text bytes
 sized_text text bytes n some h =
     let twice = decode_sized-ok text n bytes h in
-    record { is_not_empty = omega (arith, twice, some); digits = sym (decode_sized-twice text n twice) ∙ h }
+    record {
+      is_not_empty = omega (arith, twice, some);
+      digits = sym
+          (decode_sized-twice text n twice) ∙ h;
+    }
 
 -- bytes that are a tag and what follows it are that tag, where nothing follows
-pub whole_tag : (bytes tag rest : List ℕ) → bytes ≡ tag ++ rest → length bytes ≡ length tag → tag ≡ bytes
+pub whole_tag : (bytes tag rest : List ℕ) → bytes ≡ tag ++ rest → length bytes ≡ length tag → tag
+    ≡ bytes
 whole_tag bytes tag [] e len = sym (e ∙ append-nil tag)
 whole_tag bytes tag (r ∷ rest) e len =
     absurd (omega (arith, len, ap (λ x. length x) e, length-append tag (r ∷ rest)))
 
 -- a tag that a command can name is all that stands at the front of itself
-pub front_of_named : (bytes tag rest : List ℕ) → IsAddressable bytes → IsTag tag → bytes ≡ tag ++ rest → tag ≡ bytes
+pub front_of_named : (bytes tag rest : List ℕ) → IsAddressable bytes → IsTag tag → bytes ≡ tag
+    ++ rest → tag ≡ bytes
 front_of_named bytes tag rest named is_tag e =
-    tags_agree tag bytes rest [] is_tag (named_is_tag bytes named.0 named.1 named.2) (sym e ∙ sym (append-nil bytes))
+    tags_agree tag bytes rest [] is_tag (named_is_tag bytes named.0 named.1 named.2)
+    (sym e ∙ sym (append-nil bytes))
 
 pub named_starts : (bytes : List ℕ) → IsAddressable bytes → StartsWithTag bytes
-named_starts bytes named = (bytes, [], named_is_tag bytes named.0 named.1 named.2, sym (append-nil bytes))
+named_starts bytes named =
+    (bytes, [], named_is_tag bytes named.0 named.1 named.2, sym (append-nil bytes))
 
 digits_ascii : (bs : List ℕ) → AllDigits 10 bs → IsAscii bs
 digits_ascii [] h i = lit< tt
@@ -82,7 +91,8 @@ pub parsed_number : {E : Type 0} (text : List ℕ) (r : Result ℕ E) → 0x31 �
     → ParsesUnsigned 16 10 text r
     → MatchResult r (λ n. IsNumberText text n) (λ _. (n : ℕ) → IsNumberText text n → ⊥)
 parsed_number text (Ok n) low h =
-    let P : List ℕ → Type 0 = λ w. (IsNumeral 10 w × (digits_value 10 w < 2 ^ 16)) × (n ≡ digits_value 10 w) in
+    let P : List ℕ → Type 0 = λ w. (IsNumeral 10 w × (digits_value 10 w < 2 ^ 16))
+    × (n ≡ digits_value 10 w) in
     let read = subst P (plus_free text low) h in
     record {
       is_numeral = read.0.0;
@@ -101,22 +111,28 @@ not_star : (c : ℕ) → is_hex_digit c ≡ true → c ≢ 0x2A
 not_star c digit e = true≢false (sym digit ∙ ap is_hex_digit e)
 
 -- no star stands among hexadecimal digits
-starless : (text bytes : List ℕ) → IsHexText text bytes → (k : ℕ) → k < length text → is_star (get_or text k 0) ≡ false
+starless : (text bytes : List ℕ) → IsHexText text bytes → (k : ℕ) → k < length text
+    → is_star (get_or text k 0) ≡ false
 starless text bytes h k lt =
-    ne_eqb (get_or text k 0) 0x2A (not_star (get_or text k 0) ((decode_of-ok text bytes h.digits).1 k 0 lt))
+    ne_eqb (get_or text k 0) 0x2A
+    (not_star (get_or text k 0) ((decode_of-ok text bytes h.digits).1 k 0 lt))
 
-pub hex_has_no_star : (text bytes : List ℕ) (i : ℕ) → IsHexText text bytes → position is_star text ≡ Some i → ⊥
+pub hex_has_no_star : (text bytes : List ℕ) (i : ℕ) → IsHexText text bytes → position is_star text
+    ≡ Some i → ⊥
 hex_has_no_star text bytes i h found =
     let at = position-Some is_star text i 0 found in
     true≢false (sym at.1 ∙ starless text bytes h i at.0)
 
-star_behind : (digits times : List ℕ) → ((k : ℕ) → k < length digits → is_star (get_or digits k 0) ≡ false)
+star_behind : (digits times : List ℕ)
+    → ((k : ℕ) → k < length digits → is_star (get_or digits k 0) ≡ false)
     → position_or_len is_star (digits ++ 0x2A ∷ times) ≡ length digits
 star_behind [] times none = refl
 star_behind (d ∷ digits) times none =
-    rw (none 0 (omega arith)) (omega (arith, star_behind digits times (λ k lt. none (suc k) (omega (arith, lt)))))
+    rw (none 0 (omega arith))
+    (omega (arith, star_behind digits times (λ k lt. none (suc k) (omega (arith, lt)))))
 
-starred : (text digits times : List ℕ) → text ≡ digits ++ codes "*" ++ times → text ≡ digits ++ 0x2A ∷ times
+starred : (text digits times : List ℕ) → text ≡ digits ++ codes "*" ++ times → text ≡ digits ++ 0x2A
+    ∷ times
 starred text digits times e = e ∙ append_assoc digits (0x2A ∷ []) times
 
 -- a text with a star is cut at it
@@ -127,8 +143,11 @@ cut_at_star text digits times bytes i h e found =
     let shape = starred text digits times e in
     let at = first_place is_star text i found in
     let behind = star_behind digits times (starless digits bytes h) in
-    let here : i ≡ length digits = sym at.0 ∙ ap (position_or_len is_star) shape ∙ behind in
-    (rw (here, shape) (take-append_seam digits (0x2A ∷ times)), rw (here, shape) (drop-append-add digits (0x2A ∷ times) 1))
+    let here : i ≡ length digits = sym at.0 ∙ ap (position_or_len is_star) shape ∙ behind in (
+      rw (here, shape) (take-append_seam digits (0x2A ∷ times)),
+      rw (here, shape)
+          (drop-append-add digits (0x2A ∷ times) 1),
+    )
 
 pub has_star : (text digits times bytes : List ℕ) → IsHexText digits bytes
     → text ≡ digits ++ codes "*" ++ times → position is_star text ≡ None → ⊥
@@ -146,7 +165,8 @@ has_star text digits times bytes h e missing =
 
 -- the letters of steps
 pub is_letter : (steps : List Step) (k : ℕ) → k < length (map letter_of steps)
-    → (get_or (map letter_of steps) k 0 ≡ 0x6E) ⊎ ((get_or (map letter_of steps) k 0 ≡ 0x6F) ⊎ (get_or (map letter_of steps) k 0 ≡ 0x61))
+    → (get_or (map letter_of steps) k 0 ≡ 0x6E)
+    ⊎ ((get_or (map letter_of steps) k 0 ≡ 0x6F) ⊎ (get_or (map letter_of steps) k 0 ≡ 0x61))
 is_letter [] k lt = absurd (omega arith)
 is_letter (Null ∷ steps) zero lt = inl refl
 is_letter (One ∷ steps) zero lt = inr (inl refl)
@@ -154,18 +174,21 @@ is_letter (All ∷ steps) zero lt = inr (inr refl)
 is_letter (step ∷ steps) (suc k) lt = is_letter steps k (omega (arith, lt))
 
 -- what an `ok()` gave was there
-pub was_ok : {T E : Type 0} (r : Result T E) (x : T) (P : T → Type 0) → Some x ≡ result_ok r → IfOk r P → P x
+pub was_ok : {T E : Type 0} (r : Result T E) (x : T) (P : T → Type 0) → Some x ≡ result_ok r
+    → IfOk r P → P x
 was_ok (Ok y) x P was h = let same : y ≡ x = cc in subst P same h
 was_ok (Err e) x P was h = cc was
 
 -- and where it gave nothing there was an error
-pub was_err : {T E : Type 0} (r : Result T E) (P : T → Type 0) (Q : E → Type 0) (R : Type 0) → None ≡ result_ok r
+pub was_err : {T E : Type 0} (r : Result T E) (P : T → Type 0) (Q : E → Type 0) (R : Type 0) → None
+    ≡ result_ok r
     → ((e : E) → Q e → R) → MatchResult r P Q → R
 was_err (Ok x) P Q R was from h = cc was
 was_err (Err e) P Q R was from h = from e h
 
 -- a tag that is all of the bytes, or none that can be named
-pub named_tag : (r : Option (List ℕ)) (tag bytes : List ℕ) → tag ≡ bytes → (IsSome r ↔ IsAddressable tag)
+pub named_tag : (r : Option (List ℕ)) (tag bytes : List ℕ) → tag ≡ bytes
+    → (IsSome r ↔ IsAddressable tag)
     → IfSome r (λ t. t ≡ tag)
     → MatchOption r (IsAddressable bytes → ⊥) (λ t. (t ≡ bytes) × IsAddressable bytes)
 named_tag None tag bytes e named same = λ is_named.
@@ -176,7 +199,8 @@ named_tag (Some t) tag bytes e named same =
     (same ∙ e, subst P e (named.0 refl))
 
 -- a text with another letter is none of steps
-pub no_steps : (text : List ℕ) (k : ℕ) → k < length text → get_or text k 0 ≢ 0x6E → get_or text k 0 ≢ 0x6F
+pub no_steps : (text : List ℕ) (k : ℕ) → k < length text → get_or text k 0 ≢ 0x6E
+    → get_or text k 0 ≢ 0x6F
     → get_or text k 0 ≢ 0x61 → text ≢ codes "-" → (steps : List Step) → IsStepsText text steps → ⊥
 no_steps text k lt null one all dash steps (inl h) = dash h.0
 no_steps text k lt null one all dash steps (inr e) = letters (is_letter steps k (subst below e lt))
@@ -188,29 +212,35 @@ no_steps text k lt null one all dash steps (inr e) = letters (is_letter steps k 
     at = ap (λ xs. get_or xs k 0) e
 
     letters : (get_or (map letter_of steps) k 0 ≡ 0x6E)
-        ⊎ ((get_or (map letter_of steps) k 0 ≡ 0x6F) ⊎ (get_or (map letter_of steps) k 0 ≡ 0x61)) → ⊥
+        ⊎ ((get_or (map letter_of steps) k 0 ≡ 0x6F) ⊎ (get_or (map letter_of steps) k 0 ≡ 0x61))
+        → ⊥
     letters (inl is) = null (at ∙ is)
     letters (inr (inl is)) = one (at ∙ is)
     letters (inr (inr is)) = all (at ∙ is)
 
 -- the two digits of a byte decode into the room of one
-pub sized_of : (text : List ℕ) (byte : ℕ) → IsHexText text (byte ∷ []) → decode_sized text 1 ≡ Ok (byte ∷ [])
+pub sized_of : (text : List ℕ) (byte : ℕ) → IsHexText text (byte ∷ []) → decode_sized text 1
+    ≡ Ok (byte ∷ [])
 sized_of text byte h =
     let twice : length text ≡ 2 * 1 = (decode_of-ok text (byte ∷ []) h.digits).2 in
     decode_sized-twice text 1 twice ∙ h.digits
 
 -- what is in an option that is there
-pub some_of : {T : Type 0} (o : Option T) (x : T) (N : Type 0) (P : T → Type 0) → o ≡ Some x → MatchOption o N P → P x
+pub some_of : {T : Type 0} (o : Option T) (x : T) (N : Type 0) (P : T → Type 0) → o ≡ Some x
+    → MatchOption o N P → P x
 some_of None x N P e h = cc e
 some_of (Some y) x N P e h = let same : y ≡ x = cc in subst P same h
 
-pub none_of : {T : Type 0} (o : Option T) (N : Type 0) (P : T → Type 0) → o ≡ None → MatchOption o N P → N
+pub none_of : {T : Type 0} (o : Option T) (N : Type 0) (P : T → Type 0) → o ≡ None
+    → MatchOption o N P → N
 none_of None N P e h = h
 none_of (Some y) N P e h = cc e
 
 -- a text that is not - by a test
-pub differs : (text other : List ℕ) → other ≡ codes "-" → bytes_eq text other ≡ false → text ≢ codes "-"
-differs text other is e same = true≢false (sym ((bytes_eq-Decides text other).1 (same ∙ sym is)) ∙ e)
+pub differs : (text other : List ℕ) → other ≡ codes "-" → bytes_eq text other ≡ false
+    → text ≢ codes "-"
+differs text other is e same =
+    true≢false (sym ((bytes_eq-Decides text other).1 (same ∙ sym is)) ∙ e)
 
 -- a text without a star that is neither - nor hexadecimal is no value
 pub no_value : (text : List ℕ) → position is_star text ≡ None → text ≢ codes "-"
@@ -226,14 +256,16 @@ pub around_star : (text : List ℕ) (i : ℕ) → position is_star text ≡ Some
 around_star text i found =
     let at = position-Some is_star text i 0 found in
     let place = first_place is_star text i found in
-    let P : ℕ → Type 0 = λ n. n < length text → text ≡ take n text ++ (get_or text n 0 ∷ drop (n + 1) text) in
+    let P : ℕ → Type 0 = λ n. n < length text → text ≡ take n text
+    ++ (get_or text n 0 ∷ drop (n + 1) text) in
     let cut = subst P place.0 (split_at_first is_star text 0) at.0 in
     cut ∙ ap (λ b. take i text ++ (b ∷ drop (i + 1) text)) (eqb-true (get_or text i 0) 0x2A at.1)
     ∙ sym (append_assoc (take i text) (0x2A ∷ []) (drop (i + 1) text))
 
 pub cut_value : (text : List ℕ) (i : ℕ) (value : List ℕ) → position is_star text ≡ Some i
     → IsRepeatedText (take i text) (drop (i + 1) text) value → IsValueText text value
-cut_value text i value found h = repeated (take i text) (drop (i + 1) text) (around_star text i found) h
+cut_value text i value found h = repeated (take i text) (drop (i + 1) text)
+    (around_star text i found) h
 
 -- a text with a star stands for a repeated byte or for nothing
 pub value_cut : (text : List ℕ) (i : ℕ) (value : List ℕ) → position is_star text ≡ Some i
@@ -249,20 +281,29 @@ value_cut text i value found (repeated digits times e h) =
 pub same_number : (text : List ℕ) (m n : ℕ) → IsNumberText text m → IsNumberText text n → m ≡ n
 same_number text m n h g = sym h.value ∙ g.value
 
-same_repeated : (digits times a b : List ℕ) → IsRepeatedText digits times a → IsRepeatedText digits times b → a ≡ b
+same_repeated : (digits times a b : List ℕ) → IsRepeatedText digits times a
+    → IsRepeatedText digits times b → a ≡ b
 same_repeated digits times a b h g =
-    let bytes : h.byte ∷ [] ≡ g.byte ∷ [] = same_bytes digits (h.byte ∷ []) (g.byte ∷ []) h.hex g.hex in
+    let bytes : h.byte ∷ [] ≡ g.byte ∷ [] = same_bytes digits (h.byte ∷ [])
+    (g.byte ∷ []) h.hex g.hex in
     let byte : h.byte ≡ g.byte = cc in
     let n : h.n ≡ g.n = same_number times h.n g.n h.number g.number in
     h.repeats ∙ ap (λ m. replicate m h.byte) n ∙ ap (λ x. replicate g.n x) byte ∙ sym g.repeats
 
-star_found : (text digits times bytes : List ℕ) → IsHexText digits bytes → text ≡ digits ++ codes "*" ++ times
+star_found : (text digits times bytes : List ℕ) → IsHexText digits bytes → text ≡ digits
+    ++ codes "*" ++ times
     → position is_star text ≡ Some (position_or_len is_star text)
 star_found text digits times bytes h e =
     let shape = starred text digits times e in
     let behind = star_behind digits times (starless digits bytes h) in
     let lt : position_or_len is_star text < length text =
-    omega (arith, ap (position_or_len is_star) shape, behind, ap (λ x. length x) shape, length-append digits (0x2A ∷ times)) in
+    omega (
+      arith,
+      ap (position_or_len is_star) shape,
+      behind,
+      ap (λ x. length x) shape,
+      length-append digits (0x2A ∷ times),
+    ) in
     rw (lt-ltb (position_or_len is_star text) (length text) lt) refl
 
 no_hex_dash : (text bytes : List ℕ) → text ≡ codes "-" → IsHexText text bytes → ⊥
@@ -289,10 +330,13 @@ same_value text a b (repeated digits times e h) (repeated digits' times' e' g) =
     let found = star_found text digits times (h.byte ∷ []) h.hex e in
     let i = position_or_len is_star text in
     same_repeated (take i text) (drop (i + 1) text) a b
-    (value_cut text i a found (repeated digits times e h)) (value_cut text i b found (repeated digits' times' e' g))
+    (value_cut text i a found (repeated digits times e h))
+    (value_cut text i b found (repeated digits' times' e' g))
 
 -- a cut that is none makes no plan
 pub no_plan : (a b : List ℕ) (cut : ℕ) → IsNumberText b cut → (cut ≡ 0) ⊎ (256 < cut)
     → (plan : Course) → IsPlanText a b plan → ⊥
-no_plan a b cut is (inl z) plan h = let same = same_number b cut plan.cut is h.cut in omega (arith, same, z, h.cut_in_range.0)
-no_plan a b cut is (inr big) plan h = let same = same_number b cut plan.cut is h.cut in omega (arith, same, big, h.cut_in_range.1)
+no_plan a b cut is (inl z) plan h = let same = same_number b cut plan.cut is h.cut in
+    omega (arith, same, z, h.cut_in_range.0)
+no_plan a b cut is (inr big) plan h = let same = same_number b cut plan.cut is h.cut in
+    omega (arith, same, big, h.cut_in_range.1)

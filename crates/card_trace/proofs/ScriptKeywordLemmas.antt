@@ -67,9 +67,10 @@ pub with_keyword : {Meaning : Type 0} (keyword_of : Meaning → Keyword)
     → words ≡ word ∷ rest → word ≡ keyword_text k → keyword_of meaning ≡ k → AreFields meaning rest
     → MayStandIn s (is_table_line meaning)
     → IsLine keyword_of AreFields is_table_line s words meaning
-with_keyword keyword_of AreFields is_table_line s words meaning word rest k e is_k same are_fields stands = record {
-  fields = rest;
-  is_line = e ∙ ap (λ w. w ∷ rest) (is_k ∙ ap keyword_text (sym same));
-  are_fields = are_fields;
-  stands = stands;
-}
+with_keyword keyword_of AreFields is_table_line s words meaning word rest k e is_k same are_fields
+    stands = record {
+      fields = rest;
+      is_line = e ∙ ap (λ w. w ∷ rest) (is_k ∙ ap keyword_text (sym same));
+      are_fields = are_fields;
+      stands = stands;
+    }

@@ -16,14 +16,15 @@ done_both {State} Does start mid end [] others text more (none, same) does =
     let P : State → Type 0 = λ s. AreDone Does s others more end in
     let Q : List ℕ → Type 0 = λ t. AreDone Does start others (t ++ more) end in
     subst Q (sym none) (subst P same does)
-done_both Does start mid end (b ∷ before) others text more (first, rest, next, one, is, others_do) does = (
-  first,
-  rest ++ more,
-  next,
-  one,
-  ap (λ t. t ++ more) is ∙ append_assoc first rest more,
-  done_both Does next mid end before others rest more others_do does,
-)
+done_both Does start mid end (b ∷ before) others text more (first, rest, next, one, is, others_do)
+    does = (
+      first,
+      rest ++ more,
+      next,
+      one,
+      ap (λ t. t ++ more) is ∙ append_assoc first rest more,
+      done_both Does next mid end before others rest more others_do does,
+    )
 
 pub done_one : {State : Type 0} (Does : State → List ℕ → List ℕ → State → Type 0)
     (old new : State) (line text : List ℕ) → Does old line text new

@@ -6,7 +6,8 @@ use Rattle.card_trace.specs.declared.script.refusal.Refusal.{Refusal}
 use Rattle.card_trace.specs.declared.script.refusal.Refusal.TheVariants.{Line, OutOfMemory}
 use Rattle.card_trace.specs.ScriptReasons.{OnReason}
 
-pub reason_implies : (refusal : Refusal) (P Q : Reason → Type 0) → ((reason : Reason) → P reason → Q reason)
+pub reason_implies : (refusal : Refusal) (P Q : Reason → Type 0)
+    → ((reason : Reason) → P reason → Q reason)
     → OnReason refusal P → OnReason refusal Q
 reason_implies (Line reason) P Q f h = f reason h
 reason_implies OutOfMemory P Q f h = tt
@@ -29,10 +30,12 @@ refused_for (Err e) reason Q same h =
     subst R (sym same) h
 
 pub refuses_more : {T : Type 0} (r : Result T Refusal) (P Q : Reason → Type 0)
-    → ((reason : Reason) → P reason → Q reason) → IfErr r (λ e. OnReason e P) → IfErr r (λ e. OnReason e Q)
+    → ((reason : Reason) → P reason → Q reason) → IfErr r (λ e. OnReason e P)
+    → IfErr r (λ e. OnReason e Q)
 refuses_more (Ok x) P Q f h = tt
 refuses_more (Err e) P Q f h = reason_implies e P Q f h
 
-pub ok_more : {T E : Type 0} (r : Result T E) (P Q : T → Type 0) → ((x : T) → P x → Q x) → IfOk r P → IfOk r Q
+pub ok_more : {T E : Type 0} (r : Result T E) (P Q : T → Type 0) → ((x : T) → P x → Q x) → IfOk r P
+    → IfOk r Q
 ok_more (Ok x) P Q f h = f x h
 ok_more (Err e) P Q f h = tt

@@ -8,7 +8,8 @@ use Rattle.card_trace.specs.ScriptFields.{IsAidText, IsTagText, IsValueText, IsP
 use Rattle.card_trace.proofs.ScriptFieldLemmas.{same_value}
 use Rattle.card_trace.specs.ScriptTable.{Addition, App, Object, Locked, OneField, AreEntryFields, ArePlanFields, table_word, AreTableFields, MayStandIn}
 
-pub one_text : (fields : List (List ℕ)) (text : List ℕ) (P : List ℕ → Type 0) → fields ≡ text ∷ [] → OneField fields P → P text
+pub one_text : (fields : List (List ℕ)) (text : List ℕ) (P : List ℕ → Type 0) → fields ≡ text ∷ []
+    → OneField fields P → P text
 one_text fields text P e h =
     let same : h.0 ∷ [] ≡ text ∷ [] = sym h.1 ∙ e in
     let first : h.0 ≡ text = cc in
@@ -67,6 +68,8 @@ stands_always section.Building late e = tt
 stands_always section.Running late e = e
 
 -- the fields of an entry stand for one value
-pub same_entry_value : (fields : List (List ℕ)) (s t a b : List ℕ) → AreEntryFields fields s a → AreEntryFields fields t b → a ≡ b
+pub same_entry_value : (fields : List (List ℕ)) (s t a b : List ℕ) → AreEntryFields fields s a
+    → AreEntryFields fields t b → a ≡ b
 same_entry_value fields s t a b h g =
-    same_value h.value_text a b h.is_value (entry_texts fields h.tag_text h.value_text t b h.two g).1
+    same_value h.value_text a b h.is_value
+    (entry_texts fields h.tag_text h.value_text t b h.two g).1

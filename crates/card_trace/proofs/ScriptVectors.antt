@@ -56,7 +56,8 @@ a_tag : IsTagText (codes "5F20") (0x5F ∷ 0x20 ∷ [])
 unfolding decode_pairs
 a_tag = record {
   hex = record { is_not_empty = omega (arith); digits = refl };
-  is_addressable = (0x5F, 0x20, (omega (arith), omega (arith), refl, omega (arith), omega (arith), refl, refl));
+  is_addressable =
+      (0x5F, 0x20, (omega (arith), omega (arith), refl, omega (arith), omega (arith), refl, refl));
 }
 
 abbrev value_of : Result (List ℕ) FromHexError → List ℕ
@@ -115,11 +116,16 @@ three_times = repeated (codes "41") (codes "3") refl (record {
 })
 
 -- STEPS are letters, and CUT is at most 256
-a_plan : IsPlanText (codes "noa") (codes "256") (record { steps = Null ∷ One ∷ All ∷ []; cut = 256 })
+a_plan : IsPlanText (codes "noa") (codes "256")
+    (record { steps = Null ∷ One ∷ All ∷ []; cut = 256 })
 a_plan = record { steps = inr refl; cut = a_number; cut_in_range = (omega (arith), omega (arith)) }
 
 no_plan : (cut : List ℕ) (plan : Course) → ¬ IsPlanText (codes "N") cut plan
-no_plan cut plan h = elim h.steps [ inl p ↦ let e : 0x4E ≡ 0x2D = ap first p.0 in absurd (omega (arith, e)) | inr e ↦ not_letters plan.steps e ]
+no_plan cut plan h = elim h.steps [
+  | inl p ↦ let e : 0x4E
+      ≡ 0x2D = ap first p.0 in absurd (omega (arith, e))
+  | inr e ↦ not_letters plan.steps e
+]
   where
     not_letters : (steps : List Step) → codes "N" ≡ map letter_of steps → ⊥
     not_letters [] e = let f : 0x4E ≡ 0 = ap first e in omega (arith, f)
@@ -138,7 +144,8 @@ an_app = record {
 }
 
 -- but not behind the first run line
-no_late_app : (words : List (List ℕ)) (aid : List ℕ) → ¬ IsPlayLine section.Running words (play.Adds (App aid))
+no_late_app : (words : List (List ℕ)) (aid : List ℕ)
+    → ¬ IsPlayLine section.Running words (play.Adds (App aid))
 no_late_app words aid h = absurd (true≢false h.stands)
 
 an_object : IsCardLine section.Building (words_of (codes "object 5F20 41*3"))
@@ -146,7 +153,14 @@ an_object : IsCardLine section.Building (words_of (codes "object 5F20 41*3"))
 an_object = record {
   fields = codes "5F20" ∷ codes "41*3" ∷ [];
   is_line = refl;
-  are_fields = record { tag_text = codes "5F20"; value_text = codes "41*3"; two = refl; is_tag = a_tag; is_value = three_times };
+  are_fields = record {
+    tag_text = codes "5F20";
+    value_text = codes "41*3";
+    two = refl;
+    is_tag =
+        a_tag;
+    is_value = three_times;
+  };
   stands = tt;
 }
 
@@ -155,7 +169,13 @@ a_locked : IsPlayLine section.Building (words_of (codes "locked 5F20 -"))
 a_locked = record {
   fields = codes "5F20" ∷ codes "-" ∷ [];
   is_line = refl;
-  are_fields = record { tag_text = codes "5F20"; value_text = codes "-"; two = refl; is_tag = a_tag; is_value = no_value };
+  are_fields = record {
+    tag_text = codes "5F20";
+    value_text = codes "-";
+    two = refl;
+    is_tag = a_tag;
+    is_value = no_value;
+  };
   stands = tt;
 }
 
@@ -164,12 +184,19 @@ a_plan_line : IsPlayLine section.Running (words_of (codes "plan noa 256"))
 a_plan_line = record {
   fields = codes "noa" ∷ codes "256" ∷ [];
   is_line = refl;
-  are_fields = record { steps_text = codes "noa"; cut_text = codes "256"; two = refl; is_plan = a_plan };
+  are_fields = record {
+    steps_text = codes "noa";
+    cut_text = codes "256";
+    two = refl;
+    is_plan =
+        a_plan;
+  };
   stands = refl;
 }
 
 -- plans of `card` stand before its first run line
-no_late_plan : (words : List (List ℕ)) (plan : Course) → ¬ IsCardLine section.Running words (card.Plan plan)
+no_late_plan : (words : List (List ℕ)) (plan : Course)
+    → ¬ IsCardLine section.Running words (card.Plan plan)
 no_late_plan words plan h = absurd (true≢false h.stands)
 
 a_select : IsPlayLine section.Running (words_of (codes "select A000000003"))
@@ -182,13 +209,29 @@ a_select = record {
 }
 
 a_get : IsPlayLine section.Running (words_of (codes "get 5F20")) (play.Run (Get (0x5F ∷ 0x20 ∷ [])))
-a_get = record { fields = codes "5F20" ∷ []; is_line = refl; are_fields = (codes "5F20", refl, a_tag); stands = refl }
+a_get = record {
+  fields = codes "5F20" ∷ [];
+  is_line = refl;
+  are_fields =
+      (codes "5F20", refl, a_tag);
+  stands = refl;
+}
 
-a_put : IsPlayLine section.Running (words_of (codes "put 5F20 -")) (play.Run (Put (0x5F ∷ 0x20 ∷ []) []))
+a_put : IsPlayLine section.Running (words_of (codes "put 5F20 -"))
+    (play.Run (Put (0x5F ∷ 0x20 ∷ []) []))
 a_put = record {
   fields = codes "5F20" ∷ codes "-" ∷ [];
   is_line = refl;
-  are_fields = (record { tag_text = codes "5F20"; value_text = codes "-"; two = refl; is_tag = a_tag; is_value = no_value }, omega (arith));
+  are_fields = (
+    record {
+      tag_text = codes "5F20";
+      value_text = codes "-";
+      two = refl;
+      is_tag = a_tag;
+      is_value = no_value;
+    },
+    omega (arith),
+  );
   stands = refl;
 }
 
@@ -205,24 +248,44 @@ no_reset h =
 a_table : IsCardLine section.Running (words_of (codes "table")) card.Table
 a_table = record { fields = []; is_line = refl; are_fields = refl; stands = refl }
 
-some_characters : IsCardLine section.Running (words_of (codes "> 5f2A")) (card.Take (0x5F ∷ 0x2A ∷ []))
-some_characters = record { fields = codes "5f2A" ∷ []; is_line = refl; are_fields = (codes "5f2A", refl, either_case); stands = refl }
+some_characters : IsCardLine section.Running (words_of (codes "> 5f2A"))
+    (card.Take (0x5F ∷ 0x2A ∷ []))
+some_characters = record {
+  fields = codes "5f2A"
+      ∷ [];
+  is_line = refl;
+  are_fields = (codes "5f2A", refl, either_case);
+  stands = refl;
+}
 
 all_that_come : IsCardLine section.Running (words_of (codes "<")) (card.HandOut None)
 all_that_come = record { fields = []; is_line = refl; are_fields = refl; stands = refl }
 
 so_many : IsCardLine section.Running (words_of (codes "< 256")) (card.HandOut (Some 256))
-so_many = record { fields = codes "256" ∷ []; is_line = refl; are_fields = (codes "256", refl, a_number); stands = refl }
+so_many = record {
+  fields = codes "256" ∷ [];
+  is_line = refl;
+  are_fields =
+      (codes "256", refl, a_number);
+  stands = refl;
+}
 
 -- words are in lower case
-no_upper_case : (meaning : PlayMeaning) → ¬ IsPlayLine section.Building (words_of (codes "PUT 50 41")) meaning
-no_upper_case (play.Adds (App aid)) h = let e : 0x50 ≡ 0x61 = ap initial h.is_line in omega (arith, e)
-no_upper_case (play.Adds (Object tag value)) h = let e : 0x50 ≡ 0x6F = ap initial h.is_line in omega (arith, e)
-no_upper_case (play.Adds (Locked tag value)) h = let e : 0x50 ≡ 0x6C = ap initial h.is_line in omega (arith, e)
+no_upper_case : (meaning : PlayMeaning) → ¬ IsPlayLine section.Building
+    (words_of (codes "PUT 50 41")) meaning
+no_upper_case (play.Adds (App aid)) h = let e : 0x50 ≡ 0x61 = ap initial h.is_line in
+    omega (arith, e)
+no_upper_case (play.Adds (Object tag value)) h = let e : 0x50 ≡ 0x6F = ap initial h.is_line in
+    omega (arith, e)
+no_upper_case (play.Adds (Locked tag value)) h = let e : 0x50 ≡ 0x6C = ap initial h.is_line in
+    omega (arith, e)
 no_upper_case (play.Plan plan) h = let e : 0x50 ≡ 0x70 = ap initial h.is_line in omega (arith, e)
-no_upper_case (play.Run (Select aid)) h = let e : 0x50 ≡ 0x73 = ap initial h.is_line in omega (arith, e)
-no_upper_case (play.Run (Get tag)) h = let e : 0x50 ≡ 0x67 = ap initial h.is_line in omega (arith, e)
-no_upper_case (play.Run (Put tag value)) h = let e : 0x50 ≡ 0x70 = ap initial h.is_line in omega (arith, e)
+no_upper_case (play.Run (Select aid)) h = let e : 0x50 ≡ 0x73 = ap initial h.is_line in
+    omega (arith, e)
+no_upper_case (play.Run (Get tag)) h = let e : 0x50 ≡ 0x67 = ap initial h.is_line in
+    omega (arith, e)
+no_upper_case (play.Run (Put tag value)) h = let e : 0x50 ≡ 0x70 = ap initial h.is_line in
+    omega (arith, e)
 no_upper_case (play.Send bytes) h = let e : 0x50 ≡ 0x73 = ap initial h.is_line in omega (arith, e)
 no_upper_case play.Reset h = let e : 0x50 ≡ 0x72 = ap initial h.is_line in omega (arith, e)
 no_upper_case play.Table h = let e : 0x50 ≡ 0x74 = ap initial h.is_line in omega (arith, e)
@@ -231,5 +294,8 @@ no_upper_case play.Table h = let e : 0x50 ≡ 0x74 = ap initial h.is_line in ome
 two_taken : (p : Course) → TakeInTurn (p ∷ []) (p ∷ plain ∷ []) []
 two_taken p = (refl, (refl, refl))
 
-none_passed_over : (q : Course) (left : List Course) → ¬ TakeInTurn (plain ∷ q ∷ []) (record { steps = Null ∷ []; cut = 256 } ∷ []) left
-none_passed_over q left h = absurd (let e : record { steps = Null ∷ []; cut = 256 } ≡ plain = h.0 in let s : Null ∷ [] ≡ [] = ap (λ (c : Course). c.steps) e in cc)
+none_passed_over : (q : Course) (left : List Course)
+    → ¬ TakeInTurn (plain ∷ q ∷ []) (record { steps = Null ∷ []; cut = 256 } ∷ []) left
+none_passed_over q left h =
+    absurd (let e : record { steps = Null ∷ []; cut = 256 } ≡ plain = h.0 in let s : Null ∷ []
+    ≡ [] = ap (λ (c : Course). c.steps) e in cc)

@@ -24,24 +24,28 @@ first_place p xs i h =
     (position_or_len_is p xs i 0 (omega (arith, at.0)) at.2 (λ _. at.1), at.0)
 
 -- the test passes nowhere
-pub no_place : (p : ℕ → Bool) (xs : List ℕ) → position p xs ≡ None → length xs ≤ position_or_len p xs
+pub no_place : (p : ℕ → Bool) (xs : List ℕ) → position p xs ≡ None → length xs
+    ≤ position_or_len p xs
 no_place p xs h = grind arith
 
 pub one_part : (p : ℕ → Bool) (xs : List ℕ) → position p xs ≡ None → slice_split p xs ≡ xs ∷ []
-one_part p xs h = slice_split_none p xs (λ k d lt. fails_before_first p xs k d (omega (arith, no_place p xs h, lt)))
+one_part p xs h = slice_split_none p xs
+    (λ k d lt. fails_before_first p xs k d (omega (arith, no_place p xs h, lt)))
 
 pub first_part : (p : ℕ → Bool) (xs : List ℕ) (i : ℕ) → position p xs ≡ Some i
     → slice_split p xs ≡ take i xs ∷ slice_split p (drop (i + 1) xs)
 first_part p xs i h =
     let at = first_place p xs i h in
-    let P : ℕ → Type 0 = λ n. n < length xs → slice_split p xs ≡ take n xs ∷ slice_split p (drop (n + 1) xs) in
+    let P : ℕ → Type 0 = λ n. n < length xs → slice_split p xs ≡ take n xs
+    ∷ slice_split p (drop (n + 1) xs) in
     subst P at.0 (slice_split_first p xs 0) at.1
 
 -- a space in front is of no word
 pub space_first : (bytes : List ℕ) → words_in (0x20 ∷ bytes) ≡ words_in bytes
 space_first bytes = refl
 
-kept : (test : List ℕ → Bool) (x : List ℕ) (xs : List (List ℕ)) → test x ≡ true → filter test (x ∷ xs) ≡ x ∷ filter test xs
+kept : (test : List ℕ → Bool) (x : List ℕ) (xs : List (List ℕ)) → test x ≡ true
+    → filter test (x ∷ xs) ≡ x ∷ filter test xs
 kept test x xs e = rw e refl
 
 abbrev is_word : List ℕ → Bool
@@ -54,21 +58,25 @@ no_words (b ∷ bytes) h = absurd (omega arith)
 pub last_word : (text : List ℕ) → 0 < length text → position (is 0x20) text ≡ None
     → words_in text ≡ text ∷ []
 last_word text some h =
-    ap (filter is_word) (one_part (is 0x20) text h) ∙ kept is_word text [] (lt-ltb 0 (length text) some)
+    ap (filter is_word) (one_part (is 0x20) text h)
+    ∙ kept is_word text [] (lt-ltb 0 (length text) some)
 
 -- a space is not at the front
-after_front : (text : List ℕ) (i : ℕ) → slice_index text 0 ≢ 0x20 → (get_or text i 0 == 0x20) ≡ true → 0 < i
+after_front : (text : List ℕ) (i : ℕ) → slice_index text 0 ≢ 0x20 → (get_or text i 0 == 0x20) ≡ true
+    → 0 < i
 after_front text zero front e = absurd (front (eqb-true (get_or text 0 0) 0x20 e))
 after_front text (suc i) front e = omega arith
 
-pub word_then : (text : List ℕ) (i : ℕ) → slice_index text 0 ≢ 0x20 → position (is 0x20) text ≡ Some i
+pub word_then : (text : List ℕ) (i : ℕ) → slice_index text 0 ≢ 0x20 → position (is 0x20) text
+    ≡ Some i
     → words_in text ≡ take i text ∷ words_in (drop (i + 1) text)
 word_then text i front h =
     let at = position-Some (is 0x20) text i 0 h in
     let some = after_front text i front at.1 in
     let len = length-take-le i text (omega (arith, at.0)) in
     ap (filter is_word) (first_part (is 0x20) text i h)
-    ∙ kept is_word (take i text) (slice_split (is 0x20) (drop (i + 1) text)) (lt-ltb 0 (length (take i text)) (omega (arith, len, some)))
+    ∙ kept is_word (take i text) (slice_split (is 0x20) (drop (i + 1) text))
+    (lt-ltb 0 (length (take i text)) (omega (arith, len, some)))
 
 pub no_lines : (bytes : List ℕ) → length bytes ≡ 0 → lines bytes ≡ []
 no_lines [] h = refl
@@ -92,7 +100,8 @@ pub line_then : (bytes : List ℕ) (i : ℕ) → position (is 0x0A) bytes ≡ So
 line_then bytes i h =
     let rest = drop (i + 1) bytes in
     ap lines_of_parts (first_part (is 0x0A) bytes i h)
-    ∙ parts_more (take i bytes) (slice_split (is 0x0A) rest) (omega (arith, length-slice_split (is 0x0A) rest))
+    ∙ parts_more (take i bytes) (slice_split (is 0x0A) rest)
+    (omega (arith, length-slice_split (is 0x0A) rest))
 
 -- what is left behind a place, all of it
 pub rest_whole : (n : ℕ) (xs : List ℕ) → take (length xs - n) (drop n xs) ≡ drop n xs

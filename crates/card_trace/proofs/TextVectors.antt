@@ -11,14 +11,17 @@ use Rattle.card_trace.specs.ForestText.{forest_text}
 
 -- characters of one end stand on one line, and the answer on its own
 worked_operation : operation_text
-    ((Terminal, 0x00) ∷ (Terminal, 0xCA) ∷ (Terminal, 0x5F) ∷ (Terminal, 0x20) ∷ (Terminal, 0x06) ∷ (Card, 0x60) ∷ (Card, 0xCA) ∷ (Card, 0x5F) ∷ (Card, 0x90) ∷ (Card, 0x00) ∷ [])
+    ((Terminal, 0x00) ∷ (Terminal, 0xCA) ∷ (Terminal, 0x5F) ∷ (Terminal, 0x20) ∷ (Terminal, 0x06)
+    ∷ (Card, 0x60) ∷ (Card, 0xCA) ∷ (Card, 0x5F) ∷ (Card, 0x90) ∷ (Card, 0x00) ∷ [])
     (record { status = (0x90, 0x00); content = 0x5F ∷ [] })
-    ≡ codes "> 00CA5F2006" ++ newline ++ codes "< 60CA5F9000" ++ newline ++ codes "= 9000 5F" ++ newline
+    ≡ codes "> 00CA5F2006" ++ newline ++ codes "< 60CA5F9000" ++ newline ++ codes "= 9000 5F"
+    ++ newline
 unfolding encode_with
 worked_operation = refl
 
 -- no space stands behind a status without data
-no_data : operation_text [] (record { status = (0x6A, 0x88); content = [] }) ≡ codes "= 6A88" ++ newline
+no_data : operation_text [] (record { status = (0x6A, 0x88); content = [] }) ≡ codes "= 6A88"
+    ++ newline
 unfolding encode_with
 no_data = refl
 
@@ -32,14 +35,17 @@ none_handed_out = refl
 -- a mark stands behind the value, also where that has no bytes
 worked_table : table_text (record {
   aid = 0xA0 ∷ 0x00 ∷ 0x00 ∷ 0x00 ∷ 0x03 ∷ [];
-  entries = record { tag = 0x5F ∷ 0x20 ∷ []; value = 0x4A ∷ []; locked = false } ∷ record { tag = 0x50 ∷ []; value = []; locked = true } ∷ [];
+  entries = record { tag = 0x5F ∷ 0x20 ∷ []; value = 0x4A ∷ []; locked = false }
+      ∷ record { tag = 0x50 ∷ []; value = []; locked = true } ∷ [];
 } ∷ [])
-    ≡ codes "app A000000003" ++ newline ++ codes "  5F20 4A" ++ newline ++ codes "  50 - locked" ++ newline
+    ≡ codes "app A000000003" ++ newline ++ codes "  5F20 4A" ++ newline ++ codes "  50 - locked"
+    ++ newline
 unfolding encode_with
 worked_table = refl
 
 -- what is in a template stands behind its line, two spaces further in
-worked_forest : forest_text (Template (0x6F ∷ []) (Primitive (0x84 ∷ []) (0xA0 ∷ 0x00 ∷ []) Empty) (Primitive (0x50 ∷ []) [] Empty))
+worked_forest : forest_text (Template (0x6F ∷ []) (Primitive (0x84 ∷ []) (0xA0 ∷ 0x00 ∷ []) Empty)
+    (Primitive (0x50 ∷ []) [] Empty))
     ≡ codes "6F" ++ newline ++ codes "  84 A000" ++ newline ++ codes "50 -" ++ newline
 unfolding encode_with
 worked_forest = refl

@@ -26,7 +26,8 @@ other_is_apart : (from other : End) (b : ℕ) (cs : List Character) → is_same 
 other_is_apart from other b cs differ x = split (runs_of cs)
   where
     next : (r : RunOf) (runs : List RunOf) (v : Bool) → is_same other r.from ≡ v
-        → joined from x (joined other b (r ∷ runs)) ≡ run_of from (x ∷ []) ∷ joined other b (r ∷ runs)
+        → joined from x (joined other b (r ∷ runs)) ≡ run_of from (x ∷ [])
+        ∷ joined other b (r ∷ runs)
     next r runs true e = rw (e, differ) refl
     next r runs false e = rw (e, differ) refl
 
@@ -103,7 +104,8 @@ whole_text text from run left = text ++ characters_text (sent_by from run ++ lef
 -- the character goes into the run
 pub run_goes_on : (text whole run more kept : List ℕ) (from : End) (heard : List Character) (i : ℕ)
     → i < length heard → not (sameb the_type (at_index heard i).0 from) ≡ false
-    → kept ≡ run → more ≡ kept ++ (at_index heard i).1 ∷ [] → whole_text text from run (drop i heard) ≡ whole
+    → kept ≡ run → more ≡ kept ++ (at_index heard i).1 ∷ []
+    → whole_text text from run (drop i heard) ≡ whole
     → whole_text text from more (drop (i + 1) heard) ≡ whole
 run_goes_on text whole run more kept from heard i lt same kept_is more_is so_far =
     let c = at_index heard i in
@@ -125,7 +127,8 @@ pub run_changes : (text written whole run more none : List ℕ) (from : End) (he
     → written ≡ text ++ characters_text (sent_by from seen) → none ≡ []
     → more ≡ none ++ (at_index heard i).1 ∷ [] → whole_text text from run (drop i heard) ≡ whole
     → whole_text written (at_index heard i).0 more (drop (i + 1) heard) ≡ whole
-run_changes text written whole run more none from heard seen i lt other seen_is written_is none_is more_is so_far =
+run_changes text written whole run more none from heard seen i lt other seen_is written_is none_is
+    more_is so_far =
     let c = at_index heard i in
     let left = drop (i + 1) heard in
     let differ = same_turned from c.0 ∙ sym (same_ends c.0 from) ∙ not_true _ other in
@@ -146,9 +149,12 @@ pub run_written : {T E : Type 0} (r : Result T E) (before marked digits after : 
     → after ≡ (if is_ok r then digits ++ newline else digits)
     → OnOk r (after ≡ before ++ characters_text (sent_by from bytes))
 run_written r before marked digits after from [] some marked_is digits_is after_is = absurd (cc)
-run_written (Err e) before marked digits after from (b ∷ bytes) some marked_is digits_is after_is = tt
+run_written (Err e) before marked digits after from (b ∷ bytes) some marked_is digits_is after_is =
+    tt
 run_written (Ok x) before marked digits after from (b ∷ bytes) some marked_is digits_is after_is =
-    after_is ∙ ap (λ t. t ++ newline) (digits_is ∙ ap (λ t. t ++ encode_upper (b ∷ bytes)) marked_is)
+    after_is ∙ ap (λ t. t ++ newline)
+    (digits_is ∙ ap (λ t. t ++ encode_upper (b ∷ bytes)) marked_is)
     ∙ append_assoc (before ++ sign from) (encode_upper (b ∷ bytes)) newline
     ∙ append_assoc before (sign from) (encode_upper (b ∷ bytes) ++ newline)
-    ∙ ap (λ t. before ++ t) (sym (append_assoc (sign from) (encode_upper (b ∷ bytes)) newline) ∙ sym (run_text from b bytes))
+    ∙ ap (λ t. before ++ t) (sym (append_assoc (sign from) (encode_upper (b ∷ bytes)) newline)
+    ∙ sym (run_text from b bytes))

@@ -20,40 +20,55 @@ use Rattle.object_card.specs.StateLaws.{none_holds}
 abbrev pub kept_after : Header → StatusWord → Option Response → Option Response
 kept_after h status response = if is_get_response h && (status.0 == 0x6C) then response else None
 
-pending_after : (entries : List Entry) (chain : ChainState) (response : Option Response) (h : Header) (status : StatusWord) (n : ℕ)
-    → after_refusal h status (pending_in entries chain response) ≡ pending_in entries (idle n) (kept_after h status response)
-pending_after entries chain None h status n = split chain.pending (is_get_response h && (status.0 == 0x6C))
+pending_after : (entries : List Entry) (chain : ChainState) (response : Option Response)
+    (h : Header) (status : StatusWord) (n : ℕ)
+    → after_refusal h status (pending_in entries chain response)
+    ≡ pending_in entries (idle n) (kept_after h status response)
+pending_after entries chain None h status n =
+    split chain.pending (is_get_response h && (status.0 == 0x6C))
   where
-    split : (v : Option Header) (b : Bool) → after_refusal h status (chain_pending v chain.bytes) ≡ pending_in entries (idle n) (if b then None else None)
+    split : (v : Option Header) (b : Bool) → after_refusal h status (chain_pending v chain.bytes)
+        ≡ pending_in entries (idle n) (if b then None else None)
     split None true = refl
     split None false = refl
     split (Some first) true = refl
     split (Some first) false = refl
 pending_after entries chain (Some r) h status n = split (is_get_response h && (status.0 == 0x6C))
   where
-    split : (b : Bool) → (if b then ResponsePending (left_of entries r) else NothingPending) ≡ pending_in entries (idle n) (if b then Some r else None)
+    split : (b : Bool) → (if b then ResponsePending (left_of entries r) else NothingPending)
+        ≡ pending_in entries (idle n) (if b then Some r else None)
     split true = refl
     split false = refl
 
 -- what a refusal leaves
-pub refused_next : (held : List ApplicationView) (selected : Option ℕ) (chain : ChainState) (response : Option Response) (h : Header) (status : StatusWord)
-    → with_pending (state_of held selected chain response) (after_refusal h status (state_of held selected chain response).pending)
+pub refused_next : (held : List ApplicationView) (selected : Option ℕ) (chain : ChainState)
+    (response : Option Response) (h : Header) (status : StatusWord)
+    → with_pending (state_of held selected chain response)
+    (after_refusal h status (state_of held selected chain response).pending)
     ≡ state_of held selected (idle chain.limit) (kept_after h status response)
 refused_next held selected chain response h status =
-    ap (λ p. with_pending (state_of held selected chain response) p) (pending_after (entries_at held selected) chain response h status chain.limit)
+    ap (λ p. with_pending (state_of held selected chain response) p)
+    (pending_after (entries_at held selected) chain response h status chain.limit)
 
-pub refused_does : (held : List ApplicationView) (selected : Option ℕ) (chain : ChainState) (response next : Option Response) (ask : Ask) (status : StatusWord)
-    → refusal (state_of held selected chain response) ask.header ask.p3 ≡ Some status → next ≡ kept_after ask.header status response
-    → Does (state_of held selected chain response) ask.cut (refused ask status) (state_of held selected (idle chain.limit) next)
+pub refused_does : (held : List ApplicationView) (selected : Option ℕ) (chain : ChainState)
+    (response next : Option Response) (ask : Ask) (status : StatusWord)
+    → refusal (state_of held selected chain response) ask.header ask.p3 ≡ Some status → next
+    ≡ kept_after ask.header status response
+    → Does (state_of held selected chain response) ask.cut (refused ask status)
+    (state_of held selected (idle chain.limit) next)
 refused_does held selected chain response next ask status is leaves =
-    let Leads : CardState → Type 0 = λ new. Does (state_of held selected chain response) ask.cut (refused ask status) new in
-    subst Leads (refused_next held selected chain response ask.header status ∙ ap (λ r. state_of held selected (idle chain.limit) r) (sym leaves))
+    let Leads : CardState → Type 0 = λ new. Does (state_of held selected chain response) ask.cut
+    (refused ask status) new in
+    subst Leads (refused_next held selected chain response ask.header status
+    ∙ ap (λ r. state_of held selected (idle chain.limit) r) (sym leaves))
     (refuses ask.header ask.p3 status is)
 
 -- a next state without a chain stands
-pub leaves_standing : (held : List ApplicationView) (selected : Option ℕ) (chain : ChainState) (response next : Option Response)
+pub leaves_standing : (held : List ApplicationView) (selected : Option ℕ) (chain : ChainState)
+    (response next : Option Response)
     → IsStanding held selected chain response → IfSome next (IsResponse (entries_at held selected))
-    → IsCardState (state_of held selected (idle chain.limit) next) → IsStanding held selected (idle chain.limit) next
+    → IsCardState (state_of held selected (idle chain.limit) next)
+    → IsStanding held selected (idle chain.limit) next
 leaves_standing held selected chain response next standing fits sound = record {
   sound = sound;
   selected_is = standing.selected_is;
@@ -63,29 +78,37 @@ leaves_standing held selected chain response next standing fits sound = record {
   alone = λ some. refl;
 }
 
-pub kept_fits : (P : Response → Type 0) (h : Header) (status : StatusWord) (response next : Option Response)
+pub kept_fits : (P : Response → Type 0) (h : Header) (status : StatusWord)
+    (response next : Option Response)
     → next ≡ kept_after h status response → IfSome response P → IfSome next P
-kept_fits P h status response next is fits = subst (λ r. IfSome r P) (sym is) (split (is_get_response h && (status.0 == 0x6C)))
+kept_fits P h status response next is fits = subst (λ r. IfSome r P) (sym is)
+    (split (is_get_response h && (status.0 == 0x6C)))
   where
     split : (b : Bool) → IfSome (if b then response else None) P
     split true = fits
     split false = tt
 
 -- a header that is not refused
-known_sending : (n : ℕ) → ((n == 0xA4) || (n == 0xCA) || (n == 0xDA) || (n == 0xC0)) ≡ true → n ≢ 0xA4 → n ≢ 0xDA → ((n == 0xCA) || (n == 0xC0)) ≡ true
-known_sending n known a b = subst (λ v. v ≡ true) (rw (ne_eqb n 0xA4 a, ne_eqb n 0xDA b) (split (n == 0xCA))) known
+known_sending : (n : ℕ) → ((n == 0xA4) || (n == 0xCA) || (n == 0xDA) || (n == 0xC0)) ≡ true
+    → n ≢ 0xA4 → n ≢ 0xDA → ((n == 0xCA) || (n == 0xC0)) ≡ true
+known_sending n known a b = subst (λ v. v ≡ true)
+    (rw (ne_eqb n 0xA4 a, ne_eqb n 0xDA b) (split (n == 0xCA))) known
   where
     split : (v : Bool) → (((false || v) || false) || (n == 0xC0)) ≡ (v || (n == 0xC0))
     split true = refl
     split false = refl
 
-pub sends_where : (s : CardState) (h : Header) (p3 : ℕ) → refusal s h p3 ≡ None → h.ins ≢ 0xA4 → h.ins ≢ 0xDA → (is_get h || is_get_response h) ≡ true
-sends_where s h p3 none a b = known_sending h.ins (not-false _ (none_holds s h p3 UnknownInstruction none)) a b
+pub sends_where : (s : CardState) (h : Header) (p3 : ℕ) → refusal s h p3 ≡ None → h.ins ≢ 0xA4
+    → h.ins ≢ 0xDA → (is_get h || is_get_response h) ≡ true
+sends_where s h p3 none a b = known_sending h.ins
+    (not-false _ (none_holds s h p3 UnknownInstruction none)) a b
 
-pub enough_left : (s : CardState) (h : Header) (p3 : ℕ) → refusal s h p3 ≡ None → (is_get h || is_get_response h) ≡ true → count p3 ≤ length (to_send s h)
+pub enough_left : (s : CardState) (h : Header) (p3 : ℕ) → refusal s h p3 ≡ None
+    → (is_get h || is_get_response h) ≡ true → count p3 ≤ length (to_send s h)
 enough_left s h p3 none sending =
     ltb-false (length (to_send s h)) (count p3)
-    (subst (λ b. (b && nat_lt (length (to_send s h)) (count p3)) ≡ false) sending (none_holds s h p3 MoreThanIsLeft none))
+    (subst (λ b. (b && nat_lt (length (to_send s h)) (count p3)) ≡ false) sending
+    (none_holds s h p3 MoreThanIsLeft none))
 
 pub count_some : (p3 : ℕ) → 1 ≤ count p3
 count_some p3 = elim (eqb_tells p3 0) [
@@ -97,11 +120,13 @@ count_some p3 = elim (eqb_tells p3 0) [
     positive zero other = absurd (other refl)
     positive (suc n) other = omega arith
 
-pub some_to_send : (f : Response → List ℕ) (r : Option Response) (xs : List ℕ) (n : ℕ) → unwrap_or (option_map f r) [] ≡ xs → n ≤ length xs → 1 ≤ n → IsSome r
+pub some_to_send : (f : Response → List ℕ) (r : Option Response) (xs : List ℕ) (n : ℕ)
+    → unwrap_or (option_map f r) [] ≡ xs → n ≤ length xs → 1 ≤ n → IsSome r
 some_to_send f (Some r) xs n is fits some = refl
 some_to_send f None xs n is fits some = absurd (omega (arith, ap length is, fits, some))
 
-pub to_send_is : (f : Response → List ℕ) (r : Option Response) (x : Response) (xs : List ℕ) → r ≡ Some x → unwrap_or (option_map f r) [] ≡ xs → f x ≡ xs
+pub to_send_is : (f : Response → List ℕ) (r : Option Response) (x : Response) (xs : List ℕ) → r
+    ≡ Some x → unwrap_or (option_map f r) [] ≡ xs → f x ≡ xs
 to_send_is f r x xs is whole = sym (ap (λ o. unwrap_or (option_map f o) []) is) ∙ whole
 
 pub sending_ins : (n : ℕ) → ((n == 0xCA) || (n == 0xC0)) ≡ true → (n ≡ 0xCA) ⊎ (n ≡ 0xC0)

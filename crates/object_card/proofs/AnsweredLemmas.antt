@@ -19,19 +19,27 @@ use Rattle.object_card.specs.TableLaws.{aids}
 use Rattle.object_card.proofs.SameTag.{itself}
 
 -- an entry that is not locked, or new, is put as a value is
-entry_with : (tag value : List ℕ) (entries : List Entry) → is_locked tag entries ≡ false → with_entry tag value false entries ≡ with_value tag value entries
+entry_with : (tag value : List ℕ) (entries : List Entry) → is_locked tag entries ≡ false
+    → with_entry tag value false entries ≡ with_value tag value entries
 entry_with tag value [] free = refl
-entry_with tag value (e ∷ entries) free = split (same_bytes tag e.tag) refl (entry_with tag value entries)
+entry_with tag value (e ∷ entries) free = split (same_bytes tag e.tag) refl
+    (entry_with tag value entries)
   where
-    split : (v : Bool) → same_bytes tag e.tag ≡ v → (is_locked tag entries ≡ false → with_entry tag value false entries ≡ with_value tag value entries)
+    split : (v : Bool) → same_bytes tag e.tag ≡ v
+        → (is_locked tag entries ≡ false → with_entry tag value false entries
+        ≡ with_value tag value entries)
         → with_entry tag value false (e ∷ entries) ≡ with_value tag value (e ∷ entries)
     split true s more =
-        let l : e.locked ≡ false = subst (λ b. (if b then e.locked else is_locked tag entries) ≡ false) s free in
+        let l : e.locked ≡ false =
+        subst (λ b. (if b then e.locked else is_locked tag entries) ≡ false) s free in
         rw s (λ j. record { tag = e.tag; value = value; locked = sym l j } ∷ entries)
-    split false s more = rw s (ap (λ es. e ∷ es) (more (subst (λ b. (if b then e.locked else is_locked tag entries) ≡ false) s free)))
+    split false s more =
+        rw s (ap (λ es. e ∷ es)
+        (more (subst (λ b. (if b then e.locked else is_locked tag entries) ≡ false) s free)))
 
 -- an identifier further on is another
-other_aid : (x : List ℕ) (held : List ApplicationView) (i : ℕ) (a : ApplicationView) → AllByRecursion (λ y. x ≢ y) (aids (applications_of held)) → slice_get held i ≡ Some a
+other_aid : (x : List ℕ) (held : List ApplicationView) (i : ℕ) (a : ApplicationView)
+    → AllByRecursion (λ y. x ≢ y) (aids (applications_of held)) → slice_get held i ≡ Some a
     → same_bytes a.aid x ≡ false
 other_aid x [] i a all at_place = absurd (cc)
 other_aid x (h ∷ held) zero a all at_place = split (same_bytes a.aid x) refl
@@ -44,8 +52,10 @@ other_aid x (h ∷ held) zero a all at_place = split (same_bytes a.aid x) refl
 other_aid x (h ∷ held) (suc i) a all at_place = other_aid x held i a all.1 at_place
 
 -- a value that is put in an application's place is put under its identifier
-applications_with : (held : List ApplicationView) (i : ℕ) (a b : ApplicationView) (tag value : List ℕ) → AreDistinct (aids (applications_of held)) → slice_get held i ≡ Some a
-    → b.aid ≡ a.aid → b.entries ≡ with_entry tag value false a.entries → is_locked tag a.entries ≡ false
+applications_with : (held : List ApplicationView) (i : ℕ) (a b : ApplicationView)
+    (tag value : List ℕ) → AreDistinct (aids (applications_of held)) → slice_get held i ≡ Some a
+    → b.aid ≡ a.aid → b.entries ≡ with_entry tag value false a.entries → is_locked tag a.entries
+    ≡ false
     → applications_of (slice_set held i b) ≡ with_object a.aid tag value (applications_of held)
 applications_with [] i a b tag value distinct at_place aid entries free = absurd (cc)
 applications_with (h ∷ held) zero a b tag value distinct at_place aid entries free =
@@ -53,43 +63,61 @@ applications_with (h ∷ held) zero a b tag value distinct at_place aid entries 
     let x : b.aid ≡ h.aid = aid ∙ ap (λ a. a.aid) e in
     let y : b.entries ≡ with_value tag value h.entries =
     entries ∙ entry_with tag value a.entries free ∙ ap (λ a. with_value tag value a.entries) e in
-    subst (λ z. applications_of (b ∷ held) ≡ with_object z tag value (applications_of (h ∷ held))) (ap (λ a. a.aid) (sym e))
+    subst (λ z. applications_of (b ∷ held) ≡ with_object z tag value (applications_of (h ∷ held)))
+    (ap (λ a. a.aid) (sym e))
     (rw (itself h.aid) (λ j. record { aid = x j; entries = y j } ∷ applications_of held))
 applications_with (h ∷ held) (suc i) a b tag value distinct at_place aid entries free =
     rw (other_aid h.aid held i a distinct.0 at_place)
-    (ap (λ xs. record { aid = h.aid; entries = h.entries } ∷ xs) (applications_with held i a b tag value distinct.1 at_place aid entries free))
+    (ap (λ xs. record { aid = h.aid; entries = h.entries } ∷ xs)
+    (applications_with held i a b tag value distinct.1 at_place aid entries free))
 
 -- the state with the value that is stored
-state_stored : (held new : List ApplicationView) (i : ℕ) (a b : ApplicationView) (tag value : List ℕ) (chain : ChainState) (response : Option Response)
-    → AreDistinct (aids (applications_of held)) → slice_get held i ≡ Some a → slice_get new i ≡ Some b → b.aid ≡ a.aid
-    → b.entries ≡ with_entry tag value false a.entries → is_locked tag a.entries ≡ false → new ≡ slice_set held i b
-    → state_of new (Some i) (idle chain.limit) None ≡ state_with (state_of held (Some i) chain response) (Some (tag, value))
+state_stored : (held new : List ApplicationView) (i : ℕ) (a b : ApplicationView)
+    (tag value : List ℕ) (chain : ChainState) (response : Option Response)
+    → AreDistinct (aids (applications_of held)) → slice_get held i ≡ Some a → slice_get new i
+    ≡ Some b → b.aid ≡ a.aid
+    → b.entries ≡ with_entry tag value false a.entries → is_locked tag a.entries ≡ false → new
+    ≡ slice_set held i b
+    → state_of new (Some i) (idle chain.limit) None
+    ≡ state_with (state_of held (Some i) chain response) (Some (tag, value))
 state_stored held new i a b tag value chain response distinct before after aid entries free is =
     let was : aid_at held (Some i) ≡ Some a.aid = ap (option_map (λ a. a.aid)) before in
     let named : a.aid ≡ unwrap_or (aid_at held (Some i)) [] = sym (ap (λ v. unwrap_or v []) was) in
-    let applications : applications_of new ≡ with_object (unwrap_or (aid_at held (Some i)) []) tag value (applications_of held) =
+    let applications : applications_of new ≡ with_object (unwrap_or (aid_at held (Some i)) []) tag
+    value (applications_of held) =
     ap applications_of is ∙ applications_with held i a b tag value distinct before aid entries free
     ∙ ap (λ z. with_object z tag value (applications_of held)) named in
-    let selected : aid_at new (Some i) ≡ aid_at held (Some i) = ap (option_map (λ a. a.aid)) after ∙ ap Some aid ∙ sym was in
+    let selected : aid_at new (Some i) ≡ aid_at held (Some i) = ap (option_map (λ a. a.aid)) after
+    ∙ ap Some aid ∙ sym was in
     λ j. record { applications = applications j; selected = selected j; pending = NothingPending }
 
 -- what stands then is sound, and is what was decided
-pub record Settles (held new : List ApplicationView) (selected : Option ℕ) (chain : ChainState) (response : Option Response) (ready : Ready) (put : Option NewValue) : Type 0 where
-  pub standing : IsStanding new (selected_after ready selected) (settled_chain chain ready) (response_after ready)
+pub record Settles (held new : List ApplicationView) (selected : Option ℕ) (chain : ChainState)
+    (response : Option Response) (ready : Ready) (put : Option NewValue) : Type 0 where
+  pub standing : IsStanding new (selected_after ready selected) (settled_chain chain ready)
+      (response_after ready)
   pub decided : prepared_of held selected chain response ready put
-      ≡ Decided (state_of new (selected_after ready selected) (settled_chain chain ready) (response_after ready))
+      ≡ Decided (state_of new (selected_after ready selected) (settled_chain chain ready)
+      (response_after ready))
 
-stands_stored : (held new : List ApplicationView) (selected : Option ℕ) (chain : ChainState) (response : Option Response) (put : Option NewValue)
-    → IsStanding held selected chain response → IsReady held selected chain response ready.Stores put → IsStored held selected put new
+stands_stored : (held new : List ApplicationView) (selected : Option ℕ) (chain : ChainState)
+    (response : Option Response) (put : Option NewValue)
+    → IsStanding held selected chain response → IsReady held selected chain response ready.Stores
+    put → IsStored held selected put new
     → Settles held new selected chain response ready.Stores put
-stands_stored held new None chain response put standing fits stored = let no : None ≡ Some fits.0 = fits.3 in absurd (cc)
+stands_stored held new None chain response put standing fits stored = let no : None ≡ Some fits.0 =
+    fits.3 in absurd (cc)
 stands_stored held new (Some i) chain response put standing fits stored =
     let (a, tag, value, at_place, put_is, place, free, sound) = fits in
-    let (x, b, before, after, aid, entries, is) = subst (λ p. IsStored held (Some i) p new) put_is stored in
+    let (x, b, before, after, aid, entries, is) =
+    subst (λ p. IsStored held (Some i) p new) put_is stored in
     let same : x ≡ a = some_inj (sym before ∙ at_place) in
-    let settled : state_of new (Some i) (idle chain.limit) None ≡ state_with (state_of held (Some i) chain response) put =
-    state_stored held new i a b tag value chain response standing.sound.are_applications.distinct_aids at_place after
-    (aid ∙ ap (λ a. a.aid) same) (entries ∙ ap (λ a. with_entry tag value false a.entries) same) free is
+    let settled : state_of new (Some i) (idle chain.limit) None
+    ≡ state_with (state_of held (Some i) chain response) put =
+    state_stored held new i a b tag value chain response
+    standing.sound.are_applications.distinct_aids at_place after
+    (aid ∙ ap (λ a. a.aid) same) (entries ∙ ap (λ a. with_entry tag value false a.entries) same)
+    free is
     ∙ ap (λ p. state_with (state_of held (Some i) chain response) p) (sym put_is) in
     record {
       standing = record {
@@ -107,45 +135,68 @@ stands_stored held new (Some i) chain response put standing fits stored =
     some_inj e = cc
 
 -- with no value to put, the applications stay
-unchanged : (held new : List ApplicationView) (selected : Option ℕ) (put : Option NewValue) → put ≡ None → IsStored held selected put new → held ≡ new
-unchanged held new selected put none stored = sym (subst (λ p. IsStored held selected p new) none stored)
+unchanged : (held new : List ApplicationView) (selected : Option ℕ) (put : Option NewValue) → put
+    ≡ None → IsStored held selected put new → held ≡ new
+unchanged held new selected put none stored =
+    sym (subst (λ p. IsStored held selected p new) none stored)
 
-pub settles : (held new : List ApplicationView) (selected : Option ℕ) (chain : ChainState) (response : Option Response) (ready : Ready) (put : Option NewValue)
-    → IsCard held selected chain response ready put → IsDecided (prepared_of held selected chain response ready put) → IsStored held selected put new
+pub settles : (held new : List ApplicationView) (selected : Option ℕ) (chain : ChainState)
+    (response : Option Response) (ready : Ready) (put : Option NewValue)
+    → IsCard held selected chain response ready put
+    → IsDecided (prepared_of held selected chain response ready put)
+    → IsStored held selected put new
     → Settles held new selected chain response ready put
 settles held new selected chain response ready.Nothing put card decided stored = absurd decided
-settles held new selected chain response (ready.Receives h p3 cut) put card decided stored = absurd decided
-settles held new selected chain response (ready.Sends h p3 cut sent) put card decided stored = absurd decided
+settles held new selected chain response (ready.Receives h p3 cut) put card decided stored =
+    absurd decided
+settles held new selected chain response (ready.Sends h p3 cut sent) put card decided stored =
+    absurd decided
 settles held new selected chain response (ready.Leaves next) put card decided stored =
-    subst (λ new. Settles held new selected chain response (ready.Leaves next) put) (unchanged held new selected put card.fits.1 stored)
+    subst (λ new. Settles held new selected chain response (ready.Leaves next) put)
+    (unchanged held new selected put card.fits.1 stored)
     (record { standing = card.fits.0; decided = refl })
 settles held new selected chain response (ready.Selects application next) put card decided stored =
-    subst (λ new. Settles held new selected chain response (ready.Selects application next) put) (unchanged held new selected put card.fits.1 stored)
+    subst (λ new. Settles held new selected chain response (ready.Selects application next) put)
+    (unchanged held new selected put card.fits.1 stored)
     (record { standing = card.fits.0; decided = refl })
 settles held new selected chain response (ready.Joins before) put card decided stored =
-    subst (λ new. Settles held new selected chain response (ready.Joins before) put) (unchanged held new selected put card.fits.2 stored)
+    subst (λ new. Settles held new selected chain response (ready.Joins before) put)
+    (unchanged held new selected put card.fits.2 stored)
     (record { standing = card.fits.0; decided = refl })
 settles held new selected chain response ready.Stores put card decided stored =
     stands_stored held new selected chain response put card.standing card.fits stored
 
 -- the fields once the answer is handed out: they are sound, and what was decided stands
-pub handed_out : (held now new after : List ApplicationView) (selected selected_now : Option ℕ) (chain chain_now : ChainState) (response response_now : Option Response)
+pub handed_out : (held now new after : List ApplicationView) (selected selected_now : Option ℕ)
+    (chain chain_now : ChainState) (response response_now : Option Response)
     (made : Ready) (put taken empty : Option NewValue)
-    → IsCard held selected chain response made put → IsDecided (prepared_of held selected chain response made put) → IsStored now selected taken new
-    → now ≡ held → taken ≡ put → after ≡ new → selected_now ≡ selected_after made selected → chain_now ≡ settled_chain chain made
+    → IsCard held selected chain response made put
+    → IsDecided (prepared_of held selected chain response made put)
+    → IsStored now selected taken new
+    → now ≡ held → taken ≡ put → after ≡ new → selected_now ≡ selected_after made selected
+    → chain_now ≡ settled_chain chain made
     → response_now ≡ response_after made → empty ≡ None
     → IsCard after selected_now chain_now response_now ready.Nothing empty
-    × (prepared_of held selected chain response made put ≡ Decided (state_of after selected_now chain_now response_now))
-handed_out held now new after selected selected_now chain chain_now response response_now made put taken empty card decided stored now_is taken_is after_is selected_is chain_is response_is empty_is =
-    let there : IsStored held selected put new = subst (λ p. IsStored held selected p new) taken_is (subst (λ h. IsStored h selected taken new) now_is stored) in
+    × (prepared_of held selected chain response made put
+    ≡ Decided (state_of after selected_now chain_now response_now))
+handed_out held now new after selected selected_now chain chain_now response response_now made put
+    taken empty card decided stored now_is taken_is after_is selected_is chain_is response_is
+    empty_is =
+    let there : IsStored held selected put new =
+    subst (λ p. IsStored held selected p new) taken_is
+    (subst (λ h. IsStored h selected taken new) now_is stored) in
     let s = settles held new selected chain response made put card decided there in
     let old = prepared_of held selected chain response made put in
-    let A : List ApplicationView → Type 0 = λ x. IsStanding x (selected_after made selected) (settled_chain chain made) (response_after made) in
-    let B : Option ℕ → Type 0 = λ x. IsStanding after x (settled_chain chain made) (response_after made) in
+    let A : List ApplicationView → Type 0 = λ x. IsStanding x (selected_after made selected)
+    (settled_chain chain made) (response_after made) in
+    let B : Option ℕ → Type 0 = λ x. IsStanding after x (settled_chain chain made)
+    (response_after made) in
     let C : ChainState → Type 0 = λ x. IsStanding after selected_now x (response_after made) in
     let D : Option Response → Type 0 = λ x. IsStanding after selected_now chain_now x in
-    let standing = subst D (sym response_is) (subst C (sym chain_is) (subst B (sym selected_is) (subst A (sym after_is) s.standing))) in
-    let state : state_of new (selected_after made selected) (settled_chain chain made) (response_after made) ≡ state_of after selected_now chain_now response_now =
+    let standing = subst D (sym response_is)
+    (subst C (sym chain_is) (subst B (sym selected_is) (subst A (sym after_is) s.standing))) in
+    let state : state_of new (selected_after made selected) (settled_chain chain made)
+    (response_after made) ≡ state_of after selected_now chain_now response_now =
     λ j. state_of (sym after_is j) (sym selected_is j) (sym chain_is j) (sym response_is j) in
     (record { standing = standing; fits = empty_is }, s.decided ∙ ap Decided state)
 

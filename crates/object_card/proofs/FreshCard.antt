@@ -13,7 +13,8 @@ use Rattle.object_card.specs.Tables.{AreApplications}
 use Rattle.object_card.specs.CardFields.{ApplicationView, applications_of, entries_at, left_of}
 use Rattle.object_card.specs.CardView.{IsCard, NewValue, chain_before, prepared_of, standing_chain}
 
-chain_limit : (chain : ChainState) (before : Option ℕ) → (chain_before chain before).limit ≡ chain.limit
+chain_limit : (chain : ChainState) (before : Option ℕ) → (chain_before chain before).limit
+    ≡ chain.limit
 chain_limit chain None = refl
 chain_limit chain (Some len) = refl
 
@@ -27,7 +28,8 @@ standing_limit chain (ready.Selects application response) = refl
 standing_limit chain (ready.Joins before) = chain_limit chain before
 standing_limit chain ready.Stores = refl
 
-pub is_fresh : (held : List ApplicationView) (chain : ChainState) → AreApplications (applications_of held) → chain ≡ idle VALUE_LIMIT
+pub is_fresh : (held : List ApplicationView) (chain : ChainState)
+    → AreApplications (applications_of held) → chain ≡ idle VALUE_LIMIT
     → IsCard held None chain None ready.Nothing None
 is_fresh held chain are is =
     let Fresh : ChainState → Type 0 = λ c. IsCard held None c None ready.Nothing None in
@@ -44,7 +46,8 @@ is_fresh held chain are is =
     })
 
 -- a byte within the first ones is a byte of the whole
-of_whole : (bytes : List ℕ) (n at byte : ℕ) → at < length (take n bytes) → slice_get bytes at ≡ Some byte
+of_whole : (bytes : List ℕ) (n at byte : ℕ) → at < length (take n bytes) → slice_get bytes at
+    ≡ Some byte
     → slice_get (take n bytes) at ≡ Some byte
 of_whole [] n at byte lt is = absurd (cc)
 of_whole (b ∷ bytes) zero at byte lt is = absurd (omega (arith, lt))
@@ -52,12 +55,18 @@ of_whole (b ∷ bytes) (suc n) zero byte lt is = is
 of_whole (b ∷ bytes) (suc n) (suc at) byte lt is = of_whole bytes n at byte (omega (arith, lt)) is
 
 -- the byte that is read is that of the data to send
-pub sends_byte : (held : List ApplicationView) (selected : Option ℕ) (chain : ChainState) (response : Option Response) (r : Ready)
-    (put : Option NewValue) (h : Header) (p3 cut : ℕ) (sent : Response) (at byte : ℕ) → r ≡ ready.Sends h p3 cut sent
+pub sends_byte : (held : List ApplicationView) (selected : Option ℕ) (chain : ChainState)
+    (response : Option Response) (r : Ready)
+    (put : Option NewValue) (h : Header) (p3 cut : ℕ) (sent : Response) (at byte : ℕ) → r
+    ≡ ready.Sends h p3 cut sent
     → slice_get (left_of (entries_at held selected) sent) at ≡ Some byte
     → IsSending (prepared_of held selected chain response r put) (λ ask bytes. at < length bytes)
-    → IsSending (prepared_of held selected chain response r put) (λ ask bytes. slice_get bytes at ≡ Some byte)
+    → IsSending (prepared_of held selected chain response r put)
+    (λ ask bytes. slice_get bytes at ≡ Some byte)
 sends_byte held selected chain response r put h p3 cut sent at byte is read =
-    let Read : Ready → Type 0 = λ x. IsSending (prepared_of held selected chain response x put) (λ ask bytes. at < length bytes)
-    → IsSending (prepared_of held selected chain response x put) (λ ask bytes. slice_get bytes at ≡ Some byte) in
-    subst Read (sym is) (λ within. of_whole (left_of (entries_at held selected) sent) (count p3) at byte within read)
+    let Read : Ready → Type 0 = λ x. IsSending (prepared_of held selected chain response x put)
+    (λ ask bytes. at < length bytes)
+    → IsSending (prepared_of held selected chain response x put)
+    (λ ask bytes. slice_get bytes at ≡ Some byte) in
+    subst Read (sym is) (λ within. of_whole (left_of (entries_at held selected) sent)
+    (count p3) at byte within read)

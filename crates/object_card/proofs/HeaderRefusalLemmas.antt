@@ -19,7 +19,8 @@ use Rattle.object_card.specs.HeaderReasons.{of_form, of_state}
 use Rattle.object_card.proofs.SameTag.{same_as_itself}
 use Rattle.object_card.specs.StateLaws.{none_of_them}
 
-pub put_reasons : (s : CardState) (h : Header) (p3 : ℕ) → h.ins ≡ 0xDA → first_of_them s h p3 of_state
+pub put_reasons : (s : CardState) (h : Header) (p3 : ℕ) → h.ins ≡ 0xDA
+    → first_of_them s h p3 of_state
     ≡ (if is_none (selected_entries s) then Some (0x69, 0x85)
     else if is_locked_among (named_tag h.p1 h.p2) (selected_entries s) then Some (0x69, 0x82)
     else if nat_lt VALUE_LIMIT (length (chained s.pending) + p3) then Some (0x67, 0x00) else None)
@@ -31,100 +32,137 @@ first_else None others = others
 first_else (Some status) others = Some status
 
 first-append : (s : CardState) (h : Header) (p3 : ℕ) (xs ys : List Reason)
-    → first_of_them s h p3 (xs ++ ys) ≡ first_else (first_of_them s h p3 xs) (first_of_them s h p3 ys)
+    → first_of_them s h p3 (xs ++ ys) ≡ first_else (first_of_them s h p3 xs)
+    (first_of_them s h p3 ys)
 first-append s h p3 [] ys = refl
 first-append s h p3 (x ∷ xs) ys = split (holds s h p3 x) (first-append s h p3 xs ys)
   where
-    split : (v : Bool) → first_of_them s h p3 (xs ++ ys) ≡ first_else (first_of_them s h p3 xs) (first_of_them s h p3 ys)
+    split : (v : Bool) → first_of_them s h p3 (xs ++ ys)
+        ≡ first_else (first_of_them s h p3 xs) (first_of_them s h p3 ys)
         → (if v then Some (status_for s h x) else first_of_them s h p3 (xs ++ ys))
-        ≡ first_else (if v then Some (status_for s h x) else first_of_them s h p3 xs) (first_of_them s h p3 ys)
+        ≡ first_else (if v then Some (status_for s h x) else first_of_them s h p3 xs)
+        (first_of_them s h p3 ys)
     split true e = refl
     split false e = e
 
 -- the chain first, then the header's form, then the card's state
 pub in_turn : (s : CardState) (h : Header) (p3 : ℕ)
-    → refusal s h p3 ≡ (if breaks_chain s.pending h then Some (0x68, 0x83) else first_else (first_of_them s h p3 of_form) (first_of_them s h p3 of_state))
+    → refusal s h p3 ≡ (if breaks_chain s.pending h then Some (0x68, 0x83) else first_else
+    (first_of_them s h p3 of_form) (first_of_them s h p3 of_state))
 in_turn s h p3 = split (breaks_chain s.pending h)
   where
-    split : (v : Bool) → (if v then Some (0x68, 0x83) else first_of_them s h p3 (of_form ++ of_state))
-        ≡ (if v then Some (0x68, 0x83) else first_else (first_of_them s h p3 of_form) (first_of_them s h p3 of_state))
+    split : (v : Bool)
+        → (if v then Some (0x68, 0x83) else first_of_them s h p3 (of_form ++ of_state))
+        ≡ (if v then Some (0x68, 0x83) else first_else (first_of_them s h p3 of_form)
+        (first_of_them s h p3 of_state))
     split true = refl
     split false = first-append s h p3 of_form of_state
 
 -- a PUT DATA for this tag, where these entries are selected
-pub put_known : (s : CardState) (h : Header) (p3 : ℕ) (entries : List Entry) (tag : List ℕ) → h.ins ≡ 0xDA
-    → selected_entries s ≡ Some entries → named_tag h.p1 h.p2 ≡ Some tag → first_of_them s h p3 of_state
+pub put_known : (s : CardState) (h : Header) (p3 : ℕ) (entries : List Entry) (tag : List ℕ) → h.ins
+    ≡ 0xDA
+    → selected_entries s ≡ Some entries → named_tag h.p1 h.p2 ≡ Some tag
+    → first_of_them s h p3 of_state
     ≡ (if is_locked tag entries then Some (0x69, 0x82)
     else if nat_lt VALUE_LIMIT (length (chained s.pending) + p3) then Some (0x67, 0x00) else None)
 put_known s h p3 entries tag ins selected named =
     let Answer : Option (List Entry) → Option (List ℕ) → Option StatusWord = λ es t.
     (if is_none es then Some (0x69, 0x85) else if is_locked_among t es then Some (0x69, 0x82)
-    else if nat_lt VALUE_LIMIT (length (chained s.pending) + p3) then Some (0x67, 0x00) else None) in
-    put_reasons s h p3 ins ∙ ap (λ es. Answer es (named_tag h.p1 h.p2)) selected ∙ ap (λ t. Answer (Some entries) t) named
+    else if nat_lt VALUE_LIMIT (length (chained s.pending) + p3) then Some
+    (0x67, 0x00) else None) in
+    put_reasons s h p3 ins ∙ ap (λ es. Answer es (named_tag h.p1 h.p2)) selected
+    ∙ ap (λ t. Answer (Some entries) t) named
 
-pub put_locked : (s : CardState) (h : Header) (p3 : ℕ) (entries : List Entry) (tag : List ℕ) → h.ins ≡ 0xDA
-    → selected_entries s ≡ Some entries → named_tag h.p1 h.p2 ≡ Some tag → is_locked tag entries ≡ true
+pub put_locked : (s : CardState) (h : Header) (p3 : ℕ) (entries : List Entry) (tag : List ℕ) → h.ins
+    ≡ 0xDA
+    → selected_entries s ≡ Some entries → named_tag h.p1 h.p2 ≡ Some tag → is_locked tag entries
+    ≡ true
     → first_of_them s h p3 of_state ≡ Some (0x69, 0x82)
-put_locked s h p3 entries tag ins selected named locked = put_known s h p3 entries tag ins selected named ∙ rw locked refl
+put_locked s h p3 entries tag ins selected named locked =
+    put_known s h p3 entries tag ins selected named ∙ rw locked refl
 
-pub put_long : (s : CardState) (h : Header) (p3 n : ℕ) (entries : List Entry) (tag : List ℕ) → h.ins ≡ 0xDA
-    → selected_entries s ≡ Some entries → named_tag h.p1 h.p2 ≡ Some tag → is_locked tag entries ≡ false
-    → length (chained s.pending) ≡ n → VALUE_LIMIT < n + p3 → first_of_them s h p3 of_state ≡ Some (0x67, 0x00)
+pub put_long : (s : CardState) (h : Header) (p3 n : ℕ) (entries : List Entry) (tag : List ℕ) → h.ins
+    ≡ 0xDA
+    → selected_entries s ≡ Some entries → named_tag h.p1 h.p2 ≡ Some tag → is_locked tag entries
+    ≡ false
+    → length (chained s.pending) ≡ n → VALUE_LIMIT < n + p3 → first_of_them s h p3 of_state
+    ≡ Some (0x67, 0x00)
 put_long s h p3 n entries tag ins selected named free is long =
-    put_known s h p3 entries tag ins selected named ∙ rw (free, is, lt-ltb VALUE_LIMIT (n + p3) long) refl
+    put_known s h p3 entries tag ins selected named
+    ∙ rw (free, is, lt-ltb VALUE_LIMIT (n + p3) long) refl
 
-pub put_fits : (s : CardState) (h : Header) (p3 n : ℕ) (entries : List Entry) (tag : List ℕ) → h.ins ≡ 0xDA
-    → selected_entries s ≡ Some entries → named_tag h.p1 h.p2 ≡ Some tag → is_locked tag entries ≡ false
+pub put_fits : (s : CardState) (h : Header) (p3 n : ℕ) (entries : List Entry) (tag : List ℕ) → h.ins
+    ≡ 0xDA
+    → selected_entries s ≡ Some entries → named_tag h.p1 h.p2 ≡ Some tag → is_locked tag entries
+    ≡ false
     → length (chained s.pending) ≡ n → n + p3 ≤ VALUE_LIMIT → first_of_them s h p3 of_state ≡ None
 put_fits s h p3 n entries tag ins selected named free is fits =
-    put_known s h p3 entries tag ins selected named ∙ rw (free, is, le-ltb VALUE_LIMIT (n + p3) fits) refl
+    put_known s h p3 entries tag ins selected named
+    ∙ rw (free, is, le-ltb VALUE_LIMIT (n + p3) fits) refl
 
 -- the object under this tag, where these entries are selected
-pub asked_known : (s : CardState) (h : Header) (entries : List Entry) (tag : List ℕ) → selected_entries s ≡ Some entries
-    → named_tag h.p1 h.p2 ≡ Some tag → object_asked s h ≡ option_map (object_bytes tag) (value_under tag entries)
+pub asked_known : (s : CardState) (h : Header) (entries : List Entry) (tag : List ℕ)
+    → selected_entries s ≡ Some entries
+    → named_tag h.p1 h.p2 ≡ Some tag → object_asked s h
+    ≡ option_map (object_bytes tag) (value_under tag entries)
 asked_known s h entries tag selected named =
     let Asked : Option (List Entry) → Option (List ℕ) → Option (List ℕ) = λ es t.
-    option_and_then (λ tag. option_and_then (λ entries. option_map (object_bytes tag) (value_under tag entries)) es) t in
+    option_and_then
+    (λ tag. option_and_then (λ entries. option_map (object_bytes tag) (value_under tag entries))
+    es) t in
     ap (λ t. Asked (selected_entries s) t) named ∙ ap (λ es. Asked es (Some tag)) selected
 
-pub turn_form : (s : CardState) (h : Header) (p3 : ℕ) (status : StatusWord) → breaks_chain s.pending h ≡ false
+pub turn_form : (s : CardState) (h : Header) (p3 : ℕ) (status : StatusWord)
+    → breaks_chain s.pending h ≡ false
     → first_of_them s h p3 of_form ≡ Some status → refusal s h p3 ≡ Some status
 turn_form s h p3 status goes_on form =
-    let Turn : Bool → Option StatusWord → Option StatusWord = λ b o. (if b then Some (0x68, 0x83) else first_else o (first_of_them s h p3 of_state)) in
+    let Turn : Bool → Option StatusWord → Option StatusWord =
+    λ b o. (if b then Some (0x68, 0x83) else first_else o (first_of_them s h p3 of_state)) in
     in_turn s h p3 ∙ ap (λ b. Turn b (first_of_them s h p3 of_form)) goes_on ∙ ap (Turn false) form
 
 pub turn_state : (s : CardState) (h : Header) (p3 : ℕ) → breaks_chain s.pending h ≡ false
     → first_of_them s h p3 of_form ≡ None → refusal s h p3 ≡ first_of_them s h p3 of_state
 turn_state s h p3 goes_on form =
-    let Turn : Bool → Option StatusWord → Option StatusWord = λ b o. (if b then Some (0x68, 0x83) else first_else o (first_of_them s h p3 of_state)) in
+    let Turn : Bool → Option StatusWord → Option StatusWord =
+    λ b o. (if b then Some (0x68, 0x83) else first_else o (first_of_them s h p3 of_state)) in
     in_turn s h p3 ∙ ap (λ b. Turn b (first_of_them s h p3 of_form)) goes_on ∙ ap (Turn false) form
 
 -- a command that continues the chain does not break it
-pub goes_on_with : (entries : List Entry) (chain : ChainState) (response : Option Response) (h : Header)
-    → IfSome chain.pending (λ first. as_last h ≡ first) → IfSome chain.pending (λ first. (first.cla ≡ 0x00) × (first.ins ≡ 0xDA))
+pub goes_on_with : (entries : List Entry) (chain : ChainState) (response : Option Response)
+    (h : Header)
+    → IfSome chain.pending (λ first. as_last h ≡ first)
+    → IfSome chain.pending (λ first. (first.cla ≡ 0x00) × (first.ins ≡ 0xDA))
     → breaks_chain (pending_in entries chain response) h ≡ false
 goes_on_with entries chain (Some r) h same of_puts = refl
 goes_on_with entries chain None h same of_puts = split chain.pending same of_puts
   where
-    split : (v : Option Header) → IfSome v (λ first. as_last h ≡ first) → IfSome v (λ first. (first.cla ≡ 0x00) × (first.ins ≡ 0xDA))
+    split : (v : Option Header) → IfSome v (λ first. as_last h ≡ first)
+        → IfSome v (λ first. (first.cla ≡ 0x00) × (first.ins ≡ 0xDA))
         → breaks_chain (chain_pending v chain.bytes) h ≡ false
     split None same of_puts = refl
     split (Some first) same of_puts =
         let class : bit_and h.cla 0xEF ≡ 0x00 = ap (λ x. x.cla) same ∙ of_puts.0 in
         let instruction : h.ins ≡ 0xDA = ap (λ x. x.ins) same ∙ of_puts.1 in
-        let P : Header → Type 0 = λ x. not ((bit_and h.cla 0xEF == 0x00) && (h.ins == 0xDA) && (h.p1 == x.p1) && (h.p2 == x.p2)) ≡ false in
+        let P : Header → Type 0 =
+        λ x. not ((bit_and h.cla 0xEF == 0x00) && (h.ins == 0xDA) && (h.p1 == x.p1)
+        && (h.p2 == x.p2)) ≡ false in
         subst P same (rw (class, instruction, same_as_itself h.p1, same_as_itself h.p2) refl)
 
 -- and one that does not continue it breaks it
 same_header : (a b : Header) → a.cla ≡ b.cla → a.ins ≡ b.ins → a.p1 ≡ b.p1 → a.p2 ≡ b.p2 → a ≡ b
 same_header a b cla ins p1 p2 =
     ap (λ (x : ℕ). let h : Header = record { cla = x; ins = a.ins; p1 = a.p1; p2 = a.p2 } in h) cla
-    ∙ ap (λ (x : ℕ). let h : Header = record { cla = b.cla; ins = x; p1 = a.p1; p2 = a.p2 } in h) ins
-    ∙ ap (λ (x : ℕ). let h : Header = record { cla = b.cla; ins = b.ins; p1 = x; p2 = a.p2 } in h) p1
-    ∙ ap (λ (x : ℕ). let h : Header = record { cla = b.cla; ins = b.ins; p1 = b.p1; p2 = x } in h) p2
+    ∙ ap (λ (x : ℕ). let h : Header = record { cla = b.cla; ins = x; p1 = a.p1; p2 = a.p2 } in h)
+    ins
+    ∙ ap (λ (x : ℕ). let h : Header = record { cla = b.cla; ins = b.ins; p1 = x; p2 = a.p2 } in h)
+    p1
+    ∙ ap (λ (x : ℕ). let h : Header = record { cla = b.cla; ins = b.ins; p1 = b.p1; p2 = x } in h)
+    p2
 
-pub breaks_with : (entries : List Entry) (chain : ChainState) (response : Option Response) (h : Header)
-    → (IfSome chain.pending (λ first. as_last h ≡ first) → ⊥) → (IsSome response → chain.pending ≡ None)
+pub breaks_with : (entries : List Entry) (chain : ChainState) (response : Option Response)
+    (h : Header)
+    → (IfSome chain.pending (λ first. as_last h ≡ first) → ⊥)
+    → (IsSome response → chain.pending ≡ None)
     → IfSome chain.pending (λ first. (first.cla ≡ 0x00) × (first.ins ≡ 0xDA))
     → breaks_chain (pending_in entries chain response) h ≡ true
 breaks_with entries chain (Some r) h other alone of_puts =
@@ -137,31 +175,43 @@ breaks_with entries chain None h other alone of_puts = split chain.pending other
         → breaks_chain (chain_pending v chain.bytes) h ≡ true
     split None other of_puts = absurd (other tt)
     split (Some first) other of_puts =
-        choose ((bit_and h.cla 0xEF == 0x00) && (h.ins == 0xDA) && (h.p1 == first.p1) && (h.p2 == first.p2)) refl
+        choose ((bit_and h.cla 0xEF == 0x00) && (h.ins == 0xDA) && (h.p1 == first.p1)
+        && (h.p2 == first.p2)) refl
       where
-        choose : (v : Bool) → ((bit_and h.cla 0xEF == 0x00) && (h.ins == 0xDA) && (h.p1 == first.p1) && (h.p2 == first.p2)) ≡ v
+        choose : (v : Bool) → ((bit_and h.cla 0xEF == 0x00) && (h.ins == 0xDA) && (h.p1 == first.p1)
+            && (h.p2 == first.p2)) ≡ v
             → not v ≡ true
         choose false e = refl
         choose true e =
-            let last = and_parts ((bit_and h.cla 0xEF == 0x00) && (h.ins == 0xDA) && (h.p1 == first.p1)) (h.p2 == first.p2) e in
-            let third = and_parts ((bit_and h.cla 0xEF == 0x00) && (h.ins == 0xDA)) (h.p1 == first.p1) last.0 in
+            let last = and_parts ((bit_and h.cla 0xEF == 0x00) && (h.ins == 0xDA)
+            && (h.p1 == first.p1)) (h.p2 == first.p2) e in
+            let third = and_parts ((bit_and h.cla 0xEF == 0x00) && (h.ins == 0xDA))
+            (h.p1 == first.p1) last.0 in
             let second = and_parts (bit_and h.cla 0xEF == 0x00) (h.ins == 0xDA) third.0 in
             absurd (other (same_header (as_last h) first
-            (eqb-true (bit_and h.cla 0xEF) 0x00 second.0 ∙ sym of_puts.0) (eqb-true h.ins 0xDA second.1 ∙ sym of_puts.1)
+            (eqb-true (bit_and h.cla 0xEF) 0x00 second.0 ∙ sym of_puts.0)
+            (eqb-true h.ins 0xDA second.1 ∙ sym of_puts.1)
             (eqb-true h.p1 first.p1 third.1) (eqb-true h.p2 first.p2 last.1)))
 
-pub turn_chain : (s : CardState) (h : Header) (p3 : ℕ) → breaks_chain s.pending h ≡ true → refusal s h p3 ≡ Some (0x68, 0x83)
+pub turn_chain : (s : CardState) (h : Header) (p3 : ℕ) → breaks_chain s.pending h ≡ true
+    → refusal s h p3 ≡ Some (0x68, 0x83)
 turn_chain s h p3 breaks =
-    let Turn : Bool → Option StatusWord = λ b. (if b then Some (0x68, 0x83) else first_else (first_of_them s h p3 of_form) (first_of_them s h p3 of_state)) in
+    let Turn : Bool → Option StatusWord =
+    λ b. (if b then Some (0x68, 0x83) else first_else (first_of_them s h p3 of_form)
+    (first_of_them s h p3 of_state)) in
     in_turn s h p3 ∙ ap Turn breaks
 
 -- the parameters fit where the form is right
-pub form_fits : (s : CardState) (h : Header) (p3 : ℕ) → first_of_them s h p3 of_form ≡ None → parameters_fit h ≡ true
+pub form_fits : (s : CardState) (h : Header) (p3 : ℕ) → first_of_them s h p3 of_form ≡ None
+    → parameters_fit h ≡ true
 form_fits s h p3 none = not-false _ (none_of_them s h p3 of_form none).1.1.1.0
 
-known_last : (n : ℕ) → ((n == 0xA4) || (n == 0xCA) || (n == 0xDA) || (n == 0xC0)) ≡ true → n ≢ 0xA4 → n ≢ 0xDA → n ≢ 0xCA → n ≡ 0xC0
+known_last : (n : ℕ) → ((n == 0xA4) || (n == 0xCA) || (n == 0xDA) || (n == 0xC0)) ≡ true → n ≢ 0xA4
+    → n ≢ 0xDA → n ≢ 0xCA → n ≡ 0xC0
 known_last n known a b c =
-    eqb-true n 0xC0 (subst (λ v. v ≡ true) (rw (ne_eqb n 0xA4 a, ne_eqb n 0xCA c, ne_eqb n 0xDA b) refl) known)
+    eqb-true n 0xC0
+    (subst (λ v. v ≡ true) (rw (ne_eqb n 0xA4 a, ne_eqb n 0xCA c, ne_eqb n 0xDA b) refl) known)
 
-pub form_last : (s : CardState) (h : Header) (p3 : ℕ) → first_of_them s h p3 of_form ≡ None → h.ins ≢ 0xA4 → h.ins ≢ 0xDA → h.ins ≢ 0xCA → h.ins ≡ 0xC0
+pub form_last : (s : CardState) (h : Header) (p3 : ℕ) → first_of_them s h p3 of_form ≡ None
+    → h.ins ≢ 0xA4 → h.ins ≢ 0xDA → h.ins ≢ 0xCA → h.ins ≡ 0xC0
 form_last s h p3 none = known_last h.ins (not-false _ (none_of_them s h p3 of_form none).1.0)

@@ -1,4 +1,5 @@
--- An operation has one reply and one next state, and a TPDU one outcome, where memory is not wanted.
+-- An operation has one reply and one next state, and a TPDU one outcome, where memory is not
+-- wanted.
 use Rattle.std.proofs.Common.{◌≡◌, ◌≢◌, ℕ, List, [], ◌∷◌, ◌++◌, take, drop, Some, None, true, false, refl, sym, ap, subst, ◌∙◌, arith, Option}
 use Rattle.std.specs.Prelude.{is_some, option_and_then, ◌||◌, ◌==◌}
 use Rattle.std.proofs.lemmas.Bool.{true≢false, eqb-true}
@@ -23,100 +24,171 @@ Same r s a b = (r ≡ s) × (a ≡ b)
 abbrev pub IsServed : StatusWord → Type 0
 IsServed status = status ≢ (0x65, 0x81)
 
-found_not_missed : (aid : List ℕ) (state : CardState) → is_some (entries_in aid state.applications) ≡ true → entries_in aid state.applications ≡ None → ⊥
+found_not_missed : (aid : List ℕ) (state : CardState) → is_some (entries_in aid state.applications)
+    ≡ true → entries_in aid state.applications ≡ None → ⊥
 found_not_missed aid state found missed = true≢false (sym found ∙ ap is_some missed)
 
-none_or_some : (state : CardState) (entries : List Entry) → selected_entries state ≡ None → selected_entries state ≡ Some entries → ⊥
+none_or_some : (state : CardState) (entries : List Entry) → selected_entries state ≡ None
+    → selected_entries state ≡ Some entries → ⊥
 none_or_some state entries none some = let no : None ≡ Some entries = sym none ∙ some in absurd (cc)
 
-entries_selected : (state : CardState) (aid : List ℕ) (entries : List Entry) → state.selected ≡ Some aid → entries_in aid state.applications ≡ Some entries
+entries_selected : (state : CardState) (aid : List ℕ) (entries : List Entry) → state.selected
+    ≡ Some aid → entries_in aid state.applications ≡ Some entries
     → selected_entries state ≡ Some entries
-entries_selected state aid entries selected is = ap (λ v. option_and_then (λ a. entries_in a state.applications) v) selected ∙ is
+entries_selected state aid entries selected is =
+    ap (λ v. option_and_then (λ a. entries_in a state.applications) v) selected ∙ is
 
-same_entries : (state : CardState) (es fs : List Entry) → selected_entries state ≡ Some es → selected_entries state ≡ Some fs → es ≡ fs
+same_entries : (state : CardState) (es fs : List Entry) → selected_entries state ≡ Some es
+    → selected_entries state ≡ Some fs → es ≡ fs
 same_entries state es fs first second = let same : Some es ≡ Some fs = sym first ∙ second in cc
 
 -- An operation has one reply and one next state, where memory is not wanted.
-pub one_answer : (old a b : CardState) (operation : Operation) (r s : Reply) → Answers old operation r a → Answers old operation s b
+pub one_answer : (old a b : CardState) (operation : Operation) (r s : Reply)
+    → Answers old operation r a → Answers old operation s b
     → IsServed r.status → IsServed s.status → Same r s a b
-one_answer old a b operation r s (selects aid held) (selects aid2 held2) served served2 = (refl, refl)
-one_answer old a b operation r s (selects aid held) (finds_no_application aid2 none2) served served2 = absurd (found_not_missed aid old held none2)
-one_answer old a b operation r s (selects aid held) (none_selected op2 kind2 none2) served served2 = absurd (true≢false kind2)
-one_answer old a b operation r s (finds_no_application aid none) (selects aid2 held2) served served2 = absurd (found_not_missed aid old held2 none)
-one_answer old a b operation r s (finds_no_application aid none) (finds_no_application aid2 none2) served served2 = (refl, refl)
-one_answer old a b operation r s (finds_no_application aid none) (none_selected op2 kind2 none2) served served2 = absurd (true≢false kind2)
-one_answer old a b operation r s (none_selected op kind none) (selects aid2 held2) served served2 = absurd (true≢false kind)
-one_answer old a b operation r s (none_selected op kind none) (finds_no_application aid2 none2) served served2 = absurd (true≢false kind)
-one_answer old a b operation r s (none_selected op kind none) (none_selected op2 kind2 none2) served served2 = (refl, refl)
-one_answer old a b operation r s (none_selected op kind none) (finds_no_object tag2 entries2 is2 none2) served served2 = absurd (none_or_some old entries2 none is2)
-one_answer old a b operation r s (none_selected op kind none) (gives tag2 value2 entries2 is2 held2) served served2 = absurd (none_or_some old entries2 none is2)
-one_answer old a b operation r s (none_selected op kind none) (does_not_store tag2 value2 entries2 status2 is2 other2 put2) served served2 = absurd (none_or_some old entries2 none is2)
-one_answer old a b operation r s (none_selected op kind none) (wants_memory tag2 value2 entries2 is2 put2) served served2 = absurd (none_or_some old entries2 none is2)
-one_answer old a b operation r s (none_selected op kind none) (stores tag2 value2 aid2 entries2 selected2 is2 put2) served served2 = absurd (none_or_some old entries2 none (entries_selected old aid2 entries2 selected2 is2))
-one_answer old a b operation r s (finds_no_object tag entries is none) (none_selected op2 kind2 none2) served served2 = absurd (none_or_some old entries none2 is)
-one_answer old a b operation r s (finds_no_object tag entries is none) (finds_no_object tag2 entries2 is2 none2) served served2 = (refl, refl)
-one_answer old a b operation r s (finds_no_object tag entries is none) (gives tag2 value2 entries2 is2 held2) served served2 = let no : None ≡ Some value2 = sym none ∙ ap (λ es. value_under tag es) (same_entries old entries entries2 is is2) ∙ held2 in absurd (cc)
-one_answer old a b operation r s (gives tag value entries is held) (none_selected op2 kind2 none2) served served2 = absurd (none_or_some old entries none2 is)
-one_answer old a b operation r s (gives tag value entries is held) (finds_no_object tag2 entries2 is2 none2) served served2 = let no : None ≡ Some value = sym none2 ∙ ap (λ es. value_under tag es) (same_entries old entries2 entries is2 is) ∙ held in absurd (cc)
-one_answer old a b operation r s (gives tag value entries is held) (gives tag2 value2 entries2 is2 held2) served served2 =
-    let both : Some value ≡ Some value2 = sym held ∙ ap (λ es. value_under tag es) (same_entries old entries entries2 is is2) ∙ held2 in
+one_answer old a b operation r s (selects aid held) (selects aid2 held2) served served2 =
+    (refl, refl)
+one_answer old a b operation r s (selects aid held) (finds_no_application aid2 none2) served
+    served2 = absurd (found_not_missed aid old held none2)
+one_answer old a b operation r s (selects aid held) (none_selected op2 kind2 none2) served served2 =
+    absurd (true≢false kind2)
+one_answer old a b operation r s (finds_no_application aid none)
+    (selects aid2 held2) served served2 = absurd (found_not_missed aid old held2 none)
+one_answer old a b operation r s (finds_no_application aid none)
+    (finds_no_application aid2 none2) served served2 = (refl, refl)
+one_answer old a b operation r s (finds_no_application aid none)
+    (none_selected op2 kind2 none2) served served2 = absurd (true≢false kind2)
+one_answer old a b operation r s (none_selected op kind none) (selects aid2 held2) served served2 =
+    absurd (true≢false kind)
+one_answer old a b operation r s (none_selected op kind none)
+    (finds_no_application aid2 none2) served served2 = absurd (true≢false kind)
+one_answer old a b operation r s (none_selected op kind none) (none_selected op2 kind2 none2) served
+    served2 = (refl, refl)
+one_answer old a b operation r s (none_selected op kind none)
+    (finds_no_object tag2 entries2 is2 none2) served served2 =
+    absurd (none_or_some old entries2 none is2)
+one_answer old a b operation r s (none_selected op kind none) (gives tag2 value2 entries2 is2 held2)
+    served served2 = absurd (none_or_some old entries2 none is2)
+one_answer old a b operation r s (none_selected op kind none)
+    (does_not_store tag2 value2 entries2 status2 is2 other2 put2) served served2 =
+    absurd (none_or_some old entries2 none is2)
+one_answer old a b operation r s (none_selected op kind none)
+    (wants_memory tag2 value2 entries2 is2 put2) served served2 =
+    absurd (none_or_some old entries2 none is2)
+one_answer old a b operation r s (none_selected op kind none)
+    (stores tag2 value2 aid2 entries2 selected2 is2 put2) served served2 =
+    absurd (none_or_some old entries2 none (entries_selected old aid2 entries2 selected2 is2))
+one_answer old a b operation r s (finds_no_object tag entries is none)
+    (none_selected op2 kind2 none2) served served2 = absurd (none_or_some old entries none2 is)
+one_answer old a b operation r s (finds_no_object tag entries is none)
+    (finds_no_object tag2 entries2 is2 none2) served served2 = (refl, refl)
+one_answer old a b operation r s (finds_no_object tag entries is none)
+    (gives tag2 value2 entries2 is2 held2) served served2 = let no : None ≡ Some value2 =
+    sym none ∙ ap (λ es. value_under tag es) (same_entries old entries entries2 is is2)
+    ∙ held2 in absurd (cc)
+one_answer old a b operation r s (gives tag value entries is held)
+    (none_selected op2 kind2 none2) served served2 = absurd (none_or_some old entries none2 is)
+one_answer old a b operation r s (gives tag value entries is held)
+    (finds_no_object tag2 entries2 is2 none2) served served2 = let no : None ≡ Some value =
+    sym none2 ∙ ap (λ es. value_under tag es) (same_entries old entries2 entries is2 is)
+    ∙ held in absurd (cc)
+one_answer old a b operation r s (gives tag value entries is held)
+    (gives tag2 value2 entries2 is2 held2) served served2 =
+    let both : Some value ≡ Some value2 = sym held
+    ∙ ap (λ es. value_under tag es) (same_entries old entries entries2 is is2) ∙ held2 in
     let same : value ≡ value2 = cc in
     (ap (λ v. record { status = ok; content = object_bytes tag v }) same, refl)
-one_answer old a b operation r s (stores tag value aid entries selected is put) (none_selected op2 kind2 none2) served served2 = absurd (none_or_some old entries none2 (entries_selected old aid entries selected is))
-one_answer old a b operation r s (stores tag value aid entries selected is put) (stores tag2 value2 aid2 entries2 selected2 is2 put2) served served2 =
+one_answer old a b operation r s (stores tag value aid entries selected is put)
+    (none_selected op2 kind2 none2) served served2 =
+    absurd (none_or_some old entries none2 (entries_selected old aid entries selected is))
+one_answer old a b operation r s (stores tag value aid entries selected is put)
+    (stores tag2 value2 aid2 entries2 selected2 is2 put2) served served2 =
     let both : Some aid ≡ Some aid2 = sym selected ∙ selected2 in
     let same : aid ≡ aid2 = cc in
     (refl, ap (λ x. with_put old x tag value) same)
-one_answer old a b operation r s (stores tag value aid entries selected is put) (does_not_store tag2 value2 entries2 status2 is2 other2 put2) served served2 =
-    let there : PutStatus entries2 tag value ok = subst (λ es. PutStatus es tag value ok) (same_entries old entries entries2 (entries_selected old aid entries selected is) is2) put in
+one_answer old a b operation r s (stores tag value aid entries selected is put)
+    (does_not_store tag2 value2 entries2 status2 is2 other2 put2) served served2 =
+    let there : PutStatus entries2 tag value ok =
+    subst (λ es. PutStatus es tag value ok)
+    (same_entries old entries entries2 (entries_selected old aid entries selected is) is2)
+    put in
     absurd (other2 (one_status entries2 tag value status2 ok put2 there))
-one_answer old a b operation r s (stores tag value aid entries selected is put) (wants_memory tag2 value2 entries2 is2 put2) served served2 = absurd (served2 refl)
-one_answer old a b operation r s (does_not_store tag value entries status is other put) (none_selected op2 kind2 none2) served served2 = absurd (none_or_some old entries none2 is)
-one_answer old a b operation r s (does_not_store tag value entries status is other put) (stores tag2 value2 aid2 entries2 selected2 is2 put2) served served2 =
-    let there : PutStatus entries tag value ok = subst (λ es. PutStatus es tag value ok) (same_entries old entries2 entries (entries_selected old aid2 entries2 selected2 is2) is) put2 in
+one_answer old a b operation r s (stores tag value aid entries selected is put)
+    (wants_memory tag2 value2 entries2 is2 put2) served served2 = absurd (served2 refl)
+one_answer old a b operation r s (does_not_store tag value entries status is other put)
+    (none_selected op2 kind2 none2) served served2 = absurd (none_or_some old entries none2 is)
+one_answer old a b operation r s (does_not_store tag value entries status is other put)
+    (stores tag2 value2 aid2 entries2 selected2 is2 put2) served served2 =
+    let there : PutStatus entries tag value ok =
+    subst (λ es. PutStatus es tag value ok)
+    (same_entries old entries2 entries (entries_selected old aid2 entries2 selected2 is2)
+    is) put2 in
     absurd (other (one_status entries tag value status ok put there))
-one_answer old a b operation r s (does_not_store tag value entries status is other put) (does_not_store tag2 value2 entries2 status2 is2 other2 put2) served served2 =
-    let there : PutStatus entries tag value status2 = subst (λ es. PutStatus es tag value status2) (same_entries old entries2 entries is2 is) put2 in
+one_answer old a b operation r s (does_not_store tag value entries status is other put)
+    (does_not_store tag2 value2 entries2 status2 is2 other2 put2) served served2 =
+    let there : PutStatus entries tag value status2 =
+    subst (λ es. PutStatus es tag value status2) (same_entries old entries2 entries is2 is)
+    put2 in
     (ap (λ w. reply w) (one_status entries tag value status status2 put there), refl)
-one_answer old a b operation r s (does_not_store tag value entries status is other put) (wants_memory tag2 value2 entries2 is2 put2) served served2 = absurd (served2 refl)
-one_answer old a b operation r s (wants_memory tag value entries is put) (none_selected op2 kind2 none2) served served2 = absurd (served refl)
-one_answer old a b operation r s (wants_memory tag value entries is put) (stores tag2 value2 aid2 entries2 selected2 is2 put2) served served2 = absurd (served refl)
-one_answer old a b operation r s (wants_memory tag value entries is put) (does_not_store tag2 value2 entries2 status2 is2 other2 put2) served served2 = absurd (served refl)
-one_answer old a b operation r s (wants_memory tag value entries is put) (wants_memory tag2 value2 entries2 is2 put2) served served2 = absurd (served refl)
+one_answer old a b operation r s (does_not_store tag value entries status is other put)
+    (wants_memory tag2 value2 entries2 is2 put2) served served2 = absurd (served2 refl)
+one_answer old a b operation r s (wants_memory tag value entries is put)
+    (none_selected op2 kind2 none2) served served2 = absurd (served refl)
+one_answer old a b operation r s (wants_memory tag value entries is put)
+    (stores tag2 value2 aid2 entries2 selected2 is2 put2) served served2 = absurd (served refl)
+one_answer old a b operation r s (wants_memory tag value entries is put)
+    (does_not_store tag2 value2 entries2 status2 is2 other2 put2) served served2 =
+    absurd (served refl)
+one_answer old a b operation r s (wants_memory tag value entries is put)
+    (wants_memory tag2 value2 entries2 is2 put2) served served2 = absurd (served refl)
 
 other_byte : (status : StatusWord) → (status.0 == 0x65) ≡ false → status ≡ (0x65, 0x81) → ⊥
 other_byte status differs is = true≢false (sym (ap (λ (s : StatusWord). s.0 == 0x65) is) ∙ differs)
 
-no_put_wants : (entries : List Entry) (tag value : List ℕ) (status : StatusWord) → PutStatus entries tag value status → (status.0 == 0x65) ≡ false
+no_put_wants : (entries : List Entry) (tag value : List ℕ) (status : StatusWord)
+    → PutStatus entries tag value status → (status.0 == 0x65) ≡ false
 no_put_wants entries tag value status (not_allowed locked) = refl
 no_put_wants entries tag value status (wrong_length free long) = refl
 no_put_wants entries tag value status (wrong_data free fits none) = refl
 no_put_wants entries tag value status (no_space free fits value_of none full) = refl
 no_put_wants entries tag value status (stored free fits value_of room) = refl
 
-would_store : (old : CardState) (tag value : List ℕ) (entries : List Entry) → selected_entries old ≡ Some entries → PutStatus entries tag value ok
+would_store : (old : CardState) (tag value : List ℕ) (entries : List Entry) → selected_entries old
+    ≡ Some entries → PutStatus entries tag value ok
     → (next : CardState) × Answers old (Put tag value) (reply ok) next
 would_store old tag value entries is put = split old.selected refl
   where
-    split : (v : Option (List ℕ)) → old.selected ≡ v → (next : CardState) × Answers old (Put tag value) (reply ok) next
+    split : (v : Option (List ℕ)) → old.selected ≡ v → (next : CardState)
+        × Answers old (Put tag value) (reply ok) next
     split None e =
-        let none : None ≡ Some entries = sym (ap (λ v. option_and_then (λ a. entries_in a old.applications) v) e) ∙ is in absurd (cc)
+        let none : None ≡ Some entries =
+        sym (ap (λ v. option_and_then (λ a. entries_in a old.applications) v) e) ∙ is in
+        absurd (cc)
     split (Some aid) e =
-        let found : entries_in aid old.applications ≡ Some entries = sym (ap (λ v. option_and_then (λ a. entries_in a old.applications) v) e) ∙ is in
+        let found : entries_in aid old.applications ≡ Some entries =
+        sym (ap (λ v. option_and_then (λ a. entries_in a old.applications) v) e) ∙ is in
         (with_put old aid tag value, stores tag value aid entries e found put)
 
 -- Memory is wanted only where a value would be stored, and the card stays as it was.
-pub wanting_memory : (old new : CardState) (operation : Operation) (answer : Reply) → Answers old operation answer new → answer.status ≡ (0x65, 0x81)
+pub wanting_memory : (old new : CardState) (operation : Operation) (answer : Reply)
+    → Answers old operation answer new → answer.status ≡ (0x65, 0x81)
     → (new ≡ old) × ((next : CardState) × Answers old operation (reply ok) next)
 wanting_memory old new operation answer (selects aid held) wants = absurd (other_byte ok refl wants)
-wanting_memory old new operation answer (finds_no_application aid none) wants = absurd (other_byte (0x6A, 0x82) refl wants)
-wanting_memory old new operation answer (none_selected op kind none) wants = absurd (other_byte (0x69, 0x85) refl wants)
-wanting_memory old new operation answer (finds_no_object tag entries is none) wants = absurd (other_byte (0x6A, 0x88) refl wants)
-wanting_memory old new operation answer (gives tag value entries is held) wants = absurd (other_byte ok refl wants)
-wanting_memory old new operation answer (stores tag value aid entries selected is put) wants = absurd (other_byte ok refl wants)
-wanting_memory old new operation answer (does_not_store tag value entries status is other put) wants =
+wanting_memory old new operation answer (finds_no_application aid none) wants =
+    absurd (other_byte (0x6A, 0x82) refl wants)
+wanting_memory old new operation answer (none_selected op kind none) wants =
+    absurd (other_byte (0x69, 0x85) refl wants)
+wanting_memory old new operation answer (finds_no_object tag entries is none) wants =
+    absurd (other_byte (0x6A, 0x88) refl wants)
+wanting_memory old new operation answer (gives tag value entries is held) wants =
+    absurd (other_byte ok refl wants)
+wanting_memory old new operation answer (stores tag value aid entries selected is put) wants =
+    absurd (other_byte ok refl wants)
+wanting_memory old new operation answer (does_not_store tag value entries status is other put)
+    wants =
     absurd (other_byte status (no_put_wants entries tag value status put) wants)
-wanting_memory old new operation answer (wants_memory tag value entries is put) wants = (refl, would_store old tag value entries is put)
+wanting_memory old new operation answer (wants_memory tag value entries is put) wants =
+    (refl, would_store old tag value entries is put)
 
 -- the same command, with the same data to the card
 record IsSameCommand (t u : Tpdu) : Type 0 where
@@ -128,53 +200,74 @@ record IsSameCommand (t u : Tpdu) : Type 0 where
 abbrev IsSameOutcome : Tpdu → Tpdu → CardState → CardState → Type 0
 IsSameOutcome t u a b = (t.received ≡ u.received) × (t.status ≡ u.status) × (a ≡ b)
 
-refused_too : (old : CardState) (t u : Tpdu) (status : StatusWord) → IsSameCommand t u → refusal old t.header t.p3 ≡ Some status → refusal old u.header u.p3 ≡ Some status
-refused_too old t u status same e = subst (λ p. refusal old u.header p ≡ Some status) same.p3_is (subst (λ h. refusal old h t.p3 ≡ Some status) same.header_is e)
+refused_too : (old : CardState) (t u : Tpdu) (status : StatusWord) → IsSameCommand t u
+    → refusal old t.header t.p3 ≡ Some status → refusal old u.header u.p3 ≡ Some status
+refused_too old t u status same e = subst (λ p. refusal old u.header p ≡ Some status) same.p3_is
+    (subst (λ h. refusal old h t.p3 ≡ Some status) same.header_is e)
 
-not_refused : (old : CardState) (t u : Tpdu) (status : StatusWord) → IsSameCommand t u → refusal old t.header t.p3 ≡ None → refusal old u.header u.p3 ≡ Some status → ⊥
+not_refused : (old : CardState) (t u : Tpdu) (status : StatusWord) → IsSameCommand t u
+    → refusal old t.header t.p3 ≡ None → refusal old u.header u.p3 ≡ Some status → ⊥
 not_refused old t u status same e refused =
-    let there : refusal old u.header u.p3 ≡ None = subst (λ p. refusal old u.header p ≡ None) same.p3_is (subst (λ h. refusal old h t.p3 ≡ None) same.header_is e) in
+    let there : refusal old u.header u.p3 ≡ None =
+    subst (λ p. refusal old u.header p ≡ None) same.p3_is
+    (subst (λ h. refusal old h t.p3 ≡ None) same.header_is e) in
     let no : None ≡ Some status = sym there ∙ refused in absurd (cc)
 
-put_receives_none : (old new : CardState) (cut : ℕ) (t : Tpdu) → Does old cut t new → is_put t.header ≡ true → t.received ≡ []
+put_receives_none : (old new : CardState) (cut : ℕ) (t : Tpdu) → Does old cut t new
+    → is_put t.header ≡ true → t.received ≡ []
 put_receives_none old new cut t (refuses h p3 status e) put = refl
 put_receives_none old new cut t (selects_application h aid e ins held) put = refl
 put_receives_none old new cut t (misses_application h aid e ins none) put = refl
 put_receives_none old new cut t (sends h p3 e ins) put =
-    let no : false ≡ true = subst (λ i. ((i == 0xCA) || (i == 0xC0)) ≡ true) (eqb-true h.ins 0xDA put) ins in absurd (true≢false (sym no))
+    let no : false ≡ true = subst (λ i. ((i == 0xCA) || (i == 0xC0)) ≡ true)
+    (eqb-true h.ins 0xDA put) ins in absurd (true≢false (sym no))
 put_receives_none old new cut t (chains h bytes e ins cla) put = refl
-put_receives_none old new cut t (puts_value h bytes tag answer next e ins cla named_by is) put = refl
+put_receives_none old new cut t (puts_value h bytes tag answer next e ins cla named_by is) put =
+    refl
 
-outcome : (old a b : CardState) (cut : ℕ) (t u : Tpdu) → Does old cut t a → Does old cut u b → IsSameCommand t u → IsServed t.status → IsServed u.status
+outcome : (old a b : CardState) (cut : ℕ) (t u : Tpdu) → Does old cut t a → Does old cut u b
+    → IsSameCommand t u → IsServed t.status → IsServed u.status
     → IsSameOutcome t u a b
 outcome old a b cut t u (refuses h p3 status e) does same served served2 =
-    let step = refused_step old b cut u status does (refused_too old t u status same e) in
-    (sym step.none_received, sym step.status_is, ap (λ h. with_pending old (after_refusal h status old.pending)) same.header_is ∙ sym step.new_is)
+    let step = refused_step old b cut u status does (refused_too old t u status same e) in (
+      sym step.none_received,
+      sym step.status_is,
+      ap (λ h. with_pending old (after_refusal h status old.pending)) same.header_is
+          ∙ sym step.new_is,
+    )
 outcome old a b cut t u (selects_application h aid e ins held) does same served served2 =
     elim (select_step old b cut u does (subst (λ h. is_select h ≡ true) same.header_is ins)) [
-      | select_refused refused none_sent none new_is ↦ absurd (not_refused old t u u.status same e refused)
+      | select_refused refused none_sent none new_is ↦
+          absurd (not_refused old t u u.status same e refused)
       | is_selected taken all found none status new_is ↦ (
         sym none,
         ap (λ x. announcing (control_information x) cut) same.sent_is ∙ sym status,
-        ap (λ x. with_pending (with_selected old x) (ResponsePending (control_information x))) same.sent_is ∙ sym new_is,
+        ap (λ x. with_pending (with_selected old x) (ResponsePending (control_information x)))
+            same.sent_is ∙ sym new_is,
       )
-      | is_missed taken all missed none status new_is ↦ absurd (found_not_missed aid old held (ap (λ x. entries_in x old.applications) same.sent_is ∙ missed))
+      | is_missed taken all missed none status new_is ↦
+          absurd (found_not_missed aid old held
+          (ap (λ x. entries_in x old.applications) same.sent_is ∙ missed))
     ]
 outcome old a b cut t u (misses_application h aid e ins missed) does same served served2 =
     elim (select_step old b cut u does (subst (λ h. is_select h ≡ true) same.header_is ins)) [
-      | select_refused refused none_sent none new_is ↦ absurd (not_refused old t u u.status same e refused)
+      | select_refused refused none_sent none new_is ↦
+          absurd (not_refused old t u u.status same e refused)
       | is_selected taken all found none status new_is ↦
-          absurd (found_not_missed aid old (ap (λ x. is_some (entries_in x old.applications)) same.sent_is ∙ found) missed)
+          absurd (found_not_missed aid old
+          (ap (λ x. is_some (entries_in x old.applications)) same.sent_is ∙ found) missed)
       | is_missed taken all also none status new_is ↦ (sym none, sym status, sym new_is)
     ]
 outcome old a b cut t u (sends h p3 e ins) does same served served2 =
     let bytes : to_send old h ≡ to_send old u.header = ap (λ h. to_send old h) same.header_is in
     let left : drop (count p3) (to_send old h) ≡ drop (count u.p3) (to_send old u.header) =
     ap (λ n. drop (count n) (to_send old h)) same.p3_is ∙ ap (λ bs. drop (count u.p3) bs) bytes in
-    elim (send_step old b cut u does (subst (λ h. is_get h || is_get_response h ≡ true) same.header_is ins)) [
+    elim (send_step old b cut u does
+    (subst (λ h. is_get h || is_get_response h ≡ true) same.header_is ins)) [
       | send_refused refused none new_is ↦ absurd (not_refused old t u u.status same e refused)
       | is_sent taken brought status new_is ↦ (
-        ap (λ n. take (count n) (to_send old h)) same.p3_is ∙ ap (λ bs. take (count u.p3) bs) bytes ∙ sym brought,
+        ap (λ n. take (count n) (to_send old h)) same.p3_is
+            ∙ ap (λ bs. take (count u.p3) bs) bytes ∙ sym brought,
         ap (λ bs. announcing bs cut) left ∙ sym status,
         ap (λ bs. with_pending old (pending_of bs)) left ∙ sym new_is,
       )
@@ -185,36 +278,51 @@ outcome old a b cut t u (chains h bytes e ins cla) does same served served2 =
       | is_chained taken also all fine new_is ↦ (
         sym (put_receives_none old b cut u does (subst (λ h. is_put h ≡ true) same.header_is ins)),
         sym fine,
-        ap (λ h. with_pending old (ChainPending h.p1 h.p2 (chained old.pending ++ bytes))) same.header_is
-            ∙ ap (λ bs. with_pending old (ChainPending u.header.p1 u.header.p2 (chained old.pending ++ bs))) same.sent_is ∙ sym new_is,
+        ap (λ h. with_pending old (ChainPending h.p1 h.p2 (chained old.pending ++ bytes)))
+            same.header_is
+            ∙ ap (λ bs. with_pending old
+            (ChainPending u.header.p1 u.header.p2 (chained old.pending ++ bs))) same.sent_is
+            ∙ sym new_is,
       )
       | is_ended taken last all tag answer next named_by status put new_is ↦
-          let more : u.header.cla ≡ 0x10 = subst (λ h. h.cla ≡ 0x10) same.header_is cla in absurd (omega (arith, last, more))
+          let more : u.header.cla ≡ 0x10 = subst (λ h. h.cla ≡ 0x10) same.header_is cla in
+          absurd (omega (arith, last, more))
     ]
-outcome old a b cut t u (puts_value h bytes tag answer next e ins cla named_by put) does same served served2 =
+outcome old a b cut t u (puts_value h bytes tag answer next e ins cla named_by put) does same served
+    served2 =
     elim (put_step old b cut u does (subst (λ h. is_put h ≡ true) same.header_is ins)) [
       | put_refused refused new_is ↦ absurd (not_refused old t u u.status same e refused)
       | is_chained taken more all fine new_is ↦
-          let last : u.header.cla ≡ 0x00 = subst (λ h. h.cla ≡ 0x00) same.header_is cla in absurd (omega (arith, last, more))
+          let last : u.header.cla ≡ 0x00 = subst (λ h. h.cla ≡ 0x00) same.header_is cla in
+          absurd (omega (arith, last, more))
       | is_ended taken last all other answer2 next2 named2 status put2 new_is ↦
           let tags : Some tag ≡ Some other =
-          sym (named tag h.p1 h.p2 named_by) ∙ ap (λ h. named_tag h.p1 h.p2) same.header_is ∙ named other u.header.p1 u.header.p2 named2 in
+          sym (named tag h.p1 h.p2 named_by) ∙ ap (λ h. named_tag h.p1 h.p2) same.header_is
+          ∙ named other u.header.p1 u.header.p2 named2 in
           let one_tag : tag ≡ other = cc in
-          let operation : Put other (chained old.pending ++ u.sent) ≡ Put tag (chained old.pending ++ bytes) =
-          ap (λ x. Put x (chained old.pending ++ u.sent)) (sym one_tag) ∙ ap (λ bs. Put tag (chained old.pending ++ bs)) (sym same.sent_is) in
-          let too : Answers old (Put tag (chained old.pending ++ bytes)) answer2 next2 = subst (λ o. Answers old o answer2 next2) operation put2 in
-          let answered = one_answer old next next2 (Put tag (chained old.pending ++ bytes)) answer answer2 put too served (subst IsServed status served2) in (
-            sym (put_receives_none old b cut u does (subst (λ h. is_put h ≡ true) same.header_is ins)),
+          let operation : Put other (chained old.pending ++ u.sent)
+          ≡ Put tag (chained old.pending ++ bytes) =
+          ap (λ x. Put x (chained old.pending ++ u.sent)) (sym one_tag)
+          ∙ ap (λ bs. Put tag (chained old.pending ++ bs)) (sym same.sent_is) in
+          let too : Answers old (Put tag (chained old.pending ++ bytes)) answer2 next2 =
+          subst (λ o. Answers old o answer2 next2) operation put2 in
+          let answered = one_answer old next next2 (Put tag (chained old.pending ++ bytes)) answer
+          answer2 put too served (subst IsServed status served2) in (
+            sym (put_receives_none old b cut u does
+                (subst (λ h. is_put h ≡ true) same.header_is ins)),
             ap (λ r. r.status) answered.0 ∙ sym status,
             ap (λ s. with_pending s NothingPending) answered.1 ∙ sym new_is,
           )
     ]
 
 -- A TPDU has one outcome, where memory is not wanted.
-pub one_outcome : (old a b : CardState) (cut : ℕ) (t u : Tpdu) → Does old cut t a → Does old cut u b → t.header ≡ u.header → t.p3 ≡ u.p3 → t.sent ≡ u.sent
-    → t.status ≢ (0x65, 0x81) → u.status ≢ (0x65, 0x81) → (t.received ≡ u.received) × (t.status ≡ u.status) × (a ≡ b)
+pub one_outcome : (old a b : CardState) (cut : ℕ) (t u : Tpdu) → Does old cut t a → Does old cut u b
+    → t.header ≡ u.header → t.p3 ≡ u.p3 → t.sent ≡ u.sent
+    → t.status ≢ (0x65, 0x81) → u.status ≢ (0x65, 0x81) → (t.received ≡ u.received)
+    × (t.status ≡ u.status) × (a ≡ b)
 one_outcome old a b cut t u first second header p3 sent served served2 =
-    outcome old a b cut t u first second (record { header_is = header; p3_is = p3; sent_is = sent }) served served2
+    outcome old a b cut t u first second (record { header_is = header; p3_is = p3; sent_is = sent })
+    served served2
 
 -- An announcement tells no want of memory.
 none_announced : (left : List ℕ) (cut : ℕ) → ((announcing left cut).0 == 0x65) ≡ false
@@ -237,7 +345,8 @@ only_a_put_wants old new cut t (sends h p3 e ins) wants =
 only_a_put_wants old new cut t (chains h bytes e ins cla) wants =
     absurd (other_byte ok refl wants)
 only_a_put_wants old new cut t (puts_value h bytes tag answer next e ins cla named_by put) wants =
-    let stays = (wanting_memory old next (Put tag (chained old.pending ++ bytes)) answer put wants).0
+    let stays = (wanting_memory old next (Put tag (chained old.pending ++ bytes)) answer put
+    wants).0
     in (
       cla,
       eqb-true h.ins 0xDA ins,

@@ -13,68 +13,94 @@ use Rattle.object_card.specs.RefusalLaws.{refusal_drops_chain}
 use Rattle.object_card.specs.CardMeaning.{Does, refuses, selects_application, misses_application, sends, chains, puts_value, after_refusal, announcing}
 
 -- Every status but 9000 drops a chain.
-pub other_status_drops_chain : (old new : CardState) (cut : ℕ) (tpdu : Tpdu) → Does old cut tpdu new → tpdu.status ≢ ok → is_idle new.pending ≡ true
-other_status_drops_chain old new cut tpdu (refuses h p3 status e) other = refusal_drops_chain h status old.pending
+pub other_status_drops_chain : (old new : CardState) (cut : ℕ) (tpdu : Tpdu) → Does old cut tpdu new
+    → tpdu.status ≢ ok → is_idle new.pending ≡ true
+other_status_drops_chain old new cut tpdu (refuses h p3 status e) other =
+    refusal_drops_chain h status old.pending
 other_status_drops_chain old new cut tpdu (selects_application h aid e ins held) other = refl
 other_status_drops_chain old new cut tpdu (misses_application h aid e ins none) other = refl
-other_status_drops_chain old new cut tpdu (sends h p3 e ins) other = rest_is_idle (drop (count p3) (to_send old h))
+other_status_drops_chain old new cut tpdu (sends h p3 e ins) other =
+    rest_is_idle (drop (count p3) (to_send old h))
 other_status_drops_chain old new cut tpdu (chains h bytes e ins cla) other = absurd (other refl)
-other_status_drops_chain old new cut tpdu (puts_value h bytes tag answer next e ins cla named put) other = refl
+other_status_drops_chain old new cut tpdu (puts_value h bytes tag answer next e ins cla named put)
+    other = refl
 
 -- A command that is the last of its chain ends it.
-pub last_ends_chain : (old new : CardState) (cut : ℕ) (tpdu : Tpdu) → Does old cut tpdu new → tpdu.header.cla ≢ 0x10 → is_idle new.pending ≡ true
-last_ends_chain old new cut tpdu (refuses h p3 status e) last = refusal_drops_chain h status old.pending
+pub last_ends_chain : (old new : CardState) (cut : ℕ) (tpdu : Tpdu) → Does old cut tpdu new
+    → tpdu.header.cla ≢ 0x10 → is_idle new.pending ≡ true
+last_ends_chain old new cut tpdu (refuses h p3 status e) last =
+    refusal_drops_chain h status old.pending
 last_ends_chain old new cut tpdu (selects_application h aid e ins held) last = refl
 last_ends_chain old new cut tpdu (misses_application h aid e ins none) last = refl
-last_ends_chain old new cut tpdu (sends h p3 e ins) last = rest_is_idle (drop (count p3) (to_send old h))
+last_ends_chain old new cut tpdu (sends h p3 e ins) last =
+    rest_is_idle (drop (count p3) (to_send old h))
 last_ends_chain old new cut tpdu (chains h bytes e ins cla) last = absurd (last cla)
-last_ends_chain old new cut tpdu (puts_value h bytes tag answer next e ins cla named put) last = refl
+last_ends_chain old new cut tpdu (puts_value h bytes tag answer next e ins cla named put) last =
+    refl
 
 -- why a response may be pending after a TPDU
 abbrev pub IsAnnounced : CardState → CardState → Tpdu → Type 0
-IsAnnounced old new tpdu = (tpdu.status.0 ≡ 0x61) ⊎ ((tpdu.header.ins ≡ 0xC0) × (tpdu.status.0 ≡ 0x6C) × (new.pending ≡ old.pending))
+IsAnnounced old new tpdu = (tpdu.status.0 ≡ 0x61)
+    ⊎ ((tpdu.header.ins ≡ 0xC0) × (tpdu.status.0 ≡ 0x6C) × (new.pending ≡ old.pending))
 
-refusal_keeps_response : (h : Header) (status : StatusWord) (pending : Pending) (left : List ℕ) → after_refusal h status pending ≡ ResponsePending left
+refusal_keeps_response : (h : Header) (status : StatusWord) (pending : Pending) (left : List ℕ)
+    → after_refusal h status pending ≡ ResponsePending left
     → (h.ins ≡ 0xC0) × (status.0 ≡ 0x6C) × (after_refusal h status pending ≡ pending)
 refusal_keeps_response h status NothingPending left is = absurd (cc)
 refusal_keeps_response h status (ChainPending p1 p2 bytes) left is = absurd (cc)
-refusal_keeps_response h status (ResponsePending before) left is = kept (is_get_response h && (status.0 == 0x6C)) refl
+refusal_keeps_response h status (ResponsePending before) left is =
+    kept (is_get_response h && (status.0 == 0x6C)) refl
   where
     kept : (v : Bool) → (is_get_response h && (status.0 == 0x6C)) ≡ v
-        → (h.ins ≡ 0xC0) × (status.0 ≡ 0x6C) × (after_refusal h status (ResponsePending before) ≡ ResponsePending before)
-    kept true e = let both = and_parts (h.ins == 0xC0) (status.0 == 0x6C) e in (eqb-true h.ins 0xC0 both.0, eqb-true status.0 0x6C both.1, rw e refl)
-    kept false e = let no : NothingPending ≡ ResponsePending left = subst (λ v. (if v then ResponsePending before else NothingPending) ≡ ResponsePending left) e is in absurd (cc)
+        → (h.ins ≡ 0xC0) × (status.0 ≡ 0x6C)
+        × (after_refusal h status (ResponsePending before) ≡ ResponsePending before)
+    kept true e = let both = and_parts (h.ins == 0xC0) (status.0 == 0x6C) e in
+        (eqb-true h.ins 0xC0 both.0, eqb-true status.0 0x6C both.1, rw e refl)
+    kept false e = let no : NothingPending ≡ ResponsePending left =
+        subst (λ v. (if v then ResponsePending before else NothingPending) ≡ ResponsePending left) e
+        is in absurd (cc)
 
-rest_is_announced : (left : List ℕ) (cut : ℕ) (response : List ℕ) → pending_of left ≡ ResponsePending response → (announcing left cut).0 ≡ 0x61
+rest_is_announced : (left : List ℕ) (cut : ℕ) (response : List ℕ) → pending_of left
+    ≡ ResponsePending response → (announcing left cut).0 ≡ 0x61
 rest_is_announced [] cut response is = absurd (cc)
 rest_is_announced (b ∷ left) cut response is = refl
 
 -- A response is pending only after 61XX, or as it was after 6CXX to a GET RESPONSE.
-pub response_is_announced : (old new : CardState) (cut : ℕ) (tpdu : Tpdu) (left : List ℕ) → Does old cut tpdu new → new.pending ≡ ResponsePending left
+pub response_is_announced : (old new : CardState) (cut : ℕ) (tpdu : Tpdu) (left : List ℕ)
+    → Does old cut tpdu new → new.pending ≡ ResponsePending left
     → IsAnnounced old new tpdu
-response_is_announced old new cut tpdu left (refuses h p3 status e) is = inr (refusal_keeps_response h status old.pending left is)
+response_is_announced old new cut tpdu left (refuses h p3 status e) is =
+    inr (refusal_keeps_response h status old.pending left is)
 response_is_announced old new cut tpdu left (selects_application h aid e ins held) is = inl refl
 response_is_announced old new cut tpdu left (misses_application h aid e ins none) is = absurd (cc)
-response_is_announced old new cut tpdu left (sends h p3 e ins) is = inl (rest_is_announced (drop (count p3) (to_send old h)) cut left is)
+response_is_announced old new cut tpdu left (sends h p3 e ins) is =
+    inl (rest_is_announced (drop (count p3) (to_send old h)) cut left is)
 response_is_announced old new cut tpdu left (chains h bytes e ins cla) is = absurd (cc)
-response_is_announced old new cut tpdu left (puts_value h bytes tag answer next e ins cla named put) is = absurd (cc)
+response_is_announced old new cut tpdu left (puts_value h bytes tag answer next e ins cla named put)
+    is = absurd (cc)
 
 -- All P3 bytes of a PUT DATA move, unless its header is refused.
-pub all_of_a_put_moves : (old new : CardState) (cut : ℕ) (tpdu : Tpdu) → Does old cut tpdu new → refusal old tpdu.header tpdu.p3 ≡ None
+pub all_of_a_put_moves : (old new : CardState) (cut : ℕ) (tpdu : Tpdu) → Does old cut tpdu new
+    → refusal old tpdu.header tpdu.p3 ≡ None
     → is_put tpdu.header ≡ true → tpdu.p3 ≡ length tpdu.sent
 all_of_a_put_moves old new cut tpdu (refuses h p3 status e) taken put = absurd (cc)
 all_of_a_put_moves old new cut tpdu (selects_application h aid e ins held) taken put = refl
 all_of_a_put_moves old new cut tpdu (misses_application h aid e ins none) taken put = refl
 all_of_a_put_moves old new cut tpdu (sends h p3 e ins) taken put =
-    let no : false ≡ true = subst (λ i. ((i == 0xCA) || (i == 0xC0)) ≡ true) (eqb-true h.ins 0xDA put) ins in absurd (cc)
+    let no : false ≡ true = subst (λ i. ((i == 0xCA) || (i == 0xC0)) ≡ true)
+    (eqb-true h.ins 0xDA put) ins in absurd (cc)
 all_of_a_put_moves old new cut tpdu (chains h bytes e ins cla) taken put = refl
-all_of_a_put_moves old new cut tpdu (puts_value h bytes tag answer next e ins cla named put_value) taken put = refl
+all_of_a_put_moves old new cut tpdu (puts_value h bytes tag answer next e ins cla named put_value)
+    taken put = refl
 
 -- All P3 bytes of a SELECT move, unless its header is refused.
-pub all_of_a_select_moves : (old new : CardState) (cut : ℕ) (tpdu : Tpdu) → Does old cut tpdu new → refusal old tpdu.header tpdu.p3 ≡ None
+pub all_of_a_select_moves : (old new : CardState) (cut : ℕ) (tpdu : Tpdu) → Does old cut tpdu new
+    → refusal old tpdu.header tpdu.p3 ≡ None
     → is_select tpdu.header ≡ true → tpdu.p3 ≡ length tpdu.sent
-all_of_a_select_moves old new cut tpdu does taken select = elim (select_step old new cut tpdu does select) [
-  | select_refused refused none_sent none new_is ↦ let no : None ≡ Some tpdu.status = sym taken ∙ refused in absurd (cc)
-  | is_selected e all found none status new_is ↦ all
-  | is_missed e all missed none status new_is ↦ all
-]
+all_of_a_select_moves old new cut tpdu does taken select =
+    elim (select_step old new cut tpdu does select) [
+      | select_refused refused none_sent none new_is ↦ let no : None ≡ Some tpdu.status =
+          sym taken ∙ refused in absurd (cc)
+      | is_selected e all found none status new_is ↦ all
+      | is_missed e all missed none status new_is ↦ all
+    ]

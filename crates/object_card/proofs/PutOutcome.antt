@@ -18,62 +18,104 @@ use Rattle.object_card.specs.StateLaws.{stays_sound}
 use Rattle.object_card.proofs.AnswerLemmas.{leaves_standing}
 use Rattle.object_card.proofs.PutDataLemmas.{last_class, same_state, same_standing, stores_does, does_not_does, state_put}
 
-stored_free : (entries : List Entry) (tag value : List ℕ) (status : StatusWord) → PutStatus entries tag value status → status ≡ ok → is_locked tag entries ≡ false
-stored_free entries tag value status (not_allowed locked) is = let e : 0x69 ≡ 0x90 = ap (λ s. s.0) is in absurd (omega (arith, e))
+stored_free : (entries : List Entry) (tag value : List ℕ) (status : StatusWord)
+    → PutStatus entries tag value status → status ≡ ok → is_locked tag entries ≡ false
+stored_free entries tag value status (not_allowed locked) is = let e : 0x69 ≡ 0x90 =
+    ap (λ s. s.0) is in absurd (omega (arith, e))
 stored_free entries tag value status (wrong_length free long) is = free
 stored_free entries tag value status (wrong_data free fits none) is = free
 stored_free entries tag value status (no_space free fits kind none full) is = free
 stored_free entries tag value status (stored free fits kind room) is = free
 
 -- what is to show of what is ready then
-abbrev pub Comes : List ApplicationView → List ApplicationView → ℕ → ChainState → Option Response → Header → ℕ → ℕ → List ℕ → StatusWord → Ready → Option NewValue → Type 0
+abbrev pub Comes : List ApplicationView → List ApplicationView → ℕ → ChainState → Option Response
+    → Header → ℕ → ℕ → List ℕ → StatusWord → Ready → Option NewValue → Type 0
 Comes held new i chain response h p3 cut content status next put =
-    Decides Does (state_of held (Some i) chain response) cut (taken_with (record { header = h; p3 = p3; cut = cut }) content status)
+    Decides Does (state_of held (Some i) chain response) cut
+    (taken_with (record { header = h; p3 = p3; cut = cut }) content status)
     (prepared_of new (Some i) chain response next put)
     × IsCard new (Some i) chain response next put
-    × (state_of new (Some i) (standing_chain chain next) response ≡ state_of held (Some i) chain response)
+    × (state_of new (Some i) (standing_chain chain next) response
+    ≡ state_of held (Some i) chain response)
 
-comes_whole : (held new : List ApplicationView) (i : ℕ) (chain : ChainState) (response : Option Response) (h : Header) (cut : ℕ) (content : List ℕ) (status : StatusWord)
-    (next : Ready) (put : Option NewValue) → IsStanding held (Some i) chain response → IsAsked (state_of held (Some i) chain response) h (length content) cut
-    → is_put h ≡ true → IsChain chain → h.cla ≢ 0x10 → IsPut held i h (chain.bytes ++ content) new status next put
+comes_whole : (held new : List ApplicationView) (i : ℕ) (chain : ChainState)
+    (response : Option Response) (h : Header) (cut : ℕ) (content : List ℕ) (status : StatusWord)
+    (next : Ready) (put : Option NewValue) → IsStanding held (Some i) chain response
+    → IsAsked (state_of held (Some i) chain response) h (length content) cut
+    → is_put h ≡ true → IsChain chain → h.cla ≢ 0x10
+    → IsPut held i h (chain.bytes ++ content) new status next put
     → Comes held new i chain response h (length content) cut content status next put
-comes_whole held new i chain response h cut content status next put standing asked is_a_put is other (a, b, tag, before, named, after, aid, entries, new_is, outcome) =
+comes_whole held new i chain response h cut content status next put standing asked is_a_put is other
+    (a, b, tag, before, named, after, aid, entries, new_is, outcome) =
     let s = state_of held (Some i) chain response in
     let value = chain.bytes ++ content in
     let cla = last_class s h (length content) asked.taken is_a_put other in
     let same = same_state held new i a b chain response before after aid entries new_is in
-    let stands = same_standing held new i a b chain response before after aid entries new_is standing in
-    let Goal : Ready → Option NewValue → Type 0 = λ n p. Comes held new i chain response h (length content) cut content status n p in
+    let stands = same_standing held new i a b chain response before after aid entries new_is
+    standing in
+    let Goal : Ready → Option NewValue → Type 0 =
+    λ n p. Comes held new i chain response h (length content) cut content status n p in
     let tpdu = taken_with (record { header = h; p3 = length content; cut = cut }) content status in
     elim outcome [
       | inl stores ↦
-          let does = stores_does held i a chain response h cut content tag status standing is asked is_a_put cla named before stores.4 stores.2 in
+          let does = stores_does held i a chain response h cut content tag status standing is asked
+          is_a_put cla named before stores.4 stores.2 in
           let leads : Does s cut tpdu (state_put (state_of new (Some i) chain response) tag value) =
           subst (λ x. Does s cut tpdu (state_put x tag value)) (sym same) does in
-          let free : is_locked tag b.entries ≡ false = ap (is_locked tag) entries ∙ stored_free a.entries tag value ok stores.4 refl in
+          let free : is_locked tag b.entries ≡ false = ap (is_locked tag) entries
+          ∙ stored_free a.entries tag value ok stores.4 refl in
           let here : Goal ready.Stores (Some (tag, value)) = (
             (state_put (state_of new (Some i) chain response) tag value, refl, leads),
-            record { standing = stands; fits = (b, tag, value, after, refl, stores.3, free, stays_sound s _ cut tpdu leads standing.sound) },
+            record {
+              standing = stands;
+              fits = (
+                b,
+                tag,
+                value,
+                after,
+                refl,
+                stores.3,
+                free,
+                stays_sound s _ cut tpdu leads
+                    standing.sound,
+              );
+            },
             same,
           ) in
-          subst (λ p. Goal next p) (sym stores.1) (subst (λ n. Goal n (Some (tag, value))) (sym stores.0) here)
+          subst (λ p. Goal next p) (sym stores.1)
+          (subst (λ n. Goal n (Some (tag, value))) (sym stores.0) here)
       | inr does_not ↦
-          let does = does_not_does held i a chain response h cut content tag status standing is asked is_a_put cla named before does_not.2 in
+          let does = does_not_does held i a chain response h cut content tag status standing is
+          asked is_a_put cla named before does_not.2 in
           let leads : Does s cut tpdu (state_of new (Some i) (idle chain.limit) None) =
-          subst (λ x. Does s cut tpdu x) (sym (same_state held new i a b (idle chain.limit) None before after aid entries new_is)) does in
+          subst (λ x. Does s cut tpdu x)
+          (sym (same_state held new i a b (idle chain.limit) None before after aid entries
+          new_is)) does in
           let here : Goal (ready.Leaves None) None = (
             (state_of new (Some i) (idle chain.limit) None, refl, leads),
-            record { standing = stands; fits = (leaves_standing new (Some i) chain response None stands tt (stays_sound s _ cut tpdu leads standing.sound), refl) },
+            record {
+              standing = stands;
+              fits = (
+                leaves_standing new (Some i) chain response None stands tt
+                    (stays_sound s _ cut tpdu leads standing.sound),
+                refl,
+              );
+            },
             same,
           ) in
           subst (λ p. Goal next p) (sym does_not.1) (subst (λ n. Goal n None) (sym does_not.0) here)
     ]
 
-pub comes : (held new : List ApplicationView) (i : ℕ) (chain : ChainState) (response : Option Response) (h : Header) (p3 cut : ℕ) (content : List ℕ) (status : StatusWord)
-    (next : Ready) (put : Option NewValue) → IsStanding held (Some i) chain response → IsAsked (state_of held (Some i) chain response) h p3 cut
-    → is_put h ≡ true → length content ≡ p3 → IsChain chain → h.cla ≢ 0x10 → IsPut held i h (chain.bytes ++ content) new status next put
+pub comes : (held new : List ApplicationView) (i : ℕ) (chain : ChainState)
+    (response : Option Response) (h : Header) (p3 cut : ℕ) (content : List ℕ) (status : StatusWord)
+    (next : Ready) (put : Option NewValue) → IsStanding held (Some i) chain response
+    → IsAsked (state_of held (Some i) chain response) h p3 cut
+    → is_put h ≡ true → length content ≡ p3 → IsChain chain → h.cla ≢ 0x10
+    → IsPut held i h (chain.bytes ++ content) new status next put
     → Comes held new i chain response h p3 cut content status next put
-comes held new i chain response h p3 cut content status next put standing asked is_a_put long is other outcome =
+comes held new i chain response h p3 cut content status next put standing asked is_a_put long is
+    other outcome =
     subst (λ n. Comes held new i chain response h n cut content status next put) long
     (comes_whole held new i chain response h cut content status next put standing
-    (subst (λ n. IsAsked (state_of held (Some i) chain response) h n cut) (sym long) asked) is_a_put is other outcome)
+    (subst (λ n. IsAsked (state_of held (Some i) chain response) h n cut) (sym long) asked) is_a_put
+    is other outcome)

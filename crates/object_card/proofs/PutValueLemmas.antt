@@ -19,43 +19,60 @@ pub none_is : {T : Type 0} (r : Option T) → is_some r ≡ false → r ≡ None
 none_is None e = refl
 none_is (Some x) e = absurd (cc)
 
-pub is_some-option_map : {T U : Type 0} (f : T → U) (r : Option T) → is_some (option_map f r) ≡ is_some r
+pub is_some-option_map : {T U : Type 0} (f : T → U) (r : Option T) → is_some (option_map f r)
+    ≡ is_some r
 is_some-option_map f None = refl
 is_some-option_map f (Some x) = refl
 
-pub refuses_data : (entries : List Entry) (tag value : List ℕ) (status : StatusWord) → status ≡ (0x6A, 0x80) → is_locked tag entries ≡ false
-    → length value ≤ VALUE_LIMIT → (IsValueOf tag value → ⊥) → (status ≢ ok) × PutStatus entries tag value status
+pub refuses_data : (entries : List Entry) (tag value : List ℕ) (status : StatusWord) → status
+    ≡ (0x6A, 0x80) → is_locked tag entries ≡ false
+    → length value ≤ VALUE_LIMIT → (IsValueOf tag value → ⊥) → (status ≢ ok)
+    × PutStatus entries tag value status
 refuses_data entries tag value status is free within unlike =
     let Refuses : StatusWord → Type 0 = λ s. (s ≢ ok) × PutStatus entries tag value s in
-    subst Refuses (sym is) (λ e. (let n : 0x6A ≡ 0x90 = ap (λ s. s.0) e in omega (arith, n)), wrong_data free within unlike)
+    subst Refuses (sym is) (
+      λ e. (let n : 0x6A ≡ 0x90 = ap (λ s. s.0) e in omega (arith, n)),
+      wrong_data free within unlike,
+    )
 
-pub refuses_space : (entries : List Entry) (tag value : List ℕ) (status : StatusWord) → status ≡ (0x6A, 0x84) → is_locked tag entries ≡ false
-    → length value ≤ VALUE_LIMIT → IsValueOf tag value → value_under tag entries ≡ None → ENTRY_LIMIT ≤ length entries
+pub refuses_space : (entries : List Entry) (tag value : List ℕ) (status : StatusWord) → status
+    ≡ (0x6A, 0x84) → is_locked tag entries ≡ false
+    → length value ≤ VALUE_LIMIT → IsValueOf tag value → value_under tag entries ≡ None
+    → ENTRY_LIMIT ≤ length entries
     → (status ≢ ok) × PutStatus entries tag value status
 refuses_space entries tag value status is free within kind new full =
     let Refuses : StatusWord → Type 0 = λ s. (s ≢ ok) × PutStatus entries tag value s in
-    subst Refuses (sym is) (λ e. (let n : 0x6A ≡ 0x90 = ap (λ s. s.0) e in omega (arith, n)), no_space free within kind new full)
+    subst Refuses (sym is) (
+      λ e. (let n : 0x6A ≡ 0x90 = ap (λ s. s.0) e in omega (arith, n)),
+      no_space free within kind new full,
+    )
 
 -- the applications from a place on begin with the one there
-pub drop-at : (held : List ApplicationView) (i : ℕ) (a : ApplicationView) → slice_get held i ≡ Some a → drop i held ≡ a ∷ drop (suc i) held
+pub drop-at : (held : List ApplicationView) (i : ℕ) (a : ApplicationView) → slice_get held i
+    ≡ Some a → drop i held ≡ a ∷ drop (suc i) held
 drop-at [] i a is = absurd (cc)
 drop-at (h ∷ held) zero a is = let e : h ≡ a = cc in ap (λ x. x ∷ held) e
 drop-at (h ∷ held) (suc i) a is = drop-at held i a is
 
-pub passes_by : (aid : List ℕ) (held : List ApplicationView) (i : ℕ) (a : ApplicationView) → slice_get held i ≡ Some a → same_bytes aid a.aid ≡ false
-    → entries_in aid (applications_of (drop i held)) ≡ entries_in aid (applications_of (drop (i + 1) held))
+pub passes_by : (aid : List ℕ) (held : List ApplicationView) (i : ℕ) (a : ApplicationView)
+    → slice_get held i ≡ Some a → same_bytes aid a.aid ≡ false
+    → entries_in aid (applications_of (drop i held))
+    ≡ entries_in aid (applications_of (drop (i + 1) held))
 passes_by aid held i a is same =
     ap (λ xs. entries_in aid (applications_of xs)) (drop-at held i a is)
-    ∙ ap (λ b. if b then Some a.entries else entries_in aid (applications_of (drop (suc i) held))) same
+    ∙ ap (λ b. if b then Some a.entries else entries_in aid (applications_of (drop (suc i) held)))
+    same
     ∙ ap (λ n. entries_in aid (applications_of (drop n held))) (sym (add-one i))
 
-pub none_left : (aid : List ℕ) (held : List ApplicationView) (i : ℕ) → length held ≤ i → entries_in aid (applications_of (drop i held)) ≡ None
+pub none_left : (aid : List ℕ) (held : List ApplicationView) (i : ℕ) → length held ≤ i
+    → entries_in aid (applications_of (drop i held)) ≡ None
 none_left aid [] zero past = refl
 none_left aid [] (suc i) past = refl
 none_left aid (h ∷ held) zero past = absurd (omega (arith, past))
 none_left aid (h ∷ held) (suc i) past = none_left aid held i (omega (arith, past))
 
-pub slice_get-set : {X : Type 0} (xs : List X) (i : ℕ) (y : X) → i < length xs → slice_get (slice_set xs i y) i ≡ Some y
+pub slice_get-set : {X : Type 0} (xs : List X) (i : ℕ) (y : X) → i < length xs
+    → slice_get (slice_set xs i y) i ≡ Some y
 slice_get-set [] i y within = absurd (omega (arith, within))
 slice_get-set (x ∷ xs) zero y within = refl
 slice_get-set (x ∷ xs) (suc i) y within = slice_get-set xs i y (omega (arith, within))

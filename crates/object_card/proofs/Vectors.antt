@@ -32,11 +32,18 @@ name = 0x4A ∷ 0x4F ∷ 0x45 ∷ []
 
 -- the entries 5F20 and 50, with this value under 5F20
 abbrev entries_with : List ℕ → List Entry
-entries_with value = record { tag = name_tag; value = value; locked = false } ∷ record { tag = 0x50 ∷ []; value = 0x41 ∷ []; locked = false } ∷ []
+entries_with value = record { tag = name_tag; value = value; locked = false }
+    ∷ record { tag = 0x50 ∷ []; value = 0x41 ∷ []; locked = false } ∷ []
 
 -- the card that holds these entries
 abbrev card : List Entry → Option (List ℕ) → Pending → CardState
-card entries selected pending = record { applications = record { aid = aid; entries = entries } ∷ []; selected = selected; pending = pending }
+card entries selected pending =
+    record {
+      applications = record { aid = aid; entries = entries }
+          ∷ [];
+      selected = selected;
+      pending = pending;
+    }
 
 -- as it is after a reset, and with its application selected
 abbrev fresh : CardState
@@ -52,20 +59,24 @@ abbrev head : ℕ → ℕ → ℕ → ℕ → Header
 head cla ins p1 p2 = record { cla = cla; ins = ins; p1 = p1; p2 = p2 }
 
 -- the file control information
-information : control_information aid ≡ 0x6F ∷ 0x09 ∷ 0x84 ∷ 0x07 ∷ 0xA0 ∷ 0x00 ∷ 0x00 ∷ 0x00 ∷ 0x03 ∷ 0x10 ∷ 0x10 ∷ []
+information : control_information aid ≡ 0x6F ∷ 0x09 ∷ 0x84 ∷ 0x07 ∷ 0xA0 ∷ 0x00 ∷ 0x00 ∷ 0x00 ∷ 0x03
+    ∷ 0x10 ∷ 0x10 ∷ []
 information = refl
 
 -- refusals, in their order
-other_command_in_chain : refusal (in_chain (0xAA ∷ [])) (head 0x00 0xCA 0x5F 0x20) 0 ≡ Some (0x68, 0x83)
+other_command_in_chain : refusal (in_chain (0xAA ∷ [])) (head 0x00 0xCA 0x5F 0x20) 0
+    ≡ Some (0x68, 0x83)
 other_command_in_chain = refl
 
-invalid_ins_in_chain : refusal (in_chain (0xAA ∷ [])) (head 0xFF 0x60 0x5F 0x20) 0 ≡ Some (0x68, 0x83)
+invalid_ins_in_chain : refusal (in_chain (0xAA ∷ [])) (head 0xFF 0x60 0x5F 0x20) 0
+    ≡ Some (0x68, 0x83)
 invalid_ins_in_chain = refl
 
 other_tag_in_chain : refusal (in_chain (0xAA ∷ [])) (head 0x00 0xDA 0x5F 0x21) 1 ≡ Some (0x68, 0x83)
 other_tag_in_chain = refl
 
-other_class_in_chain : refusal (in_chain (0xAA ∷ [])) (head 0x01 0xDA 0x5F 0x20) 1 ≡ Some (0x68, 0x83)
+other_class_in_chain : refusal (in_chain (0xAA ∷ [])) (head 0x01 0xDA 0x5F 0x20) 1
+    ≡ Some (0x68, 0x83)
 other_class_in_chain = refl
 
 chain_goes_on : refusal (in_chain (0xAA ∷ [])) (head 0x10 0xDA 0x5F 0x20) 1 ≡ None
@@ -101,7 +112,8 @@ no_object = refl
 identifier_of_four_bytes : refusal ready (head 0x00 0xA4 0x04 0x00) 4 ≡ Some (0x67, 0x00)
 identifier_of_four_bytes = refl
 
-past_the_limit : refusal (in_chain (replicate 8184 0x42)) (head 0x00 0xDA 0x5F 0x20) 9 ≡ Some (0x67, 0x00)
+past_the_limit : refusal (in_chain (replicate 8184 0x42)) (head 0x00 0xDA 0x5F 0x20) 9
+    ≡ Some (0x67, 0x00)
 past_the_limit = refl
 
 up_to_the_limit : refusal (in_chain (replicate 8184 0x42)) (head 0x00 0xDA 0x5F 0x20) 8 ≡ None
@@ -114,13 +126,15 @@ wrong_le = refl
 in_place : with_value name_tag (0x42 ∷ []) (entries_with name) ≡ entries_with (0x42 ∷ [])
 in_place = refl
 
-last : with_value (0x9F ∷ 0x36 ∷ []) (0x01 ∷ []) (entries_with name) ≡ entries_with name ++ record { tag = 0x9F ∷ 0x36 ∷ []; value = 0x01 ∷ []; locked = false } ∷ []
+last : with_value (0x9F ∷ 0x36 ∷ []) (0x01 ∷ []) (entries_with name) ≡ entries_with name
+    ++ record { tag = 0x9F ∷ 0x36 ∷ []; value = 0x01 ∷ []; locked = false } ∷ []
 last = refl
 
 -- with locked entries 50 and 70
 abbrev locked_entries : List ℕ → List Entry
 locked_entries value =
-    record { tag = name_tag; value = name; locked = false } ∷ record { tag = 0x50 ∷ []; value = value; locked = true }
+    record { tag = name_tag; value = name; locked = false }
+    ∷ record { tag = 0x50 ∷ []; value = value; locked = true }
     ∷ record { tag = 0x70 ∷ []; value = []; locked = true } ∷ []
 
 abbrev guarded : Pending → CardState
@@ -153,17 +167,21 @@ no_tag_before_a_selection = refl
 no_tag_is_not_6985 : refusal fresh (head 0x00 0xCA 0x00 0xFF) 0 ≡ Some (0x69, 0x85) → ⊥
 no_tag_is_not_6985 e = let no : 0x6A ≡ 0x69 = ap first_byte e in omega (arith, no)
 
-none_selected_first : refusal (card (locked_entries (0x41 ∷ [])) None NothingPending) (head 0x00 0xDA 0x00 0x50) 1 ≡ Some (0x69, 0x85)
+none_selected_first : refusal (card (locked_entries (0x41 ∷ [])) None NothingPending)
+    (head 0x00 0xDA 0x00 0x50) 1 ≡ Some (0x69, 0x85)
 none_selected_first = refl
 
-locked_last_piece : refusal (guarded NothingPending) (head 0x00 0xDA 0x00 0x50) 1 ≡ Some (0x69, 0x82)
+locked_last_piece : refusal (guarded NothingPending) (head 0x00 0xDA 0x00 0x50) 1
+    ≡ Some (0x69, 0x82)
 locked_last_piece = refl
 
 -- near miss: a lock that refuses the last piece alone
-locked_first_piece : refusal (guarded NothingPending) (head 0x10 0xDA 0x00 0x50) 255 ≡ Some (0x69, 0x82)
+locked_first_piece : refusal (guarded NothingPending) (head 0x10 0xDA 0x00 0x50) 255
+    ≡ Some (0x69, 0x82)
 locked_first_piece = refl
 
-lock_before_length : refusal (guarded (ChainPending 0x00 0x50 (replicate 8192 0x42))) (head 0x00 0xDA 0x00 0x50) 1 ≡ Some (0x69, 0x82)
+lock_before_length : refusal (guarded (ChainPending 0x00 0x50 (replicate 8192 0x42)))
+    (head 0x00 0xDA 0x00 0x50) 1 ≡ Some (0x69, 0x82)
 lock_before_length = refl
 
 locked_template : refusal (guarded NothingPending) (head 0x00 0xDA 0x00 0x70) 3 ≡ Some (0x69, 0x82)
@@ -175,58 +193,122 @@ beside_locked = refl
 get_locked : refusal (guarded NothingPending) (head 0x00 0xCA 0x00 0x50) 3 ≡ None
 get_locked = refl
 
-locked_is_not_put : PutStatus (locked_entries (0x41 ∷ [])) (0x50 ∷ []) (replicate 8193 0x42) (0x69, 0x82)
+locked_is_not_put : PutStatus (locked_entries (0x41 ∷ [])) (0x50 ∷ []) (replicate 8193 0x42)
+    (0x69, 0x82)
 locked_is_not_put = not_allowed refl
 
 -- a put keeps the mark
-mark_stays : with_value (0x50 ∷ []) (0x42 ∷ []) (locked_entries (0x41 ∷ [])) ≡ locked_entries (0x42 ∷ [])
+mark_stays : with_value (0x50 ∷ []) (0x42 ∷ []) (locked_entries (0x41 ∷ []))
+    ≡ locked_entries (0x42 ∷ [])
 mark_stays = refl
 
 -- near miss: a replaced value that unlocks
-mark_is_not_lost : is_locked (0x50 ∷ []) (with_value (0x50 ∷ []) (0x42 ∷ []) (locked_entries (0x41 ∷ []))) ≡ true
+mark_is_not_lost : is_locked (0x50 ∷ [])
+    (with_value (0x50 ∷ []) (0x42 ∷ []) (locked_entries (0x41 ∷ []))) ≡ true
 mark_is_not_lost = refl
 
-new_is_not_locked : is_locked (0x51 ∷ []) (with_value (0x51 ∷ []) (0x42 ∷ []) (locked_entries (0x41 ∷ []))) ≡ false
+new_is_not_locked : is_locked (0x51 ∷ [])
+    (with_value (0x51 ∷ []) (0x42 ∷ []) (locked_entries (0x41 ∷ []))) ≡ false
 new_is_not_locked = refl
 
 -- 00A4040007 and the identifier: 610B
-select_row : Does fresh 256 (record { header = head 0x00 0xA4 0x04 0x00; p3 = 7; sent = aid; received = []; status = (0x61, 0x0B) })
+select_row : Does fresh 256
+    (record {
+      header = head 0x00 0xA4 0x04 0x00;
+      p3 = 7;
+      sent = aid;
+      received = [];
+      status =
+          (0x61, 0x0B);
+    })
     (card (entries_with name) (Some aid) (ResponsePending (control_information aid)))
 select_row = selects_application (head 0x00 0xA4 0x04 0x00) aid refl refl refl
 
 -- 00A4040007 and another one: 6A82, and the selection stays
-select_nothing_row : Does ready 256 (record { header = head 0x00 0xA4 0x04 0x00; p3 = 7; sent = other_aid; received = []; status = (0x6A, 0x82) }) ready
+select_nothing_row : Does ready 256
+    (record {
+      header = head 0x00 0xA4 0x04 0x00;
+      p3 = 7;
+      sent = other_aid;
+      received = [];
+      status =
+          (0x6A, 0x82);
+    }) ready
 select_nothing_row = misses_application (head 0x00 0xA4 0x04 0x00) other_aid refl refl refl
 
 -- 00C000000B: the response whole, 9000
-response_row : Does (card (entries_with name) (Some aid) (ResponsePending (control_information aid))) 256
-    (record { header = head 0x00 0xC0 0x00 0x00; p3 = 11; sent = []; received = control_information aid; status = (0x90, 0x00) }) ready
+response_row : Does (card (entries_with name) (Some aid)
+    (ResponsePending (control_information aid))) 256
+    (record {
+      header = head 0x00 0xC0 0x00 0x00;
+      p3 = 11;
+      sent = [];
+      received = control_information
+          aid;
+      status = (0x90, 0x00);
+    }) ready
 response_row = sends (head 0x00 0xC0 0x00 0x00) 11 refl refl
 
 -- 00C000000C: 6C0B, and the response stays
-longer_response_row : Does (card (entries_with name) (Some aid) (ResponsePending (control_information aid))) 256
-    (record { header = head 0x00 0xC0 0x00 0x00; p3 = 12; sent = []; received = []; status = (0x6C, 0x0B) })
+longer_response_row : Does
+    (card (entries_with name) (Some aid) (ResponsePending (control_information aid))) 256
+    (record {
+      header = head 0x00 0xC0 0x00 0x00;
+      p3 = 12;
+      sent = [];
+      received = [];
+      status =
+          (0x6C, 0x0B);
+    })
     (card (entries_with name) (Some aid) (ResponsePending (control_information aid)))
 longer_response_row = refuses (head 0x00 0xC0 0x00 0x00) 12 (0x6C, 0x0B) refl
 
 -- 00CA5F2000: 6C06, which drops a response
 dropped_response_row : Does (card (entries_with name) (Some aid) (ResponsePending (0x41 ∷ []))) 256
-    (record { header = head 0x00 0xCA 0x5F 0x20; p3 = 0; sent = []; received = []; status = (0x6C, 0x06) }) ready
+    (record {
+      header = head 0x00 0xCA 0x5F 0x20;
+      p3 = 0;
+      sent = [];
+      received = [];
+      status =
+          (0x6C, 0x06);
+    }) ready
 dropped_response_row = refuses (head 0x00 0xCA 0x5F 0x20) 0 (0x6C, 0x06) refl
 
 -- 00CA5F2006: the object whole, 9000
 get_row : Does ready 256
-    (record { header = head 0x00 0xCA 0x5F 0x20; p3 = 6; sent = []; received = 0x5F ∷ 0x20 ∷ 0x03 ∷ name; status = (0x90, 0x00) }) ready
+    (record {
+      header = head 0x00 0xCA 0x5F 0x20;
+      p3 = 6;
+      sent = [];
+      received = 0x5F ∷ 0x20 ∷ 0x03
+          ∷ name;
+      status = (0x90, 0x00);
+    }) ready
 get_row = sends (head 0x00 0xCA 0x5F 0x20) 6 refl refl
 
 -- 00CA5F2002: a part of it, 6104 and, under a cut of 3, 6103
 get_part_row : Does ready 256
-    (record { header = head 0x00 0xCA 0x5F 0x20; p3 = 2; sent = []; received = 0x5F ∷ 0x20 ∷ []; status = (0x61, 0x04) })
+    (record {
+      header = head 0x00 0xCA 0x5F 0x20;
+      p3 = 2;
+      sent = [];
+      received = 0x5F ∷ 0x20
+          ∷ [];
+      status = (0x61, 0x04);
+    })
     (card (entries_with name) (Some aid) (ResponsePending (0x03 ∷ name)))
 get_part_row = sends (head 0x00 0xCA 0x5F 0x20) 2 refl refl
 
 get_part_cut_row : Does ready 3
-    (record { header = head 0x00 0xCA 0x5F 0x20; p3 = 2; sent = []; received = 0x5F ∷ 0x20 ∷ []; status = (0x61, 0x03) })
+    (record {
+      header = head 0x00 0xCA 0x5F 0x20;
+      p3 = 2;
+      sent = [];
+      received = 0x5F ∷ 0x20
+          ∷ [];
+      status = (0x61, 0x03);
+    })
     (card (entries_with name) (Some aid) (ResponsePending (0x03 ∷ name)))
 get_part_cut_row = sends (head 0x00 0xCA 0x5F 0x20) 2 refl refl
 
@@ -242,7 +324,14 @@ done = record { status = (0x90, 0x00); content = [] }
 
 -- 00DA5F2002 AABB: 9000
 put_row : Does ready 256
-    (record { header = head 0x00 0xDA 0x5F 0x20; p3 = 2; sent = 0xAA ∷ 0xBB ∷ []; received = []; status = (0x90, 0x00) })
+    (record {
+      header = head 0x00 0xDA 0x5F 0x20;
+      p3 = 2;
+      sent = 0xAA ∷ 0xBB
+          ∷ [];
+      received = [];
+      status = (0x90, 0x00);
+    })
     (card (entries_with (0xAA ∷ 0xBB ∷ [])) (Some aid) NothingPending)
 put_row = puts_value (head 0x00 0xDA 0x5F 0x20) (0xAA ∷ 0xBB ∷ []) name_tag done
     (card (entries_with (0xAA ∷ 0xBB ∷ [])) (Some aid) NothingPending) refl refl refl address
@@ -250,40 +339,91 @@ put_row = puts_value (head 0x00 0xDA 0x5F 0x20) (0xAA ∷ 0xBB ∷ []) name_tag 
 
 -- the same, where memory is wanted: 6581, and the entry stays
 put_without_memory_row : Does ready 256
-    (record { header = head 0x00 0xDA 0x5F 0x20; p3 = 2; sent = 0xAA ∷ 0xBB ∷ []; received = []; status = (0x65, 0x81) }) ready
-put_without_memory_row = puts_value (head 0x00 0xDA 0x5F 0x20) (0xAA ∷ 0xBB ∷ []) name_tag (record { status = (0x65, 0x81); content = [] })
-    ready refl refl refl address (wants_memory name_tag (0xAA ∷ 0xBB ∷ []) (entries_with name) refl two_bytes_fit)
+    (record {
+      header = head 0x00 0xDA 0x5F 0x20;
+      p3 = 2;
+      sent = 0xAA ∷ 0xBB
+          ∷ [];
+      received = [];
+      status = (0x65, 0x81);
+    }) ready
+put_without_memory_row = puts_value (head 0x00 0xDA 0x5F 0x20) (0xAA ∷ 0xBB ∷ []) name_tag
+    (record { status = (0x65, 0x81); content = [] })
+    ready refl refl refl address
+    (wants_memory name_tag (0xAA ∷ 0xBB ∷ []) (entries_with name) refl two_bytes_fit)
 
 -- 10DA5F2001 AA: 9000, then 00DA5F2001 BB: 9000
 first_piece_row : Does ready 256
-    (record { header = head 0x10 0xDA 0x5F 0x20; p3 = 1; sent = 0xAA ∷ []; received = []; status = (0x90, 0x00) }) (in_chain (0xAA ∷ []))
+    (record {
+      header = head 0x10 0xDA 0x5F 0x20;
+      p3 = 1;
+      sent = 0xAA
+          ∷ [];
+      received = [];
+      status = (0x90, 0x00);
+    }) (in_chain (0xAA ∷ []))
 first_piece_row = chains (head 0x10 0xDA 0x5F 0x20) (0xAA ∷ []) refl refl refl
 
 last_piece_row : Does (in_chain (0xAA ∷ [])) 256
-    (record { header = head 0x00 0xDA 0x5F 0x20; p3 = 1; sent = 0xBB ∷ []; received = []; status = (0x90, 0x00) })
+    (record {
+      header = head 0x00 0xDA 0x5F 0x20;
+      p3 = 1;
+      sent = 0xBB
+          ∷ [];
+      received = [];
+      status = (0x90, 0x00);
+    })
     (card (entries_with (0xAA ∷ 0xBB ∷ [])) (Some aid) NothingPending)
 last_piece_row = puts_value (head 0x00 0xDA 0x5F 0x20) (0xBB ∷ []) name_tag done
-    (card (entries_with (0xAA ∷ 0xBB ∷ [])) (Some aid) (ChainPending 0x5F 0x20 (0xAA ∷ []))) refl refl refl address
+    (card (entries_with (0xAA ∷ 0xBB ∷ [])) (Some aid) (ChainPending 0x5F 0x20 (0xAA ∷ []))) refl
+    refl refl address
     (stores name_tag (0xAA ∷ 0xBB ∷ []) aid (entries_with name) refl refl two_bytes_fit)
 
 -- 10DA5F2000: an empty chain is pending
 empty_piece_row : Does ready 256
-    (record { header = head 0x10 0xDA 0x5F 0x20; p3 = 0; sent = []; received = []; status = (0x90, 0x00) }) (in_chain [])
+    (record {
+      header = head 0x10 0xDA 0x5F 0x20;
+      p3 = 0;
+      sent = [];
+      received = [];
+      status =
+          (0x90, 0x00);
+    }) (in_chain [])
 empty_piece_row = chains (head 0x10 0xDA 0x5F 0x20) [] refl refl refl
 
 -- 00DA007003 500541: 6A80, since the value of 50 passes the end
 cut_value : AreObjects (0x50 ∷ 0x05 ∷ 0x41 ∷ []) 2 → ⊥
 cut_value objects =
-    let first : IsFirstFault (0x50 ∷ 0x05 ∷ 0x41 ∷ []) 2 0 ValueCut = first_here (0x50 ∷ 0x05 ∷ 0x41 ∷ []) 2 ValueCut (λ e. omega arith)
-    (omega arith, (0x50 ∷ [], 0x05 ∷ [], 0x41 ∷ [], 5, (omega arith, omega arith, omega arith), (omega arith, refl), refl, omega arith)) in
+    let first : IsFirstFault (0x50 ∷ 0x05 ∷ 0x41 ∷ []) 2 0 ValueCut =
+    first_here (0x50 ∷ 0x05 ∷ 0x41 ∷ []) 2 ValueCut (λ e. omega arith) (
+      omega arith,
+      (
+        0x50 ∷ [],
+        0x05 ∷ [],
+        0x41 ∷ [],
+        5,
+        (omega arith, omega arith, omega arith),
+        (omega arith, refl),
+        refl,
+        omega arith,
+      ),
+    ) in
     spelled_has_no_fault (0x50 ∷ 0x05 ∷ 0x41 ∷ []) 2 0 ValueCut objects first.here
 
 template_address : NamesTag (0x70 ∷ []) 0x00 0x70
 template_address = (omega arith, omega arith, omega arith, refl, refl)
 
 wrong_data_row : Does ready 256
-    (record { header = head 0x00 0xDA 0x00 0x70; p3 = 3; sent = 0x50 ∷ 0x05 ∷ 0x41 ∷ []; received = []; status = (0x6A, 0x80) }) ready
-wrong_data_row = puts_value (head 0x00 0xDA 0x00 0x70) (0x50 ∷ 0x05 ∷ 0x41 ∷ []) (0x70 ∷ []) (record { status = (0x6A, 0x80); content = [] })
+    (record {
+      header = head 0x00 0xDA 0x00 0x70;
+      p3 = 3;
+      sent = 0x50 ∷ 0x05 ∷ 0x41
+          ∷ [];
+      received = [];
+      status = (0x6A, 0x80);
+    }) ready
+wrong_data_row = puts_value (head 0x00 0xDA 0x00 0x70) (0x50 ∷ 0x05 ∷ 0x41 ∷ []) (0x70 ∷ [])
+    (record { status = (0x6A, 0x80); content = [] })
     ready refl refl refl template_address
     (does_not_store (0x70 ∷ []) (0x50 ∷ 0x05 ∷ 0x41 ∷ []) (entries_with name) (0x6A, 0x80) refl
     (λ e. let no : 0x6A ≡ 0x90 = ap (λ s. s.0) e in absurd (omega (arith, no)))
@@ -306,7 +446,15 @@ padded_objects = (
     0x00 ∷ [],
     0x81 ∷ 0x01 ∷ [],
     0x00 ∷ [],
-    record { spelled = refl; is_padding = one_zero; is_tag = (omega arith, omega arith, omega arith); is_size = (refl, omega arith, refl); in_depth = omega arith },
+    record {
+      spelled = refl;
+      is_padding = one_zero;
+      is_tag =
+          (omega arith, omega arith, omega arith);
+      is_size = (refl, omega arith, refl);
+      in_depth =
+          omega arith;
+    },
     refl,
     one_zero,
   ),
@@ -316,12 +464,28 @@ abbrev with_template : List Entry
 with_template = entries_with name ++ record { tag = 0x70 ∷ []; value = padded; locked = false } ∷ []
 
 padded_row : Does ready 256
-    (record { header = head 0x00 0xDA 0x00 0x70; p3 = 6; sent = padded; received = []; status = (0x90, 0x00) }) (card with_template (Some aid) NothingPending)
-padded_row = puts_value (head 0x00 0xDA 0x00 0x70) padded (0x70 ∷ []) done (card with_template (Some aid) NothingPending) refl refl refl template_address
-    (stores (0x70 ∷ []) padded aid (entries_with name) refl refl (stored refl (omega arith) (λ kind. padded_objects) (inr (omega arith))))
+    (record {
+      header = head 0x00 0xDA 0x00 0x70;
+      p3 = 6;
+      sent = padded;
+      received = [];
+      status =
+          (0x90, 0x00);
+    }) (card with_template (Some aid) NothingPending)
+padded_row = puts_value (head 0x00 0xDA 0x00 0x70) padded (0x70 ∷ []) done
+    (card with_template (Some aid) NothingPending) refl refl refl template_address
+    (stores (0x70 ∷ []) padded aid (entries_with name) refl refl
+    (stored refl (omega arith) (λ kind. padded_objects) (inr (omega arith))))
 
 get_padded_row : Does (card with_template (Some aid) NothingPending) 256
-    (record { header = head 0x00 0xCA 0x00 0x70; p3 = 8; sent = []; received = 0x70 ∷ 0x06 ∷ padded; status = (0x90, 0x00) })
+    (record {
+      header = head 0x00 0xCA 0x00 0x70;
+      p3 = 8;
+      sent = [];
+      received = 0x70 ∷ 0x06
+          ∷ padded;
+      status = (0x90, 0x00);
+    })
     (card with_template (Some aid) NothingPending)
 get_padded_row = sends (head 0x00 0xCA 0x00 0x70) 8 refl refl
 
@@ -342,7 +506,8 @@ held_in_full = stored refl (omega arith) (λ kind. absurd (cc)) (inl refl)
 
 -- near miss: a put that moves an entry to the end
 abbrev moved : CardState
-moved = card (record { tag = 0x50 ∷ []; value = 0x41 ∷ []; locked = false } ∷ record { tag = name_tag; value = 0x42 ∷ []; locked = false } ∷ []) (Some aid) NothingPending
+moved = card (record { tag = 0x50 ∷ []; value = 0x41 ∷ []; locked = false }
+    ∷ record { tag = name_tag; value = 0x42 ∷ []; locked = false } ∷ []) (Some aid) NothingPending
 
 -- whether 5F20 is the first entry of the first application
 abbrev is_name_first : List Entry → Bool
@@ -355,33 +520,73 @@ name_stands_first (a ∷ others) = is_name_first a.entries
 
 not_moved : (reply : Reply) → Answers ready (Put name_tag (0x42 ∷ [])) reply moved → ⊥
 not_moved reply h = elim (put_leaves ready moved (Put name_tag (0x42 ∷ [])) reply h) [
-  | inl e ↦ let same : false ≡ true = ap (λ state. name_stands_first state.applications) e in absurd (cc)
+  | inl e ↦ let same : false ≡ true = ap (λ state. name_stands_first state.applications) e in
+      absurd (cc)
   | inr w ↦
       let one : aid ≡ w.0 = cc in
-      let put : moved ≡ with_put ready aid name_tag (0x42 ∷ []) = subst (λ x. moved ≡ with_put ready x name_tag (0x42 ∷ [])) (sym one) w.5 in
-      let same : false ≡ true = ap (λ state. name_stands_first state.applications) put in absurd (cc)
+      let put : moved ≡ with_put ready aid name_tag (0x42 ∷ []) =
+      subst (λ x. moved ≡ with_put ready x name_tag (0x42 ∷ [])) (sym one) w.5 in
+      let same : false ≡ true = ap (λ state. name_stands_first state.applications) put in
+      absurd (cc)
 ]
 
 -- near miss: a PUT DATA with CLA 10 that stores its piece
 piece_is_not_stored : (cut : ℕ) → Does ready cut
-    (record { header = head 0x10 0xDA 0x5F 0x20; p3 = 1; sent = 0xAA ∷ []; received = []; status = (0x90, 0x00) })
+    (record {
+      header = head 0x10 0xDA 0x5F 0x20;
+      p3 = 1;
+      sent = 0xAA
+          ∷ [];
+      received = [];
+      status = (0x90, 0x00);
+    })
     (card [] (Some aid) (ChainPending 0x5F 0x20 (0xAA ∷ []))) → ⊥
 piece_is_not_stored cut h =
-    let e = chaining_keeps_applications ready (card [] (Some aid) (ChainPending 0x5F 0x20 (0xAA ∷ []))) cut
-    (record { header = head 0x10 0xDA 0x5F 0x20; p3 = 1; sent = 0xAA ∷ []; received = []; status = (0x90, 0x00) }) h refl in
+    let e = chaining_keeps_applications ready
+    (card [] (Some aid) (ChainPending 0x5F 0x20 (0xAA ∷ []))) cut
+    (record {
+      header = head 0x10 0xDA 0x5F 0x20;
+      p3 = 1;
+      sent = 0xAA
+          ∷ [];
+      received = [];
+      status = (0x90, 0x00);
+    }) h refl in
     let same : false ≡ true = ap name_stands_first e in absurd (cc)
 
 -- near miss: a refused header that moves data
 abbrev moving : Tpdu
-moving = record { header = head 0x10 0xA4 0x04 0x00; p3 = 7; sent = aid; received = []; status = (0x68, 0x84) }
+moving = record {
+  header = head 0x10 0xA4 0x04 0x00;
+  p3 = 7;
+  sent = aid;
+  received = [];
+  status =
+      (0x68, 0x84);
+}
 
 refused_is_not_moved : (cut : ℕ) (new : CardState) → Does ready cut moving new → ⊥
-refused_is_not_moved cut new h = let e = (refused_moves_nothing ready new cut moving (0x68, 0x84) h refl).0 in absurd (cc)
+refused_is_not_moved cut new h = let e =
+    (refused_moves_nothing ready new cut moving (0x68, 0x84) h refl).0 in absurd (cc)
 
 -- near miss: 6A82 that drops the selection
 selection_is_not_dropped : (cut : ℕ) → Does ready cut
-    (record { header = head 0x00 0xA4 0x04 0x00; p3 = 7; sent = other_aid; received = []; status = (0x6A, 0x82) }) fresh → ⊥
+    (record {
+      header = head 0x00 0xA4 0x04 0x00;
+      p3 = 7;
+      sent = other_aid;
+      received = [];
+      status =
+          (0x6A, 0x82);
+    }) fresh → ⊥
 selection_is_not_dropped cut h =
     let e : None ≡ Some aid = not_found_keeps_selection ready fresh cut
-    (record { header = head 0x00 0xA4 0x04 0x00; p3 = 7; sent = other_aid; received = []; status = (0x6A, 0x82) }) h refl in
+    (record {
+      header = head 0x00 0xA4 0x04 0x00;
+      p3 = 7;
+      sent = other_aid;
+      received = [];
+      status =
+          (0x6A, 0x82);
+    }) h refl in
     absurd (cc)

@@ -727,7 +727,8 @@ turn_leads_under Does first old new kept before prepared at stage came taken byt
 
 -- under one cursor the plan that is kept is the one taken last
 same_kept : (old new : Cursor) (takes : Bool) (taken : List Course)
-    → new ≡ (if takes then advanced old else old) → (takes ≡ false → IsTakenLast (plan_kept old) taken)
+    → new ≡ (if takes then advanced old else old)
+    → (takes ≡ false → IsTakenLast (plan_kept old) taken)
     → takes ≡ false → IsTakenLast (plan_kept new) taken
 same_kept old new true taken is last none = absurd (cc)
 same_kept old new false taken is last none = let Kept : Cursor → Type 0 =

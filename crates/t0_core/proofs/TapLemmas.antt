@@ -149,7 +149,8 @@ stands_on said until b false e le says all =
     (says, omega (arith, says.moved_is, le, ltb-false said.moved until e, all))
 
 at_procedure : (said : Said) (from : End) (byte : ℕ) (b : Body) (s : Step)
-    → said.header.ins < 256 → SaysSo said b → IsBetween b → from ≡ Card → (ins_is_valid b.header.ins ≡ false → s ≡ Null)
+    → said.header.ins < 256 → SaysSo said b → IsBetween b → from ≡ Card
+    → (ins_is_valid b.header.ins ≡ false → s ≡ Null)
     → byte ≡ procedure_byte b.header.ins s → IsRead (with_segment b s)
     → Took (Between said) from byte (In_body b) (In_body (with_segment b s))
 at_procedure said from byte b s small says between way nulls is read =
@@ -282,9 +283,11 @@ takes_all (Between said) from byte (In_body b) new range at (inr (inr (between, 
 takes_all (In_data said until) from byte (In_body b) new range at (inl (lt, way, is)) read =
     let P : Front → Type 0 = λ x. Took (In_data said until) from byte (In_body b) x in
     subst P (sym is) (in_data said until from byte b at.0 at.1 at.2 way)
-takes_all (In_data said until) from byte (In_body b) new range at (inr (inl (between, way, others))) read =
+takes_all (In_data said until) from byte (In_body b) new range at
+    (inr (inl (between, way, others))) read =
     absurd (omega (arith, between, at.0.moved_is, at.1, at.2))
-takes_all (In_data said until) from byte (In_body b) new range at (inr (inr (between, way, status, is))) read =
+takes_all (In_data said until) from byte (In_body b) new range at
+    (inr (inr (between, way, status, is))) read =
     absurd (omega (arith, between, at.0.moved_is, at.1, at.2))
 takes_all (After_sw1 said sw1) from byte (After_first b first) new range at goes read = absurd goes
 takes_all (In_opening bytes) from byte (In_body b) new range at goes read = absurd at
@@ -570,7 +573,8 @@ took_data said until from byte b says lt all turn = by_seen said.direction refl
         (inl (omega (arith, lt, all_too, says.moved_is), sender_of from, refl))
         (in_data said until from byte c says_too lt all_too (sender_of from))
 
-    by_count : (v : Bool) → (b.p3 == 0) ≡ v → said.direction ≡ None → b.moved ≡ [] → TakesBody (In_data said until) from byte b
+    by_count : (v : Bool) → (b.p3 == 0) ≡ v → said.direction ≡ None → b.moved ≡ []
+        → TakesBody (In_data said until) from byte b
     by_count true zero_p3 unseen none =
         let may : may_come_from (due.Data (way_of None b.p3)) from ≡ true =
         ap (λ x. may_come_from (due.Data (way_of None x)) from) says.p3_is
@@ -580,7 +584,8 @@ took_data said until from byte b says lt all turn = by_seen said.direction refl
         ∙ ap data_sender (sym (from_the_card b.direction b.p3 some (eqb-true b.p3 0 zero_p3))))
     by_count false more unseen none = turned_round none more
 
-    by_seen : (seen : Option Direction) → said.direction ≡ seen → TakesBody (In_data said until) from byte b
+    by_seen : (seen : Option Direction) → said.direction ≡ seen
+        → TakesBody (In_data said until) from byte b
     by_seen (Some d) is =
         let shows : Shows (Some d) b.direction b.moved =
         let P : Option Direction → Type 0 = λ x. Shows x b.direction b.moved in
@@ -650,7 +655,8 @@ pub hears_none : (p seen : Place) (from : End) (byte : ℕ) (fault : Unheard) �
     → unheard_at p from byte ≡ Some fault → (front new : Front) → TapStandsAt seen front
     → GoesOn front (from, byte) new → IsReadFront new → ⊥
 hears_none p seen from byte fault is range why front new stands goes read =
-    let none = (takes_all p from byte front new (has_byte p range) (stands_inside p seen front is stands) goes
+    let none = (takes_all p from byte front new (has_byte p range)
+    (stands_inside p seen front is stands) goes
     read).none in
     let no : None ≡ Some fault = sym none ∙ why in
     absurd (cc)
@@ -780,7 +786,8 @@ place_in_range (stage.Moving said until) held = held
 place_in_range (stage.AwaitingSecond said sw1) held = held
 
 -- out of turn
-pub out_of_turn : (place : Place) (from : End) (byte : ℕ) → may_come_from (due_at place) from ≡ false
+pub out_of_turn : (place : Place) (from : End) (byte : ℕ) → may_come_from (due_at place) from
+    ≡ false
     → unheard_at place from byte ≡ Some OutOfTurn
 out_of_turn place from byte e = rw e refl
 

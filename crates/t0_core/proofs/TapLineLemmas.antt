@@ -36,7 +36,8 @@ is_of (c ∷ cs) (In_header bytes) d read through = tt
 is_of (c ∷ cs) (In_body b) d read (inl ends) = absurd ends.0
 is_of (c ∷ cs) (In_body b) d read (inr (new, inl moves, through)) =
     let P : Front → Type 0 = λ x. IsOf x d in subst P moves.2 (is_of cs new d read through)
-is_of (c ∷ cs) (In_body b) d read (inr (new, inr (inl (between, way, (s, nulls, byte, is))), through)) =
+is_of (c ∷ cs) (In_body b) d read
+    (inr (new, inr (inl (between, way, (s, nulls, byte, is))), through)) =
     let P : Front → Type 0 = λ x. IsOf x d in
     let later = subst P is (is_of cs new d read through) in
     (later.0, λ to none. all_before b.segments s (later.1 to none))
@@ -122,7 +123,8 @@ hears_through (c ∷ cs) place front d at (inr (new, goes, through)) read small 
     let later = is_of cs new d read through in
     let took = takes_all place c.0 c.1 front new (has_its_byte place front d at here small) at goes
     (of_read new d later) in
-    let rest = hears_through cs (after_hearing place c.0 c.1) new d took.stands through read small in (
+    let rest = hears_through cs (after_hearing place c.0 c.1) new d took.stands through read
+    small in (
       heard_at place c.0 c.1 ∷ rest.0,
       (took.none, refl, rest.1),
       told_more (heard_at place c.0 c.1) front new c rest.0 (d ∷ []) took.makes rest.2,

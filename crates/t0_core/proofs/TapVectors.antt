@@ -20,8 +20,47 @@ two_bytes : HearsInTurn afresh (sent_by Terminal (0x00 ∷ 0xCA ∷ 0x5F ∷ 0x2
       direction = Some FromCard;
       moved = 2;
     }) (0x90, 0x00) ∷ []) afresh
-two_bytes =
-    (refl, refl, (refl, refl, (refl, refl, (refl, refl, (refl, refl, (refl, refl, (refl, refl, (refl, refl, (refl, refl, (refl, refl, (refl, refl, (refl, refl, (refl, refl)))))))))))))
+two_bytes = (
+  refl,
+  refl,
+  (
+    refl,
+    refl,
+    (
+      refl,
+      refl,
+      (
+        refl,
+        refl,
+        (
+          refl,
+          refl,
+          (
+            refl,
+            refl,
+            (
+              refl,
+              refl,
+              (
+                refl,
+                refl,
+                (
+                  refl,
+                  refl,
+                  (
+                    refl,
+                    refl,
+                    (refl, refl, (refl, refl, (refl, refl))),
+                  ),
+                ),
+              ),
+            ),
+          ),
+        ),
+      ),
+    ),
+  ),
+)
 
 -- a body of one data character, of which none has moved
 abbrev open_with : ℕ → ℕ → Said

@@ -37,13 +37,29 @@ information_spelled = (
   0x09 ∷ [],
   (0x84 ∷ 0x07 ∷ []) ++ name,
   [],
-  record { spelled = refl; is_padding = no_padding; is_tag = (omega arith, omega arith, omega arith); is_size = (omega arith, refl); in_depth = omega arith },
+  record {
+    spelled = refl;
+    is_padding = no_padding;
+    is_tag =
+        (omega arith, omega arith, omega arith);
+    is_size = (omega arith, refl);
+    in_depth =
+        omega arith;
+  },
   refl,
   (
     [],
     0x07 ∷ [],
     [],
-    record { spelled = refl; is_padding = no_padding; is_tag = (omega arith, omega arith, omega arith); is_size = (omega arith, refl); in_depth = omega arith },
+    record {
+      spelled = refl;
+      is_padding = no_padding;
+      is_tag =
+          (omega arith, omega arith, omega arith);
+      is_size = (omega arith, refl);
+      in_depth =
+          omega arith;
+    },
     refl,
     no_padding,
   ),
@@ -51,23 +67,41 @@ information_spelled = (
 )
 
 abbrev two_objects : Forest
-two_objects = Primitive (0x5A ∷ []) (0x12 ∷ []) (Primitive (0x9F ∷ 0x02 ∷ []) (0x00 ∷ 0xFF ∷ []) Empty)
+two_objects = Primitive (0x5A ∷ []) (0x12 ∷ [])
+    (Primitive (0x9F ∷ 0x02 ∷ []) (0x00 ∷ 0xFF ∷ []) Empty)
 
-padding_is_not_written : encoding two_objects ≡ 0x5A ∷ 0x01 ∷ 0x12 ∷ 0x9F ∷ 0x02 ∷ 0x02 ∷ 0x00 ∷ 0xFF ∷ []
+padding_is_not_written : encoding two_objects ≡ 0x5A ∷ 0x01 ∷ 0x12 ∷ 0x9F ∷ 0x02 ∷ 0x02 ∷ 0x00
+    ∷ 0xFF ∷ []
 padding_is_not_written = refl
 
-padding_round_objects : Spells two_objects (0x00 ∷ 0x00 ∷ 0x5A ∷ 0x01 ∷ 0x12 ∷ 0x00 ∷ 0x9F ∷ 0x02 ∷ 0x02 ∷ 0x00 ∷ 0xFF ∷ 0x00 ∷ 0x00 ∷ []) 1
+padding_round_objects : Spells two_objects
+    (0x00 ∷ 0x00 ∷ 0x5A ∷ 0x01 ∷ 0x12 ∷ 0x00 ∷ 0x9F ∷ 0x02 ∷ 0x02 ∷ 0x00 ∷ 0xFF ∷ 0x00 ∷ 0x00 ∷ [])
+    1
 padding_round_objects = (
   0 ∷ 0 ∷ [],
   0x01 ∷ [],
   0x00 ∷ 0x9F ∷ 0x02 ∷ 0x02 ∷ 0x00 ∷ 0xFF ∷ 0x00 ∷ 0x00 ∷ [],
-  record { spelled = refl; is_padding = two_zeros; is_tag = (omega arith, omega arith, omega arith); is_size = (omega arith, refl); in_depth = omega arith },
+  record {
+    spelled = refl;
+    is_padding = two_zeros;
+    is_tag = (omega arith, omega arith, omega arith);
+    is_size = (omega arith, refl);
+    in_depth = omega arith;
+  },
   refl,
   (
     0 ∷ [],
     0x02 ∷ [],
     0x00 ∷ 0x00 ∷ [],
-    record { spelled = refl; is_padding = one_zero; is_tag = (omega arith, refl, omega arith, omega arith); is_size = (omega arith, refl); in_depth = omega arith },
+    record {
+      spelled = refl;
+      is_padding = one_zero;
+      is_tag =
+          (omega arith, refl, omega arith, omega arith);
+      is_size = (omega arith, refl);
+      in_depth =
+          omega arith;
+    },
     refl,
     two_zeros,
   ),
@@ -85,13 +119,22 @@ padding_in_a_template = (
   0x02 ∷ [],
   0x00 ∷ 0x00 ∷ [],
   [],
-  record { spelled = refl; is_padding = no_padding; is_tag = (omega arith, omega arith, omega arith); is_size = (omega arith, refl); in_depth = omega arith },
+  record {
+    spelled = refl;
+    is_padding = no_padding;
+    is_tag =
+        (omega arith, omega arith, omega arith);
+    is_size = (omega arith, refl);
+    in_depth =
+        omega arith;
+  },
   refl,
   two_zeros,
   no_padding,
 )
 
-zeros_in_a_primitive : encoding (Primitive (0x50 ∷ []) (0x00 ∷ 0x00 ∷ []) Empty) ≡ 0x50 ∷ 0x02 ∷ 0x00 ∷ 0x00 ∷ []
+zeros_in_a_primitive : encoding (Primitive (0x50 ∷ []) (0x00 ∷ 0x00 ∷ []) Empty) ≡ 0x50 ∷ 0x02
+    ∷ 0x00 ∷ 0x00 ∷ []
 zeros_in_a_primitive = refl
 
 empty_primitive : encoding (Primitive (0x50 ∷ []) [] Empty) ≡ 0x50 ∷ 0x00 ∷ []
@@ -100,7 +143,8 @@ empty_primitive = refl
 empty_template : encoding (nested 1) ≡ 0x70 ∷ 0x00 ∷ []
 empty_template = refl
 
-tag_of_three_bytes : encoding (Primitive (0xDF ∷ 0x81 ∷ 0x01 ∷ []) (0x42 ∷ []) Empty) ≡ 0xDF ∷ 0x81 ∷ 0x01 ∷ 0x01 ∷ 0x42 ∷ []
+tag_of_three_bytes : encoding (Primitive (0xDF ∷ 0x81 ∷ 0x01 ∷ []) (0x42 ∷ []) Empty) ≡ 0xDF ∷ 0x81
+    ∷ 0x01 ∷ 0x01 ∷ 0x42 ∷ []
 tag_of_three_bytes = refl
 
 abbrev one_byte : Forest
@@ -111,7 +155,15 @@ long_length_is_taken = (
   [],
   0x82 ∷ 0x00 ∷ 0x01 ∷ [],
   [],
-  record { spelled = refl; is_padding = no_padding; is_tag = (omega arith, omega arith, omega arith); is_size = (refl, omega arith, omega arith, refl); in_depth = omega arith },
+  record {
+    spelled = refl;
+    is_padding = no_padding;
+    is_tag =
+        (omega arith, omega arith, omega arith);
+    is_size =
+        (refl, omega arith, omega arith, refl);
+    in_depth = omega arith;
+  },
   refl,
   no_padding,
 )
@@ -123,24 +175,40 @@ sixteen_levels : levels (nested 16) ≡ 16
 sixteen_levels = refl
 
 written_sixteen_levels : encoding (nested 16) ≡
-    0x70 ∷ 0x1E ∷ 0x70 ∷ 0x1C ∷ 0x70 ∷ 0x1A ∷ 0x70 ∷ 0x18 ∷ 0x70 ∷ 0x16 ∷ 0x70 ∷ 0x14 ∷ 0x70 ∷ 0x12 ∷ 0x70 ∷ 0x10
-    ∷ 0x70 ∷ 0x0E ∷ 0x70 ∷ 0x0C ∷ 0x70 ∷ 0x0A ∷ 0x70 ∷ 0x08 ∷ 0x70 ∷ 0x06 ∷ 0x70 ∷ 0x04 ∷ 0x70 ∷ 0x02 ∷ 0x70 ∷ 0x00 ∷ []
+    0x70 ∷ 0x1E ∷ 0x70 ∷ 0x1C ∷ 0x70 ∷ 0x1A ∷ 0x70 ∷ 0x18 ∷ 0x70 ∷ 0x16 ∷ 0x70 ∷ 0x14 ∷ 0x70 ∷ 0x12
+    ∷ 0x70 ∷ 0x10
+    ∷ 0x70 ∷ 0x0E ∷ 0x70 ∷ 0x0C ∷ 0x70 ∷ 0x0A ∷ 0x70 ∷ 0x08 ∷ 0x70 ∷ 0x06 ∷ 0x70 ∷ 0x04 ∷ 0x70
+    ∷ 0x02 ∷ 0x70 ∷ 0x00 ∷ []
 written_sixteen_levels = refl
 
 no_object_at_level_17 : (bytes : List ℕ) → Spells (nested 1) bytes 17 → ⊥
-no_object_at_level_17 bytes (p, s, v, more, begins, kind, inner, others) = let deep = begins.in_depth in omega arith
+no_object_at_level_17 bytes (p, s, v, more, begins, kind, inner, others) = let deep =
+    begins.in_depth in omega arith
 
-no_primitive_with_a_constructed_tag : (bytes : List ℕ) → Spells (Primitive (0x70 ∷ []) [] Empty) bytes 1 → ⊥
+no_primitive_with_a_constructed_tag : (bytes : List ℕ)
+    → Spells (Primitive (0x70 ∷ []) [] Empty) bytes 1 → ⊥
 no_primitive_with_a_constructed_tag bytes (p, s, more, begins, kind, others) = cc
 
-zeros_of_a_primitive_are_its_value : Spells (Primitive (0x50 ∷ []) [] Empty) (0x50 ∷ 0x02 ∷ 0x00 ∷ 0x00 ∷ []) 1 → ⊥
+zeros_of_a_primitive_are_its_value : Spells (Primitive (0x50 ∷ []) [] Empty)
+    (0x50 ∷ 0x02 ∷ 0x00 ∷ 0x00 ∷ []) 1 → ⊥
 zeros_of_a_primitive_are_its_value h =
-    let zeros : Spells (Primitive (0x50 ∷ []) (0x00 ∷ 0x00 ∷ []) Empty) (0x50 ∷ 0x02 ∷ 0x00 ∷ 0x00 ∷ []) 1 = (
+    let zeros : Spells (Primitive (0x50 ∷ []) (0x00 ∷ 0x00 ∷ []) Empty)
+    (0x50 ∷ 0x02 ∷ 0x00 ∷ 0x00 ∷ []) 1 = (
       [],
       0x02 ∷ [],
       [],
-      record { spelled = refl; is_padding = no_padding; is_tag = (omega arith, omega arith, omega arith); is_size = (omega arith, refl); in_depth = omega arith },
+      record {
+        spelled = refl;
+        is_padding = no_padding;
+        is_tag =
+            (omega arith, omega arith, omega arith);
+        is_size = (omega arith, refl);
+        in_depth =
+            omega arith;
+      },
       refl,
       no_padding,
     ) in
-    let same = same_forest (Primitive (0x50 ∷ []) [] Empty) (Primitive (0x50 ∷ []) (0x00 ∷ 0x00 ∷ []) Empty) (0x50 ∷ 0x02 ∷ 0x00 ∷ 0x00 ∷ []) 1 h zeros in cc
+    let same = same_forest (Primitive (0x50 ∷ []) [] Empty)
+    (Primitive (0x50 ∷ []) (0x00 ∷ 0x00 ∷ []) Empty) (0x50 ∷ 0x02 ∷ 0x00 ∷ 0x00 ∷ []) 1 h
+    zeros in cc

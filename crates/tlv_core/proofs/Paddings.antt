@@ -13,7 +13,8 @@ tag_front (a ∷ b ∷ c ∷ []) h = (a, b ∷ c ∷ [], refl, omega arith)
 tag_front (a ∷ b ∷ c ∷ d ∷ t) h = absurd h
 
 -- the padding before the first byte that is none
-pub one_padding : (p q r s : List ℕ) (a b : ℕ) → All (λ x. x ≡ 0) p → All (λ x. x ≡ 0) q → 0 < a → 0 < b
+pub one_padding : (p q r s : List ℕ) (a b : ℕ) → All (λ x. x ≡ 0) p → All (λ x. x ≡ 0) q → 0 < a → 0
+    < b
     → p ++ a ∷ r ≡ q ++ b ∷ s → (p ≡ q) × (a ∷ r ≡ b ∷ s)
 one_padding [] [] r s a b hp hq ha hb e = (refl, e)
 one_padding [] (y ∷ q) r s a b hp hq ha hb e =
@@ -22,7 +23,8 @@ one_padding (x ∷ p) [] r s a b hp hq ha hb e =
     let z : x ≡ 0 = All-head (λ y. y ≡ 0) x p hp in let same : x ≡ b = cc in absurd (omega arith)
 one_padding (x ∷ p) (y ∷ q) r s a b hp hq ha hb e =
     let same : (p ≡ q) × (a ∷ r ≡ b ∷ s) =
-    one_padding p q r s a b (All-tail (λ x. x ≡ 0) x p hp) (All-tail (λ x. x ≡ 0) y q hq) ha hb cc in
+    one_padding p q r s a b (All-tail (λ x. x ≡ 0) x p hp) (All-tail (λ x. x ≡ 0) y q hq) ha hb
+    cc in
     let first : x ≡ y = cc in (cc, same.1)
 
 -- nothing but padding holds no byte that is none

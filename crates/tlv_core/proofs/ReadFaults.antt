@@ -12,8 +12,10 @@ one_fault : (f g : TlvFault) → f.place ≡ g.place → f.reason ≡ g.reason �
 one_fault f g place reason i = record { place = place i; reason = reason i }
 
 -- the fault answered is the one first fault
-pub fault_is_first : {X : Type 0} (bytes : List ℕ) (r : Result X ReadFault) (f : TlvFault) → IsErrAnd r (λ e. e ≡ Tlv f)
-    → IsFirstFault bytes 1 f.place f.reason → (fault : TlvFault) → IsErrOf r (Tlv fault) ↔ IsFirstFault bytes 1 fault.place fault.reason
+pub fault_is_first : {X : Type 0} (bytes : List ℕ) (r : Result X ReadFault) (f : TlvFault)
+    → IsErrAnd r (λ e. e ≡ Tlv f)
+    → IsFirstFault bytes 1 f.place f.reason → (fault : TlvFault) → IsErrOf r (Tlv fault)
+    ↔ IsFirstFault bytes 1 fault.place fault.reason
 fault_is_first bytes (Ok x) f h first fault = absurd h
 fault_is_first bytes (Err e) f h first fault = (
   λ is. let same : f ≡ fault = cc in rw (← same) first,
@@ -23,13 +25,21 @@ fault_is_first bytes (Err e) f h first fault = (
 )
 
 -- want of memory is no fault of the bytes
-pub want_is_no_fault : {X : Type 0} (bytes : List ℕ) (r : Result X ReadFault) → IsErrAnd r (λ e. e ≡ OutOfMemory) → AreObjects bytes 1
+pub want_is_no_fault : {X : Type 0} (bytes : List ℕ) (r : Result X ReadFault)
+    → IsErrAnd r (λ e. e ≡ OutOfMemory) → AreObjects bytes 1
     → (fault : TlvFault) → IsErrOf r (Tlv fault) ↔ IsFirstFault bytes 1 fault.place fault.reason
 want_is_no_fault bytes (Ok x) h objects fault = absurd h
-want_is_no_fault bytes (Err e) h objects fault =
-    (λ is. absurd cc, λ first. absurd (spelled_has_no_fault bytes 1 fault.place fault.reason objects first.here))
+want_is_no_fault bytes (Err e) h objects fault = (
+  λ is. absurd cc,
+  λ first. absurd (spelled_has_no_fault bytes 1 fault.place fault.reason objects
+      first.here),
+)
 
 pub forest_is_no_fault : {X : Type 0} (bytes : List ℕ) (x : X) → AreObjects bytes 1
-    → (fault : TlvFault) → IsErrOf (Ok x) (Tlv fault) ↔ IsFirstFault bytes 1 fault.place fault.reason
-forest_is_no_fault bytes x objects fault =
-    (λ is. absurd cc, λ first. absurd (spelled_has_no_fault bytes 1 fault.place fault.reason objects first.here))
+    → (fault : TlvFault) → IsErrOf (Ok x) (Tlv fault)
+    ↔ IsFirstFault bytes 1 fault.place fault.reason
+forest_is_no_fault bytes x objects fault = (
+  λ is. absurd cc,
+  λ first. absurd (spelled_has_no_fault bytes 1 fault.place fault.reason objects
+      first.here),
+)

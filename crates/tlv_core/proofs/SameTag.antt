@@ -16,20 +16,25 @@ one_false true false e p q = cc
 one_false false b e p q = cc
 
 same_to_itself : (xs : List ℕ) → pointwise nat_eq xs xs ≡ true
-same_to_itself xs = elim (cases_Bool (pointwise nat_eq xs xs)) [ inl e ↦ e | inr e ↦ absurd (other_text xs xs (sym e) refl) ]
+same_to_itself xs = elim (cases_Bool (pointwise nat_eq xs xs))
+    [ inl e ↦ e | inr e ↦ absurd (other_text xs xs (sym e) refl) ]
 
-pub tags_same : (s t : List ℕ) → false ≡ not (pointwise nat_eq (padded s) (padded t) && nat_eq (length s) (length t)) → s ≡ t
+pub tags_same : (s t : List ℕ) → false
+    ≡ not (pointwise nat_eq (padded s) (padded t) && nat_eq (length s) (length t)) → s ≡ t
 tags_same s t e =
     let b = both_true (pointwise nat_eq (padded s) (padded t)) (nat_eq (length s) (length t)) e in
-    (fronts_agree s t (replicate (3 - length s) 0) (replicate (3 - length t) 0) (eqb-true (length s) (length t) b.1) (same_text (padded s) (padded t) (sym b.0))).0
+    (fronts_agree s t (replicate (3 - length s) 0) (replicate (3 - length t) 0)
+    (eqb-true (length s) (length t) b.1) (same_text (padded s) (padded t) (sym b.0))).0
 
-pub tags_differ : (s t : List ℕ) → true ≡ not (pointwise nat_eq (padded s) (padded t) && nat_eq (length s) (length t)) → s ≢ t
+pub tags_differ : (s t : List ℕ) → true ≡ not
+    (pointwise nat_eq (padded s) (padded t) && nat_eq (length s) (length t)) → s ≢ t
 tags_differ s t e same =
     one_false (pointwise nat_eq (padded s) (padded t)) (nat_eq (length s) (length t)) e
     (rw same (same_to_itself (padded t))) (rw same (eq-eqb (length t) (length t) refl))
 
 -- `==` on tags is equality of their bytes.
-pub tags_equal : (s t : List ℕ) → (pointwise nat_eq (padded s) (padded t) && nat_eq (length s) (length t)) ≡ true ↔ s ≡ t
+pub tags_equal : (s t : List ℕ)
+    → (pointwise nat_eq (padded s) (padded t) && nat_eq (length s) (length t)) ≡ true ↔ s ≡ t
 tags_equal s t = (
   λ e. tags_same s t (sym (ap not e)),
   λ same. elim (cases_Bool (pointwise nat_eq (padded s) (padded t) && nat_eq (length s) (length t))) [

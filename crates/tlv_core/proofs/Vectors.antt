@@ -94,10 +94,14 @@ no_tag_at_00FF : NamesTag (0xFF ∷ []) 0x00 0xFF → ⊥
 no_tag_at_00FF (low, high, last, first, second) = omega arith
 
 -- 50 81 01 41 between padding is one object 50 = 41.
-padded_object : Spells (Primitive (0x50 ∷ []) (0x41 ∷ []) Empty) (0x00 ∷ 0x50 ∷ 0x81 ∷ 0x01 ∷ 0x41 ∷ 0x00 ∷ []) 1
-padded_object = spells_more (Primitive (0x50 ∷ []) (0x41 ∷ []) Empty) (0x50 ∷ 0x81 ∷ 0x01 ∷ 0x41 ∷ 0x00 ∷ []) 1
-    (spells_primitive (0x50 ∷ 0x81 ∷ 0x01 ∷ 0x41 ∷ 0x00 ∷ []) (0x50 ∷ []) (0x81 ∷ 0x01 ∷ []) (0x41 ∷ []) (0x00 ∷ []) 1 Empty
-    (record { spelled = refl; is_tag = tag_of_one_byte; is_size = (refl, omega arith, refl) }) (omega arith) refl
+padded_object : Spells (Primitive (0x50 ∷ []) (0x41 ∷ []) Empty)
+    (0x00 ∷ 0x50 ∷ 0x81 ∷ 0x01 ∷ 0x41 ∷ 0x00 ∷ []) 1
+padded_object = spells_more (Primitive (0x50 ∷ []) (0x41 ∷ []) Empty)
+    (0x50 ∷ 0x81 ∷ 0x01 ∷ 0x41 ∷ 0x00 ∷ []) 1
+    (spells_primitive (0x50 ∷ 0x81 ∷ 0x01 ∷ 0x41 ∷ 0x00 ∷ []) (0x50 ∷ []) (0x81 ∷ 0x01 ∷ [])
+    (0x41 ∷ []) (0x00 ∷ []) 1 Empty
+    (record { spelled = refl; is_tag = tag_of_one_byte; is_size = (refl, omega arith, refl) })
+    (omega arith) refl
     (spells_more Empty [] 1 All_nil))
 
 template_tag : IsTag (0x70 ∷ [])
@@ -105,33 +109,72 @@ template_tag = (omega arith, omega arith, omega arith)
 
 -- The value of 50 passes the end by four bytes.
 cut_value : IsFirstFault (0x50 ∷ 0x05 ∷ 0x41 ∷ []) 1 0 ValueCut
-cut_value = first_here (0x50 ∷ 0x05 ∷ 0x41 ∷ []) 1 ValueCut (λ e. omega arith)
-    (omega arith, (0x50 ∷ [], 0x05 ∷ [], 0x41 ∷ [], 5, tag_of_one_byte, (omega arith, refl), refl, omega arith))
+cut_value = first_here (0x50 ∷ 0x05 ∷ 0x41 ∷ []) 1 ValueCut (λ e. omega arith) (
+  omega arith,
+  (
+    0x50 ∷ [],
+    0x05 ∷ [],
+    0x41 ∷ [],
+    5,
+    tag_of_one_byte,
+    (omega arith, refl),
+    refl,
+    omega arith,
+  ),
+)
 
 -- The innermost object is at fault, and not the template round it.
 cut_value_in_template : IsFirstFault (0x70 ∷ 0x03 ∷ 0x50 ∷ 0x02 ∷ 0xAA ∷ []) 1 2 ValueCut
 cut_value_in_template =
-    first_in_template (0x70 ∷ 0x03 ∷ 0x50 ∷ 0x02 ∷ 0xAA ∷ []) (0x70 ∷ []) (0x03 ∷ []) (0x50 ∷ 0x02 ∷ 0xAA ∷ []) [] 1 0 ValueCut
-    (record { spelled = refl; is_tag = template_tag; is_size = (omega arith, refl) }) (omega arith) refl
-    (first_here (0x50 ∷ 0x02 ∷ 0xAA ∷ []) 2 ValueCut (λ e. omega arith)
-    (omega arith, (0x50 ∷ [], 0x02 ∷ [], 0xAA ∷ [], 2, tag_of_one_byte, (omega arith, refl), refl, omega arith)))
+    first_in_template (0x70 ∷ 0x03 ∷ 0x50 ∷ 0x02 ∷ 0xAA ∷ []) (0x70 ∷ []) (0x03 ∷ [])
+    (0x50 ∷ 0x02 ∷ 0xAA ∷ []) [] 1 0 ValueCut
+    (record { spelled = refl; is_tag = template_tag; is_size = (omega arith, refl) })
+    (omega arith) refl
+    (first_here (0x50 ∷ 0x02 ∷ 0xAA ∷ []) 2 ValueCut (λ e. omega arith) (
+      omega arith,
+      (
+        0x50 ∷ [],
+        0x02 ∷ [],
+        0xAA ∷ [],
+        2,
+        tag_of_one_byte,
+        (omega arith, refl),
+        refl,
+        omega arith,
+      ),
+    ))
 
 not_the_template : IsFirstFault (0x70 ∷ 0x03 ∷ 0x50 ∷ 0x02 ∷ 0xAA ∷ []) 1 0 ValueCut → ⊥
 not_the_template h =
-    let same = first_faults_agree (0x70 ∷ 0x03 ∷ 0x50 ∷ 0x02 ∷ 0xAA ∷ []) 1 2 0 ValueCut ValueCut cut_value_in_template h in omega (arith, same.0)
+    let same = first_faults_agree (0x70 ∷ 0x03 ∷ 0x50 ∷ 0x02 ∷ 0xAA ∷ []) 1 2 0 ValueCut ValueCut
+    cut_value_in_template h in omega (arith, same.0)
 
 -- A fault after an object and padding.
 cut_value_behind : IsFirstFault (0x50 ∷ 0x01 ∷ 0x41 ∷ 0x00 ∷ 0x50 ∷ 0x02 ∷ 0x41 ∷ []) 1 4 ValueCut
 cut_value_behind =
-    first_past_object (0x50 ∷ 0x01 ∷ 0x41 ∷ 0x00 ∷ 0x50 ∷ 0x02 ∷ 0x41 ∷ []) (0x50 ∷ []) (0x01 ∷ []) (0x41 ∷ []) (0x00 ∷ 0x50 ∷ 0x02 ∷ 0x41 ∷ []) 1 1 ValueCut
-    (record { spelled = refl; is_tag = tag_of_one_byte; is_size = (omega arith, refl) }) (omega arith) (λ is. cc)
+    first_past_object (0x50 ∷ 0x01 ∷ 0x41 ∷ 0x00 ∷ 0x50 ∷ 0x02 ∷ 0x41 ∷ []) (0x50 ∷ []) (0x01 ∷ [])
+    (0x41 ∷ []) (0x00 ∷ 0x50 ∷ 0x02 ∷ 0x41 ∷ []) 1 1 ValueCut
+    (record { spelled = refl; is_tag = tag_of_one_byte; is_size = (omega arith, refl) })
+    (omega arith) (λ is. cc)
     (first_past_padding (0x50 ∷ 0x02 ∷ 0x41 ∷ []) 1 0 ValueCut
-    (first_here (0x50 ∷ 0x02 ∷ 0x41 ∷ []) 1 ValueCut (λ e. omega arith)
-    (omega arith, (0x50 ∷ [], 0x02 ∷ [], 0x41 ∷ [], 2, tag_of_one_byte, (omega arith, refl), refl, omega arith))))
+    (first_here (0x50 ∷ 0x02 ∷ 0x41 ∷ []) 1 ValueCut (λ e. omega arith) (
+      omega arith,
+      (
+        0x50 ∷ [],
+        0x02 ∷ [],
+        0x41 ∷ [],
+        2,
+        tag_of_one_byte,
+        (omega arith, refl),
+        refl,
+        omega arith,
+      ),
+    )))
 
 -- 9F alone ends inside a tag; 9F 80 starts no tag, also where the bytes end there.
 cut_tag : IsFirstFault (0x9F ∷ []) 1 0 TagCut
-cut_tag = first_here (0x9F ∷ []) 1 TagCut (λ e. omega arith) (omega arith, front_cut_first (0x9F ∷ []) (omega arith) (omega arith) refl)
+cut_tag = first_here (0x9F ∷ []) 1 TagCut (λ e. omega arith)
+    (omega arith, front_cut_first (0x9F ∷ []) (omega arith) (omega arith) refl)
 
 no_tag_9F80 : IsFirstFault (0x9F ∷ 0x80 ∷ []) 1 0 TagForm
 no_tag_9F80 =
@@ -143,4 +186,6 @@ half_a_tag_too_deep : IsFirstFault (0x9F ∷ []) 17 0 TooDeep
 half_a_tag_too_deep = first_here (0x9F ∷ []) 17 TooDeep (λ e. omega arith) (omega arith)
 
 not_a_cut_tag : IsFirstFault (0x9F ∷ []) 17 0 TagCut → ⊥
-not_a_cut_tag h = let same = first_faults_agree (0x9F ∷ []) 17 0 0 TooDeep TagCut half_a_tag_too_deep h in let e : TooDeep ≡ TagCut = same.1 in cc
+not_a_cut_tag h = let same = first_faults_agree
+    (0x9F ∷ []) 17 0 0 TooDeep TagCut half_a_tag_too_deep h in let e : TooDeep ≡ TagCut = same.1 in
+    cc

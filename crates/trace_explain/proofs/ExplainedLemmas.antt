@@ -78,7 +78,8 @@ stops_for OutOfMemory given n line place due l events from bytes before told is 
     absurd is
 stops_for (NoDialogue unheard) given n line place due l events from bytes before told is stops n_is
     due_is =
-    let P : Complaint → Type 0 = λ c. StopsRightly (fault.NoDialogue c) line from bytes events before in
+    let P : Complaint → Type 0 = λ c. StopsRightly (fault.NoDialogue c) line from bytes events
+    before in
     subst P (sym is) (
       n_is,
       record {
@@ -144,7 +145,8 @@ explains_before begins from bytes events before e is h begins_is =
 pub as_line : {T : Type 0} (result : Result T ExplainFault) (line : List ℕ) (said : TraceLine)
     (more : List Event) (begins : Bool) (events : List Event) (before : List Told)
     (old new : Explainer) → Says line said → more ≡ events_in old.begins said
-    → begins ≡ begins_then old.begins said → OnOk result (ExplainsMore more begins events before new)
+    → begins ≡ begins_then old.begins said → OnOk result
+    (ExplainsMore more begins events before new)
     → OnOk result (ExplainsLine line events before old new)
 as_line (Err e) line said more begins events before old new says more_is begins_is h = tt
 as_line (Ok x) line said more begins events before old new says more_is begins_is h =
@@ -160,12 +162,15 @@ pub line_stops : {T : Type 0} (result : Result T ExplainFault) (line : List ℕ)
 line_stops (Ok x) line n from bytes given events before old same spells n_is h = tt
 line_stops (Err (fault.BadHex m)) line n from bytes given events before old same spells n_is h =
     absurd h
-line_stops (Err (fault.LineTooLong m)) line n from bytes given events before old same spells n_is h =
+line_stops (Err (fault.LineTooLong m)) line n from bytes given events before old same spells n_is
+    h =
     absurd h
-line_stops (Err (fault.Resumed m c)) line n from bytes given events before old same spells n_is h = tt
+line_stops (Err (fault.Resumed m c)) line n from bytes given events before old same spells n_is h =
+    tt
 line_stops (Err fault.Read) line n from bytes given events before old same spells n_is h = tt
 line_stops (Err fault.Write) line n from bytes given events before old same spells n_is h = tt
-line_stops (Err fault.InputTooLong) line n from bytes given events before old same spells n_is h = tt
+line_stops (Err fault.InputTooLong) line n from bytes given events before old same spells n_is h =
+    tt
 line_stops (Err fault.OutOfMemory) line n from bytes given events before old same spells n_is h = tt
 line_stops (Err (fault.NoDialogue c)) line n from bytes given events before old same spells n_is h =
     let P : List ℕ → Type 0 = λ bs. IsRight c from bs events before in

@@ -218,7 +218,8 @@ heard_last events told old new h c n on last is = split on.goes
           heard = on.now;
           are_told = subst P (sym items_are) (tells_one_more n.heard.items told d t2 n.are_told
               (noted_ends (told_by old.under_way) (turned on.way n.heard.front) d h c
-              (tells_turned (told_by old.under_way) on.way n.heard.front n.under_way) ends ends_so));
+              (tells_turned (told_by old.under_way) on.way n.heard.front n.under_way) ends
+              ends_so));
           under_way = subst Q (sym is) (subst R (sym front_is) tells_nothing);
         }
 
@@ -264,7 +265,8 @@ pub told_more : (before : List Told) (old new : List Tpdu) (whole : Tpdu) (t : T
 told_more before old new whole t more is =
     append_assoc before (map told_by old) (t ∷ [])
     ∙ ap (λ x. before ++ (map told_by old ++ x ∷ [])) (sym is)
-    ∙ ap (λ x. before ++ x) (sym (map-append told_by old (whole ∷ [])) ∙ ap (map told_by) (sym more))
+    ∙ ap (λ x. before ++ x) (sym (map-append told_by old (whole ∷ []))
+    ∙ ap (map told_by) (sym more))
 
 pub heard_told : (events : List Event) (before : List Told) (was now : List Tpdu) (whole : Tpdu)
     (old new : Listener) (h : Heard) (c : Character)

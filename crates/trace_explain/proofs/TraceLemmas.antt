@@ -185,7 +185,8 @@ cut_at line n more = split (slice_index line (length line - 1) == 13) refl
 first_longer : (line left : List ℕ) (n : ℕ) → n < length line
     → (first : List ℕ) × (others : List (List ℕ)) × (lines_from line left ≡ first ∷ others)
     × (n ≤ length first)
-first_longer line [] n more = (line, [], last_line line (ne_eqb (length line) 0 (omega (arith, more))), omega (arith, more))
+first_longer line [] n more =
+    (line, [], last_line line (ne_eqb (length line) 0 (omega (arith, more))), omega (arith, more))
 first_longer line (b ∷ left) n more =
     split (b == 10) refl (first_longer (line ++ b ∷ []) left n
     (omega (arith, length-append line (b ∷ []), more)))

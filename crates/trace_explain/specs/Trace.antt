@@ -85,7 +85,8 @@ abbrev pub IsOver : List ℕ → ExplainFault → Type 0
 IsOver bytes fault.InputTooLong = 67108864 < length bytes
 IsOver bytes other = Unit {0}
 
--- A trace that was explained to its end is no longer than a trace may be, and one that is refused for
+-- A trace that was explained to its end is no longer than a trace may be, and one that is refused
+-- for
 -- its length is longer.
 abbrev pub KeepsLimit : {T : Type 0} → List ℕ → Result T ExplainFault → Type 0
 KeepsLimit bytes (Ok x) = length bytes ≤ 67108864

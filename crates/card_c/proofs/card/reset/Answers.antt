@@ -8,5 +8,6 @@ use Rattle.card_c.proofs.card.reset.Goals as goal
 pub returns : goal.returns
 returns c =
     let e = c.reset.ensures in
-    subst (λ (s : CardSide). Resets s gt_ok (Standing c.reset.new.self c.in-Standing.field-1)) (sym c.in-Standing.is)
+    subst (λ (s : CardSide). Resets s gt_ok (Standing c.reset.new.self c.in-Standing.field-1))
+    (sym c.in-Standing.is)
     (c.reset.new.self, refl, refl, e.card, e.stage, e.led, e.anew, e.led_under)

@@ -8,5 +8,6 @@ use Rattle.card_c.proofs.card.take.Goals as goal
 pub returns-in-Ok : goal.returns-in-Ok
 returns-in-Ok c =
     let e = c.in-Ok.ensures in
-    subst (λ (s : CardSide). Takes c.args.byte s gt_ok (Standing c.take.new.self c.in-Standing.field-1)) (sym c.in-Standing.is)
+    subst (λ (s : CardSide). Takes c.args.byte s gt_ok
+    (Standing c.take.new.self c.in-Standing.field-1)) (sym c.in-Standing.is)
     (inr (c.take.new.self, sym e.listening, refl, refl, e.taken, e.led, e.led_under))

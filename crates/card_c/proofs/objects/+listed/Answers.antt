@@ -40,21 +40,35 @@ listed-count-requires t c =
 pub listing-preserved : goal.listing-preserved
 listing-preserved t c =
     let g = c.in-Some.ensures.steps in
-    past_primitive _ c.listing.list c.next.new.self _ _ c.listing.objects c.put.new.objects _ c.listing.count g.0.0 c.in-Some.object.tag
-    c.in-Some.object.size c.in-Some.object.value c.listing.invariant g.0.1 g.2 (c.in_default-children.ensures.primitive.0 refl)
+    past_primitive _ c.listing.list c.next.new.self _ _ c.listing.objects c.put.new.objects _
+    c.listing.count g.0.0 c.in-Some.object.tag
+    c.in-Some.object.size c.in-Some.object.value c.listing.invariant g.0.1 g.2
+    (c.in_default-children.ensures.primitive.0 refl)
     (put_is _ _ _ _ _ _ _ _ _ _ _ _ c.put.ensures c.record.ensures c.left.ensures g.1)
 
 pub listing-preserved-in-Some-children : goal.listing-preserved-in-Some-children
 listing-preserved-in-Some-children t c =
     let g = c.in-Some.ensures.steps in
     let l = c.listed-count.ensures in
-    past_template _ c.listing.list c.next.new.self _ _ c.listing.objects c.put.new.objects _ _ c.listing.count _ g.0.0 c.in-Some.object.tag
-    c.in-Some.object.size c.in-Some.object.value (c.in-Some.object.level + 1) l.0 c.listing.invariant g.0.1 g.2 (constructed c.in-Some.object.tag (λ no. let e = c.in-Some-children.ensures.primitive.1 no in absurd (cc)))
-    (put_is _ _ _ _ _ _ _ _ _ _ _ _ c.put.ensures c.record.ensures c.left.ensures g.1) (ap (λ (n : ℕ). n + 1) g.1)
-    (inner _ _ _ _ _ _ _ c.in-Some-children.ensures.list.0 c.left.ensures l.1) l.2 l.3 (omega (arith, l.4, c.left.ensures))
+    past_template _ c.listing.list c.next.new.self _ _ c.listing.objects c.put.new.objects _ _
+    c.listing.count _ g.0.0 c.in-Some.object.tag
+    c.in-Some.object.size c.in-Some.object.value
+    (c.in-Some.object.level + 1) l.0 c.listing.invariant g.0.1 g.2
+    (constructed c.in-Some.object.tag
+    (λ no. let e = c.in-Some-children.ensures.primitive.1 no in absurd (cc)))
+    (put_is _ _ _ _ _ _ _ _ _ _ _ _ c.put.ensures c.record.ensures c.left.ensures g.1)
+    (ap (λ (n : ℕ). n + 1) g.1)
+    (inner _ _ _ _ _ _ _ c.in-Some-children.ensures.list.0 c.left.ensures l.1) l.2 l.3
+    (omega (arith, l.4, c.left.ensures))
 
 pub returns : goal.returns
 returns t c =
     let i = c.listing.invariant in
-    let P : List Placed → Type 0 = λ all. Lists c.args.list.bytes (c.args.end - length c.args.list.bytes) c.args.list.level all in
-    (i.done, subst P (append-nil i.done) (i.leads _ (no_object c.in_default.ensures.steps.0 refl)), i.counted, i.filled, omega (arith, i.fits))
+    let P : List Placed → Type 0 = λ all. Lists c.args.list.bytes
+    (c.args.end - length c.args.list.bytes) c.args.list.level all in (
+      i.done,
+      subst P (append-nil i.done) (i.leads _ (no_object c.in_default.ensures.steps.0 refl)),
+      i.counted,
+      i.filled,
+      omega (arith, i.fits),
+    )

@@ -9,6 +9,8 @@ pub returns-in-Err : goal.returns-in-Err
 returns-in-Err c =
     let code = c.in-Err.refusal in let refused = c.in-Err.ensures.refused in
     let plans = c.in-Standing.plans in let end = c.in-Standing.field-0 in
-    subst (λ (z : ℤ). QueuesAtCard c.args.steps.now c.args.cut c.args.side.now z (Standing end plans)) (sym (refused_code c.args.steps.now c.args.cut code refused))
-    (subst (λ (s : CardSide). QueuesAtCard c.args.steps.now c.args.cut s code (Standing end plans)) (sym c.in-Standing.is)
+    subst (λ (z : ℤ). QueuesAtCard c.args.steps.now c.args.cut c.args.side.now z
+    (Standing end plans)) (sym (refused_code c.args.steps.now c.args.cut code refused))
+    (subst (λ (s : CardSide). QueuesAtCard c.args.steps.now c.args.cut s code (Standing end plans))
+    (sym c.in-Standing.is)
     (plans.rest, inr (refused, refl), refl))

@@ -8,7 +8,8 @@ use Rattle.card_c.proofs.send.send.Goals as goal
 pub returns-then-is_agreed : goal.returns-then-is_agreed
 returns-then-is_agreed c =
     let code = c.transmit.result in let next = c.transmit.new.joined in
-    subst (λ (z : ℤ). SendsBytes c.args.bytes.now c.args.side.now z (Joined next)) (sym (as_it_is code c.transmit.type_inv))
+    subst (λ (z : ℤ). SendsBytes c.args.bytes.now c.args.side.now z (Joined next))
+    (sym (as_it_is code c.transmit.type_inv))
     (subst (λ (s : CardSide). SendsBytes c.args.bytes.now s code (Joined next)) (sym c.in-Joined.is)
     (inr (inr (
       c.in-Ok.command,

@@ -8,6 +8,7 @@ use Rattle.card_c.proofs.session.get.Goals as goal
 pub returns-in-Some : goal.returns-in-Some
 returns-in-Some c =
     let code = c.perform.result in let next = c.perform.new.joined in
-    subst (λ (z : ℤ). Gets c.args.number c.args.side.now z (Joined next)) (sym (as_it_is code c.perform.type_inv))
+    subst (λ (z : ℤ). Gets c.args.number c.args.side.now z (Joined next))
+    (sym (as_it_is code c.perform.type_inv))
     (subst (λ (s : CardSide). Gets c.args.number s code (Joined next)) (sym c.in-Joined.is)
     (inr (next, c.in-Some.tag, c.in-Some.ensures, refl, c.perform.ensures)))

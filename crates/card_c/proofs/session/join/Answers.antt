@@ -7,6 +7,13 @@ use Rattle.card_c.proofs.session.join.Goals as goal
 
 pub returns : goal.returns
 returns c =
-    let session : SessionSide = record { session = c.new-2.result; plans = c.new-3.result; answer = None; heard = c.new-4.result } in
+    let session : SessionSide =
+    record {
+      session = c.new-2.result;
+      plans = c.new-3.result;
+      answer = None;
+      heard =
+          c.new-4.result;
+    } in
     subst (λ (s : CardSide). Joins s true (Joined session)) c.in-Standing.ensures.value
     (session, refl, refl, c.new-2.ensures, c.new-3.ensures.items, refl, c.new-4.ensures)

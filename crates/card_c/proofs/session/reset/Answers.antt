@@ -7,5 +7,6 @@ use Rattle.card_c.proofs.session.reset.Goals as goal
 
 pub returns : goal.returns
 returns c =
-    subst (λ (s : CardSide). ResetsSession s gt_ok (Joined c.reset_session.new.joined)) (sym c.in-Joined.is)
+    subst (λ (s : CardSide). ResetsSession s gt_ok (Joined c.reset_session.new.joined))
+    (sym c.in-Joined.is)
     (c.reset_session.new.joined, refl, refl, c.reset_session.ensures)

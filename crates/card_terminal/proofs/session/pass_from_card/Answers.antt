@@ -1,4 +1,4 @@
-use Rattle.std.proofs.Common.{refl, ap, sym, ◌∙◌, inl, inr, length}
+use Rattle.std.proofs.Common.{refl, ap, sym, inl, inr, length}
 use Rattle.std.proofs.lemmas.Result.{err_from_is_err_and}
 use Rattle.t0_core.specs.Plan.{Course}
 use Rattle.card_terminal.specs.ExchangeSide.{so_far}

@@ -11,21 +11,24 @@ returns-in_err-script-clause-stops g c =
     let old = g.W.Write.contents c.args.writer.now in
     fault_passed c.from_residual.result c.in_err-script.field-0.0 (CardStops script old old)
     c.from_residual.ensures.1
-    (stops_unread (DoesAll (Building [] [])) RefusesCardLine (Building [] []) (refl, refl) script old
+    (stops_unread (DoesAll (Building [] [])) RefusesCardLine (Building [] [])
+    (refl, refl) script old
     c.in_err-script.field-0.0 c.in_err-script.ensures.fault
     (λ same. c.in_err-script.ensures.too_long (ap (λ f. Err f) same)))
 
 pub returns-clause-written : goal.returns-clause-written
 returns-clause-written g c =
     on_ok c.carry_out_lines.result _ _
-    (writes_read _ c.in_ok-script.script.items c.as_slice.result.now _ _ c.in_ok-script.ensures.whole
+    (writes_read _ c.in_ok-script.script.items c.as_slice.result.now _ _
+    c.in_ok-script.ensures.whole
     c.as_slice.ensures.value)
     c.carry_out_lines.ensures.written
 
 pub returns-clause-stops : goal.returns-clause-stops
 returns-clause-stops g c =
     let shown = c.as_slice.result.now in
-    let read = subst (λ (l : List ℕ). IfSome (g.R.Read.remaining c.args.reader.now) (λ bytes. l ≡ bytes))
+    let read = subst (λ (l : List ℕ). IfSome (g.R.Read.remaining c.args.reader.now)
+    (λ bytes. l ≡ bytes))
     (sym c.as_slice.ensures.value) c.in_ok-script.ensures.whole in
     faults_more c.carry_out_lines.result _ _
     (λ fault. script_stops (DoesAll (Building [] [])) RefusesCardLine _ shown _ _ fault read)
@@ -38,4 +41,5 @@ returns-in_err-script-clause-limited g c =
 
 pub returns-clause-limited : goal.returns-clause-limited
 returns-clause-limited g c =
-    within_limit _ c.in_ok-script.script.items _ c.in_ok-script.ensures.whole c.in_ok-script.ensures.fits
+    within_limit _ c.in_ok-script.script.items _ c.in_ok-script.ensures.whole
+    c.in_ok-script.ensures.fits

@@ -23,8 +23,10 @@ run_lines-requires g c =
 
 pub returns-in_default-clause-written : goal.returns-in_default-clause-written
 returns-in_default-clause-written g c =
-    only_built c.args.script.now c.of-lines.result c.new-table.result.builder c.build.new.self.builder
-    c.new-table.result.plans.items c.build.new.self.plans.items _ c.of-lines.ensures c.new-table.ensures.builder
+    only_built c.args.script.now c.of-lines.result c.new-table.result.builder
+    c.build.new.self.builder
+    c.new-table.result.plans.items c.build.new.self.plans.items _ c.of-lines.ensures
+    c.new-table.ensures.builder
     c.new-table.ensures.plans (rw c.in_default.is at c.in_ok-first.ensures.ok)
 
 pub returns-clause-written : goal.returns-clause-written
@@ -33,15 +35,20 @@ returns-clause-written g c =
     let begun = first_done c.args.script.now c.of-lines.result c.build.new.lines
     (Building c.new-table.result.builder c.new-table.result.plans.items) c.build.new.self.builder
     c.build.new.self.plans.items c.build.new.number (card_meaning c.in-Some.first)
-    (c.new-end.result, c.over-cursor.result) (c.carry_out.new.end, c.carry_out.new.plans) _ _ c.of-lines.ensures
-    (empty_table c.new-table.result.builder c.new-table.result.plans.items c.new-table.ensures.builder c.new-table.ensures.plans)
+    (c.new-end.result, c.over-cursor.result) (c.carry_out.new.end, c.carry_out.new.plans) _ _
+    c.of-lines.ensures
+    (empty_table c.new-table.result.builder c.new-table.result.plans.items
+    c.new-table.ensures.builder c.new-table.ensures.plans)
     f
-    (is_made c.build.new.self.builder c.in_ok-finish.field-0 c.new-end.result c.over-cursor.result c.in_ok-finish.ensures
-    (ap (λ e. e.stage) c.new-end.ensures.fresh) c.new-end.ensures.led c.new-end.ensures.led_under)
+    (is_made c.build.new.self.builder c.in_ok-finish.field-0 c.new-end.result c.over-cursor.result
+    c.in_ok-finish.ensures
+    (ap (λ e. e.stage) c.new-end.ensures.fresh) c.new-end.ensures.led
+    c.new-end.ensures.led_under)
     (ap (λ (p : Cursor). p.rest) c.over-cursor.ensures ∙ c.deref.ensures.value)
     c.in_ok-carry_out.ensures.written in
     on_ok c.run_lines.result _ _
-    (writes_script c.args.script.now c.build.new.lines c.build.new.number (c.carry_out.new.end, c.carry_out.new.plans)
+    (writes_script c.args.script.now c.build.new.lines c.build.new.number
+    (c.carry_out.new.end, c.carry_out.new.plans)
     (c.run_lines.new.end, c.run_lines.new.plans) _ _ _ begun)
     c.run_lines.ensures.written
 
@@ -51,11 +58,15 @@ returns-clause-stops g c =
     let begun = first_done c.args.script.now c.of-lines.result c.build.new.lines
     (Building c.new-table.result.builder c.new-table.result.plans.items) c.build.new.self.builder
     c.build.new.self.plans.items c.build.new.number (card_meaning c.in-Some.first)
-    (c.new-end.result, c.over-cursor.result) (c.carry_out.new.end, c.carry_out.new.plans) _ _ c.of-lines.ensures
-    (empty_table c.new-table.result.builder c.new-table.result.plans.items c.new-table.ensures.builder c.new-table.ensures.plans)
+    (c.new-end.result, c.over-cursor.result) (c.carry_out.new.end, c.carry_out.new.plans) _ _
+    c.of-lines.ensures
+    (empty_table c.new-table.result.builder c.new-table.result.plans.items
+    c.new-table.ensures.builder c.new-table.ensures.plans)
     f
-    (is_made c.build.new.self.builder c.in_ok-finish.field-0 c.new-end.result c.over-cursor.result c.in_ok-finish.ensures
-    (ap (λ e. e.stage) c.new-end.ensures.fresh) c.new-end.ensures.led c.new-end.ensures.led_under)
+    (is_made c.build.new.self.builder c.in_ok-finish.field-0 c.new-end.result c.over-cursor.result
+    c.in_ok-finish.ensures
+    (ap (λ e. e.stage) c.new-end.ensures.fresh) c.new-end.ensures.led
+    c.new-end.ensures.led_under)
     (ap (λ (p : Cursor). p.rest) c.over-cursor.ensures ∙ c.deref.ensures.value)
     c.in_ok-carry_out.ensures.written in
     faults_more c.run_lines.result _ _
@@ -67,9 +78,12 @@ pub returns-in_err-first-clause-stops : goal.returns-in_err-first-clause-stops
 returns-in_err-first-clause-stops g c =
     let w = g.W.Write.contents c.args.writer.now in
     fault_passed c.from_residual.result c.in_err-first.field-0.0
-    (LinesStop (DoesAll (Building [] [])) RefusesCardLine (lines c.args.script.now) 0 w w) c.from_residual.ensures.1
-    (table_left c.args.script.now c.of-lines.result c.new-table.result.builder c.new-table.result.plans.items w
-    c.in_err-first.field-0.0 c.of-lines.ensures c.new-table.ensures.builder c.new-table.ensures.plans
+    (LinesStop (DoesAll (Building [] [])) RefusesCardLine (lines c.args.script.now) 0 w w)
+    c.from_residual.ensures.1
+    (table_left c.args.script.now c.of-lines.result c.new-table.result.builder
+    c.new-table.result.plans.items w
+    c.in_err-first.field-0.0 c.of-lines.ensures c.new-table.ensures.builder
+    c.new-table.ensures.plans
     (c.in_err-first.ensures.stops w))
 
 pub returns-in_err-finish-clause-stops : goal.returns-in_err-finish-clause-stops
@@ -87,4 +101,5 @@ returns-in_err-carry_out-clause-stops g c =
     fault_passed c.from_residual-in_err-carry_out.result c.in_err-carry_out.field-0.0
     (LinesStop (DoesAll (Building [] [])) RefusesCardLine (lines c.args.script.now) 0 w after)
     c.from_residual-in_err-carry_out.ensures.1
-    (first_left c.args.script.now w after c.in_err-carry_out.field-0.0 c.in_err-carry_out.ensures.fault)
+    (first_left c.args.script.now w after c.in_err-carry_out.field-0.0
+    c.in_err-carry_out.ensures.fault)

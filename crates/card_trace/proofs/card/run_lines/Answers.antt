@@ -12,14 +12,19 @@ loop-line-preserved g c =
     let few : length c.into_iter-line-iterator.result + c.args.number < 2 ^ 63 =
     subst (λ (l : List (List ℕ)). length l + c.args.number < 2 ^ 63)
     (sym c.into_iter-line-iterator.ensures.into_iter_gives) c.requires in
-    one_more_run (c.args.end.now, c.args.plans.now) (c.loop-line.end, c.loop-line.plans) (c.run_line.new.end, c.run_line.new.plans)
-    _ c.loop-line.line-iterator c.next.new.self c.in-Some.line.now c.args.number c.loop-line.number _ _ _ _
-    c.in-Some.ensures.steps few c.saturating_add-number.ensures c.loop-line.invariant c.in_ok-run_line.ensures.written
+    one_more_run (c.args.end.now, c.args.plans.now) (c.loop-line.end, c.loop-line.plans)
+    (c.run_line.new.end, c.run_line.new.plans)
+    _ c.loop-line.line-iterator c.next.new.self c.in-Some.line.now c.args.number c.loop-line.number
+    _ _ _ _
+    c.in-Some.ensures.steps few c.saturating_add-number.ensures c.loop-line.invariant
+    c.in_ok-run_line.ensures.written
 
 pub returns-clause-written : goal.returns-clause-written
 returns-clause-written g c =
-    all_run (c.args.end.now, c.args.plans.now) (c.loop-line.end, c.loop-line.plans) c.args.lines c.into_iter-line-iterator.result c.loop-line.line-iterator _ _ _ _
-    c.into_iter-line-iterator.ensures.into_iter_gives c.in-None.ensures.steps.0 c.loop-line.invariant
+    all_run (c.args.end.now, c.args.plans.now) (c.loop-line.end, c.loop-line.plans) c.args.lines
+    c.into_iter-line-iterator.result c.loop-line.line-iterator _ _ _ _
+    c.into_iter-line-iterator.ensures.into_iter_gives c.in-None.ensures.steps.0
+    c.loop-line.invariant
 
 pub returns-in_err-run_line-clause-stops : goal.returns-in_err-run_line-clause-stops
 returns-in_err-run_line-clause-stops g c =
@@ -28,6 +33,9 @@ returns-in_err-run_line-clause-stops g c =
     (sym c.into_iter-line-iterator.ensures.into_iter_gives) c.requires in
     fault_passed c.from_residual.result c.in_err-run_line.field-0.0 _ c.from_residual.ensures.1
     (run_stops (c.args.end.now, c.args.plans.now) (c.loop-line.end, c.loop-line.plans) c.args.lines
-    c.into_iter-line-iterator.result c.loop-line.line-iterator c.next.new.self c.in-Some.line.now c.args.number
-    c.loop-line.number _ _ _ _ c.in_err-run_line.field-0.0 c.into_iter-line-iterator.ensures.into_iter_gives
-    c.in-Some.ensures.steps few c.saturating_add-number.ensures c.loop-line.invariant c.in_err-run_line.ensures.fault)
+    c.into_iter-line-iterator.result c.loop-line.line-iterator c.next.new.self c.in-Some.line.now
+    c.args.number
+    c.loop-line.number _ _ _ _ c.in_err-run_line.field-0.0
+    c.into_iter-line-iterator.ensures.into_iter_gives
+    c.in-Some.ensures.steps few c.saturating_add-number.ensures c.loop-line.invariant
+    c.in_err-run_line.ensures.fault)

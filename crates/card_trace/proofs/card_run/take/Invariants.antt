@@ -9,6 +9,7 @@ use Rattle.card_trace.proofs.card_run.take.Given as goal
 abbrev pub invariant-loop-character : goal.invariant-loop-character
 invariant-loop-character g l = record {
   led : (plans : Cursor)
-      → LeadOn (l.initial.end, plans) (sent_by Terminal (take l.character-index l.characters)) (l.end, plans);
+      → LeadOn (l.initial.end, plans) (sent_by Terminal (take l.character-index l.characters))
+      (l.end, plans);
   unwritten : l.writer ≡ l.initial.writer;
 }

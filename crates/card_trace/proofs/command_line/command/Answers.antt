@@ -25,8 +25,12 @@ returns c =
     ∙ ap required (ap app_of_fields c.after_help.ensures ∙ ap app_of_fields c.version.ensures
     ∙ ap versioned (ap app_of_fields c.about.ensures ∙ c.new.ensures.app)) in
     let first : app_of c.in_ok-subcommand.field-0 ≡ with_subcommand alone play_shape =
-    c.in_ok-subcommand.ensures.shape c.of_scripts.ensures.local ∙ ap₂ with_subcommand base (ap top c.of_scripts.ensures.app) in
-    let second : app_of c.in_ok-subcommand-2.field-0 ≡ with_subcommand (with_subcommand alone play_shape) card_shape =
-    c.in_ok-subcommand-2.ensures.shape c.of_scripts-2.ensures.local ∙ ap₂ with_subcommand first (ap top c.of_scripts-2.ensures.app) in
+    c.in_ok-subcommand.ensures.shape c.of_scripts.ensures.local
+    ∙ ap₂ with_subcommand base (ap top c.of_scripts.ensures.app) in
+    let second : app_of c.in_ok-subcommand-2.field-0
+    ≡ with_subcommand (with_subcommand alone play_shape) card_shape =
+    c.in_ok-subcommand-2.ensures.shape c.of_scripts-2.ensures.local
+    ∙ ap₂ with_subcommand first (ap top c.of_scripts-2.ensures.app) in
     IfOk-weaker c.subcommand-3.result _ _
-    (λ r h. h.shape c.in_ok-objects.ensures.local ∙ ap₂ with_subcommand second (ap top c.in_ok-objects.ensures.app)) c.subcommand-3.ensures
+    (λ r h. h.shape c.in_ok-objects.ensures.local
+    ∙ ap₂ with_subcommand second (ap top c.in_ok-objects.ensures.app)) c.subcommand-3.ensures

@@ -8,12 +8,14 @@ use Rattle.card_trace.proofs.main_status.main_status.Goals as goal
 pub returns-in-Err-clause-refused : goal.returns-in-Err-clause-refused
 returns-in-Err-clause-refused g c =
     λ two. let refused = c.answered.ensures.refused two in
-    refused_for (fault_of program (map string_bytes c.args.words.now)) (kind_of c.in-Err.error) c.in-Err.ensures.err refused.0 refused.1
+    refused_for (fault_of program (map string_bytes c.args.words.now))
+    (kind_of c.in-Err.error) c.in-Err.ensures.err refused.0 refused.1
 
 pub returns-in-Ok-clause-stops : goal.returns-in-Ok-clause-stops
 returns-in-Ok-clause-stops g c =
     λ none one. let asked = asked_by c.in-Ok.request in
-    let failed = has_fault c.run.result c.told.result (Stops asked _ _ _) c.told.ensures.success one c.run.ensures.stops in
+    let failed = has_fault c.run.result c.told.result (Stops asked _ _ _) c.told.ensures.success one
+    c.run.ensures.stops in
     (asked, c.in-Ok.ensures.ok.1, failed.0, failed.1)
 
 pub returns-in-Err-clause-stops : goal.returns-in-Err-clause-stops

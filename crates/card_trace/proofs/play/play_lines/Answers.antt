@@ -38,7 +38,8 @@ returns-in_err-player-clause-stops g c =
     let script = g.R.Read.remaining c.args.reader.now in
     let old = g.W.Write.contents c.args.writer.now in
     let new = g.W.Write.contents c.play.new.writer in
-    fault_passed c.from_residual-in_err-player.result c.in_err-player.field-0.0 (PlayStops script old new)
+    fault_passed c.from_residual-in_err-player.result c.in_err-player.field-0.0
+    (PlayStops script old new)
     c.from_residual-in_err-player.ensures.1
     (stops_at _ _ _ c.in-Some.line.now old _ new _ _ _ script items c.in_err-player.field-0.0
     c.in_ok-script.ensures.whole are_lines c.loop-line.invariant c.in-Some.ensures.steps
@@ -62,8 +63,10 @@ returns-in_err-script-clause-limited g c =
 
 pub returns-in_err-player-clause-limited : goal.returns-in_err-player-clause-limited
 returns-in_err-player-clause-limited g c =
-    within_limit _ c.in_ok-script.script.items _ c.in_ok-script.ensures.whole c.in_ok-script.ensures.fits
+    within_limit _ c.in_ok-script.script.items _ c.in_ok-script.ensures.whole
+    c.in_ok-script.ensures.fits
 
 pub returns-clause-limited : goal.returns-clause-limited
 returns-clause-limited g c =
-    within_limit _ c.in_ok-script.script.items _ c.in_ok-script.ensures.whole c.in_ok-script.ensures.fits
+    within_limit _ c.in_ok-script.script.items _ c.in_ok-script.ensures.whole
+    c.in_ok-script.ensures.fits

@@ -15,7 +15,8 @@ loop-character-preserved g c =
           l.run.items c.push.new.self.items c.if-ne.run.items l.from heard w.as_slice.result.now
           l.character-index c.loop-character-test.true (sym c.ne.ensures ∙ w.if-ne.true)
           w.as_slice.ensures.value w.in_ok-push_run.ensures
-          (ap (λ r. r.items) w.run-is ∙ w.clear.ensures.items) c.in_ok-push.ensures.items l.invariant)
+          (ap (λ r. r.items) w.run-is ∙ w.clear.ensures.items) c.in_ok-push.ensures.items
+          l.invariant)
       | else-ne w ↦
           rw (w.from-is, w.text-is) (run_goes_on l.text.items whole l.run.items
           c.push.new.self.items c.if-ne.run.items l.from heard l.character-index

@@ -5,4 +5,10 @@ pub returns-clause-step : goal.returns-clause-step
 returns-clause-step c = stays_sound
 
 pub returns-clause-reset : goal.returns-clause-reset
-returns-clause-reset c = λ state is. record { are_applications = is.are_applications; selected_is_held = tt; is_pending = tt }
+returns-clause-reset c =
+    λ state is. record {
+      are_applications = is.are_applications;
+      selected_is_held = tt;
+      is_pending =
+          tt;
+    }

@@ -6,7 +6,8 @@ use Rattle.object_card.proofs.put_data.put_value.Goals as goal
 
 pub returns-in-Ok : goal.returns-in-Ok
 returns-in-Ok g c =
-    let at_place = slice_get-get_or c.args.applications.now c.args.selected c.index-applications-selected.result c.requires.within in
+    let at_place = slice_get-get_or c.args.applications.now c.args.selected
+    c.index-applications-selected.result c.requires.within in
     let named = sym c.named.ensures ∙ c.unwrap-tag.ensures in
     let put = c.in-Ok.ensures {u = tt} in (
       (get_or c.args.applications.now c.args.selected c.index-applications-selected.result),
@@ -14,16 +15,24 @@ returns-in-Ok g c =
       c.unwrap-tag.result,
       at_place,
       named,
-      slice_get-set c.args.applications.now c.args.selected c.value_to_put.new.application c.requires.within,
+      slice_get-set c.args.applications.now c.args.selected c.value_to_put.new.application
+          c.requires.within,
       put.aid,
       put.entries,
       refl,
-      inl (refl, ap (λ v. Some (c.unwrap-tag.result, v)) put.ok.0, c.status.ensures, put.ok.1, put.ok.2),
+      inl (
+        refl,
+        ap (λ v. Some (c.unwrap-tag.result, v)) put.ok.0,
+        c.status.ensures,
+        put.ok.1,
+        put.ok.2,
+      ),
     )
 
 pub returns-in-Err : goal.returns-in-Err
 returns-in-Err g c =
-    let at_place = slice_get-get_or c.args.applications.now c.args.selected c.index-applications-selected.result c.requires.within in
+    let at_place = slice_get-get_or c.args.applications.now c.args.selected
+    c.index-applications-selected.result c.requires.within in
     let named = sym c.named.ensures ∙ c.unwrap-tag.ensures in
     let put = c.in-Err.ensures {u = tt} in (
       (get_or c.args.applications.now c.args.selected c.index-applications-selected.result),
@@ -31,7 +40,8 @@ returns-in-Err g c =
       c.unwrap-tag.result,
       at_place,
       named,
-      slice_get-set c.args.applications.now c.args.selected c.value_to_put.new.application c.requires.within,
+      slice_get-set c.args.applications.now c.args.selected c.value_to_put.new.application
+          c.requires.within,
       put.aid,
       put.entries,
       refl,

@@ -6,4 +6,5 @@ use Rattle.object_card.proofs.select_command.find.Given as goal
 -- the identifier is none of those that were passed
 abbrev pub invariant-loop-place : goal.invariant-loop-place
 invariant-loop-place g l =
-    entries_in l.aid (applications_of l.applications) ≡ entries_in l.aid (applications_of (drop l.place l.applications))
+    entries_in l.aid (applications_of l.applications)
+    ≡ entries_in l.aid (applications_of (drop l.place l.applications))

@@ -9,53 +9,90 @@ use Rattle.object_card.proofs.verdict.judged.Goals as goal
 
 pub returns-in-Some-clause-judged : goal.returns-in-Some-clause-judged
 returns-in-Some-clause-judged g c = (
-  state_of c.args.view.now.applications.now c.args.view.now.selected (idle c.args.view.now.chain.now.limit) c.kept-response.result,
+  state_of c.args.view.now.applications.now c.args.view.now.selected
+      (idle c.args.view.now.chain.now.limit) c.kept-response.result,
   refl,
-  answer.refused_does c.args.view.now.applications.now c.args.view.now.selected c.args.view.now.chain.now c.args.view.now.response c.kept-response.result (record { header = c.args.header; p3 = c.args.p3; cut = c.args.cut }) c.in-Some.status (sym c.refusal.ensures ∙ c.in-Some.is) c.kept-response.ensures,
+  answer.refused_does c.args.view.now.applications.now c.args.view.now.selected
+      c.args.view.now.chain.now c.args.view.now.response c.kept-response.result
+      (record { header = c.args.header; p3 = c.args.p3; cut = c.args.cut }) c.in-Some.status
+      (sym c.refusal.ensures ∙ c.in-Some.is) c.kept-response.ensures,
 )
 
 pub unwrap-response-requires : goal.unwrap-response-requires
 unwrap-response-requires g c =
     let none = (sym c.refusal.ensures ∙ c.in_default.is) in
-    let sending = answer.sends_where (state_of c.args.view.now.applications.now c.args.view.now.selected c.args.view.now.chain.now c.args.view.now.response) c.args.header c.args.p3 none c.if-header-eq-SELECT.false c.if-header-eq-PUT_DATA.false in
-    answer.some_to_send (left_of (entries_at c.args.view.now.applications.now c.args.view.now.selected)) c.to_send-sends.result _ (count c.args.p3) (c.to_send-sends.ensures.left sending)
-    (answer.enough_left (state_of c.args.view.now.applications.now c.args.view.now.selected c.args.view.now.chain.now c.args.view.now.response) c.args.header c.args.p3 none sending) (answer.count_some c.args.p3)
+    let sending = answer.sends_where
+    (state_of c.args.view.now.applications.now c.args.view.now.selected
+    c.args.view.now.chain.now c.args.view.now.response) c.args.header c.args.p3 none
+    c.if-header-eq-SELECT.false c.if-header-eq-PUT_DATA.false in
+    answer.some_to_send
+    (left_of (entries_at c.args.view.now.applications.now c.args.view.now.selected))
+    c.to_send-sends.result _ (count c.args.p3) (c.to_send-sends.ensures.left sending)
+    (answer.enough_left (state_of c.args.view.now.applications.now c.args.view.now.selected
+    c.args.view.now.chain.now c.args.view.now.response) c.args.header c.args.p3 none sending)
+    (answer.count_some c.args.p3)
 
 pub returns-clause-judged : goal.returns-clause-judged
 returns-clause-judged g c =
     let none = (sym c.refusal.ensures ∙ c.in_default.is) in
-    let sending = answer.sends_where (state_of c.args.view.now.applications.now c.args.view.now.selected c.args.view.now.chain.now c.args.view.now.response) c.args.header c.args.p3 none c.if-header-eq-SELECT.false c.if-header-eq-PUT_DATA.false in
-    let whole = answer.to_send_is (left_of (entries_at c.args.view.now.applications.now c.args.view.now.selected)) c.to_send-sends.result c.unwrap-response.result _ c.unwrap-response.ensures (c.to_send-sends.ensures.left sending) in (
+    let sending = answer.sends_where
+    (state_of c.args.view.now.applications.now c.args.view.now.selected
+    c.args.view.now.chain.now c.args.view.now.response) c.args.header c.args.p3 none
+    c.if-header-eq-SELECT.false c.if-header-eq-PUT_DATA.false in
+    let whole = answer.to_send_is
+    (left_of (entries_at c.args.view.now.applications.now c.args.view.now.selected))
+    c.to_send-sends.result c.unwrap-response.result _ c.unwrap-response.ensures
+    (c.to_send-sends.ensures.left sending) in (
       refl,
       omega (
         arith,
-        length-take (count c.args.p3) (left_of (entries_at c.args.view.now.applications.now c.args.view.now.selected) c.unwrap-response.result),
+        length-take (count c.args.p3)
+            (left_of (entries_at c.args.view.now.applications.now
+            c.args.view.now.selected) c.unwrap-response.result),
         ap length whole,
-        answer.enough_left (state_of c.args.view.now.applications.now c.args.view.now.selected c.args.view.now.chain.now c.args.view.now.response) c.args.header c.args.p3 none sending,
+        answer.enough_left (state_of c.args.view.now.applications.now
+            c.args.view.now.selected c.args.view.now.chain.now c.args.view.now.response)
+            c.args.header c.args.p3 none sending,
       ),
     )
 
 pub returns-clause-invalid : goal.returns-clause-invalid
 returns-clause-invalid g c =
     let none = (sym c.refusal.ensures ∙ c.in_default.is) in
-    let sending = answer.sends_where (state_of c.args.view.now.applications.now c.args.view.now.selected c.args.view.now.chain.now c.args.view.now.response) c.args.header c.args.p3 none c.if-header-eq-SELECT.false c.if-header-eq-PUT_DATA.false in
+    let sending = answer.sends_where
+    (state_of c.args.view.now.applications.now c.args.view.now.selected
+    c.args.view.now.chain.now c.args.view.now.response) c.args.header c.args.p3 none
+    c.if-header-eq-SELECT.false c.if-header-eq-PUT_DATA.false in
     λ invalid. answer.valid_sending c.args.header.ins sending invalid
 
 pub returns-clause-permitted : goal.returns-clause-permitted
 returns-clause-permitted g c =
     let none = (sym c.refusal.ensures ∙ c.in_default.is) in
-    let sending = answer.sends_where (state_of c.args.view.now.applications.now c.args.view.now.selected c.args.view.now.chain.now c.args.view.now.response) c.args.header c.args.p3 none c.if-header-eq-SELECT.false c.if-header-eq-PUT_DATA.false in
+    let sending = answer.sends_where
+    (state_of c.args.view.now.applications.now c.args.view.now.selected
+    c.args.view.now.chain.now c.args.view.now.response) c.args.header c.args.p3 none
+    c.if-header-eq-SELECT.false c.if-header-eq-PUT_DATA.false in
     answer.sending_ins c.args.header.ins sending
 
 pub returns-clause-fits : goal.returns-clause-fits
 returns-clause-fits g c =
     let v = c.args.view.now in
     let none = (sym c.refusal.ensures ∙ c.in_default.is) in
-    let sending = answer.sends_where (state_of v.applications.now v.selected v.chain.now v.response) c.args.header c.args.p3 none c.if-header-eq-SELECT.false c.if-header-eq-PUT_DATA.false in
-    let Held : Option Response → Type 0 = λ r. IfSome r (IsResponse (entries_at v.applications.now v.selected)) in (
-      record { taken = none; small = c.ranges.p3.fits; cut_from = c.requires.cut.0; cut_to = c.requires.cut.1 },
+    let sending = answer.sends_where (state_of v.applications.now v.selected v.chain.now v.response)
+    c.args.header c.args.p3 none c.if-header-eq-SELECT.false c.if-header-eq-PUT_DATA.false in
+    let Held : Option Response → Type 0 = λ r. IfSome r
+    (IsResponse (entries_at v.applications.now v.selected)) in (
+      record {
+        taken = none;
+        small = c.ranges.p3.fits;
+        cut_from = c.requires.cut.0;
+        cut_to =
+            c.requires.cut.1;
+      },
       sending,
       subst Held c.unwrap-response.ensures c.to_send-sends.ensures.response,
-      answer.to_send_is (left_of (entries_at v.applications.now v.selected)) c.to_send-sends.result c.unwrap-response.result _ c.unwrap-response.ensures (c.to_send-sends.ensures.left sending),
+      answer.to_send_is (left_of (entries_at v.applications.now v.selected))
+          c.to_send-sends.result c.unwrap-response.result _ c.unwrap-response.ensures
+          (c.to_send-sends.ensures.left sending),
       refl,
     )

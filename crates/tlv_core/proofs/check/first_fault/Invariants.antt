@@ -10,7 +10,12 @@ abbrev pub decreases-reading : goal.decreases-reading
 decreases-reading l = 2 * (length l.bytes - l.place) + l.open
 
 abbrev pub invariant-closing : goal.invariant-closing
-invariant-closing l = record { keeps : Keeps l.ends l.bytes l.level l.open l.place l.end; fewer : l.open ≤ l.initial.open }
+invariant-closing l =
+    record {
+      keeps : Keeps l.ends l.bytes l.level l.open l.place l.end;
+      fewer : l.open
+          ≤ l.initial.open;
+    }
 
 abbrev pub decreases-closing : goal.decreases-closing
 decreases-closing l = l.open

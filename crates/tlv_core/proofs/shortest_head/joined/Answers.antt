@@ -1,10 +1,10 @@
 -- The tag with its padding, and then the length, and what is left of the padding.
-use Rattle.std.proofs.Common.{◌≡◌, ℕ, ◌+◌, ◌-◌, ◌≤◌, List, [], ◌∷◌, ◌++◌, length, take, drop, replicate, refl, sym, subst, ◌∙◌, ap, arith, append_assoc, length-append}
+use Rattle.std.proofs.Common.{◌≡◌, ℕ, ◌+◌, ◌-◌, ◌≤◌, List, [], ◌∷◌, ◌++◌, length, take, drop, replicate, refl, sym, ◌∙◌, ap, arith, append_assoc, length-append}
 use Rattle.std.specs.Prelude.{slice_index_or}
 use Rattle.std.proofs.lemmas.List.{take_at, drop_at, drop-replicate, length-replicate, replicate-append-replicate}
 use borrow.Rule.Slice.PartMut.{put_mid}
 use Rattle.tlv_core.specs.TagForm.{IsTag}
-use Rattle.tlv_core.specs.HeadCells.{padded, IsPaddedHead}
+use Rattle.tlv_core.specs.HeadCells.{padded}
 use Rattle.tlv_core.proofs.shortest_head.joined.Goals as goal
 
 at_most_three : (tag : List ℕ) → IsTag tag → length tag ≤ 3
@@ -82,7 +82,8 @@ returns c =
     let is = c.bytes-place.ensures.tag in
     view (tag ++ size) _ _ (cells tag size _ c.copy_from_slice.new.self c.padded.result _ _ is
     c.padded.ensures place c.copy_from_slice.ensures.after (omega arith)
-    (three c.padded.result (three_long tag _ is c.padded.ensures))) (omega (arith, length-append tag size, place))
+    (three c.padded.result (three_long tag _ is c.padded.ensures)))
+    (omega (arith, length-append tag size, place))
 
 pub invariant_of-result : goal.invariant_of-result
 invariant_of-result c =
@@ -95,5 +96,6 @@ invariant_of-result c =
       fits = omega (arith, place, at_most_three tag is, c.requires);
       is_padded = cells tag size _ c.copy_from_slice.new.self c.padded.result _ _ is
           c.padded.ensures place c.copy_from_slice.ensures.after (omega arith)
-          (three c.padded.result (three_long tag _ is c.padded.ensures)) ∙ ap padded (sym (returns c));
+          (three c.padded.result (three_long tag _ is c.padded.ensures))
+          ∙ ap padded (sym (returns c));
     }

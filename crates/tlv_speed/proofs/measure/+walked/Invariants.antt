@@ -5,4 +5,5 @@ abbrev pub decreases-walked : goal.decreases-walked
 decreases-walked l = l.levels
 
 abbrev pub invariant-loop-object : goal.invariant-loop-object
-invariant-loop-object l = (goal.iterator-loop-object).can_next l.object-iterator × (goal.iterator-loop-object).is_finite l.object-iterator
+invariant-loop-object l = (goal.iterator-loop-object).can_next l.object-iterator
+    × (goal.iterator-loop-object).is_finite l.object-iterator

@@ -10,7 +10,8 @@ returns-then-is_empty-clause-explained c = λ all come.
 pub returns-clause-explained : goal.returns-clause-explained
 returns-clause-explained c = λ all come.
     last_explained c.line.result all c.args.line.now c.args.explainer.now c.line.new.self
-    (sym c.is_empty.ensures ∙ c.if-is_empty.false) come c.line.ensures.counts c.line.ensures.explained
+    (sym c.is_empty.ensures ∙ c.if-is_empty.false) come c.line.ensures.counts
+    c.line.ensures.explained
 
 pub returns-clause-stops : goal.returns-clause-stops
 returns-clause-stops c = λ all come.

@@ -1,4 +1,4 @@
-use Rattle.std.proofs.Common.{◌≡◌, ◌++◌, refl, ap, sym, ◌∙◌}
+use Rattle.std.proofs.Common.{◌++◌, refl, ap, sym, ◌∙◌}
 use Rattle.std.specs.List.{flat_map}
 use Rattle.t0_core.specs.declared.end.End.TheVariants.{Terminal}
 use Rattle.t0_core.specs.declared.host_end.HostTurn.TheVariants.{Sends}

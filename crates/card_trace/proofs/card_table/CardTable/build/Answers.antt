@@ -10,24 +10,30 @@ pub loop-line-preserved : goal.loop-line-preserved
 loop-line-preserved g c =
     one_more_built (Building c.args.self.now.builder c.args.self.now.plans.items)
     (Building c.loop-line.self.builder c.loop-line.self.plans.items)
-    (Building c.take.new.self.builder c.take.new.self.plans.items) c.args.lines.now c.loop-line.lines
-    c.next.new.self c.in-Some.line.now c.args.number.now c.loop-line.number _ c.in-Some.ensures.steps
+    (Building c.take.new.self.builder c.take.new.self.plans.items) c.args.lines.now
+    c.loop-line.lines
+    c.next.new.self c.in-Some.line.now c.args.number.now c.loop-line.number _
+    c.in-Some.ensures.steps
     c.requires c.saturating_add.ensures c.loop-line.invariant
     (rw c.in-Ok-None.field-0-is at c.in-Ok-None.ensures.ok)
 
 pub returns-in-Err-clause-stops : goal.returns-in-Err-clause-stops
 returns-in-Err-clause-stops g c =
     build_stops (Building c.args.self.now.builder c.args.self.now.plans.items)
-    (Building c.loop-line.self.builder c.loop-line.self.plans.items) c.args.lines.now c.loop-line.lines
-    c.next.new.self c.in-Some.line.now c.args.number.now c.loop-line.number _ c.in-Err.refusal c.at.result
+    (Building c.loop-line.self.builder c.loop-line.self.plans.items) c.args.lines.now
+    c.loop-line.lines
+    c.next.new.self c.in-Some.line.now c.args.number.now c.loop-line.number _ c.in-Err.refusal
+    c.at.result
     c.in-Some.ensures.steps c.requires c.saturating_add.ensures c.loop-line.invariant c.at.ensures
     c.in-Err.ensures.refused
 
 pub returns-in-Ok-Some-clause-ok : goal.returns-in-Ok-Some-clause-ok
 returns-in-Ok-Some-clause-ok g c =
     let said = rw c.in-Ok-Some.field-0-is at c.in-Ok-Some.ensures.ok in
-    first_found (Building c.args.self.now.builder c.args.self.now.plans.items) c.loop-line.self.builder
-    c.take.new.self.builder c.loop-line.self.plans.items c.take.new.self.plans.items c.args.lines.now
+    first_found (Building c.args.self.now.builder c.args.self.now.plans.items)
+    c.loop-line.self.builder
+    c.take.new.self.builder c.loop-line.self.plans.items c.take.new.self.plans.items
+    c.args.lines.now
     c.loop-line.lines c.next.new.self c.in-Some.line.now c.args.number.now c.loop-line.number _
     (card_meaning c.in-Ok-Some.said) c.in-Some.ensures.steps c.requires c.saturating_add.ensures
     c.loop-line.invariant said.2 said.3 said.1 said.0

@@ -15,6 +15,8 @@ returns-in_err-add-in-Some-Adds-clause-refused g c =
     fault_passed c.from_residual-in_err-add-in-Some-Adds.result c.in_err-add-in-Some-Adds.field-0.0
     (λ refusal. OnReason refusal (RefusesCardLine (Building tables plans) c.args.line.now))
     c.from_residual-in_err-add-in-Some-Adds.ensures.1
-    (not_added tables plans c.args.line.now (card_meaning c.in-Some-Adds.field-0) (addition_of c.in-Some-Adds.addition)
+    (not_added tables plans c.args.line.now (card_meaning c.in-Some-Adds.field-0)
+    (addition_of c.in-Some-Adds.addition)
     c.in_err-add-in-Some-Adds.field-0.0 (ap card_meaning c.in-Some-Adds.field-0-is)
-    (rw c.in-Some-Adds.is at c.in_ok-read_card_line.ensures.ok) c.in_err-add-in-Some-Adds.ensures.refused)
+    (rw c.in-Some-Adds.is at c.in_ok-read_card_line.ensures.ok)
+    c.in_err-add-in-Some-Adds.ensures.refused)

@@ -39,5 +39,6 @@ returns-in_err-carry_out-in_default-clause-fault g c =
     (IsFaultOfLine (RefusesSaid state said) c.args.number _ _)
     c.from_residual-in_err-carry_out-in_default.ensures.1
     (of_line_more (RefusesSaid running said) (RefusesSaid state said) c.args.number _ _ fault
-    (λ reason. run_refuses state running said reason (is_run_line c.args.said c.in_default.not-Adds))
+    (λ reason. run_refuses state running said reason
+    (is_run_line c.args.said c.in_default.not-Adds))
     c.in_err-carry_out-in_default.ensures.fault)

@@ -19,7 +19,8 @@ pub returns-in-Err-clause-fault : goal.returns-in-Err-clause-fault
 returns-in-Err-clause-fault g c =
     let state = state_of c.args.self in
     of_refusal (λ _. SaysNothing (IsPlayLine c.section.result) c.args.line.now)
-    (RefusesPlayLine state c.args.line.now) c.args.number _ c.in-Err.refusal c.at.result c.at.ensures
+    (RefusesPlayLine state c.args.line.now) c.args.number _ c.in-Err.refusal c.at.result
+    c.at.ensures
     (λ reason. says_nothing state c.args.line.now c.section.result reason c.section.ensures)
     c.in-Err.ensures.refused
 

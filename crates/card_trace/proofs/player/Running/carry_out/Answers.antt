@@ -23,7 +23,8 @@ returns-in-Run-clause-played g c =
     on_ok c.operate.result _ _ (λ h. (
       h.0,
       h.1,
-      plays_as (running_of c.args.self.now) (running_of c.operate.new.self) (Run (operation_of c.in-Run.op))
+      plays_as (running_of c.args.self.now) (running_of c.operate.new.self)
+          (Run (operation_of c.in-Run.op))
           (play_meaning c.args.said) h.0 (ap play_meaning c.in-Run.is) h.2,
     )) c.operate.ensures.played
 
@@ -39,7 +40,8 @@ returns-in-Send-clause-played g c =
     on_ok c.send.result _ _ (λ h. (
       h.0,
       h.1,
-      plays_as (running_of c.args.self.now) (running_of c.send.new.self) (Send c.bytes-in-Send.result.now)
+      plays_as (running_of c.args.self.now) (running_of c.send.new.self)
+          (Send c.bytes-in-Send.result.now)
           (play_meaning c.args.said) h.0 said h.2,
     )) c.send.ensures.played
 
@@ -63,4 +65,5 @@ returns-in-Reset-clause-fault g c =
 pub returns-in-Table-clause-fault : goal.returns-in-Table-clause-fault
 returns-in-Table-clause-fault g c =
     let R = RefusesSaid (running_of c.args.self.now) (play_meaning c.args.said) in
-    faults_more c.write_table.result _ _ (of_writing R c.args.number _ _) c.write_table.ensures.fault
+    faults_more c.write_table.result _ _ (of_writing R c.args.number _ _)
+    c.write_table.ensures.fault

@@ -15,23 +15,28 @@ use Rattle.card_trace.proofs.ScriptRefusalLemmas.{passed_on}
 use Rattle.card_trace.proofs.script.card_line.read_card_line.Goals as goal
 use Rattle.card_trace.proofs.script.card_line.read_card_line.Goals.{in-Adds+in_ok-takes_table_line-in-Adds+in_ok-read_table_line-in-Adds, in-Plan+in_ok-takes_table_line-in-Plan+in_ok-steps-in-Plan+in_ok-read_plan-in-Plan, in_default-keyword+in_ok-said-in_default-keyword}
 
-pub returns-in_err-read_plan-in-Plan-clause-refused : goal.returns-in_err-read_plan-in-Plan-clause-refused
+pub returns-in_err-read_plan-in-Plan-clause-refused :
+    goal.returns-in_err-read_plan-in-Plan-clause-refused
 returns-in_err-read_plan-in-Plan-clause-refused g c =
     let words = words_of c.args.line.now in
     let word = c.in-Some.word.now in
     let rest = words_in c.in-Some.rest.now in
     let k = c.in_ok-keyword.keyword in
-    let is_k = some_of c.of.result k _ (λ x. word ≡ keyword_text x) c.in_ok-keyword.ensures.ok_part c.of.ensures in
+    let is_k = some_of c.of.result k _ (λ x. word ≡ keyword_text x) c.in_ok-keyword.ensures.ok_part
+    c.of.ensures in
     let a = c.in_ok-steps-in-Plan.steps.now in
     let b = c.in_ok-steps-in-Plan.cut.now in
     let P : Reason → Type 0 = λ _. (plan : Course) → IsPlanText a b plan → ⊥ in
-    let Q : Reason → Type 0 = λ _. (words ≢ []) × ((meaning : CardMeaning) → IsCardLine c.args.section words meaning → ⊥) in
-    passed_on c.from_residual-in_err-read_plan-in-Plan.result c.in_err-read_plan-in-Plan.field-0.0 P Q
+    let Q : Reason → Type 0 = λ _. (words ≢ [])
+    × ((meaning : CardMeaning) → IsCardLine c.args.section words meaning → ⊥) in
+    passed_on c.from_residual-in_err-read_plan-in-Plan.result c.in_err-read_plan-in-Plan.field-0.0 P
+    Q
     c.from_residual-in_err-read_plan-in-Plan.ensures.1
     (λ _ none. (
       (λ z. cc (sym c.in-Some.ensures ∙ z)),
       (λ meaning h.
-          let is = keyword_is c.args.section words meaning word rest keyword.Plan c.in-Some.ensures (is_k ∙ ap keyword_text c.in-Plan.is) h in
+          let is = keyword_is c.args.section words meaning word rest keyword.Plan c.in-Some.ensures
+          (is_k ∙ ap keyword_text c.in-Plan.is) h in
           let plan = plan_says meaning rest is.0 is.1 in
           none plan.0 (plan_texts rest a b plan.0 c.in_ok-steps-in-Plan.ensures plan.1)),
     ))
@@ -44,7 +49,8 @@ returns-clause-ok g c =
     let word = c.in-Some.word.now in
     let rest = words_in c.in-Some.rest.now in
     let k = c.in_ok-keyword.keyword in
-    let is_k = some_of c.of.result k _ (λ x. word ≡ keyword_text x) c.in_ok-keyword.ensures.ok_part c.of.ensures in
+    let is_k = some_of c.of.result k _ (λ x. word ≡ keyword_text x) c.in_ok-keyword.ensures.ok_part
+    c.of.ensures in
     let M : CardMeaning → Type 0 = λ meaning. IsCardLine s words meaning in
     elim c.match-keyword.branch [
       | in-Adds+in_ok-takes_table_line-in-Adds+in_ok-read_table_line-in-Adds w ↦
@@ -69,6 +75,7 @@ returns-clause-ok g c =
           let line = w.in_ok-said-in_default-keyword in
           let meaning = card_meaning line.said in
           subst M (sym (ap (λ x. card_meaning x) w.said-is))
-          (says s words meaning word rest k c.in-Some.ensures is_k line.ensures.ok.0 line.ensures.ok.1
+          (says s words meaning word rest k c.in-Some.ensures is_k line.ensures.ok.0
+          line.ensures.ok.1
           (stands_always s (is_card_table_line meaning) line.ensures.ok.2))
     ]

@@ -10,11 +10,13 @@ use Rattle.card_trace.proofs.script.fields.read_value.Goals as goal
 pub returns-in-None-2-clause-refused : goal.returns-in-None-2-clause-refused
 returns-in-None-2-clause-refused g c =
     let text = c.args.text.now in
-    let dash = differs text c.as_slice.result.now c.as_slice.ensures (sym c.eq.ensures ∙ c.if-eq.false) in
+    let dash = differs text c.as_slice.result.now c.as_slice.ensures
+    (sym c.eq.ensures ∙ c.if-eq.false) in
     let P : Reason → Type 0 = λ _. (bytes : List ℕ) → IsHexText text bytes → ⊥ in
     let Q : Reason → Type 0 = λ _. (value : List ℕ) → IsValueText text value → ⊥ in
     refuses_more c.read_hex.result P Q
-    (λ _ none. no_value text (sym c.place_of.ensures ∙ c.in-None-2.is) dash none) c.read_hex.ensures.refused
+    (λ _ none. no_value text (sym c.place_of.ensures ∙ c.in-None-2.is) dash none)
+    c.read_hex.ensures.refused
 
 pub returns-in-Some-clause-ok : goal.returns-in-Some-clause-ok
 returns-in-Some-clause-ok g c =
@@ -23,7 +25,8 @@ returns-in-Some-clause-ok g c =
     let found = sym c.place_of.ensures ∙ c.in-Some.is in
     ok_more c.repeated.result _ _ (λ v h.
     let P : List ℕ → Type 0 = λ back. IsRepeatedText (take star text) back v.items in
-    cut_value text star v.items found (subst P (rest_whole (star + 1) text) h)) c.repeated.ensures.ok
+    cut_value text star v.items found (subst P (rest_whole (star + 1) text) h))
+    c.repeated.ensures.ok
 
 pub returns-in-Some-clause-refused : goal.returns-in-Some-clause-refused
 returns-in-Some-clause-refused g c =
@@ -32,4 +35,5 @@ returns-in-Some-clause-refused g c =
     let found = sym c.place_of.ensures ∙ c.in-Some.is in
     refuses_more c.repeated.result _ _ (λ _ none value h.
     let P : List ℕ → Type 0 = λ back. IsRepeatedText (take star text) back value in
-    none value (subst P (sym (rest_whole (star + 1) text)) (value_cut text star value found h))) c.repeated.ensures.refused
+    none value (subst P (sym (rest_whole (star + 1) text)) (value_cut text star value found h)))
+    c.repeated.ensures.refused

@@ -14,17 +14,21 @@ pub returns-in_err-tag-in-Put-clause-refused : goal.returns-in_err-tag-in-Put-cl
 returns-in_err-tag-in-Put-clause-refused g c =
     let fields = words_in c.args.rest.now in
     let P : Reason → Type 0 = λ _. (tag value : List ℕ) → AreEntryFields fields tag value → ⊥ in
-    let Q : Reason → Type 0 = λ _. (operation : Operation) → operation_keyword operation ≡ c.args.keyword
+    let Q : Reason → Type 0 = λ _. (operation : Operation) → operation_keyword operation
+    ≡ c.args.keyword
     → AreOperationFields operation fields → ⊥ in
-    passed_on c.from_residual-in_err-tag-in-Put.result c.in_err-tag-in-Put.field-0.0 P Q c.from_residual-in_err-tag-in-Put.ensures.1
+    passed_on c.from_residual-in_err-tag-in-Put.result c.in_err-tag-in-Put.field-0.0 P Q
+    c.from_residual-in_err-tag-in-Put.ensures.1
     (λ _ none operation is h.
     let put = put_does operation fields (is ∙ c.in-Put.is) h in
     none put.0 put.1 put.2)
     c.in_err-tag-in-Put.ensures.refused
 
-pub returns-then-bytes-gt-PUT_LIMIT-clause-refused : goal.returns-then-bytes-gt-PUT_LIMIT-clause-refused
+pub returns-then-bytes-gt-PUT_LIMIT-clause-refused :
+    goal.returns-then-bytes-gt-PUT_LIMIT-clause-refused
 returns-then-bytes-gt-PUT_LIMIT-clause-refused g c = λ operation is h.
     let fields = words_in c.args.rest.now in
     let put = put_does operation fields (is ∙ c.in-Put.is) h in
-    let same = same_entry_value fields c.in_ok-tag-in-Put.tag put.0 c.in_ok-tag-in-Put.value put.1 c.in_ok-tag-in-Put.ensures.ok put.2 in
+    let same = same_entry_value fields c.in_ok-tag-in-Put.tag put.0 c.in_ok-tag-in-Put.value put.1
+    c.in_ok-tag-in-Put.ensures.ok put.2 in
     omega (arith, put.3, c.if-bytes-gt-PUT_LIMIT.true, ap (λ x. length x) (c.bytes.ensures ∙ same))

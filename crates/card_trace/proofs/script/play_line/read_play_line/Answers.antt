@@ -18,7 +18,8 @@ returns-clause-ok g c =
     let word = c.in-Some.word.now in
     let rest = words_in c.in-Some.rest.now in
     let k = c.in_ok-keyword.keyword in
-    let is_k = some_of c.of.result k _ (λ x. word ≡ keyword_text x) c.in_ok-keyword.ensures.ok_part c.of.ensures in
+    let is_k = some_of c.of.result k _ (λ x. word ≡ keyword_text x) c.in_ok-keyword.ensures.ok_part
+    c.of.ensures in
     let M : PlayMeaning → Type 0 = λ meaning. IsPlayLine s words meaning in
     elim c.match-keyword.branch [
       | in-Adds+in_ok-takes_table_line-in-Adds+in_ok-read_table_line-in-Adds w ↦
@@ -32,6 +33,7 @@ returns-clause-ok g c =
           let line = w.in_ok-said-in_default-keyword in
           let meaning = play_meaning line.said in
           subst M (sym (ap (λ x. play_meaning x) w.said-is))
-          (says s words meaning word rest k c.in-Some.ensures is_k line.ensures.ok.0 line.ensures.ok.1
+          (says s words meaning word rest k c.in-Some.ensures is_k line.ensures.ok.0
+          line.ensures.ok.1
           (stands_always s (is_play_table_line meaning) line.ensures.ok.2))
     ]

@@ -13,9 +13,11 @@ returns-in_err-value-clause-refused g c =
     let fields = words_in c.args.rest.now in
     let P : Reason → Type 0 = λ _. (value : List ℕ) → IsValueText c.in_ok-tag.value.now value → ⊥ in
     let Q : Reason → Type 0 = λ _. (tag value : List ℕ) → AreEntryFields fields tag value → ⊥ in
-    passed_on c.from_residual-in_err-value.result c.in_err-value.field-0.0 P Q c.from_residual-in_err-value.ensures.1
+    passed_on c.from_residual-in_err-value.result c.in_err-value.field-0.0 P Q
+    c.from_residual-in_err-value.ensures.1
     (λ _ none tag value h.
-    none value (entry_texts fields c.in_ok-tag.tag.now c.in_ok-tag.value.now tag value c.in_ok-tag.ensures h).1)
+    none value (entry_texts fields c.in_ok-tag.tag.now c.in_ok-tag.value.now tag value
+    c.in_ok-tag.ensures h).1)
     c.in_err-value.ensures.refused
 
 pub returns-clause-ok : goal.returns-clause-ok

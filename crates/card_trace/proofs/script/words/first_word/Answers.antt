@@ -8,7 +8,8 @@ use Rattle.card_trace.proofs.script.words.first_word.Goals as goal
 pub returns-in-None : goal.returns-in-None
 returns-in-None c =
     let text = c.without_spaces-text.result.now in
-    let some : length text ≢ 0 = eqb-false (length text) 0 (sym c.is_empty.ensures ∙ c.if-is_empty.false) in
+    let some : length text ≢ 0 = eqb-false (length text) 0
+    (sym c.is_empty.ensures ∙ c.if-is_empty.false) in
     sym c.without_spaces-text.ensures.words
     ∙ last_word text (omega (arith, some)) (sym c.place_of.ensures ∙ c.in-None.is)
 

@@ -7,7 +7,8 @@ use Rattle.object_card.proofs.card.ObjectCard.apps.Goals as goal
 
 pub returns-clause-apps : goal.returns-clause-apps
 returns-clause-apps g c =
-    c.over.ensures ∙ ap (λ (hs : List ApplicationView). map (λ (a : ApplicationView). a.aid) hs) c.deref.ensures.value
+    c.over.ensures ∙ ap (λ (hs : List ApplicationView). map (λ (a : ApplicationView). a.aid) hs)
+    c.deref.ensures.value
     ∙ sym (aids-of c.self.inside.applications.items)
     ∙ ap (λ (v : CardView). map (λ (a : Application). a.aid) v.state.applications) c.self.view_is
 

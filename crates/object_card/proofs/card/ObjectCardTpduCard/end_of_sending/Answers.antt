@@ -16,12 +16,18 @@ invariant_of-self g c =
     let Any : Ask → List ℕ → Type 0 = λ ask bytes. Unit {0} in
     let Sends : CardView → Type 0 = λ v. IsSending v.prepared Any in
     let sends = subst Sends (sym c.self.view_is) c.requires in
-    let Stands : ChainState → Type 0 = λ x. IsStanding held c.self.inside.selected x c.self.inside.response in
-    let Fits : List ApplicationView → Type 0 = λ xs. IsReady xs c.self.inside.selected c.self.inside.chain c.self.inside.response c.sent-ready.result.0 None in
-    let Puts : Option NewValue → Type 0 = λ v. IsReady held c.self.inside.selected c.self.inside.chain c.self.inside.response c.sent-ready.result.0 v in
-    let none = lemmas.sends_put held c.self.inside.selected c.self.inside.chain c.self.inside.response c.self.inside.ready put Any c.self.invariant sends in
+    let Stands : ChainState → Type 0 = λ x. IsStanding held c.self.inside.selected x
+    c.self.inside.response in
+    let Fits : List ApplicationView → Type 0 = λ xs. IsReady xs c.self.inside.selected
+    c.self.inside.chain c.self.inside.response c.sent-ready.result.0 None in
+    let Puts : Option NewValue → Type 0 = λ v. IsReady held c.self.inside.selected
+    c.self.inside.chain c.self.inside.response c.sent-ready.result.0 v in
+    let none = lemmas.sends_put held c.self.inside.selected c.self.inside.chain
+    c.self.inside.response c.self.inside.ready put Any c.self.invariant sends in
     record {
-      standing = subst Stands (sym c.sent-ready.ensures.keeps) (lemmas.sends_standing held c.self.inside.selected c.self.inside.chain c.self.inside.response c.self.inside.ready put Any c.self.invariant sends);
+      standing = subst Stands (sym c.sent-ready.ensures.keeps)
+          (lemmas.sends_standing held c.self.inside.selected c.self.inside.chain
+          c.self.inside.response c.self.inside.ready put Any c.self.invariant sends);
       fits = subst Puts (sym none) (subst Fits c.deref.ensures.value c.sent-ready.ensures.fits);
     }
 
@@ -32,8 +38,10 @@ returns-clause-stands g c =
     let Any : Ask → List ℕ → Type 0 = λ ask bytes. Unit {0} in
     let Sends : CardView → Type 0 = λ v. IsSending v.prepared Any in
     let sends = subst Sends (sym c.self.view_is) c.requires in
-    ap (λ x. state_of held c.self.inside.selected x c.self.inside.response) c.sent-ready.ensures.keeps
-    ∙ lemmas.sends_state held c.self.inside.selected c.self.inside.chain c.self.inside.response c.self.inside.ready put Any sends
+    ap (λ x. state_of held c.self.inside.selected x c.self.inside.response)
+    c.sent-ready.ensures.keeps
+    ∙ lemmas.sends_state held c.self.inside.selected c.self.inside.chain c.self.inside.response
+    c.self.inside.ready put Any sends
     ∙ ap (λ (v : CardView). v.state) c.self.view_is
 
 pub returns-clause-decided : goal.returns-clause-decided
@@ -43,15 +51,27 @@ returns-clause-decided g c =
     let Any : Ask → List ℕ → Type 0 = λ ask bytes. Unit {0} in
     let Sends : CardView → Type 0 = λ v. IsSending v.prepared Any in
     let sends = subst Sends (sym c.self.view_is) c.requires in
-    let none = lemmas.sends_put held c.self.inside.selected c.self.inside.chain c.self.inside.response c.self.inside.ready put Any c.self.invariant sends in
-    let after : List ApplicationView → Option NewValue → Prepared CardState = λ xs v. prepared_of xs c.self.inside.selected c.self.inside.chain c.self.inside.response c.sent-ready.result.0 v in
-    let Decided : CardState → Prepared CardState → Ask → List ℕ → Type 0 = λ s p ask bytes. Decides Does s ask.cut (answered_with ask bytes c.sent-ready.result.1) p in
-    let Was : List ApplicationView → Type 0 = λ xs. IsSending (prepared_of xs c.self.inside.selected c.self.inside.chain c.self.inside.response c.self.inside.ready None)
-    (Decided (state_of xs c.self.inside.selected c.self.inside.chain c.self.inside.response) (after xs None)) in
-    let State : CardState → Type 0 = λ s. IsSending (prepared_of held c.self.inside.selected c.self.inside.chain c.self.inside.response c.self.inside.ready None) (Decided s (after held None)) in
-    let Puts : Option NewValue → Type 0 = λ v. IsSending c.args.self.now.prepared (Decided c.args.self.now.state (after held v)) in
+    let none = lemmas.sends_put held c.self.inside.selected c.self.inside.chain
+    c.self.inside.response c.self.inside.ready put Any c.self.invariant sends in
+    let after : List ApplicationView → Option NewValue → Prepared CardState =
+    λ xs v. prepared_of xs c.self.inside.selected c.self.inside.chain c.self.inside.response
+    c.sent-ready.result.0 v in
+    let Decided : CardState → Prepared CardState → Ask → List ℕ → Type 0 =
+    λ s p ask bytes. Decides Does s ask.cut (answered_with ask bytes c.sent-ready.result.1) p in
+    let Was : List ApplicationView → Type 0 = λ xs. IsSending
+    (prepared_of xs c.self.inside.selected c.self.inside.chain c.self.inside.response
+    c.self.inside.ready None)
+    (Decided (state_of xs c.self.inside.selected c.self.inside.chain c.self.inside.response)
+    (after xs None)) in
+    let State : CardState → Type 0 = λ s. IsSending
+    (prepared_of held c.self.inside.selected c.self.inside.chain c.self.inside.response
+    c.self.inside.ready None) (Decided s (after held None)) in
+    let Puts : Option NewValue → Type 0 = λ v. IsSending c.args.self.now.prepared
+    (Decided c.args.self.now.state (after held v)) in
     let Seen : CardView → Type 0 = λ v. IsSending v.prepared (Decided v.state (after held None)) in
-    let state = lemmas.sends_state held c.self.inside.selected c.self.inside.chain c.self.inside.response c.self.inside.ready put Any sends in
+    let state = lemmas.sends_state held c.self.inside.selected c.self.inside.chain
+    c.self.inside.response c.self.inside.ready put Any sends in
     let here = subst State state (subst Was c.deref.ensures.value c.sent-ready.ensures.decided) in
     subst Puts (sym none) (subst Seen c.self.view_is
-    (lemmas.sends_alone held c.self.inside.selected c.self.inside.chain c.self.inside.response c.self.inside.ready None put (Decided _ (after held None)) here))
+    (lemmas.sends_alone held c.self.inside.selected c.self.inside.chain c.self.inside.response
+    c.self.inside.ready None put (Decided _ (after held None)) here))

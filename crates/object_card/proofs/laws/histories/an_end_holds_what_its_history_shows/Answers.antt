@@ -26,7 +26,8 @@ returns-clause-shown g c = λ first card events stage items part fresh leads byt
     let from = subst IsFresh (sym (m.1 first)) fresh in
     let one = c.events_have_one_cutting.ensures leads.items items (front_characters leads.front)
     part (run_is_of_items g.C.TpduCard.Does g.C.TpduCard.after_reset
-    (g.C.TpduCard.standing first) (g.C.TpduCard.standing card) leads.items leads.runs) into.are_items leads.at_front.is_part
+    (g.C.TpduCard.standing first) (g.C.TpduCard.standing card) leads.items leads.runs)
+    into.are_items leads.at_front.is_part
     into.is_part (subst (AllByRecursion IsByteEvent) leads.events_are bytes)
     (sym leads.events_are ∙ into.all_of_them) in
     let shown = tables_are_shown (m.0 (g.C.TpduCard.standing first))

@@ -1,4 +1,3 @@
-use Rattle.std.proofs.Common.{sym}
 use Rattle.t0_core.specs.HostView.{direction_of, content_of}
 use Rattle.t0_core.proofs.HostLemmas.{seen_at, host_sends}
 use Rattle.t0_core.proofs.host_end.HostEnd.next_data.Goals as goal

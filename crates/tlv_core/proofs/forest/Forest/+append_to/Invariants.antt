@@ -7,4 +7,5 @@ abbrev pub decreases-append_to : goal.decreases-append_to
 decreases-append_to g l = goal.size-append_to g l
 
 abbrev pub invariant-loop-node : goal.invariant-loop-node
-invariant-loop-node g l = l.bytes.items ≡ l.initial.bytes.items ++ encoding (forest_of (take l.node-index l.node-items))
+invariant-loop-node g l = l.bytes.items ≡ l.initial.bytes.items
+    ++ encoding (forest_of (take l.node-index l.node-items))

@@ -8,8 +8,10 @@ use Rattle.card_trace.proofs.script.lines.LinesIterator.next.Goals as goal
 pub returns-in-None-clause-steps : goal.returns-in-None-clause-steps
 returns-in-None-clause-steps c =
     let rest = c.self.inside.rest.now in
-    let some : length rest ≢ 0 = eqb-false (length rest) 0 (sym c.is_empty.ensures ∙ c.if-is_empty.false) in
-    sym c.self.view_is ∙ last_line rest (omega (arith, some)) (sym c.place_of.ensures ∙ c.in-None.is)
+    let some : length rest ≢ 0 = eqb-false (length rest) 0
+    (sym c.is_empty.ensures ∙ c.if-is_empty.false) in
+    sym c.self.view_is ∙ last_line rest (omega (arith, some))
+    (sym c.place_of.ensures ∙ c.in-None.is)
 
 pub returns-in-None-clause-goes : goal.returns-in-None-clause-goes
 returns-in-None-clause-goes c =

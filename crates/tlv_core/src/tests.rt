@@ -261,10 +261,13 @@ fn writes_heads(rt: HostRuntime) {
     has_head(&rt, b"\x50", 255, b"\x50\x81\xFF");
     has_head(&rt, b"\x50", 256, b"\x50\x82\x01\x00");
     has_head(&rt, b"\x5F\x20", 2048, b"\x5F\x20\x82\x08\x00");
+
+    let short = head(tag(&rt, b"\x50"), 127);
+    assert!(rt; short.padded() == [0x50, 0x7F, 0x00, 0x00, 0x00, 0x00]);
 }
 
-/// The tag that P1 and P2 name. Without a clause: what is proved of it is nothing that a test has to
-/// know, and costs each proof that has it at hand.
+/// The tag that P1 and P2 name. Without a clause: what is proved of it is nothing that a test has
+/// to know, and costs each proof that has it at hand.
 fn named(p1: u8, p2: u8) -> Option<ObjectTag> {
     ObjectTag::from_p1p2(p1, p2)
 }

@@ -2,6 +2,7 @@ pub mod UnitLemmas
 pub mod OwnedLemmas
 pub mod ExchangeLemmas
 pub mod EndLemmas
+mod GoneLemmas
 pub mod SessionLemmas
 pub mod LeadsLemmas
 pub mod PrefixLemmas

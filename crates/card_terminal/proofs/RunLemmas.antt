@@ -1,7 +1,6 @@
 -- Operations with a card of data objects: no line fault comes, and talks come one after another.
 use Rattle.std.proofs.Common.{slice_index_or, append-nil, IfOk, Result, Ok, Err, IsOk, MatchResult, map, ◌≡◌, ◌≢◌, ℕ, zero, suc, ◌+◌, ◌-◌, ◌<◌, ◌≤◌, List, [], ◌∷◌, ◌++◌, length, take, drop, ◌⊎◌, ◌↔◌, inl, inr, refl, sym, ap, subst, ◌∙◌, arith, Option, Some, None, IfSome, Bool, true, false, ◌==◌, if◌then◌else◌, append_assoc, length-append}
 use Rattle.std.specs.List.{AllByRecursion, flat_map}
-use Rattle.std.proofs.lemmas.Grind.{flat_map-append}
 use Rattle.apdu_core.specs.declared.header.Header.{Header}
 use Rattle.apdu_core.specs.StatusWord.{StatusWord, count, ok}
 use Rattle.apdu_core.specs.Chaining.{HavePieceSizes, IsPieces, link, with_more, chain_commands}
@@ -13,7 +12,7 @@ use Rattle.t0_core.specs.declared.host_end.HostTurn.TheVariants.{Sends, Done}
 use Rattle.t0_core.specs.declared.line_fault.LineFault.{LineFault}
 use Rattle.t0_core.specs.declared.plan.Step.{Step}
 use Rattle.t0_core.specs.Character.{Character}
-use Rattle.t0_core.specs.Dialogue.{Body, Dialogue, IsDialogue, characters, foreseen, moves}
+use Rattle.t0_core.specs.Dialogue.{Body, Dialogue, characters, foreseen, moves}
 use Rattle.t0_core.specs.Front.{Front, In_header, In_body, After_first, GoesOn, IsFront, EndInLast, brought, from_card}
 use Rattle.t0_core.specs.FrontLaws.{moves-within}
 use Rattle.t0_core.specs.HostSide.{Hosting, IsOpenedBy, HostStandsAt}
@@ -39,9 +38,10 @@ use Rattle.card_terminal.specs.Running.{new_answers, carried_out}
 use Rattle.card_terminal.proofs.FetchLemmas.{Goes, goes_by_runs, goes_sound}
 use Rattle.card_terminal.proofs.LeadsLemmas.{over_turn}
 use Rattle.card_terminal.proofs.SessionLemmas.{some_is}
+use Rattle.card_terminal.proofs.GoneLemmas.{cuts_both, gone_both}
 use Rattle.card_terminal.proofs.BoundLemmas.{so_far_brings, never_stalls}
 use Rattle.card_terminal.proofs.TalkLemmas.{own_talk_answers}
-use Rattle.card_terminal.proofs.TalkListLemmas.{left_after_both, follow_both, runs_both, all_both, runs_stand, AreTakenUpTo, taken_more, taken_to_end, one_more_exchange, talk_more}
+use Rattle.card_terminal.proofs.TalkListLemmas.{runs_stand, AreTakenUpTo, taken_more, taken_to_end, one_more_exchange, talk_more}
 
 -- ---- the plans that are used, and no others
 
@@ -80,18 +80,6 @@ talk_used Does first last plans left operations replies line talk = record {
   dialogues_are = talk.dialogues_are;
   are_talks = talk.are_talks;
 }
-
--- the cuts of some plans, and of those after them
-cuts_both : (n m : ℕ) (plans : List Course) → HaveCuts (take n plans)
-    → HaveCuts (take m (drop n plans)) → HaveCuts (take (n + m) plans)
-cuts_both zero m plans first second = let e : m ≡ 0 + m = omega arith in
-    subst (λ k. HaveCuts (take k plans)) e second
-cuts_both (suc n) m [] first second = let e : suc (n + m) ≡ suc n + m = omega arith in
-    subst (λ k. HaveCuts (take k [])) e tt
-cuts_both (suc n) m (p ∷ plans) first second =
-    let e : suc (n + m) ≡ suc n + m = omega arith in
-    subst (λ k. HaveCuts (take k (p ∷ plans))) e
-    (first.0, cuts_both n m plans first.1 second)
 
 -- what a card whose own states stand for these does, under plans with such cuts
 own_goes : {State : Type 0} (Own : State → ℕ → Tpdu → State → Type 0) (own_reset : State → State)
@@ -200,7 +188,8 @@ never_overflows : {State : Type 0} (Own : State → ℕ → Tpdu → State → T
 never_overflows Own own_reset state_of stands first standing plans since now c sound over =
     let way = over.terminal in
     let ds = so_far over.units over.tried in
-    let goes = own_goes Own own_reset state_of stands first standing ds plans over.runs over.cuts in
+    let goes = own_goes Own own_reset state_of stands first standing ds plans over.gone.runs
+    over.gone.cuts in
     let before = so_far_brings c over.units way.opening way.left over.tried (state_of first)
     (state_of standing) sound way.followed
     (repeats_first way.opening way.left over.tried over.ex.host way.opened_as) goes in
@@ -245,30 +234,6 @@ stays_sound Own own_reset state_of stands first standing plans since now ds curs
     (own_goes Own own_reset state_of stands first standing ds plans gone.runs gone.cuts)
 
 -- ---- one after another
-
--- dialogues that have gone, and others after them
-pub gone_both : {State : Type 0} (Does : State → ℕ → Tpdu → State → Type 0)
-    (first mid last : State) (plans : List Course) (since between now : Hearing)
-    (ds es : List Dialogue) (cursor later : Cursor)
-    → HaveGone Does first plans since ds mid cursor between
-    → HaveGone Does mid cursor.rest between es last later now
-    → HaveGone Does first plans since (ds ++ es) last later now
-gone_both Does first mid last plans since between now ds es cursor later one two =
-    let n = length ds in
-    record {
-      are_dialogues = all_both IsDialogue ds es one.are_dialogues two.are_dialogues;
-      follow = follow_both ds es plans one.follow
-          (subst (λ p. FollowInTurn es p) one.used two.follow);
-      cuts = subst (λ k. HaveCuts (take k plans)) (sym (length-append ds es))
-          (cuts_both n (length es) plans one.cuts
-          (subst (λ p. HaveCuts (take (length es) p)) one.used two.cuts));
-      runs = runs_both Does first mid last ds es plans one.runs
-          (subst (λ p. Runs Does mid es p last) one.used two.runs);
-      used = two.used ∙ ap (λ p. drop (length es) p) one.used ∙ sym (left_after_both ds es plans);
-      hears = subst (λ cs. Hears since cs now) (sym (flat_map-append characters ds es))
-          (hears_more since between now (flat_map characters ds) (flat_map characters es)
-          one.hears two.hears);
-    }
 
 -- Operations that have been carried out: their talk, whose plans have cuts of 1 to 256, is heard.
 pub record HaveCome {State : Type 0} (Does : State → ℕ → Tpdu → State → Type 0) (first : State)

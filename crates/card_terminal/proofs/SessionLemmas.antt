@@ -1,5 +1,5 @@
 -- A character that passes from one end to the other takes both to the same front.
-use Rattle.std.proofs.Common.{◌≡◌, ℕ, zero, suc, ◌+◌, ◌-◌, ◌*◌, ◌<◌, ◌≤◌, List, [], ◌∷◌, ◌++◌, length, take, drop, refl, sym, subst, ◌∙◌, ap, arith, inl, inr, ◌⊎◌, lit<, true, false, Bool, Option, Some, None, Result, Ok, Err, append-nil, append_assoc, length-append, if◌then◌else◌}
+use Rattle.std.proofs.Common.{◌≡◌, ℕ, ◌+◌, ◌-◌, ◌*◌, ◌<◌, ◌≤◌, List, [], ◌∷◌, ◌++◌, length, take, refl, sym, subst, ◌∙◌, ap, arith, inl, inr, ◌⊎◌, lit<, true, false, Bool, Option, Some, None, Result, Ok, Err, length-append, if◌then◌else◌}
 use Rattle.std.specs.Result.{OnOk}
 use Rattle.std.specs.List.{flat_map}
 use Rattle.apdu_core.specs.declared.header.Header.{Header}
@@ -12,12 +12,13 @@ use Rattle.t0_core.specs.declared.line_fault.LineFault.{LineFault}
 use Rattle.t0_core.specs.declared.line_fault.LineFault.TheVariants.{TooLong, Stalled}
 use Rattle.t0_core.specs.declared.direction.Direction.{Direction}
 use Rattle.t0_core.specs.declared.direction.Direction.TheVariants.{ToCard, FromCard}
+use Rattle.t0_core.specs.declared.tpdu_card.TpduCard.{Ghosts}
 use Rattle.t0_core.specs.declared.card_end.Turn.TheVariants as turn
 use Rattle.t0_core.specs.Character.{Character}
-use Rattle.t0_core.specs.Dialogue.{Body, Dialogue, characters, IsDialogue}
-use Rattle.t0_core.specs.Plan.{Course, Cursor, IsCut, plain, plan_kept, advanced, Follows, FollowInTurn}
-use Rattle.t0_core.specs.Meaning.{Tpdu, tpdu_of, Prepared, Runs, received}
-use Rattle.t0_core.specs.Front.{Front, In_header, In_body, After_first, GoesOn, Ends, front_characters, brought, fresh}
+use Rattle.t0_core.specs.Dialogue.{Body, Dialogue, IsDialogue}
+use Rattle.t0_core.specs.Plan.{Course, Cursor, IsCut, plain, plan_kept, advanced, Follows}
+use Rattle.t0_core.specs.Meaning.{Tpdu, tpdu_of, Prepared, received}
+use Rattle.t0_core.specs.Front.{Front, In_header, In_body, After_first, GoesOn, Ends, brought, fresh}
 use Rattle.t0_core.specs.Watch.{Hearing, Hears}
 use Rattle.t0_core.specs.Room.{Room}
 use Rattle.t0_core.specs.HostSide.{Hosting, HostStandsAt, turn_of, fault_of}
@@ -25,74 +26,23 @@ use Rattle.t0_core.specs.HostLaws.{opened, going, unbroken, too_long}
 use Rattle.t0_core.specs.CardSide.{Stage, EndOf, Taking_header, Refusing, Serving, Ending, StandsAt, Advances, IsOnPlan, IsPermitted, PermitsData, SuitsFront, begins_with, listens, takes_plan, with_character, still_to_go}
 use Rattle.t0_core.specs.CardHistory.{under_way}
 use Rattle.t0_core.specs.CardLaws.{begun, answers_on, taken_stays}
+use Rattle.card_terminal.specs.Line as on_line
 use Rattle.t0_core.specs.FrontLaws.{goes_on}
 use Rattle.t0_core.specs.WatchLaws.{hears_more, hears_nothing}
-use Rattle.t0_core.specs.DialogueLaws.{flat_map_last, all_more, ends_with}
+use Rattle.t0_core.specs.DialogueLaws.{ends_with}
 use Rattle.card_terminal.specs.declared.wanted.Wanted.{Wanted}
 use Rattle.card_terminal.specs.declared.wanted.Wanted.TheVariants.{Bytes}
 use Rattle.object_card.specs.CarryingOut.{get_response}
 use Rattle.card_terminal.specs.Gathered.{wanted_by, less, correction_of, after_dialogue, after_unit, fetched_of, fetched_after, Opening, By_command, By_fetch, OpensWith, UnitOf, last_of, unit_data, AreFollowed, Gathers, dialogues_of}
 use Rattle.object_card.specs.OneStep.{Reply}
 use Rattle.card_terminal.specs.Agreed.{IsAgreed}
-use Rattle.card_terminal.specs.Talk.{HaveCuts}
 use Rattle.card_terminal.specs.ExchangeSide.{ExchangeOf, HostAsks, HostSends, HostOpensBy, IsOpenedAs, UnderWay, IsOver, IsBounded, Stall, Continues, so_far, ended_with, exchange_turn, response_limit}
-use Rattle.card_terminal.specs.Conversing.{next_plan, plan_after, IsAtPlan, IsUnderWay, HaveGone, IsFinished, HasStalled, HasOverflown, IsCaused, here, steps_in, is_done, characters_left, most_tpdus}
+use Rattle.card_terminal.specs.Conversing.{next_plan, HaveGone, HasStalled, HasOverflown, IsCaused, here, steps_in, is_done, most_tpdus}
+use Rattle.card_terminal.specs.Line.{Line, Start, line, Begins, left, IsAtPlan, StandsUnder, IsGoing, IsDone, IsOneOf, HasPassed}
+use Rattle.card_terminal.proofs.GoneLemmas.{none_gone, one_gone, gone_both}
 use Rattle.card_terminal.proofs.UnitLemmas.{unit_ends, unit_goes_on, unit_dialogues}
 
 -- ---- plans in turn
-
-plain_after : (n : ℕ) → plan_after n [] ≡ plain
-plain_after zero = refl
-plain_after (suc n) = refl
-
-pub follow_next : (whole : List Dialogue) (plans : List Course) (d : Dialogue)
-    → FollowInTurn whole plans → Follows d (plan_after (length whole) plans)
-    → FollowInTurn (whole ++ d ∷ []) plans
-follow_next [] [] d follow follows = (follows, tt)
-follow_next [] (p ∷ plans) d follow follows = (follows, tt)
-follow_next (e ∷ whole) [] d follow follows =
-    let P : Course → Type 0 = λ p. Follows d p in (
-      follow.0,
-      follow_next whole [] d follow.1
-          (subst P (plain_after (length (e ∷ whole)) ∙ sym (plain_after (length whole))) follows),
-    )
-follow_next (e ∷ whole) (p ∷ plans) d follow follows =
-    (follow.0, follow_next whole plans d follow.1 follows)
-
-pub runs_next : {State : Type 0} (Does : State → ℕ → Tpdu → State → Type 0)
-    (first old new : State) (whole : List Dialogue) (plans : List Course) (d : Dialogue)
-    → Runs Does first whole plans old
-    → Does old (plan_after (length whole) plans).cut (tpdu_of d) new
-    → Runs Does first (whole ++ d ∷ []) plans new
-runs_next {State = State} Does first old new [] [] d runs does =
-    let P : State → Type 0 = λ s. Does s 256 (tpdu_of d) new in (new, subst P runs does, refl)
-runs_next {State = State} Does first old new [] (p ∷ plans) d runs does =
-    let P : State → Type 0 = λ s. Does s p.cut (tpdu_of d) new in (new, subst P runs does, refl)
-runs_next Does first old new (e ∷ whole) [] d runs does =
-    let P : Course → Type 0 = λ p. Does old p.cut (tpdu_of d) new in (
-      runs.0,
-      runs.1,
-      runs_next Does runs.0 old new whole [] d runs.2
-          (subst P (plain_after (length (e ∷ whole)) ∙ sym (plain_after (length whole))) does),
-    )
-runs_next Does first old new (e ∷ whole) (p ∷ plans) d runs does =
-    (runs.0, runs.1, runs_next Does runs.0 old new whole plans d runs.2 does)
-
--- the next plan is taken
-drop_suc : (n : ℕ) (plans : List Course) → drop 1 (drop n plans) ≡ drop (suc n) plans
-drop_suc zero [] = refl
-drop_suc zero (p ∷ plans) = refl
-drop_suc (suc n) [] = refl
-drop_suc (suc n) (p ∷ plans) = drop_suc n plans
-
-drop_one : (n : ℕ) (plans : List Course) → drop 1 (drop n plans) ≡ drop (n + 1) plans
-drop_one n plans = let e : suc n ≡ n + 1 = omega arith in drop_suc n plans
-    ∙ ap (λ k. drop k plans) e
-
-rest_advanced : (rest : List Course) (kept : Option Course)
-    → (advanced (record { rest = rest; kept = kept })).rest ≡ drop 1 rest
-rest_advanced [] kept = refl
-rest_advanced (p ∷ plans) kept = refl
 
 kept_advanced : (rest : List Course) (kept : Option Course)
     → plan_kept (advanced (record { rest = rest; kept = kept })) ≡ next_plan rest
@@ -100,7 +50,8 @@ kept_advanced [] kept = refl
 kept_advanced (p ∷ plans) kept = refl
 
 steps_advanced : (rest : List Course) (kept : Option Course)
-    → steps_in rest ≡ length (next_plan rest).steps + steps_in (drop 1 rest)
+    → steps_in rest ≡ length (next_plan rest).steps
+    + steps_in (advanced (record { rest = rest; kept = kept })).rest
 steps_advanced [] kept = refl
 steps_advanced (p ∷ plans) kept = refl
 
@@ -113,10 +64,10 @@ takes_none_twice (Serving s came) plan takes under = absurd (cc)
 takes_none_twice (Ending status) plan takes under = absurd (cc)
 
 -- what is known of the plan once the card's end has handed out a character
-pub record HasPlan (stage : Stage) (old new : Cursor) (plans : List Course) (n : ℕ) : Type 0 where
-  pub kept : plan_kept new ≡ plan_after n plans
-  pub rest : new.rest ≡ drop (n + 1) plans
-  pub cut : IsCut (plan_after n plans).cut
+pub record HasPlan (stage : Stage) (before old new : Cursor) : Type 0 where
+  pub is : new ≡ advanced before
+  pub kept : plan_kept new ≡ next_plan before.rest
+  pub cut : IsCut (next_plan before.rest).cut
   pub falls : steps_in new.rest + still_to_go stage (plan_kept new) ≤ steps_in old.rest + here
       stage old
 
@@ -137,50 +88,51 @@ header_here (Refusing h p3 status done) cursor plan takes = absurd (cc)
 header_here (Serving s came) cursor plan takes = absurd (cc)
 header_here (Ending status) cursor plan takes = absurd (cc)
 
-pub has_plan : {State : Type 0} (Does : State → ℕ → Tpdu → State → Type 0) (standing : State)
-    (prepared : Prepared State) (stage : Stage) (front : Front) (old new : Cursor)
-    (plans : List Course) (n : ℕ)
-    → listens stage ≡ false →
-    StandsAt Does standing prepared stage (plan_after n plans).cut front
-    → IsAtPlan stage old plans n → new ≡ (if takes_plan stage then advanced old else old)
-    → (takes_plan stage ≡ true → IsCut (plan_kept new).cut) → HasPlan stage old new plans n
-has_plan Does standing prepared stage front old new plans n silent stands at_plan is taken =
+pub has_plan : {C : Type 0} (card : Ghosts C) (before : Cursor) (front : Front) (l : Line C)
+    (new : Cursor) → listens l.end.stage ≡ false → StandsUnder card before front l
+    → new ≡ (if takes_plan l.end.stage then advanced l.cursor else l.cursor)
+    → (takes_plan l.end.stage ≡ true → IsCut (plan_kept new).cut)
+    → HasPlan l.end.stage before l.cursor new
+has_plan card before front l new silent (stands, on, at_plan) is taken =
     by (takes_plan stage) refl at_plan is
   where
-    by : (v : Bool) → takes_plan stage ≡ v → IsAtPlan stage old plans n
-        → new ≡ (if v then advanced old else old) → HasPlan stage old new plans n
-    by true takes (inl (none, rest)) is =
-        let kept : plan_kept new ≡ next_plan old.rest = ap plan_kept is
-        ∙ kept_advanced old.rest old.kept in
-        let left : new.rest ≡ drop 1 old.rest = ap (λ (c : Cursor). c.rest) is
-        ∙ rest_advanced old.rest old.kept in
+    stage : Stage
+    stage = l.end.stage
+
+    by : (v : Bool) → takes_plan stage ≡ v → IsAtPlan stage before l.cursor
+        → new ≡ (if v then advanced l.cursor else l.cursor) → HasPlan stage before l.cursor new
+    by true takes (inl (none, same)) is =
+        let first = is ∙ ap advanced same in
+        let kept : plan_kept new ≡ next_plan before.rest = ap plan_kept first
+        ∙ kept_advanced before.rest before.kept in
         record {
-          kept = kept ∙ ap next_plan rest;
-          rest = left ∙ ap (drop 1) rest ∙ drop_one n plans;
-          cut = subst (λ (p : Course). IsCut p.cut) (kept ∙ ap next_plan rest) (taken takes);
+          is = first;
+          kept = kept;
+          cut = subst (λ (p : Course). IsCut p.cut) kept (taken takes);
           falls = omega (
             arith,
-            header_here stage old (plan_kept new) takes,
+            header_here stage l.cursor (plan_kept new) takes,
             ap (λ (p : Course). length p.steps) kept,
-            ap steps_in left,
-            steps_advanced old.rest old.kept,
+            ap (λ (c : Cursor). steps_in c.rest) first,
+            ap (λ (c : Cursor). steps_in c.rest) same,
+            steps_advanced before.rest before.kept,
           );
         }
-    by true takes (inr (has, rest, kept, cut)) is =
-        absurd (takes_none_twice stage (plan_after n plans) takes has)
-    by false takes (inl (none, rest)) is =
-        absurd (no_plan_twice (plan_after n plans)
-        (sym (answers_on Does standing prepared stage (plan_after n plans).cut
-        (plan_after n plans) front stands silent takes) ∙ none))
-    by false takes (inr (has, rest, kept, cut)) is = record {
-      kept = ap plan_kept is ∙ kept;
-      rest = ap (λ (c : Cursor). c.rest) is ∙ rest;
+    by true takes (inr (has, same, cut)) is =
+        absurd (takes_none_twice stage (next_plan before.rest) takes has)
+    by false takes (inl (none, same)) is =
+        absurd (no_plan_twice (next_plan before.rest)
+        (sym (answers_on card.Does (card.standing l.end.card) (card.prepared l.end.card) stage
+        (next_plan before.rest).cut (next_plan before.rest) front stands silent takes) ∙ none))
+    by false takes (inr (has, same, cut)) is = record {
+      is = is ∙ same;
+      kept = ap plan_kept (is ∙ same) ∙ kept_advanced before.rest before.kept;
       cut = cut;
       falls = omega (
         arith,
         ap (λ (c : Cursor). steps_in c.rest) is,
         ap (λ (c : Cursor). still_to_go stage (plan_kept c)) is,
-        here_begun stage (plan_after n plans) old has,
+        here_begun stage (next_plan before.rest) l.cursor has,
       );
     }
 
@@ -348,279 +300,200 @@ suits Does s p R S host (Ending status) next cut front none host_stands permitte
 
 -- ---- what is heard
 
-hears_front : (since now later : Hearing) (ds : List Dialogue) (front new : Front)
-    (ch : Character) → Hears since (flat_map characters ds ++ front_characters front) now
-    → Hears now (ch ∷ []) later → front_characters new ≡ front_characters front ++ ch ∷ []
-    → Hears since (flat_map characters ds ++ front_characters new) later
-hears_front since now later ds front new ch before this is =
-    let P : List Character → Type 0 = λ cs. Hears since cs later in
-    subst P (append_assoc (flat_map characters ds) (front_characters front) (ch ∷ [])
-    ∙ ap (λ cs. flat_map characters ds ++ cs) (sym is))
-    (hears_more since now later _ (ch ∷ []) before this)
+hears_on : (since now later : Hearing) (came more : List Character) (ch : Character)
+    → Hears since came now → Hears now (ch ∷ []) later → more ≡ came ++ ch ∷ []
+    → Hears since more later
+hears_on since now later came more ch before this is =
+    subst (λ cs. Hears since cs later) (sym is) (hears_more since now later came (ch ∷ []) before this)
 
-hears_end : (since now later : Hearing) (ds : List Dialogue) (front : Front) (d : Dialogue)
-    (ch : Character) → Hears since (flat_map characters ds ++ front_characters front) now
-    → Hears now (ch ∷ []) later → characters d ≡ front_characters front ++ ch ∷ []
-    → Hears since (flat_map characters (ds ++ d ∷ [])) later
-hears_end since now later ds front d ch before this is =
-    let P : List Character → Type 0 = λ cs. Hears since cs later in
-    subst P (append_assoc (flat_map characters ds) (front_characters front) (ch ∷ [])
-    ∙ ap (λ cs. flat_map characters ds ++ cs) (sym is) ∙ sym (flat_map_last characters ds d))
-    (hears_more since now later _ (ch ∷ []) before this)
+never_under : (R S : ℕ → Type 0) (c : Command) (ex : ExchangeOf) (units : List UnitOf)
+    (tried : Option Dialogue) (front : Front) → IsAgreed R S c → UnderWay c ex units tried front
+    → Never R S ex.host.direction ex.host.header.ins
+never_under R S c ex units tried front agreed under =
+    never R S c units under.opening under.left tried ex.host agreed under.followed under.opened_as
 
--- ---- a character of the terminal has passed
+-- a step of the card's end under the plan of its TPDU
+on_its_plan : {State : Type 0} (Does : State → ℕ → Tpdu → State → Type 0) (cut : ℕ)
+    (stage next : Stage) (front : Front) (byte : ℕ) (old new : State) (prepared : Prepared State)
+    (kept plan : Course)
+    → kept ≡ plan → Advances Does cut kept stage front byte old new prepared next
+    → Advances Does cut plan stage front byte old new prepared next
+on_its_plan Does cut stage next front byte old new prepared kept plan is steps = let P : Course
+    → Type 0 = λ k. Advances Does cut k stage front byte old new prepared next in subst P is steps
 
-pub terminal_passed : {C State : Type 0} (Does : State → ℕ → Tpdu → State → Type 0)
-    (R S : ℕ → Type 0) (standing : C → State) (prepared : C → Prepared State) (first : State)
-    (plans : List Course)
-    (since now later : Hearing) (c : Command) (old new : EndOf C) (ex after : ExchangeOf)
-    (cursor : Cursor) (front : Front) (byte : ℕ)
-    (under : IsUnderWay Does R S first plans since c (standing old.card)
-    (prepared old.card) old.stage ex cursor now) → GoesOn under.front (Terminal, byte) front
-    → UnderWay c after under.units under.tried front
-    → StandsAt Does (standing new.card)
-    (prepared new.card) new.stage
-    (plan_after (length (so_far under.units under.tried)) plans).cut front
-    → IsOnPlan new.stage (plan_after (length (so_far under.units under.tried)) plans) front
-    → new.card ≡ old.card → listens old.stage ≡ true → new.stage ≡ with_character old.stage byte
-    → Hears now ((Terminal, byte) ∷ []) later
-    → IsUnderWay Does R S first plans since c (standing new.card)
-    (prepared new.card) new.stage after cursor later
-terminal_passed {C = C} Does R S standing prepared first plans since now later c old new ex after
-    cursor front byte under goes terminal card on same listening stage_is hears =
-    let n = length (so_far under.units under.tried) in
-    let plan = plan_after n plans in
-    let grown = goes_on under.front front (Terminal, byte) under.terminal.is_front goes in
-    let Run : C → Type 0 = λ x. Runs Does first (so_far under.units under.tried) plans
-    (standing x) in
-    let way : under_way new.stage plan ≡ under_way old.stage plan =
-    ap (λ s. under_way s plan) stage_is ∙ taken_stays old.stage plan byte listening in
+-- ---- a step of the card's end, at the front at which the terminal's stands
+
+pub turned : {C : Type 0} (card : Ghosts C) (s : Start card.State) (l : Line C) (end : EndOf C)
+    (new : Cursor) (byte : ℕ) (under : IsGoing card s l)
+    → HasPlan l.end.stage under.before l.cursor new
+    → ((h : Header) (p3 : ℕ) → l.end.stage ≡ Taking_header (begins_with h p3)
+    → IsPermitted card.MayReceive card.MaySend h.ins end.stage)
+    → ((cut : ℕ) (front : Front) → (takes_plan l.end.stage ≡ true
+    → (cut ≡ (plan_kept new).cut) × SuitsFront end.stage front)
+    → StandsAt card.Does (card.standing l.end.card) (card.prepared l.end.card) l.end.stage cut front
+    → Advances card.Does cut (plan_kept new) l.end.stage front byte (card.standing l.end.card)
+    (card.standing end.card) (card.prepared end.card) end.stage)
+    → ((front : Front) × GoesOn under.front (Card, byte) front
+    × StandsUnder card under.before front (line l.exchange end new l.hearing)
+    × (card.standing end.card ≡ card.standing l.end.card))
+    ⊎ ((d : Dialogue) × Ends under.front (Card, byte) d × IsDialogue d
+    × Follows d (next_plan under.before.rest)
+    × card.Does (card.standing l.end.card) (next_plan under.before.rest).cut (tpdu_of d)
+    (card.standing end.card) × (end.stage ≡ Taking_header []))
+turned card s l end new byte under has permitted advances =
+    let plan = next_plan under.before.rest in
+    let agrees = never_under card.MayReceive card.MaySend s.command l.exchange under.units
+    under.tried under.front under.agreed under.terminal in
+    elim (on_its_plan card.Does plan.cut l.end.stage end.stage under.front byte
+    (card.standing l.end.card) (card.standing end.card) (card.prepared end.card) (plan_kept new)
+    plan has.kept (advances plan.cut under.front
+    (λ takes. (
+      sym (ap (λ (k : Course). k.cut) has.kept),
+      suits card.Does (card.standing l.end.card) (card.prepared l.end.card) card.MayReceive
+          card.MaySend l.exchange.host l.end.stage end.stage plan.cut under.front agrees
+          under.terminal.stands permitted takes under.stands.0,
+    )) under.stands.0)) [
+      | inl goes ↦ inl (
+        goes.0,
+        goes.1,
+        (
+          goes.2,
+          goes.4 under.stands.1,
+          inr (
+            begun card.Does (card.standing end.card) (card.prepared end.card) end.stage plan.cut
+                byte plan under.front goes.0 goes.1 goes.2,
+            has.is,
+            has.cut,
+          ),
+        ),
+        goes.3,
+      )
+      | inr ends ↦ inr (ends.0, ends.1, ends.2, ends.6 under.stands.1, ends.4, ends.5)
+    ]
+
+-- ---- a character has passed, and the dialogue goes on
+
+plan_stays : (stage new : Stage) (before cursor : Cursor) (byte : ℕ) → listens stage ≡ true
+    → new ≡ with_character stage byte → IsAtPlan stage before cursor → IsAtPlan new before cursor
+plan_stays stage new before cursor byte listening is at_plan =
+    let plan = next_plan before.rest in
+    let way : under_way new plan ≡ under_way stage plan =
+    ap (λ s. under_way s plan) is ∙ taken_stays stage plan byte listening in
+    elim at_plan [ inl none ↦ inl (way ∙ none.0, none.1) | inr has ↦ inr (way ∙ has.0, has.1, has.2) ]
+
+pub passed : {C : Type 0} (card : Ghosts C) (s : Start card.State) (l new : Line C)
+    (ch : Character) (front : Front) (under : IsGoing card s l) → GoesOn under.front ch front
+    → UnderWay s.command new.exchange under.units under.tried front
+    → StandsUnder card under.before front new
+    → card.standing new.end.card ≡ card.standing l.end.card
+    → Hears l.hearing (ch ∷ []) new.hearing → IsGoing card s new
+passed card s l new ch front under goes terminal stands same hears =
+    let Gone : card.State → Type 0 = λ x. HaveGone card.Does s.first s.plans s.since
+    (so_far under.units under.tried) x under.before under.between in
     record {
       agreed = under.agreed;
       units = under.units;
       tried = under.tried;
       front = front;
       terminal = terminal;
-      follow = under.follow;
-      cuts = under.cuts;
-      runs = subst Run (sym same) under.runs;
-      card = card;
-      on_plan = on;
-      at_plan = elim under.at_plan [
-        | inl none ↦ inl (way ∙ none.0, none.1)
-        | inr has ↦ inr (
-          way
-              ∙ has.0,
-          has.1,
-          has.2,
-          has.3,
-        )
-      ];
-      hears = hears_front since now later (so_far under.units under.tried) under.front front
-          (Terminal, byte) under.hears hears grown.1;
-    }
-
--- ---- a character of the card has passed, and the dialogue goes on
-
-pub card_passed : {State : Type 0} (Does : State → ℕ → Tpdu → State → Type 0) (R S : ℕ → Type 0)
-    (first : State) (plans : List Course) (since now later : Hearing) (c : Command)
-    (old new : State) (before prepared : Prepared State) (was stage : Stage)
-    (ex after : ExchangeOf) (had cursor : Cursor) (front : Front) (byte : ℕ)
-    (under : IsUnderWay Does R S first plans since c old before was ex had now)
-    → GoesOn under.front (Card, byte) front → UnderWay c after under.units under.tried front
-    → StandsAt Does new prepared stage
-    (plan_after (length (so_far under.units under.tried)) plans).cut front
-    → IsOnPlan stage (plan_after (length (so_far under.units under.tried)) plans) front
-    → new ≡ old → HasPlan was had cursor plans (length (so_far under.units under.tried))
-    → Hears now ((Card, byte) ∷ []) later
-    → IsUnderWay Does R S first plans since c new prepared stage after cursor later
-card_passed {State = State} Does R S first plans since now later c old new before prepared was
-    stage ex after had cursor front byte under goes terminal card on same has hears =
-    let n = length (so_far under.units under.tried) in
-    let plan = plan_after n plans in
-    let grown = goes_on under.front front (Card, byte) under.terminal.is_front goes in
-    let Run : State → Type 0 = λ x. Runs Does first (so_far under.units under.tried) plans x in
-    record {
-      agreed = under.agreed;
-      units = under.units;
-      tried = under.tried;
-      front = front;
-      terminal = terminal;
-      follow = under.follow;
-      cuts = under.cuts;
-      runs = subst Run (sym same) under.runs;
-      card = card;
-      on_plan = on;
-      at_plan = inr (
-        begun Does new prepared stage plan.cut byte plan under.front front goes
-            card,
-        has.rest,
-        has.kept,
-        has.cut,
-      );
-      hears = hears_front since now later (so_far under.units under.tried) under.front front
-          (Card, byte) under.hears hears grown.1;
+      before = under.before;
+      between = under.between;
+      gone = subst Gone (sym same) under.gone;
+      stands = stands;
+      hears = hears_on under.between l.hearing new.hearing _ _ ch under.hears hears
+          (goes_on under.front front ch under.terminal.is_front goes).1;
     }
 
 -- ---- it has passed, and a dialogue is over
 
--- the plan of one TPDU more has such a cut too
-cuts_more : (n : ℕ) (plans : List Course) → HaveCuts (take n plans)
-    → IsCut (plan_after n plans).cut → HaveCuts (take (n + 1) plans)
-cuts_more n plans cuts cut = let e : suc n ≡ n + 1 = omega arith in
-    subst (λ k. HaveCuts (take k plans)) e (by n plans cuts cut)
-  where
-    by : (n : ℕ) (plans : List Course) → HaveCuts (take n plans)
-        → IsCut (plan_after n plans).cut → HaveCuts (take (suc n) plans)
-    by zero [] cuts cut = tt
-    by zero (p ∷ plans) cuts cut = (cut, tt)
-    by (suc n) [] cuts cut = tt
-    by (suc n) (p ∷ plans) cuts cut = (cuts.0, by n plans cuts.1 cut)
+pub gone_more : {C : Type 0} (card : Ghosts C) (s : Start card.State) (l new : Line C)
+    (d : Dialogue) (byte : ℕ) (under : IsGoing card s l) → Ends under.front (Card, byte) d
+    → IsDialogue d → Follows d (next_plan under.before.rest)
+    → card.Does (card.standing l.end.card) (next_plan under.before.rest).cut (tpdu_of d)
+    (card.standing new.end.card) → HasPlan l.end.stage under.before l.cursor new.cursor
+    → Hears l.hearing ((Card, byte) ∷ []) new.hearing
+    → HaveGone card.Does s.first s.plans s.since (so_far under.units under.tried ++ d ∷ [])
+    (card.standing new.end.card) new.cursor new.hearing
+gone_more card s l new d byte under ends is follows does has hears =
+    let At : Cursor → Type 0 = λ k. HaveGone card.Does (card.standing l.end.card)
+    under.before.rest under.between (d ∷ []) (card.standing new.end.card) k new.hearing in
+    gone_both card.Does s.first (card.standing l.end.card) (card.standing new.end.card) s.plans
+    s.since under.between new.hearing (so_far under.units under.tried) (d ∷ []) under.before
+    new.cursor under.gone
+    (subst At (sym has.is)
+    (one_gone card.Does (card.standing l.end.card) (card.standing new.end.card)
+    under.before.rest under.before.kept under.between new.hearing d is follows has.cut does
+    (hears_on under.between l.hearing new.hearing _ _ (Card, byte) under.hears hears
+    (ends_with under.front byte d ends))))
 
-pub gone_more : {State : Type 0} (Does : State → ℕ → Tpdu → State → Type 0) (R S : ℕ → Type 0)
-    (first : State) (plans : List Course) (since now later : Hearing) (c : Command)
-    (old new : State) (before : Prepared State) (was : Stage) (ex : ExchangeOf)
-    (had cursor : Cursor) (d : Dialogue) (byte : ℕ)
-    (under : IsUnderWay Does R S first plans since c old before was ex had now)
-    → Ends under.front (Card, byte) d → IsDialogue d
-    → Follows d (plan_after (length (so_far under.units under.tried)) plans)
-    → Does old (plan_after (length (so_far under.units under.tried)) plans).cut (tpdu_of d) new
-    → HasPlan was had cursor plans (length (so_far under.units under.tried))
-    → Hears now ((Card, byte) ∷ []) later
-    → HaveGone Does first plans since (so_far under.units under.tried ++ d ∷ []) new cursor later
-gone_more Does R S first plans since now later c old new before was ex had cursor d byte under
-    ends is follows does has hears =
-    let ds = so_far under.units under.tried in
-    let longer : length ds + 1 ≡ length (ds ++ d ∷ []) = sym (length-append ds (d ∷ [])) in
-    record {
-      are_dialogues = all_more IsDialogue ds d under.terminal.are_dialogues is;
-      follow = follow_next ds plans d under.follow follows;
-      cuts = subst (λ n. HaveCuts (take n plans)) longer
-          (cuts_more (length ds) plans under.cuts has.cut);
-      runs = runs_next Does first old new ds plans d under.runs does;
-      used = has.rest ∙ ap (λ n. drop n plans) longer;
-      hears = hears_end since now later ds under.front d (Card, byte) under.hears hears
-          (ends_with under.front byte d ends);
-    }
-
-gone_as : {State : Type 0} (Does : State → ℕ → Tpdu → State → Type 0) (first : State)
-    (plans : List Course) (since : Hearing) (ds es : List Dialogue) (standing : State)
-    (cursor : Cursor) (now : Hearing)
-    → ds ≡ es → HaveGone Does first plans since ds standing cursor now
-    → HaveGone Does first plans since es standing cursor now
-gone_as {State = State} Does first plans since ds es standing cursor now is gone =
-    let P : List Dialogue → Type 0 =
-    λ xs. HaveGone Does first plans since xs standing cursor now in subst P is gone
+-- these dialogues have gone since then
+abbrev HasGone : {C : Type 0} (card : Ghosts C) → Start card.State → Line C → List Dialogue
+    → Type 0
+HasGone card s l ds =
+    HaveGone card.Does s.first s.plans s.since ds (card.standing l.end.card) l.cursor l.hearing
 
 -- the next TPDU begins
-begins_next : {State : Type 0} (Does : State → ℕ → Tpdu → State → Type 0) (R S : ℕ → Type 0)
-    (first : State) (plans : List Course) (since later : Hearing) (c : Command)
-    (standing : State) (prepared : Prepared State) (stage : Stage) (after : ExchangeOf)
-    (cursor : Cursor) (units : List UnitOf) (tried : Option Dialogue)
-    → IsAgreed R S c → stage ≡ Taking_header [] → UnderWay c after units tried fresh
-    → HaveGone Does first plans since (so_far units tried) standing cursor later
-    → IsUnderWay Does R S first plans since c standing prepared stage after cursor later
-begins_next Does R S first plans since later c standing prepared stage after cursor units tried
-    agreed rests terminal gone =
-    let n = length (so_far units tried) in
-    let plan = plan_after n plans in
-    let At : Stage → Type 0 = λ s. StandsAt Does standing prepared s plan.cut fresh
-    × IsOnPlan s plan fresh × IsAtPlan s cursor plans n in
-    let here = subst At (sym rests) ((refl, lit< tt), tt, inl (refl, gone.used)) in
-    let Heard : List Character → Type 0 = λ cs. Hears since cs later in
+begins_next : {C : Type 0} (card : Ghosts C) (s : Start card.State) (l : Line C)
+    (units : List UnitOf) (tried : Option Dialogue) (ds : List Dialogue)
+    → IsAgreed card.MayReceive card.MaySend s.command → l.end.stage ≡ Taking_header []
+    → UnderWay s.command l.exchange units tried fresh → ds ≡ so_far units tried
+    → HasGone card s l ds → IsGoing card s l
+begins_next card s l units tried ds agreed rests terminal is gone =
+    let At : Stage → Type 0 = λ x. StandsAt card.Does (card.standing l.end.card)
+    (card.prepared l.end.card) x (next_plan l.cursor.rest).cut fresh
+    × IsOnPlan x (next_plan l.cursor.rest) fresh × IsAtPlan x l.cursor l.cursor in
     record {
       agreed = agreed;
       units = units;
       tried = tried;
       front = fresh;
       terminal = terminal;
-      follow = gone.follow;
-      cuts = gone.cuts;
-      runs = gone.runs;
-      card = here.0;
-      on_plan = here.1;
-      at_plan = here.2;
-      hears = subst Heard (sym (append-nil (flat_map characters (so_far units tried)))) gone.hears;
+      before = l.cursor;
+      between = l.hearing;
+      gone = subst (HasGone card s l) is gone;
+      stands = subst At (sym rests) ((refl, lit< tt), tt, inl (refl, refl));
+      hears = hears_nothing l.hearing;
     }
 
-pub begins : {State : Type 0} (Does : State → ℕ → Tpdu → State → Type 0) (R S : ℕ → Type 0)
-    (plans : List Course) (now : Hearing) (c : Command)
-    (standing : State) (prepared : Prepared State) (stage : Stage) (ex : ExchangeOf)
-    (cursor : Cursor)
-    → IsAgreed R S c → stage ≡ Taking_header [] → UnderWay c ex [] None fresh
-    → cursor.rest ≡ plans → IsUnderWay Does R S standing plans now c standing prepared stage
-    ex cursor now
-begins Does R S plans now c standing prepared stage ex cursor agreed rests terminal rest =
-    begins_next Does R S standing plans now now c standing prepared stage ex cursor [] None
-    agreed rests terminal
-    (record {
-      are_dialogues = tt;
-      follow = follow_none plans;
-      cuts = cuts_none plans;
-      runs = runs_none plans;
-      used =
-          rest;
-      hears = hears_nothing now;
-    })
-  where
-    follow_none : (plans : List Course) → FollowInTurn [] plans
-    follow_none [] = tt
-    follow_none (p ∷ ps) = tt
-
-    cuts_none : (plans : List Course) → HaveCuts (take 0 plans)
-    cuts_none [] = tt
-    cuts_none (p ∷ ps) = tt
-
-    runs_none : (plans : List Course) → Runs Does standing [] plans standing
-    runs_none [] = refl
-    runs_none (p ∷ ps) = refl
+pub begins : {C : Type 0} (card : Ghosts C) (command : Command) (l : Line C)
+    → l.end.stage ≡ Taking_header [] → Begins card command l
+    → IsGoing card (on_line.begun card command l) l
+begins card command l rests (agreed, terminal) =
+    begins_next card (on_line.begun card command l) l [] None [] agreed rests terminal refl
+    (none_gone card.Does (card.standing l.end.card) l.cursor l.hearing)
 
 -- after a dialogue the exchange goes on, or is over
-pub continues : {State : Type 0} (Does : State → ℕ → Tpdu → State → Type 0) (R S : ℕ → Type 0)
-    (first : State) (plans : List Course) (since later : Hearing) (c : Command)
-    (standing : State) (prepared : Prepared State) (stage : Stage) (after : ExchangeOf)
-    (cursor : Cursor) (units : List UnitOf) (tried : Option Dialogue) (d : Dialogue)
-    → IsAgreed R S c → stage ≡ Taking_header []
-    → HaveGone Does first plans since (so_far units tried ++ d ∷ []) standing cursor later
-    → Continues c after units tried d
-    → IsUnderWay Does R S first plans since c standing prepared stage after cursor later
-    ⊎ IsFinished Does first plans since c standing stage after cursor later
-continues Does R S first plans since later c standing prepared stage after cursor units tried d
-    agreed rests gone (inl (none, terminal)) =
-    inl (begins_next Does R S first plans since later c standing prepared stage after cursor
-    units (Some d) agreed rests terminal
-    (gone_as Does first plans since _ _ standing cursor later
-    (ap (λ t. so_far units t ++ d ∷ []) none ∙ sym (unit_goes_on units d)) gone))
-continues Does R S first plans since later c standing prepared stage after cursor units tried d
-    agreed rests gone (inr (inl terminal)) =
-    inl (begins_next Does R S first plans since later c standing prepared stage after cursor
-    (units ++ ended_with tried d ∷ []) None agreed rests terminal
-    (gone_as Does first plans since _ _ standing cursor later (sym (unit_ends units tried d)) gone))
-continues Does R S first plans since later c standing prepared stage after cursor units tried d
-    agreed rests gone (inr (inr terminal)) = inr (record {
-      units = units ++ ended_with tried d ∷ [];
-      status = d.status;
-      terminal = terminal;
-      gone = gone_as Does first plans since _ _ standing cursor later
-          (sym (unit_dialogues units tried d)) gone;
-      at_rest = rests;
-    })
+pub continues : {C : Type 0} (card : Ghosts C) (s : Start card.State) (l : Line C)
+    (units : List UnitOf) (tried : Option Dialogue) (d : Dialogue)
+    → IsAgreed card.MayReceive card.MaySend s.command → l.end.stage ≡ Taking_header []
+    → HasGone card s l (so_far units tried ++ d ∷ [])
+    → Continues s.command l.exchange units tried d → IsOneOf card s l
+continues card s l units tried d agreed rests gone (inl (none, terminal)) =
+    inl (begins_next card s l units (Some d) _ agreed rests terminal
+    (ap (λ t. so_far units t ++ d ∷ []) none ∙ sym (unit_goes_on units d)) gone)
+continues card s l units tried d agreed rests gone (inr (inl terminal)) =
+    inl (begins_next card s l (units ++ ended_with tried d ∷ []) None _ agreed rests terminal
+    (sym (unit_ends units tried d)) gone)
+continues card s l units tried d agreed rests gone (inr (inr terminal)) = inr (record {
+  units = units ++ ended_with tried d ∷ [];
+  status = d.status;
+  terminal = terminal;
+  gone = subst (HasGone card s l) (sym (unit_dialogues units tried d)) gone;
+  at_rest = rests;
+})
 
 -- or it has stalled
-pub has_stalled : {State : Type 0} (Does : State → ℕ → Tpdu → State → Type 0) (first : State)
-    (plans : List Course) (since later : Hearing) (c : Command)
-    (standing : State) (cursor : Cursor) (units : List UnitOf) (tried : Option Dialogue)
-    (d : Dialogue)
-    → HaveGone Does first plans since (so_far units tried ++ d ∷ []) standing cursor later
-    → Stall c (units ++ ended_with tried d ∷ [])
-    → HasStalled Does first plans since c standing cursor later
-has_stalled Does first plans since later c standing cursor units tried d gone stall =
+pub has_stalled : {C : Type 0} (card : Ghosts C) (s : Start card.State) (l : Line C)
+    (units : List UnitOf) (tried : Option Dialogue) (d : Dialogue)
+    → HasGone card s l (so_far units tried ++ d ∷ [])
+    → Stall s.command (units ++ ended_with tried d ∷ [])
+    → HasStalled card.Does s.first s.plans s.since s.command (card.standing l.end.card) l.cursor
+    l.hearing
+has_stalled card s l units tried d gone stall =
     record {
       units = units ++ ended_with tried d ∷ [];
       stall = stall;
-      gone =
-          gone_as Does first plans since _ _ standing cursor later
-          (sym (unit_dialogues units tried d)) gone;
+      gone = subst (HasGone card s l) (sym (unit_dialogues units tried d)) gone;
     }
 
 -- ---- the measure
@@ -637,24 +510,24 @@ turn_under : (c : Command) (ex : ExchangeOf) (units : List UnitOf) (tried : Opti
 turn_under c ex units tried front under =
     ap (λ b. if b then Failed else turn_of ex.host) under.going
 
-left_under : (c : Command) (ex : ExchangeOf) (units : List UnitOf) (tried : Option Dialogue)
-    (front : Front) (stage : Stage) (cursor : Cursor) → UnderWay c ex units tried front
-    → characters_left ex stage cursor
-    ≡ 1 + 1000 * (most_tpdus - ex.attempt.number) + steps_in cursor.rest + here stage cursor
-left_under c ex units tried front stage cursor under =
-    let not_done : is_done (exchange_turn ex) ≡ false =
-    ap is_done (turn_under c ex units tried front under)
-    ∙ turn_is_no_end (turn_of ex.host) (λ status e. going ex.host front status under.stands e)
-    (unbroken ex.host front under.stands) in
+left_under : {C : Type 0} (c : Command) (l : Line C) (units : List UnitOf)
+    (tried : Option Dialogue) (front : Front) → UnderWay c l.exchange units tried front
+    → left l ≡ 1 + 1000 * (most_tpdus - l.exchange.attempt.number) + steps_in l.cursor.rest
+    + here l.end.stage l.cursor
+left_under c l units tried front under =
+    let host = l.exchange.host in
+    let not_done : is_done (exchange_turn l.exchange) ≡ false =
+    ap is_done (turn_under c l.exchange units tried front under)
+    ∙ turn_is_no_end (turn_of host) (λ status e. going host front status under.stands e)
+    (unbroken host front under.stands) in
     rw not_done refl
 
-left_over : (c : Command) (ex : ExchangeOf) (units : List UnitOf) (status : StatusWord)
-    (stage : Stage) (cursor : Cursor) → IsOver c ex units status
-    → characters_left ex stage cursor ≡ 0
-left_over c ex units status stage cursor over =
-    let turn : exchange_turn ex ≡ Done status =
-    ap (λ b. if b then Failed else turn_of ex.host) over.going ∙ over.done in
-    let is : is_done (exchange_turn ex) ≡ true = ap is_done turn in
+left_over : {C : Type 0} (c : Command) (l : Line C) (units : List UnitOf) (status : StatusWord)
+    → IsOver c l.exchange units status → left l ≡ 0
+left_over c l units status over =
+    let turn : exchange_turn l.exchange ≡ Done status =
+    ap (λ b. if b then Failed else turn_of l.exchange.host) over.going ∙ over.done in
+    let is : is_done (exchange_turn l.exchange) ≡ true = ap is_done turn in
     rw is refl
 
 here_taken : (stage : Stage) (byte : ℕ) (cursor : Cursor)
@@ -665,79 +538,69 @@ here_taken (Refusing h p3 status done) byte cursor falls = falls (plan_kept curs
 here_taken (Serving s came) byte cursor falls = falls (plan_kept cursor)
 here_taken (Ending status) byte cursor falls = falls (plan_kept cursor)
 
-pub terminal_falls : (c : Command) (ex after : ExchangeOf) (units : List UnitOf)
-    (tried : Option Dialogue) (front new : Front) (stage next : Stage) (cursor : Cursor) (byte : ℕ)
-    → UnderWay c ex units tried front → UnderWay c after units tried new
-    → next ≡ with_character stage byte
-    → ((plan : Course) → still_to_go next plan < still_to_go stage plan)
-    → characters_left after next cursor < characters_left ex stage cursor
-terminal_falls c ex after units tried front new stage next cursor byte under later is falls =
+terminal_falls : {C : Type 0} (c : Command) (l new : Line C) (units : List UnitOf)
+    (tried : Option Dialogue) (front later : Front) (byte : ℕ)
+    → UnderWay c l.exchange units tried front → UnderWay c new.exchange units tried later
+    → new.cursor ≡ l.cursor → new.end.stage ≡ with_character l.end.stage byte
+    → ((plan : Course) → still_to_go new.end.stage plan < still_to_go l.end.stage plan)
+    → left new < left l
+terminal_falls c l new units tried front later byte under on same is falls =
     let Falls : Stage → Type 0 = λ s. (plan : Course)
-    → still_to_go s plan < still_to_go stage plan in
-    let less : here next cursor < here stage cursor =
+    → still_to_go s plan < still_to_go l.end.stage plan in
     omega (
       arith,
-      ap (λ s. here s cursor) is,
-      here_taken stage byte cursor (subst Falls is falls),
-    ) in
-    omega (
-      arith,
-      left_under c ex units tried front stage cursor under,
-      left_under c after units tried new next cursor later,
+      left_under c l units tried front under,
+      left_under c new units tried later on,
       under.place.number_is,
-      later.place.number_is,
-      less,
+      on.place.number_is,
+      ap (λ (k : Cursor). steps_in k.rest) same,
+      ap (λ (k : Cursor). here new.end.stage k) same,
+      ap (λ s. here s l.cursor) is,
+      here_taken l.end.stage byte l.cursor (subst Falls is falls),
     )
 
-pub card_falls : {State : Type 0} (Does : State → ℕ → Tpdu → State → Type 0) (standing : State)
-    (prepared : Prepared State) (c : Command) (ex after : ExchangeOf) (units : List UnitOf)
-    (tried : Option Dialogue)
-    (front new : Front) (old stage : Stage) (had cursor : Cursor) (plans : List Course) (n byte : ℕ)
-    → UnderWay c ex units tried front → UnderWay c after units tried new
-    → HasPlan old had cursor plans n
-    → (stage ≡ Taking_header [])
-    ⊎ (still_to_go stage (plan_kept cursor) < still_to_go old (plan_kept cursor))
-    → GoesOn front (Card, byte) new
-    → StandsAt Does standing prepared stage (plan_after n plans).cut new
-    → characters_left after stage cursor < characters_left ex old had
-card_falls Does standing prepared c ex after units tried front new old stage had cursor plans n
-    byte under later has (inl rests) goes stands =
-    let plan = plan_after n plans in
-    absurd (no_plan_twice plan
-    (sym (begun Does standing prepared stage plan.cut byte plan front new goes stands)
-    ∙ ap (λ s. under_way s plan) rests))
-card_falls Does standing prepared c ex after units tried front new old stage had cursor plans n
-    byte under later has (inr falls) goes stands =
-    let plan = plan_after n plans in
-    omega (
-      arith,
-      left_under c ex units tried front old had under,
-      left_under c after units tried new stage cursor later,
-      under.place.number_is,
-      later.place.number_is,
-      has.falls,
-      falls,
-      here_begun stage plan cursor
-          (begun Does standing prepared stage plan.cut byte plan front new goes stands),
-    )
+pub card_falls : {C : Type 0} (card : Ghosts C) (c : Command) (l new : Line C)
+    (units : List UnitOf) (tried : Option Dialogue) (before : Cursor) (front later : Front)
+    (byte : ℕ) → UnderWay c l.exchange units tried front
+    → UnderWay c new.exchange units tried later → HasPlan l.end.stage before l.cursor new.cursor
+    → (new.end.stage ≡ Taking_header []) ⊎ (still_to_go new.end.stage (plan_kept new.cursor)
+    < still_to_go l.end.stage (plan_kept new.cursor)) → GoesOn front (Card, byte) later
+    → StandsAt card.Does (card.standing new.end.card) (card.prepared new.end.card)
+    new.end.stage (next_plan before.rest).cut later → left new < left l
+card_falls card c l new units tried before front later byte under on has falls goes stands =
+    let plan = next_plan before.rest in
+    let has_begun = begun card.Does (card.standing new.end.card) (card.prepared new.end.card)
+    new.end.stage plan.cut byte plan front later goes stands in
+    elim falls [
+      | inl rests ↦
+          absurd (no_plan_twice plan (sym has_begun ∙ ap (λ s. under_way s plan) rests))
+      | inr less ↦ omega (
+        arith,
+        left_under c l units tried front under,
+        left_under c new units tried later on,
+        under.place.number_is,
+        on.place.number_is,
+        has.falls,
+        less,
+        here_begun new.end.stage plan new.cursor has_begun,
+      )
+    ]
 
 at_rest_here : (stage : Stage) (cursor : Cursor) → stage ≡ Taking_header []
     → here stage cursor ≡ 305
 at_rest_here stage cursor rests = ap (λ s. here s cursor) rests ∙ omega arith
 
-next_falls : (c : Command) (ex after : ExchangeOf) (units more : List UnitOf)
-    (tried again : Option Dialogue) (front : Front) (old stage : Stage) (had cursor : Cursor)
-    (plans : List Course) (n : ℕ) (d : Dialogue)
-    → UnderWay c ex units tried front → UnderWay c after more again fresh
-    → so_far more again ≡ so_far units tried ++ d ∷ [] → IsBounded after
-    → HasPlan old had cursor plans n
-    → stage ≡ Taking_header [] → characters_left after stage cursor < characters_left ex old had
-next_falls c ex after units more tried again front old stage had cursor plans n d under later is
-    bounded has rests =
+next_falls : {C : Type 0} (c : Command) (l new : Line C) (units more : List UnitOf)
+    (tried again : Option Dialogue) (before : Cursor) (front : Front) (d : Dialogue)
+    → UnderWay c l.exchange units tried front → UnderWay c new.exchange more again fresh
+    → so_far more again ≡ so_far units tried ++ d ∷ [] → IsBounded new.exchange
+    → HasPlan l.end.stage before l.cursor new.cursor → new.end.stage ≡ Taking_header []
+    → left new < left l
+next_falls c l new units more tried again before front d under later is bounded has rests =
     omega (
       arith,
-      left_under c ex units tried front old had under,
-      left_under c after more again fresh stage cursor later,
+      left_under c l units tried front under,
+      left_under c new more again fresh later,
       under.place.number_is,
       later.place.number_is,
       ap length is,
@@ -745,30 +608,63 @@ next_falls c ex after units more tried again front old stage had cursor plans n 
       bounded.fits,
       bounded.tpdus,
       has.falls,
-      at_rest_here stage cursor rests,
+      at_rest_here new.end.stage new.cursor rests,
     )
 
-pub end_falls : (c : Command) (ex after : ExchangeOf) (units : List UnitOf)
-    (tried : Option Dialogue) (front : Front) (old stage : Stage) (had cursor : Cursor)
-    (plans : List Course) (n : ℕ) (d : Dialogue)
-    → UnderWay c ex units tried front → Continues c after units tried d → IsBounded after
-    → HasPlan old had cursor plans n → stage ≡ Taking_header []
-    → characters_left after stage cursor < characters_left ex old had
-end_falls c ex after units tried front old stage had cursor plans n d under (inl (none, later))
-    bounded has rests =
-    next_falls c ex after units units tried (Some d) front old stage had cursor plans n d under
-    later (unit_goes_on units d ∙ ap (λ t. so_far units t ++ d ∷ []) (sym none)) bounded has
-    rests
-end_falls c ex after units tried front old stage had cursor plans n d under (inr (inl later))
-    bounded has rests =
-    next_falls c ex after units (units ++ ended_with tried d ∷ []) tried None front old stage had
-    cursor plans n d under later (unit_ends units tried d) bounded has rests
-end_falls c ex after units tried front old stage had cursor plans n d under (inr (inr over))
-    bounded has rests =
+pub end_falls : {C : Type 0} (c : Command) (l new : Line C) (units : List UnitOf)
+    (tried : Option Dialogue) (before : Cursor) (front : Front) (d : Dialogue)
+    → UnderWay c l.exchange units tried front → Continues c new.exchange units tried d
+    → IsBounded new.exchange → HasPlan l.end.stage before l.cursor new.cursor
+    → new.end.stage ≡ Taking_header [] → left new < left l
+end_falls c l new units tried before front d under (inl (none, later)) bounded has rests =
+    next_falls c l new units units tried (Some d) before front d under later
+    (unit_goes_on units d ∙ ap (λ t. so_far units t ++ d ∷ []) (sym none)) bounded has rests
+end_falls c l new units tried before front d under (inr (inl later)) bounded has rests =
+    next_falls c l new units (units ++ ended_with tried d ∷ []) tried None before front d under
+    later (unit_ends units tried d) bounded has rests
+end_falls c l new units tried before front d under (inr (inr over)) bounded has rests =
     omega (
       arith,
-      left_under c ex units tried front old had under,
-      left_over c after (units ++ ended_with tried d ∷ []) d.status stage cursor over,
+      left_under c l units tried front under,
+      left_over c new (units ++ ended_with tried d ∷ []) d.status over,
+    )
+
+-- ---- a character of the terminal
+
+-- what an exchange that sends this character promises of it, and what the card's end does
+abbrev pub SendsOn : Command → ExchangeOf → ExchangeOf → ℕ → Type 0
+SendsOn c ex new byte = (units : List UnitOf) (tried : Option Dialogue) (front : Front)
+    → UnderWay c ex units tried front
+    → (later : Front) × GoesOn front (Terminal, byte) later × UnderWay c new units tried later
+
+pub terminal_passed : {C : Type 0} (card : Ghosts C) (s : Start card.State) (l new : Line C)
+    (byte : ℕ) → IsGoing card s l → SendsOn s.command l.exchange new.exchange byte
+    → new.cursor ≡ l.cursor
+    → new.end ≡ record l.end { stage = with_character l.end.stage byte }
+    → ((plan : Course) → still_to_go new.end.stage plan < still_to_go l.end.stage plan)
+    → ((cut : ℕ) (front later : Front) → StandsAt card.Does (card.standing l.end.card)
+    (card.prepared l.end.card) l.end.stage cut front → GoesOn front (Terminal, byte) later
+    → (listens l.end.stage ≡ true) × StandsAt card.Does (card.standing new.end.card)
+    (card.prepared new.end.card) new.end.stage cut later
+    × ((plan : Course) → IsOnPlan l.end.stage plan front → IsOnPlan new.end.stage plan later))
+    → Hears l.hearing ((Terminal, byte) ∷ []) new.hearing
+    → (left new < left l) × IsGoing card s new
+terminal_passed {C = C} card s l new byte under sends same end_is falls on hears =
+    let goes = sends under.units under.tried under.front under.terminal in
+    let plan = next_plan under.before.rest in
+    let taken = on plan.cut under.front goes.0 under.stands.0 goes.1 in
+    let stage = ap (λ (e : EndOf C). e.stage) end_is in
+    let At : Cursor → Type 0 = λ k. IsAtPlan new.end.stage under.before k in (
+      terminal_falls s.command l new under.units under.tried under.front goes.0 byte
+          under.terminal goes.2 same stage falls,
+      passed card s l new (Terminal, byte) goes.0 under goes.1 goes.2 (
+        taken.1,
+        taken.2 plan under.stands.1,
+        subst At (sym same)
+            (plan_stays l.end.stage new.end.stage under.before l.cursor byte taken.0 stage
+            under.stands.2),
+      )
+          (ap (λ (e : EndOf C). card.standing e.card) end_is) hears,
     )
 
 -- ---- a character that is not taken
@@ -798,25 +694,21 @@ too_many room limit before one two byte bytes is full more =
       length-append before two,
     )
 
-pub has_overflown : {State : Type 0} (Does : State → ℕ → Tpdu → State → Type 0)
-    (R S : ℕ → Type 0) (first : State) (plans : List Course) (since now later : Hearing)
-    (c : Command)
-    (old new : State) (before prepared : Prepared State) (was stage : Stage) (ex : ExchangeOf)
-    (had : Cursor) (front : Front) (byte : ℕ) (fault : LineFault)
-    (under : IsUnderWay Does R S first plans since c old before was ex had now)
-    → GoesOn under.front (Card, byte) front
-    → StandsAt Does new prepared stage
-    (plan_after (length (so_far under.units under.tried)) plans).cut front
-    → IsOnPlan stage (plan_after (length (so_far under.units under.tried)) plans) front
-    → new ≡ old → fault ≡ TooLong → (fault_of ex.host ex.gather byte ≡ Some fault)
-    ⊎ ((fault ≡ Stalled) × (fault_of ex.host ex.gather byte ≡ None))
-    → Hears now ((Card, byte) ∷ []) later → HasOverflown Does first plans since c new later
-has_overflown {State = State} Does R S first plans since now later c old new before prepared was
-    stage ex had front byte fault under goes card on same is faults hears =
-    let grown = goes_on under.front front (Card, byte) under.terminal.is_front goes in
+pub has_overflown : {C : Type 0} (card : Ghosts C) (s : Start card.State) (l new : Line C)
+    (front : Front) (byte : ℕ) (fault : LineFault) (under : IsGoing card s l)
+    → GoesOn under.front (Card, byte) front → StandsUnder card under.before front new
+    → card.standing new.end.card ≡ card.standing l.end.card → fault ≡ TooLong
+    → (fault_of l.exchange.host l.exchange.gather byte ≡ Some fault)
+    ⊎ ((fault ≡ Stalled) × (fault_of l.exchange.host l.exchange.gather byte ≡ None))
+    → Hears l.hearing ((Card, byte) ∷ []) new.hearing
+    → HasOverflown card.Does s.first s.plans s.since s.command (card.standing new.end.card)
+    new.hearing
+has_overflown card s l new front byte fault under goes stands same is faults hears =
+    let ex = l.exchange in
     let full = too_long ex.host ex.gather byte under.front front under.terminal.stands
     (is_too_long ex.host ex.gather byte fault is faults) goes in
-    let Run : State → Type 0 = λ x. Runs Does first (so_far under.units under.tried) plans x in
+    let Gone : card.State → Type 0 = λ x. HaveGone card.Does s.first s.plans s.since
+    (so_far under.units under.tried) x under.before under.between in
     record {
       units = under.units;
       tried = under.tried;
@@ -825,18 +717,18 @@ has_overflown {State = State} Does R S first plans since now later c old new bef
       terminal = under.terminal;
       front = front;
       goes = (byte, goes);
-      prepared = prepared;
-      stage = stage;
-      follow = under.follow;
-      cuts = under.cuts;
-      runs = subst Run (sym same) under.runs;
-      card = card;
-      on_plan = on;
+      prepared = card.prepared new.end.card;
+      stage = new.end.stage;
+      cursor = under.before;
+      between = under.between;
+      gone = subst Gone (sym same) under.gone;
+      card = stands.0;
+      on_plan = stands.1;
       too_many = too_many ex.gather response_limit
           (flat_map received (so_far under.units under.tried)) (brought under.front)
           (brought front) byte under.terminal.gathered under.terminal.room full.0 full.1;
-      hears = hears_front since now later (so_far under.units under.tried) under.front front
-          (Card, byte) under.hears hears grown.1;
+      hears = hears_on under.between l.hearing new.hearing _ _ (Card, byte) under.hears hears
+          (goes_on under.front front (Card, byte) under.terminal.is_front goes).1;
     }
 
 -- ---- in the terms of the code
@@ -855,22 +747,11 @@ silent_turn stage byte whose = by (listens stage) whose.1
 pub listening_sends_nothing : (byte : ℕ) → Listens ≡ Sends byte → ⊥
 listening_sends_nothing byte e = absurd (cc)
 
-pub under_way_too : {State : Type 0} (Does : State → ℕ → Tpdu → State → Type 0)
-    (R S : ℕ → Type 0) (first : State) (plans : List Course) (since : Hearing) (c : Command)
-    (standing : State) (prepared : Prepared State) (stage : Stage) (old new : ExchangeOf)
-    (cursor : Cursor) (now : Hearing) → new ≡ old
-    → IsUnderWay Does R S first plans since c standing prepared stage old cursor now
-    → IsUnderWay Does R S first plans since c standing prepared stage new cursor now
-under_way_too Does R S first plans since c standing prepared stage old new cursor now is under =
-    let P : ExchangeOf → Type 0 =
-    λ e. IsUnderWay Does R S first plans since c standing prepared stage e cursor now in
-    subst P (sym is) under
-
-pub never_under : (R S : ℕ → Type 0) (c : Command) (ex : ExchangeOf) (units : List UnitOf)
-    (tried : Option Dialogue) (front : Front) → IsAgreed R S c → UnderWay c ex units tried front
-    → Never R S ex.host.direction ex.host.header.ins
-never_under R S c ex units tried front agreed under =
-    never R S c units under.opening under.left tried ex.host agreed under.followed under.opened_as
+pub on_too : {C : Type 0} (card : Ghosts C) (s : Start card.State) (l : Line C)
+    (new : ExchangeOf) → new ≡ l.exchange → IsOneOf card s l
+    → IsOneOf card s (line new l.end l.cursor l.hearing)
+on_too card s l new is on =
+    subst (λ e. IsOneOf card s (line e l.end l.cursor l.hearing)) (sym is) on
 
 -- an exchange that is over neither sends nor listens
 pub over_sends_nothing : (c : Command) (ex : ExchangeOf) (units : List UnitOf)
@@ -885,52 +766,73 @@ over_is_silent c ex units status over does =
     let e : Listens ≡ Done status = does
     ∙ ap (λ b. if b then Failed else turn_of ex.host) over.going ∙ over.done in absurd (cc)
 
+-- where the exchange sends or listens it is under way
+pub still_going : {C : Type 0} (card : Ghosts C) (s : Start card.State) (l : Line C)
+    → IsOneOf card s l → exchange_turn l.exchange ≡ Listens → IsGoing card s l
+still_going card s l (inl under) listens = under
+still_going card s l (inr over) listens =
+    absurd (over_is_silent s.command l.exchange over.units over.status over.terminal (sym listens))
+
+pub still_sending : {C : Type 0} (card : Ghosts C) (s : Start card.State) (l : Line C) (byte : ℕ)
+    → IsOneOf card s l → Sends byte ≡ exchange_turn l.exchange → IsGoing card s l
+still_sending card s l byte (inl under) sends = under
+still_sending card s l byte (inr over) sends =
+    absurd (over_sends_nothing s.command l.exchange over.units over.status byte over.terminal sends)
+
+-- where it is at its end, it is over
+pub still_over : {C : Type 0} (card : Ghosts C) (s : Start card.State) (l : Line C)
+    (new : ExchangeOf) (status : StatusWord) → IsOneOf card s l
+    → Done status ≡ exchange_turn l.exchange
+    → (((byte : ℕ) → Done status ≡ Sends byte → ⊥) → new ≡ l.exchange)
+    → IsDone card s (line new l.end l.cursor l.hearing)
+still_over card s l new status (inl under) done stays =
+    absurd (going l.exchange.host under.front status under.terminal.stands
+    (sym (turn_under s.command l.exchange under.units under.tried under.front under.terminal)
+    ∙ sym done))
+still_over card s l new status (inr over) done stays =
+    let never : (byte : ℕ) → Done status ≡ Sends byte → ⊥ =
+    λ byte e. let same : Done status ≡ Sends byte = e in absurd (cc) in
+    subst (λ e. IsDone card s (line e l.end l.cursor l.hearing)) (sym (stays never)) over
+
 -- what is known of a result that is Ok
 pub on_ok : {A E : Type 0} (r : Result A E) (P : Type 0) (x : A) → r ≡ Ok x → OnOk r P → P
 on_ok {A = A} {E = E} r P x is on = let Q : Result A E → Type 0 = λ s. OnOk s P in subst Q is on
 
--- a step of the card's end under the plan of its TPDU
-pub on_its_plan : {State : Type 0} (Does : State → ℕ → Tpdu → State → Type 0) (cut : ℕ)
-    (stage next : Stage) (front : Front) (byte : ℕ) (old new : State) (prepared : Prepared State)
-    (kept plan : Course)
-    → kept ≡ plan → Advances Does cut kept stage front byte old new prepared next
-    → Advances Does cut plan stage front byte old new prepared next
-on_its_plan Does cut stage next front byte old new prepared kept plan is steps = let P : Course
-    → Type 0 = λ k. Advances Does cut k stage front byte old new prepared next in subst P is steps
+pub none_left : {C : Type 0} (card : Ghosts C) (s : Start card.State) (l : Line C)
+    → IsDone card s l → left l ≡ 0
+none_left card s l over = left_over s.command l over.units over.status over.terminal
 
--- a step of the loop: what goes on falls, and what is over stops
-pub smaller : (old new : ℕ) (going : Bool) (A B : Type 0) → A ⊎ B
-    → (A → (going ≡ true) × (new < old)) → (B → (going ≡ false) × (new ≡ 0))
-    → new + (if going then 1 else 0) < old + 1
-smaller old new going A B (inl goes) on off = let step = on goes in
-    rw step.0 (omega (arith, step.1))
-smaller old new going A B (inr over) on off = let step = off over in
-    rw step.0 (omega (arith, step.1))
+-- a step of the loop: what goes on falls, and what is over has none left
+pub smaller : {C : Type 0} (card : Ghosts C) (s : Start card.State) (old new : Line C)
+    (going : Bool) → HasPassed card s old new going
+    → left new + (if going then 1 else 0) < left old + 1
+smaller card s old new true passed = omega (arith, passed.0)
+smaller card s old new false over = omega (arith, none_left card s new over)
 
-pub none_left : {State : Type 0} (Does : State → ℕ → Tpdu → State → Type 0) (first : State)
-    (plans : List Course) (since now : Hearing) (c : Command) (standing : State) (stage : Stage)
-    (ex : ExchangeOf) (cursor : Cursor)
-    → IsFinished Does first plans since c standing stage ex cursor now
-    → characters_left ex stage cursor ≡ 0
-none_left Does first plans since now c standing stage ex cursor over =
-    left_over c ex over.units over.status stage cursor over.terminal
+pub still_on : {C : Type 0} (card : Ghosts C) (s : Start card.State) (old new : Line C)
+    (going : Bool) → HasPassed card s old new going → IsOneOf card s new
+still_on card s old new true passed = passed.1
+still_on card s old new false over = inr over
+
+pub over_at_end : {C : Type 0} (card : Ghosts C) (s : Start card.State) (old new : Line C)
+    (going : Bool) → HasPassed card s old new going → going ≡ false → IsDone card s new
+over_at_end card s old new true passed ends = let e : true ≡ false = ends in absurd (cc)
+over_at_end card s old new false over ends = over
 
 pub some_is : {A : Type 0} (o : Option A) (x y : A) → o ≡ Some x → o ≡ Some y → x ≡ y
 some_is o x y one two = let e : Some x ≡ Some y = sym one ∙ two in cc
 
 -- what a whole exchange has answered
-pub answered : {State : Type 0} (Does : State → ℕ → Tpdu → State → Type 0) (first was : State)
-    (plans : List Course) (since now : Hearing) (c : Command) (standing : State) (stage : Stage)
-    (ex : ExchangeOf) (cursor : Cursor) (answer : Reply)
-    (over : IsFinished Does first plans since c standing stage ex cursor now) → first ≡ was
-    → answer ≡ record { status = over.status; content = ex.gather.bytes }
-    → (units : List UnitOf) × Gathers c units answer.content answer.status
-    × HaveGone Does was plans since (flat_map dialogues_of units) standing cursor now
-answered {State = State} Does first was plans since now c standing stage ex cursor answer over
-    same is =
-    let G : Reply → Type 0 = λ r. Gathers c over.units r.content r.status in
-    let H : State → Type 0 =
-    λ s. HaveGone Does s plans since (flat_map dialogues_of over.units) standing cursor now in
+pub answered : {C : Type 0} (card : Ghosts C) (s : Start card.State) (l : Line C)
+    (was : card.State) (answer : Reply) (over : IsDone card s l) → s.first ≡ was
+    → answer ≡ record { status = over.status; content = l.exchange.gather.bytes }
+    → (units : List UnitOf) × Gathers s.command units answer.content answer.status
+    × HaveGone card.Does was s.plans s.since (flat_map dialogues_of units)
+    (card.standing l.end.card) l.cursor l.hearing
+answered card s l was answer over same is =
+    let G : Reply → Type 0 = λ r. Gathers s.command over.units r.content r.status in
+    let H : card.State → Type 0 = λ x. HaveGone card.Does x s.plans s.since
+    (flat_map dialogues_of over.units) (card.standing l.end.card) l.cursor l.hearing in
     (over.units, subst G (sym is) over.terminal.gathers, subst H same over.gone)
 
 pub caused : {State : Type 0} (Does : State → ℕ → Tpdu → State → Type 0) (first was : State)

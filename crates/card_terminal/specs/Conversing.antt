@@ -1,7 +1,6 @@
 -- A terminal and a card that exchange characters, under a list of plans.
 use Rattle.std.specs.Prelude.{◌≡◌, ℕ, ◌+◌, ◌-◌, ◌*◌, ◌<◌, List, [], ◌∷◌, ◌++◌, length, take, drop, Option, Bool, true, false, ◌⊎◌, if◌then◌else◌}
 use Rattle.std.specs.List.{AllByRecursion, flat_map}
-use Rattle.apdu_core.specs.StatusWord.{StatusWord}
 use Rattle.apdu_core.specs.CommandBytes.{Command}
 use Rattle.t0_core.specs.declared.host_end.HostTurn.{HostTurn}
 use Rattle.t0_core.specs.declared.host_end.HostTurn.TheVariants.{Sends, Listens, Done, Failed}
@@ -9,51 +8,19 @@ use Rattle.t0_core.specs.declared.end.End.TheVariants.{Card}
 use Rattle.t0_core.specs.declared.line_fault.LineFault.{LineFault}
 use Rattle.t0_core.specs.declared.line_fault.LineFault.TheVariants.{TooLong, Stalled}
 use Rattle.t0_core.specs.Dialogue.{Dialogue, characters, IsDialogue}
-use Rattle.t0_core.specs.Plan.{Course, Cursor, IsCut, plain, plan_kept, FollowInTurn}
+use Rattle.t0_core.specs.Plan.{Course, Cursor, plain, plan_kept, FollowInTurn}
 use Rattle.t0_core.specs.Meaning.{Tpdu, Prepared, Runs, received}
 use Rattle.t0_core.specs.Front.{Front, GoesOn, front_characters, brought}
 use Rattle.t0_core.specs.Watch.{Hearing, Hears}
 use Rattle.t0_core.specs.CardSide.{Stage, Taking_header, Refusing, Serving, Ending, StandsAt, IsOnPlan, still_to_go}
-use Rattle.t0_core.specs.CardHistory.{under_way}
 use Rattle.card_terminal.specs.Gathered.{UnitOf, dialogues_of}
-use Rattle.card_terminal.specs.Agreed.{IsAgreed}
 use Rattle.card_terminal.specs.Talk.{HaveCuts}
-use Rattle.card_terminal.specs.ExchangeSide.{ExchangeOf, UnderWay, IsOver, Stall, so_far, exchange_turn, response_limit}
+use Rattle.card_terminal.specs.ExchangeSide.{ExchangeOf, UnderWay, Stall, so_far, exchange_turn, response_limit}
 
 -- the plan of the TPDU that comes after so many: past the end of the list one without steps
 abbrev pub next_plan : List Course → Course
 next_plan [] = plain
 next_plan (p ∷ plans) = p
-
-abbrev pub plan_after : ℕ → List Course → Course
-plan_after n plans = next_plan (drop n plans)
-
--- the card's end has the plan of the TPDU after so many, or is to take it
-abbrev pub IsAtPlan : Stage → Cursor → List Course → ℕ → Type 0
-IsAtPlan stage cursor plans n =
-    ((under_way stage (plan_after n plans) ≡ []) × (cursor.rest ≡ drop n plans))
-    ⊎ ((under_way stage (plan_after n plans) ≡ plan_after n plans ∷ [])
-    × (cursor.rest ≡ drop (n + 1) plans) × (plan_kept cursor ≡ plan_after n plans)
-    × IsCut (plan_after n plans).cut)
-
--- a TPDU of the command is under way, and both ends stand at the same front of its dialogue
-pub record IsUnderWay {State : Type 0} (Does : State → ℕ → Tpdu → State → Type 0)
-    (MayReceive MaySend : ℕ → Type 0) (first : State) (plans : List Course) (since : Hearing)
-    (c : Command) (standing : State) (prepared : Prepared State) (stage : Stage)
-    (ex : ExchangeOf) (cursor : Cursor) (now : Hearing) : Type 0 where
-  pub agreed : IsAgreed MayReceive MaySend c
-  pub units : List UnitOf
-  pub tried : Option Dialogue
-  pub front : Front
-  pub terminal : UnderWay c ex units tried front
-  pub follow : FollowInTurn (so_far units tried) plans
-  pub cuts : HaveCuts (take (length (so_far units tried)) plans)
-  pub runs : Runs Does first (so_far units tried) plans standing
-  pub card : StandsAt Does standing prepared stage
-      (plan_after (length (so_far units tried)) plans).cut front
-  pub on_plan : IsOnPlan stage (plan_after (length (so_far units tried)) plans) front
-  pub at_plan : IsAtPlan stage cursor plans (length (so_far units tried))
-  pub hears : Hears since (flat_map characters (so_far units tried) ++ front_characters front) now
 
 -- These dialogues follow the plans, whose cuts are 1 to 256, are a run of the card's meaning, and
 -- are heard; and so many plans are taken.
@@ -66,17 +33,6 @@ pub record HaveGone {State : Type 0} (Does : State → ℕ → Tpdu → State �
   pub runs : Runs Does first ds plans standing
   pub used : cursor.rest ≡ drop (length ds) plans
   pub hears : Hears since (flat_map characters ds) now
-
--- the exchange is over, and the card's end waits for a header
-pub record IsFinished {State : Type 0} (Does : State → ℕ → Tpdu → State → Type 0) (first : State)
-    (plans : List Course) (since : Hearing)
-    (c : Command) (standing : State) (stage : Stage) (ex : ExchangeOf) (cursor : Cursor)
-    (now : Hearing) : Type 0 where
-  pub units : List UnitOf
-  pub status : StatusWord
-  pub terminal : IsOver c ex units status
-  pub gone : HaveGone Does first plans since (flat_map dialogues_of units) standing cursor now
-  pub at_rest : stage ≡ Taking_header []
 
 -- the dialogues of an exchange that stalls
 pub record HasStalled {State : Type 0} (Does : State → ℕ → Tpdu → State → Type 0) (first : State)
@@ -100,14 +56,13 @@ pub record HasOverflown {State : Type 0} (Does : State → ℕ → Tpdu → Stat
   pub goes : (byte : ℕ) × GoesOn before (Card, byte) front
   pub prepared : Prepared State
   pub stage : Stage
-  pub follow : FollowInTurn (so_far units tried) plans
-  pub cuts : HaveCuts (take (length (so_far units tried)) plans)
-  pub runs : Runs Does first (so_far units tried) plans standing
-  pub card : StandsAt Does standing prepared stage
-      (plan_after (length (so_far units tried)) plans).cut front
-  pub on_plan : IsOnPlan stage (plan_after (length (so_far units tried)) plans) front
+  pub cursor : Cursor
+  pub between : Hearing
+  pub gone : HaveGone Does first plans since (so_far units tried) standing cursor between
+  pub card : StandsAt Does standing prepared stage (next_plan cursor.rest).cut front
+  pub on_plan : IsOnPlan stage (next_plan cursor.rest) front
   pub too_many : response_limit < length (flat_map received (so_far units tried) ++ brought front)
-  pub hears : Hears since (flat_map characters (so_far units tried) ++ front_characters front) now
+  pub hears : Hears between (front_characters front) now
 
 -- a card causes these faults alone
 abbrev pub IsCaused : {State : Type 0} → (State → ℕ → Tpdu → State → Type 0) → State

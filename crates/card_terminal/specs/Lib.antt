@@ -9,6 +9,7 @@ pub mod OwnedExchange
 pub mod Talk
 pub mod AnswerList
 pub mod Operations
+pub mod Line
 pub mod OneObject
 pub mod FaultText
 pub mod Running

@@ -6,7 +6,8 @@ ghost use Rattle.t0_core.specs.Plan.{Course, Cursor};
 ghost use Rattle.t0_core.specs.Watch.{Hearing};
 ghost use Rattle.card_terminal.specs.Agreed.{IsAgreed};
 ghost use Rattle.card_terminal.specs.ExchangeSide.{IsBounded, exchange_turn};
-ghost use Rattle.card_terminal.specs.Conversing.{IsUnderWay, IsFinished, IsCaused, characters_left};
+ghost use Rattle.card_terminal.specs.Conversing.{IsCaused};
+ghost use Rattle.card_terminal.specs.Line.{Start, line, Begins, IsGoing, IsOneOf, Keeps, Passes, Converses};
 
 mod run;
 
@@ -123,23 +124,11 @@ fn pass_from_card<A: Allocator, B: Allocator, C: TpduCard, W: Watch>(
     plans: &mut Plans<B>,
     watch: &mut W,
 ) -> Result<(), LineFault>
-    requires under_way { (c : spec.Command) × (first : C.State) × (all : List Course)
-        × (since : Hearing) × IsUnderWay C.Does C.MayReceive C.MaySend first all since c
-        (C.standing end.old.card) (C.prepared end.old.card) end.old.stage exchange.old plans.old
-        (W.hearing watch.old) }
+    requires under_way { (s : Start C.State) ×
+        IsGoing C.TpduCard s (line exchange.old end.old plans.old (W.hearing watch.old)) }
     requires listens { exchange_turn exchange.old ≡ HostTurn.Listens }
-    ensures { (c : spec.Command) (first : C.State) (all : List Course) (since : Hearing) →
-        IsUnderWay C.Does C.MayReceive C.MaySend first all since c (C.standing end.old.card)
-        (C.prepared end.old.card) end.old.stage exchange.old plans.old (W.hearing watch.old) →
-        MatchResult result
-        (λ _. (characters_left exchange.new end.new.stage plans.new < characters_left
-        exchange.old end.old.stage plans.old) ×
-        (IsUnderWay C.Does C.MayReceive C.MaySend first all since c (C.standing end.new.card)
-        (C.prepared end.new.card) end.new.stage exchange.new plans.new (W.hearing watch.new)
-        ⊎ IsFinished C.Does first all since c (C.standing end.new.card) end.new.stage
-        exchange.new plans.new (W.hearing watch.new)))
-        (λ fault. IsCaused C.Does first all since c (C.standing end.new.card) plans.new
-        (W.hearing watch.new) fault) }
+    ensures { Passes C.TpduCard (line exchange.old end.old plans.old (W.hearing watch.old))
+        (line exchange.new end.new plans.new (W.hearing watch.new)) result (λ _. true) }
 {
     let Turn::Sends(byte) = end.turn(plans) else {
         unreachable!()
@@ -157,26 +146,11 @@ fn pass_data<A: Allocator, C: TpduCard, W: Watch>(
     end: &mut CardEnd<C>,
     watch: &mut W,
 )
-    requires { (c : spec.Command) × (first : C.State) × (all : List Course) × (since : Hearing) ×
-        (cursor : Cursor) × (IsUnderWay C.Does C.MayReceive C.MaySend first all since c
-        (C.standing end.old.card) (C.prepared end.old.card) end.old.stage exchange.old cursor
-        (W.hearing watch.old)
-        ⊎ IsFinished C.Does first all since c (C.standing end.old.card) end.old.stage
-        exchange.old cursor (W.hearing watch.old)) }
-    ensures goes_on { (c : spec.Command) (first : C.State) (all : List Course) (since : Hearing)
-        (cursor : Cursor) →
-        IsUnderWay C.Does C.MayReceive C.MaySend first all since c (C.standing end.old.card)
-        (C.prepared end.old.card) end.old.stage exchange.old cursor (W.hearing watch.old) →
-        (characters_left exchange.new end.new.stage cursor ≤ characters_left exchange.old
-        end.old.stage cursor) ×
-        IsUnderWay C.Does C.MayReceive C.MaySend first all since c (C.standing end.new.card)
-        (C.prepared end.new.card) end.new.stage exchange.new cursor (W.hearing watch.new) }
-    ensures finished { (c : spec.Command) (first : C.State) (all : List Course) (since : Hearing)
-        (cursor : Cursor) →
-        IsFinished C.Does first all since c (C.standing end.old.card) end.old.stage exchange.old
-        cursor (W.hearing watch.old) →
-        IsFinished C.Does first all since c (C.standing end.new.card) end.new.stage exchange.new
-        cursor (W.hearing watch.new) }
+    requires { (s : Start C.State) × (cursor : Cursor) ×
+        IsOneOf C.TpduCard s (line exchange.old end.old cursor (W.hearing watch.old)) }
+    ensures { (cursor : Cursor) →
+        Keeps C.TpduCard (line exchange.old end.old cursor (W.hearing watch.old))
+        (line exchange.new end.new cursor (W.hearing watch.new)) }
 {
     'data: while let Some(byte) = exchange.next_data() {
         end.take(byte).unwrap();
@@ -194,32 +168,10 @@ fn pass_characters<A: Allocator, B: Allocator, C: TpduCard, W: Watch>(
     plans: &mut Plans<B>,
     watch: &mut W,
 ) -> Result<bool, LineFault>
-    requires { (c : spec.Command) × (first : C.State) × (all : List Course) × (since : Hearing) ×
-        (IsUnderWay C.Does C.MayReceive C.MaySend first all since c (C.standing end.old.card)
-        (C.prepared end.old.card) end.old.stage exchange.old plans.old (W.hearing watch.old)
-        ⊎ IsFinished C.Does first all since c (C.standing end.old.card) end.old.stage
-        exchange.old plans.old (W.hearing watch.old)) }
-    ensures goes_on { (c : spec.Command) (first : C.State) (all : List Course) (since : Hearing) →
-        IsUnderWay C.Does C.MayReceive C.MaySend first all since c (C.standing end.old.card)
-        (C.prepared end.old.card) end.old.stage exchange.old plans.old (W.hearing watch.old) →
-        MatchResult result
-        (λ going. (going ≡ true)
-        × (characters_left exchange.new end.new.stage plans.new < characters_left
-        exchange.old end.old.stage plans.old) ×
-        (IsUnderWay C.Does C.MayReceive C.MaySend first all since c (C.standing end.new.card)
-        (C.prepared end.new.card) end.new.stage exchange.new plans.new (W.hearing watch.new)
-        ⊎ IsFinished C.Does first all since c (C.standing end.new.card) end.new.stage
-        exchange.new plans.new (W.hearing watch.new)))
-        (λ fault. IsCaused C.Does first all since c (C.standing end.new.card) plans.new
-        (W.hearing watch.new) fault) }
-    ensures finished { (c : spec.Command) (first : C.State) (all : List Course) (since : Hearing) →
-        IsFinished C.Does first all since c (C.standing end.old.card) end.old.stage exchange.old
-        plans.old (W.hearing watch.old) →
-        MatchResult result
-        (λ going. (going ≡ false)
-        × IsFinished C.Does first all since c (C.standing end.new.card) end.new.stage
-        exchange.new plans.new (W.hearing watch.new))
-        (λ fault. ⊥) }
+    requires { (s : Start C.State) ×
+        IsOneOf C.TpduCard s (line exchange.old end.old plans.old (W.hearing watch.old)) }
+    ensures { Passes C.TpduCard (line exchange.old end.old plans.old (W.hearing watch.old))
+        (line exchange.new end.new plans.new (W.hearing watch.new)) result (λ going. going) }
 {
     match exchange.next() {
         HostTurn::Sends(byte) => {
@@ -245,17 +197,11 @@ fn converse<A: Allocator, B: Allocator, C: TpduCard, W: Watch>(
     plans: &mut Plans<B>,
     watch: &mut W,
 ) -> Result<(), LineFault>
-    requires { (c : spec.Command) × (first : C.State) × (all : List Course) × (since : Hearing) ×
-        IsUnderWay C.Does C.MayReceive C.MaySend first all since c (C.standing end.old.card)
-        (C.prepared end.old.card) end.old.stage exchange.old plans.old (W.hearing watch.old) }
-    ensures { (c : spec.Command) (first : C.State) (all : List Course) (since : Hearing) →
-        IsUnderWay C.Does C.MayReceive C.MaySend first all since c (C.standing end.old.card)
-        (C.prepared end.old.card) end.old.stage exchange.old plans.old (W.hearing watch.old) →
-        MatchResult result
-        (λ _. IsFinished C.Does first all since c (C.standing end.new.card) end.new.stage
-        exchange.new plans.new (W.hearing watch.new))
-        (λ fault. IsCaused C.Does first all since c (C.standing end.new.card) plans.new
-        (W.hearing watch.new) fault) }
+    requires rests { end.old.stage ≡ Taking_header [] }
+    requires begun { (command : spec.Command) × Begins C.TpduCard command
+        (line exchange.old end.old plans.old (W.hearing watch.old)) }
+    ensures { Converses C.TpduCard (line exchange.old end.old plans.old (W.hearing watch.old))
+        (line exchange.new end.new plans.new (W.hearing watch.new)) result }
 {
     let mut going = true;
     'talk: while going {

@@ -1,58 +1,50 @@
-use Rattle.std.proofs.Common.{refl, ap, sym, ◌∙◌, inl, inr, length, arith}
-use Rattle.t0_core.specs.CardSide.{EndOf}
-use Rattle.card_terminal.specs.ExchangeSide.{so_far, exchange_turn}
-use Rattle.card_terminal.specs.Conversing.{plan_after, characters_left}
-use Rattle.card_terminal.proofs.SessionLemmas.{on_ok, none_left, terminal_passed, terminal_falls, under_way_too, listening_sends_nothing, over_is_silent, over_sends_nothing}
+use Rattle.std.proofs.Common.{refl, ap, sym, ◌∙◌, inl, arith}
+use Rattle.card_terminal.specs.ExchangeSide.{exchange_turn}
+use Rattle.card_terminal.specs.Conversing.{next_plan}
+use Rattle.card_terminal.specs.Line.{line, left}
+use Rattle.card_terminal.proofs.SessionLemmas.{on_ok, still_going, still_sending, still_over, terminal_passed, on_too, listening_sends_nothing}
 use Rattle.card_terminal.proofs.session.pass_characters.Goals as goal
 
 pub unwrap-requires : goal.unwrap-requires
-unwrap-requires g c = elim c.requires.4 [
-  | inl under ↦
-      let command = c.requires.0 in
-      let goes = c.in-Sends.ensures.goes_on command under.units under.tried under.front
-      c.in-Sends.byte under.terminal refl in
-      (c.take.ensures.goes_on (plan_after (length (so_far under.units under.tried))
-      c.requires.2).cut under.front goes.0 under.card goes.1).0
-  | inr over ↦ absurd (over_sends_nothing c.requires.0 _ over.units over.status c.in-Sends.byte
-      over.terminal c.in-Sends.ensures.turn)
-]
+unwrap-requires g c =
+    let (s, began) = c.requires in
+    let l = line c.args.exchange.now c.args.end.now c.args.plans.now
+    (g.W.Watch.hearing c.args.watch.now) in
+    let byte = c.in-Sends.byte in
+    let under = still_sending g.C.TpduCard s l byte began c.in-Sends.ensures.turn in
+    let goes = c.in-Sends.ensures.goes_on s.command under.units under.tried under.front byte
+    under.terminal refl in
+    (c.take.ensures.goes_on (next_plan under.before.rest).cut under.front goes.0 under.stands.0
+    goes.1).0
 
-pub returns-in-Sends-clause-goes_on : goal.returns-in-Sends-clause-goes_on
-returns-in-Sends-clause-goes_on g c = λ command first plans since under.
-    let card = g.C.TpduCard in
-    let plan = plan_after (length (so_far under.units under.tried)) plans in
-    let goes = c.in-Sends.ensures.goes_on command under.units under.tried under.front
-    c.in-Sends.byte under.terminal refl in
-    let taken = c.take.ensures.goes_on plan.cut under.front goes.0 under.card goes.1 in
-    let same = on_ok c.take.result _ c.unwrap.result c.unwrap.ensures c.take.ensures.taken in
-    let stage = ap (λ (e : EndOf _). e.stage) same in
-    let falls = on_ok c.take.result _ c.unwrap.result c.unwrap.ensures c.take.ensures.falls in (
-      refl,
-      terminal_falls command _ c.next.new.self under.units under.tried under.front goes.0 _
-          c.take.new.self.stage c.args.plans.now c.in-Sends.byte under.terminal goes.2 stage falls,
-      inl (terminal_passed card.Does card.MayReceive card.MaySend card.standing card.prepared
-          first plans since _ _ command c.args.end.now c.take.new.self c.args.exchange.now
-          c.next.new.self _ goes.0 c.in-Sends.byte
-          under goes.1 goes.2 taken.1 (taken.2 plan under.on_plan)
-          (ap (λ (e : EndOf _). e.card) same)
-          (sym c.take.ensures.listening ∙ taken.0) stage c.seen.ensures),
-    )
+pub returns-in-Sends : goal.returns-in-Sends
+returns-in-Sends g c = λ s began.
+    let hearing = g.W.Watch.hearing in
+    let plans = c.args.plans.now in
+    let byte = c.in-Sends.byte in
+    let l = line c.args.exchange.now c.args.end.now plans (hearing c.args.watch.now) in
+    let step = terminal_passed g.C.TpduCard s l
+    (line c.next.new.self c.take.new.self plans (hearing c.seen.new.self)) byte
+    (still_sending g.C.TpduCard s l byte began c.in-Sends.ensures.turn)
+    (λ units tried front way. c.in-Sends.ensures.goes_on s.command units tried front byte way refl)
+    refl (on_ok c.take.result _ c.unwrap.result c.unwrap.ensures c.take.ensures.taken)
+    (on_ok c.take.result _ c.unwrap.result c.unwrap.ensures c.take.ensures.falls)
+    (λ cut front later stands goes.
+    let on = c.take.ensures.goes_on cut front later stands goes in
+    (sym c.take.ensures.listening ∙ on.0, on.1, on.2)) c.seen.ensures in
+    (step.0, inl step.1)
 
 pub pass_from_card-requires-clause-under_way : goal.pass_from_card-requires-clause-under_way
 pass_from_card-requires-clause-under_way g c =
-    let card = g.C.TpduCard in
-    let (command, first, plans, since, began) = c.requires in (
-      command,
-      first,
-      plans,
-      since,
-      elim began [
-        | inl under ↦
-            under_way_too card.Does card.MayReceive card.MaySend first plans since command _ _ _
-            _ _ _ _ (c.in-Listens.ensures.stays listening_sends_nothing) under
-        | inr over ↦ absurd (over_is_silent command _ over.units over.status over.terminal
-            c.in-Listens.ensures.turn)
-      ],
+    let hearing = g.W.Watch.hearing in
+    let l = line c.args.exchange.now c.args.end.now c.args.plans.now (hearing c.args.watch.now) in
+    let (s, began) = c.requires in
+    let same = c.in-Listens.ensures.stays listening_sends_nothing in (
+      s,
+      still_going g.C.TpduCard s
+          (line c.next.new.self c.args.end.now c.args.plans.now (hearing c.args.watch.now))
+          (on_too g.C.TpduCard s l _ same began)
+          (ap exchange_turn same ∙ sym c.in-Listens.ensures.turn),
     )
 
 pub pass_from_card-requires-clause-listens : goal.pass_from_card-requires-clause-listens
@@ -62,40 +54,30 @@ pass_from_card-requires-clause-listens g c =
 
 pub pass_data-requires : goal.pass_data-requires
 pass_data-requires g c =
-    let card = g.C.TpduCard in
-    let (command, first, plans, since, began) = c.requires in (
-      command,
-      first,
-      plans,
-      since,
+    let l = line c.args.exchange.now c.args.end.now c.args.plans.now
+    (g.W.Watch.hearing c.args.watch.now) in
+    let (s, began) = c.requires in (
+      s,
       c.pass_from_card.new.plans,
-      elim began [
-        | inl under ↦
-            (c.in_ok-pass_from_card-in-Listens.ensures command first plans since
-            (under_way_too card.Does card.MayReceive card.MaySend first plans since command _ _ _
-            _ _ _ _ (c.in-Listens.ensures.stays listening_sends_nothing) under)).1
-        | inr over ↦ absurd (over_is_silent command _ over.units over.status over.terminal
-            c.in-Listens.ensures.turn)
-      ],
+      (c.in_ok-pass_from_card-in-Listens.ensures s
+          (on_too g.C.TpduCard s l _ (c.in-Listens.ensures.stays listening_sends_nothing) began)).1,
     )
 
-pub returns-in_ok-pass_from_card-in-Listens-clause-goes_on :
-    goal.returns-in_ok-pass_from_card-in-Listens-clause-goes_on
-returns-in_ok-pass_from_card-in-Listens-clause-goes_on g c = λ command first plans since under.
-    let card = g.C.TpduCard in
-    let stage = c.args.end.now.stage in
+pub returns-in_ok-pass_from_card-in-Listens : goal.returns-in_ok-pass_from_card-in-Listens
+returns-in_ok-pass_from_card-in-Listens g c = λ s began.
+    let l = line c.args.exchange.now c.args.end.now c.args.plans.now
+    (g.W.Watch.hearing c.args.watch.now) in
     let same = c.in-Listens.ensures.stays listening_sends_nothing in
-    let passed = c.in_ok-pass_from_card-in-Listens.ensures command first plans since
-    (under_way_too card.Does card.MayReceive card.MaySend first plans since command _ _ _ _ _ _ _
-    same under) in
-    let had = ap (λ e. characters_left e stage c.args.plans.now) same in
-    let cursor = c.pass_from_card.new.plans in
-    elim passed.1 [
-      | inl on ↦
-          let more = c.pass_data.ensures.goes_on command first plans since cursor on in
-          (refl, omega (arith, had, passed.0, more.0), inl more.1)
-      | inr over ↦
-          let still = c.pass_data.ensures.finished command first plans since cursor over in
-          let none = none_left card.Does first plans since _ command _ _ _ _ still in
-          (refl, omega (arith, had, passed.0, none), inr still)
-    ]
+    let passed = c.in_ok-pass_from_card-in-Listens.ensures s (on_too g.C.TpduCard s l _ same began)
+    in
+    let more = c.pass_data.ensures c.pass_from_card.new.plans s passed.1 in (
+      omega (arith, ap (λ e. left (line e l.end l.cursor l.hearing)) same, passed.0, more.0),
+      more.1,
+    )
+
+pub returns-in-Done : goal.returns-in-Done
+returns-in-Done g c = λ s began.
+    let l = line c.args.exchange.now c.args.end.now c.args.plans.now
+    (g.W.Watch.hearing c.args.watch.now) in
+    still_over g.C.TpduCard s l c.next.new.self c.in-Done.field-0 began c.in-Done.ensures.turn
+    c.in-Done.ensures.stays

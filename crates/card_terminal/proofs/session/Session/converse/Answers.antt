@@ -1,23 +1,12 @@
-use Rattle.std.proofs.Common.{refl, ap, subst, ◌∙◌}
+use Rattle.std.proofs.Common.{ap, subst, ◌∙◌}
 use Rattle.object_card.specs.State.{IsCardState}
 use Rattle.card_terminal.proofs.LeadsLemmas.{over_turn}
-use Rattle.card_terminal.proofs.SessionLemmas.{begins}
 use Rattle.card_terminal.proofs.RunLemmas.{never_caused, stays_sound, sound_at, ok_unless, when_ok, done_sends_nothing, over_then, gone_from}
 use Rattle.card_terminal.proofs.session.Session.converse.Goals as goal
 
-pub converse-requires : goal.converse-requires
-converse-requires g c =
-    let card = g.C.TpduCard in
-    let now = g.W.Watch.hearing c.args.watch.now in
-    let (command, agreed, way) = c.requires.begun in (
-      command,
-      card.standing c.self.inside.end.card,
-      c.args.plans.now.rest,
-      now,
-      begins card.Does card.MayReceive card.MaySend c.args.plans.now.rest now command _ _
-          c.self.inside.end.stage c.args.exchange.now c.args.plans.now agreed c.self.invariant way
-          refl,
-    )
+pub converse-requires-clause-begun : goal.converse-requires-clause-begun
+converse-requires-clause-begun g c =
+    let (command, agreed, way) = c.requires.begun in (command, (agreed, way))
 
 pub unwrap-requires : goal.unwrap-requires
 unwrap-requires g c =
@@ -27,38 +16,24 @@ unwrap-requires g c =
     let plans = c.args.plans.now in
     let first = card.standing c.self.inside.end.card in
     let (command, agreed, way) = c.requires.begun in
-    ok_unless c.converse.result _ _ (c.converse.ensures command first plans.rest now
-    (begins card.Does card.MayReceive card.MaySend plans.rest now command _ _
-    c.self.inside.end.stage c.args.exchange.now plans agreed c.self.invariant way refl))
+    ok_unless c.converse.result _ _ (c.converse.ensures command (agreed, way))
     (λ fault. never_caused card.Does card.after_reset m.0 m.2 first _ plans.rest now _ command _
     fault (sound_at m.0 g.C.DataCard.state card.standing m.1 c.self.inside.end.card
     c.args.self.now c.self.view_is c.requires.sound))
 
 pub unreachable-requires : goal.unreachable-requires
 unreachable-requires g c =
-    let card = g.C.TpduCard in
-    let now = g.W.Watch.hearing c.args.watch.now in
-    let plans = c.args.plans.now in
-    let first = card.standing c.self.inside.end.card in
     let (command, agreed, way) = c.requires.begun in
     let over = when_ok c.converse.result c.unwrap.result _ _ c.unwrap.ensures
-    (c.converse.ensures command first plans.rest now
-    (begins card.Does card.MayReceive card.MaySend plans.rest now command _ _
-    c.self.inside.end.stage c.args.exchange.now plans agreed c.self.invariant way refl)) in
+    (c.converse.ensures command (agreed, way)) in
     c.in_default.not-Done over.status (c.next.ensures.turn
     ∙ over_turn command c.converse.new.exchange over.units over.status over.terminal)
 
 pub invariant_of-self : goal.invariant_of-self
 invariant_of-self g c =
-    let card = g.C.TpduCard in
-    let now = g.W.Watch.hearing c.args.watch.now in
-    let plans = c.args.plans.now in
-    let first = card.standing c.self.inside.end.card in
     let (command, agreed, way) = c.requires.begun in
     let over = when_ok c.converse.result c.unwrap.result _ _ c.unwrap.ensures
-    (c.converse.ensures command first plans.rest now
-    (begins card.Does card.MayReceive card.MaySend plans.rest now command _ _
-    c.self.inside.end.stage c.args.exchange.now plans agreed c.self.invariant way refl)) in
+    (c.converse.ensures command (agreed, way)) in
     over.at_rest
 
 pub returns-clause-over : goal.returns-clause-over
@@ -68,9 +43,7 @@ returns-clause-over g c = λ command agreed way.
     let plans = c.args.plans.now in
     let first = card.standing c.self.inside.end.card in
     let over = when_ok c.converse.result c.unwrap.result _ _ c.unwrap.ensures
-    (c.converse.ensures command first plans.rest now
-    (begins card.Does card.MayReceive card.MaySend plans.rest now command _ _
-    c.self.inside.end.stage c.args.exchange.now plans agreed c.self.invariant way refl)) in (
+    (c.converse.ensures command (agreed, way)) in (
       over.units,
       over_then command c.converse.new.exchange c.next.new.self over.units over.status
           c.in-Done.status over.terminal
@@ -89,9 +62,7 @@ returns-clause-sound g c =
     let first = card.standing c.self.inside.end.card in
     let (command, agreed, way) = c.requires.begun in
     let over = when_ok c.converse.result c.unwrap.result _ _ c.unwrap.ensures
-    (c.converse.ensures command first plans.rest now
-    (begins card.Does card.MayReceive card.MaySend plans.rest now command _ _
-    c.self.inside.end.stage c.args.exchange.now plans agreed c.self.invariant way refl)) in
+    (c.converse.ensures command (agreed, way)) in
     subst IsCardState (m.1 c.converse.new.end.card)
     (stays_sound card.Does card.after_reset m.0 m.2 first _ plans.rest now _ _ _
     (sound_at m.0 g.C.DataCard.state card.standing m.1 c.self.inside.end.card c.args.self.now

@@ -1,19 +1,15 @@
-use Rattle.std.proofs.Common.{◌≡◌, is_some, refl, sym, ap, ◌∙◌}
+use Rattle.std.proofs.Common.{◌≡◌, is_some, sym, ap, ◌∙◌}
 use Rattle.t0_core.specs.declared.line_fault.LineFault.{LineFault}
 use Rattle.card_terminal.specs.declared.session_fault.SessionFault.TheVariants.{OutOfMemory, Line}
+use Rattle.card_terminal.specs.Line.{line, begun}
 use Rattle.card_terminal.proofs.LeadsLemmas.{over_turn}
-use Rattle.card_terminal.proofs.SessionLemmas.{begins, some_is, same_err, answered, caused}
+use Rattle.card_terminal.proofs.SessionLemmas.{some_is, same_err, answered, caused}
 use Rattle.std.proofs.lemmas.Result.{err_from_is_err_and}
 use Rattle.card_terminal.proofs.session.Session.transmit.Goals as goal
 
-pub converse-requires : goal.converse-requires
-converse-requires g c =
-    let card = g.C.TpduCard in
-    let now = g.W.Watch.hearing c.args.watch.now in
-    let begun = begins card.Does card.MayReceive card.MaySend c.args.plans.now.rest now
-    c.args.command _ _ c.self.inside.end.stage c.in_ok-exchange.exchange c.args.plans.now
-    c.requires c.self.invariant c.in_ok-exchange.ensures.begins refl in
-    (c.args.command, card.standing c.self.inside.end.card, c.args.plans.now.rest, now, begun)
+pub converse-requires-clause-begun : goal.converse-requires-clause-begun
+converse-requires-clause-begun g c =
+    (c.args.command, (c.requires, c.in_ok-exchange.ensures.begins))
 
 no_line : (fault : LineFault) → OutOfMemory ≡ Line fault → ⊥
 no_line fault e = absurd (cc)
@@ -26,38 +22,23 @@ returns-in_err-exchange-clause-line g c = λ fault is.
 
 pub unwrap-requires : goal.unwrap-requires
 unwrap-requires g c =
-    let card = g.C.TpduCard in
-    let now = g.W.Watch.hearing c.args.watch.now in
-    let begun = begins card.Does card.MayReceive card.MaySend c.args.plans.now.rest now
-    c.args.command _ _ c.self.inside.end.stage c.in_ok-exchange.exchange c.args.plans.now
-    c.requires c.self.invariant c.in_ok-exchange.ensures.begins refl in
-    let over = c.in-Ok.ensures c.args.command (card.standing c.self.inside.end.card)
-    c.args.plans.now.rest now begun in
+    let over = c.in-Ok.ensures c.args.command (c.requires, c.in_ok-exchange.ensures.begins) in
     ap is_some (c.into_answer.ensures.done over.status
     (over_turn c.args.command _ over.units over.status over.terminal))
 
 pub invariant_of-self : goal.invariant_of-self
 invariant_of-self g c =
-    let card = g.C.TpduCard in
-    let now = g.W.Watch.hearing c.args.watch.now in
-    let begun = begins card.Does card.MayReceive card.MaySend c.args.plans.now.rest now
-    c.args.command _ _ c.self.inside.end.stage c.in_ok-exchange.exchange c.args.plans.now
-    c.requires c.self.invariant c.in_ok-exchange.ensures.begins refl in
-    let over = c.in-Ok.ensures c.args.command (card.standing c.self.inside.end.card)
-    c.args.plans.now.rest now begun in
+    let over = c.in-Ok.ensures c.args.command (c.requires, c.in_ok-exchange.ensures.begins) in
     over.at_rest
 
 pub returns-in-Ok-clause-answers : goal.returns-in-Ok-clause-answers
 returns-in-Ok-clause-answers g c =
     let card = g.C.TpduCard in
     let now = g.W.Watch.hearing c.args.watch.now in
-    let begun = begins card.Does card.MayReceive card.MaySend c.args.plans.now.rest now
-    c.args.command _ _ c.self.inside.end.stage c.in_ok-exchange.exchange c.args.plans.now
-    c.requires c.self.invariant c.in_ok-exchange.ensures.begins refl in
-    let over = c.in-Ok.ensures c.args.command (card.standing c.self.inside.end.card)
-    c.args.plans.now.rest now begun in
-    answered card.Does _ _ c.args.plans.now.rest now _ c.args.command _ c.converse.new.end.stage
-    c.converse.new.exchange c.converse.new.plans c.unwrap.result over
+    let over = c.in-Ok.ensures c.args.command (c.requires, c.in_ok-exchange.ensures.begins) in
+    answered card (begun card c.args.command (line c.in_ok-exchange.exchange c.self.inside.end
+    c.args.plans.now now)) (line c.converse.new.exchange c.converse.new.end
+    c.converse.new.plans (g.W.Watch.hearing c.converse.new.watch)) _ c.unwrap.result over
     (ap card.standing c.self.view_is)
     (some_is c.into_answer.result c.unwrap.result _ c.unwrap.ensures
     (c.into_answer.ensures.done over.status
@@ -70,11 +51,7 @@ pub returns-in-Err-clause-line : goal.returns-in-Err-clause-line
 returns-in-Err-clause-line g c = λ fault is.
     let card = g.C.TpduCard in
     let now = g.W.Watch.hearing c.args.watch.now in
-    let begun = begins card.Does card.MayReceive card.MaySend c.args.plans.now.rest now
-    c.args.command _ _ c.self.inside.end.stage c.in_ok-exchange.exchange c.args.plans.now
-    c.requires c.self.invariant c.in_ok-exchange.ensures.begins refl in
-    let why = c.in-Err.ensures c.args.command (card.standing c.self.inside.end.card)
-    c.args.plans.now.rest now begun in (
+    let why = c.in-Err.ensures c.args.command (c.requires, c.in_ok-exchange.ensures.begins) in (
       card.standing c.converse.new.end.card,
       caused card.Does _ _ c.args.plans.now.rest now _ c.args.command _ c.converse.new.plans
           c.in-Err.fault fault why (ap card.standing c.self.view_is)

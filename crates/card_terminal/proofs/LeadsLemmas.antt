@@ -47,12 +47,12 @@ fresh_more came ds es is same = is ∙ ap (flat_map characters) (sym same)
 
 -- ---- a character of the terminal
 
-done_sends_nothing : (status : StatusWord) (byte : ℕ) (turn : HostTurn) → turn ≡ Done status
+pub done_sends_nothing : (status : StatusWord) (byte : ℕ) (turn : HostTurn) → turn ≡ Done status
     → turn ≡ Sends byte → ⊥
 done_sends_nothing status byte turn done sends = let e : Done status ≡ Sends byte = sym done
     ∙ sends in absurd (cc)
 
-failed_sends_nothing : (byte : ℕ) (turn : HostTurn) → turn ≡ Failed → turn ≡ Sends byte → ⊥
+pub failed_sends_nothing : (byte : ℕ) (turn : HostTurn) → turn ≡ Failed → turn ≡ Sends byte → ⊥
 failed_sends_nothing byte turn failed sends = let e : Failed ≡ Sends byte = sym failed
     ∙ sends in absurd (cc)
 

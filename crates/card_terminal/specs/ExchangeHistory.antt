@@ -7,6 +7,7 @@ use Rattle.t0_core.specs.declared.end.End.{End}
 use Rattle.t0_core.specs.declared.end.End.TheVariants.{Terminal, Card}
 use Rattle.t0_core.specs.declared.host_end.HostTurn.TheVariants.{Sends, Listens, Failed}
 use Rattle.t0_core.specs.declared.line_fault.LineFault.{LineFault}
+use Rattle.t0_core.specs.declared.line_fault.LineFault.TheVariants.{TooLong}
 use Rattle.t0_core.specs.Character.{Character}
 use Rattle.t0_core.specs.Dialogue.{Dialogue, characters, IsDialogue}
 use Rattle.t0_core.specs.Front.{Front, front_characters}
@@ -42,6 +43,18 @@ pub data Leads (c : Command) (came : List Character) (ex : ExchangeOf) : Type 0 
       → fault_of before.host before.gather byte ≡ Some fault → is_final fault ≡ true
       → exchange_turn ex ≡ Failed
       → came ≡ characters_to units first front ++ (Card, byte) ∷ [] → Leads c came ex
+
+-- After those that came, these characters lead to the first for which there is no room, and with it
+-- to the exchange as it is, which has failed.
+pub record LeadsTooFar (c : Command) (came cs : List Character) (ex : ExchangeOf) : Type 0 where
+  pub before : List Character
+  pub byte : ℕ
+  pub rest : List Character
+  pub cs_are : cs ≡ before ++ (Card, byte) ∷ rest
+  pub prior : ExchangeOf
+  pub led : Leads c (came ++ before) prior
+  pub is_fault : fault_of prior.host prior.gather byte ≡ Some TooLong
+  pub led_to : Leads c ((came ++ before) ++ (Card, byte) ∷ []) ex
 
 -- the characters are a front of those of an open exchange
 pub record BeginsExchange (c : Command) (came : List Character) : Type 0 where

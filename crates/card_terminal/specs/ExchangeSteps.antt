@@ -1,6 +1,6 @@
 -- What each call does to an exchange, said once for the exchange that holds its command's data and
 -- for what is built on it.
-use Rattle.std.specs.Prelude.{◌≡◌, ℕ, List, [], ◌∷◌, ◌++◌, length, Option, Some, None, true, false, ◌⊎◌, Result, MatchResult, OnOk, OnErr, IfErr, IsErrOf, IfSome}
+use Rattle.std.specs.Prelude.{◌≡◌, ◌<◌, ◌+◌, ℕ, List, [], ◌∷◌, ◌++◌, length, Option, Some, None, true, false, ◌⊎◌, Result, MatchResult, OnOk, OnErr, IfErr, IsErrOf, IfSome}
 use Rattle.apdu_core.specs.StatusWord.{StatusWord}
 use Rattle.apdu_core.specs.CommandBytes.{Command}
 use Rattle.t0_core.specs.declared.end.End.TheVariants.{Terminal, Card}
@@ -8,13 +8,16 @@ use Rattle.t0_core.specs.declared.host_end.HostTurn.{HostTurn}
 use Rattle.t0_core.specs.declared.host_end.HostTurn.TheVariants.{Sends, Done, Failed}
 use Rattle.t0_core.specs.declared.line_fault.LineFault.{LineFault}
 use Rattle.t0_core.specs.declared.line_fault.LineFault.TheVariants.{AfterEnd, TooLong, Stalled}
+use Rattle.t0_core.specs.declared.answer_fault.AnswerFault.{AnswerFault}
+use Rattle.t0_core.specs.declared.answer_fault.AnswerFault.TheVariants as answer
 use Rattle.t0_core.specs.Character.{Character}
-use Rattle.t0_core.specs.Dialogue.{Dialogue}
-use Rattle.t0_core.specs.Front.{Front, GoesOn, Ends, brought}
+use Rattle.t0_core.specs.Dialogue.{Dialogue, characters}
+use Rattle.t0_core.specs.Front.{Front, GoesOn, Ends, brought, fresh}
 use Rattle.t0_core.specs.HostSide.{fault_of}
+use Rattle.t0_core.specs.HostAnswer.{answer_fault, fails_with, Gives}
 use Rattle.card_terminal.specs.Gathered.{UnitOf, Gathers}
 use Rattle.card_terminal.specs.ExchangeSide.{ExchangeOf, UnderWay, IsBounded, IsAtEnd, Continues, Stall, exchange_turn, ended_with, is_final, response_limit}
-use Rattle.card_terminal.specs.ExchangeHistory.{Leads, unit_characters}
+use Rattle.card_terminal.specs.ExchangeHistory.{Leads, LeadsTooFar, unit_characters}
 
 -- A turn of the terminal: what it does now. With a character that it sends the dialogue under way
 -- goes on, and whatever led to the exchange leads to it with this character; nothing else changes
@@ -58,6 +61,31 @@ pub record IsTaking (old : ExchangeOf) (byte : ℕ) (result : Result (Unit {0}) 
   pub led : (c : Command) (came : List Character) → Leads c came old
       → MatchResult result (λ _. Leads c (came ++ (Card, byte) ∷ []) new)
       (λ fault. is_final fault ≡ true → Leads c (came ++ (Card, byte) ∷ []) new)
+
+-- An answer to a whole TPDU is taken, or is a fault: whichever dialogue gives it, the exchange goes
+-- on as after its characters, or fails as there. A fault that is not final changes nothing.
+pub record IsAnswering (old : ExchangeOf) (bytes : List ℕ) (status : StatusWord)
+    (result : Result (Unit {0}) AnswerFault) (new : ExchangeOf) : Type 0 where
+  pub fault : MatchResult result (λ _. answer_fault old.host old.gather bytes ≡ None)
+      (λ fault. (answer_fault old.host old.gather bytes ≡ Some fault)
+      ⊎ ((fault ≡ answer.Stalled) × (answer_fault old.host old.gather bytes ≡ None)))
+  pub bounds : IsBounded new
+  pub unchanged : IfErr result (λ fault. fails_with fault ≡ false → new ≡ old)
+  pub failed : IfErr result (λ fault. fails_with fault ≡ true → exchange_turn new ≡ Failed)
+  pub ends : (c : Command) (units : List UnitOf) (first : Option Dialogue) (d : Dialogue)
+      → UnderWay c old units first fresh → Gives old.host d bytes status
+      → MatchResult result (λ _. Continues c new units first d)
+      (λ fault. ((fault ≡ answer.Stalled) × Stall c (units ++ ended_with first d ∷ []))
+      ⊎ ((fault ≡ answer.TooLong)
+      × (response_limit < length old.gather.bytes + length bytes)))
+  pub led : (c : Command) (came : List Character) (d : Dialogue) → Leads c came old
+      → Gives old.host d bytes status
+      → MatchResult result (λ _. Leads c (came ++ characters d) new)
+      (λ fault. ((fault ≡ answer.Stalled) × Leads c (came ++ characters d) new)
+      ⊎ ((fault ≡ answer.TooLong) × LeadsTooFar c came (characters d) new)
+      ⊎ (fault ≡ answer.NotDue))
+  pub given : MatchResult result (λ _. (d : Dialogue) × Gives old.host d bytes status)
+      (λ fault. fails_with fault ≡ true → (d : Dialogue) × Gives old.host d bytes status)
 
 -- The status and the data of an exchange that is over; none of every other one. They are what the
 -- characters that led to it say.

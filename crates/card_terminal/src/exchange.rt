@@ -1,4 +1,4 @@
-ghost use Rattle.std.specs.Prelude.{◌≡◌, ◌≤◌, ◌+◌, ◌*◌, ℕ, ◌⊎◌, ◌↔◌, List, [], ◌∷◌, ◌++◌, length, Option, Some, None, true, false, IfOk, OnOk, OnErr, IfErr, IsOk, MatchResult, IsSome, IfSome, IsErrOf};
+ghost use Rattle.std.specs.Prelude.{◌≡◌, ◌≤◌, ◌<◌, ◌+◌, ◌*◌, ℕ, ◌⊎◌, ◌↔◌, List, [], ◌∷◌, ◌++◌, length, Option, Some, None, true, false, IfOk, OnOk, OnErr, IfErr, IsOk, MatchResult, IsSome, IfSome, IsErrOf, is_some};
 ghost use Rattle.apdu_core.specs.declared.header.Header.{Header};
 ghost use Rattle.apdu_core.specs.StatusWord.{StatusWord};
 ghost use Rattle.apdu_core.specs.HeaderBytes.{ins_is_valid};
@@ -6,6 +6,7 @@ ghost use Rattle.apdu_core.specs.CommandBytes.{HasSizes};
 ghost use Rattle.t0_core.specs.Front.{fresh};
 ghost use Rattle.t0_core.specs.HostSide.{HostStandsAt, IsRequest, turn_of};
 ghost use Rattle.t0_core.specs.HostMark.{HasOnly};
+ghost use Rattle.t0_core.specs.HostAnswer.{is_due, may_come, answer_fault, fails_with, Gives};
 ghost use Rattle.card_terminal.specs.ExchangeSide.{HostOpensBy, asks_card};
 
 mod kept;
@@ -14,11 +15,11 @@ mod owned;
 use crate::answer::Answer;
 use crate::attempt::{Attempt, Next};
 use crate::wanted::Wanted;
-use apdu_core::{Command, Header};
+use apdu_core::{Command, Header, Status};
 pub use owned::OwnedExchange;
 use std::alloc::{AllocError, Allocator, Global};
 use std::marker::Model;
-use t0_core::{Gather, HostEnd, HostTurn, LineFault};
+use t0_core::{AnswerFault, Gather, HostEnd, HostTurn, LineFault, WholeTpdu};
 
 /// The most bytes of a response that a terminal gathers (this project's profile).
 pub const RESPONSE_LIMIT: usize = 16_384;
@@ -62,11 +63,11 @@ impl<'a, A: Allocator> Model for Exchange<'a, A> {
 impl<'a, A: Allocator> Exchange<'a, A> {
     ghost use Rattle.apdu_core.specs.CommandBytes as spec;
     ghost use Rattle.t0_core.specs.declared.end.End.TheVariants.{Terminal, Card};
-    ghost use Rattle.t0_core.specs.Dialogue.{Dialogue};
+    ghost use Rattle.t0_core.specs.Dialogue.{Dialogue, characters};
     ghost use Rattle.t0_core.specs.Front.{Front, GoesOn, Ends, brought};
     ghost use Rattle.t0_core.specs.HostSide.{fault_of};
     ghost use Rattle.card_terminal.specs.Gathered.{UnitOf, Gathers};
-    ghost use Rattle.card_terminal.specs.ExchangeHistory.{Leads, unit_characters};
+    ghost use Rattle.card_terminal.specs.ExchangeHistory.{Leads, LeadsTooFar, unit_characters};
     ghost use Rattle.t0_core.specs.Character.{Character};
     ghost use Rattle.card_terminal.specs.ExchangeSide.{UnderWay, IsKept, IsBounded, IsAtEnd, Continues, Stall, exchange_turn, ended_with, is_final};
 
@@ -232,6 +233,72 @@ impl<'a, A: Allocator> Exchange<'a, A> {
                 Err(LineFault::Stalled)
             }
             Next::Ends => Ok(()),
+        }
+    }
+
+    /// The whole TPDU that is due, for a transport of whole TPDUs, where none of its characters has
+    /// gone. `None` where one has, and where the exchange is over or has failed.
+    pub fn tpdu(&self) -> Option<WholeTpdu<'a>>
+        ensures due { is_some result ≡ is_due self.now.host }
+        ensures whole { IfSome result (λ t. (t.header ≡ self.now.host.header)
+            × (t.p3 ≡ self.now.host.p3) × (t.content.now ≡ self.now.host.content)
+            × (t.may_come ≡ may_come self.now.host.direction self.now.host.p3)) }
+        ensures begins { (c : spec.Command) (units : List UnitOf) (first : Option Dialogue)
+            (front : Front) → UnderWay c self.now units first front
+            → IsSome result ↔ (front ≡ fresh) }
+    {
+        self.end.whole()
+    }
+
+    /// Takes the answer to the whole TPDU that is due, its data and its status, as a transport of
+    /// whole TPDUs gives it. With it the next TPDU is begun, if one follows.
+    ///
+    /// `NotDue` comes where `tpdu` is `None`, `NotAsked` where the TPDU sends data and some came,
+    /// `TooMany` where more came than it may: these change nothing. `TooLong` comes where the room
+    /// is too small for the data, `Stalled` as from `take`: then the exchange has failed for good
+    /// (this project's profile).
+    pub fn answered(&mut self, bytes: &[u8], status: Status) -> Result<(), AnswerFault>
+        ensures fault { MatchResult result
+            (λ _. answer_fault self.old.host self.old.gather bytes.now ≡ None)
+            (λ fault. (answer_fault self.old.host self.old.gather bytes.now ≡ Some fault)
+            ⊎ ((fault ≡ AnswerFault.Stalled)
+            × (answer_fault self.old.host self.old.gather bytes.now ≡ None))) }
+        ensures bounds { IsBounded self.new }
+        ensures data { (content : List ℕ) → HasOnly content self.old.host
+            → HasOnly content self.new.host }
+        ensures unchanged { IfErr result (λ fault. fails_with fault ≡ false → self.new ≡ self.old) }
+        ensures failed { IfErr result
+            (λ fault. fails_with fault ≡ true → exchange_turn self.new ≡ HostTurn.Failed) }
+
+        // Whichever dialogue went over the line, with these data and this status, the exchange goes
+        // on as after its characters, or fails as there.
+        ensures ends { (c : spec.Command) (units : List UnitOf) (first : Option Dialogue)
+            (d : Dialogue) →
+            UnderWay c self.old units first fresh → Gives self.old.host d bytes.now status →
+            MatchResult result (λ _. Continues c self.new units first d)
+            (λ fault. ((fault ≡ AnswerFault.Stalled) × Stall c (units ++ ended_with first d ∷ []))
+            ⊎ ((fault ≡ AnswerFault.TooLong)
+            × (RESPONSE_LIMIT < length self.old.gather.bytes + length bytes.now))) }
+
+        // Whatever led to the exchange leads to it with its characters; where there is no room for
+        // the data, with those up to the first that is too much.
+        ensures led { (c : spec.Command) (came : List Character) (d : Dialogue) →
+            Leads c came self.old → Gives self.old.host d bytes.now status →
+            MatchResult result (λ _. Leads c (came ++ characters d) self.new)
+            (λ fault. ((fault ≡ AnswerFault.Stalled) × Leads c (came ++ characters d) self.new)
+            ⊎ ((fault ≡ AnswerFault.TooLong) × LeadsTooFar c came (characters d) self.new)
+            ⊎ (fault ≡ AnswerFault.NotDue)) }
+
+        // Some dialogue gives each answer that is taken or ends the exchange.
+        ensures given { MatchResult result
+            (λ _. (d : Dialogue) × Gives self.old.host d bytes.now status)
+            (λ fault. fails_with fault ≡ true
+            → (d : Dialogue) × Gives self.old.host d bytes.now status) }
+    {
+        self.end.take_up_to_sw2(bytes, status, &mut self.gather)?;
+        match self.take(status.sw2()) {
+            Ok(()) => Ok(()),
+            Err(_) => Err(AnswerFault::Stalled),
         }
     }
 

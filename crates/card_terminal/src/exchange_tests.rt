@@ -2,10 +2,10 @@
 
 use crate::trace::{bytes, characters, pass, word};
 use crate::{Answer, Exchange, RESPONSE_LIMIT};
-use apdu_core::Command;
+use apdu_core::{Command, Status};
 use std::alloc::AllocGlobal;
 use std::process::Abort;
-use t0_core::{End, HostTurn, LineFault};
+use t0_core::{AnswerFault, End, HostTurn, LineFault};
 
 /// A GET DATA of `5F20` that wants everything.
 const GET: &[u8] = &[0x00, 0xCA, 0x5F, 0x20, 0x00];
@@ -337,4 +337,59 @@ fn object_is_all_the_data(rt: HostRuntime) {
         let answer = answer_to(&rt, &bytes(&rt, of), trace);
         assert!(rt; is_object(&rt, &answer) == wanted, "{trace}");
     }
+}
+
+/// The TPDU that is due, as P3, how many bytes go to the card, and how many may come back.
+fn due(exchange: &Exchange<'_>) -> Option<(u8, usize, u16)> {
+    match exchange.tpdu() {
+        Some(tpdu) => Some((tpdu.p3, tpdu.content.len(), tpdu.may_come)),
+        None => None,
+    }
+}
+
+/// What an exchange says to the answer to a whole TPDU, given as its data and its status.
+fn told(
+    rt: &(impl Abort + AllocGlobal),
+    exchange: &mut Exchange<'_>,
+    data: &str,
+    (sw1, sw2): (u8, u8),
+) -> Option<AnswerFault> {
+    let status = Status::new(sw1, sw2).expect(rt, "a status");
+    exchange.answered(&bytes(rt, data), status).err()
+}
+
+#[test]
+fn driven_by_whole_tpdus(rt: HostRuntime) {
+    let mut exchange = begun(&rt, GET);
+    assert!(rt; due(&exchange) == Some((0x00, 0, 256)));
+    assert!(rt; told(&rt, &mut exchange, "", (0x6C, 0x06)).is_none());
+    assert!(rt; due(&exchange) == Some((0x06, 0, 6)));
+    assert!(rt;
+        told(&rt, &mut exchange, "00000000000000", (0x90, 0x00)) == Some(AnswerFault::TooMany)
+    );
+    assert!(rt; told(&rt, &mut exchange, "5F20034A4F45", (0x90, 0x00)).is_none());
+    assert!(rt; due(&exchange).is_none());
+    assert!(rt; told(&rt, &mut exchange, "", (0x90, 0x00)) == Some(AnswerFault::NotDue));
+    is_name(&rt, &answer_of(&rt, exchange));
+}
+
+#[test]
+fn whole_tpdus_with_data_to_the_card(rt: HostRuntime) {
+    let of = bytes(&rt, "00A4040007A000000003101000");
+    let mut exchange = begun(&rt, &of);
+    assert!(rt; due(&exchange) == Some((0x07, 7, 0)));
+    assert!(rt; told(&rt, &mut exchange, "6F", (0x90, 0x00)) == Some(AnswerFault::NotAsked));
+    assert!(rt; told(&rt, &mut exchange, "", (0x61, 0x0B)).is_none());
+    assert!(rt; due(&exchange) == Some((0x0B, 0, 11)));
+    assert!(rt; told(&rt, &mut exchange, "", (0x61, 0x0B)) == Some(AnswerFault::Stalled));
+    assert!(rt; matches!(turn(&mut exchange), HostTurn::Failed));
+    assert!(rt; due(&exchange).is_none());
+}
+
+#[test]
+fn no_answer_in_mid_tpdu(rt: HostRuntime) {
+    let mut exchange = begun(&rt, GET);
+    let _ = turn(&mut exchange);
+    assert!(rt; due(&exchange).is_none());
+    assert!(rt; told(&rt, &mut exchange, "", (0x90, 0x00)) == Some(AnswerFault::NotDue));
 }

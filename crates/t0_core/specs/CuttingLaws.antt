@@ -317,7 +317,8 @@ body_comes d b r rest apart is header p3 direction in_last equal =
     λ h. P h b.p3 b.direction in subst Q (sym header) three in four in_last equal
 
 -- the data of a whole dialogue end inside its last segment
-whole_in_last : (segments : List Step) (k n : ℕ) → n ≡ all_moves segments k → EndInLast segments k n
+pub whole_in_last : (segments : List Step) (k n : ℕ) → n ≡ all_moves segments k
+    → EndInLast segments k n
 whole_in_last [] k n e = e
 whole_in_last (s ∷ []) k n e = omega (arith, e)
 whole_in_last (s ∷ t ∷ segments) k n e = (

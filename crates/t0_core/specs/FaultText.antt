@@ -2,6 +2,8 @@
 use Rattle.std.specs.Prelude.{ℕ, List, codes}
 use Rattle.t0_core.specs.declared.line_fault.LineFault.{LineFault}
 use Rattle.t0_core.specs.declared.line_fault.LineFault.TheVariants.{BadProcedure, AfterEnd, TooLong, Stalled, NotListening}
+use Rattle.t0_core.specs.declared.answer_fault.AnswerFault.{AnswerFault}
+use Rattle.t0_core.specs.declared.answer_fault.AnswerFault.TheVariants as answer
 
 -- why a terminal does not take a character
 abbrev pub fault_text : LineFault → List ℕ
@@ -10,3 +12,11 @@ fault_text AfterEnd = codes "character after the end"
 fault_text TooLong = codes "response too long"
 fault_text Stalled = codes "response stalled"
 fault_text NotListening = codes "character out of turn"
+
+-- why a terminal does not take the answer to a whole TPDU
+abbrev pub answer_fault_text : AnswerFault → List ℕ
+answer_fault_text answer.NotDue = codes "no answer due"
+answer_fault_text answer.NotAsked = codes "data not asked for"
+answer_fault_text answer.TooMany = codes "more data than asked for"
+answer_fault_text answer.TooLong = codes "response too long"
+answer_fault_text answer.Stalled = codes "response stalled"

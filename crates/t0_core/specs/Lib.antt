@@ -12,6 +12,7 @@ pub mod CardContract
 pub mod HostSide
 pub mod HostView
 pub mod HostMark
+pub mod HostAnswer
 pub mod CardView
 pub mod FrontLaws
 pub mod ProcedureLaws
@@ -22,6 +23,7 @@ pub mod WatchLaws
 pub mod CardLaws
 pub mod HostLaws
 pub mod OwnLaws
+pub mod AnswerLaws
 pub mod FaultText
 pub mod TapSide
 pub mod TapView

@@ -1,4 +1,4 @@
-ghost use Rattle.std.specs.Prelude.{◌≡◌, ℕ, ◌<◌, ◌≤◌, [], ◌∷◌, ◌++◌, length, IfOk, ◌==◌, false};
+ghost use Rattle.std.specs.Prelude.{◌≡◌, ℕ, ◌<◌, ◌≤◌, [], ◌∷◌, ◌++◌, length, IfOk, ◌==◌, ◌+◌, nat_le, false};
 
 use std::alloc::{AllocError, Allocator, Global};
 use std::marker::Model;
@@ -72,6 +72,26 @@ impl<A: Allocator> Gather<A> {
         ensures { result ≡ (length self.now.bytes == self.now.limit) }
     {
         self.bytes.len() == self.limit
+    }
+
+    /// Whether there is room for so many bytes more.
+    pub(crate) fn has_room(&self, count: usize) -> bool
+        ensures { result ≡ nat_le (length self.now.bytes + count) self.now.limit }
+    {
+        count <= self.limit - self.bytes.len()
+    }
+
+    /// Adds bytes, for which there is room.
+    pub(crate) fn extend(&mut self, bytes: &[u8])
+        requires { length self.old.bytes + length bytes.now ≤ self.old.limit }
+        ensures { self.new ≡ record {
+          bytes = self.old.bytes ++ bytes.now;
+          limit = self.old.limit;
+        } }
+    {
+        if self.bytes.extend_from_slice(bytes).is_err() {
+            unreachable!()
+        }
     }
 
     /// Adds a byte, for which there is room.

@@ -1,4 +1,4 @@
-ghost use Rattle.std.specs.Prelude.{◌≡◌, ℕ, ◌≤◌, ◌<◌, List, [], ◌∷◌, ◌++◌, true, OnOk, OnErr, IfErr, MatchResult, IsOk, length, IfOk, is_ok, if◌then◌else◌, ◌⊎◌, ◌↔◌, Some, None};
+ghost use Rattle.std.specs.Prelude.{◌≡◌, ℕ, ◌≤◌, ◌<◌, List, [], ◌∷◌, ◌++◌, true, OnOk, OnErr, IfErr, MatchResult, IsOk, length, IfOk, is_ok, if◌then◌else◌, ◌⊎◌, ◌↔◌, Some, None, is_some, IfSome};
 ghost use Rattle.std.specs.Result.{result_err};
 ghost use Rattle.apdu_core.specs.HeaderBytes.{ins_is_valid};
 ghost use Rattle.apdu_core.specs.StatusWord.{StatusWord, count};
@@ -7,14 +7,17 @@ ghost use Rattle.t0_core.specs.declared.direction.Direction.TheVariants.{ToCard,
 ghost use Rattle.t0_core.specs.HostSide.{IsInRange, IsStage, turn_of, data_turn, data_due, after_turn, moving, fault_of, data_fault, procedure_fault, step_of, after_fault, after_taking, data_in, gathered};
 ghost use Rattle.t0_core.specs.HostView.{host_of, direction_of, content_of};
 ghost use Rattle.t0_core.specs.HostMark.{HasOnly, with_data};
+ghost use Rattle.t0_core.specs.HostAnswer.{is_due, is_start, may_come, excess, answer_fault, after_answer_fault, Gives};
 
+use crate::answer_fault::AnswerFault;
 use crate::direction::Direction;
 use crate::gather::Gather;
 use crate::host_mark::HostMark;
 use crate::line_fault::LineFault;
 use crate::procedure::{moves, step_of};
 use crate::request::{Request, Transfer, foreseen, opening_character};
-use apdu_core::{Header, Status};
+use crate::whole_tpdu::WholeTpdu;
+use apdu_core::{Header, Status, count};
 use std::alloc::Allocator;
 use std::marker::Model;
 
@@ -71,9 +74,9 @@ impl<'a> Model for HostEnd<'a> {
 
 impl<'a> HostEnd<'a> {
     ghost use Rattle.t0_core.specs.declared.end.End.TheVariants.{Terminal, Card};
-    ghost use Rattle.t0_core.specs.declared.host_end.HostStage.TheVariants.{SendingHeader, Ended};
+    ghost use Rattle.t0_core.specs.declared.host_end.HostStage.TheVariants.{SendingHeader, AwaitingSecond, Ended};
     ghost use Rattle.t0_core.specs.Dialogue.{Dialogue};
-    ghost use Rattle.t0_core.specs.Front.{Front, GoesOn, Ends, brought, fresh};
+    ghost use Rattle.t0_core.specs.Front.{Front, After_first, GoesOn, Ends, brought, fresh};
     ghost use Rattle.t0_core.specs.HostSide.{at_stage, HostStandsAt, IsRequest};
     ghost use Rattle.t0_core.specs.HostMark.{HasOnly, with_data};
 
@@ -245,6 +248,151 @@ impl<'a> HostEnd<'a> {
                 Err(fault)
             }
         }
+    }
+
+    /// The whole TPDU, if none of its characters has gone.
+    pub fn whole(&self) -> Option<WholeTpdu<'a>>
+        ensures due { is_some result ≡ is_due self.now }
+        ensures whole { IfSome result (λ t. (t.header ≡ self.now.header) × (t.p3 ≡ self.now.p3)
+            × (t.content.now ≡ self.now.content)
+            × (t.may_come ≡ may_come self.now.direction self.now.p3)) }
+    {
+        if is_at_start(self.stage) {
+            Some(whole_of(self.request))
+        } else {
+            None
+        }
+    }
+
+    /// Takes the answer to the whole TPDU, with which a transport of whole TPDUs has gone through
+    /// it: the data from the card go into the gather, and the end waits for SW2 of the status, the
+    /// one character that `take` is still to be given.
+    ///
+    /// `NotDue` comes where a character of the TPDU has gone, `NotAsked` where the TPDU sends data
+    /// and some came, `TooMany` where more came than P3 counts: these change nothing. `TooLong`
+    /// comes where the gather has no room for them: then the end has failed. No fault changes the
+    /// gather.
+    pub fn take_up_to_sw2<A: Allocator>(
+        &mut self,
+        bytes: &[u8],
+        status: Status,
+        gather: &mut Gather<A>,
+    ) -> Result<(), AnswerFault>
+        ensures fault { result_err result ≡ answer_fault self.old gather.old bytes.now }
+        ensures refused { IfErr result
+            (λ fault. (self.new ≡ at_stage self.old (after_answer_fault self.old.stage fault))
+            × (gather.new ≡ gather.old)) }
+        ensures taken { OnOk result ((self.new ≡ at_stage self.old (AwaitingSecond status.0))
+            × (gather.new ≡ gathered gather.old bytes.now)) }
+        ensures keeps { IsRequest self.new }
+
+        // It takes each dialogue that it opened, where there is room for the data.
+        ensures stands { (d : Dialogue) → Gives self.old d bytes.now status →
+            MatchResult result (λ _. HostStandsAt self.new (After_first d.body status.0))
+            (λ fault. (fault ≡ AnswerFault.NotDue) ⊎ (fault ≡ AnswerFault.TooLong)) }
+
+        // What it takes, or has no room for, is what some dialogue that it opened gives.
+        ensures given { MatchResult result (λ _. (d : Dialogue) × Gives self.old d bytes.now status)
+            (λ fault. fault ≡ AnswerFault.TooLong
+            → (d : Dialogue) × Gives self.old d bytes.now status) }
+    {
+        let sw1 = status.sw1();
+        match take_answer(&self.request, self.stage, bytes, gather) {
+            Ok(()) => {
+                self.stage = HostStage::AwaitingSecond { sw1 };
+                Ok(())
+            }
+            Err(fault) => {
+                self.stage = stage_after_answer_fault(self.stage, fault);
+                Err(fault)
+            }
+        }
+    }
+}
+
+/// Whether no character of the TPDU has gone.
+fn is_at_start(stage: HostStage) -> bool
+    ensures { result ≡ is_start stage }
+{
+    matches!(stage, HostStage::SendingHeader { sent: 0 })
+}
+
+/// The TPDU that is opened.
+fn whole_of<'a>(request: Request<'a>) -> WholeTpdu<'a>
+    ensures fields { (result.header ≡ request.entry.header) × (result.p3 ≡ request.entry.p3) }
+    ensures content { result.content.now ≡ content_of request.entry.transfer }
+    ensures comes { result.may_come
+        ≡ may_come (direction_of request.entry.transfer) request.entry.p3 }
+{
+    let Request {
+        header,
+        p3,
+        transfer,
+    } = request;
+    let content: &[u8] = match transfer {
+        Transfer::Sending(content) => content,
+        Transfer::Asking => &[],
+    };
+    WholeTpdu {
+        header,
+        p3,
+        content,
+        may_come: may_come(&transfer, p3),
+    }
+}
+
+/// Takes the data of an answer into the gather, or says what fault it is: then nothing changes.
+fn take_answer<A: Allocator>(
+    request: &Request,
+    stage: HostStage,
+    bytes: &[u8],
+    gather: &mut Gather<A>,
+) -> Result<(), AnswerFault>
+    ensures fault { result_err result
+        ≡ answer_fault (host_of request.now stage) gather.old bytes.now }
+    ensures gathered { gather.new
+        ≡ (if is_ok result then gathered gather.old bytes.now else gather.old) }
+{
+    if !is_at_start(stage) {
+        return Err(AnswerFault::NotDue);
+    }
+    if bytes.len() > usize::from(may_come(&request.transfer, request.p3)) {
+        return Err(excess(&request.transfer));
+    }
+    if !gather.has_room(bytes.len()) {
+        return Err(AnswerFault::TooLong);
+    }
+    gather.extend(bytes);
+    Ok(())
+}
+
+/// How many data characters may come back.
+fn may_come(transfer: &Transfer, p3: u8) -> u16
+    ensures { result ≡ may_come (direction_of transfer.now) p3 }
+{
+    match transfer {
+        Transfer::Sending(_) => 0,
+        Transfer::Asking => count(p3),
+    }
+}
+
+/// The fault that more of them are.
+fn excess(transfer: &Transfer) -> AnswerFault
+    ensures { result ≡ excess (direction_of transfer.now) }
+{
+    match transfer {
+        Transfer::Sending(_) => AnswerFault::NotAsked,
+        Transfer::Asking => AnswerFault::TooMany,
+    }
+}
+
+/// Where such a fault leaves the end.
+fn stage_after_answer_fault(stage: HostStage, fault: AnswerFault) -> HostStage
+    ensures { result ≡ after_answer_fault stage fault }
+{
+    match fault {
+        AnswerFault::TooLong | AnswerFault::Stalled => HostStage::Broken,
+        _ => stage,
     }
 }
 

@@ -1,6 +1,7 @@
 //! Both ends of a command TPDU at T=0 (ISO/IEC 7816-3, clause 10).
 #![tactic(auto)]
 
+mod answer_fault;
 mod card_end;
 mod direction;
 mod end;
@@ -19,7 +20,9 @@ mod tap;
 mod tpdu_card;
 mod unheard;
 mod watch;
+mod whole_tpdu;
 
+pub use answer_fault::AnswerFault;
 pub use card_end::{CardEnd, NotListening, Turn};
 pub use direction::Direction;
 pub use end::End;
@@ -34,6 +37,7 @@ pub use tap::Tap;
 pub use tpdu_card::{TpduCard, Verdict};
 pub use unheard::Unheard;
 pub use watch::{Silent, Watch};
+pub use whole_tpdu::WholeTpdu;
 
 #[cfg(test)]
 mod card_tests;

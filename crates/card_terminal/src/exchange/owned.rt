@@ -1,11 +1,12 @@
 //! An exchange that can be kept between characters, since it borrows nothing.
-ghost use Rattle.std.specs.Prelude.{◌≡◌, ℕ, List, [], None, Some, IfOk};
+ghost use Rattle.std.specs.Prelude.{◌≡◌, ℕ, List, [], None, Some, IfOk, IfSome, IsSome, is_some, ◌↔◌, Option};
 ghost use Rattle.std.specs.Option.{option_map};
 ghost use Rattle.t0_core.specs.Front.{fresh};
 ghost use Rattle.t0_core.specs.HostMark.{HasOnly};
+ghost use Rattle.t0_core.specs.HostAnswer.{is_due, may_come};
 ghost use Rattle.card_terminal.specs.ExchangeSide.{UnderWay};
 ghost use Rattle.card_terminal.specs.ExchangeHistory.{Leads};
-ghost use Rattle.card_terminal.specs.ExchangeSteps.{IsTurn, IsTaking, IsAnswer};
+ghost use Rattle.card_terminal.specs.ExchangeSteps.{IsTurn, IsTaking, IsAnswering, IsAnswer};
 ghost use Rattle.card_terminal.specs.OwnedExchange.{exchange_of, IsSound};
 
 use crate::exchange::Exchange;
@@ -14,7 +15,7 @@ use apdu_core::{Command, Status};
 use std::alloc::{AllocError, Global};
 use std::marker::Model;
 use std::mem;
-use t0_core::{Gather, HostEnd, HostTurn, LineFault};
+use t0_core::{AnswerFault, Gather, HostEnd, HostTurn, LineFault, WholeTpdu};
 
 /// An `Exchange` that holds its command's data itself. Contracts see it as an exchange.
 #[derive(Drop)]
@@ -37,6 +38,11 @@ impl Model for OwnedExchange {
 }
 
 impl OwnedExchange {
+    ghost use Rattle.apdu_core.specs.CommandBytes as spec;
+    ghost use Rattle.t0_core.specs.Dialogue.{Dialogue};
+    ghost use Rattle.t0_core.specs.Front.{Front};
+    ghost use Rattle.card_terminal.specs.Gathered.{UnitOf};
+
     /// Begins the exchange of a command, whose data are copied. All memory is taken here: that of
     /// `Exchange::start`, and room for the data; the error is want of it.
     pub fn start(alloc: Global, command: Command<'_>) -> Result<OwnedExchange, AllocError>
@@ -73,6 +79,32 @@ impl OwnedExchange {
         let gather = mem::replace(&mut self.gather, Gather::without_room(self.alloc));
         let mut exchange = resumed(self.kept, gather, self.content.as_slice());
         let taken = exchange.take(byte);
+        let (kept, gather) = aside(exchange);
+        self.kept = kept;
+        self.gather = gather;
+        taken
+    }
+
+    /// The whole TPDU that is due, as `Exchange::tpdu`.
+    pub fn tpdu(&self) -> Option<WholeTpdu<'_>>
+        ensures due { is_some result ≡ is_due self.now.host }
+        ensures whole { IfSome result (λ t. (t.header ≡ self.now.host.header)
+            × (t.p3 ≡ self.now.host.p3) × (t.content.now ≡ self.now.host.content)
+            × (t.may_come ≡ may_come self.now.host.direction self.now.host.p3)) }
+        ensures begins { (c : spec.Command) (units : List UnitOf) (first : Option Dialogue)
+            (front : Front) → UnderWay c self.now units first front
+            → IsSome result ↔ (front ≡ fresh) }
+    {
+        HostEnd::at(self.kept.mark, self.content.as_slice()).whole()
+    }
+
+    /// Takes the answer to it, as `Exchange::answered`.
+    pub fn answered(&mut self, bytes: &[u8], status: Status) -> Result<(), AnswerFault>
+        ensures { IsAnswering self.old bytes.now status result self.new }
+    {
+        let gather = mem::replace(&mut self.gather, Gather::without_room(self.alloc));
+        let mut exchange = resumed(self.kept, gather, self.content.as_slice());
+        let taken = exchange.answered(bytes, status);
         let (kept, gather) = aside(exchange);
         self.kept = kept;
         self.gather = gather;

@@ -1,0 +1,346 @@
+-- The answer to a whole TPDU takes an exchange as far as a dialogue that gives it.
+use Rattle.std.proofs.Common.{◌≡◌, ℕ, ◌+◌, ◌-◌, ◌<◌, List, [], ◌∷◌, ◌++◌, length, length-append, refl, sym, subst, ◌∙◌, ap, arith, inl, inr, ◌⊎◌, true, false, Bool, Option, Some, None, is_some, append-nil, append_assoc, if◌then◌else◌, ◌==◌, eq-eqb}
+use Rattle.std.specs.Prelude.{IsSome, ◌↔◌}
+use Rattle.std.specs.List.{flat_map}
+use Rattle.std.proofs.lemmas.Bool.{leb-false}
+use Rattle.apdu_core.specs.StatusWord.{StatusWord}
+use Rattle.apdu_core.specs.CommandBytes.{Command}
+use Rattle.t0_core.specs.declared.end.End.TheVariants.{Card}
+use Rattle.t0_core.specs.declared.direction.Direction.{Direction}
+use Rattle.t0_core.specs.declared.direction.Direction.TheVariants.{ToCard, FromCard}
+use Rattle.t0_core.specs.declared.host_end.HostTurn.TheVariants.{Sends, Failed}
+use Rattle.t0_core.specs.declared.answer_fault.AnswerFault.{AnswerFault}
+use Rattle.t0_core.specs.declared.answer_fault.AnswerFault.TheVariants.{NotDue, TooLong as AnswerTooLong}
+use Rattle.t0_core.specs.declared.line_fault.LineFault.TheVariants.{TooLong}
+use Rattle.t0_core.specs.Character.{Character}
+use Rattle.t0_core.specs.Dialogue.{Dialogue, IsDialogue, characters}
+use Rattle.t0_core.specs.Meaning.{received}
+use Rattle.t0_core.specs.Front.{Front, In_body, After_first, IsFront, Ends, brought, front_characters, from_card, fresh}
+use Rattle.t0_core.specs.DialogueLaws.{ends_with}
+use Rattle.t0_core.specs.Room.{Room}
+use Rattle.t0_core.specs.HostSide.{Hosting, AreOwn, HostStandsAt, IsOpenedBy, IsRequest, at_stage, gathered, fault_of, data_fault, turn_of}
+use Rattle.t0_core.specs.HostAnswer.{is_due, excess, answer_fault, after_answer_fault, before_sw2, moving_in, Gives}
+use Rattle.t0_core.specs.AnswerLaws.{whole_front, due_is_fresh, fresh_is_due, due_sends, dialogue_overflows}
+use Rattle.card_terminal.specs.Gathered.{UnitOf}
+use Rattle.card_terminal.specs.ExchangeSide.{ExchangeOf, UnderWay, IsKept, so_far, exchange_turn, response_limit}
+use Rattle.card_terminal.specs.ExchangeHistory.{Leads, LeadsTooFar, to_front, to_end, to_stall, to_fault, characters_to}
+use Rattle.card_terminal.proofs.UnitLemmas.{received_of}
+use Rattle.card_terminal.proofs.ExchangeLemmas.{IsSameRequest, opened_too, place_too, with_host, sending_is_going, seen_under_way}
+use Rattle.card_terminal.proofs.LeadsLemmas.{done_sends_nothing, failed_sends_nothing, over_turn, failed_turn}
+
+-- the TPDU under way stands at another front, with the data that it has brought
+pub stands_at : (c : Command) (ex : ExchangeOf) (host : Hosting) (units : List UnitOf)
+    (first : Option Dialogue) (front : Front) (bytes : List ℕ) → UnderWay c ex units first fresh
+    → IsSameRequest ex.host host → IsRequest host → IsFront front → HostStandsAt host front
+    → bytes ≡ brought front
+    → UnderWay c (with_host ex host (gathered ex.gather bytes)) units first front
+stands_at c ex host units first front bytes under same request front_is stands is = record {
+  opening = under.opening;
+  left = under.left;
+  followed = under.followed;
+  are_dialogues = under.are_dialogues;
+  opened_as = opened_too under.opening under.left first ex.host host same under.opened_as;
+  place = place_too ex.attempt under.opening units first ex.host host same under.place;
+  stands = stands;
+  request = request;
+  is_front = front_is;
+  gathered = ap (λ ds. ds ++ bytes) (under.gathered
+      ∙ append-nil (flat_map received (so_far units first)))
+      ∙ ap (λ ds. flat_map received (so_far units first) ++ ds) is;
+  room = under.room;
+  wanted_is = under.wanted_is;
+  going = under.going;
+}
+
+-- all of the dialogue but SW2
+pub up_to_sw2 : (c : Command) (ex : ExchangeOf) (units : List UnitOf) (first : Option Dialogue)
+    (bytes : List ℕ) (sw : StatusWord) (d : Dialogue) → UnderWay c ex units first fresh
+    → Gives ex.host d bytes sw
+    → HostStandsAt (before_sw2 ex.host sw) (After_first d.body d.status.0)
+    → UnderWay c (with_host ex (before_sw2 ex.host sw) (gathered ex.gather bytes)) units first
+    (After_first d.body d.status.0)
+up_to_sw2 c ex units first bytes sw d under gives stands =
+    stands_at c ex (before_sw2 ex.host sw) units first (After_first d.body d.status.0) bytes under
+    (record { header = refl; p3 = refl; direction = refl; content = refl }) under.request
+    (whole_front d gives.is_dialogue) stands (sym gives.brings ∙ received_of d.body d.status)
+
+-- an exchange to which a TPDU is due stands at the fresh front
+pub due_front : (c : Command) (came : List Character) (ex : ExchangeOf) → IsKept ex
+    → is_due ex.host ≡ true → Leads c came ex
+    → (units : List UnitOf) × (first : Option Dialogue) × UnderWay c ex units first fresh
+    × (came ≡ characters_to units first fresh)
+due_front c came ex kept due leads = by leads
+  where
+    sends : (byte : ℕ) × (exchange_turn ex ≡ Sends byte)
+    sends =
+        let turn = due_sends ex.host due in (
+          turn.0,
+          ap (λ b. if b then Failed else turn_of ex.host) (sending_is_going ex turn.0 kept turn.1)
+              ∙ turn.1,
+        )
+
+    by : Leads c came ex
+        → (units : List UnitOf) × (first : Option Dialogue) × UnderWay c ex units first fresh
+        × (came ≡ characters_to units first fresh)
+    by (to_front units first front under is) =
+        let same = due_is_fresh ex.host front under.stands due in
+        let P : Front → Type 0 = λ f. UnderWay c ex units first f in (
+          units,
+          first,
+          subst P same under,
+          is ∙ ap (λ f. characters_to units first f) same,
+        )
+    by (to_end units status over is) =
+        absurd (done_sends_nothing status sends.0 (exchange_turn ex)
+        (over_turn c ex units status over) sends.1)
+    by (to_stall units stall are failed is) =
+        absurd (failed_sends_nothing sends.0 (exchange_turn ex) failed sends.1)
+    by (to_fault units first front before b fault under why final failed is) =
+        absurd (failed_sends_nothing sends.0 (exchange_turn ex) failed sends.1)
+
+-- where the room is too small, the first character that is too much is the fault
+pub leads_too_long : (c : Command) (came : List Character) (ex new : ExchangeOf) (d : Dialogue)
+    → IsKept ex → is_due ex.host ≡ true → Leads c came ex → IsOpenedBy ex.host d.body
+    → IsDialogue d → response_limit < length ex.gather.bytes + length (received d)
+    → exchange_turn new ≡ Failed → LeadsTooFar c came (characters d) new
+leads_too_long c came ex new d kept due leads opened is over failed =
+    let at = due_front c came ex kept due leads in
+    let left : ℕ = response_limit - length ex.gather.bytes in
+    let o = dialogue_overflows left d is (omega (arith, over, kept.fits)) in
+    let asks : ex.host.direction ≡ FromCard = sym opened.2 ∙ sym o.opened.2 ∙ o.way in
+    let Own : Direction → Type 0 = λ direction. AreOwn direction ex.host.content o.body.moved in
+    let by : IsOpenedBy ex.host o.body = (
+      o.opened.0 ∙ opened.0,
+      o.opened.1 ∙ opened.1,
+      o.opened.2 ∙ opened.2,
+      subst Own (sym asks) tt,
+    ) in
+    let before = with_host ex (moving_in ex.host o.body) (gathered ex.gather o.body.moved) in
+    let moved : o.body.moved ≡ from_card o.body.direction o.body.moved =
+    ap (λ way. from_card way o.body.moved) (sym o.way) in
+    let under : UnderWay c before at.0 at.1 (In_body o.body) =
+    stands_at c ex (moving_in ex.host o.body) at.0 at.1 (In_body o.body) o.body.moved at.2
+    (record { header = refl; p3 = refl; direction = refl; content = refl }) at.2.request o.begun
+    (by, refl, o.more, refl) moved in
+    let full : (length (ex.gather.bytes ++ o.body.moved) == ex.gather.limit) ≡ true =
+    eq-eqb (length (ex.gather.bytes ++ o.body.moved)) ex.gather.limit
+    (omega (arith, length-append ex.gather.bytes o.body.moved, o.so_many, kept.fits, kept.room)) in
+    let why : fault_of before.host before.gather o.byte ≡ Some TooLong =
+    ap (λ way. data_fault way before.gather) asks
+    ∙ ap (λ b. if b then Some TooLong else None) full in
+    let came_is : came ++ o.before ≡ characters_to at.0 at.1 (In_body o.body) =
+    ap (λ cs. cs ++ o.before) (at.3 ∙ append-nil (flat_map characters (so_far at.0 at.1)))
+    ∙ ap (λ cs. flat_map characters (so_far at.0 at.1) ++ cs) o.gone in
+    record {
+      before = o.before;
+      byte = o.byte;
+      rest = o.rest;
+      cs_are = o.cs_are;
+      prior = before;
+      led = to_front at.0 at.1 (In_body o.body) under came_is;
+      is_fault = why;
+      led_to = to_fault at.0 at.1 (In_body o.body) before o.byte TooLong under why refl failed
+          (ap (λ cs. cs ++ (Card, o.byte) ∷ []) came_is);
+    }
+
+-- ---- as the call says it
+
+-- The end has taken an answer with these data and this status.
+pub record TookAnswer (ex : ExchangeOf) (host : Hosting) (room : Room) (bytes : List ℕ)
+    (sw : StatusWord) : Type 0 where
+  pub kept : IsKept ex
+  pub no_fault : answer_fault ex.host ex.gather bytes ≡ None
+  pub host_is : host ≡ before_sw2 ex.host sw
+  pub room_is : room ≡ gathered ex.gather bytes
+  pub stands : (d : Dialogue) → Gives ex.host d bytes sw
+      → HostStandsAt host (After_first d.body sw.0)
+
+pub took : (ex : ExchangeOf) (host : Hosting) (room : Room) (bytes : List ℕ) (sw : StatusWord)
+    → IsKept ex → None ≡ answer_fault ex.host ex.gather bytes
+    → (host ≡ before_sw2 ex.host sw) × (room ≡ gathered ex.gather bytes)
+    → ((d : Dialogue) → Gives ex.host d bytes sw → HostStandsAt host (After_first d.body sw.0))
+    → TookAnswer ex host room bytes sw
+took ex host room bytes sw kept no_fault taken stands = record {
+  kept = kept;
+  no_fault = sym no_fault;
+  host_is = taken.0;
+  room_is = taken.1;
+  stands = stands;
+}
+
+due_where : (due more fits : Bool) (x : AnswerFault)
+    → (if due then (if more then Some x else (if fits then None else Some AnswerTooLong))
+    else Some NotDue) ≡ None → due ≡ true
+due_where true more fits x e = refl
+due_where false more fits x e = absurd (cc)
+
+excess_is : (direction : Direction) → Some (excess direction) ≡ Some AnswerTooLong → ⊥
+excess_is ToCard e = absurd (cc)
+excess_is FromCard e = absurd (cc)
+
+long_where : (due more fits : Bool) (direction : Direction)
+    → (if due then (if more then Some (excess direction)
+    else (if fits then None else Some AnswerTooLong)) else Some NotDue) ≡ Some AnswerTooLong
+    → (due ≡ true) × (fits ≡ false)
+long_where false more fits direction e = absurd (cc)
+long_where true true fits direction e = absurd (excess_is direction e)
+long_where true false true direction e = absurd (cc)
+long_where true false false direction e = (refl, refl)
+
+pub gives_inside : (ex seen : ExchangeOf) (bytes : List ℕ) (sw : StatusWord) (d : Dialogue)
+    → ex ≡ seen → Gives seen.host d bytes sw → Gives ex.host d bytes sw
+gives_inside ex seen bytes sw d is gives = let P : ExchangeOf → Type 0 =
+    λ e. Gives e.host d bytes sw in subst P (sym is) gives
+
+leads_inside : (c : Command) (came : List Character) (ex seen : ExchangeOf) → ex ≡ seen
+    → Leads c came seen → Leads c came ex
+leads_inside c came ex seen is leads = let P : ExchangeOf → Type 0 = λ e. Leads c came e in
+    subst P (sym is) leads
+
+as_took : (ex : ExchangeOf) (host : Hosting) (room : Room) (bytes : List ℕ) (sw : StatusWord)
+    (P : ExchangeOf → Type 0) → TookAnswer ex host room bytes sw
+    → P (with_host ex (before_sw2 ex.host sw) (gathered ex.gather bytes))
+    → P (with_host ex host room)
+as_took ex host room bytes sw P took holds =
+    let R : Room → Type 0 =
+    λ r. P (with_host ex (before_sw2 ex.host sw) r) in
+    let H : Hosting → Type 0 = λ h. P (with_host ex h room) in
+    subst H (sym took.host_is) (subst R (sym took.room_is) holds)
+
+stood : (ex : ExchangeOf) (host : Hosting) (room : Room) (bytes : List ℕ) (sw : StatusWord)
+    (d : Dialogue) → TookAnswer ex host room bytes sw → Gives ex.host d bytes sw
+    → HostStandsAt (before_sw2 ex.host sw) (After_first d.body d.status.0)
+stood ex host room bytes sw d took gives =
+    let H : Hosting → Type 0 = λ h. HostStandsAt h (After_first d.body sw.0) in
+    let S : StatusWord → Type 0 =
+    λ s. HostStandsAt (before_sw2 ex.host sw) (After_first d.body s.0) in
+    subst S (sym gives.status) (subst H took.host_is
+    (took.stands d gives))
+
+pub under_took : (c : Command) (ex seen : ExchangeOf) (host : Hosting) (room : Room)
+    (units : List UnitOf) (first : Option Dialogue) (bytes : List ℕ) (sw : StatusWord)
+    (d : Dialogue) → ex ≡ seen → TookAnswer ex host room bytes sw → Gives seen.host d bytes sw
+    → UnderWay c seen units first fresh
+    → UnderWay c (with_host ex host room) units first (After_first d.body sw.0)
+under_took c ex seen host room units first bytes sw d is took gives under =
+    let P : ExchangeOf → Type 0 =
+    λ e. UnderWay c e units first (After_first d.body sw.0) in
+    let S : StatusWord → Type 0 =
+    λ s. UnderWay c
+    (with_host ex (before_sw2 ex.host sw) (gathered ex.gather bytes)) units first
+    (After_first d.body s.0) in
+    as_took ex host room bytes sw P took (subst S gives.status
+    (up_to_sw2 c ex units first bytes sw d (seen_under_way c ex seen units first fresh is under)
+    (gives_inside ex seen bytes sw d is gives)
+    (stood ex host room bytes sw d took (gives_inside ex seen bytes sw d is gives))))
+
+-- where they led to the exchange before the answer, the TPDU is at its fresh front
+pub front_took : (c : Command) (came : List Character) (ex seen : ExchangeOf) (host : Hosting)
+    (room : Room) (bytes : List ℕ) (sw : StatusWord) → ex ≡ seen
+    → TookAnswer ex host room bytes sw → Leads c came seen
+    → (units : List UnitOf) × (first : Option Dialogue) × UnderWay c seen units first fresh
+    × (came ≡ characters_to units first fresh)
+front_took c came ex seen host room bytes sw is took leads =
+    let P : ExchangeOf → Type 0 =
+    λ e. (units : List UnitOf) × (first : Option Dialogue) × UnderWay c e units first fresh
+    × (came ≡ characters_to units first fresh) in
+    subst P is (due_front c came ex took.kept (due_where _ _ _ _ took.no_fault)
+    (leads_inside c came ex seen is leads))
+
+pub leads_took : (c : Command) (came : List Character) (ex seen : ExchangeOf) (host : Hosting)
+    (room : Room) (bytes : List ℕ) (sw : StatusWord) (d : Dialogue) → ex ≡ seen
+    → TookAnswer ex host room bytes sw → Gives seen.host d bytes sw → Leads c came seen
+    → Leads c (came ++ front_characters (After_first d.body sw.0)) (with_host ex host room)
+leads_took c came ex seen host room bytes sw d is took gives leads =
+    let at = front_took c came ex seen host room bytes sw is took leads in
+    to_front at.0 at.1 (After_first d.body sw.0)
+    (under_took c ex seen host room at.0 at.1 bytes sw d is took gives at.2)
+    (ap (λ cs. cs ++ front_characters (After_first d.body sw.0))
+    (at.3 ∙ append-nil (flat_map characters (so_far at.0 at.1))))
+
+-- SW2 ends the dialogue
+pub ends_took : (host : Hosting) (d : Dialogue) (bytes : List ℕ) (sw : StatusWord) (byte : ℕ)
+    → byte ≡ sw.1 → Gives host d bytes sw → Ends (After_first d.body sw.0) (Card, byte) d
+ends_took host d bytes sw byte is gives =
+    let S : StatusWord → Type 0 = λ s. Ends (After_first d.body s.0) (Card, s.1) d in
+    let B : ℕ → Type 0 = λ b. Ends (After_first d.body sw.0) (Card, b) d in
+    subst B (sym is) (subst S gives.status (refl, gives.is_dialogue.is_status.1, refl))
+
+pub leads_all : (c : Command) (came : List Character) (new : ExchangeOf) (host : Hosting)
+    (d : Dialogue) (bytes : List ℕ) (sw : StatusWord) (byte : ℕ) → byte ≡ sw.1
+    → Gives host d bytes sw
+    → Leads c ((came ++ front_characters (After_first d.body sw.0)) ++ (Card, byte) ∷ []) new
+    → Leads c (came ++ characters d) new
+leads_all c came new host d bytes sw byte is gives leads =
+    let P : List Character → Type 0 = λ cs. Leads c cs new in
+    subst P (append_assoc came (front_characters (After_first d.body sw.0)) ((Card, byte) ∷ [])
+    ∙ ap (λ cs. came ++ cs) (sym (ends_with (After_first d.body sw.0) byte d
+    (ends_took host d bytes sw byte is gives)))) leads
+
+-- ---- where the end refuses it
+
+over_room : (ex seen : ExchangeOf) (bytes : List ℕ) → ex ≡ seen → IsKept ex
+    → answer_fault ex.host ex.gather bytes ≡ Some AnswerTooLong
+    → response_limit < length seen.gather.bytes + length bytes
+over_room ex seen bytes is kept e =
+    let P : ExchangeOf → Type 0 = λ x. response_limit < length x.gather.bytes + length bytes in
+    let over = leb-false (length ex.gather.bytes + length bytes) ex.gather.limit
+    (long_where _ _ _ ex.host.direction e).1 in
+    subst P is (omega (arith, over, kept.room))
+
+-- a TPDU that is due is refused for want of room
+pub refused_ends : (c : Command) (ex seen : ExchangeOf) (units : List UnitOf)
+    (first : Option Dialogue) (bytes : List ℕ) (fault : AnswerFault) → ex ≡ seen → IsKept ex
+    → UnderWay c seen units first fresh → (fault ≡ NotDue) ⊎ (fault ≡ AnswerTooLong)
+    → Some fault ≡ answer_fault ex.host ex.gather bytes
+    → (fault ≡ AnswerTooLong) × (response_limit < length seen.gather.bytes + length bytes)
+refused_ends c ex seen units first bytes fault is kept under (inl none) e =
+    absurd (due_is (is_due ex.host) _ _ ex.host.direction (fresh_is_due ex.host
+    (seen_under_way c ex seen units first fresh is under).stands) (sym e ∙ ap Some none))
+  where
+    due_is : (due more fits : Bool) (direction : Direction) → due ≡ true
+        → (if due then (if more then Some (excess direction)
+        else (if fits then None else Some AnswerTooLong)) else Some NotDue) ≡ Some NotDue → ⊥
+    due_is false more fits direction due e = absurd (cc)
+    due_is true true fits ToCard due e = absurd (cc)
+    due_is true true fits FromCard due e = absurd (cc)
+    due_is true false true direction due e = absurd (cc)
+    due_is true false false direction due e = absurd (cc)
+refused_ends c ex seen units first bytes fault is kept under (inr long) e =
+    (long, over_room ex seen bytes is kept (sym e ∙ ap Some long))
+
+pub refused_leads : (c : Command) (came : List Character) (ex seen : ExchangeOf) (host : Hosting)
+    (bytes : List ℕ) (sw : StatusWord) (d : Dialogue) (fault : AnswerFault) → ex ≡ seen
+    → IsKept ex → Leads c came seen → Gives seen.host d bytes sw
+    → host ≡ at_stage ex.host (after_answer_fault ex.host.stage fault)
+    → (fault ≡ NotDue) ⊎ (fault ≡ AnswerTooLong)
+    → Some fault ≡ answer_fault ex.host ex.gather bytes → (room : Room)
+    → ((fault ≡ AnswerTooLong) × LeadsTooFar c came (characters d) (with_host ex host room))
+    ⊎ (fault ≡ NotDue)
+refused_leads c came ex seen host bytes sw d fault is kept leads gives host_is (inl none) e room =
+    inr none
+refused_leads c came ex seen host bytes sw d fault is kept leads gives host_is (inr long) e room =
+    let long_fault = sym e ∙ ap Some long in
+    let over = over_room ex ex bytes refl kept long_fault in
+    let failed : turn_of host ≡ Failed =
+    ap turn_of host_is ∙ ap (λ f. turn_of (at_stage ex.host (after_answer_fault ex.host.stage f)))
+    long in
+    inl (
+      long,
+      leads_too_long c came ex (with_host ex host room) d kept
+          (long_where _ _ _ ex.host.direction long_fault).0 (leads_inside c came ex seen is leads)
+          (gives_inside ex seen bytes sw d is gives).opened gives.is_dialogue
+          (omega (arith, over, ap length gives.brings)) (failed_turn ex.stalled host failed),
+    )
+
+-- ---- what is due
+
+-- it is due exactly where no character of the TPDU has gone
+pub due_where_fresh : {A : Type 0} (o : Option A) (c : Command) (ex : ExchangeOf)
+    (units : List UnitOf) (first : Option Dialogue) (front : Front)
+    → is_some o ≡ is_due ex.host → UnderWay c ex units first front → IsSome o ↔ (front ≡ fresh)
+due_where_fresh o c ex units first front is under =
+    let Stands : Front → Type 0 = λ f. HostStandsAt ex.host f in (
+      (λ some. due_is_fresh ex.host front under.stands (sym is ∙ some)),
+      (λ same. is ∙ fresh_is_due ex.host (subst Stands same under.stands)),
+    )

@@ -20,7 +20,8 @@ use Rattle.t0_core.specs.DialogueLaws.{ends_with}
 use Rattle.t0_core.specs.Room.{Room}
 use Rattle.t0_core.specs.HostSide.{Hosting, AreOwn, HostStandsAt, IsOpenedBy, IsRequest, at_stage, gathered, fault_of, data_fault, turn_of}
 use Rattle.t0_core.specs.HostAnswer.{is_due, excess, answer_fault, after_answer_fault, before_sw2, moving_in, Gives}
-use Rattle.t0_core.specs.AnswerLaws.{whole_front, due_is_fresh, fresh_is_due, due_sends, dialogue_overflows}
+use Rattle.t0_core.specs.WholeLaws.{whole_front}
+use Rattle.t0_core.specs.AnswerLaws.{due_is_fresh, fresh_is_due, due_sends, dialogue_overflows}
 use Rattle.card_terminal.specs.Gathered.{UnitOf}
 use Rattle.card_terminal.specs.ExchangeSide.{ExchangeOf, UnderWay, IsKept, so_far, exchange_turn, response_limit}
 use Rattle.card_terminal.specs.ExchangeHistory.{Leads, LeadsTooFar, to_front, to_end, to_stall, to_fault, characters_to}

@@ -29,7 +29,7 @@ use Rattle.object_card.specs.OperationLaws.{count_of_some}
 use Rattle.card_terminal.proofs.UnitLemmas.{gathered_parts}
 use Rattle.card_terminal.proofs.OverLemmas.{none_or_some}
 
--- ---- an opening fixes header, P3 and direction
+-- ---- an opening fixes the header, and which way data move
 
 abbrev header_of : Opening → Header
 header_of (By_command c) = c.header
@@ -38,10 +38,8 @@ header_of (By_fetch n) = get_response
 abbrev IsValid : Opening → Type 0
 IsValid opening = (ins_is_valid (header_of opening).ins ≡ true) × ((header_of opening).ins < 256)
 
-record OpenAlike (d e : Dialogue) : Type 0 where
-  header : d.body.header ≡ e.body.header
-  p3 : d.body.p3 ≡ e.body.p3
-  direction : d.body.direction ≡ e.body.direction
+abbrev OpenAlike : Dialogue → Dialogue → Type 0
+OpenAlike d e = d.body.direction ≡ e.body.direction
 
 count_tells : (a b : ℕ) → a < 256 → b < 256 → count a ≡ count b → a ≡ b
 count_tells zero zero la lb e = refl
@@ -54,32 +52,17 @@ count_tells (suc a) zero la lb e =
 count_tells (suc a) (suc b) la lb e =
     sym (count_of_some (suc a) (omega arith)) ∙ e ∙ count_of_some (suc b) (omega arith)
 
-alike_asks : (h : Header) (n : ℕ) (d e : Dialogue) → Asks h n d → Asks h n e → OpenAlike d e
-alike_asks h n d e one two = record {
-  header = one.header_is ∙ sym two.header_is;
-  p3 = count_tells d.body.p3 e.body.p3 one.is_byte two.is_byte (one.counts ∙ sym two.counts);
-  direction = one.from_card ∙ sym two.from_card;
-}
-
-alike_sends : (h : Header) (content : List ℕ) (d e : Dialogue) → SendsFrom h content d
-    → SendsFrom h content e → OpenAlike d e
-alike_sends h content d e one two = record {
-  header = one.header_is ∙ sym two.header_is;
-  p3 = one.counts ∙ sym two.counts;
-  direction = one.to_card ∙ sym two.to_card;
-}
-
 alike_by : (h : Header) (content : List ℕ) (le : Option ℕ) (d e : Dialogue)
     → OpensWith (By_command (record { header = h; content = content; le = le })) d
     → OpensWith (By_command (record { header = h; content = content; le = le })) e → OpenAlike d e
-alike_by h [] None d e one two = alike_sends h [] d e one two
-alike_by h [] (Some n) d e one two = alike_asks h n d e one two
-alike_by h (b ∷ bs) le d e one two = alike_sends h (b ∷ bs) d e one two
+alike_by h [] None d e one two = one.to_card ∙ sym two.to_card
+alike_by h [] (Some n) d e one two = one.from_card ∙ sym two.from_card
+alike_by h (b ∷ bs) le d e one two = one.to_card ∙ sym two.to_card
 
 alike : (opening : Opening) (d e : Dialogue) → OpensWith opening d → OpensWith opening e
     → OpenAlike d e
 alike (By_command c) d e one two = alike_by c.header c.content c.le d e one two
-alike (By_fetch n) d e one two = alike_asks get_response n d e one two
+alike (By_fetch n) d e one two = one.from_card ∙ sym two.from_card
 
 header_by : (h : Header) (content : List ℕ) (le : Option ℕ) (d : Dialogue)
     → OpensWith (By_command (record { header = h; content = content; le = le })) d
@@ -99,9 +82,8 @@ one_dialogue : (opening : Opening) (d e : Dialogue) (r s : List Character) → I
     → d.body.header ≡ header_of opening → IsDialogue d → IsDialogue e → OpenAlike d e
     → characters d ++ r ≡ characters e ++ s → (d ≡ e) × (r ≡ s)
 one_dialogue opening d e r s valid header is also same equal =
-    let Valid : Header → Type 0 = λ h. (ins_is_valid h.ins ≡ true) × (h.ins < 256) in
-    let here = subst Valid (sym header) valid in
-    same_dialogue d e r s here.0 here.1 is also same.header same.p3 same.direction equal
+    let Small : Header → Type 0 = λ h. h.ins < 256 in
+    same_dialogue d e r s (subst Small (sym header) valid.1) is also same equal
 
 -- the characters of a unit, and others after them
 abbrev unit_on : UnitOf → List Character → List Character
@@ -134,7 +116,7 @@ repetition opening w d e f n m r s valid header one two asks also is_e is_f equa
     let same : n ≡ m = some_is n m (sym one ∙ two) in
     let At : ℕ → Type 0 = λ k. Asks d.body.header k f in
     one_dialogue opening e f r s valid (asks.header_is ∙ header) is_e is_f
-    (alike_asks d.body.header n e f asks (subst At (sym same) also)) equal
+    (asks.from_card ∙ sym (subst At (sym same) also).from_card) equal
 
 same_unit : (opening : Opening) (w : Wanted) (u v : UnitOf) (r s : List Character)
     → IsValid opening → OpensWith opening (first_of u) → OpensWith opening (first_of v)

@@ -1,31 +1,23 @@
 -- Events have one cutting into dialogues and resets, but for a direction that nobody saw.
-use Rattle.std.proofs.Common.{◌≡◌, ℕ, zero, suc, ◌-◌, ◌<◌, List, [], ◌∷◌, ◌++◌, length, take, drop, refl, sym, subst, ◌∙◌, ap, arith, inl, inr, lit<, ◌⊎◌, true, false, Bool, append-nil, append_assoc}
+use Rattle.std.proofs.Common.{◌≡◌, ℕ, zero, suc, ◌+◌, ◌-◌, ◌<◌, List, [], ◌∷◌, ◌++◌, length, refl, sym, subst, ◌∙◌, ap, arith, inl, inr, ◌⊎◌, false, append-nil, append_assoc}
 use Rattle.std.specs.List.{AllByRecursion, flat_map}
-use Rattle.std.proofs.lemmas.List.{length-drop, length-take-le, take-append-drop}
-use Rattle.apdu_core.specs.declared.header.Header.{Header}
 use Rattle.apdu_core.specs.HeaderBytes.{ins_is_valid}
-use Rattle.apdu_core.specs.StatusWord.{IsStatusWord}
 use Rattle.t0_core.specs.declared.end.End.TheVariants.{Terminal, Card}
 use Rattle.t0_core.specs.declared.plan.Step.{Step}
 use Rattle.t0_core.specs.declared.plan.Step.TheVariants.{Null, One, All}
 use Rattle.t0_core.specs.declared.direction.Direction.{Direction}
 use Rattle.t0_core.specs.declared.direction.Direction.TheVariants.{ToCard, FromCard}
 use Rattle.t0_core.specs.Character.{Character, sent_by}
-use Rattle.t0_core.specs.Dialogue.{Dialogue, characters, segment_characters, procedure_byte, data_sender, foreseen, moves, all_moves}
-use Rattle.t0_core.specs.Plan.{Course, Follows, segments_of}
+use Rattle.t0_core.specs.Dialogue.{Dialogue, IsDialogue, characters, segment_characters, procedure_byte, data_sender, foreseen, moves, all_moves}
+use Rattle.t0_core.specs.Plan.{Course, segments_of}
 use Rattle.t0_core.specs.CardSide.{Starts, IsFrugal}
 use Rattle.t0_core.specs.History.{Event, Reset, Item, Whole, Cut_off, IsPart, IsItem, IsUnderPlan, AreAlike, AreAlikeInTurn, IsByteEvent, events_of, passed}
-use Rattle.t0_core.specs.ProcedureLaws.{Apart, apart_where_valid, apart_where_invalid}
-use Rattle.t0_core.specs.CuttingLaws.{none_left, byte_is, sent_prefix, stripped, tail_of}
+use Rattle.t0_core.specs.CuttingLaws.{all_apart, byte_is, stripped, same_dialogue as one_dialogue}
+use Rattle.t0_core.specs.TapSide.{turned_body}
+use Rattle.t0_core.proofs.PlanLemmas.{nulls_where_none_left, nulls_move_nothing}
+use Rattle.t0_core.proofs.TapLemmas.{same_characters}
 
--- ---- segments, data and status
-
--- a segment that is no NULL moves something
-moves_some : (s : Step) (k : ℕ) → (s ≡ Null → ⊥) → Starts s k → 0 < moves s k
-moves_some Null k real starts = absurd (real refl)
-moves_some One zero real starts = absurd (omega (arith, starts))
-moves_some One (suc k) real starts = lit< tt
-moves_some All k real starts = starts
+-- ---- which way data move
 
 same_sender : (x y : Direction) → data_sender x ≡ data_sender y → x ≡ y
 same_sender ToCard ToCard e = refl
@@ -33,156 +25,73 @@ same_sender FromCard FromCard e = refl
 same_sender ToCard FromCard e = absurd (cc)
 same_sender FromCard ToCard e = absurd (cc)
 
--- data that move after the same procedure byte come from the same end, and are the same
-moved_first : (x y : Direction) (p q : List ℕ) (r s : List Character) → 0 < length p → 0 < length q
-    → (x ≡ y → length p ≡ length q)
-    → sent_by (data_sender x) p ++ r ≡ sent_by (data_sender y) q ++ s → (x ≡ y) × (p ≡ q) × (r ≡ s)
-moved_first x y [] q r s some_p some_q same e = absurd (omega (arith, some_p))
-moved_first x y (a ∷ p) [] r s some_p some_q same e = absurd (omega (arith, some_q))
-moved_first x y (a ∷ p) (b ∷ q) r s some_p some_q same e =
-    let c : Character = (data_sender x, a) in
-    let d : Character = (data_sender y, b) in
-    let first : c ≡ d = cc in
-    let way = same_sender x y (ap (λ (k : Character). k.0) first) in
-    let P : Direction → Type 0 =
-    λ z. sent_by (data_sender x) (a ∷ p) ++ r ≡ sent_by (data_sender z) (b ∷ q) ++ s in
-    let both = sent_prefix (data_sender x) (a ∷ p) (b ∷ q) r s (same way) (subst P (sym way) e) in
-    (way, both.0, both.1)
+-- the first data character after the same procedure byte
+first_sender : (ins : ℕ) (x y : Direction) (s : Step) (ds es : List Step) (k l : ℕ) (m n : List ℕ)
+    (r q : List Character) → 0 < length m → 0 < length n → Starts s k → Starts s l
+    → (s ≡ Null → segment_characters ins x ds (k - 0) m ++ r ≡ segment_characters ins y es (l - 0) n
+    ++ q → x ≡ y)
+    → segment_characters ins x (s ∷ ds) k m ++ r ≡ segment_characters ins y (s ∷ es) l n ++ q
+    → x ≡ y
+first_sender ins x y s ds es k l [] n r q some_m some_n sk sl deeper e =
+    absurd (omega (arith, some_m))
+first_sender ins x y s ds es k l (a ∷ m) [] r q some_m some_n sk sl deeper e =
+    absurd (omega (arith, some_n))
+first_sender ins x y Null ds es k l (a ∷ m) (b ∷ n) r q some_m some_n sk sl deeper e =
+    let one : Character = (Card, procedure_byte ins Null) in deeper refl (stripped one _ _ e)
+first_sender ins x y One ds es zero l (a ∷ m) (b ∷ n) r q some_m some_n sk sl deeper e =
+    absurd (omega (arith, sk))
+first_sender ins x y One ds es (suc k) zero (a ∷ m) (b ∷ n) r q some_m some_n sk sl deeper e =
+    absurd (omega (arith, sl))
+first_sender ins x y One ds es (suc k) (suc l) (a ∷ m) (b ∷ n) r q some_m some_n sk sl deeper e =
+    let c : Character = (data_sender x, a) in let d : Character = (data_sender y, b) in
+    let f : c ≡ d = cc in same_sender x y (ap (λ (z : Character). z.0) f)
+first_sender ins x y All ds es zero l (a ∷ m) (b ∷ n) r q some_m some_n sk sl deeper e =
+    absurd (omega (arith, sk))
+first_sender ins x y All ds es (suc k) zero (a ∷ m) (b ∷ n) r q some_m some_n sk sl deeper e =
+    absurd (omega (arith, sl))
+first_sender ins x y All ds es (suc k) (suc l) (a ∷ m) (b ∷ n) r q some_m some_n sk sl deeper e =
+    let c : Character = (data_sender x, a) in let d : Character = (data_sender y, b) in
+    let f : c ≡ d = cc in same_sender x y (ap (λ (z : Character). z.0) f)
 
--- what is the same of two bodies and their status, whose characters are
-record Alike (ds es : List Step) (m n : List ℕ) (a1 a2 b1 b2 : ℕ) (r q : List Character)
-    (x y : Direction) : Type 0 where
-  segments : ds ≡ es
-  moved : m ≡ n
-  first : a1 ≡ b1
-  second : a2 ≡ b2
-  rest : r ≡ q
-  way : (x ≡ y) ⊎ (m ≡ [])
-
--- segments that are begun for something, with their data
-record IsTidy (Allowed : Step → Type 0) (ds : List Step) (k : ℕ) (m : List ℕ) : Type 0 where
-  allowed : AllByRecursion Allowed ds
-  frugal : IsFrugal ds k
+-- segments that are begun for something, and move something
+record Moves (ins : ℕ) (ds : List Step) (k : ℕ) (m : List ℕ) : Type 0 where
+  some : 0 < length m
   moved : length m ≡ all_moves ds k
+  frugal : IsFrugal ds k
+  nulls : ins_is_valid ins ≡ false → AllByRecursion (λ s. s ≡ Null) ds
 
-tidy_rest : (Allowed : Step → Type 0) (s : Step) (ds : List Step) (k : ℕ) (m : List ℕ)
-    → IsTidy Allowed (s ∷ ds) k m → IsTidy Allowed ds (k - moves s k) (drop (moves s k) m)
-tidy_rest Allowed s ds k m is = record {
-  allowed = is.allowed.1;
-  frugal = is.frugal.1;
-  moved = omega (arith, is.moved, length-drop (moves s k) m);
-}
-
-taken_is : (Allowed : Step → Type 0) (s : Step) (ds : List Step) (k : ℕ) (m : List ℕ)
-    → IsTidy Allowed (s ∷ ds) k m → length (take (moves s k) m) ≡ moves s k
-taken_is Allowed s ds k m is = length-take-le (moves s k) m (omega (arith, is.moved))
-
-joined : (j i : ℕ) (m n : List ℕ) → take j m ≡ take i n → drop j m ≡ drop i n → m ≡ n
-joined j i m n p d = sym (take-append-drop j m) ∙ ap (λ z. z ++ drop j m) p
-    ∙ ap (λ z. take i n ++ z) d ∙ take-append-drop i n
-
--- the same with one segment before
-extended : (s : Step) (ds es : List Step) (j i : ℕ) (m n : List ℕ) (a1 a2 b1 b2 : ℕ)
-    (r q : List Character) (x y : Direction) → take j m ≡ take i n → (x ≡ y) ⊎ (take j m ≡ [])
-    → Alike ds es (drop j m) (drop i n) a1 a2 b1 b2 r q x y
-    → Alike (s ∷ ds) (s ∷ es) m n a1 a2 b1 b2 r q x y
-extended s ds es j i m n a1 a2 b1 b2 r q x y same way sub = record {
-  segments = ap (λ z. s ∷ z) sub.segments;
-  moved = joined j i m n same sub.moved;
-  first = sub.first;
-  second = sub.second;
-  rest = sub.rest;
-  way = elim way [
-    | inl is ↦ inl is
-    | inr none ↦ elim sub.way [
-      | inl is ↦ inl is
-      | inr left ↦ inr (sym (take-append-drop j m) ∙ ap (λ z. z ++ drop j m) none ∙ left)
-    ]
-  ];
-}
-
-is_null : (s : Step) → (s ≡ Null) ⊎ (s ≡ Null → ⊥)
-is_null Null = inl refl
-is_null One = inr (λ e. absurd (cc))
-is_null All = inr (λ e. absurd (cc))
-
-same_segments : (ins : ℕ) (Allowed : Step → Type 0) → Apart ins Allowed
-    → (x y : Direction) (ds es : List Step) (k l : ℕ) (m n : List ℕ) (a1 a2 b1 b2 : ℕ)
-    (r q : List Character)
-    → IsTidy Allowed ds k m → IsTidy Allowed es l n → (x ≡ y → k ≡ l) → IsStatusWord (a1, 0)
-    → IsStatusWord (b1, 0)
-    → segment_characters ins x ds k m ++ tail_of a1 a2 r ≡ segment_characters ins y es l n
-    ++ tail_of b1 b2 q → Alike ds es m n a1 a2 b1 b2 r q x y
-same_segments ins Allowed apart x y [] [] k l m n a1 a2 b1 b2 r q tidy other same sa sb e =
-    let none_m = none_left m tidy.moved in
-    let none_n = none_left n other.moved in
-    let c1 : Character = (Card, a1) in let d1 : Character = (Card, b1) in
-    let c2 : Character = (Card, a2) in let d2 : Character = (Card, b2) in
-    let f1 : c1 ≡ d1 = cc in
-    let f2 : c2 ≡ d2 = cc in
+after_null : (ins : ℕ) (s : Step) (ds : List Step) (k : ℕ) (m : List ℕ) → s ≡ Null
+    → Moves ins (s ∷ ds) k m → Moves ins ds (k - 0) m
+after_null ins s ds k m null is =
+    let none : moves s k ≡ 0 = ap (λ u. moves u k) null in
+    let Owed : ℕ → Type 0 = λ j. length m ≡ j + all_moves ds (k - j) in
+    let Frugal : ℕ → Type 0 = λ j. IsFrugal ds (k - j) in
     record {
-      segments = refl;
-      moved = none_m ∙ sym none_n;
-      first = byte_is Card a1 b1 f1;
-      second = byte_is Card a2 b2 f2;
-      rest = cc;
-      way = inr none_m;
+      some = is.some;
+      moved = let e = subst Owed none is.moved in omega (arith, e);
+      frugal = subst Frugal none is.frugal.1;
+      nulls = λ invalid. (is.nulls invalid).1;
     }
-same_segments ins Allowed apart x y [] (t ∷ es) k l m n a1 a2 b1 b2 r q tidy other same sa sb e =
-    let c : Character = (Card, a1) in let d : Character = (Card, procedure_byte ins t) in
+
+one_sender : (ins : ℕ) → ins < 256 → (x y : Direction) (ds es : List Step) (k l : ℕ)
+    (m n : List ℕ) (r q : List Character) → Moves ins ds k m → Moves ins es l n
+    → segment_characters ins x ds k m ++ r ≡ segment_characters ins y es l n ++ q → x ≡ y
+one_sender ins small x y [] es k l m n r q is also e = absurd (omega (arith, is.some, is.moved))
+one_sender ins small x y (s ∷ ds) [] k l m n r q is also e =
+    absurd (omega (arith, also.some, also.moved))
+one_sender ins small x y (s ∷ ds) (t ∷ es) k l m n r q is also e =
+    let c : Character = (Card, procedure_byte ins s) in
+    let d : Character = (Card, procedure_byte ins t) in
     let f : c ≡ d = cc in
-    absurd (apart.status t a1 other.allowed.0 sa (byte_is Card a1 (procedure_byte ins t) f))
-same_segments ins Allowed apart x y (s ∷ ds) [] k l m n a1 a2 b1 b2 r q tidy other same sa sb e =
-    let c : Character = (Card, procedure_byte ins s) in let d : Character = (Card, b1) in
-    let f : c ≡ d = cc in
-    absurd (apart.status s b1 tidy.allowed.0 sb (sym (byte_is Card (procedure_byte ins s) b1 f)))
-same_segments ins Allowed apart x y (s ∷ ds) (t ∷ es) k l m n a1 a2 b1 b2 r q tidy other same sa sb
-    e =
-    let c : Character = (Card, procedure_byte ins s) in let d : Character =
-    (Card, procedure_byte ins t) in
-    let f : c ≡ d = cc in
-    let step : s ≡ t = apart.steps s t tidy.allowed.0 other.allowed.0
+    let step : s ≡ t = (all_apart ins small).steps s t (λ invalid. (is.nulls invalid).0)
+    (λ invalid. (also.nulls invalid).0)
     (byte_is Card (procedure_byte ins s) (procedure_byte ins t) f) in
-    let F : Step → Type 0 = λ u. IsTidy Allowed (u ∷ es) l n
-    → segment_characters ins x (s ∷ ds) k m ++ tail_of a1 a2 r ≡ segment_characters ins y
-    (u ∷ es) l n ++ tail_of b1 b2 q
-    → Alike (s ∷ ds) (u ∷ es) m n a1 a2 b1 b2 r q x y in
-    subst F step (λ also equal.
-    let j = moves s k in
-    let i = moves s l in
-    let one : Character = (Card, procedure_byte ins s) in
-    let after_m = segment_characters ins x ds (k - j) (drop j m) ++ tail_of a1 a2 r in
-    let after_n = segment_characters ins y es (l - i) (drop i n) ++ tail_of b1 b2 q in
-    let inner : sent_by (data_sender x) (take j m) ++ after_m ≡ sent_by (data_sender y) (take i n)
-    ++ after_n =
-    sym (append_assoc (sent_by (data_sender x) (take j m))
-    (segment_characters ins x ds (k - j) (drop j m)) (tail_of a1 a2 r))
-    ∙ stripped one _ _ equal
-    ∙ append_assoc (sent_by (data_sender y) (take i n))
-    (segment_characters ins y es (l - i) (drop i n)) (tail_of b1 b2 q) in
-    let taken_m = taken_is Allowed s ds k m tidy in
-    let taken_n = taken_is Allowed s es l n also in
-    let alike : x ≡ y → j ≡ i = λ way. ap (moves s) (same way) in
-    let left : x ≡ y → k - j ≡ l - i = λ way. let same_n = same way in let same_j = alike way in
-    omega arith in
-    let more = same_segments ins Allowed apart x y ds es (k - j) (l - i) (drop j m) (drop i n) a1 a2
-    b1 b2 r q (tidy_rest Allowed s ds k m tidy) (tidy_rest Allowed s es l n also) left sa sb in
-    elim (is_null s) [
-      | inl null ↦
-          let no_m = none_left (take j m) (taken_m ∙ ap (λ u. moves u k) null) in
-          let no_n = none_left (take i n) (taken_n ∙ ap (λ u. moves u l) null) in
-          extended s ds es j i m n a1 a2 b1 b2 r q x y (no_m ∙ sym no_n) (inr no_m)
-          (more (ap (λ z. sent_by (data_sender x) z ++ after_m) (sym no_m) ∙ inner
-          ∙ ap (λ z. sent_by (data_sender y) z ++ after_n) no_n))
-      | inr real ↦
-          let some_m : 0 < length (take j m) = let h = moves_some s k real tidy.frugal.0 in
-          omega (arith, h, taken_m) in
-          let some_n : 0 < length (take i n) = let h = moves_some s l real also.frugal.0 in
-          omega (arith, h, taken_n) in
-          let moved = moved_first x y (take j m) (take i n) after_m after_n some_m some_n
-          (λ way. taken_m ∙ alike way ∙ sym taken_n) inner in
-          extended s ds es j i m n a1 a2 b1 b2 r q x y moved.1 (inl moved.0) (more moved.2)
-    ]) other e
+    let F : Step → Type 0 = λ u. Moves ins (u ∷ es) l n
+    → segment_characters ins x (s ∷ ds) k m ++ r ≡ segment_characters ins y (u ∷ es) l n ++ q
+    → x ≡ y in
+    subst F step (λ too equal. first_sender ins x y s ds es k l m n r q is.some too.some
+    is.frugal.0 too.frugal.0 (λ null rest. one_sender ins small x y ds es (k - 0) (l - 0) m n r q
+    (after_null ins s ds k m null is) (after_null ins s es l n null too) rest) equal) also e
 
 -- the segments of a plan are begun for something
 segments_are_frugal : (steps : List Step) (n : ℕ) → IsFrugal (segments_of steps n) n
@@ -199,150 +108,118 @@ segments_are_frugal (All ∷ steps) (suc n) = let P : ℕ → Type 0 =
     λ k. IsFrugal (segments_of steps 0) k in let e : 0 ≡ suc n - suc n = omega arith in
     (omega arith, subst P e (segments_are_frugal steps 0))
 
--- where none move they are NULLs, and suit any number
-none_move : (steps : List Step) (n : ℕ) → IsFrugal (segments_of steps 0) n
-none_move [] n = tt
-none_move (Null ∷ steps) n = (tt, none_move steps (n - 0))
-none_move (One ∷ steps) n = none_move steps n
-none_move (All ∷ steps) n = none_move steps n
-
-planned_is_frugal : (d : Dialogue) (plan : Course) → Follows d plan
-    → IsFrugal d.body.segments (foreseen d.body.direction d.body.p3)
-planned_is_frugal d plan follows =
+moves_of : (d : Dialogue) (p : Course) → IsUnderPlan d p → 0 < length d.body.moved
+    → Moves d.body.header.ins d.body.segments (foreseen d.body.direction d.body.p3) d.body.moved
+moves_of d p is some =
     let n = foreseen d.body.direction d.body.p3 in
-    let P : List Step → Type 0 = λ s. IsFrugal s n in
-    subst P (sym follows.step_by_step) (elim follows.all_or_nothing [
-      | inl none ↦ let Q : ℕ → Type 0 = λ k. IsFrugal (segments_of plan.steps k) n in
-          subst Q (sym (ap length none)) (none_move plan.steps n)
-      | inr all ↦ let Q : ℕ → Type 0 = λ k. IsFrugal (segments_of plan.steps k) n in
-          subst Q (sym all) (segments_are_frugal plan.steps n)
-    ])
+    let P : List Step → Type 0 = λ ss. IsFrugal ss n in
+    let Q : ℕ → Type 0 = λ k. IsFrugal (segments_of p.steps k) n in
+    record {
+      some = some;
+      moved = is.is_dialogue.moved_by_segments;
+      frugal = subst P (sym is.follows.step_by_step) (elim is.follows.all_or_nothing [
+        | inl none ↦ absurd (omega (arith, some, ap length none))
+        | inr all ↦ subst Q (sym all) (segments_are_frugal p.steps n)
+      ]);
+      nulls = is.is_dialogue.only_nulls;
+    }
 
 -- ---- whole dialogues
 
-all_allowed : (segments : List Step) → AllByRecursion (λ _. Unit {0}) segments
-all_allowed [] = tt
-all_allowed (s ∷ segments) = (tt, all_allowed segments)
+-- a dialogue in which no data moved is as well one of the other way
+abbrev turned : Direction → Dialogue → Dialogue
+turned x d = record { body = turned_body x d.body; status = d.status }
 
-same_header : (a b : Header) → a.cla ≡ b.cla → a.ins ≡ b.ins → a.p1 ≡ b.p1 → a.p2 ≡ b.p2 → a ≡ b
-same_header a b cla ins p1 p2 =
-    ap (λ (x : ℕ). let h : Header = record { cla = x; ins = a.ins; p1 = a.p1; p2 = a.p2 } in h) cla
-    ∙ ap (λ (x : ℕ). let h : Header = record { cla = b.cla; ins = x; p1 = a.p1; p2 = a.p2 } in h)
-    ins
-    ∙ ap (λ (x : ℕ). let h : Header = record { cla = b.cla; ins = b.ins; p1 = x; p2 = a.p2 } in h)
-    p1
-    ∙ ap (λ (x : ℕ). let h : Header = record { cla = b.cla; ins = b.ins; p1 = b.p1; p2 = x } in h)
-    p2
-
--- what follows the header of a dialogue
-abbrev after_header : Dialogue → List Character → List Character
-after_header d r =
-    segment_characters d.body.header.ins d.body.direction d.body.segments
-    (foreseen d.body.direction d.body.p3) d.body.moved ++ tail_of d.status.0 d.status.1 r
-
-abbrev opening : Dialogue → List Character → List Character
-opening d r = (Terminal, d.body.header.cla) ∷ (Terminal, d.body.header.ins)
-    ∷ (Terminal, d.body.header.p1) ∷ (Terminal, d.body.header.p2) ∷ (Terminal, d.body.p3) ∷ r
-
-opened : (d : Dialogue) (r : List Character) → characters d ++ r ≡ opening d (after_header d r)
-opened d r =
-    ap (λ cs. opening d cs)
-    (append_assoc (segment_characters d.body.header.ins d.body.direction d.body.segments
-    (foreseen d.body.direction d.body.p3) d.body.moved)
-    ((Card, d.status.0) ∷ (Card, d.status.1) ∷ []) r)
-
-record SameOpening (d e : Dialogue) (r s : List Character) : Type 0 where
-  header : d.body.header ≡ e.body.header
-  p3 : d.body.p3 ≡ e.body.p3
-  rest : r ≡ s
-
-same_opening : (d e : Dialogue) (r s : List Character) → opening d r ≡ opening e s
-    → SameOpening d e r s
-same_opening d e r s is =
-    let c0 : Character = (Terminal, d.body.header.cla) in let d0 : Character =
-    (Terminal, e.body.header.cla) in
-    let c1 : Character = (Terminal, d.body.header.ins) in let d1 : Character =
-    (Terminal, e.body.header.ins) in
-    let c2 : Character = (Terminal, d.body.header.p1) in let d2 : Character =
-    (Terminal, e.body.header.p1) in
-    let c3 : Character = (Terminal, d.body.header.p2) in let d3 : Character =
-    (Terminal, e.body.header.p2) in
-    let c4 : Character = (Terminal, d.body.p3) in let d4 : Character = (Terminal, e.body.p3) in
-    let f0 : c0 ≡ d0 = cc in
-    let f1 : c1 ≡ d1 = cc in
-    let f2 : c2 ≡ d2 = cc in
-    let f3 : c3 ≡ d3 = cc in
-    let f4 : c4 ≡ d4 = cc in
+turned_is : (d : Dialogue) (p : Course) (x : Direction) → IsUnderPlan d p → d.body.moved ≡ []
+    → IsDialogue (turned x d)
+turned_is d p x is none =
+    let Nulls : List Step → Type 0 = λ ss. AllByRecursion (λ s. s ≡ Null) ss in
+    let At : ℕ → Type 0 = λ k. Nulls (segments_of p.steps k) in
+    let nulls = subst Nulls (sym is.follows.step_by_step)
+    (subst At (sym (ap length none)) (nulls_where_none_left p.steps)) in
     record {
-      header = same_header d.body.header e.body.header (byte_is Terminal _ _ f0)
-          (byte_is Terminal _ _ f1) (byte_is Terminal _ _ f2) (byte_is Terminal _ _ f3);
-      p3 = byte_is Terminal _ _ f4;
-      rest = cc;
+      moved_by_segments = ap length none
+          ∙ sym (nulls_move_nothing d.body.segments (foreseen x d.body.p3) nulls);
+      is_status = is.is_dialogue.is_status;
+      only_nulls = is.is_dialogue.only_nulls;
     }
 
-tidy_of : (d : Dialogue) (plan : Course) (Allowed : Step → Type 0) → IsUnderPlan d plan
-    → AllByRecursion Allowed d.body.segments
-    → IsTidy Allowed d.body.segments (foreseen d.body.direction d.body.p3) d.body.moved
-tidy_of d plan Allowed is allowed =
-    record {
-      allowed = allowed;
-      frugal = planned_is_frugal d plan is.follows;
-      moved =
-          is.is_dialogue.moved_by_segments;
-    }
+turned_characters : (d : Dialogue) (x : Direction) (r : List Character) → d.body.moved ≡ []
+    → characters (turned x d) ++ r ≡ characters d ++ r
+turned_characters d x r none =
+    ap (λ cs. (cs ++ sent_by Card (d.status.0 ∷ d.status.1 ∷ [])) ++ r)
+    (same_characters d.body x none)
 
--- how characters go on after a header that two dialogues share
-same_after : (d e : Dialogue) (p q : Course) (r s : List Character) (Allowed : Step → Type 0)
-    → IsUnderPlan d p → IsUnderPlan e q
-    → AllByRecursion Allowed d.body.segments → AllByRecursion Allowed e.body.segments
-    → Apart d.body.header.ins Allowed
-    → d.body.header ≡ e.body.header → d.body.p3 ≡ e.body.p3 → after_header d r ≡ after_header e s
-    → AreAlike d e × (r ≡ s)
-same_after d e p q r s Allowed is also da ea apart header p3 rest =
-    let P : ℕ → Type 0 =
-    λ ins. after_header d r ≡ segment_characters ins e.body.direction e.body.segments
-    (foreseen e.body.direction e.body.p3) e.body.moved ++ tail_of e.status.0 e.status.1 s in
-    let equal = subst P (ap (λ (h : Header). h.ins) (sym header)) rest in
-    let same : d.body.direction ≡ e.body.direction
-    → foreseen d.body.direction d.body.p3 ≡ foreseen e.body.direction e.body.p3 =
-    λ way. ap (λ x. foreseen x d.body.p3) way ∙ ap (foreseen e.body.direction) p3 in
-    let alike = same_segments d.body.header.ins Allowed apart d.body.direction e.body.direction
-    d.body.segments e.body.segments (foreseen d.body.direction d.body.p3)
-    (foreseen e.body.direction e.body.p3)
-    d.body.moved e.body.moved d.status.0 d.status.1 e.status.0 e.status.1 r s
-    (tidy_of d p Allowed is da) (tidy_of e q Allowed also ea) same
-    (is.is_dialogue.is_status.0, lit< tt) (also.is_dialogue.is_status.0, lit< tt) equal in (
-      record {
-        same_header = header;
-        same_p3 = p3;
-        same_segments = alike.segments;
-        same_moved = alike.moved;
-        same_status = ap (λ (x : ℕ). (x, d.status.1)) alike.first
-            ∙ ap (λ (x : ℕ). (e.status.0, x)) alike.second;
-        same_direction = alike.way;
-      },
-      alike.rest,
-    )
+alike_turned : (d e : Dialogue) (x y : Direction) → turned x d ≡ turned y e
+    → (d.body.direction ≡ e.body.direction) ⊎ (d.body.moved ≡ []) → AreAlike d e
+alike_turned d e x y same way = record {
+  same_header = ap (λ (z : Dialogue). z.body.header) same;
+  same_p3 = ap (λ (z : Dialogue). z.body.p3) same;
+  same_segments = ap (λ (z : Dialogue). z.body.segments) same;
+  same_moved = ap (λ (z : Dialogue). z.body.moved) same;
+  same_status = ap (λ (z : Dialogue). z.status) same;
+  same_direction = way;
+}
+
+none_or_more : (m : List ℕ) → (m ≡ []) ⊎ (0 < length m)
+none_or_more [] = inl refl
+none_or_more (a ∷ m) = inr (omega arith)
+
+-- where data move in both, they move the same way
+same_way : (d e : Dialogue) (p q : Course) (r s : List Character) → IsUnderPlan d p
+    → IsUnderPlan e q → d.body.header.ins < 256 → 0 < length d.body.moved
+    → 0 < length e.body.moved → characters d ++ r ≡ characters e ++ s
+    → d.body.direction ≡ e.body.direction
+same_way d e p q r s is also small some_d some_e equal =
+    let h = d.body.header in let g = e.body.header in
+    let k = foreseen d.body.direction d.body.p3 in
+    let l = foreseen e.body.direction e.body.p3 in
+    let left = segment_characters h.ins d.body.direction d.body.segments k d.body.moved in
+    let right = segment_characters g.ins e.body.direction e.body.segments l e.body.moved in
+    let a = sent_by Card (d.status.0 ∷ d.status.1 ∷ []) in
+    let b = sent_by Card (e.status.0 ∷ e.status.1 ∷ []) in
+    let c0 : Character = (Terminal, h.cla) in
+    let c1 : Character = (Terminal, h.ins) in
+    let c2 : Character = (Terminal, h.p1) in
+    let c3 : Character = (Terminal, h.p2) in
+    let c4 : Character = (Terminal, d.body.p3) in
+    let d1 : Character = (Terminal, g.ins) in
+    let first : c1 ≡ d1 = cc in
+    let ins : g.ins ≡ h.ins = sym (byte_is Terminal h.ins g.ins first) in
+    let inner : (left ++ a) ++ r ≡ (right ++ b) ++ s = cc in
+    let F : ℕ → Type 0 = λ i. Moves i e.body.segments l e.body.moved
+    → left ++ (a ++ r) ≡ segment_characters i e.body.direction e.body.segments l e.body.moved
+    ++ (b ++ s) → d.body.direction ≡ e.body.direction in
+    subst F (sym ins) (λ too here. one_sender h.ins small d.body.direction e.body.direction
+    d.body.segments e.body.segments k l d.body.moved e.body.moved (a ++ r) (b ++ s)
+    (moves_of d p is some_d) too here) (moves_of e q also some_e)
+    (sym (append_assoc left a r) ∙ inner ∙ append_assoc right b s)
 
 -- no dialogue that follows a plan begins another
 pub same_dialogue : (d e : Dialogue) (p q : Course) (r s : List Character) → IsUnderPlan d p
     → IsUnderPlan e q → d.body.header.ins < 256
     → characters d ++ r ≡ characters e ++ s → AreAlike d e × (r ≡ s)
-same_dialogue d e p q r s is also small equal =
-    let opens = same_opening d e (after_header d r) (after_header e s)
-    (sym (opened d r) ∙ equal ∙ opened e s) in
-    split (ins_is_valid d.body.header.ins) refl opens.header opens.p3 opens.rest
-  where
-    split : (v : Bool) → ins_is_valid d.body.header.ins ≡ v → d.body.header ≡ e.body.header
-        → d.body.p3 ≡ e.body.p3 → after_header d r ≡ after_header e s → AreAlike d e × (r ≡ s)
-    split true valid header p3 rest =
-        same_after d e p q r s (λ _. Unit {0}) is also (all_allowed d.body.segments)
-        (all_allowed e.body.segments) (apart_where_valid d.body.header.ins valid small) header
-        p3 rest
-    split false invalid header p3 rest =
-        same_after d e p q r s (λ x. x ≡ Null) is also (is.is_dialogue.only_nulls invalid)
-        (also.is_dialogue.only_nulls (ap (λ (h : Header). ins_is_valid h.ins) (sym header)
-        ∙ invalid)) (apart_where_invalid d.body.header.ins) header p3 rest
+same_dialogue d e p q r s is also small equal = elim (none_or_more d.body.moved) [
+  | inl none ↦
+      let x = e.body.direction in
+      let both = one_dialogue (turned x d) e r s small (turned_is d p x is none) also.is_dialogue
+      refl (turned_characters d x r none ∙ equal) in
+      (alike_turned d e x x both.0 (inr none), both.1)
+  | inr some_d ↦ elim (none_or_more e.body.moved) [
+    | inl none ↦
+        let x = d.body.direction in
+        let both = one_dialogue d (turned x e) r s small is.is_dialogue (turned_is e q x also none)
+        refl (equal ∙ sym (turned_characters e x s none)) in (
+          alike_turned d e x x both.0
+              (inr (ap (λ (z : Dialogue). z.body.moved) both.0 ∙ none)),
+          both.1,
+        )
+    | inr some_e ↦
+        let way = same_way d e p q r s is also small some_d some_e equal in
+        let both = one_dialogue d e r s small is.is_dialogue also.is_dialogue way equal in
+        (alike_turned d e d.body.direction e.body.direction both.0 (inl way), both.1)
+  ]
+]
 
 -- nor a part of one
 no_part : (d : Dialogue) (p : Course) (part r : List Character) → IsUnderPlan d p

@@ -19,24 +19,11 @@ use Rattle.t0_core.specs.Meaning.{received}
 use Rattle.t0_core.specs.Front.{Front, In_header, In_body, After_first, IsFront, IsBegun, GoesOn, Ends, GoesThrough, brought, from_card, front_characters, header_only, fresh}
 use Rattle.t0_core.specs.FrontLaws.{all_moves-within, goes_on}
 use Rattle.t0_core.specs.WholeLaws.{goes_through}
-use Rattle.t0_core.specs.CuttingLaws.{whole_in_last}
 use Rattle.t0_core.specs.Room.{Room}
 use Rattle.t0_core.specs.HostSide.{Hosting, HostStandsAt, AreOwn, IsRequest, at_stage, turn_of}
 use Rattle.t0_core.specs.declared.answer_fault.AnswerFault.{AnswerFault}
 use Rattle.t0_core.specs.declared.answer_fault.AnswerFault.TheVariants.{NotDue, NotAsked, TooMany, TooLong}
 use Rattle.t0_core.specs.HostAnswer.{is_due, may_come, excess, answer_fault, Gives}
-
--- all of a dialogue but SW2 is a front
-pub whole_front : (d : Dialogue) → IsDialogue d → IsFront (After_first d.body d.status.0)
-whole_front d is = (
-  record {
-    in_last = whole_in_last d.body.segments (foreseen d.body.direction d.body.p3)
-        (length d.body.moved) is.moved_by_segments;
-    only_nulls = is.only_nulls;
-  },
-  is.moved_by_segments,
-  (is.is_status.0, lit< tt),
-)
 
 -- a TPDU is due exactly at the fresh front
 due_at : (host : Hosting) (stage : HostStage) (front : Front)

@@ -1,15 +1,15 @@
 -- Laws: where a dialogue has come to a front, its next character is settled; and dialogues that are
 -- opened alike have one cutting.
-use Rattle.std.proofs.Common.{◌≡◌, ℕ, zero, suc, ◌+◌, ◌-◌, ◌<◌, ◌≤◌, List, [], ◌∷◌, ◌++◌, length, take, drop, refl, sym, subst, ◌∙◌, ap, arith, inl, inr, lit<, ◌⊎◌, true, Some, None, ◌==◌, slice_index, if◌then◌else◌, append-nil, append_assoc, length-append}
+use Rattle.std.proofs.Common.{◌≡◌, ℕ, zero, suc, ◌+◌, ◌<◌, ◌≤◌, List, [], ◌∷◌, ◌++◌, length, take, refl, sym, subst, ◌∙◌, ap, arith, inl, inr, ◌⊎◌, true, false, Bool, Some, None, ◌==◌, slice_index, if◌then◌else◌, append-nil, append_assoc, length-append}
 use Rattle.std.proofs.Math.Seq.{get_or-append_seam}
 use Rattle.std.proofs.lemmas.Bool.{ne_eqb}
-use Rattle.std.proofs.lemmas.List.{length-drop, length-take-le, take-append-drop, get_or-take}
+use Rattle.std.proofs.lemmas.List.{get_or-take}
 use Rattle.apdu_core.specs.declared.header.Header.{Header}
 use Rattle.apdu_core.specs.HeaderBytes.{header_bytes, ins_is_valid}
-use Rattle.apdu_core.specs.StatusWord.{IsStatusWord}
 use Rattle.t0_core.specs.declared.end.End.{End}
 use Rattle.t0_core.specs.declared.end.End.TheVariants.{Terminal, Card}
 use Rattle.t0_core.specs.declared.plan.Step.{Step}
+use Rattle.t0_core.specs.declared.plan.Step.TheVariants.{Null}
 use Rattle.t0_core.specs.declared.direction.Direction.{Direction}
 use Rattle.t0_core.specs.declared.direction.Direction.TheVariants.{ToCard, FromCard}
 use Rattle.t0_core.specs.declared.host_end.HostStage.{HostStage}
@@ -17,18 +17,15 @@ use Rattle.t0_core.specs.declared.host_end.HostStage.TheVariants.{SendingHeader,
 use Rattle.t0_core.specs.declared.host_end.HostTurn.TheVariants.{Sends, Listens}
 use Rattle.t0_core.specs.declared.line_fault.LineFault.TheVariants.{BadProcedure, TooLong}
 use Rattle.t0_core.specs.Character.{Character, sent_by}
-use Rattle.t0_core.specs.Dialogue.{Body, Dialogue, IsDialogue, characters, body_characters, segment_characters, procedure_byte, data_sender, foreseen, moves, all_moves, to_move}
+use Rattle.t0_core.specs.Dialogue.{Body, Dialogue, IsDialogue, characters, body_characters, procedure_byte, data_sender, to_move}
 use Rattle.t0_core.specs.Meaning.{received}
 use Rattle.t0_core.specs.Room.{Room}
-use Rattle.t0_core.specs.Front.{Front, In_header, In_body, After_first, IsFront, IsBetween, EndInLast, front_characters, from_card}
+use Rattle.t0_core.specs.Front.{Front, In_header, In_body, After_first, IsFront, front_characters, from_card, fresh, GoesOn, GoesOnInHeader, GoesThrough, Ends, IsBetween, header_only, with_segment, with_moved}
 use Rattle.t0_core.specs.HostSide.{Hosting, HostStandsAt, HasRoom, IsOpenedBy, IsRequest, AreOwn, at_stage, turn_of, data_turn, fault_of, data_fault, procedure_fault, step_of}
-use Rattle.t0_core.specs.ProcedureLaws.{Apart, apart_where_valid, step_is, status_is_no_step}
+use Rattle.t0_core.specs.WholeLaws.{GoesTo, reached, goes_through, whole_front}
+use Rattle.t0_core.specs.ProcedureLaws.{Apart, apart_where_valid, apart_where_invalid, step_is, status_is_no_step}
 
 -- ---- lists
-
-pub none_left : (m : List ℕ) → length m ≡ 0 → m ≡ []
-none_left [] e = refl
-none_left (a ∷ m) e = absurd (omega (arith, e))
 
 pub byte_is : (from : End) (a b : ℕ) → let x : Character = (from, a) in
     let y : Character = (from, b) in x ≡ y → a ≡ b
@@ -37,364 +34,214 @@ byte_is from a b e = ap (λ (c : Character). c.1) e
 pub stripped : (c : Character) (r s : List Character) → c ∷ r ≡ c ∷ s → r ≡ s
 stripped c r s e = cc
 
--- as many characters of one end, and what follows them
-pub sent_prefix : (from : End) (p q : List ℕ) (r s : List Character) → length p ≡ length q
-    → sent_by from p ++ r ≡ sent_by from q ++ s → (p ≡ q) × (r ≡ s)
-sent_prefix from [] [] r s same e = (refl, e)
-sent_prefix from [] (b ∷ q) r s same e = absurd (omega (arith, same))
-sent_prefix from (a ∷ p) [] r s same e = absurd (omega (arith, same))
-sent_prefix from (a ∷ p) (b ∷ q) r s same e =
-    let x : Character = (from, a) in
-    let y : Character = (from, b) in
-    let first : x ≡ y = cc in
-    let others : sent_by from p ++ r ≡ sent_by from q ++ s = cc in
-    let rest = sent_prefix from p q r s (omega (arith, same)) others in
-    let head = byte_is from a b first in
-    let tail = rest.0 in (cc, rest.1)
+-- ---- a front goes on in one way
 
--- fewer of them, and the next
-sent_longer : (from : End) (p q : List ℕ) (r s : List Character) → length q < length p
-    → sent_by from p ++ r ≡ sent_by from q ++ s
-    → (y : ℕ) × (others : List ℕ) × (p ≡ q ++ y ∷ others)
-    × (s ≡ (from, y) ∷ (sent_by from others ++ r))
-sent_longer from [] q r s lt e = absurd (omega (arith, lt))
-sent_longer from (a ∷ p) [] r s lt e = (a, p, refl, sym e)
-sent_longer from (a ∷ p) (b ∷ q) r s lt e =
-    let x : Character = (from, a) in
-    let y : Character = (from, b) in
-    let first : x ≡ y = cc in
-    let others : sent_by from p ++ r ≡ sent_by from q ++ s = cc in
-    let rest = sent_longer from p q r s (omega (arith, lt)) others in
-    let head = byte_is from a b first in
-    (rest.0, rest.1, ap (λ z. a ∷ z) rest.2 ∙ ap (λ z. z ∷ (q ++ rest.0 ∷ rest.1)) head, rest.3)
+same_header : (a b : Header) → header_bytes a ≡ header_bytes b → a ≡ b
+same_header a b e =
+    let byte : ℕ → ℕ → ℕ → ℕ → Header = λ x y z w. record { cla = x; ins = y; p1 = z; p2 = w } in
+    let at : ℕ → List ℕ → ℕ = λ k bytes. slice_index bytes k in
+    ap (λ x. byte x a.ins a.p1 a.p2) (ap (at 0) e) ∙ ap (λ x. byte b.cla x a.p1 a.p2) (ap (at 1) e)
+    ∙ ap (λ x. byte b.cla b.ins x a.p2) (ap (at 2) e)
+    ∙ ap (λ x. byte b.cla b.ins b.p1 x) (ap (at 3) e)
 
-taken_whole : (j : ℕ) (m : List ℕ) → length m ≤ j → take j m ≡ m
-taken_whole j m le =
-    let none = none_left (drop j m) (omega (arith, length-drop j m, le)) in
-    sym (append-nil (take j m)) ∙ ap (λ z. take j m ++ z) (sym none) ∙ take-append-drop j m
-
--- ---- segments and their data, of which others begin the same characters
-
--- SW1 SW2, and what follows
-abbrev pub tail_of : ℕ → ℕ → List Character → List Character
-tail_of a b r = (Card, a) ∷ (Card, b) ∷ r
-
--- the first segments have moved all their data: others are left
-record Later (ins : ℕ) (x : Direction) (bs ds : List Step) (k : ℕ) (bm m : List ℕ)
-    (tail rest : List Character) : Type 0 where
-  all_moved : length bm ≡ all_moves bs k
-  later : List Step
-  remain : ℕ
+-- a body of which this one, with fewer segments or data, is the beginning
+record Grown (b x : Body) : Type 0 where
+  header_is : b.header ≡ x.header
+  direction_is : b.direction ≡ x.direction
   more : List ℕ
-  segments_are : ds ≡ bs ++ later
-  moved_is : m ≡ bm ++ more
-  more_is : length more ≡ all_moves later remain
-  rest_is : segment_characters ins x later remain more ++ tail ≡ rest
+  moved_are : x.moved ≡ b.moved ++ more
 
--- or the last of them goes on
-record Within (x : Direction) (bs : List Step) (k : ℕ) (bm m : List ℕ)
-    (tail rest : List Character) : Type 0 where
-  some_left : length bm < all_moves bs k
-  byte : ℕ
-  others : List ℕ
-  after : List Character
-  moved_is : m ≡ bm ++ byte ∷ others
-  rest_is : rest ≡ (data_sender x, byte) ∷ (after ++ tail)
+itself : (b : Body) → Grown b b
+itself b = record {
+  header_is = refl;
+  direction_is = refl;
+  more = [];
+  moved_are = sym (append-nil b.moved);
+}
 
-abbrev Comes : ℕ → Direction → List Step → List Step → ℕ → List ℕ → List ℕ → List Character
-    → List Character → Type 0
-Comes ins x bs ds k bm m tail rest =
-    Later ins x bs ds k bm m tail rest ⊎ Within x bs k bm m tail rest
+abbrev IsOf : Front → Body → Type 0
+IsOf (In_header bytes) x = Unit {0}
+IsOf (In_body b) x = Grown b x
+IsOf (After_first b sw1) x = Grown b x
 
--- a segment more before both
-grown : (ins : ℕ) (x : Direction) (s : Step) (bs ds : List Step) (k : ℕ) (bm m : List ℕ)
-    (tail rest : List Character) → moves s k ≤ length bm → take (moves s k) m ≡ take (moves s k) bm
-    → Comes ins x bs ds (k - moves s k) (drop (moves s k) bm) (drop (moves s k) m) tail rest
-    → Comes ins x (s ∷ bs) (s ∷ ds) k bm m tail rest
-grown ins x s bs ds k bm m tail rest le same (inl l) =
-    let j = moves s k in
-    inl (record {
-      all_moved = omega (arith, le, l.all_moved, length-drop j bm);
-      later = l.later;
-      remain = l.remain;
-      more = l.more;
-      segments_are = ap (λ z. s ∷ z) l.segments_are;
-      moved_is = sym (take-append-drop j m) ∙ ap (λ z. z ++ drop j m) same
-          ∙ ap (λ z. take j bm ++ z) l.moved_is
-          ∙ sym (append_assoc (take j bm) (drop j bm) l.more)
-          ∙ ap (λ z. z ++ l.more) (take-append-drop j bm);
-      more_is = l.more_is;
-      rest_is = l.rest_is;
-    })
-grown ins x s bs ds k bm m tail rest le same (inr w) =
-    let j = moves s k in
-    inr (record {
-      some_left = omega (arith, le, w.some_left, length-drop j bm);
-      byte = w.byte;
-      others = w.others;
-      after = w.after;
-      moved_is = sym (take-append-drop j m) ∙ ap (λ z. z ++ drop j m) same
-          ∙ ap (λ z. take j bm ++ z) w.moved_is
-          ∙ sym (append_assoc (take j bm) (drop j bm) (w.byte ∷ w.others))
-          ∙ ap (λ z. z ++ w.byte ∷ w.others) (take-append-drop j bm);
-      rest_is = w.rest_is;
-    })
+before_data : (b x : Body) (y : ℕ) → Grown (with_moved b y) x → Grown b x
+before_data b x y is = record {
+  header_is = is.header_is;
+  direction_is = is.direction_is;
+  more = y ∷ is.more;
+  moved_are = is.moved_are ∙ append_assoc b.moved (y ∷ []) is.more;
+}
 
--- the last of the first segments
-at_last : (ins : ℕ) (x : Direction) (s : Step) (ds : List Step) (k : ℕ) (bm m : List ℕ)
-    (tail rest : List Character) → length bm ≤ moves s k → length m ≡ all_moves (s ∷ ds) k
-    → sent_by (data_sender x) (take (moves s k) m) ++ (segment_characters ins x ds (k - moves s k)
-    (drop (moves s k) m) ++ tail) ≡ sent_by (data_sender x) bm ++ rest
-    → Comes ins x (s ∷ []) (s ∷ ds) k bm m tail rest
-at_last ins x s ds k bm m tail rest le lm e =
-    let j = moves s k in
-    let taken : length (take j m) ≡ j = length-take-le j m (omega (arith, lm)) in
-    elim (either_way (length bm) j le) [
-      | inl all ↦
-          let both = sent_prefix (data_sender x) (take j m) bm _ rest (taken ∙ sym all) e in
-          inl (record {
-            all_moved = omega (arith, all);
-            later = ds;
-            remain = k - j;
-            more = drop j m;
-            segments_are = refl;
-            moved_is = sym (take-append-drop j m) ∙ ap (λ z. z ++ drop j m) both.0;
-            more_is = omega (arith, lm, length-drop j m);
-            rest_is = both.1;
-          })
-      | inr lt ↦
-          let next = sent_longer (data_sender x) (take j m) bm _ rest
-          (omega (arith, taken, lt)) e in
-          inr (record {
-            some_left = omega (arith, lt);
-            byte = next.0;
-            others = next.1 ++ drop j m;
-            after = sent_by (data_sender x) next.1
-                ++ segment_characters ins x ds (k - j) (drop j m);
-            moved_is = sym (take-append-drop j m) ∙ ap (λ z. z ++ drop j m) next.2
-                ∙ append_assoc bm (next.0 ∷ next.1) (drop j m);
-            rest_is = next.3 ∙ ap (λ z. (data_sender x, next.0) ∷ z)
-                (sym (append_assoc (sent_by (data_sender x) next.1)
-                (segment_characters ins x ds (k - j) (drop j m)) tail));
-          })
-    ]
+before_segment : (b x : Body) (s : Step) → Grown (with_segment b s) x → Grown b x
+before_segment b x s is = record {
+  header_is = is.header_is;
+  direction_is = is.direction_is;
+  more = is.more;
+  moved_are = is.moved_are;
+}
+
+before : (x : Body) (front new : Front) (c : Character) → GoesOn front c new → IsOf new x
+    → IsOf front x
+before x (In_header bytes) new c goes is = tt
+before x (In_body b) new c (inl (lt, from, new_is)) is =
+    let P : Front → Type 0 = λ f. IsOf f x in before_data b x c.1 (subst P new_is is)
+before x (In_body b) new c (inr (inl (between, from, (s, nulls, byte, new_is)))) is =
+    let P : Front → Type 0 = λ f. IsOf f x in before_segment b x s (subst P new_is is)
+before x (In_body b) new c (inr (inr (between, from, status, new_is))) is =
+    let P : Front → Type 0 = λ f. IsOf f x in subst P new_is is
+before x (After_first b sw1) new c goes is = absurd goes
+
+on_way_to : (x : Body) (front f : Front) (cs : List Character) → GoesTo front cs f → IsOf f x
+    → IsOf front x
+on_way_to x front f [] to is = let P : Front → Type 0 = λ g. IsOf g x in subst P (sym to) is
+on_way_to x front f (c ∷ cs) to is =
+    before x front to.0 c to.1 (on_way_to x to.0 f cs to.2 is)
+
+on_way : (front : Front) (cs : List Character) (d : Dialogue) → GoesThrough front cs d
+    → IsOf front d.body
+on_way front [] d on = absurd on
+on_way (In_header bytes) (c ∷ cs) d on = tt
+on_way (In_body b) (c ∷ cs) d (inl (ends, none)) = absurd ends
+on_way (After_first b sw1) (c ∷ cs) d (inl ((from, small, is), none)) =
+    let P : Body → Type 0 = λ x. Grown b x in subst P (sym (ap (λ (e : Dialogue). e.body) is))
+    (itself b)
+on_way (In_body b) (c ∷ cs) d (inr (new, goes, on)) =
+    before d.body (In_body b) new c goes (on_way new cs d on)
+on_way (After_first b sw1) (c ∷ cs) d (inr (new, goes, on)) = absurd goes
+
+-- procedure bytes and SW1 are apart, whether or not INS is an instruction
+abbrev pub IsAllowed : ℕ → Step → Type 0
+IsAllowed ins s = ins_is_valid ins ≡ false → s ≡ Null
+
+pub all_apart : (ins : ℕ) → ins < 256 → Apart ins (IsAllowed ins)
+all_apart ins small = by (ins_is_valid ins) refl
   where
-    either_way : (a b : ℕ) → a ≤ b → (a ≡ b) ⊎ (a < b)
-    either_way zero zero le = inl refl
-    either_way zero (suc b) le = inr (omega arith)
-    either_way (suc a) zero le = absurd (omega (arith, le))
-    either_way (suc a) (suc b) le = elim (either_way a b (omega (arith, le))) [
-      | inl e ↦ inl (ap suc e)
-      | inr lt ↦ inr (omega (arith, lt))
-    ]
+    by : (v : Bool) → ins_is_valid ins ≡ v → Apart ins (IsAllowed ins)
+    by true valid = let apart = apart_where_valid ins valid small in record {
+      steps = λ s t _ _ e. apart.steps s t tt tt e;
+      status = λ s byte _ first e. apart.status s byte tt first e;
+    }
+    by false invalid = let apart = apart_where_invalid ins in record {
+      steps = λ s t a b e. apart.steps s t (a invalid) (b invalid) e;
+      status = λ s byte a first e. apart.status s byte (a invalid) first e;
+    }
 
--- where the segments begin alike, and what is known of those after them
-same_step : (ins : ℕ) (x : Direction) (s : Step) (cs ds : List Step) (k : ℕ) (bm m : List ℕ)
-    (tail rest : List Character) → EndInLast (s ∷ cs) k (length bm)
-    → (EndInLast cs (k - moves s k) (length (drop (moves s k) bm))
-    → length (drop (moves s k) m) ≡ all_moves ds (k - moves s k)
-    → segment_characters ins x ds (k - moves s k) (drop (moves s k) m) ++ tail
-    ≡ segment_characters ins x cs (k - moves s k) (drop (moves s k) bm) ++ rest
-    → Comes ins x cs ds (k - moves s k) (drop (moves s k) bm) (drop (moves s k) m) tail rest)
-    → length m ≡ all_moves (s ∷ ds) k
-    → segment_characters ins x (s ∷ ds) k m ++ tail ≡ segment_characters ins x (s ∷ cs) k bm ++ rest
-    → Comes ins x (s ∷ cs) (s ∷ ds) k bm m tail rest
-same_step ins x s [] ds k bm m tail rest le deeper lm e =
-    let j = moves s k in
-    let one : Character = (Card, procedure_byte ins s) in
-    at_last ins x s ds k bm m tail rest le lm
-    (sym (append_assoc (sent_by (data_sender x) (take j m))
-    (segment_characters ins x ds (k - j) (drop j m)) tail)
-    ∙ stripped one _ _ e
-    ∙ ap (λ z. z ++ rest) (append-nil (sent_by (data_sender x) (take j bm)))
-    ∙ ap (λ z. sent_by (data_sender x) z ++ rest) (taken_whole j bm le))
-same_step ins x s (t ∷ cs) ds k bm m tail rest le deeper lm e =
-    let j = moves s k in
-    let one : Character = (Card, procedure_byte ins s) in
-    let inner = sym (append_assoc (sent_by (data_sender x) (take j m))
-    (segment_characters ins x ds (k - j) (drop j m)) tail)
-    ∙ stripped one _ _ e
-    ∙ append_assoc (sent_by (data_sender x) (take j bm))
-    (segment_characters ins x (t ∷ cs) (k - j) (drop j bm)) rest in
-    let taken_m : length (take j m) ≡ j = length-take-le j m (omega (arith, lm)) in
-    let taken_b : length (take j bm) ≡ j = length-take-le j bm le.0 in
-    let both = sent_prefix (data_sender x) (take j m) (take j bm) _ _ (taken_m ∙ sym taken_b)
-    inner in
-    let End_at : ℕ → Type 0 = λ n. EndInLast (t ∷ cs) (k - j) n in
-    grown ins x s (t ∷ cs) ds k bm m tail rest le.0 both.0
-    (deeper (subst End_at (sym (length-drop j bm)) le.1)
-    (omega (arith, lm, length-drop j m)) both.1)
+header_once : (bytes : List ℕ) (c : Character) (x y : Body) (new other : Front)
+    → x.direction ≡ y.direction → GoesOnInHeader bytes c new → GoesOnInHeader bytes c other
+    → IsOf new x → IsOf other y → new ≡ other
+header_once bytes c x y new other way (t, inl (lt, new_is)) (u, inl (le, other_is)) of_x of_y =
+    new_is ∙ sym other_is
+header_once bytes c x y new other way (t, inl (lt, new_is)) (u, inr (h, z, is, other_is)) of_x
+    of_y = absurd (omega (arith, lt, ap length is))
+header_once bytes c x y new other way (t, inr (h, z, is, new_is)) (u, inl (lt, other_is)) of_x
+    of_y = absurd (omega (arith, lt, ap length is))
+header_once bytes c x y new other way (t, inr (h, z, is, new_is)) (u, inr (g, w, also, other_is))
+    of_x of_y =
+    let P : Front → Type 0 = λ f. IsOf f x in
+    let Q : Front → Type 0 = λ f. IsOf f y in
+    let left : IsOf (In_body (header_only h c.1 z)) x = subst P new_is of_x in
+    let right : IsOf (In_body (header_only g c.1 w)) y = subst Q other_is of_y in
+    new_is ∙ ap (λ k. In_body (header_only k c.1 z)) (same_header h g (sym is ∙ also))
+    ∙ ap (λ k. In_body (header_only g c.1 k))
+    (left.direction_is ∙ way ∙ sym right.direction_is) ∙ sym other_is
 
-comes : (ins : ℕ) → Apart ins (λ _. Unit {0}) → (x : Direction) (bs ds : List Step) (k : ℕ)
-    (bm m : List ℕ) (a1 a2 : ℕ) (r rest : List Character) → EndInLast bs k (length bm)
-    → length m ≡ all_moves ds k → IsStatusWord (a1, 0)
-    → segment_characters ins x ds k m ++ tail_of a1 a2 r ≡ segment_characters ins x bs k bm ++ rest
-    → Comes ins x bs ds k bm m (tail_of a1 a2 r) rest
-comes ins apart x [] ds k [] m a1 a2 r rest in_last lm first e =
-    inl (record {
-      all_moved = refl;
-      later = ds;
-      remain = k;
-      more = m;
-      segments_are = refl;
-      moved_is = refl;
-      more_is = lm;
-      rest_is = e;
-    })
-comes ins apart x [] ds k (b ∷ bm) m a1 a2 r rest in_last lm first e =
-    absurd (omega (arith, in_last))
-comes ins apart x (s ∷ bs) [] k bm m a1 a2 r rest in_last lm first e =
-    let c : Character = (Card, a1) in let d : Character = (Card, procedure_byte ins s) in
-    let f : c ≡ d = cc in
-    absurd (apart.status s a1 tt first (byte_is Card a1 (procedure_byte ins s) f))
-comes ins apart x (s ∷ bs) (t ∷ ds) k bm m a1 a2 r rest in_last lm first e =
-    let c : Character = (Card, procedure_byte ins t) in
-    let d : Character = (Card, procedure_byte ins s) in
-    let f : c ≡ d = cc in
-    let step : t ≡ s = apart.steps t s tt tt
-    (byte_is Card (procedure_byte ins t) (procedure_byte ins s) f) in
-    let F : Step → Type 0 = λ u. length m ≡ all_moves (u ∷ ds) k
-    → segment_characters ins x (u ∷ ds) k m ++ tail_of a1 a2 r
-    ≡ segment_characters ins x (s ∷ bs) k bm ++ rest
-    → Comes ins x (s ∷ bs) (u ∷ ds) k bm m (tail_of a1 a2 r) rest in
-    subst F (sym step) (same_step ins x s bs ds k bm m (tail_of a1 a2 r) rest in_last
-    (λ within left equal. comes ins apart x bs ds (k - moves s k) (drop (moves s k) bm)
-    (drop (moves s k) m) a1 a2 r rest within left first equal)) lm e
+body_once : (b : Body) (c : Character) (new other : Front) → b.header.ins < 256
+    → GoesOn (In_body b) c new → GoesOn (In_body b) c other → new ≡ other
+body_once b c new other small (inl (lt, from, is)) (inl (le, also, are)) = is ∙ sym are
+body_once b c new other small (inl (lt, from, is)) (inr (inl (between, also, others))) =
+    absurd (omega (arith, lt, between))
+body_once b c new other small (inl (lt, from, is)) (inr (inr (between, also, status, others))) =
+    absurd (omega (arith, lt, between))
+body_once b c new other small (inr (inl (between, also, others))) (inl (lt, from, is)) =
+    absurd (omega (arith, lt, between))
+body_once b c new other small (inr (inr (between, also, status, others))) (inl (lt, from, is)) =
+    absurd (omega (arith, lt, between))
+body_once b c new other small (inr (inl (bt, from, (s, ns, byte, is))))
+    (inr (inl (also, by, (t, nt, same, are)))) =
+    is ∙ ap (λ u. In_body (with_segment b u))
+    ((all_apart b.header.ins small).steps s t ns nt (sym byte ∙ same)) ∙ sym are
+body_once b c new other small (inr (inl (bt, from, (s, ns, byte, is))))
+    (inr (inr (also, by, status, are))) =
+    absurd ((all_apart b.header.ins small).status s c.1 ns status byte)
+body_once b c new other small (inr (inr (also, by, status, are)))
+    (inr (inl (bt, from, (s, ns, byte, is)))) =
+    absurd ((all_apart b.header.ins small).status s c.1 ns status byte)
+body_once b c new other small (inr (inr (bt, from, status, is)))
+    (inr (inr (also, by, first, are))) = is ∙ sym are
 
--- ---- dialogues and the front that they have come to
+goes_once : (front new other : Front) (c : Character) (x y : Body) → x.direction ≡ y.direction
+    → y.header.ins < 256 → GoesOn front c new → GoesOn front c other → IsOf new x → IsOf other y
+    → new ≡ other
+goes_once (In_header bytes) new other c x y way small goes also of_x of_y =
+    header_once bytes c x y new other way goes also of_x of_y
+goes_once (In_body b) new other c x y way small goes also of_x of_y =
+    let is = before y (In_body b) other c also of_y in
+    let P : Header → Type 0 = λ h. h.ins < 256 in
+    body_once b c new other (subst P (sym is.header_is) small) goes also
+goes_once (After_first b sw1) new other c x y way small goes also of_x of_y = absurd goes
 
-abbrev body_of : Header → ℕ → Direction → List Step → List ℕ → Body
-body_of h p3 x segments moved =
-    record { header = h; p3 = p3; direction = x; segments = segments; moved = moved }
+no_end : (front new : Front) (c k : Character) (d : Dialogue) → Ends front c d
+    → GoesOn front k new → ⊥
+no_end (In_header bytes) new c k d ends goes = ends
+no_end (In_body b) new c k d ends goes = ends
+no_end (After_first b sw1) new c k d ends goes = goes
 
--- what comes after a body that a dialogue begins with, where both open alike
-abbrev ComesAfter : Dialogue → Body → List Character → List Character → Type 0
-ComesAfter d b r rest =
-    Comes d.body.header.ins d.body.direction b.segments d.body.segments
-    (foreseen d.body.direction d.body.p3) b.moved d.body.moved
-    (tail_of d.status.0 d.status.1 r) rest
+-- Where the characters go to a front, a dialogue that goes on with them goes on through that
+-- front, if both mean the same direction.
+passes : (x : Body) (front f : Front) (cs ds r rest : List Character) (d : Dialogue)
+    → x.direction ≡ d.body.direction → d.body.header.ins < 256 → IsOf f x → GoesTo front cs f
+    → GoesThrough front ds d → ds ++ r ≡ cs ++ rest
+    → (more : List Character) × GoesThrough f more d × (more ++ r ≡ rest)
+passes x front f [] ds r rest d way small is to on e =
+    let P : Front → Type 0 = λ g. GoesThrough g ds d in (ds, subst P to on, e)
+passes x front f (c ∷ cs) [] r rest d way small is to on e = absurd on
+passes x front f (c ∷ cs) (k ∷ ds) r rest d way small is to (inl (ends, none)) e =
+    absurd (no_end front to.0 k c d ends to.1)
+passes x front f (c ∷ cs) (k ∷ ds) r rest d way small is to (inr (new, goes, on)) e =
+    let first : k ≡ c = cc in
+    let others : ds ++ r ≡ cs ++ rest = cc in
+    let P : Character → Type 0 = λ z. GoesOn front z new in
+    let same = goes_once front to.0 new c x d.body way small to.1 (subst P first goes)
+    (on_way_to x to.0 f cs to.2 is) (on_way new ds d on) in
+    let Q : Front → Type 0 = λ g. GoesThrough g ds d in
+    passes x to.0 f cs ds r rest d way small is to.2 (subst Q (sym same) on) others
 
-body_comes_at : (h : Header) (p3 : ℕ) (x : Direction) (bs ds : List Step) (bm m : List ℕ)
-    (a1 a2 : ℕ) (r rest : List Character) → Apart h.ins (λ _. Unit {0})
-    → EndInLast bs (foreseen x p3) (length bm) → length m ≡ all_moves ds (foreseen x p3)
-    → IsStatusWord (a1, 0)
-    → characters (record { body = body_of h p3 x ds m; status = (a1, a2) }) ++ r
-    ≡ body_characters (body_of h p3 x bs bm) ++ rest
-    → Comes h.ins x bs ds (foreseen x p3) bm m (tail_of a1 a2 r) rest
-body_comes_at h p3 x bs ds bm m a1 a2 r rest apart in_last lm first e =
-    let k = foreseen x p3 in
-    let left = segment_characters h.ins x ds k m in
-    let right = segment_characters h.ins x bs k bm in
-    let c0 : Character = (Terminal, h.cla) in
-    let c1 : Character = (Terminal, h.ins) in
-    let c2 : Character = (Terminal, h.p1) in
-    let c3 : Character = (Terminal, h.p2) in
-    let c4 : Character = (Terminal, p3) in
-    let inner : (left ++ tail_of a1 a2 []) ++ r ≡ right ++ rest =
-    stripped c4 _ _ (stripped c3 _ _ (stripped c2 _ _ (stripped c1 _ _ (stripped c0 _ _ e)))) in
-    comes h.ins apart x bs ds k bm m a1 a2 r rest in_last lm first
-    (sym (append_assoc left (tail_of a1 a2 []) r) ∙ inner)
+-- the same from the start of a dialogue
+comes_by : (x : Body) (front : Front) (d : Dialogue) (r rest : List Character)
+    → x.direction ≡ d.body.direction → d.body.header.ins < 256 → IsOf front x → IsFront front
+    → IsDialogue d → characters d ++ r ≡ front_characters front ++ rest
+    → (more : List Character) × GoesThrough front more d × (more ++ r ≡ rest)
+comes_by x front d r rest way small is front_is dialogue e =
+    passes x fresh front (front_characters front) (characters d) r rest d way small is
+    (reached front front_is) (goes_through d dialogue) e
 
-body_comes : (d : Dialogue) (b : Body) (r rest : List Character)
-    → Apart d.body.header.ins (λ _. Unit {0}) → IsDialogue d
-    → b.header ≡ d.body.header → b.p3 ≡ d.body.p3 → b.direction ≡ d.body.direction
-    → EndInLast b.segments (foreseen b.direction b.p3) (length b.moved)
-    → characters d ++ r ≡ body_characters b ++ rest → ComesAfter d b r rest
-body_comes d b r rest apart is header p3 direction in_last equal =
-    let P : Header → ℕ → Direction → Type 0 =
-    λ h q x. EndInLast b.segments (foreseen x q) (length b.moved)
-    → characters d ++ r ≡ body_characters (body_of h q x b.segments b.moved) ++ rest
-    → ComesAfter d b r rest in
-    let one : P d.body.header d.body.p3 d.body.direction =
-    λ last same. body_comes_at d.body.header d.body.p3 d.body.direction b.segments d.body.segments
-    b.moved d.body.moved d.status.0 d.status.1 r rest apart last is.moved_by_segments
-    (is.is_status.0, lit< tt) same in
-    let two : P d.body.header d.body.p3 b.direction = let Q : Direction → Type 0 =
-    λ x. P d.body.header d.body.p3 x in subst Q (sym direction) one in
-    let three : P d.body.header b.p3 b.direction = let Q : ℕ → Type 0 =
-    λ q. P d.body.header q b.direction in subst Q (sym p3) two in
-    let four : P b.header b.p3 b.direction = let Q : Header → Type 0 =
-    λ h. P h b.p3 b.direction in subst Q (sym header) three in four in_last equal
+last_one : (b : Body) (sw1 byte : ℕ) (d : Dialogue) (more r s : List Character)
+    → GoesThrough (After_first b sw1) more d → more ++ r ≡ (Card, byte) ∷ s
+    → (d ≡ record { body = b; status = (sw1, byte) }) × (r ≡ s)
+last_one b sw1 byte d [] r s on e = absurd on
+last_one b sw1 byte d (c ∷ cs) r s (inr (new, goes, on)) e = absurd goes
+last_one b sw1 byte d (c ∷ cs) r s (inl ((from, small, is), none)) e =
+    let k : Character = (Card, byte) in
+    let first : c ≡ k = cc in
+    let others : cs ++ r ≡ s = cc in (
+      is ∙ ap (λ (z : Character). record { body = b; status = (sw1, z.1) }) first,
+      ap (λ z. z ++ r) (sym none) ∙ others,
+    )
 
--- the data of a whole dialogue end inside its last segment
-pub whole_in_last : (segments : List Step) (k n : ℕ) → n ≡ all_moves segments k
-    → EndInLast segments k n
-whole_in_last [] k n e = e
-whole_in_last (s ∷ []) k n e = omega (arith, e)
-whole_in_last (s ∷ t ∷ segments) k n e = (
-  omega (arith, e),
-  whole_in_last (t ∷ segments) (k - moves s k) (n - moves s k)
-      (omega (arith, e)),
-)
-
--- where SW1 comes no segment is left
-no_later : (ins : ℕ) → Apart ins (λ _. Unit {0}) → (x : Direction) (later : List Step) (remain : ℕ)
-    (more : List ℕ) (a1 a2 sw1 : ℕ) (r rest : List Character)
-    → length more ≡ all_moves later remain → IsStatusWord (sw1, 0)
-    → segment_characters ins x later remain more ++ tail_of a1 a2 r ≡ (Card, sw1) ∷ rest
-    → (later ≡ []) × (more ≡ []) × (a1 ≡ sw1) × ((Card, a2) ∷ r ≡ rest)
-no_later ins apart x [] remain more a1 a2 sw1 r rest n first e =
-    let c : Character = (Card, a1) in let d : Character = (Card, sw1) in
-    let f : c ≡ d = cc in
-    (refl, none_left more n, byte_is Card a1 sw1 f, cc)
-no_later ins apart x (s ∷ later) remain more a1 a2 sw1 r rest n first e =
-    let c : Character = (Card, procedure_byte ins s) in let d : Character = (Card, sw1) in
-    let f : c ≡ d = cc in
-    absurd (apart.status s sw1 tt first (sym (byte_is Card (procedure_byte ins s) sw1 f)))
-
--- ---- one cutting
-
-equal_parts : (d e : Dialogue) → d.body.header ≡ e.body.header → d.body.p3 ≡ e.body.p3
-    → d.body.direction ≡ e.body.direction → d.body.segments ≡ e.body.segments
-    → d.body.moved ≡ e.body.moved → d.status.0 ≡ e.status.0 → d.status.1 ≡ e.status.1 → d ≡ e
-equal_parts d e header p3 direction segments moved first second =
-    let At : Header → ℕ → Direction → List Step → List ℕ → ℕ → ℕ → Dialogue =
-    λ h q x ss m a b. record { body = body_of h q x ss m; status = (a, b) } in
-    let f = d.body in let g = e.body in
-    ap (λ z. At z f.p3 f.direction f.segments f.moved d.status.0 d.status.1) header
-    ∙ ap (λ z. At g.header z f.direction f.segments f.moved d.status.0 d.status.1) p3
-    ∙ ap (λ z. At g.header g.p3 z f.segments f.moved d.status.0 d.status.1) direction
-    ∙ ap (λ z. At g.header g.p3 g.direction z f.moved d.status.0 d.status.1) segments
-    ∙ ap (λ z. At g.header g.p3 g.direction g.segments z d.status.0 d.status.1) moved
-    ∙ ap (λ z. At g.header g.p3 g.direction g.segments g.moved z d.status.1) first
-    ∙ ap (λ z. At g.header g.p3 g.direction g.segments g.moved e.status.0 z) second
-
--- Dialogues that are opened alike, and whose characters begin one list, are the same; none begins
--- another.
-pub same_dialogue : (d e : Dialogue) (r s : List Character)
-    → ins_is_valid d.body.header.ins ≡ true → d.body.header.ins < 256
-    → IsDialogue d → IsDialogue e → d.body.header ≡ e.body.header → d.body.p3 ≡ e.body.p3
-    → d.body.direction ≡ e.body.direction → characters d ++ r ≡ characters e ++ s
-    → (d ≡ e) × (r ≡ s)
-same_dialogue d e r s valid small is also header p3 direction equal =
-    let apart = apart_where_valid d.body.header.ins valid small in
-    let status = tail_of e.status.0 e.status.1 in
-    elim (body_comes d e.body r (status s) apart is (sym header) (sym p3) (sym direction)
-    (whole_in_last e.body.segments (foreseen e.body.direction e.body.p3) (length e.body.moved)
-    also.moved_by_segments)
-    (equal ∙ append_assoc (body_characters e.body) (status []) s)) [
-      | inl l ↦
-          let none = no_later d.body.header.ins apart d.body.direction l.later l.remain l.more
-          d.status.0 d.status.1 e.status.0 r ((Card, e.status.1) ∷ s) l.more_is
-          (also.is_status.0, lit< tt) l.rest_is in
-          let c : Character = (Card, d.status.1) in let f : Character = (Card, e.status.1) in
-          let last : c ∷ r ≡ f ∷ s = none.3 in
-          let same : c ≡ f = cc in (
-            equal_parts d e header p3 direction
-                (l.segments_are ∙ ap (λ z. e.body.segments ++ z) none.0
-                ∙ append-nil e.body.segments)
-                (l.moved_is ∙ ap (λ z. e.body.moved ++ z) none.1 ∙ append-nil e.body.moved) none.2
-                (byte_is Card d.status.1 e.status.1 same),
-            cc,
-          )
-      | inr w ↦ absurd (omega (
-        arith,
-        w.some_left,
-        also.moved_by_segments,
-        ap (λ x. all_moves e.body.segments (foreseen x d.body.p3)) direction,
-        ap (λ q. all_moves e.body.segments (foreseen e.body.direction q)) p3,
-      ))
-    ]
+-- Dialogues that mean the same direction, and whose characters begin one list, are the same; none
+-- begins another.
+pub same_dialogue : (d e : Dialogue) (r s : List Character) → d.body.header.ins < 256
+    → IsDialogue d → IsDialogue e → d.body.direction ≡ e.body.direction
+    → characters d ++ r ≡ characters e ++ s → (d ≡ e) × (r ≡ s)
+same_dialogue d e r s small is also way equal =
+    let b = e.body in
+    let first : Character = (Card, e.status.0) in
+    let second : Character = (Card, e.status.1) in
+    let by = comes_by b (After_first b e.status.0) d r (second ∷ s) (sym way) small (itself b)
+    (whole_front e also) is
+    (equal ∙ append_assoc (body_characters b) (first ∷ second ∷ []) s
+    ∙ sym (append_assoc (body_characters b) (first ∷ []) (second ∷ s))) in
+    last_one b e.status.0 e.status.1 d by.0 r s by.1 by.2
 
 -- ---- the next character
 
@@ -450,13 +297,6 @@ in_header host sent bytes d r rest lt is opened e =
             (sym opened.1),
       ),
     )
-
--- both owe as much
-same_owed : (host : Hosting) (b : Body) (d : Dialogue) → IsOpenedBy host b → IsOpenedBy host d.body
-    → to_move b ≡ all_moves b.segments (foreseen d.body.direction d.body.p3)
-same_owed host b d of_b of_d =
-    ap (λ x. all_moves b.segments (foreseen x b.p3)) (of_b.2 ∙ sym of_d.2)
-    ∙ ap (λ q. all_moves b.segments (foreseen d.body.direction q)) (of_b.1 ∙ sym of_d.1)
 
 -- the character after so much of the data
 read_after : (content before m others : List ℕ) (byte : ℕ) → m ≡ take (length m) content
@@ -523,78 +363,69 @@ in_data host moved until b d FromCard others after byte rest goes is of_b of_d n
         fits (suc (length others))
         (omega (arith, one, two, ap length moved_is, length-append b.moved (byte ∷ others)))
 
-more_comes : (before : List Character) (c : Character) (r : List Character) → before ++ c ∷ r ≡ []
-    → ⊥
-more_comes [] c r e = absurd (cc)
-more_comes (b ∷ before) c r e = absurd (cc)
-
-in_body : (host : Hosting) (moved until : ℕ) (b : Body) (d : Dialogue) (r rest : List Character)
-    → IsOpenedBy host b → IsOpenedBy host d.body → length b.moved ≡ moved → moved < until
-    → to_move b ≡ until → ComesAfter d b r rest
-    → HasNext (at_stage host (Moving moved until)) (In_body b) d rest
-in_body host moved until b d r rest of_b of_d n lt owed (inl l) =
-    absurd (omega (arith, n, lt, owed, l.all_moved, same_owed host b d of_b of_d))
-in_body host moved until b d r rest of_b of_d n lt owed (inr w) =
-    in_data host moved until b d d.body.direction w.others
-    (w.after ++ tail_of d.status.0 d.status.1 r) w.byte rest
-    (more_comes w.after (Card, d.status.0) ((Card, d.status.1) ∷ r)) of_d.2 of_b of_d n
-    w.moved_is w.rest_is
+in_segment : (host : Hosting) (moved until : ℕ) (b : Body) (d : Dialogue)
+    (more r rest : List Character) → IsOpenedBy host b → IsOpenedBy host d.body
+    → length b.moved ≡ moved → moved < until → to_move b ≡ until → GoesThrough (In_body b) more d
+    → more ++ r ≡ rest → HasNext (at_stage host (Moving moved until)) (In_body b) d rest
+in_segment host moved until b d [] r rest of_b of_d n lt owed on e = absurd on
+in_segment host moved until b d (c ∷ cs) r rest of_b of_d n lt owed (inl (ends, none)) e =
+    absurd ends
+in_segment host moved until b d (c ∷ cs) r rest of_b of_d n lt owed
+    (inr (new, inr (inl (between, from, others)), on)) e = absurd (omega (arith, n, lt, owed, between))
+in_segment host moved until b d (c ∷ cs) r rest of_b of_d n lt owed
+    (inr (new, inr (inr (between, from, status, others)), on)) e = absurd (omega (arith, n, lt, owed, between))
+in_segment host moved until b d (c ∷ cs) r rest of_b of_d n lt owed
+    (inr (new, inl (less, from, new_is), on)) e =
+    let P : Front → Type 0 = λ f. GoesThrough f cs d in
+    let is = on_way (In_body (with_moved b c.1)) cs d (subst P new_is on) in
+    in_data host moved until b d b.direction is.more (cs ++ r) c.1 rest (some_left cs on) of_b.2
+    of_b of_d n (is.moved_are ∙ append_assoc b.moved (c.1 ∷ []) is.more)
+    (sym e ∙ ap (λ (z : End). (z, c.1) ∷ (cs ++ r)) from)
+  where
+    some_left : (ks : List Character) → GoesThrough new ks d → ks ++ r ≡ [] → ⊥
+    some_left [] goes none = absurd goes
+    some_left (k ∷ ks) goes none = absurd (cc)
 
 -- between segments the card begins the next, or its status
-begins_segment : (host : Hosting) (moved : ℕ) (b : Body) (d : Dialogue) (later : List Step)
-    (remain : ℕ) (more : List ℕ) (r rest : List Character) → IsRequest host
-    → IsOpenedBy host d.body → IsDialogue d
-    → segment_characters d.body.header.ins d.body.direction later remain more
-    ++ tail_of d.status.0 d.status.1 r ≡ rest
-    → HasNext (at_stage host (Awaiting moved)) (In_body b) d rest
-begins_segment host moved b d [] remain more r rest request of_d is e =
-    let none = status_is_no_step host.header.ins d.status.0 request.0 request.1
-    (is.is_status.0, lit< tt) in (
-      (Card, d.status.0),
-      (Card, d.status.1) ∷ r,
+between : (host : Hosting) (moved : ℕ) (b : Body) (d : Dialogue) (more r rest : List Character)
+    → IsRequest host → IsOpenedBy host b → IsBetween b → GoesThrough (In_body b) more d
+    → more ++ r ≡ rest → HasNext (at_stage host (Awaiting moved)) (In_body b) d rest
+between host moved b d [] r rest request of_b all on e = absurd on
+between host moved b d (c ∷ cs) r rest request of_b all (inl (ends, none)) e = absurd ends
+between host moved b d (c ∷ cs) r rest request of_b all (inr (new, inl (lt, from, others), on)) e =
+    absurd (omega (arith, lt, all))
+between host moved b d (c ∷ cs) r rest request of_b all
+    (inr (new, inr (inl (is, from, (s, nulls, byte, new_is))), on)) e =
+    let step : step_of host.header.ins c.1 ≡ Some s = ap (step_of host.header.ins) byte
+    ∙ ap (λ (h : Header). step_of host.header.ins (procedure_byte h.ins s)) of_b.0
+    ∙ step_is host.header.ins s request.0 request.1 in
+    (c, cs ++ r, sym e, inr (from, refl, λ gather fits. ap (λ z. procedure_fault z c.1) step))
+between host moved b d (c ∷ cs) r rest request of_b all
+    (inr (new, inr (inr (is, from, status, new_is)), on)) e =
+    let none = status_is_no_step host.header.ins c.1 request.0 request.1 status in (
+      c,
+      cs ++ r,
       sym e,
       inr (
+        from,
         refl,
-        refl,
-        λ gather fits. ap (λ s. procedure_fault s d.status.0) none
-            ∙ ap (λ v. if v then None else Some (BadProcedure d.status.0)) is.is_status.0,
+        λ gather fits. ap (λ s. procedure_fault s c.1) none
+            ∙ ap (λ v. if v then None else Some (BadProcedure c.1)) status.0,
       ),
     )
-begins_segment host moved b d (s ∷ later) remain more r rest request of_d is e =
-    let byte = procedure_byte d.body.header.ins s in
-    let step : step_of host.header.ins byte ≡ Some s =
-    ap (λ (h : Header). step_of host.header.ins (procedure_byte h.ins s)) of_d.0
-    ∙ step_is host.header.ins s request.0 request.1 in (
-      (Card, byte),
-      _,
-      sym e,
-      inr (refl, refl, λ gather fits. ap (λ z. procedure_fault z byte) step),
-    )
 
-between : (host : Hosting) (moved : ℕ) (b : Body) (d : Dialogue) (r rest : List Character)
-    → IsRequest host → IsOpenedBy host b → IsOpenedBy host d.body → IsBetween b → IsDialogue d
-    → ComesAfter d b r rest → HasNext (at_stage host (Awaiting moved)) (In_body b) d rest
-between host moved b d r rest request of_b of_d all is (inl l) =
-    begins_segment host moved b d l.later l.remain l.more r rest request of_d is l.rest_is
-between host moved b d r rest request of_b of_d all is (inr w) =
-    absurd (omega (arith, all, w.some_left, same_owed host b d of_b of_d))
-
-second : (host : Hosting) (sw1 first : ℕ) (b : Body) (d : Dialogue) (r rest : List Character)
-    → Apart d.body.header.ins (λ _. Unit {0}) → IsOpenedBy host b → IsOpenedBy host d.body
-    → IsBetween b → IsStatusWord (first, 0) → ComesAfter d b r ((Card, first) ∷ rest)
+second : (host : Hosting) (sw1 first : ℕ) (b : Body) (d : Dialogue) (more r rest : List Character)
+    → GoesThrough (After_first b first) more d → more ++ r ≡ rest
     → HasNext (at_stage host (AwaitingSecond sw1)) (After_first b first) d rest
-second host sw1 first b d r rest apart of_b of_d all status (inl l) =
-    let none = no_later d.body.header.ins apart d.body.direction l.later l.remain l.more
-    d.status.0 d.status.1 first r rest l.more_is status l.rest_is in
-    ((Card, d.status.1), r, sym none.3, inr (refl, refl, λ gather fits. refl))
-second host sw1 first b d r rest apart of_b of_d all status (inr w) =
-    absurd (omega (arith, all, w.some_left, same_owed host b d of_b of_d))
+second host sw1 first b d [] r rest on e = absurd on
+second host sw1 first b d (c ∷ cs) r rest (inl ((from, small, is), none)) e =
+    (c, cs ++ r, sym e, inr (from, refl, λ gather fits. refl))
+second host sw1 first b d (c ∷ cs) r rest (inr (new, goes, on)) e = absurd goes
 
-apart_of : (host : Hosting) (d : Dialogue) → IsRequest host → IsOpenedBy host d.body
-    → Apart d.body.header.ins (λ _. Unit {0})
-apart_of host d request of_d =
-    let P : Header → Type 0 = λ h. Apart h.ins (λ _. Unit {0}) in
-    subst P (sym of_d.0) (apart_where_valid host.header.ins request.0 request.1)
+small_ins : (host : Hosting) (d : Dialogue) → IsRequest host → IsOpenedBy host d.body
+    → d.body.header.ins < 256
+small_ins host d request of_d = let P : Header → Type 0 = λ h. h.ins < 256 in
+    subst P (sym of_d.0) request.1
 
 next_at : (host : Hosting) (stage : HostStage) (front : Front) (d : Dialogue)
     (r rest : List Character) → IsRequest host → HostStandsAt (at_stage host stage) front
@@ -604,22 +435,17 @@ next_at : (host : Hosting) (stage : HostStage) (front : Front) (d : Dialogue)
 next_at host (SendingHeader sent) (In_header bytes) d r rest request stands front_is is of_d e =
     in_header host sent bytes d r rest stands.0 stands.1 of_d e
 next_at host (Awaiting moved) (In_body b) d r rest request stands front_is is of_d e =
-    let opened = stands.0 in
-    between host moved b d r rest request opened of_d stands.1 is
-    (body_comes d b r rest (apart_of host d request of_d) is (opened.0 ∙ sym of_d.0)
-    (opened.1 ∙ sym of_d.1) (opened.2 ∙ sym of_d.2) front_is.in_last e)
+    let by = comes_by b (In_body b) d r rest (stands.0.2 ∙ sym of_d.2)
+    (small_ins host d request of_d) (itself b) front_is is e in
+    between host moved b d by.0 r rest request stands.0 stands.1 by.1 by.2
 next_at host (Moving moved until) (In_body b) d r rest request stands front_is is of_d e =
-    let opened = stands.0 in
-    in_body host moved until b d r rest opened of_d stands.1 stands.2 stands.3
-    (body_comes d b r rest (apart_of host d request of_d) is (opened.0 ∙ sym of_d.0)
-    (opened.1 ∙ sym of_d.1) (opened.2 ∙ sym of_d.2) front_is.in_last e)
+    let by = comes_by b (In_body b) d r rest (stands.0.2 ∙ sym of_d.2)
+    (small_ins host d request of_d) (itself b) front_is is e in
+    in_segment host moved until b d by.0 r rest stands.0 of_d stands.1 stands.2 stands.3 by.1 by.2
 next_at host (AwaitingSecond sw1) (After_first b first) d r rest request stands front_is is of_d e =
-    let opened = stands.0 in
-    let apart = apart_of host d request of_d in
-    second host sw1 first b d r rest apart opened of_d front_is.1 front_is.2
-    (body_comes d b r ((Card, first) ∷ rest) apart is (opened.0 ∙ sym of_d.0)
-    (opened.1 ∙ sym of_d.1) (opened.2 ∙ sym of_d.2) front_is.0.in_last
-    (e ∙ append_assoc (body_characters b) ((Card, first) ∷ []) rest))
+    let by = comes_by b (After_first b first) d r rest (stands.0.2 ∙ sym of_d.2)
+    (small_ins host d request of_d) (itself b) front_is is e in
+    second host sw1 first b d by.0 r rest by.1 by.2
 next_at host (SendingHeader sent) (In_body b) d r rest request stands front_is is of_d e =
     absurd stands
 next_at host (SendingHeader sent) (After_first b first) d r rest request stands front_is is of_d e =

@@ -2,17 +2,16 @@
 use Rattle.std.proofs.Common.{◌≡◌, ℕ, zero, suc, ◌+◌, ◌-◌, ◌<◌, ◌≤◌, List, [], ◌∷◌, ◌++◌, length, take, drop, refl, sym, subst, ◌∙◌, ap, arith, inl, inr, lit<, false, append_assoc, append-nil, length-append}
 use Rattle.std.specs.List.{AllByRecursion}
 use Rattle.apdu_core.specs.declared.header.Header.{Header}
-use Rattle.apdu_core.specs.HeaderBytes.{ins_is_valid}
-use Rattle.t0_core.specs.declared.end.End.TheVariants.{Card}
+use Rattle.apdu_core.specs.HeaderBytes.{header_bytes, ins_is_valid}
+use Rattle.t0_core.specs.declared.end.End.TheVariants.{Terminal, Card}
 use Rattle.t0_core.specs.declared.plan.Step.{Step}
 use Rattle.t0_core.specs.declared.plan.Step.TheVariants.{Null}
 use Rattle.t0_core.specs.declared.direction.Direction.{Direction}
 use Rattle.t0_core.specs.declared.direction.Direction.TheVariants.{FromCard}
 use Rattle.t0_core.specs.Character.{Character, sent_by}
-use Rattle.t0_core.specs.Dialogue.{Body, Dialogue, IsDialogue, characters, body_characters, segment_characters, data_sender, foreseen, moves, all_moves, to_move}
-use Rattle.t0_core.specs.Front.{Front, In_header, In_body, After_first, front_characters, GoesOn, IsBetween, IsBegun, IsFront, EndInLast, GoesThrough, with_moved, header_only, fresh}
-use Rattle.apdu_core.specs.StatusWord.{IsStatusWord}
-use Rattle.std.proofs.lemmas.List.{length-drop, length-take-le, take-append-drop}
+use Rattle.t0_core.specs.Dialogue.{Body, Dialogue, IsDialogue, characters, body_characters, segment_characters, data_sender, foreseen, moves, all_moves, to_move, procedure_byte}
+use Rattle.t0_core.specs.Front.{Front, In_header, In_body, After_first, front_characters, GoesOn, IsBetween, IsBegun, IsFront, EndInLast, GoesThrough, with_moved, with_segment, header_only, fresh}
+use Rattle.std.proofs.lemmas.List.{length-drop, length-take-le, take-append-drop, take_all}
 use Rattle.t0_core.specs.FrontLaws.{goes_on, all_moves-more, all_moves-within}
 use Rattle.t0_core.specs.DialogueLaws.{ends_with}
 
@@ -182,147 +181,186 @@ begins (After_first b sw1) is =
       ends_with (After_first b sw1) 0 d (refl, lit< tt, refl),
     )
 
--- ---- each dialogue is gone through
+-- ---- each front is reached, and each dialogue is gone through
+
+-- from this front a dialogue goes on with these characters, front by front, to that one
+abbrev pub GoesTo : Front → List Character → Front → Type 0
+GoesTo front [] other = front ≡ other
+GoesTo front (c ∷ cs) other = (new : Front) × GoesOn front c new × GoesTo new cs other
 
 abbrev body_of : Header → ℕ → Direction → List Step → List ℕ → Body
 body_of h p3 direction segments moved =
     record { header = h; p3 = p3; direction = direction; segments = segments; moved = moved }
 
-through_data : (h : Header) (p3 : ℕ) (direction : Direction) (segments : List Step)
-    (moved bytes : List ℕ) (rest : List Character) (d : Dialogue)
-    → length moved + length bytes ≤ all_moves segments (foreseen direction p3)
-    → GoesThrough (In_body (body_of h p3 direction segments (moved ++ bytes))) rest d
-    → GoesThrough (In_body (body_of h p3 direction segments moved))
-    (sent_by (data_sender direction) bytes ++ rest) d
-through_data h p3 direction segments moved [] rest d le through =
-    let P : List ℕ → Type 0 =
-    λ m. GoesThrough (In_body (body_of h p3 direction segments m)) rest d in
-    subst P (append-nil moved) through
-through_data h p3 direction segments moved (x ∷ bytes) rest d le through =
-    let longer : length (moved ++ x ∷ []) ≡ length moved + 1 = length-append moved (x ∷ []) in
-    let P : List ℕ → Type 0 =
-    λ m. GoesThrough (In_body (body_of h p3 direction segments m)) rest d in
-    inr (
-      In_body (body_of h p3 direction segments (moved ++ x ∷ [])),
+to_data : (h : Header) (p3 : ℕ) (x : Direction) (segments : List Step)
+    (moved bytes : List ℕ) (rest : List Character) (f : Front)
+    → length moved + length bytes ≤ all_moves segments (foreseen x p3)
+    → GoesTo (In_body (body_of h p3 x segments (moved ++ bytes))) rest f
+    → GoesTo (In_body (body_of h p3 x segments moved)) (sent_by (data_sender x) bytes ++ rest) f
+to_data h p3 x segments moved [] rest f le to =
+    let P : List ℕ → Type 0 = λ m. GoesTo (In_body (body_of h p3 x segments m)) rest f in
+    subst P (append-nil moved) to
+to_data h p3 x segments moved (y ∷ bytes) rest f le to =
+    let longer : length (moved ++ y ∷ []) ≡ length moved + 1 = length-append moved (y ∷ []) in
+    let P : List ℕ → Type 0 = λ m. GoesTo (In_body (body_of h p3 x segments m)) rest f in (
+      In_body (body_of h p3 x segments (moved ++ y ∷ [])),
       inl (omega (arith, le), refl, refl),
-      through_data h p3 direction segments (moved ++ x ∷ []) bytes rest d
-          (omega (arith, le, longer)) (subst P (sym (append_assoc moved (x ∷ []) bytes)) through),
+      to_data h p3 x segments (moved ++ y ∷ []) bytes rest f (omega (arith, le, longer))
+          (subst P (sym (append_assoc moved (y ∷ []) bytes)) to),
     )
 
-through_status : (b : Body) (sw1 sw2 : ℕ) → IsBetween b → IsStatusWord (sw1, sw2)
-    → GoesThrough (In_body b) ((Card, sw1) ∷ (Card, sw2) ∷ [])
-    (record { body = b; status = (sw1, sw2) })
-through_status b sw1 sw2 between status =
-    inr (
-      After_first b sw1,
-      inr (inr (between, refl, (status.0, omega arith), refl)),
-      inl ((refl, status.1, refl), refl),
-    )
+-- one segment, with data that it moves
+to_segment : (b : Body) (s : Step) (bytes : List ℕ) (rest : List Character) (f : Front)
+    → IsBetween b → (ins_is_valid b.header.ins ≡ false → s ≡ Null)
+    → length bytes ≤ moves s (foreseen b.direction b.p3 - to_move b)
+    → GoesTo (In_body (body_of b.header b.p3 b.direction (b.segments ++ s ∷ [])
+    (b.moved ++ bytes))) rest f
+    → GoesTo (In_body b) ((Card, procedure_byte b.header.ins s)
+    ∷ (sent_by (data_sender b.direction) bytes ++ rest)) f
+to_segment b s bytes rest f between nulls le to = (
+  In_body (with_segment b s),
+  inr (inl (between, refl, (s, nulls, refl, refl))),
+  to_data b.header b.p3 b.direction (b.segments ++ s ∷ []) b.moved bytes rest f
+      (omega (arith, between, le, all_moves-more b.segments s (foreseen b.direction b.p3))) to,
+)
 
-through_segments : (h : Header) (p3 : ℕ) (direction : Direction) (segments later : List Step)
-    (moved more : List ℕ) (sw1 sw2 : ℕ)
-    → length moved ≡ all_moves segments (foreseen direction p3)
-    → length more ≡ all_moves later
-    (foreseen direction p3 - all_moves segments (foreseen direction p3))
-    → (ins_is_valid h.ins ≡ false → AllByRecursion (λ s. s ≡ Null) later) → IsStatusWord (sw1, sw2)
-    → GoesThrough (In_body (body_of h p3 direction segments moved))
-    (segment_characters h.ins direction later
-    (foreseen direction p3 - all_moves segments (foreseen direction p3)) more ++ (Card, sw1)
-    ∷ (Card, sw2) ∷ [])
-    (record {
-      body = body_of h p3 direction (segments ++ later) (moved ++ more);
-      status =
-          (sw1, sw2);
-    })
-through_segments h p3 direction segments [] moved [] sw1 sw2 between rest nulls status =
+to_segments : (h : Header) (p3 : ℕ) (x : Direction) (segments later : List Step)
+    (moved more : List ℕ) (rest : List Character) (f : Front)
+    → length moved ≡ all_moves segments (foreseen x p3)
+    → EndInLast later (foreseen x p3 - all_moves segments (foreseen x p3)) (length more)
+    → (ins_is_valid h.ins ≡ false → AllByRecursion (λ s. s ≡ Null) later)
+    → GoesTo (In_body (body_of h p3 x (segments ++ later) (moved ++ more))) rest f
+    → GoesTo (In_body (body_of h p3 x segments moved))
+    (segment_characters h.ins x later (foreseen x p3 - all_moves segments (foreseen x p3)) more
+    ++ rest) f
+to_segments h p3 x segments [] moved [] rest f between in_last nulls to =
     let P : List Step → List ℕ → Type 0 =
-    λ s m. GoesThrough (In_body (body_of h p3 direction segments moved))
-    ((Card, sw1) ∷ (Card, sw2) ∷ [])
-    (record { body = body_of h p3 direction s m; status = (sw1, sw2) }) in
-    let first : P segments (moved ++ []) = let Q : List ℕ → Type 0 = λ m. P segments m in
-    subst Q (sym (append-nil moved))
-    (through_status (body_of h p3 direction segments moved) sw1 sw2 between status) in
-    let R : List Step → Type 0 = λ s. P s (moved ++ []) in subst R (sym (append-nil segments)) first
-through_segments h p3 direction segments [] moved (x ∷ more) sw1 sw2 between rest nulls status =
-    absurd (omega (arith, rest))
-through_segments h p3 direction segments (s ∷ later) moved more sw1 sw2 between rest nulls status =
-    let n = foreseen direction p3 in
+    λ ss m. GoesTo (In_body (body_of h p3 x ss m)) rest f in
+    let one : P segments (moved ++ []) = let Q : List Step → Type 0 = λ ss. P ss (moved ++ []) in
+    subst Q (append-nil segments) to in
+    let R : List ℕ → Type 0 = λ m. P segments m in subst R (append-nil moved) one
+to_segments h p3 x segments [] moved (y ∷ more) rest f between in_last nulls to =
+    absurd (omega (arith, in_last))
+to_segments h p3 x segments (s ∷ []) moved more rest f between in_last nulls to =
+    let k = moves s (foreseen x p3 - all_moves segments (foreseen x p3)) in
+    rw (take_all k more in_last, append-nil (sent_by (data_sender x) more))
+    (to_segment (body_of h p3 x segments moved) s more rest f between
+    (λ invalid. (nulls invalid).0) in_last to)
+to_segments h p3 x segments (s ∷ t ∷ later) moved more rest f between in_last nulls to =
+    let n = foreseen x p3 in
     let done = all_moves segments n in
     let k = moves s (n - done) in
+    let taken : length (take k more) ≡ k = length-take-le k more in_last.0 in
     let grown : all_moves (segments ++ s ∷ []) n ≡ done + k = all_moves-more segments s n in
-    let left : n - all_moves (segments ++ s ∷ []) n ≡ (n - done) - k = omega (arith, grown) in
-    let taken : length (take k more) ≡ k = length-take-le k more (omega (arith, rest)) in
+    let left : (n - done) - k ≡ n - all_moves (segments ++ s ∷ []) n = omega (arith, grown) in
     let moved_is : length (moved ++ take k more) ≡ all_moves (segments ++ s ∷ []) n =
     omega (arith, length-append moved (take k more), taken, between, grown) in
-    let dropped : length (drop k more) ≡ length more - k = length-drop k more in
-    let rest_is : length (drop k more) ≡ all_moves later (n - all_moves (segments ++ s ∷ []) n) =
-    rw left (omega (arith, dropped, rest)) in
-    let deeper = through_segments h p3 direction (segments ++ s ∷ []) later (moved ++ take k more)
-    (drop k more) sw1 sw2 moved_is rest_is (λ invalid. (nulls invalid).1) status in
-    let whole : (moved ++ take k more) ++ drop k more ≡ moved ++ more =
-    append_assoc moved (take k more) (drop k more)
-    ∙ ap (λ m. moved ++ m) (take-append-drop k more) in
-    let steps : (segments ++ s ∷ []) ++ later ≡ segments ++ s ∷ later =
-    append_assoc segments (s ∷ []) later in
-    let After : List Step → List ℕ → ℕ → Type 0 =
-    λ ss m r. GoesThrough
-    (In_body (body_of h p3 direction (segments ++ s ∷ []) (moved ++ take k more)))
-    (segment_characters h.ins direction later r (drop k more) ++ (Card, sw1) ∷ (Card, sw2) ∷ [])
-    (record { body = body_of h p3 direction ss m; status = (sw1, sw2) }) in
-    let one = let Q : ℕ → Type 0 =
-    λ r. After ((segments ++ s ∷ []) ++ later) ((moved ++ take k more) ++ drop k more) r in
-    subst Q left deeper in
-    let two = let Q : List ℕ → Type 0 =
-    λ m. After ((segments ++ s ∷ []) ++ later) m ((n - done) - k) in subst Q whole one in
-    let three = let Q : List Step → Type 0 = λ ss. After ss (moved ++ more) ((n - done) - k) in
-    subst Q steps two in
-    let data_through = through_data h p3 direction (segments ++ s ∷ []) moved (take k more) _ _
-    (omega (arith, moved_is, length-append moved (take k more))) three in
-    let Cs : List Character → Type 0 =
-    λ cs. GoesThrough (In_body (body_of h p3 direction (segments ++ s ∷ []) moved)) cs
-    (record {
-      body = body_of h p3 direction (segments ++ s ∷ later) (moved ++ more);
-      status =
-          (sw1, sw2);
-    }) in
-    inr (
-      In_body (body_of h p3 direction (segments ++ s ∷ []) moved),
-      inr (inl (between, refl, (s, (λ invalid. (nulls invalid).0), refl, refl))),
-      subst Cs (sym (append_assoc (sent_by (data_sender direction) (take k more))
-          (segment_characters h.ins direction later ((n - done) - k) (drop k more))
-          ((Card, sw1) ∷ (Card, sw2) ∷ []))) data_through,
+    let Ends_at : ℕ → ℕ → Type 0 = λ r m. EndInLast (t ∷ later) r m in
+    let in_rest : Ends_at ((n - done) - k) (length (drop k more)) =
+    let Q : ℕ → Type 0 = λ m. Ends_at ((n - done) - k) m in
+    subst Q (sym (length-drop k more)) in_last.1 in
+    let in_left : Ends_at (n - all_moves (segments ++ s ∷ []) n) (length (drop k more)) =
+    let Q : ℕ → Type 0 = λ r. Ends_at r (length (drop k more)) in subst Q left in_rest in
+    let At : List Step → List ℕ → Type 0 =
+    λ ss m. GoesTo (In_body (body_of h p3 x ss m)) rest f in
+    let one : At (segments ++ s ∷ t ∷ later) ((moved ++ take k more) ++ drop k more) =
+    let Q : List ℕ → Type 0 = λ m. At (segments ++ s ∷ t ∷ later) m in
+    subst Q (ap (λ m. moved ++ m) (sym (take-append-drop k more))
+    ∙ sym (append_assoc moved (take k more) (drop k more))) to in
+    let two : At ((segments ++ s ∷ []) ++ t ∷ later) ((moved ++ take k more) ++ drop k more) =
+    let Q : List Step → Type 0 = λ ss. At ss ((moved ++ take k more) ++ drop k more) in
+    subst Q (sym (append_assoc segments (s ∷ []) (t ∷ later))) one in
+    let deeper = to_segments h p3 x (segments ++ s ∷ []) (t ∷ later) (moved ++ take k more)
+    (drop k more) rest f moved_is in_left (λ invalid. (nulls invalid).1) two in
+    let Left : ℕ → Type 0 =
+    λ r. GoesTo (In_body (body_of h p3 x (segments ++ s ∷ []) (moved ++ take k more)))
+    (segment_characters h.ins x (t ∷ later) r (drop k more) ++ rest) f in
+    let All_of : List Character → Type 0 = λ cs. GoesTo (In_body (body_of h p3 x segments moved))
+    ((Card, procedure_byte h.ins s) ∷ cs) f in
+    subst All_of (sym (append_assoc (sent_by (data_sender x) (take k more))
+    (segment_characters h.ins x (t ∷ later) ((n - done) - k) (drop k more)) rest))
+    (to_segment (body_of h p3 x segments moved) s (take k more)
+    (segment_characters h.ins x (t ∷ later) ((n - done) - k) (drop k more) ++ rest) f between
+    (λ invalid. (nulls invalid).0) (omega (arith, taken)) (subst Left (sym left) deeper))
+
+to_header : (done bytes : List ℕ) (rest : List Character) (f : Front)
+    → length done + length bytes < 5 → GoesTo (In_header (done ++ bytes)) rest f
+    → GoesTo (In_header done) (sent_by Terminal bytes ++ rest) f
+to_header done [] rest f lt to =
+    let P : List ℕ → Type 0 = λ m. GoesTo (In_header m) rest f in subst P (append-nil done) to
+to_header done (y ∷ bytes) rest f lt to =
+    let P : List ℕ → Type 0 = λ m. GoesTo (In_header m) rest f in (
+      In_header (done ++ y ∷ []),
+      (refl, inl (omega (arith, lt), refl)),
+      to_header (done ++ y ∷ []) bytes rest f
+          (omega (arith, lt, length-append done (y ∷ [])))
+          (subst P (sym (append_assoc done (y ∷ []) bytes)) to),
     )
+
+to_body : (b : Body) (rest : List Character) (f : Front) → IsBegun b → GoesTo (In_body b) rest f
+    → GoesTo fresh (body_characters b ++ rest) f
+to_body b rest f begun to =
+    let h = b.header in
+    let n = foreseen b.direction b.p3 in
+    let same : n - 0 ≡ n = omega arith in
+    let In_last : ℕ → Type 0 = λ r. EndInLast b.segments r (length b.moved) in
+    let Rest : ℕ → Type 0 = λ r. GoesTo (In_body (header_only h b.p3 b.direction))
+    (segment_characters h.ins b.direction b.segments r b.moved ++ rest) f in
+    to_header [] (header_bytes h) ((Terminal, b.p3)
+    ∷ (segment_characters h.ins b.direction b.segments n b.moved ++ rest)) f (lit< tt) (
+      In_body (header_only h b.p3 b.direction),
+      (refl, inr (h, b.direction, refl, refl)),
+      subst Rest same (to_segments h b.p3 b.direction [] b.segments [] b.moved rest f refl
+          (subst In_last (sym same) begun.in_last) begun.only_nulls to),
+    )
+
+pub reached : (front : Front) → IsFront front → GoesTo fresh (front_characters front) front
+reached (In_header bytes) is =
+    let P : List Character → Type 0 = λ cs. GoesTo fresh cs (In_header bytes) in
+    subst P (append-nil (sent_by Terminal bytes))
+    (to_header [] bytes [] (In_header bytes) (omega (arith, is)) refl)
+reached (In_body b) is =
+    let P : List Character → Type 0 = λ cs. GoesTo fresh cs (In_body b) in
+    subst P (append-nil (body_characters b)) (to_body b [] (In_body b) is refl)
+reached (After_first b sw1) is =
+    to_body b ((Card, sw1) ∷ []) (After_first b sw1) is.0
+    (After_first b sw1, inr (inr (is.1, refl, is.2, refl)), refl)
+
+-- the data of a whole dialogue end inside its last segment
+pub whole_in_last : (segments : List Step) (k n : ℕ) → n ≡ all_moves segments k
+    → EndInLast segments k n
+whole_in_last [] k n e = e
+whole_in_last (s ∷ []) k n e = omega (arith, e)
+whole_in_last (s ∷ t ∷ segments) k n e = (
+  omega (arith, e),
+  whole_in_last (t ∷ segments) (k - moves s k) (n - moves s k)
+      (omega (arith, e)),
+)
+
+-- a whole dialogue but for SW2
+pub whole_front : (d : Dialogue) → IsDialogue d → IsFront (After_first d.body d.status.0)
+whole_front d is = (
+  record {
+    in_last = whole_in_last d.body.segments (foreseen d.body.direction d.body.p3)
+        (length d.body.moved) is.moved_by_segments;
+    only_nulls = is.only_nulls;
+  },
+  is.moved_by_segments,
+  (is.is_status.0, lit< tt),
+)
+
+pub through : (cs rest : List Character) (front other : Front) (d : Dialogue)
+    → GoesTo front cs other → GoesThrough other rest d → GoesThrough front (cs ++ rest) d
+through [] rest front other d to on = let P : Front → Type 0 = λ f. GoesThrough f rest d in
+    subst P (sym to) on
+through (c ∷ cs) rest front other d to on =
+    inr (to.0, to.1, through cs rest to.0 other d to.2 on)
 
 pub goes_through : (d : Dialogue) → IsDialogue d → GoesThrough fresh (characters d) d
 goes_through d is =
-    let h = d.body.header in
-    let n = foreseen d.body.direction d.body.p3 in
-    let same : n - 0 ≡ n = omega arith in
-    let Rest : ℕ → Type 0 =
-    λ r. GoesThrough (In_body (header_only h d.body.p3 d.body.direction))
-    (segment_characters h.ins d.body.direction d.body.segments r d.body.moved
-    ++ (Card, d.status.0) ∷ (Card, d.status.1) ∷ []) d in
-    let body = subst Rest same
-    (through_segments h d.body.p3 d.body.direction [] d.body.segments [] d.body.moved d.status.0
-    d.status.1 refl (rw same is.moved_by_segments) is.only_nulls is.is_status) in
-    inr (
-      In_header (h.cla ∷ []),
-      (refl, inl (lit< tt, refl)),
-      inr (
-        In_header (h.cla ∷ h.ins ∷ []),
-        (refl, inl (lit< tt, refl)),
-        inr (
-          In_header (h.cla ∷ h.ins ∷ h.p1 ∷ []),
-          (refl, inl (lit< tt, refl)),
-          inr (
-            In_header (h.cla ∷ h.ins ∷ h.p1 ∷ h.p2 ∷ []),
-            (refl, inl (lit< tt, refl)),
-            inr (
-              In_body (header_only h d.body.p3 d.body.direction),
-              (refl, inr (h, d.body.direction, refl, refl)),
-              body,
-            ),
-          ),
-        ),
-      ),
-    )
+    let front = After_first d.body d.status.0 in
+    let P : List Character → Type 0 = λ cs. GoesThrough fresh cs d in
+    subst P (append_assoc (body_characters d.body) ((Card, d.status.0) ∷ [])
+    ((Card, d.status.1) ∷ []))
+    (through (front_characters front) ((Card, d.status.1) ∷ []) fresh front d
+    (reached front (whole_front d is)) (inl ((refl, is.is_status.1, refl), refl)))

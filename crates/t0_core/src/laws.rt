@@ -1,10 +1,9 @@
 //! Laws of dialogues and their fronts, over the definitions alone.
 
-ghost use Rattle.std.specs.Prelude.{◌≡◌, ◌<◌, ◌++◌, ◌∷◌, [], ℕ, List, true};
+ghost use Rattle.std.specs.Prelude.{◌≡◌, ◌<◌, ◌++◌, ◌∷◌, [], ℕ, List};
 ghost use Rattle.std.specs.List.{AllByRecursion, flat_map};
 ghost use Rattle.t0_core.specs.Character.{Character};
 ghost use Rattle.t0_core.specs.Dialogue.{Dialogue, IsDialogue, characters};
-ghost use Rattle.apdu_core.specs.HeaderBytes.{ins_is_valid};
 ghost use Rattle.t0_core.specs.declared.end.End.TheVariants.{Terminal, Card};
 ghost use Rattle.t0_core.specs.declared.host_end.HostTurn.TheVariants.{Sends, Listens};
 ghost use Rattle.t0_core.specs.Room.{Room};
@@ -69,12 +68,11 @@ pub fn the_next_character_is_settled()
         IsOpenedBy host d.body → characters d ++ rest ≡ front_characters front → ⊥ }
 {}
 
-/// Dialogues with the same header, P3 and direction are the same where their characters begin one
-/// list, and so none begins another. It needs an INS that is valid.
+/// Dialogues whose data are to move the same way are the same where their characters begin one list,
+/// and so none begins another. It needs INS to be a byte.
 pub fn dialogues_opened_alike_have_one_cutting()
     ensures { (d e : Dialogue) (after_d after_e : List Character) →
-        ins_is_valid d.body.header.ins ≡ true → d.body.header.ins < 256 →
-        IsDialogue d → IsDialogue e → d.body.header ≡ e.body.header → d.body.p3 ≡ e.body.p3 →
+        d.body.header.ins < 256 → IsDialogue d → IsDialogue e →
         d.body.direction ≡ e.body.direction → characters d ++ after_d ≡ characters e ++ after_e →
         (d ≡ e) × (after_d ≡ after_e) }
 {}

@@ -7,8 +7,6 @@ mod cut;
 mod header;
 pub mod laws;
 mod status;
-#[cfg(test)]
-mod tests;
 
 pub use chain::{Chain, TooLong};
 pub use command::{ApduFault, Command};

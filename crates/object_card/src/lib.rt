@@ -50,8 +50,6 @@ mod aid;
 mod application;
 mod builder;
 mod builder_fault;
-#[cfg(test)]
-mod builder_tests;
 mod card;
 mod command_data;
 mod data_card;
@@ -60,23 +58,13 @@ mod header_refusals;
 mod instructions;
 pub mod laws;
 mod limits;
-#[cfg(test)]
-mod line_tests;
-#[cfg(test)]
-mod memory_tests;
 mod pending_chain;
 mod put_data;
 mod ready;
 mod response;
 mod select_command;
 mod sent_response;
-#[cfg(test)]
-mod simulator;
 mod status_words;
-#[cfg(test)]
-mod tests;
-#[cfg(test)]
-mod trace;
 mod verdict;
 mod view;
 

@@ -122,9 +122,9 @@ impl<C: TpduCard> CardEnd<C> {
         &self.card
     }
 
-    /// The characters held as data. Between TPDUs they are zeros: none of the last one's are left.
-    #[cfg(test)]
-    pub(crate) fn held(&self) -> &[u8; 255]
+    /// The characters held as data. While the end waits for a header they are zeros: none of the
+    /// last TPDU's are left (this project's profile).
+    pub fn held(&self) -> &[u8; 255]
         ensures { (bytes : List ℕ) → self.now.stage ≡ Taking_header bytes →
             result.now ≡ replicate 255 0 }
     {

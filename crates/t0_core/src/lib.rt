@@ -38,12 +38,3 @@ pub use tpdu_card::{TpduCard, Verdict};
 pub use unheard::Unheard;
 pub use watch::{Silent, Watch};
 pub use whole_tpdu::WholeTpdu;
-
-#[cfg(test)]
-mod card_tests;
-#[cfg(test)]
-mod tap_tests;
-#[cfg(test)]
-mod test_card;
-#[cfg(test)]
-mod tests;

@@ -32,12 +32,3 @@ pub use read_fault::ReadFault;
 pub use shortest_head::head;
 pub use tag::Tag;
 pub use tree::Tree;
-
-#[cfg(test)]
-mod forest_tests;
-#[cfg(test)]
-mod memory_tests;
-#[cfg(test)]
-mod nesting_tests;
-#[cfg(test)]
-mod tests;

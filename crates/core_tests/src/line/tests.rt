@@ -1,9 +1,9 @@
-use crate::{End, Gather, HostEnd, HostTurn, LineFault, Recorder, Silent, Watch};
 use apdu_core::Header;
 use linked_list_allocator::LocalHeap;
 use std::alloc::{Allocator, Global};
 use std::process::Abort;
 use std::test::Fail;
+use t0_core::{End, Gather, HostEnd, HostTurn, LineFault, Recorder, Silent, Watch};
 
 /// GET DATA of `0000`.
 const GET: Header = Header {
@@ -22,10 +22,10 @@ const PUT: Header = Header {
 };
 
 /// Passes these characters, run by run: a terminal's end hands out its own and takes the card's.
-fn pass(
+fn pass<A: Allocator>(
     rt: &impl Abort,
     end: &mut HostEnd<'_>,
-    gather: &mut Gather<Global>,
+    gather: &mut Gather<A>,
     runs: &[(End, &[u8])],
 ) {
     for (from, bytes) in runs {
@@ -241,7 +241,12 @@ fn no_room_for_a_gather(rt: HostRuntime) -> Result<(), Fail> {
 fn unfilled_room_is_given_back(rt: HostRuntime) -> Result<(), Fail> {
     let heap = LocalHeap::new(rt.alloc(), 384)?;
     let mut gather = Gather::with_room(&heap, 256)?;
-    gather.push(0x41);
+    let opening = b"\x00\xCA\x00\x00\x01".as_slice();
+    let runs = [
+        (End::Terminal, opening),
+        (End::Card, b"\xCA\x41".as_slice()),
+    ];
+    pass(&rt, &mut HostEnd::asking(GET, 1), &mut gather, &runs);
     let bytes = gather.into_bytes();
     assert_eq!(rt; bytes.as_slice(), [0x41].as_slice());
     assert!(rt; Gather::with_room(&heap, 256).is_ok());

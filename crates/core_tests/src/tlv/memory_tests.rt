@@ -1,9 +1,9 @@
 //! Each growth of each call is refused in turn, by heaps of ever more bytes.
 
-use crate::{BuildFault, Forest, ReadFault, Tag, Tree};
 use linked_list_allocator::LocalHeap;
 use std::alloc::{AllocGlobal, Allocator};
 use std::process::Abort;
+use tlv_core::{BuildFault, Forest, ReadFault, Tag, Tree};
 
 /// The name of an application, `84`, in a template `6F`.
 const OBJECTS: [u8; 11] = [

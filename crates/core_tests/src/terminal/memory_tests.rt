@@ -1,9 +1,9 @@
 //! Each growth is refused in turn, by heaps of ever more bytes.
 
-use crate::data_objects::{NAME, selected};
-use crate::trace::{bytes, characters};
-use crate::{Answer, Exchange, SessionFault};
+use super::data_objects::{NAME, selected};
+use super::trace::{bytes, characters};
 use apdu_core::{Command, Header};
+use card_terminal::{Answer, Exchange, SessionFault};
 use linked_list_allocator::LocalHeap;
 use std::alloc::{AllocGlobal, Allocator, Global};
 use std::process::Abort;

@@ -1,8 +1,8 @@
 //! Exchanges driven by hand over characters.
 
-use crate::trace::{bytes, characters, pass, word};
-use crate::{Answer, Exchange, RESPONSE_LIMIT};
+use super::trace::{bytes, characters, pass, word};
 use apdu_core::{Command, Status};
+use card_terminal::{Answer, Exchange, RESPONSE_LIMIT};
 use std::alloc::AllocGlobal;
 use std::process::Abort;
 use t0_core::{AnswerFault, End, HostTurn, LineFault};

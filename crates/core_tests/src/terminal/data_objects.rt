@@ -2,8 +2,8 @@
 //! the objects of a card, `get 5F20; put 5F20 41` for operations, `9000 5F204A4F45; 6A88` for
 //! answers.
 
-use crate::trace::{bytes, word};
-use crate::{Answers, Bytes, Op, Session, SessionFault};
+use super::trace::{bytes, word};
+use card_terminal::{Answers, Bytes, Op, Session, SessionFault};
 use object_card::{Aid, CardBuilder, DataCard, Entries, ObjectCard};
 use std::alloc::{AllocGlobal, Allocator, Global};
 use std::process::Abort;

@@ -1,7 +1,7 @@
 //! What a terminal sends to a card's end of the line, and what the card answers.
 
-use crate::trace::{aid, end_over, full, holds, is_taken, passes, passes_alone, plans, turn};
-use crate::{DataCard, ObjectCard};
+use super::trace::{aid, end_over, full, holds, is_taken, passes, passes_alone, plans, turn};
+use object_card::{DataCard, ObjectCard};
 use std::alloc::{AllocGlobal, Global};
 use std::process::Abort;
 use t0_core::{CardEnd, Plans, Turn};

@@ -1,8 +1,8 @@
 //! Each growth is refused in turn, by heaps of ever more bytes.
 
-use crate::trace::{add, built, end_over, holds, passes_alone, turn};
-use crate::{BuilderFault, DataCard, ObjectCard};
+use super::trace::{add, built, end_over, holds, passes_alone, turn};
 use linked_list_allocator::LocalHeap;
+use object_card::{BuilderFault, DataCard, ObjectCard};
 use std::alloc::{AllocGlobal, Allocator, Global};
 use std::process::Abort;
 use t0_core::{CardEnd, Plans, Turn};

@@ -1,9 +1,9 @@
 //! Sessions with a card of the tests, which takes what is put and brings about faults.
 
-use crate::test_card::{Manner, TestCard};
-use crate::trace::{characters, plans, word};
-use crate::{Session, SessionFault};
+use super::test_card::{Manner, TestCard};
+use super::trace::{characters, plans, word};
 use apdu_core::{Command, Header};
+use card_terminal::{Session, SessionFault};
 use std::alloc::{AllocGlobal, Global};
 use std::process::Abort;
 use t0_core::{CardEnd, LineFault, Plan, Plans, Recorder};

@@ -1,8 +1,8 @@
 //! Lists of many operations, also where memory is wanting before one in their middle.
 
-use crate::data_objects::{operations, ran, selected};
-use crate::trace::{bytes, characters, word};
-use crate::{Answers, Op, SessionFault};
+use super::data_objects::{operations, ran, selected};
+use super::trace::{bytes, characters, word};
+use card_terminal::{Answers, Op, SessionFault};
 use linked_list_allocator::LocalHeap;
 use std::alloc::{AllocGlobal, Allocator, Global};
 use std::process::Abort;

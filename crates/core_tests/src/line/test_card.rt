@@ -3,10 +3,10 @@
 ghost use Rattle.std.specs.Prelude.{◌≡◌, ℕ, ◌≤◌, length, take};
 ghost use Rattle.apdu_core.specs.StatusWord.{count};
 ghost use Rattle.t0_core.specs.Meaning.{Prepared, Nothing, Receiving, Sending, Decided};
-ghost use Rattle.t0_core.specs.declared.test_card.Ready.TheVariants as ready;
+ghost use Rattle.core_tests.specs.declared.line.test_card.Ready.TheVariants as ready;
 
-use crate::tpdu_card::{TpduCard, Verdict};
 use apdu_core::{Header, Status};
+use t0_core::{TpduCard, Verdict};
 
 /// What it has made ready.
 #[derive(Clone, Copy, Debug, PartialEq, Eq)]

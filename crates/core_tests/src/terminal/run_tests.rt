@@ -1,9 +1,9 @@
 //! Operations over the card of data objects, with what goes over the line.
 
-use crate::data_objects::{NAME, are_answered, holds, operations, ran, selected, session_over};
-use crate::trace::{characters, plans, word};
-use crate::{Answer, Answers, Op, Session};
+use super::data_objects::{NAME, are_answered, holds, operations, ran, selected, session_over};
+use super::trace::{characters, plans, word};
 use apdu_core::{Command, Header};
+use card_terminal::{Answer, Answers, Op, Session};
 use object_card::{DataCard, ObjectCard};
 use std::alloc::{AllocGlobal, Global};
 use std::process::Abort;

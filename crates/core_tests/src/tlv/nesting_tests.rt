@@ -1,9 +1,9 @@
 //! Objects within objects at every depth, and lists and values of thousands: nothing gives up
 //! early.
 
-use crate::{BuildFault, Forest, Objects, ReadFault, Reason, Tag, TlvFault, Tree};
 use std::alloc::{AllocGlobal, Global};
 use std::process::Abort;
+use tlv_core::{BuildFault, Forest, Objects, ReadFault, Reason, Tag, TlvFault, Tree};
 
 /// A primitive of three bytes.
 const PRIMITIVE: &[u8] = b"\x50\x01\x41";

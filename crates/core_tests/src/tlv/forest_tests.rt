@@ -1,6 +1,6 @@
-use crate::{BuildFault, Forest, ReadFault, Reason, Tag, TlvFault, Tree};
 use std::alloc::{AllocGlobal, Global};
 use std::process::Abort;
+use tlv_core::{BuildFault, Forest, ReadFault, Reason, Tag, TlvFault, Tree};
 
 /// Sixteen templates, each in the one before it.
 const SIXTEEN_LEVELS: &str = "701E701C701A70187016701470127010700E700C700A70087006700470027000";

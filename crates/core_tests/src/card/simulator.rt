@@ -1,7 +1,7 @@
 //! The card simulator of the crate's page, and a terminal that uses it.
 
-use crate::trace::{aid, bytes, holds, tag};
-use crate::{Aid, CardBuilder, ObjectCard};
+use super::trace::{aid, bytes, holds, tag};
+use object_card::{Aid, CardBuilder, ObjectCard};
 use std::alloc::{AllocGlobal, Global};
 use std::process::Abort;
 use std::test::Fail;

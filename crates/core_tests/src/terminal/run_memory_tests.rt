@@ -1,9 +1,9 @@
 //! A put of which each growth is refused in turn, by heaps of ever more bytes: at the terminal, and
 //! at the card.
 
-use crate::data_objects::{NAME, holds, operations, ran, selected};
-use crate::trace::{characters, word};
-use crate::{Answers, Op, Session, SessionFault};
+use super::data_objects::{NAME, holds, operations, ran, selected};
+use super::trace::{characters, word};
+use card_terminal::{Answers, Op, Session, SessionFault};
 use linked_list_allocator::LocalHeap;
 use object_card::{DataCard, ObjectCard};
 use std::alloc::{AllocGlobal, Allocator, Global};

@@ -1,7 +1,7 @@
-use crate::{Direction, Due, End, Heard, Said, Step, Tap, Unheard};
 use apdu_core::{Header, Status};
 use std::process::Abort;
 use std::test::Fail;
+use t0_core::{Direction, Due, End, Heard, Said, Step, Tap, Unheard};
 
 /// A tap takes these characters of one end, each as what stands beside it.
 fn hears(rt: &impl Abort, tap: &mut Tap, from: End, said: &[(u8, Heard)]) {

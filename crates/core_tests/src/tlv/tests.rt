@@ -1,6 +1,8 @@
-use crate::{Obj, ObjectTag, Objects, Reason, Tag, TlvFault, find, find_placed, head, value_fault};
 use std::process::Abort;
 use std::test::Fail;
+use tlv_core::{
+    Obj, ObjectTag, Objects, Reason, Tag, TlvFault, find, find_placed, head, value_fault,
+};
 
 const SIXTEEN_LEVELS: &[u8] = b"\x70\x1E\x70\x1C\x70\x1A\x70\x18\x70\x16\x70\x14\x70\x12\x70\x10\
       \x70\x0E\x70\x0C\x70\x0A\x70\x08\x70\x06\x70\x04\x70\x02\x70\x00";

@@ -1,4 +1,4 @@
-use crate::{APPLICATION_LIMIT, Aid, ENTRY_LIMIT, HEAD_LIMIT, RESPONSE_LIMIT, VALUE_LIMIT};
+use object_card::{APPLICATION_LIMIT, Aid, ENTRY_LIMIT, HEAD_LIMIT, RESPONSE_LIMIT, VALUE_LIMIT};
 use std::process::Abort;
 use std::test::Fail;
 

@@ -2,8 +2,8 @@
 //! can't go on without is had by `expect`: a `?` is an exit, on which all that is alive is dropped,
 //! and each drop is one more proof.
 
-use crate::Exchange;
 use apdu_core::Status;
+use card_terminal::Exchange;
 use std::alloc::{AllocGlobal, Allocator};
 use std::process::Abort;
 use t0_core::{End, HostTurn, Plan, Step};

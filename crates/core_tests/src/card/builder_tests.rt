@@ -1,7 +1,7 @@
 //! What a builder takes, and what it refuses, in the order of its refusals.
 
-use crate::trace::{add, aid, built, full, holds, tag};
-use crate::{BuilderFault, ObjectCard};
+use super::trace::{add, aid, built, full, holds, tag};
+use object_card::{BuilderFault, ObjectCard};
 use std::alloc::AllocGlobal;
 use std::process::Abort;
 

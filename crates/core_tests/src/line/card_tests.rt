@@ -1,11 +1,11 @@
 //! The card's end under plans, with worked dialogues.
 
-use crate::test_card::TestCard;
-use crate::{CardEnd, End, NotListening, Plan, Plans, Step, Turn};
+use super::test_card::TestCard;
 use Step::{All, Null, One};
 use std::alloc::{Allocator, Global};
 use std::process::Abort;
 use std::test::Fail;
+use t0_core::{CardEnd, End, NotListening, Plan, Plans, Step, Turn};
 
 /// The card's end hands out its characters, and takes the terminal's, run by run.
 fn passes<A: Allocator>(

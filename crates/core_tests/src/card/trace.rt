@@ -3,7 +3,7 @@
 //! had by `expect`: a `?` is an exit, on which all that is alive is dropped, and each drop is one
 //! more proof.
 
-use crate::{Aid, BuilderFault, CardBuilder, Entries, ObjectCard};
+use object_card::{Aid, BuilderFault, CardBuilder, Entries, ObjectCard};
 use std::alloc::{AllocGlobal, Allocator, Global};
 use std::process::Abort;
 use t0_core::{CardEnd, End, Plan, Plans, Step, Turn};

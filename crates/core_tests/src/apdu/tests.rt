@@ -1,4 +1,4 @@
-use super::*;
+use apdu_core::{ApduFault, Chain, Command, Header, Status, TooLong, pieces};
 use linked_list_allocator::LocalHeap;
 use std::test::Fail;
 

@@ -1,0 +1,3 @@
+//! Tests of `apdu_core`.
+
+mod tests;

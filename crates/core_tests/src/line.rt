@@ -1,0 +1,6 @@
+//! Tests of `t0_core`.
+
+mod card_tests;
+mod tap_tests;
+mod test_card;
+mod tests;

@@ -1,0 +1,6 @@
+//! Tests of `tlv_core`.
+
+mod forest_tests;
+mod memory_tests;
+mod nesting_tests;
+mod tests;

@@ -1,4 +1,4 @@
-ghost use Rattle.std.specs.Prelude.{◌≡◌, ℕ, ◌≤◌, ◌<◌, List, [], ◌∷◌, ◌++◌, true, OnOk, OnErr, IfErr, MatchResult, IsOk, length, IfOk, is_ok, if◌then◌else◌, ◌⊎◌, ◌↔◌, Some, None, is_some, IfSome};
+ghost use Rattle.std.specs.Prelude.{◌≡◌, ℕ, ◌≤◌, ◌<◌, List, [], ◌∷◌, ◌++◌, true, OnOk, OnErr, IfErr, IsErrOf, MatchResult, IsOk, length, IfOk, is_ok, if◌then◌else◌, ◌⊎◌, ◌↔◌, Some, None, is_some, IfSome};
 ghost use Rattle.std.specs.Result.{result_err};
 ghost use Rattle.apdu_core.specs.HeaderBytes.{ins_is_valid};
 ghost use Rattle.apdu_core.specs.StatusWord.{StatusWord, count};
@@ -219,6 +219,10 @@ impl<'a> HostEnd<'a> {
             × (gather.new ≡ gather.old)) }
         ensures taken { OnOk result ((self.new ≡ at_stage self.old (after_taking self.old byte))
             × (gather.new ≡ gathered gather.old (data_in self.old.stage byte))) }
+        ensures unchanged { IsErrOf result LineFault.NotListening
+            ⊎ IsErrOf result LineFault.AfterEnd → self.new ≡ self.old }
+        ensures failed { IfErr result (λ fault. (fault ≡ LineFault.NotListening)
+            ⊎ (fault ≡ LineFault.AfterEnd) ⊎ (turn_of self.new ≡ HostTurn.Failed)) }
         ensures keeps { IsRequest self.new }
 
         // It takes each dialogue that it opened, where there is room for the data.
@@ -284,6 +288,11 @@ impl<'a> HostEnd<'a> {
             × (gather.new ≡ gather.old)) }
         ensures taken { OnOk result ((self.new ≡ at_stage self.old (AwaitingSecond status.0))
             × (gather.new ≡ gathered gather.old bytes.now)) }
+        ensures unchanged { IsErrOf result AnswerFault.NotDue
+            ⊎ IsErrOf result AnswerFault.NotAsked
+            ⊎ IsErrOf result AnswerFault.TooMany → self.new ≡ self.old }
+        ensures failed { IsErrOf result AnswerFault.TooLong
+            → turn_of self.new ≡ HostTurn.Failed }
         ensures keeps { IsRequest self.new }
 
         // It takes each dialogue that it opened, where there is room for the data.

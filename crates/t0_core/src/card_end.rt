@@ -122,8 +122,8 @@ impl<C: TpduCard> CardEnd<C> {
         &self.card
     }
 
-    /// The characters held as data. While the end waits for a header they are zeros: none of the
-    /// last TPDU's are left (this project's profile).
+    /// The room for data of the terminal, with those of the TPDU under way in front. Between TPDUs
+    /// it holds zeros: none of the last one's are left.
     pub fn held(&self) -> &[u8; 255]
         ensures { (bytes : List ℕ) → self.now.stage ≡ Taking_header bytes →
             result.now ≡ replicate 255 0 }

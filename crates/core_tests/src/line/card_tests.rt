@@ -117,6 +117,30 @@ fn each_step_of_a_plan(rt: HostRuntime) -> Result<(), Fail> {
     Ok(())
 }
 
+/// The most that P3 counts: 255 bytes to the card, and 256 from it with P3 `00`.
+#[test]
+fn tpdus_of_the_greatest_size(rt: HostRuntime) {
+    let mut end = CardEnd::new(TestCard::new());
+    let mut plans = Plans::<Global>::over(&[]);
+    let content = [0x41; 255];
+    let put = [
+        (End::Terminal, b"\x00\xDA\x00\x00\xFF".as_slice()),
+        (End::Card, b"\xDA".as_slice()),
+        (End::Terminal, content.as_slice()),
+        (End::Card, b"\x90\x00".as_slice()),
+    ];
+    passes(&rt, &mut end, &mut plans, &put);
+
+    let rest = [0; 253];
+    let get = [
+        (End::Terminal, b"\x00\xCA\x00\x00\x00".as_slice()),
+        (End::Card, b"\xCA\x01\x02\x03".as_slice()),
+        (End::Card, rest.as_slice()),
+        (End::Card, b"\x90\x00".as_slice()),
+    ];
+    passes(&rt, &mut end, &mut plans, &get);
+}
+
 #[test]
 fn second_tpdu_over_one_plan_has_no_steps(rt: HostRuntime) -> Result<(), Fail> {
     let steps = Vec::from_slice(rt.alloc(), &[Null, One])?;

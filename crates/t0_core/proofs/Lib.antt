@@ -8,4 +8,5 @@ pub mod PlannedFront
 pub mod HistoryLaws
 pub mod TapLemmas
 pub mod TapLineLemmas
+pub mod TapTurns
 mod TapVectors

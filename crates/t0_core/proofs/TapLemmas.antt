@@ -202,7 +202,7 @@ from_the_card : (d : Direction) (p3 : ℕ) → 0 < foreseen d p3 → p3 ≡ 0 �
 from_the_card ToCard p3 some none = absurd (omega (arith, some, none))
 from_the_card FromCard p3 some none = refl
 
-may_come : (seen : Option Direction) (d : Direction) (p3 : ℕ) (moved : List ℕ) → Shows seen d moved
+pub may_come : (seen : Option Direction) (d : Direction) (p3 : ℕ) (moved : List ℕ) → Shows seen d moved
     → 0 < foreseen d p3 → may_come_from (due.Data (way_of seen p3)) (data_sender d) ≡ true
 may_come (Some seen) d p3 moved shows some =
     rw (ap (λ x. goes_this_way x (data_sender d)) shows.0) (sender_goes d)
@@ -401,7 +401,7 @@ goes_straight : (place : Place) (from : End) (byte : ℕ) (b : Body) (new : Fron
 goes_straight place from byte b new goes took =
     goes_so place from byte b new b.direction refl (λ is. is) goes took
 
-header_goes : (heard : List ℕ) (byte : ℕ) → length heard < 5
+pub header_goes : (heard : List ℕ) (byte : ℕ) → length heard < 5
     → (new : Front) × GoesOn (In_header heard) (Terminal, byte) new × IsReadFront new
 header_goes [] byte lt = (In_header (byte ∷ []), (refl, inl (lit< tt, refl)), tt)
 header_goes (a ∷ []) byte lt = (In_header (a ∷ byte ∷ []), (refl, inl (lit< tt, refl)), tt)
@@ -645,7 +645,7 @@ took place from byte front range small at none =
 
 -- ---- as the tap is seen
 
-stands_inside : (p seen : Place) (front : Front) → p ≡ seen → TapStandsAt seen front
+pub stands_inside : (p seen : Place) (front : Front) → p ≡ seen → TapStandsAt seen front
     → TapStandsAt p front
 stands_inside p seen front is stands = let P : Place → Type 0 = λ x. TapStandsAt x front in
     subst P (sym is) stands

@@ -1,4 +1,5 @@
--- A tap goes through dialogues that follow plans, one after another.
+-- A tap goes through the dialogues that it reads, one after another; those that follow plans are
+-- among them.
 use Rattle.std.proofs.Common.{◌≡◌, ℕ, ◌<◌, List, [], ◌∷◌, ◌++◌, length, refl, sym, subst, ◌∙◌, ap, arith, inl, inr, lit<, None}
 use Rattle.std.specs.List.{AllByRecursion, flat_map}
 use Rattle.apdu_core.specs.declared.header.Header.{Header}
@@ -174,12 +175,11 @@ bytes_after : (cs ds : List Character) → AllByRecursion IsByteEvent (passed (c
 bytes_after [] ds all = all
 bytes_after (c ∷ cs) ds all = bytes_after cs ds all.1
 
-hears_one : (d : Dialogue) (plan : Course) (rest : List Character) → IsDialogue d
-    → Follows d plan → AllByRecursion IsByteEvent (passed (characters d ++ rest))
+hears_one : (d : Dialogue) (rest : List Character) → IsDialogue d → IsRead d.body
+    → AllByRecursion IsByteEvent (passed (characters d ++ rest))
     → (told : List Heard) × HearsInTurn afresh (characters d) told afresh × AreTold told (d ∷ [])
-hears_one d plan rest is follows bytes =
-    hears_through (characters d) afresh fresh d (refl, lit< tt) (goes_through d is)
-    (follows_read d plan is follows) bytes.1.0
+hears_one d rest is read bytes =
+    hears_through (characters d) afresh fresh d (refl, lit< tt) (goes_through d is) read bytes.1.0
 
 hears_then : (d : Dialogue) (ds : List Dialogue)
     → (told : List Heard) × HearsInTurn afresh (characters d) told afresh × AreTold told (d ∷ [])
@@ -193,16 +193,28 @@ hears_then d ds one more = (
   told_both one.0 more.0 (d ∷ []) ds one.2 more.2,
 )
 
-pub hears_dialogues : (ds : List Dialogue) (plans : List Course) → AllByRecursion IsDialogue ds
+pub hears_dialogues : (ds : List Dialogue) → AllByRecursion IsDialogue ds
+    → AllByRecursion (λ d. IsRead d.body) ds
+    → AllByRecursion IsByteEvent (passed (flat_map characters ds))
+    → (told : List Heard) × HearsInTurn afresh (flat_map characters ds) told afresh
+    × AreTold told ds
+hears_dialogues [] are read bytes = ([], (refl, refl), tt)
+hears_dialogues (d ∷ ds) are read bytes =
+    let rest = flat_map characters ds in
+    hears_then d ds (hears_one d rest are.0 read.0 bytes)
+    (hears_dialogues ds are.1 read.1 (bytes_after (characters d) rest bytes))
+
+follow_read : (ds : List Dialogue) (plans : List Course) → AllByRecursion IsDialogue ds
+    → FollowInTurn ds plans → AllByRecursion (λ d. IsRead d.body) ds
+follow_read [] plans are follow = tt
+follow_read (d ∷ ds) [] are follow =
+    (follows_read d plain are.0 follow.0, follow_read ds [] are.1 follow.1)
+follow_read (d ∷ ds) (p ∷ plans) are follow =
+    (follows_read d p are.0 follow.0, follow_read ds plans are.1 follow.1)
+
+pub hears_planned : (ds : List Dialogue) (plans : List Course) → AllByRecursion IsDialogue ds
     → FollowInTurn ds plans → AllByRecursion IsByteEvent (passed (flat_map characters ds))
     → (told : List Heard) × HearsInTurn afresh (flat_map characters ds) told afresh
     × AreTold told ds
-hears_dialogues [] plans are follow bytes = ([], (refl, refl), tt)
-hears_dialogues (d ∷ ds) [] are follow bytes =
-    let rest = flat_map characters ds in
-    hears_then d ds (hears_one d plain rest are.0 follow.0 bytes)
-    (hears_dialogues ds [] are.1 follow.1 (bytes_after (characters d) rest bytes))
-hears_dialogues (d ∷ ds) (p ∷ plans) are follow bytes =
-    let rest = flat_map characters ds in
-    hears_then d ds (hears_one d p rest are.0 follow.0 bytes)
-    (hears_dialogues ds plans are.1 follow.1 (bytes_after (characters d) rest bytes))
+hears_planned ds plans are follow bytes =
+    hears_dialogues ds are (follow_read ds plans are follow) bytes

@@ -133,6 +133,17 @@ abbrev pub unheard_at : Place → End → ℕ → Option Unheard
 unheard_at place from byte =
     if may_come_from (due_at place) from then unheard_byte place byte else Some OutOfTurn
 
+abbrev pub other_end : End → End
+other_end Terminal = Card
+other_end Card = Terminal
+
+-- it is this end's turn: from this front a dialogue that the tap reads goes on with a character of
+-- it, or ends with one
+abbrev pub HasTurn : End → Front → Type 0
+HasTurn from front = (byte : ℕ) × (byte < 256)
+    × (((new : Front) × GoesOn front (from, byte) new × IsReadFront new)
+    ⊎ ((d : Dialogue) × Ends front (from, byte) d))
+
 -- how the tap goes on with a character that it takes
 abbrev pub moved_to : Said → ℕ → Place
 moved_to said until = if nat_lt said.moved until then In_data said until else Between said

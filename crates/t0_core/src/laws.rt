@@ -10,7 +10,7 @@ ghost use Rattle.t0_core.specs.Room.{Room};
 ghost use Rattle.t0_core.specs.HostSide.{Hosting, HostStandsAt, HasRoom, IsOpenedBy, IsRequest, turn_of, fault_of};
 ghost use Rattle.t0_core.specs.declared.heard.Heard.{Heard};
 ghost use Rattle.t0_core.specs.Plan.{Course, FollowInTurn};
-ghost use Rattle.t0_core.specs.TapSide.{afresh};
+ghost use Rattle.t0_core.specs.TapSide.{IsRead, afresh};
 ghost use Rattle.t0_core.specs.TapLine.{HearsInTurn, AreTold};
 ghost use Rattle.t0_core.specs.OwnLaws.{BeginsOwn};
 ghost use Rattle.t0_core.specs.History.{Item, IsItem, IsPart, IsByteEvent, AreAlikeInTurn, events_of, passed};
@@ -88,8 +88,17 @@ pub fn events_have_one_cutting()
         AreAlikeInTurn items others × (part ≡ other) }
 {}
 
-/// Dialogues that follow plans a tap takes to their end, whatever the plans, and tells each of
-/// them.
+/// Dialogues that a tap reads it takes to their end, one after another, and tells each of them,
+/// whatever card and terminal they come from. It needs the characters to be bytes.
+pub fn a_tap_takes_the_dialogues_that_it_reads()
+    ensures { (dialogues : List Dialogue) →
+        AllByRecursion IsDialogue dialogues → AllByRecursion (λ d. IsRead d.body) dialogues →
+        AllByRecursion IsByteEvent (passed (flat_map characters dialogues)) →
+        (told : List Heard) × HearsInTurn afresh (flat_map characters dialogues) told afresh
+        × AreTold told dialogues }
+{}
+
+/// So it does with dialogues that follow plans, whatever the plans: it reads each of them.
 pub fn a_tap_takes_dialogues_under_plans()
     ensures { (dialogues : List Dialogue) (plans : List Course) →
         AllByRecursion IsDialogue dialogues → FollowInTurn dialogues plans →

@@ -1,8 +1,8 @@
-ghost use Rattle.std.specs.Prelude.{◌≡◌, ◌≤◌, ◌<◌, ◌++◌, ◌∷◌, [], List, length, take, OnErr, IfOk, MatchResult, true};
+ghost use Rattle.std.specs.Prelude.{◌≡◌, ◌≤◌, ◌<◌, ◌++◌, ◌∷◌, [], List, length, take, OnErr, IfOk, MatchResult, ◌↔◌, ℕ, IfErr, true};
 ghost use Rattle.std.specs.Result.{result_err};
 ghost use Rattle.t0_core.specs.Front.{Front, GoesOn, Ends};
 ghost use Rattle.t0_core.specs.Dialogue.{Dialogue};
-ghost use Rattle.t0_core.specs.TapSide.{TapStandsAt, Takes, Makes, Concludes, IsReadFront, IsSaid, foreseen_by, begun_by, begun_at, moved_to, opened, due_at, unheard_at, unheard_byte, unheard_procedure, heard_at, heard_procedure, after_hearing, afresh, may_come_from};
+ghost use Rattle.t0_core.specs.TapSide.{TapStandsAt, Takes, Makes, Concludes, IsReadFront, IsSaid, foreseen_by, begun_by, begun_at, moved_to, opened, due_at, unheard_at, unheard_byte, unheard_procedure, heard_at, heard_procedure, after_hearing, afresh, may_come_from, other_end, HasTurn};
 ghost use Rattle.t0_core.specs.TapHistory.{HasHeard, HearsOn};
 ghost use Rattle.t0_core.specs.History.{Event, Reset};
 ghost use Rattle.t0_core.specs.TapView.{place_of, IsHeldAt};
@@ -74,7 +74,8 @@ impl Tap {
     ///
     /// `OutOfTurn` comes where the next character is the other end's, `BadProcedure` where a
     /// procedure byte or SW1 is due and the byte is neither (this project's profile): exactly where
-    /// no dialogue goes on with the character. Then nothing changes.
+    /// no dialogue that it reads goes on with the character. Then nothing changes. Data characters
+    /// are counted and not kept.
     pub fn hear(&mut self, from: End, byte: u8) -> Result<Heard, Unheard>
         ensures fault { result_err result ≡ unheard_at self.old from byte }
         ensures refused { OnErr result (self.new ≡ self.old) }
@@ -91,6 +92,14 @@ impl Tap {
         ensures ends { (front : Front) (d : Dialogue) → TapStandsAt self.old front
             → Ends front (from, byte) d →
             MatchResult result (λ heard. Concludes heard d) (λ _. ⊥) × (self.new ≡ afresh) }
+
+        // A character that it doesn't take is out of turn exactly where it is the other end's turn.
+        ensures reason { IfErr result (λ fault. (front : Front) → TapStandsAt self.old front →
+            (fault ≡ Unheard.OutOfTurn) ↔ HasTurn (other_end from) front) }
+
+        // After a data character it stands where it would after any other.
+        ensures forgets { IfOk result (λ heard. (direction : Direction) (other : ℕ) →
+            heard ≡ Heard.Data direction → self.new ≡ after_hearing self.old from other) }
 
         // Whatever it has heard it has heard with this character.
         ensures led { (events : List Event) (led : HasHeard events self.old) →

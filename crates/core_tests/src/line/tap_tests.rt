@@ -1,3 +1,5 @@
+//! What a tap says of worked dialogues, and what it refuses.
+
 use apdu_core::{Header, Status};
 use std::process::Abort;
 use std::test::Fail;
@@ -60,6 +62,40 @@ fn tells_what_each_character_of_the_card_is(rt: HostRuntime) -> Result<(), Fail>
         done(get, Some(Direction::FromCard), 3)
     );
     assert_eq!(rt; tap.due(), Due::Header);
+    Ok(())
+}
+
+/// Where no data are left the card may still send INS and its complement: they move none.
+#[test]
+fn hears_procedure_bytes_in_vain(rt: HostRuntime) -> Result<(), Fail> {
+    let get = [0x00, 0xCA, 0x5F, 0x20, 0x01];
+    let mut tap = Tap::new();
+    opens(&rt, &mut tap, &get);
+    hears(&rt, &mut tap, End::Card, &[(0xCA, ALL), (0x50, OUT)]);
+    for (byte, heard) in [(0xCA, ALL), (0x35, ONE)] {
+        hears(&rt, &mut tap, End::Card, &[(byte, heard)]);
+        assert_eq!(rt; tap.due(), Due::Procedure);
+    }
+    hears(&rt, &mut tap, End::Card, &[(0x90, Heard::FirstStatus)]);
+    assert_eq!(rt;
+        tap.hear(End::Card, 0x00).ok(),
+        done(get, Some(Direction::FromCard), 1)
+    );
+    Ok(())
+}
+
+#[test]
+fn hears_a_status_after_a_part_of_the_data(rt: HostRuntime) -> Result<(), Fail> {
+    let put = [0x00, 0xDA, 0x5F, 0x20, 0x03];
+    let mut tap = Tap::new();
+    opens(&rt, &mut tap, &put);
+    hears(&rt, &mut tap, End::Card, &[(0x25, ONE)]);
+    hears(&rt, &mut tap, End::Terminal, &[(0x41, IN)]);
+    hears(&rt, &mut tap, End::Card, &[(0x90, Heard::FirstStatus)]);
+    assert_eq!(rt;
+        tap.hear(End::Card, 0x00).ok(),
+        done(put, Some(Direction::ToCard), 1)
+    );
     Ok(())
 }
 
@@ -168,5 +204,16 @@ fn a_reset_drops_the_dialogue_under_way(rt: HostRuntime) -> Result<(), Fail> {
     assert_eq!(rt; tap.due(), Due::Procedure);
     tap.reset();
     assert_eq!(rt; tap.due(), Due::Header);
+    Ok(())
+}
+
+#[test]
+fn texts_of_what_is_not_heard(rt: HostRuntime) -> Result<(), Fail> {
+    for (why, text) in [
+        (Unheard::OutOfTurn, "character out of turn"),
+        (Unheard::BadProcedure, "bad procedure byte"),
+    ] {
+        assert_eq!(rt; format!(in rt.alloc(); "{why}")?.as_str(), text);
+    }
     Ok(())
 }

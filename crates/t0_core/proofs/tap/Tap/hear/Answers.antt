@@ -1,19 +1,29 @@
-use Rattle.std.proofs.Common.{sym, None, ◌∙◌, ap}
+use Rattle.std.proofs.Common.{sym, ◌≡◌, None, Some, ◌∙◌, ap}
 use Rattle.t0_core.specs.declared.unheard.Unheard.TheVariants.{OutOfTurn}
-use Rattle.t0_core.specs.TapSide.{may_come_from}
+use Rattle.t0_core.specs.TapSide.{may_come_from, unheard_at}
 use Rattle.t0_core.specs.TapView.{place_of}
 use Rattle.t0_core.proofs.TapLemmas.{HearsOne, hears_none, hears_all, hears_of_one, hears_led, place_in_range, out_of_turn, in_turn}
+use Rattle.t0_core.proofs.TapTurns.{reason, leaves_no_trace}
 use Rattle.t0_core.proofs.tap.Tap.hear.Goals as goal
+
+-- it is the other end's turn
+refused_is : (c : goal.Then-not-may_come_from)
+    → unheard_at (place_of c.self.inside.stage) c.args.from c.args.byte ≡ Some OutOfTurn
+refused_is c = out_of_turn (place_of c.self.inside.stage) c.args.from c.args.byte
+    (ap (λ x. may_come_from x c.args.from) (sym c.due_at.ensures) ∙ sym c.may_come_from.ensures
+    ∙ c.if-not-may_come_from.true)
 
 pub returns-then-not-may_come_from-clause-goes_on :
     goal.returns-then-not-may_come_from-clause-goes_on
 returns-then-not-may_come_from-clause-goes_on c = λ front new stands goes read.
-    let due = ap (λ x. may_come_from x c.args.from) (sym c.due_at.ensures)
-    ∙ sym c.may_come_from.ensures ∙ c.if-not-may_come_from.true in
     absurd (hears_none _ _ c.args.from c.args.byte OutOfTurn c.self.view_is
-    (place_in_range c.self.inside.stage c.self.invariant)
-    (out_of_turn (place_of c.self.inside.stage) c.args.from c.args.byte due) front new stands goes
+    (place_in_range c.self.inside.stage c.self.invariant) (refused_is c) front new stands goes
     read)
+
+pub returns-then-not-may_come_from-clause-reason :
+    goal.returns-then-not-may_come_from-clause-reason
+returns-then-not-may_come_from-clause-reason c =
+    reason _ _ c.args.from c.args.byte OutOfTurn c.self.view_is (refused_is c)
 
 -- what the tap makes of the character
 hears_it : (c : goal.After-stage-2-1)
@@ -38,3 +48,6 @@ returns-clause-came c = hears_of_one _ _ _ _ _ _ (hears_it c)
 
 pub returns-clause-led : goal.returns-clause-led
 returns-clause-led c = hears_led _ _ _ _ _ _ (hears_it c)
+
+pub returns-clause-forgets : goal.returns-clause-forgets
+returns-clause-forgets c = leaves_no_trace _ _ _ _ _ _ (hears_it c)

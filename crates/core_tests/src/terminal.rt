@@ -1,5 +1,6 @@
 //! Tests of `card_terminal`.
 
+mod command_tests;
 mod data_objects;
 mod exchange_tests;
 mod long_run_tests;

@@ -105,9 +105,11 @@ impl<C: DataCard> Session<C> {
             (C.standing self.new) plans.new (W.hearing watch.new)) }
     {
         let _is_sound = self.is_idle();
-        let mut exchange = Exchange::start(alloc, command)?;
-        self.converse(&mut exchange, plans, watch);
-        Ok(exchange.into_answer().unwrap())
+        match self.transmit(alloc, command, plans, watch) {
+            Ok(answer) => Ok(answer),
+            Err(SessionFault::OutOfMemory) => Err(AllocError),
+            Err(SessionFault::Line(_)) => unreachable!(),
+        }
     }
 
     /// Carries out one operation. Its error is want of memory, and then nothing has changed.

@@ -155,6 +155,23 @@ fn correction_is_followed_once_and_up_to_what_is_wanted(rt: HostRuntime) {
             "> 00C00000FF < 6C04 > 00C0000004 < C0034A4F459000",
             (0x9000, "034A4F45"),
         ),
+        (
+            "00CA005000",
+            "> 00CA005000 < 6C00 > 00CA005000 < CA 5081FD 41*253 9000",
+            (0x9000, "5081FD 41*253"),
+        ),
+        ("00CA0050FF", "> 00CA0050FF < 6C00", (0x6C00, "")),
+        (
+            "00CA5F20FF",
+            "> 00CA5F20FF < 6CFF > 00CA5F20FF < CA 5F2081FB 41*251 9000",
+            (0x9000, "5F2081FB 41*251"),
+        ),
+        (
+            "00CA5F2006",
+            "> 00CA5F2006 < 355F 6C05 > 00CA5F2005 < CA 20034A4F45 9000",
+            (0x9000, "5F20034A4F45"),
+        ),
+        ("00CA5F2006", "> 00CA5F2006 < 355F 6C06", (0x6C06, "5F")),
     ] {
         answers(&rt, of, trace, status, data);
     }

@@ -119,7 +119,7 @@ fn carried_out_over(rt: &(impl Abort + AllocGlobal), received: usize, answers: u
 #[test]
 fn a_list_of_thousands(rt: HostRuntime) {
     let mut out = Answers::new(rt.alloc());
-    assert!(rt; carried_out(&rt, 2_550, rt.alloc(), &mut out) == 5_100);
+    assert!(rt; carried_out(&rt, 5_000, rt.alloc(), &mut out) == 10_000);
 }
 
 /// Memory for a response is wanting before each of the operations in turn, and before none.

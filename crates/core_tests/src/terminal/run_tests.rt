@@ -1,13 +1,13 @@
 //! Operations over the card of data objects, with what goes over the line.
 
 use super::data_objects::{NAME, are_answered, holds, operations, ran, selected, session_over};
-use super::trace::{characters, plans, word};
+use super::trace::{characters, plans, repeated, word};
 use apdu_core::{Command, Header};
 use card_terminal::{Answer, Answers, Op, Session};
 use object_card::{DataCard, ObjectCard};
 use std::alloc::{AllocGlobal, Global};
 use std::process::Abort;
-use t0_core::{End, Plans, Recorder, Silent};
+use t0_core::{Plans, Recorder, Silent};
 
 /// What a session has before it, and what it is asked.
 #[derive(Clone, Copy)]
@@ -22,24 +22,6 @@ struct Row<'a> {
     heard: &'a str,
     /// Status and data of each answer: `9000 5F20034A4F45; 6A88`.
     answers: &'a str,
-}
-
-/// The characters of a trace in which `32: > 10DA5F20FF |` stands for 32 times what is between.
-fn repeated(rt: &(impl Abort + AllocGlobal), trace: &str) -> Vec<(End, u8)> {
-    let mut all = Vec::new(rt.alloc());
-    for group in trace.split('|') {
-        let (times, passed) = group.split_once(':').unwrap_or(("1", group));
-        let times = times.trim().parse::<u32>().expect(rt, "a number");
-        push_times(rt, &mut all, times, &characters(rt, passed));
-    }
-    all
-}
-
-/// Appends characters so many times.
-fn push_times(rt: &impl Abort, to: &mut Vec<(End, u8)>, times: u32, characters: &[(End, u8)]) {
-    for _ in 0..times {
-        to.extend_from_slice(characters).expect(rt, "memory");
-    }
 }
 
 /// The session carries out operations under these plans, with these characters and answers.
@@ -363,6 +345,15 @@ fn long_values(rt: HostRuntime) {
             heard: "32: > 10DA5F20FF < DA > 42*255 < 9000 | > 10DA5F20FF < 6700 \
                     > 00CA5F2000 < 6C06 > 00CA5F2006 < CA5F20034A4F459000",
             answers: "6700; 9000 5F20034A4F45",
+        },
+        Row {
+            objects: NAME,
+            plans: "",
+            operations: "put 5F20 42*16321; put 5F20 42*70000; get 5F20",
+            heard: "32: > 10DA5F20FF < DA > 42*255 < 9000 | > 10DA5F20FF < 6700 \
+                    | 32: > 10DA5F20FF < DA > 42*255 < 9000 | > 10DA5F20FF < 6700 \
+                    > 00CA5F2000 < 6C06 > 00CA5F2006 < CA5F20034A4F459000",
+            answers: "6700; 6700; 9000 5F20034A4F45",
         },
     ] {
         is_run(&rt, &row);

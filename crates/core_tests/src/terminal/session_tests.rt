@@ -87,3 +87,19 @@ fn card_is_reset_after_a_line_fault(rt: HostRuntime) {
     is_reset_after(&rt, Manner::Announces, LineFault::Stalled, stalled);
     is_reset_after(&rt, Manner::Floods, LineFault::TooLong, too_long);
 }
+
+/// The text of a fault, without a clause.
+fn text_of(rt: &(impl Abort + AllocGlobal), fault: SessionFault) -> String {
+    format!(in rt.alloc(); "{fault}").expect(rt, "memory")
+}
+
+#[test]
+fn texts_of_faults(rt: HostRuntime) {
+    for (fault, text) in [
+        (SessionFault::OutOfMemory, "out of memory"),
+        (SessionFault::Line(LineFault::TooLong), "response too long"),
+        (SessionFault::Line(LineFault::Stalled), "response stalled"),
+    ] {
+        assert!(rt; text_of(&rt, fault).as_str() == text, "{text}");
+    }
+}

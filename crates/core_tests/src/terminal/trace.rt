@@ -17,12 +17,17 @@ pub fn bytes(rt: &(impl Abort + AllocGlobal), text: &str) -> Vec<u8> {
     bytes
 }
 
+/// What stands before the `*` of a text, and the number behind it; where there is none, 1.
+fn counted<'a>(rt: &impl Abort, text: &'a str) -> (&'a str, u32) {
+    match text.split_once('*') {
+        Some((counted, times)) => (counted, times.parse::<u32>().expect(rt, "a number")),
+        None => (text, 1),
+    }
+}
+
 /// Appends the bytes of a word.
 fn push_word(rt: &(impl Abort + AllocGlobal), bytes: &mut Vec<u8>, word: &str) {
-    let (digits, times) = match word.split_once('*') {
-        Some((digits, times)) => (digits, times.parse::<u32>().expect(rt, "a number")),
-        None => (word, 1),
-    };
+    let (digits, times) = counted(rt, word);
     for _ in 0..times {
         for pair in digits.as_bytes().as_chunks::<2>().0 {
             let byte = (digit(rt, pair[0]) << 4) | digit(rt, pair[1]);
@@ -65,24 +70,56 @@ fn push_characters(
     }
 }
 
+/// The characters of a trace in which `32: > 10DA5F20FF |` stands for 32 times what is between.
+pub fn repeated(rt: &(impl Abort + AllocGlobal), trace: &str) -> Vec<(End, u8)> {
+    let mut all = Vec::new(rt.alloc());
+    for group in trace.split('|') {
+        let (times, passed) = group.split_once(':').unwrap_or(("1", group));
+        let times = times.trim().parse::<u32>().expect(rt, "a number");
+        push_times(rt, &mut all, times, &characters(rt, passed));
+    }
+    all
+}
+
+/// Appends characters so many times.
+fn push_times(rt: &impl Abort, to: &mut Vec<(End, u8)>, times: u32, characters: &[(End, u8)]) {
+    for _ in 0..times {
+        to.extend_from_slice(characters).expect(rt, "memory");
+    }
+}
+
 /// Plans of these steps and cuts, as `-:1 nona:256`: `n` is a NULL, `o` moves one data character,
-/// `a` all that remain, and `-` stands for no steps.
+/// `a` all that remain, and `-` stands for no steps. `no*9:256` has its two steps 9 times, and
+/// `-:1*9` is 9 plans.
 pub fn plans(rt: &(impl Abort + AllocGlobal), text: &str) -> Vec<Plan> {
     let mut plans = Vec::new(rt.alloc());
     for word in text.split_whitespace() {
-        plans.push(plan(rt, word)).expect(rt, "memory");
+        push_plans(rt, &mut plans, word);
     }
     plans
 }
 
-fn plan(rt: &(impl Abort + AllocGlobal), word: &str) -> Plan {
+/// Appends the plans of a word.
+fn push_plans(rt: &(impl Abort + AllocGlobal), plans: &mut Vec<Plan>, word: &str) {
     let (letters, cut) = word.split_once(':').expect(rt, "a cut");
+    let (cut, times) = counted(rt, cut);
     let cut = cut.parse::<u16>().expect(rt, "a number");
-    Plan::new(steps(rt, letters), cut).expect(rt, "a plan")
+    for _ in 0..times {
+        let plan = Plan::new(steps(rt, letters), cut).expect(rt, "a plan");
+        plans.push(plan).expect(rt, "memory");
+    }
 }
 
 fn steps(rt: &(impl Abort + AllocGlobal), letters: &str) -> Vec<Step> {
     let mut steps = Vec::new(rt.alloc());
+    let (letters, times) = counted(rt, letters);
+    for _ in 0..times {
+        push_steps(rt, &mut steps, letters);
+    }
+    steps
+}
+
+fn push_steps(rt: &impl Abort, steps: &mut Vec<Step>, letters: &str) {
     for letter in letters.bytes() {
         let step = match letter {
             b'n' => Step::Null,
@@ -92,7 +129,6 @@ fn steps(rt: &(impl Abort + AllocGlobal), letters: &str) -> Vec<Step> {
         };
         steps.push(step).expect(rt, "memory");
     }
-    steps
 }
 
 /// A status word as a number: `0x9000`.

@@ -1,14 +1,16 @@
-use Rattle.card_terminal.proofs.RunLemmas.{gathered_is, told}
+use Rattle.std.proofs.Common.{Err, refl, ap}
+use Rattle.card_terminal.proofs.RunLemmas.{never_caused, sound_at}
 use Rattle.card_terminal.proofs.session.Session.send.Goals as goal
 
-pub returns-clause-answers : goal.returns-clause-answers
-returns-clause-answers g c =
-    let done = c.converse.ensures.over c.args.command c.requires
-    c.in_ok-exchange.ensures.begins in (
-      done.0,
-      gathered_is c.args.command c.converse.new.exchange done.0 c.converse.result c.unwrap.result
-          done.1 (told c.args.command c.converse.new.exchange done.0 c.converse.result
-          c.into_answer.result c.unwrap.result done.1 c.into_answer.ensures.done
-          c.unwrap.ensures),
-      done.2,
-    )
+pub unreachable-requires : goal.unreachable-requires
+unreachable-requires g c =
+    let card = g.C.TpduCard in
+    let m = g.met.C.DataCard.means in
+    let now = g.W.Watch.hearing c.args.watch.now in
+    let old = c.args.self.now in
+    let (standing, caused, reset) = c.in-Err-Line.ensures.line c.in-Err-Line.field-0-0
+    (ap Err c.in-Err-Line.field-0-is) in
+    never_caused card.Does card.after_reset m.0 m.2 (card.standing old) standing
+    c.args.plans.now.rest now _ c.args.command _ c.in-Err-Line.field-0-0
+    (sound_at m.0 g.C.DataCard.state card.standing m.1 old old refl c.is_idle-is_sound.ensures.sound)
+    caused

@@ -183,9 +183,9 @@ repeats_first opening left (Some d) host (opens, n, repeats, asks) = (n, repeats
 never_overflows : {State : Type 0} (Own : State → ℕ → Tpdu → State → Type 0)
     (own_reset : State → State) (state_of : State → CardState)
     → StandsFor Own own_reset state_of → (first standing : State) (plans : List Course)
-    (since now : Hearing) (c : Command) → IsCardState (state_of first)
-    → HasOverflown Own first plans since c standing now → ⊥
-never_overflows Own own_reset state_of stands first standing plans since now c sound over =
+    (since now : Hearing) (c : Command) (cursor : Cursor) → IsCardState (state_of first)
+    → HasOverflown Own first plans since c standing cursor now → ⊥
+never_overflows Own own_reset state_of stands first standing plans since now c cursor sound over =
     let way = over.terminal in
     let ds = so_far over.units over.tried in
     let goes = own_goes Own own_reset state_of stands first standing ds plans over.gone.runs
@@ -221,7 +221,7 @@ never_caused Own own_reset state_of stands first standing plans since now c curs
     stalled.gone.cuts)
 never_caused Own own_reset state_of stands first standing plans since now c cursor fault sound
     (inr (is, over)) =
-    never_overflows Own own_reset state_of stands first standing plans since now c sound over
+    never_overflows Own own_reset state_of stands first standing plans since now c cursor sound over
 
 -- it stays a sound one
 pub stays_sound : {State : Type 0} (Own : State → ℕ → Tpdu → State → Type 0)

@@ -1,5 +1,5 @@
 -- A character that passes from one end to the other takes both to the same front.
-use Rattle.std.proofs.Common.{◌≡◌, ℕ, ◌+◌, ◌-◌, ◌*◌, ◌<◌, ◌≤◌, List, [], ◌∷◌, ◌++◌, length, take, refl, sym, subst, ◌∙◌, ap, arith, inl, inr, ◌⊎◌, lit<, true, false, Bool, Option, Some, None, Result, Ok, Err, length-append, if◌then◌else◌}
+use Rattle.std.proofs.Common.{◌≡◌, ℕ, ◌+◌, ◌-◌, ◌*◌, ◌<◌, ◌≤◌, List, [], ◌∷◌, ◌++◌, length, refl, sym, subst, ◌∙◌, ap, arith, inl, inr, ◌⊎◌, lit<, true, false, Bool, Option, Some, None, Result, Ok, Err, length-append, if◌then◌else◌}
 use Rattle.std.specs.Result.{OnOk}
 use Rattle.std.specs.List.{flat_map}
 use Rattle.apdu_core.specs.declared.header.Header.{Header}
@@ -694,6 +694,14 @@ too_many room limit before one two byte bytes is full more =
       length-append before two,
     )
 
+-- a card's end that has begun to answer has taken its plan
+taken_at : (stage : Stage) (before cursor : Cursor)
+    → under_way stage (next_plan before.rest) ≡ next_plan before.rest ∷ []
+    → IsAtPlan stage before cursor → cursor ≡ advanced before
+taken_at stage before cursor has_begun (inl (waits, same)) =
+    absurd (no_plan_twice (next_plan before.rest) (sym has_begun ∙ waits))
+taken_at stage before cursor has_begun (inr (has, same, cut)) = same
+
 pub has_overflown : {C : Type 0} (card : Ghosts C) (s : Start card.State) (l new : Line C)
     (front : Front) (byte : ℕ) (fault : LineFault) (under : IsGoing card s l)
     → GoesOn under.front (Card, byte) front → StandsUnder card under.before front new
@@ -702,11 +710,12 @@ pub has_overflown : {C : Type 0} (card : Ghosts C) (s : Start card.State) (l new
     ⊎ ((fault ≡ Stalled) × (fault_of l.exchange.host l.exchange.gather byte ≡ None))
     → Hears l.hearing ((Card, byte) ∷ []) new.hearing
     → HasOverflown card.Does s.first s.plans s.since s.command (card.standing new.end.card)
-    new.hearing
+    new.cursor new.hearing
 has_overflown card s l new front byte fault under goes stands same is faults hears =
     let ex = l.exchange in
     let full = too_long ex.host ex.gather byte under.front front under.terminal.stands
     (is_too_long ex.host ex.gather byte fault is faults) goes in
+    let plan = next_plan under.before.rest in
     let Gone : card.State → Type 0 = λ x. HaveGone card.Does s.first s.plans s.since
     (so_far under.units under.tried) x under.before under.between in
     record {
@@ -719,11 +728,14 @@ has_overflown card s l new front byte fault under goes stands same is faults hea
       goes = (byte, goes);
       prepared = card.prepared new.end.card;
       stage = new.end.stage;
-      cursor = under.before;
+      begun = under.before;
       between = under.between;
       gone = subst Gone (sym same) under.gone;
       card = stands.0;
       on_plan = stands.1;
+      taken = taken_at new.end.stage under.before new.cursor
+          (begun card.Does (card.standing new.end.card) (card.prepared new.end.card)
+          new.end.stage plan.cut byte plan under.front front goes stands.0) stands.2;
       too_many = too_many ex.gather response_limit
           (flat_map received (so_far under.units under.tried)) (brought under.front)
           (brought front) byte under.terminal.gathered under.terminal.room full.0 full.1;

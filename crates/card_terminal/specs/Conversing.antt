@@ -8,7 +8,7 @@ use Rattle.t0_core.specs.declared.end.End.TheVariants.{Card}
 use Rattle.t0_core.specs.declared.line_fault.LineFault.{LineFault}
 use Rattle.t0_core.specs.declared.line_fault.LineFault.TheVariants.{TooLong, Stalled}
 use Rattle.t0_core.specs.Dialogue.{Dialogue, characters, IsDialogue}
-use Rattle.t0_core.specs.Plan.{Course, Cursor, plain, plan_kept, FollowInTurn}
+use Rattle.t0_core.specs.Plan.{Course, Cursor, plain, plan_kept, advanced, FollowInTurn}
 use Rattle.t0_core.specs.Meaning.{Tpdu, Prepared, Runs, received}
 use Rattle.t0_core.specs.Front.{Front, GoesOn, front_characters, brought}
 use Rattle.t0_core.specs.Watch.{Hearing, Hears}
@@ -43,10 +43,10 @@ pub record HasStalled {State : Type 0} (Does : State → ℕ → Tpdu → State 
   pub gone : HaveGone Does first plans since (flat_map dialogues_of units) standing cursor now
 
 -- the dialogues of an exchange, and the front of one more, with which the card has sent more
--- than there is room for
+-- than there is room for, and whose plan is taken
 pub record HasOverflown {State : Type 0} (Does : State → ℕ → Tpdu → State → Type 0)
     (first : State) (plans : List Course) (since : Hearing)
-    (c : Command) (standing : State) (now : Hearing) : Type 0 where
+    (c : Command) (standing : State) (cursor : Cursor) (now : Hearing) : Type 0 where
   pub units : List UnitOf
   pub tried : Option Dialogue
   pub ex : ExchangeOf
@@ -56,11 +56,12 @@ pub record HasOverflown {State : Type 0} (Does : State → ℕ → Tpdu → Stat
   pub goes : (byte : ℕ) × GoesOn before (Card, byte) front
   pub prepared : Prepared State
   pub stage : Stage
-  pub cursor : Cursor
+  pub begun : Cursor  -- as it was when the TPDU began
   pub between : Hearing
-  pub gone : HaveGone Does first plans since (so_far units tried) standing cursor between
-  pub card : StandsAt Does standing prepared stage (next_plan cursor.rest).cut front
-  pub on_plan : IsOnPlan stage (next_plan cursor.rest) front
+  pub gone : HaveGone Does first plans since (so_far units tried) standing begun between
+  pub card : StandsAt Does standing prepared stage (next_plan begun.rest).cut front
+  pub on_plan : IsOnPlan stage (next_plan begun.rest) front
+  pub taken : cursor ≡ advanced begun
   pub too_many : response_limit < length (flat_map received (so_far units tried) ++ brought front)
   pub hears : Hears between (front_characters front) now
 
@@ -69,7 +70,7 @@ abbrev pub IsCaused : {State : Type 0} → (State → ℕ → Tpdu → State →
     → List Course → Hearing → Command → State → Cursor → Hearing → LineFault → Type 0
 IsCaused Does first plans since c standing cursor now fault =
     ((fault ≡ Stalled) × HasStalled Does first plans since c standing cursor now)
-    ⊎ ((fault ≡ TooLong) × HasOverflown Does first plans since c standing now)
+    ⊎ ((fault ≡ TooLong) × HasOverflown Does first plans since c standing cursor now)
 
 -- A number that falls with each character that passes: what is still to go of a TPDU, and of all
 -- that may come.

@@ -65,7 +65,7 @@ impl<'a, A: Allocator> Exchange<'a, A> {
     ghost use Rattle.t0_core.specs.declared.end.End.TheVariants.{Terminal, Card};
     ghost use Rattle.t0_core.specs.Dialogue.{Dialogue, characters};
     ghost use Rattle.t0_core.specs.Front.{Front, GoesOn, Ends, brought};
-    ghost use Rattle.t0_core.specs.HostSide.{fault_of};
+    ghost use Rattle.t0_core.specs.HostSide.{fault_of, data_due};
     ghost use Rattle.card_terminal.specs.Gathered.{UnitOf, Gathers};
     ghost use Rattle.card_terminal.specs.ExchangeHistory.{Leads, LeadsTooFar, unit_characters};
     ghost use Rattle.t0_core.specs.Character.{Character};
@@ -149,6 +149,7 @@ impl<'a, A: Allocator> Exchange<'a, A> {
     /// changes.
     #[inline(always)]
     pub(crate) fn next_data(&mut self) -> Option<u8>
+        ensures due { result ≡ data_due self.old.host }
         ensures sends { (byte : ℕ) → result ≡ Some byte
             → exchange_turn self.old ≡ HostTurn.Sends byte }
         ensures stays { result ≡ None → self.new ≡ self.old }

@@ -1,7 +1,7 @@
 -- What is ready, and what stands once an answer is handed out.
 use Rattle.std.proofs.Common.{◌≡◌, ◌≢◌, ◌∙◌, ℕ, zero, suc, ◌≤◌, List, [], length, Option, Some, None, Bool, true, false, ◌⊎◌, inl, inr, refl, sym, ap, subst, arith}
 use Rattle.std.specs.Prelude.{unwrap_or, option_map, IfSome, IsSome, if◌then◌else◌, ◌==◌, ◌&&◌, ◌||◌, nat_lt}
-use Rattle.std.proofs.lemmas.Bool.{ltb-false, ne_eqb, not-false, eqb-true}
+use Rattle.std.proofs.lemmas.Bool.{true≢false, ltb-false, ne_eqb, not-false, eqb-true}
 use Rattle.std.proofs.lemmas.Bool.Decides.{eqb_tells}
 use Rattle.apdu_core.specs.declared.header.Header.{Header}
 use Rattle.apdu_core.specs.Chaining.{ChainState, idle}
@@ -10,6 +10,9 @@ use Rattle.apdu_core.specs.HeaderBytes.{ins_is_valid}
 use Rattle.t0_core.specs.Meaning.{Ask, refused}
 use Rattle.object_card.specs.Tables.{Entry}
 use Rattle.object_card.specs.State.{CardState, IsCardState, NothingPending, ResponsePending, with_pending}
+use Rattle.object_card.specs.declared.instructions.Instruction.{Instruction}
+use Rattle.object_card.specs.declared.instructions.Instruction.TheVariants.{Select, GetData, PutData, GetResponse}
+use Rattle.object_card.specs.Instructions.{ins_of, MayReceive, MaySend}
 use Rattle.object_card.specs.Refusals.{refusal, UnknownInstruction, MoreThanIsLeft, is_get, is_get_response, to_send}
 use Rattle.object_card.specs.CardMeaning.{Does, refuses, after_refusal}
 use Rattle.object_card.specs.declared.response.Response.{Response}
@@ -129,15 +132,25 @@ pub to_send_is : (f : Response → List ℕ) (r : Option Response) (x : Response
     ≡ Some x → unwrap_or (option_map f r) [] ≡ xs → f x ≡ xs
 to_send_is f r x xs is whole = sym (ap (λ o. unwrap_or (option_map f o) []) is) ∙ whole
 
-pub sending_ins : (n : ℕ) → ((n == 0xCA) || (n == 0xC0)) ≡ true → (n ≡ 0xCA) ⊎ (n ≡ 0xC0)
+pub receiving_ins : (n : ℕ) → (n ≡ 0xA4) ⊎ ((n ≢ 0xA4) × (n ≡ 0xDA)) → MayReceive n
+receiving_ins n (inl e) = (Select, e, refl)
+receiving_ins n (inr e) = (PutData, e.1, refl)
+
+pub sending_ins : (n : ℕ) → ((n == 0xCA) || (n == 0xC0)) ≡ true → MaySend n
 sending_ins n is = split (n == 0xCA) refl
   where
-    split : (v : Bool) → (n == 0xCA) ≡ v → (n ≡ 0xCA) ⊎ (n ≡ 0xC0)
-    split true e = inl (eqb-true n 0xCA e)
-    split false e = inr (eqb-true n 0xC0 (subst (λ v. (v || (n == 0xC0)) ≡ true) e is))
+    split : (v : Bool) → (n == 0xCA) ≡ v → MaySend n
+    split true e = (GetData, eqb-true n 0xCA e, refl)
+    split false e =
+        (GetResponse, eqb-true n 0xC0 (subst (λ v. (v || (n == 0xC0)) ≡ true) e is), refl)
+
+each_is_valid : (i : Instruction) → ins_is_valid (ins_of i) ≡ true
+each_is_valid Select = refl
+each_is_valid GetData = refl
+each_is_valid PutData = refl
+each_is_valid GetResponse = refl
 
 pub valid_sending : (n : ℕ) → ((n == 0xCA) || (n == 0xC0)) ≡ true → ins_is_valid n ≡ false → ⊥
-valid_sending n is invalid = elim (sending_ins n is) [
-  | inl e ↦ let no : true ≡ false = subst (λ x. ins_is_valid x ≡ false) e invalid in absurd (cc)
-  | inr e ↦ let no : true ≡ false = subst (λ x. ins_is_valid x ≡ false) e invalid in absurd (cc)
-]
+valid_sending n is invalid =
+    let sent = sending_ins n is in
+    true≢false (sym (each_is_valid sent.0) ∙ ap ins_is_valid (sym sent.1) ∙ invalid)

@@ -1,6 +1,7 @@
 pub mod Tables
 pub mod State
 pub mod OneStep
+pub mod Instructions
 pub mod Refusals
 pub mod CardMeaning
 pub mod DataCard
@@ -14,6 +15,8 @@ pub mod Builder
 pub mod AidForm
 pub mod ShownPuts
 pub mod CarryingOut
+pub mod Agreed
+pub mod InstructionLaws
 pub mod TagLaws
 pub mod TableLaws
 pub mod CardLaws

@@ -6,21 +6,23 @@ use Rattle.apdu_core.specs.declared.header.Header.{Header}
 use Rattle.apdu_core.specs.StatusWord.{StatusWord, count}
 use Rattle.tlv_core.specs.Spelling.{object_bytes}
 use Rattle.object_card.specs.declared.limits.TheConstants.{VALUE_LIMIT}
+use Rattle.object_card.specs.declared.instructions.Instruction.TheVariants.{Select, GetData, PutData, GetResponse}
+use Rattle.object_card.specs.Instructions.{ins_of}
 use Rattle.object_card.specs.Tables.{Entry, is_locked, value_under}
 use Rattle.object_card.specs.State.{CardState, Pending, NothingPending, ChainPending, ResponsePending, chained, waiting, selected_entries}
 
 -- the instructions
 abbrev pub is_select : Header → Bool
-is_select h = h.ins == 0xA4
+is_select h = h.ins == ins_of Select
 
 abbrev pub is_get : Header → Bool
-is_get h = h.ins == 0xCA
+is_get h = h.ins == ins_of GetData
 
 abbrev pub is_put : Header → Bool
-is_put h = h.ins == 0xDA
+is_put h = h.ins == ins_of PutData
 
 abbrev pub is_get_response : Header → Bool
-is_get_response h = h.ins == 0xC0
+is_get_response h = h.ins == ins_of GetResponse
 
 -- 00, and 10, which says that the command is not the last of its chain; GET DATA also 80
 abbrev pub class_is_known : Header → Bool

@@ -1,4 +1,4 @@
-ghost use Rattle.std.specs.Prelude.{◌≡◌, ◌⊎◌, map, refl, Some, None, MatchOption, slice_get};
+ghost use Rattle.std.specs.Prelude.{◌≡◌, map, refl, Some, None, MatchOption, slice_get};
 ghost use Rattle.std.specs.Option.{option_map};
 ghost use Rattle.apdu_core.specs.Chaining.{idle};
 ghost use Rattle.object_card.specs.Builder.{new_card};
@@ -131,6 +131,7 @@ impl<A: Allocator> ObjectCard<A> {
 impl<A: Allocator + Copy> TpduCard for ObjectCard<A> {
     ghost use Rattle.object_card.specs.State.{CardState, after_reset};
     ghost use Rattle.object_card.specs.CardMeaning.{Does};
+    ghost use Rattle.object_card.specs.Instructions.{MayReceive, MaySend};
 
     ghost State = { CardState };
 
@@ -140,9 +141,9 @@ impl<A: Allocator + Copy> TpduCard for ObjectCard<A> {
 
     ghost after_reset = { after_reset };
 
-    ghost MayReceive = { λ ins. (ins ≡ 0xA4) ⊎ (ins ≡ 0xDA) };
+    ghost MayReceive = { MayReceive };
 
-    ghost MaySend = { λ ins. (ins ≡ 0xCA) ⊎ (ins ≡ 0xC0) };
+    ghost MaySend = { MaySend };
 
     ghost prepared = { λ card. card.prepared };
 

@@ -1,6 +1,7 @@
-ghost use Rattle.std.specs.Prelude.{◌≡◌, ◌↔◌, ◌⊎◌, ℕ, ◌≤◌, length};
+ghost use Rattle.std.specs.Prelude.{◌≡◌, ◌↔◌, ℕ, ◌≤◌, length};
 ghost use Rattle.object_card.specs.State.{CardState, IsCardState, is_idle, waiting};
 ghost use Rattle.object_card.specs.DataCard.{StandsFor};
+ghost use Rattle.object_card.specs.Instructions.{MayReceive, MaySend};
 
 use crate::limits::RESPONSE_LIMIT;
 use t0_core::TpduCard;
@@ -29,8 +30,8 @@ pub trait DataCard: TpduCard {
         × StandsFor Self.Does Self.after_reset state_of };
 
     /// Data to the card may follow SELECT and PUT DATA, and no other command.
-    ghost receives: { (ins : ℕ) → Self.MayReceive ins ↔ ((ins ≡ 0xA4) ⊎ (ins ≡ 0xDA)) };
+    ghost receives: { (ins : ℕ) → Self.MayReceive ins ↔ MayReceive ins };
 
     /// Data from the card may follow GET DATA and GET RESPONSE, and no other command.
-    ghost sends: { (ins : ℕ) → Self.MaySend ins ↔ ((ins ≡ 0xCA) ⊎ (ins ≡ 0xC0)) };
+    ghost sends: { (ins : ℕ) → Self.MaySend ins ↔ MaySend ins };
 }

@@ -1,13 +1,84 @@
-//! The instructions and classes of this card.
+//! The instructions that a card of data objects takes, and the commands that are agreed with it.
+ghost use Rattle.std.specs.Prelude.{◌≡◌, ◌↔◌, true};
+ghost use Rattle.object_card.specs.Agreed.{IsAgreed};
+ghost use Rattle.object_card.specs.Instructions.{MayReceive, MaySend, ins_of, instruction_of, takes_data};
 
-/// The instructions (ISO/IEC 7816-4).
-pub(crate) const SELECT: u8 = 0xA4;
+use apdu_core::Command;
 
-pub(crate) const GET_DATA: u8 = 0xCA;
+/// INS of SELECT (ISO/IEC 7816-4, SELECT).
+pub const SELECT: u8 = 0xA4;
 
-pub(crate) const PUT_DATA: u8 = 0xDA;
+/// INS of GET DATA (ISO/IEC 7816-4, GET DATA).
+pub const GET_DATA: u8 = 0xCA;
 
-pub(crate) const GET_RESPONSE: u8 = 0xC0;
+/// INS of PUT DATA (ISO/IEC 7816-4, PUT DATA).
+pub const PUT_DATA: u8 = 0xDA;
+
+/// INS of GET RESPONSE (ISO/IEC 7816-4, GET RESPONSE).
+pub const GET_RESPONSE: u8 = 0xC0;
 
 /// CLA of a command that is not the last of its chain.
 pub(crate) const CHAINED: u8 = 0x10;
+
+/// An instruction that a card of data objects takes (ISO/IEC 7816-4; which: this project's profile).
+#[derive(Clone, Copy, Debug, PartialEq, Eq)]
+pub enum Instruction {
+    /// SELECT by identifier: P1-P2 `0400`; the identifier goes to the card.
+    Select,
+    /// GET DATA: P1-P2 name a tag; its data object comes from the card.
+    GetData,
+    /// PUT DATA: P1-P2 name a tag; its value, or a piece of it, goes to the card.
+    PutData,
+    /// GET RESPONSE: P1-P2 `0000`; what is left of a response comes from the card.
+    GetResponse,
+}
+
+impl Instruction {
+    /// The instruction with this INS; `None` for every byte that the card answers `6D00`.
+    pub fn of(ins: u8) -> Option<Instruction>
+        ensures { result ≡ instruction_of ins }
+    {
+        match ins {
+            SELECT => Some(Instruction::Select),
+            GET_DATA => Some(Instruction::GetData),
+            PUT_DATA => Some(Instruction::PutData),
+            GET_RESPONSE => Some(Instruction::GetResponse),
+            _ => None,
+        }
+    }
+
+    /// Its byte INS.
+    pub fn ins(self) -> u8
+        ensures { result ≡ ins_of self }
+    {
+        match self {
+            Instruction::Select => SELECT,
+            Instruction::GetData => GET_DATA,
+            Instruction::PutData => PUT_DATA,
+            Instruction::GetResponse => GET_RESPONSE,
+        }
+    }
+
+    /// Whether its data go to the card; else they come from it.
+    pub fn takes_data(self) -> bool
+        ensures { result ≡ takes_data self }
+    {
+        match self {
+            Instruction::Select | Instruction::PutData => true,
+            Instruction::GetData | Instruction::GetResponse => false,
+        }
+    }
+}
+
+/// Whether a command is agreed with a card of data objects, so that both ends know which way data
+/// move: one that only asks for data is none of SELECT and PUT DATA, and every other one is none of
+/// GET DATA and GET RESPONSE. A command with an INS that the card refuses is agreed.
+pub fn is_agreed(command: &Command) -> bool
+    ensures { (result ≡ true) ↔ IsAgreed MayReceive MaySend command.now }
+{
+    let only_asks = command.data().is_empty() && command.le().is_some();
+    match Instruction::of(command.header().ins) {
+        Some(instruction) => instruction.takes_data() != only_asks,
+        None => true,
+    }
+}

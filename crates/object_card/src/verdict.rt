@@ -1,11 +1,12 @@
 //! The verdict on a header.
-ghost use Rattle.std.specs.Prelude.{◌≡◌, None, if◌then◌else◌, ◌==◌, ◌≤◌, false, IfSome, ◌&&◌, ◌⊎◌, ◌||◌, [], true, unwrap_or};
+ghost use Rattle.std.specs.Prelude.{◌≡◌, None, if◌then◌else◌, ◌==◌, ◌≤◌, false, IfSome, ◌&&◌, ◌||◌, [], true, unwrap_or};
 ghost use Rattle.object_card.specs.CardMeaning.{Does};
 ghost use Rattle.object_card.specs.CardFields.{IsResponse, left_of};
 ghost use Rattle.object_card.specs.CardView.{standing_chain};
 ghost use Rattle.std.specs.Option.{option_map};
 ghost use Rattle.apdu_core.specs.HeaderBytes.{ins_is_valid};
 ghost use Rattle.t0_core.specs.CardContract.{IsRefusal, Judges, Permits};
+ghost use Rattle.object_card.specs.Instructions.{MayReceive, MaySend};
 ghost use Rattle.object_card.specs.Refusals.{is_get, is_get_response, object_asked, to_send};
 ghost use Rattle.object_card.specs.ViewState.{state_seen, entries_seen, IsStandingView, prepared_seen, FitsView};
 
@@ -33,8 +34,7 @@ pub(crate) fn judged<A: Allocator>(
     ensures fits { FitsView view.now result.1 }
     ensures keeps { standing_chain view.now.chain.now result.1 ≡ view.now.chain.now }
     ensures invalid { ins_is_valid header.ins ≡ false → IsRefusal result.0 }
-    ensures permitted { Permits (λ ins. (ins ≡ 0xA4) ⊎ (ins ≡ 0xDA))
-        (λ ins. (ins ≡ 0xCA) ⊎ (ins ≡ 0xC0)) header.ins result.0 }
+    ensures permitted { Permits MayReceive MaySend header.ins result.0 }
 {
     let sends = to_send(view, header);
     if let Some(status) = refusal(view, header, p3, &sends) {

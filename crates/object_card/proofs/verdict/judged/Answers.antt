@@ -56,6 +56,11 @@ returns-clause-judged g c =
       ),
     )
 
+pub returns-then-header-eq-SELECT-clause-permitted :
+    goal.returns-then-header-eq-SELECT-clause-permitted
+returns-then-header-eq-SELECT-clause-permitted g c =
+    answer.receiving_ins c.args.header.ins c.then-header-eq-SELECT.either
+
 pub returns-clause-invalid : goal.returns-clause-invalid
 returns-clause-invalid g c =
     let none = (sym c.refusal.ensures ∙ c.in_default.is) in

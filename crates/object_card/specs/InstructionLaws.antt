@@ -1,0 +1,19 @@
+-- Under one instruction data move one way alone.
+use Rattle.std.proofs.Common.{◌≡◌, ◌∙◌, ℕ, Some, refl, sym, ap}
+use Rattle.std.proofs.lemmas.Bool.{true≢false}
+use Rattle.object_card.specs.declared.instructions.Instruction.{Instruction}
+use Rattle.object_card.specs.declared.instructions.Instruction.TheVariants.{Select, GetData, PutData, GetResponse}
+use Rattle.object_card.specs.Instructions.{ins_of, instruction_of, takes_data, MayReceive, MaySend}
+
+found : (i : Instruction) → instruction_of (ins_of i) ≡ Some i
+found Select = refl
+found GetData = refl
+found PutData = refl
+found GetResponse = refl
+
+-- No data come from the card under an INS under which data go to it.
+pub one_way : (ins : ℕ) → MayReceive ins → MaySend ins → ⊥
+one_way ins (i, is, takes) (j, other, gives) =
+    let same : Some i ≡ Some j = sym (found i) ∙ ap instruction_of (sym is ∙ other) ∙ found j in
+    let e : i ≡ j = cc in
+    true≢false (sym takes ∙ ap takes_data e ∙ gives)

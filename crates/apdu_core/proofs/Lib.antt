@@ -1,7 +1,7 @@
 mod ByteFacts
 mod CommandForms
-mod CommandLaws
+mod CommandFacts
 mod ListFacts
 mod PieceLemmas
-mod PieceLaws
+mod PieceFacts
 mod Vectors

@@ -33,11 +33,6 @@ pub is_pieces : (value : List ℕ) → IsPieces value (pieces_of value)
 is_pieces [] = refl
 is_pieces (b ∷ bs) = (concat-cut _ (b ∷ bs), sizes-cut _ (b ∷ bs) (omega arith) (omega arith))
 
-pub pieces_of-last : (value : List ℕ) → length value ≤ 255 → pieces_of value ≡ value ∷ []
-pieces_of-last value h =
-    let none : (length value - 1) / 255 ≡ 0 = omega arith in
-    ap (λ n. cut n value) none
-
 pub pieces_of-more : (value : List ℕ) → 255 < length value →
     pieces_of value ≡ take 255 value ∷ pieces_of (drop 255 value)
 pieces_of-more value h =
@@ -52,10 +47,6 @@ commands-cons : (header : Header) (piece : List ℕ) (more : ℕ) (rest : List �
     ≡ link (with_more header) piece ∷ chain_commands header (cut more rest)
 commands-cons header piece zero rest = refl
 commands-cons header piece (suc more) rest = refl
-
-pub commands-last : (header : Header) (value : List ℕ) → length value ≤ 255 →
-    chain_commands header (pieces_of value) ≡ link header value ∷ []
-commands-last header value h = ap (chain_commands header) (pieces_of-last value h)
 
 pub commands-more : (header : Header) (value : List ℕ) → 255 < length value →
     chain_commands header (pieces_of value)

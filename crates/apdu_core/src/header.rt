@@ -1,3 +1,4 @@
+//! The four bytes with which a command begins, and which INS are valid.
 ghost use Rattle.std.specs.Prelude.{◌≡◌};
 
 /// Bit 5 of CLA: more commands of the chain follow.

@@ -1,3 +1,4 @@
+//! Status words, and what they announce or correct.
 ghost use Rattle.std.specs.Prelude.{◌≡◌, ◌↔◌, IsTrue};
 ghost use Rattle.std.specs.Option.{SomeIff};
 ghost use Rattle.apdu_core.specs.StatusWord.{StatusWord, IsStatusWord, ok, count, announces, corrects};

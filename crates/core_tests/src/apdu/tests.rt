@@ -1,3 +1,5 @@
+//! Commands, status words and chains by worked bytes, and with memory that is refused.
+
 use apdu_core::{ApduFault, Chain, Command, Header, Status, TooLong, pieces};
 use linked_list_allocator::LocalHeap;
 use std::test::Fail;
@@ -171,4 +173,31 @@ fn no_room_for_a_chain(rt: HostRuntime) -> Result<(), Fail> {
         assert_eq!(rt; Chain::with_room(&heap, 64).is_ok(), granted);
     }
     Ok(())
+}
+
+/// 255 bytes of data and an Le of 256: no command is longer.
+#[test]
+fn the_longest_command_is_written(rt: HostRuntime) {
+    let content = [0x41; 255];
+    let command = Command::new(PUT, &content, Some(256)).expect(&rt, "a command");
+    let mut out = Vec::new(rt.alloc());
+    command.write(&mut out).expect(&rt, "memory");
+    assert!(rt; out.len() == 261);
+    assert!(rt; &out[..5] == [0x00, 0xDA, 0x5F, 0x20, 0xFF].as_slice());
+    assert!(rt; &out[5..260] == content.as_slice());
+    assert!(rt; out[260] == 0x00);
+}
+
+/// Room for the longest value of a card takes its pieces, and not one byte more.
+#[test]
+fn a_chain_of_8192_bytes(rt: HostRuntime) {
+    let value = [0x42; 8_192];
+    let mut chain = Chain::with_room(rt.alloc(), 8_192).expect(&rt, "memory");
+    for (_, command) in (0..33).zip(pieces(PUT, &value)) {
+        assert!(rt; chain.accepts(command.header()));
+        assert_eq!(rt; chain.add(command.header(), command.data()), Ok(()));
+    }
+    assert!(rt; chain.bytes() == value.as_slice());
+    assert!(rt; chain.accepts(PUT));
+    assert_eq!(rt; chain.add(PUT, &[0x42]), Err(TooLong));
 }

@@ -2,7 +2,7 @@ use Rattle.std.proofs.Common.{◌≡◌, ◌≤◌, ◌↔◌, ℕ, List, ◌∷
 use Rattle.std.specs.List.{concat}
 use Rattle.apdu_core.specs.Chaining.{chain_commands, idle}
 use Rattle.apdu_core.specs.Laws.{AreAdded}
-use Rattle.apdu_core.proofs.PieceLaws.{gathers, some_piece, pieces_concatenate}
+use Rattle.apdu_core.proofs.PieceFacts.{gathers, some_piece, pieces_concatenate}
 use Rattle.apdu_core.proofs.laws.a_chain_gathers_the_value.Goals as goal
 
 pub returns : goal.returns

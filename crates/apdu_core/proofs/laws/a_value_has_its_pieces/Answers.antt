@@ -1,6 +1,6 @@
 use Rattle.apdu_core.specs.PieceList.{pieces_of}
 use Rattle.apdu_core.proofs.PieceLemmas.{is_pieces}
-use Rattle.apdu_core.proofs.PieceLaws.{pieces_are_determined, pieces_concatenate}
+use Rattle.apdu_core.proofs.PieceFacts.{pieces_are_determined, pieces_concatenate}
 use Rattle.apdu_core.proofs.laws.a_value_has_its_pieces.Goals as goal
 
 pub returns-clause-exist : goal.returns-clause-exist

@@ -1,7 +1,7 @@
 use Rattle.std.proofs.Common.{◌∙◌, subst, sym}
 use Rattle.apdu_core.specs.Chaining.{chain_commands}
 use Rattle.apdu_core.specs.Laws.{MoreInAllButLast}
-use Rattle.apdu_core.proofs.PieceLaws.{contents_concatenate, pieces_concatenate, some_piece, more_in_all_but_last, pieces_fit, links}
+use Rattle.apdu_core.proofs.PieceFacts.{contents_concatenate, pieces_concatenate, some_piece, more_in_all_but_last, pieces_fit, links}
 use Rattle.apdu_core.proofs.laws.the_commands_of_a_chain.Goals as goal
 
 pub returns-clause-concatenate : goal.returns-clause-concatenate

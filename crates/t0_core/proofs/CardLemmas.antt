@@ -1,7 +1,7 @@
 -- The card's end goes through dialogues, step by step of a plan.
-use Rattle.std.proofs.Common.{◌≡◌, ℕ, ◌+◌, ◌-◌, ◌<◌, ◌≤◌, List, [], ◌∷◌, ◌++◌, length, take, drop, refl, sym, subst, ◌∙◌, ap, arith, inl, inr, lit<, true, false, Bool, ◌&&◌, nat_lt, Some, eq-eqb, slice_set, length-append, length-set}
+use Rattle.std.proofs.Common.{◌≡◌, ℕ, ◌+◌, ◌-◌, ◌<◌, ◌≤◌, List, [], ◌∷◌, ◌++◌, length, take, drop, refl, sym, subst, ◌∙◌, ap, arith, inl, inr, lit<, true, false, Bool, ◌&&◌, nat_lt, Some, eq-eqb, length-append}
 use Rattle.std.specs.List.{slice_get}
-use Rattle.std.proofs.lemmas.Bool.{ltb-true, ltb-false, lt-ltb}
+use Rattle.std.proofs.lemmas.Bool.{ltb-false, lt-ltb}
 use Rattle.std.proofs.lemmas.List.{take_more, take_all, length-take-le}
 use Rattle.std.proofs.lemmas.Option.{get_or_from_slice_get}
 use Rattle.apdu_core.specs.declared.header.Header.{Header}
@@ -20,11 +20,10 @@ use Rattle.t0_core.specs.Meaning.{Tpdu, tpdu_of, Ask, Prepared, Nothing, Receivi
 use Rattle.t0_core.specs.Front.{Front, In_header, In_body, After_first, IsBetween, header_only, with_segment, with_moved}
 use Rattle.t0_core.specs.declared.card_end.Phase.{Phase}
 use Rattle.t0_core.specs.declared.card_end.Phase.TheVariants.{Opening, Refused, Accepted, SecondStatus}
-use Rattle.t0_core.specs.CardView.{IsNext, Concludes, IsHeld, IsAfter, IsVerdict, Refuses, KeepsDirection, stage_of}
+use Rattle.t0_core.specs.CardView.{IsNext, GivesStatus, IsVerdict, Refuses, KeepsDirection, stage_of}
 use Rattle.t0_core.specs.CardSide.{Stage, Taking_header, Refusing, Serving, Ending, StandsAt, Advances, IsServed, IsRefused, ServesBy, Starts, IsFrugal, IsOnPlan, FollowsItself, SuitsFront, begins_with, takes_plan, listens, one_moved, ask_of, whole_of, comes_from_terminal, IsPermitted, PermitsData}
 use Rattle.t0_core.specs.FrontLaws.{moves-within, all_moves-more}
 use Rattle.t0_core.specs.DialogueLaws.{all_more}
-use Rattle.t0_core.specs.CardLaws.{due_data}
 use Rattle.t0_core.proofs.PlanLemmas.{frugal_more, follows_itself, nulls_follow, nulls_move_nothing, on_plan_more, on_plan_all, some_left}
 
 abbrev dialogue : Body → StatusWord → Dialogue
@@ -236,7 +235,7 @@ concludes : {State : Type 0} (Does : State → ℕ → Tpdu → State → Type 0
     (cut : ℕ) (b : Body) (status : StatusWord)
     → b.header ≡ s.header → b.p3 ≡ s.p3 → b.direction ≡ d → (d ≡ ToCard → came ≡ content)
     → s.moved ≡ foreseen d s.p3 → ServesBy before d s came cut b.moved
-    → Concludes Does old before d content status prepared
+    → GivesStatus Does old before d content status prepared
     → Decides Does old cut (tpdu_of (dialogue b status)) prepared
 concludes {State = State} Does old (Receiving ask) prepared ToCard s came content cut b status
     header p3 to_card all moved (moved_is, ask_is) decides =
@@ -275,7 +274,7 @@ pub ends_service : {State : Type 0} (Does : State → ℕ → Tpdu → State →
     (came content : List ℕ) (status : StatusWord) (b : Body)
     → s.until ≤ s.moved → (s.moved ≡ whole_of s → (s.direction ≡ ToCard → came ≡ content))
     → segments_of (drop s.done plan.steps) (whole_of s - s.until) ≡ [] → IsStatusWord status
-    → Concludes Does old before s.direction content status prepared
+    → GivesStatus Does old before s.direction content status prepared
     → IsServed before s came cut b
     → Advances Does cut plan (Serving s came) (In_body b) status.0 old old prepared
     (Ending status)
@@ -385,29 +384,6 @@ refuses_with_status {State = State} Does old prepared cut plan h p3 status done 
         by_way ToCard way = sym (tpdu_to_card b status way ∙ rw (header, p3_is, none) refl)
         by_way FromCard way = sym (tpdu_from_card b status way ∙ rw (header, p3_is, none) refl)
 
--- the second status character
-pub ends_dialogue : {State : Type 0} (Does : State → ℕ → Tpdu → State → Type 0) (old new : State)
-    (before prepared : Prepared State) (cut : ℕ) (plan : Course) (status : StatusWord)
-    (front : Front)
-    → IsStatusWord status → ((next : State) → before ≡ Decided next → new ≡ next)
-    → StandsAt Does old before (Ending status) cut front
-    → Advances Does cut plan (Ending status) front status.1 old new prepared (Taking_header [])
-ends_dialogue Does old new before prepared cut plan status (After_first b sw1) is_status answered
-    (first, next, is, does, is_dialogue, itself) =
-    inr (
-      dialogue b status,
-      (refl, is_status.1, rw (← first) refl),
-      is_dialogue,
-      itself,
-      rw (answered next is) does,
-      refl,
-      λ on. on,
-    )
-ends_dialogue Does old new before prepared cut plan status (In_header bytes) is_status answered
-    stands = absurd stands
-ends_dialogue Does old new before prepared cut plan status (In_body b) is_status answered stands =
-    absurd stands
-
 -- the card's state stands
 pub while_standing : {State : Type 0} (Does : State → ℕ → Tpdu → State → Type 0) (cut : ℕ)
     (plan : Course) (before : Stage) (front : Front) (byte : ℕ) (old new : State)
@@ -418,57 +394,6 @@ while_standing {State = State} Does cut plan before front byte old new prepared 
     advances =
     let P : State → Type 0 = λ s. Advances Does cut plan before front byte old s prepared stage in
     subst P (sym stands) advances
-
--- a listening end has room for one more character
-pub room_in_header : (phase : Phase) (bytes came : List ℕ) (taken : ℕ) → phase ≡ Opening bytes taken
-    → IsHeld phase → listens (stage_of phase came) ≡ true → taken < 5
-room_in_header phase bytes came taken is held due =
-    let Room : Phase → Type 0 = λ p. IsHeld p → listens (stage_of p came) ≡ true → taken < 5 in
-    subst Room (sym is) (λ held due. omega (
-      arith,
-      held.1,
-      held.0,
-      ltb-true (length (take taken bytes)) 5 due,
-      length-take-le taken bytes (omega (arith, held.1, held.0)),
-    )) held due
-
-pub room_for_data : (phase : Phase) (s : Service) (came : List ℕ) → phase ≡ Accepted s
-    → IsHeld phase → listens (stage_of phase came) ≡ true
-    → (s.direction ≡ ToCard) × (s.moved < s.until) × (s.moved < 255)
-room_for_data phase s came is held due =
-    let Room : Phase → Type 0 = λ p. IsHeld p → listens (stage_of p came) ≡ true
-    → (s.direction ≡ ToCard) × (s.moved < s.until) × (s.moved < 255) in
-    subst Room (sym is) (λ held due.
-    let to_card = due_data s.direction s.moved s.until due in
-    let all : whole_of s ≡ s.p3 = ap (λ (d : Direction). foreseen d s.p3) to_card.0 in
-    (to_card.0, to_card.1, omega (arith, to_card.1, held.0, held.1, all))) held due
-
--- after its status has begun, or with a refusal to hand out, the card does not listen
-pub refusal_is_silent : (phase : Phase) (h : Header) (p3 : ℕ) (status : Status) (done : ℕ)
-    (came : List ℕ) → phase ≡ Refused h p3 status done → listens (stage_of phase came) ≡ true → ⊥
-refusal_is_silent phase h p3 status done came is due =
-    let Silent : Phase → Type 0 = λ p. listens (stage_of p came) ≡ true → ⊥ in
-    subst Silent (sym is) (λ due. absurd (cc)) due
-
-pub ending_is_silent : (phase : Phase) (status : Status) (came : List ℕ)
-    → phase ≡ SecondStatus status → listens (stage_of phase came) ≡ true → ⊥
-ending_is_silent phase status came is due =
-    let Silent : Phase → Type 0 = λ p. listens (stage_of p came) ≡ true → ⊥ in
-    subst Silent (sym is) (λ due. absurd (cc)) due
-
-pub after_header : (phase : Phase) (bytes came : List ℕ) (taken byte : ℕ)
-    → phase ≡ Opening bytes taken → IsHeld phase → taken < 5
-    → IsAfter phase (Opening (slice_set bytes taken byte) (taken + 1))
-after_header phase bytes came taken byte is held lt =
-    let After : Phase → Type 0 = λ p. IsHeld p
-    → IsAfter p (Opening (slice_set bytes taken byte) (taken + 1)) in
-    subst After (sym is) (λ held. (length-set bytes taken byte ∙ held.0, omega (arith, lt))) held
-
-pub after_data : (phase : Phase) (s next : Service) → phase ≡ Accepted s → next ≡ one_moved s
-    → s.moved < s.until → IsAfter phase (Accepted next)
-after_data phase s next is next_is lt =
-    let After : Phase → Type 0 = λ p. IsAfter p (Accepted next) in
-    subst After (sym is) (lt, ap Accepted next_is)
 
 -- the header is whole when the card's turn comes
 pub whole_header : (bytes : List ℕ) (taken : ℕ) → length bytes ≡ 5 → taken ≤ 5
@@ -548,12 +473,6 @@ service_advances Does old new before prepared cut plan phase stage came s byte f
     at (In_header bytes) stands = absurd stands
     at (After_first b sw1) stands = absurd stands
     at (In_body b) stands = serves b stands
-
-pub service_keeps : (phase : Phase) (s : Service) (came : List ℕ) (stage : Stage)
-    → phase ≡ Accepted s → KeepsDirection (Serving s (take s.moved came)) stage
-    → KeepsDirection (stage_of phase came) stage
-service_keeps phase s came stage is keeps = let Keeps : Phase → Type 0 =
-    λ p. KeepsDirection (stage_of p came) stage in subst Keeps (sym is) keeps
 
 -- with the header alone both directions have the same characters, and the same status
 same_alone : (h : Header) (p3 : ℕ) (d e : Direction) (status : StatusWord)

@@ -269,10 +269,6 @@ one_begins (x ∷ xs) (y ∷ ys) es fs e =
       )
     ]
 
-no_reset : (r : List Character) (es : List Event) → Reset ∷ es ≡ passed r ++ [] → ⊥
-no_reset [] es e = absurd (cc)
-no_reset (c ∷ r) es e = absurd (cc)
-
 -- a reset is reached at once or not at all
 at_reset : (r : List Character) (es fs : List Event) → Reset ∷ es ≡ passed r ++ fs
     → (r ≡ []) × (fs ≡ Reset ∷ es)

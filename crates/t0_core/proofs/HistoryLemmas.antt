@@ -369,28 +369,6 @@ take_leads_under Does first standing prepared stage came taken byte due led =
           led.at_front.in_range grown.0 goes.0 (goes.1 led.plan led.on_plan);
     }
 
--- a character that an end seen so takes
-abbrev pub TakeGoes : {C State : Type 0} (Does : State → ℕ → Tpdu → State → Type 0)
-    (standing : C → State) (prepared : C → Prepared State) → ℕ → C → Stage → EndOf C → Type 0
-TakeGoes Does standing prepared byte card stage e = (cut : ℕ) (front new : Front)
-    → StandsAt Does (standing e.card) (prepared e.card) e.stage cut front
-    → GoesOn front (Terminal, byte) new
-    → Goes Does (standing card) (prepared card) e.stage stage cut front new
-
-pub take_goes_on : {C State : Type 0} (Does : State → ℕ → Tpdu → State → Type 0)
-    (standing : C → State) (prepared : C → Prepared State) (byte : ℕ) (inside seen : EndOf C)
-    (stage : Stage)
-    → inside ≡ seen → listens inside.stage ≡ true → stage ≡ with_character inside.stage byte
-    → TakeGoes Does standing prepared byte inside.card stage seen
-take_goes_on {C = C} Does standing prepared byte inside seen stage is due stage_is =
-    let Seen : EndOf C → Type 0 = λ e. TakeGoes Does standing prepared byte inside.card stage e in
-    subst Seen is (λ cut front new stands goes.
-    let At : Stage → Type 0 =
-    λ s. Goes Does (standing inside.card) (prepared inside.card) inside.stage s cut front new in
-    subst At (sym stage_is)
-    (takes_on Does (standing inside.card) (prepared inside.card) inside.stage cut byte front new
-    due stands goes))
-
 -- an end that does not listen is at no front that the terminal takes on
 abbrev NoneDue : {C State : Type 0} (Does : State → ℕ → Tpdu → State → Type 0)
     (standing : C → State) (prepared : C → Prepared State) → ℕ → EndOf C → Type 0

@@ -108,11 +108,12 @@ host_sends h p3 d content (SendingHeader (suc (suc zero))) (In_header bytes) byt
   (refl, inl (rw at.1 (lit< tt), refl)),
   (lit< tt, rw (at.1, ← sends_is _ _ e) refl),
 )
-host_sends h p3 d content (SendingHeader (suc (suc (suc zero)))) (In_header bytes) byte range at e = (
-  In_header (bytes ++ byte ∷ []),
-  (refl, inl (rw at.1 (lit< tt), refl)),
-  (lit< tt, rw (at.1, ← sends_is _ _ e) refl),
-)
+host_sends h p3 d content (SendingHeader (suc (suc (suc zero)))) (In_header bytes) byte range at
+    e = (
+      In_header (bytes ++ byte ∷ []),
+      (refl, inl (rw at.1 (lit< tt), refl)),
+      (lit< tt, rw (at.1, ← sends_is _ _ e) refl),
+    )
 host_sends h p3 d content (SendingHeader (suc (suc (suc (suc zero))))) (In_header bytes) byte range
     at e = (
       In_body (header_only h byte d),
@@ -149,7 +150,7 @@ full_is_too_long false f e = absurd (cc)
 
 -- What the end makes of a character with which a dialogue of its own goes on: it stands at the
 -- front with it, and there is no fault but want of room.
-pub record Takes (host : Hosting) (room : Room) (byte : ℕ) (new : Front) : Type 0 where
+pub record HostTakes (host : Hosting) (room : Room) (byte : ℕ) (new : Front) : Type 0 where
   pub stands : HostStandsAt (at_stage host (after_taking host byte)) new
   pub fault : (f : LineFault) → fault_of host room byte ≡ Some f → f ≡ TooLong
 
@@ -166,7 +167,7 @@ begins : (h : Header) (p3 : ℕ) (d : Direction) (content : List ℕ) (m : ℕ) 
     (b : Body) (s : Step) → IsInRange (host_at h p3 d content (Awaiting m))
     → HostStandsAt (host_at h p3 d content (Awaiting m)) (In_body b)
     → byte ≡ procedure_byte b.header.ins s
-    → Takes (host_at h p3 d content (Awaiting m)) room byte (In_body (with_segment b s))
+    → HostTakes (host_at h p3 d content (Awaiting m)) room byte (In_body (with_segment b s))
 begins h p3 d content m room byte b s range at is =
     let n = moves s (foreseen d p3 - m) in
     let step : step_of h.ins byte ≡ Some s =
@@ -181,7 +182,7 @@ begins h p3 d content m room byte b s range at is =
 ends_data : (h : Header) (p3 : ℕ) (d : Direction) (content : List ℕ) (m : ℕ) (room : Room)
     (byte : ℕ) (b : Body) → IsInRange (host_at h p3 d content (Awaiting m))
     → HostStandsAt (host_at h p3 d content (Awaiting m)) (In_body b) → IsStatusWord (byte, 0)
-    → Takes (host_at h p3 d content (Awaiting m)) room byte (After_first b byte)
+    → HostTakes (host_at h p3 d content (Awaiting m)) room byte (After_first b byte)
 ends_data h p3 d content m room byte b range at status =
     let none = status_is_no_step h.ins byte range.0.0 range.0.1 status in
     record {
@@ -192,7 +193,7 @@ ends_data h p3 d content m room byte b range at status =
 takes_data : (h : Header) (p3 : ℕ) (d : Direction) (content : List ℕ) (m u : ℕ) (room : Room)
     (byte : ℕ) (b : Body) → HostStandsAt (host_at h p3 d content (Moving m u)) (In_body b)
     → Card ≡ data_sender b.direction
-    → Takes (host_at h p3 d content (Moving m u)) room byte (In_body (with_moved b byte))
+    → HostTakes (host_at h p3 d content (Moving m u)) room byte (In_body (with_moved b byte))
 takes_data h p3 ToCard content m u room byte b at from =
     absurd (card_is_no_terminal (from ∙ ap data_sender at.0.2))
 takes_data h p3 FromCard content m u room byte b at from = record {
@@ -205,7 +206,7 @@ takes_data h p3 FromCard content m u room byte b at from = record {
 pub host_takes : (h : Header) (p3 : ℕ) (d : Direction) (content : List ℕ) (stage : HostStage)
     (room : Room) (byte : ℕ) (front new : Front) → IsInRange (host_at h p3 d content stage)
     → HostStandsAt (host_at h p3 d content stage) front → GoesOn front (Card, byte) new
-    → Takes (host_at h p3 d content stage) room byte new
+    → HostTakes (host_at h p3 d content stage) room byte new
 host_takes h p3 d content (SendingHeader sent) room byte (In_header bytes) new range at
     (from, goes) = absurd (card_is_no_terminal from)
 host_takes h p3 d content (Awaiting m) room byte (In_body b) new range at (inl (lt, from, is)) =

@@ -5,7 +5,7 @@ pub mod CardLemmas
 pub mod HistoryLemmas
 mod Vectors
 pub mod PlannedFront
-pub mod HistoryLaws
+pub mod HistoryCutting
 pub mod TapLemmas
 pub mod TapLineLemmas
 pub mod TapTurns

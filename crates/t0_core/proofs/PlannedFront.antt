@@ -230,7 +230,8 @@ planned Does standing prepared (Taking_header bytes) cut front is at = (
       tt,
 )
 planned Does standing prepared (Refusing h p3 status done) cut (In_body b) is at =
-    let none : to_move b ≡ 0 = nulls_move_nothing b.segments (foreseen b.direction b.p3) at.nulls in (
+    let none : to_move b ≡ 0 =
+    nulls_move_nothing b.segments (foreseen b.direction b.p3) at.nulls in (
       itself b.segments,
       no_data (body_characters b) (itself b.segments) b [] [] any_cut is
           (ap length at.no_data ∙ sym none)

@@ -28,7 +28,7 @@ use Rattle.t0_core.specs.History.{Event, Passed, Whole, events_of, passed}
 use Rattle.t0_core.specs.TapHistory.{HasHeard, HearsOn, IsOverheard}
 use Rattle.t0_core.specs.TapView.{place_of, IsHeldAt}
 use Rattle.t0_core.specs.DialogueLaws.{all_more, ends_with}
-use Rattle.t0_core.specs.TapSide.{Place, In_opening, Between, In_data, After_sw1, SaysSo, Shows, IsRead, IsReadFront, IsPlace, TapStandsAt, Makes, unheard_at, heard_at, after_hearing, opened, begun_by, foreseen_by, may_come_from, due_at, direction_from, goes_this_way, way_of, with_data, is_terminal, unheard_byte, unheard_procedure, turned_body, turned, Takes, Concludes, afresh}
+use Rattle.t0_core.specs.TapSide.{Place, In_opening, Between, In_data, After_sw1, SaysSo, Shows, IsRead, IsReadFront, IsPlace, TapStandsAt, Makes, unheard_at, heard_at, after_hearing, after_opening, begun_by, foreseen_by, may_come_from, due_at, direction_from, goes_this_way, way_of, with_one_more, is_terminal, unheard_byte, unheard_procedure, turned_body, turned, Takes, Concludes, afresh}
 use Rattle.t0_core.specs.ProcedureLaws.{step_is, status_is_no_step, first_is_in_range}
 use Rattle.t0_core.proofs.HostTook.{step_tells}
 use Rattle.t0_core.proofs.HistoryLemmas.{events_with, events_item, passed_more}
@@ -41,7 +41,7 @@ pub record Took (place : Place) (from : End) (byte : ℕ) (front new : Front) : 
   pub stands : TapStandsAt (after_hearing place from byte) new
 
 -- a header that is not whole
-opened_short : (bytes : List ℕ) → length bytes < 5 → opened bytes ≡ In_opening bytes
+opened_short : (bytes : List ℕ) → length bytes < 5 → after_opening bytes ≡ In_opening bytes
 opened_short [] lt = refl
 opened_short (a ∷ []) lt = refl
 opened_short (a ∷ b ∷ []) lt = refl
@@ -202,8 +202,8 @@ from_the_card : (d : Direction) (p3 : ℕ) → 0 < foreseen d p3 → p3 ≡ 0 �
 from_the_card ToCard p3 some none = absurd (omega (arith, some, none))
 from_the_card FromCard p3 some none = refl
 
-pub may_come : (seen : Option Direction) (d : Direction) (p3 : ℕ) (moved : List ℕ) → Shows seen d moved
-    → 0 < foreseen d p3 → may_come_from (due.Data (way_of seen p3)) (data_sender d) ≡ true
+pub may_come : (seen : Option Direction) (d : Direction) (p3 : ℕ) (moved : List ℕ)
+    → Shows seen d moved → 0 < foreseen d p3 → may_come_from (due.Data (way_of seen p3)) (data_sender d) ≡ true
 may_come (Some seen) d p3 moved shows some =
     rw (ap (λ x. goes_this_way x (data_sender d)) shows.0) (sender_goes d)
 may_come None d p3 moved shows some = split (p3 == 0) refl
@@ -215,7 +215,7 @@ may_come None d p3 moved shows some = split (p3 == 0) refl
 
 -- one data character more
 pub one_more_said : (said : Said) (from : End) (byte : ℕ) (b : Body) → SaysSo said b
-    → from ≡ data_sender b.direction → SaysSo (with_data said from) (with_moved b byte)
+    → from ≡ data_sender b.direction → SaysSo (with_one_more said from) (with_moved b byte)
 one_more_said said from byte b says way = record {
   header_is = says.header_is;
   p3_is = says.p3_is;
@@ -245,7 +245,7 @@ in_data said until from byte b says lt all way =
         sym (ap direction_from way ∙ direction_of_sender b.direction),
         refl,
       );
-      stands = stands_on (with_data said from) until (with_moved b byte)
+      stands = stands_on (with_one_more said from) until (with_moved b byte)
           (nat_lt (said.moved + 1) until) refl (omega (arith, lt))
           (one_more_said said from byte b says way) all;
     }

@@ -69,7 +69,8 @@ data_turn said until from b says lt all not =
     ≡ true =
     ap (λ x. may_come_from (due.Data (way_of said.direction x)) (data_sender b.direction))
     (sym says.p3_is) ∙ may_come said.direction b.direction b.p3 b.moved says.shows some in
-    let sender = other_sends from b.direction (due.Data (way_of said.direction said.p3)) may not in (
+    let sender = other_sends from b.direction (due.Data (way_of said.direction said.p3)) may
+    not in (
       0,
       lit< tt,
       inl (
@@ -147,8 +148,8 @@ reason p seen from byte fault is why front stands =
 
 -- ---- data leave no trace
 
-no_data : (found : Option Step) (direction : Direction) → heard_procedure found ≡ heard.Data direction
-    → ⊥
+no_data : (found : Option Step) (direction : Direction)
+    → heard_procedure found ≡ heard.Data direction → ⊥
 no_data (Some step) direction e = absurd (cc)
 no_data None direction e = absurd (cc)
 

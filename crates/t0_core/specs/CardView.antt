@@ -73,11 +73,11 @@ pub record IsNext (s : Service) (steps : List Step) (step : Step) (next : Servic
       ⊎ ((step ≡ All) × (length steps ≤ next.done))
 
 -- what a card answers when all data have moved
-abbrev pub Concludes : {State : Type 0} → (State → ℕ → Tpdu → State → Type 0) → State
+abbrev pub GivesStatus : {State : Type 0} → (State → ℕ → Tpdu → State → Type 0) → State
     → Prepared State → Direction → List ℕ → StatusWord → Prepared State → Type 0
-Concludes Does old before ToCard content status prepared =
+GivesStatus Does old before ToCard content status prepared =
     IsReceiving before (λ ask. Decides Does old ask.cut (taken_with ask content status) prepared)
-Concludes Does old before FromCard content status prepared =
+GivesStatus Does old before FromCard content status prepared =
     IsSending before (λ ask bytes. Decides Does old ask.cut (answered_with ask bytes status)
     prepared)
 

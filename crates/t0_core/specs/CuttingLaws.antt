@@ -371,9 +371,11 @@ in_segment host moved until b d [] r rest of_b of_d n lt owed on e = absurd on
 in_segment host moved until b d (c ∷ cs) r rest of_b of_d n lt owed (inl (ends, none)) e =
     absurd ends
 in_segment host moved until b d (c ∷ cs) r rest of_b of_d n lt owed
-    (inr (new, inr (inl (between, from, others)), on)) e = absurd (omega (arith, n, lt, owed, between))
+    (inr (new, inr (inl (between, from, others)), on)) e =
+    absurd (omega (arith, n, lt, owed, between))
 in_segment host moved until b d (c ∷ cs) r rest of_b of_d n lt owed
-    (inr (new, inr (inr (between, from, status, others)), on)) e = absurd (omega (arith, n, lt, owed, between))
+    (inr (new, inr (inr (between, from, status, others)), on)) e =
+    absurd (omega (arith, n, lt, owed, between))
 in_segment host moved until b d (c ∷ cs) r rest of_b of_d n lt owed
     (inr (new, inl (less, from, new_is), on)) e =
     let P : Front → Type 0 = λ f. GoesThrough f cs d in

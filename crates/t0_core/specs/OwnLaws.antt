@@ -27,10 +27,10 @@ none_moved ToCard content = refl
 none_moved FromCard content = tt
 
 -- the next of the end's own data
-own_data : (direction : Direction) (content : List ℕ) (p3 : ℕ) → AreForeseen direction content p3
+next_own : (direction : Direction) (content : List ℕ) (p3 : ℕ) → AreForeseen direction content p3
     → (moved : List ℕ) → length moved < foreseen direction p3 → AreOwn direction content moved
     → (y : ℕ) × AreOwn direction content (moved ++ y ∷ [])
-own_data ToCard content p3 same moved lt own =
+next_own ToCard content p3 same moved lt own =
     let k = length moved in
     let one : length (moved ++ slice_index content k ∷ []) ≡ k + 1 =
     length-append moved (slice_index content k ∷ []) in (
@@ -39,10 +39,7 @@ own_data ToCard content p3 same moved lt own =
           ∙ sym (take_more content k 0 (omega (arith, lt, same)))
           ∙ ap (λ n. take n content) (sym one),
     )
-own_data FromCard content p3 same moved lt own = (0, tt)
-
-opens : (host : Hosting) → Body
-opens host = header_only host.header host.p3 host.direction
+next_own FromCard content p3 same moved lt own = (0, tt)
 
 opened_fresh : (host : Hosting) → IsOpenedBy host (header_only host.header host.p3 host.direction)
 opened_fresh host = (refl, refl, refl, none_moved host.direction host.content)
@@ -85,7 +82,7 @@ in_body host b request opened is =
     let same : foreseen b.direction b.p3 ≡ foreseen host.direction host.p3 =
     rw (opened.2, opened.1) refl in
     let supplies : Supplies Own b =
-    λ moved lt own. own_data host.direction host.content host.p3 request.2 moved
+    λ moved lt own. next_own host.direction host.content host.p3 request.2 moved
     (omega (arith, lt, same)) own in
     let x = longer Own (to_move b - length b.moved) b supplies is opened.3
     (omega (arith, owes b is)) in

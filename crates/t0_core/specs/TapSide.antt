@@ -153,27 +153,27 @@ begun_at (Some step) said byte =
     moved_to said (said.moved + moves step (foreseen_by said.direction said.p3 - said.moved))
 begun_at None said byte = After_sw1 said byte
 
-abbrev pub with_data : Said → End → Said
-with_data said from = record {
+abbrev pub with_one_more : Said → End → Said
+with_one_more said from = record {
   header = said.header;
   p3 = said.p3;
   direction = Some (direction_from from);
   moved = said.moved + 1;
 }
 
-abbrev pub opened : List ℕ → Place
-opened (cla ∷ ins ∷ p1 ∷ p2 ∷ p3 ∷ []) = Between (record {
+abbrev pub after_opening : List ℕ → Place
+after_opening (cla ∷ ins ∷ p1 ∷ p2 ∷ p3 ∷ []) = Between (record {
   header = record { cla = cla; ins = ins; p1 = p1; p2 = p2 };
   p3 = p3;
   direction = None;
   moved = 0;
 })
-opened bytes = In_opening bytes
+after_opening bytes = In_opening bytes
 
 abbrev pub after_hearing : Place → End → ℕ → Place
-after_hearing (In_opening bytes) from byte = opened (bytes ++ byte ∷ [])
+after_hearing (In_opening bytes) from byte = after_opening (bytes ++ byte ∷ [])
 after_hearing (Between said) from byte = begun_at (begun_by said.header.ins byte) said byte
-after_hearing (In_data said until) from byte = moved_to (with_data said from) until
+after_hearing (In_data said until) from byte = moved_to (with_one_more said from) until
 after_hearing (After_sw1 said sw1) from byte = afresh
 
 -- and what it was

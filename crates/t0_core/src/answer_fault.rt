@@ -1,3 +1,5 @@
+//! Why a terminal does not take the answer to a whole TPDU.
+
 use std::error::Error;
 use std::fmt;
 

@@ -1,3 +1,4 @@
+//! The card's end of the line, which answers TPDUs character by character.
 ghost use Rattle.std.specs.Prelude.{◌≡◌, ℕ, ◌+◌, ◌≤◌, ◌<◌, ◌++◌, List, [], ◌∷◌, length, replicate, take, true, is_ok, OnOk, OnErr, IsOk, if◌then◌else◌, slice_index, ◌==◌, IfOk, ◌↔◌, ◌⊎◌, false};
 ghost use Rattle.apdu_core.specs.declared.header.Header.{Header};
 ghost use Rattle.apdu_core.specs.HeaderBytes.{header_bytes, ins_is_valid};

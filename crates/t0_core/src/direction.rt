@@ -1,3 +1,4 @@
+//! Which way the data of a TPDU move.
 ghost use Rattle.std.specs.Prelude.{◌≡◌, ◌≤◌};
 ghost use Rattle.t0_core.specs.Dialogue.{foreseen};
 ghost use Rattle.t0_core.specs.TapSide.{direction_from};

@@ -1,3 +1,5 @@
+//! The two ends of the line.
+
 /// An end of the line.
 #[derive(Clone, Copy, Debug, PartialEq, Eq, Hash)]
 pub enum End {

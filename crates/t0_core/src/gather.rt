@@ -1,3 +1,4 @@
+//! The data that a terminal takes, in room that was taken beforehand.
 ghost use Rattle.std.specs.Prelude.{◌≡◌, ℕ, ◌<◌, ◌≤◌, [], ◌∷◌, ◌++◌, length, IfOk, ◌==◌, ◌+◌, nat_le, false};
 
 use std::alloc::{AllocError, Allocator, Global};

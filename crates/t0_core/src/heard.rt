@@ -1,3 +1,4 @@
+//! What a tap says of the characters that it takes, and what it says is due.
 ghost use Rattle.std.specs.Prelude.{◌≡◌, ◌+◌, ◌≤◌, Some};
 ghost use Rattle.t0_core.specs.TapSide.{foreseen_by, may_come_from, way_of};
 

@@ -1,3 +1,5 @@
+//! What is kept of a terminal's end without its command's data, so that it can be made again.
+
 use crate::direction::Direction;
 use crate::host_end::HostStage;
 use apdu_core::Header;

@@ -68,8 +68,8 @@ pub fn the_next_character_is_settled()
         IsOpenedBy host d.body → characters d ++ rest ≡ front_characters front → ⊥ }
 {}
 
-/// Dialogues whose data are to move the same way are the same where their characters begin one list,
-/// and so none begins another. It needs INS to be a byte.
+/// Dialogues whose data are to move the same way are the same where their characters begin one
+/// list, and so none begins another. It needs INS to be a byte.
 pub fn dialogues_opened_alike_have_one_cutting()
     ensures { (d e : Dialogue) (after_d after_e : List Character) →
         d.body.header.ins < 256 → IsDialogue d → IsDialogue e →

@@ -1,3 +1,4 @@
+//! Plans: which procedure bytes a card sends, and how it cuts its responses.
 ghost use Rattle.std.specs.Prelude.{◌≡◌, ℕ, ◌-◌, ◌≤◌, ◌<◌, ◌⊎◌, [], ◌∷◌, None, length, drop, MatchOption};
 ghost use Rattle.t0_core.specs.declared.plan.Step.TheVariants.{All};
 ghost use Rattle.t0_core.specs.Dialogue.{moves};

@@ -1,3 +1,4 @@
+//! Procedure bytes: what each starts, and how many data characters that moves.
 ghost use Rattle.std.specs.Prelude.{◌≡◌, ◌≤◌};
 ghost use Rattle.t0_core.specs.Dialogue.{moves, procedure_byte};
 ghost use Rattle.t0_core.specs.HostSide.{step_of};

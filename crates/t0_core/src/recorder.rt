@@ -1,3 +1,4 @@
+//! A watch that notes each character, while there is memory.
 ghost use Rattle.std.specs.Prelude.{◌≡◌, ℕ, List, [], ◌∷◌, true, false};
 ghost use Rattle.t0_core.specs.Watch.{Hearing};
 

@@ -1,3 +1,4 @@
+//! The TPDU that a terminal's end opens: its header, its P3, and its data if it sends some.
 ghost use Rattle.std.specs.Prelude.{◌≡◌, ◌<◌, ◌++◌, [], ◌∷◌, slice_index};
 ghost use Rattle.apdu_core.specs.HeaderBytes.{header_bytes};
 ghost use Rattle.t0_core.specs.Dialogue.{foreseen};

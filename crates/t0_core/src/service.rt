@@ -2,7 +2,7 @@
 ghost use Rattle.std.specs.Prelude.{◌≡◌, ℕ, ◌-◌, ◌<◌, ◌≤◌, List, [], length, take, drop, false, MatchOption, nat_lt, ◌&&◌};
 ghost use Rattle.t0_core.specs.declared.plan.Step.{Step};
 ghost use Rattle.t0_core.specs.CardContract.{IsDecided};
-ghost use Rattle.t0_core.specs.CardView.{Fits, IsInService, IsNext, IsReadyFor, Concludes, KeepsDirection, phase_after, stage_of};
+ghost use Rattle.t0_core.specs.CardView.{Fits, IsInService, IsNext, IsReadyFor, GivesStatus, KeepsDirection, phase_after, stage_of};
 ghost use Rattle.t0_core.specs.CardSide.{comes_from_terminal, Advances, GoesByCount, IsServed, Serving, listens, one_moved, still_to_go, whole_of};
 ghost use Rattle.t0_core.specs.Dialogue as dialogue;
 ghost use Rattle.t0_core.specs.Dialogue.{Body};
@@ -147,7 +147,7 @@ fn conclude<C: TpduCard>(card: &mut C, direction: Direction, content: &[u8]) -> 
     requires { IsReadyFor (C.prepared card.old) direction (length content.now) }
     ensures decided { IsDecided (C.prepared card.new) }
     ensures stands { C.standing card.new ≡ C.standing card.old }
-    ensures answer { Concludes C.Does (C.standing card.old) (C.prepared card.old) direction
+    ensures answer { GivesStatus C.Does (C.standing card.old) (C.prepared card.old) direction
         content.now result (C.prepared card.new) }
 {
     match direction {

@@ -1,8 +1,9 @@
+//! A third party on the line, which reads the characters of both ends.
 ghost use Rattle.std.specs.Prelude.{◌≡◌, ◌≤◌, ◌<◌, ◌++◌, ◌∷◌, [], List, length, take, OnErr, IfOk, MatchResult, ◌↔◌, ℕ, IfErr, true};
 ghost use Rattle.std.specs.Result.{result_err};
 ghost use Rattle.t0_core.specs.Front.{Front, GoesOn, Ends};
 ghost use Rattle.t0_core.specs.Dialogue.{Dialogue};
-ghost use Rattle.t0_core.specs.TapSide.{TapStandsAt, Takes, Makes, Concludes, IsReadFront, IsSaid, foreseen_by, begun_by, begun_at, moved_to, opened, due_at, unheard_at, unheard_byte, unheard_procedure, heard_at, heard_procedure, after_hearing, afresh, may_come_from, other_end, HasTurn};
+ghost use Rattle.t0_core.specs.TapSide.{TapStandsAt, Takes, Makes, Concludes, IsReadFront, IsSaid, foreseen_by, begun_by, begun_at, moved_to, after_opening, due_at, unheard_at, unheard_byte, unheard_procedure, heard_at, heard_procedure, after_hearing, afresh, may_come_from, other_end, HasTurn};
 ghost use Rattle.t0_core.specs.TapHistory.{HasHeard, HearsOn};
 ghost use Rattle.t0_core.specs.History.{Event, Reset};
 ghost use Rattle.t0_core.specs.TapView.{place_of, IsHeldAt};
@@ -173,7 +174,7 @@ fn after(stage: TapStage, from: End, byte: u8) -> Result<(TapStage, Heard), Unhe
 /// The stage after one more of CLA INS P1 P2 P3.
 fn after_opening(mut bytes: [u8; 4], taken: usize, byte: u8) -> TapStage
     requires room { (length bytes ≡ 4) × (taken ≤ 4) }
-    ensures value { place_of result ≡ opened (take taken bytes ++ byte ∷ []) }
+    ensures value { place_of result ≡ after_opening (take taken bytes ++ byte ∷ []) }
     ensures held { IsHeldAt result }
 {
     if taken < 4 {

@@ -1,3 +1,5 @@
+//! Why a tap does not take a character.
+
 use std::error::Error;
 use std::fmt;
 

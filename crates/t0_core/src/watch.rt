@@ -1,3 +1,4 @@
+//! Who is told each character that goes over the line.
 ghost use Rattle.std.specs.Prelude.{◌≡◌, ℕ, List, [], ◌∷◌, true};
 ghost use Rattle.t0_core.specs.Watch.{Hearing, Hears};
 

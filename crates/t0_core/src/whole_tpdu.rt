@@ -1,3 +1,5 @@
+//! A whole TPDU, for a transport that takes no single characters.
+
 use apdu_core::Header;
 
 /// A whole command TPDU, as a transport of whole TPDUs is given it.

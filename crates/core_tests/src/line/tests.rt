@@ -1,3 +1,5 @@
+//! The terminal's end with worked dialogues, and what gathers and records characters.
+
 use apdu_core::Header;
 use linked_list_allocator::LocalHeap;
 use std::alloc::{Allocator, Global};

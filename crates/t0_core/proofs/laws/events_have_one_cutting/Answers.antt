@@ -1,4 +1,4 @@
-use Rattle.t0_core.proofs.HistoryLaws.{one_cutting}
+use Rattle.t0_core.proofs.HistoryCutting.{one_cutting}
 use Rattle.t0_core.proofs.laws.events_have_one_cutting.Goals as goal
 
 pub returns : goal.returns

@@ -6,7 +6,7 @@ use Rattle.t0_core.specs.Dialogue.{foreseen}
 use Rattle.t0_core.specs.Plan.{segments_of}
 use Rattle.t0_core.specs.Front.{In_body}
 use Rattle.t0_core.specs.CardSide.{Serving, whole_of}
-use Rattle.t0_core.specs.CardView.{IsNext, Concludes}
+use Rattle.t0_core.specs.CardView.{IsNext, GivesStatus}
 use Rattle.t0_core.proofs.CardLemmas.{sends_data, begins_segment, ends_service, while_standing}
 use Rattle.t0_core.proofs.service.serve.Goals as goal
 
@@ -38,7 +38,7 @@ returns-in-None-clause-advances g c = λ cut plan b steps served.
     let None : List Step → Type 0 =
     λ st. segments_of (drop s.done st) (whole_of s - s.until) ≡ [] in
     let Answers : Service → Type 0 =
-    λ at. Concludes card.Does (card.standing c.args.card.now) (card.prepared c.args.card.now)
+    λ at. GivesStatus card.Does (card.standing c.args.card.now) (card.prepared c.args.card.now)
     at.direction (take at.p3 c.args.came.now) c.conclude-status.result
     (card.prepared c.conclude-status.new.card) in
     rw c.sw1.ensures.value

@@ -3,12 +3,12 @@ use Rattle.std.specs.Prelude.{◌≡◌, ◌⊎◌, ℕ, ℤ, List, [], Some}
 use Rattle.std.specs.List.{flat_map}
 use Rattle.apdu_core.specs.declared.command.ApduFault.{ApduFault}
 use Rattle.apdu_core.specs.CommandBytes.{Command, IsCommand, command_bytes}
-use Rattle.t0_core.specs.Plan.{Cursor}
+use Rattle.t0_core.specs.Plan.{Course}
 use Rattle.object_card.specs.OneStep.{Reply}
 use Rattle.object_card.specs.CardMeaning.{Does}
 use Rattle.card_terminal.specs.Agreed.{IsAgreed}
 use Rattle.card_terminal.specs.Gathered.{UnitOf, Gathers, dialogues_of}
-use Rattle.card_terminal.specs.Conversing.{HaveGone}
+use Rattle.card_terminal.specs.Conversing.{point, HaveGone}
 use Rattle.card_c.specs.declared.card_side.CardSide.{CardSide}
 use Rattle.card_c.specs.declared.card_side.CardSide.TheVariants.{Building, Standing, Joined}
 use Rattle.card_c.specs.declared.session_side.SessionSide.{SessionSide}
@@ -32,9 +32,9 @@ pub record HasBeenSent (c : Command) (old new : SessionSide) : Type 0 where
   pub plans_are : new.plans.items ≡ []
   pub units : List UnitOf
   pub gathered : Gathers c units reply.content reply.status
-  pub left : Cursor
-  pub gone : HaveGone Does old.session.state old.plans.items silence (flat_map dialogues_of units)
-      new.session.state left new.heard
+  pub left : List Course
+  pub gone : HaveGone Does (point old.session.state old.plans.items silence)
+      (flat_map dialogues_of units) (point new.session.state left new.heard)
 
 -- one command that is agreed with the card: none where memory is wanting
 abbrev pub SendsAgreed : Command → SessionSide → ℤ → SessionSide → Type 0

@@ -4,11 +4,11 @@ use Rattle.std.specs.List.{flat_map}
 use Rattle.std.proofs.lemmas.Grind.{flat_map-append}
 use Rattle.t0_core.specs.Dialogue.{Dialogue, IsDialogue, characters}
 use Rattle.t0_core.specs.Meaning.{Tpdu, tpdu_of, Runs}
-use Rattle.t0_core.specs.Plan.{Course, Cursor, IsCut, Follows, FollowInTurn, advanced}
+use Rattle.t0_core.specs.Plan.{Course, IsCut, Follows, FollowInTurn, advanced}
 use Rattle.t0_core.specs.Watch.{Hearing, Hears}
 use Rattle.t0_core.specs.WatchLaws.{hears_more, hears_nothing}
 use Rattle.card_terminal.specs.Talk.{HaveCuts}
-use Rattle.card_terminal.specs.Conversing.{HaveGone, next_plan}
+use Rattle.card_terminal.specs.Conversing.{Point, point, HaveGone, next_plan}
 use Rattle.card_terminal.proofs.TalkListLemmas.{left_after_both, follow_both, runs_both, all_both}
 
 -- the cuts of some plans, and of those after them
@@ -25,13 +25,11 @@ cuts_both (suc n) m (p ∷ plans) first second =
 
 -- dialogues that have gone, and others after them
 pub gone_both : {State : Type 0} (Does : State → ℕ → Tpdu → State → Type 0)
-    (first mid last : State) (plans : List Course) (since between now : Hearing)
-    (ds es : List Dialogue) (cursor later : Cursor)
-    → HaveGone Does first plans since ds mid cursor between
-    → HaveGone Does mid cursor.rest between es last later now
-    → HaveGone Does first plans since (ds ++ es) last later now
-gone_both Does first mid last plans since between now ds es cursor later one two =
+    (from mid to : Point State) (ds es : List Dialogue) → HaveGone Does from ds mid
+    → HaveGone Does mid es to → HaveGone Does from (ds ++ es) to
+gone_both Does from mid to ds es one two =
     let n = length ds in
+    let plans = from.plans in
     record {
       are_dialogues = all_both IsDialogue ds es one.are_dialogues two.are_dialogues;
       follow = follow_both ds es plans one.follow
@@ -39,12 +37,13 @@ gone_both Does first mid last plans since between now ds es cursor later one two
       cuts = subst (λ k. HaveCuts (take k plans)) (sym (length-append ds es))
           (cuts_both n (length es) plans one.cuts
           (subst (λ p. HaveCuts (take (length es) p)) one.used two.cuts));
-      runs = runs_both Does first mid last ds es plans one.runs
-          (subst (λ p. Runs Does mid es p last) one.used two.runs);
+      runs = runs_both Does from.standing mid.standing to.standing ds es plans one.runs
+          (subst (λ p. Runs Does mid.standing es p to.standing) one.used two.runs);
       used = two.used ∙ ap (λ p. drop (length es) p) one.used ∙ sym (left_after_both ds es plans);
-      hears = subst (λ cs. Hears since cs now) (sym (flat_map-append characters ds es))
-          (hears_more since between now (flat_map characters ds) (flat_map characters es)
-          one.hears two.hears);
+      hears = subst (λ cs. Hears from.hearing cs to.hearing)
+          (sym (flat_map-append characters ds es))
+          (hears_more from.hearing mid.hearing to.hearing (flat_map characters ds)
+          (flat_map characters es) one.hears two.hears);
     }
 
 follow_none : (plans : List Course) → FollowInTurn [] plans
@@ -60,16 +59,15 @@ runs_none : {State : Type 0} (Does : State → ℕ → Tpdu → State → Type 0
 runs_none Does standing [] = refl
 runs_none Does standing (p ∷ ps) = refl
 
-pub none_gone : {State : Type 0} (Does : State → ℕ → Tpdu → State → Type 0) (standing : State)
-    (cursor : Cursor) (now : Hearing)
-    → HaveGone Does standing cursor.rest now [] standing cursor now
-none_gone Does standing cursor now = record {
+pub none_gone : {State : Type 0} (Does : State → ℕ → Tpdu → State → Type 0) (at : Point State)
+    → HaveGone Does at [] at
+none_gone Does at = record {
   are_dialogues = tt;
-  follow = follow_none cursor.rest;
-  cuts = cuts_none cursor.rest;
-  runs = runs_none Does standing cursor.rest;
+  follow = follow_none at.plans;
+  cuts = cuts_none at.plans;
+  runs = runs_none Does at.standing at.plans;
   used = refl;
-  hears = hears_nothing now;
+  hears = hears_nothing at.hearing;
 }
 
 -- one dialogue, under the next of the plans
@@ -77,8 +75,8 @@ pub one_gone : {State : Type 0} (Does : State → ℕ → Tpdu → State → Typ
     (rest : List Course) (kept : Option Course) (since now : Hearing) (d : Dialogue)
     → IsDialogue d → Follows d (next_plan rest) → IsCut (next_plan rest).cut
     → Does old (next_plan rest).cut (tpdu_of d) new → Hears since (characters d) now
-    → HaveGone Does old rest since (d ∷ []) new
-    (advanced (record { rest = rest; kept = kept })) now
+    → HaveGone Does (point old rest since) (d ∷ [])
+    (point new (advanced (record { rest = rest; kept = kept })).rest now)
 one_gone Does old new [] kept since now d is follows cut does hears = record {
   are_dialogues = (is, tt);
   follow = (follows, tt);

@@ -31,8 +31,8 @@ use Rattle.card_terminal.specs.Agreed.{IsAgreed}
 use Rattle.card_terminal.specs.Gathered.{Gathers, Opening, By_command, By_fetch, UnitOf, dialogues_of, repeated_with}
 use Rattle.card_terminal.specs.declared.wanted.Wanted.{Wanted}
 use Rattle.card_terminal.specs.ExchangeSide.{ExchangeOf, exchange_turn, HostOpensBy, IsOver, IsOpenedAs, so_far}
-use Rattle.card_terminal.specs.Conversing.{HaveGone, HasOverflown, IsCaused}
-use Rattle.card_terminal.specs.Talk.{HaveCuts, Talk, AreCommandsOf, AreExchangesOf, IsTalkOf, talk_dialogues, select_command, get_command}
+use Rattle.card_terminal.specs.Conversing.{Point, point, HaveGone, HasOverflown, IsCaused}
+use Rattle.card_terminal.specs.Talk.{HaveCuts, Talk, AreCommandsOf, AreExchangesOf, IsTalkOf, talk_dialogues, select_command}
 use Rattle.card_terminal.specs.Operations.{operation_of}
 use Rattle.card_terminal.specs.Running.{new_answers, carried_out}
 use Rattle.card_terminal.proofs.FetchLemmas.{Goes, goes_by_runs, goes_sound}
@@ -182,16 +182,15 @@ repeats_first opening left (Some d) host (opens, n, repeats, asks) = (n, repeats
 -- no more comes than there is room for
 never_overflows : {State : Type 0} (Own : State → ℕ → Tpdu → State → Type 0)
     (own_reset : State → State) (state_of : State → CardState)
-    → StandsFor Own own_reset state_of → (first standing : State) (plans : List Course)
-    (since now : Hearing) (c : Command) (cursor : Cursor) → IsCardState (state_of first)
-    → HasOverflown Own first plans since c standing cursor now → ⊥
-never_overflows Own own_reset state_of stands first standing plans since now c cursor sound over =
+    → StandsFor Own own_reset state_of → (from to : Point State) (c : Command)
+    → IsCardState (state_of from.standing) → HasOverflown Own from c to → ⊥
+never_overflows Own own_reset state_of stands from to c sound over =
     let way = over.terminal in
     let ds = so_far over.units over.tried in
-    let goes = own_goes Own own_reset state_of stands first standing ds plans over.gone.runs
-    over.gone.cuts in
-    let before = so_far_brings c over.units way.opening way.left over.tried (state_of first)
-    (state_of standing) sound way.followed
+    let goes = own_goes Own own_reset state_of stands from.standing to.standing ds from.plans
+    over.gone.runs over.gone.cuts in
+    let before = so_far_brings c over.units way.opening way.left over.tried
+    (state_of from.standing) (state_of to.standing) sound way.followed
     (repeats_first way.opening way.left over.tried over.ex.host way.opened_as) goes in
     let here = brought_few over.ex.host over.before
     (asks_with_a_byte way.opening way.left over.tried over.ex.host way.opened_as) way.stands
@@ -209,45 +208,41 @@ never_overflows Own own_reset state_of stands first standing plans since now c c
 -- a card of data objects causes no line fault
 pub never_caused : {State : Type 0} (Own : State → ℕ → Tpdu → State → Type 0)
     (own_reset : State → State) (state_of : State → CardState)
-    → StandsFor Own own_reset state_of → (first standing : State) (plans : List Course)
-    (since now : Hearing) (c : Command) (cursor : Cursor) (fault : LineFault)
-    → IsCardState (state_of first)
-    → IsCaused Own first plans since c standing cursor now fault → ⊥
-never_caused Own own_reset state_of stands first standing plans since now c cursor fault sound
-    (inl (is, stalled)) =
+    → StandsFor Own own_reset state_of → (from to : Point State) (c : Command)
+    (fault : LineFault) → IsCardState (state_of from.standing) → IsCaused Own from c to fault → ⊥
+never_caused Own own_reset state_of stands from to c fault sound (inl (is, stalled)) =
     let ds = flat_map dialogues_of stalled.units in
-    never_stalls c stalled.units (state_of first) (state_of standing) stalled.stall
-    (own_goes Own own_reset state_of stands first standing ds plans stalled.gone.runs
-    stalled.gone.cuts)
-never_caused Own own_reset state_of stands first standing plans since now c cursor fault sound
-    (inr (is, over)) =
-    never_overflows Own own_reset state_of stands first standing plans since now c cursor sound over
+    never_stalls c stalled.units (state_of from.standing) (state_of to.standing) stalled.stall
+    (own_goes Own own_reset state_of stands from.standing to.standing ds from.plans
+    stalled.gone.runs stalled.gone.cuts)
+never_caused Own own_reset state_of stands from to c fault sound (inr (is, over)) =
+    never_overflows Own own_reset state_of stands from to c sound over
 
 -- it stays a sound one
 pub stays_sound : {State : Type 0} (Own : State → ℕ → Tpdu → State → Type 0)
     (own_reset : State → State) (state_of : State → CardState)
-    → StandsFor Own own_reset state_of → (first standing : State) (plans : List Course)
-    (since now : Hearing) (ds : List Dialogue) (cursor : Cursor) → IsCardState (state_of first)
-    → HaveGone Own first plans since ds standing cursor now → IsCardState (state_of standing)
-stays_sound Own own_reset state_of stands first standing plans since now ds cursor sound gone =
-    goes_sound (state_of first) (state_of standing) ds sound
-    (own_goes Own own_reset state_of stands first standing ds plans gone.runs gone.cuts)
+    → StandsFor Own own_reset state_of → (from to : Point State) (ds : List Dialogue)
+    → IsCardState (state_of from.standing) → HaveGone Own from ds to
+    → IsCardState (state_of to.standing)
+stays_sound Own own_reset state_of stands from to ds sound gone =
+    goes_sound (state_of from.standing) (state_of to.standing) ds sound
+    (own_goes Own own_reset state_of stands from.standing to.standing ds from.plans gone.runs
+    gone.cuts)
 
 -- ---- one after another
 
 -- Operations that have been carried out: their talk, whose plans have cuts of 1 to 256, is heard.
-pub record HaveCome {State : Type 0} (Does : State → ℕ → Tpdu → State → Type 0) (first : State)
-    (plans : List Course) (since : Hearing) (operations : List Operation) (replies : List Reply)
-    (standing : State) (cursor : Cursor) (now : Hearing) : Type 0 where
+pub record HaveCome {State : Type 0} (Does : State → ℕ → Tpdu → State → Type 0)
+    (from : Point State) (operations : List Operation) (replies : List Reply) (to : Point State)
+    : Type 0 where
   pub line : List Character
-  pub talk : Talk Does first plans operations replies standing cursor.rest line
-  pub cuts : HaveCuts (take (length talk.dialogues) plans)
-  pub hears : Hears since line now
+  pub talk : Talk Does from.standing from.plans operations replies to.standing to.plans line
+  pub cuts : HaveCuts (take (length talk.dialogues) from.plans)
+  pub hears : Hears from.hearing line to.hearing
 
-pub none_come : {State : Type 0} (Does : State → ℕ → Tpdu → State → Type 0) (first : State)
-    (plans : List Course) (since : Hearing) (cursor : Cursor) → cursor.rest ≡ plans
-    → HaveCome Does first plans since [] [] first cursor since
-none_come Does first plans since cursor is = record {
+none_come : {State : Type 0} (Does : State → ℕ → Tpdu → State → Type 0) (at : Point State)
+    → HaveCome Does at [] [] at
+none_come Does at = record {
   line = [];
   talk = record {
     dialogues = [];
@@ -256,53 +251,53 @@ none_come Does first plans since cursor is = record {
     line_is = refl;
     follow = tt;
     runs = refl;
-    left_is = is;
+    left_is = refl;
     dialogues_are = refl;
     are_talks = tt;
   };
   cuts = tt;
-  hears = hears_nothing since;
+  hears = hears_nothing at.hearing;
 }
 
 -- and one more
-pub one_more_comes : {State : Type 0} (Does : State → ℕ → Tpdu → State → Type 0)
-    (first mid last : State) (plans : List Course) (since between now : Hearing)
-    (operations : List Operation) (replies : List Reply) (cursor later : Cursor)
+one_more_comes : {State : Type 0} (Does : State → ℕ → Tpdu → State → Type 0)
+    (from mid to : Point State) (operations : List Operation) (replies : List Reply)
     (o : Operation) (exchanges : List (List UnitOf)) (r : Reply)
-    → HaveCome Does first plans since operations replies mid cursor between
-    → IsTalkOf o exchanges r
-    → HaveGone Does mid cursor.rest between (talk_dialogues exchanges) last later now
-    → HaveCome Does first plans since (operations ++ o ∷ []) (replies ++ r ∷ []) last later now
+    → HaveCome Does from operations replies mid → IsTalkOf o exchanges r
+    → HaveGone Does mid (talk_dialogues exchanges) to
+    → HaveCome Does from (operations ++ o ∷ []) (replies ++ r ∷ []) to
 unfolding talk_more
-one_more_comes Does first mid last plans since between now operations replies cursor later o
-    exchanges r come talk gone =
+one_more_comes Does from mid to operations replies o exchanges r come talk gone =
     let ds = talk_dialogues exchanges in
+    let plans = from.plans in
     let n = length come.talk.dialogues in
     record {
       line = come.line ++ flat_map characters ds;
-      talk = talk_more Does first mid last plans cursor.rest later.rest operations replies
-          come.line (flat_map characters ds) o exchanges r come.talk talk gone.are_dialogues
-          gone.follow gone.runs gone.used refl;
+      talk = talk_more Does from.standing mid.standing to.standing plans mid.plans to.plans
+          operations replies come.line (flat_map characters ds) o exchanges r come.talk talk
+          gone.are_dialogues gone.follow gone.runs gone.used refl;
       cuts = subst (λ k. HaveCuts (take k plans)) (sym (length-append come.talk.dialogues ds))
           (cuts_both n (length ds) plans come.cuts
           (subst (λ p. HaveCuts (take (length ds) p)) come.talk.left_is gone.cuts));
-      hears = hears_more since between now come.line (flat_map characters ds) come.hears gone.hears;
+      hears = hears_more from.hearing mid.hearing to.hearing come.line (flat_map characters ds)
+          come.hears gone.hears;
     }
 
 -- their answers are those of the card that answers each in one step
-pub have_answers : {State : Type 0} (Own : State → ℕ → Tpdu → State → Type 0)
+have_answers : {State : Type 0} (Own : State → ℕ → Tpdu → State → Type 0)
     (own_reset : State → State) (state_of : State → CardState)
-    → StandsFor Own own_reset state_of → (first standing : State) (old new : CardState)
-    → state_of first ≡ old → state_of standing ≡ new → (plans : List Course)
-    (since now : Hearing) (operations : List Operation) (replies : List Reply) (cursor : Cursor)
-    → IsCardState old → is_idle old.pending ≡ true
-    → HaveCome Own first plans since operations replies standing cursor now
+    → StandsFor Own own_reset state_of → (from to : Point State) (old new : CardState)
+    → state_of from.standing ≡ old → state_of to.standing ≡ new
+    → (operations : List Operation) (replies : List Reply) → IsCardState old
+    → is_idle old.pending ≡ true → HaveCome Own from operations replies to
     → AnswersAll old operations replies new × (is_idle new.pending ≡ true) × IsCardState new
-have_answers Own own_reset state_of stands first standing old new was is plans since now
-    operations replies cursor sound idle come =
-    own_talk_answers Own own_reset state_of stands first standing old new was is
-    (take (length come.talk.dialogues) plans) [] operations replies come.line sound idle come.cuts
-    (talk_used Own first standing plans cursor.rest operations replies come.line come.talk)
+have_answers Own own_reset state_of stands from to old new was is operations replies sound idle
+    come =
+    own_talk_answers Own own_reset state_of stands from.standing to.standing old new was is
+    (take (length come.talk.dialogues) from.plans) [] operations replies come.line sound idle
+    come.cuts
+    (talk_used Own from.standing to.standing from.plans to.plans operations replies come.line
+    come.talk)
 
 -- ---- the commands of an operation
 
@@ -331,21 +326,6 @@ pub agreed_select : (R S : ℕ → Type 0) → KeepsTo R S → (aid : List ℕ) 
     → IsAgreed R S (select_command aid)
 agreed_select R S keeps aid is = agreed_select_by R S keeps aid is.0
 
-pub agreed_get : (R S : ℕ → Type 0) → KeepsTo R S → (p1 p2 : ℕ)
-    → IsAgreed R S (get_command p1 p2)
-agreed_get R S keeps p1 p2 = (
-  λ takes. elim ((keeps.receives 0xCA).0 takes) [
-    | inl e ↦ absurd (omega (arith, e))
-    | inr e ↦ absurd
-        (omega (arith, e))
-  ],
-  λ takes. elim ((keeps.receives 0xC0).0 takes) [
-    | inl e ↦ absurd (omega (arith, e))
-    | inr e ↦ absurd
-        (omega (arith, e))
-  ],
-)
-
 no_data_from_a_put : (R S : ℕ → Type 0) → KeepsTo R S → S 0xDA → ⊥
 no_data_from_a_put R S keeps sends =
     elim ((keeps.sends 0xDA).0 sends) [
@@ -370,53 +350,43 @@ agreed_pieces R S keeps h is (piece ∷ next ∷ others) = (
 )
 
 -- The exchange of a command is over, and those of the commands before it, each answered 9000.
-pub record HaveBeen {State : Type 0} (Does : State → ℕ → Tpdu → State → Type 0) (first : State)
-    (plans : List Course) (since : Hearing) (commands left : List Command) (ex : ExchangeOf)
-    (status : StatusWord) (standing : State) (cursor : Cursor) (now : Hearing) : Type 0 where
+pub record HaveBeen {State : Type 0} (Does : State → ℕ → Tpdu → State → Type 0)
+    (from : Point State) (commands left : List Command) (ex : ExchangeOf) (status : StatusWord)
+    (to : Point State) : Type 0 where
   pub before : List (List UnitOf)
   pub current : Command
   pub units : List UnitOf
   pub taken : AreTakenUpTo commands before (current ∷ left)
   pub over : IsOver current ex units status
-  pub gone : HaveGone Does first plans since (talk_dialogues (before ++ units ∷ [])) standing
-      cursor now
+  pub gone : HaveGone Does from (talk_dialogues (before ++ units ∷ [])) to
 
-gone_as : {State : Type 0} (Does : State → ℕ → Tpdu → State → Type 0) (first : State)
-    (plans : List Course) (since : Hearing) (ds es : List Dialogue) (standing : State)
-    (cursor : Cursor) (now : Hearing) → ds ≡ es
-    → HaveGone Does first plans since ds standing cursor now
-    → HaveGone Does first plans since es standing cursor now
-gone_as Does first plans since ds es standing cursor now is gone =
-    subst (λ xs. HaveGone Does first plans since xs standing cursor now) is gone
+gone_as : {State : Type 0} (Does : State → ℕ → Tpdu → State → Type 0) (from to : Point State)
+    (ds es : List Dialogue) → ds ≡ es → HaveGone Does from ds to → HaveGone Does from es to
+gone_as Does from to ds es is gone = subst (λ xs. HaveGone Does from xs to) is gone
 
-pub first_has_been : {State : Type 0} (Does : State → ℕ → Tpdu → State → Type 0) (first : State)
-    (plans : List Course) (since : Hearing) (c : Command) (left : List Command)
-    (ex : ExchangeOf) (units : List UnitOf) (status : StatusWord) (standing : State)
-    (cursor : Cursor) (now : Hearing) → IsOver c ex units status
-    → HaveGone Does first plans since (flat_map dialogues_of units) standing cursor now
-    → HaveBeen Does first plans since (c ∷ left) left ex status standing cursor now
-first_has_been Does first plans since c left ex units status standing cursor now over gone =
+pub first_has_been : {State : Type 0} (Does : State → ℕ → Tpdu → State → Type 0)
+    (from to : Point State) (c : Command) (left : List Command) (ex : ExchangeOf)
+    (units : List UnitOf) (status : StatusWord) → IsOver c ex units status
+    → HaveGone Does from (flat_map dialogues_of units) to
+    → HaveBeen Does from (c ∷ left) left ex status to
+first_has_been Does from to c left ex units status over gone =
     record {
       before = [];
       current = c;
       units = units;
       taken = refl;
       over = over;
-      gone = gone_as Does first plans since (flat_map dialogues_of units)
-          (talk_dialogues ([] ++ units ∷ [])) standing cursor now
-          (sym (one_more_exchange [] units)) gone;
+      gone = gone_as Does from to (flat_map dialogues_of units)
+          (talk_dialogues ([] ++ units ∷ [])) (sym (one_more_exchange [] units)) gone;
     }
 
 pub next_has_been : {State : Type 0} (Does : State → ℕ → Tpdu → State → Type 0)
-    (first mid last : State) (plans : List Course) (since between now : Hearing)
-    (commands left : List Command) (c : Command) (ex after : ExchangeOf)
-    (units : List UnitOf) (status next : StatusWord) (cursor later : Cursor)
-    → HaveBeen Does first plans since commands (c ∷ left) ex status mid cursor between
-    → status ≡ ok → IsOver c after units next
-    → HaveGone Does mid cursor.rest between (flat_map dialogues_of units) last later now
-    → HaveBeen Does first plans since commands left after next last later now
-next_has_been Does first mid last plans since between now commands left c ex after units status
-    next cursor later been is over gone =
+    (from mid to : Point State) (commands left : List Command) (c : Command)
+    (ex after : ExchangeOf) (units : List UnitOf) (status next : StatusWord)
+    → HaveBeen Does from commands (c ∷ left) ex status mid → status ≡ ok
+    → IsOver c after units next → HaveGone Does mid (flat_map dialogues_of units) to
+    → HaveBeen Does from commands left after next to
+next_has_been Does from mid to commands left c ex after units status next been is over gone =
     let before = been.before ++ been.units ∷ [] in
     record {
       before = before;
@@ -426,24 +396,21 @@ next_has_been Does first mid last plans since between now commands left c ex aft
           been.taken
           (subst (λ s. Gathers been.current been.units ex.gather.bytes s) is been.over.gathers);
       over = over;
-      gone = gone_as Does first plans since (talk_dialogues before ++ flat_map dialogues_of units)
-          (talk_dialogues (before ++ units ∷ [])) last later now
-          (sym (one_more_exchange before units))
-          (gone_both Does first mid last plans since between now (talk_dialogues before)
-          (flat_map dialogues_of units) cursor later been.gone gone);
+      gone = gone_as Does from to (talk_dialogues before ++ flat_map dialogues_of units)
+          (talk_dialogues (before ++ units ∷ [])) (sym (one_more_exchange before units))
+          (gone_both Does from mid to (talk_dialogues before) (flat_map dialogues_of units)
+          been.gone gone);
     }
 
 -- none follows: these are the exchanges of the commands, with this answer
-pub all_have_been : {State : Type 0} (Does : State → ℕ → Tpdu → State → Type 0) (first : State)
-    (plans : List Course) (since : Hearing) (commands left : List Command) (ex : ExchangeOf)
-    (status : StatusWord) (standing : State) (cursor : Cursor) (now : Hearing) (answer : Reply)
-    → HaveBeen Does first plans since commands left ex status standing cursor now
+pub all_have_been : {State : Type 0} (Does : State → ℕ → Tpdu → State → Type 0)
+    (from to : Point State) (commands left : List Command) (ex : ExchangeOf)
+    (status : StatusWord) (answer : Reply) → HaveBeen Does from commands left ex status to
     → (left ≡ []) ⊎ (status ≢ ok)
     → answer ≡ record { status = status; content = ex.gather.bytes }
     → (exchanges : List (List UnitOf)) × AreExchangesOf commands exchanges answer
-    × HaveGone Does first plans since (talk_dialogues exchanges) standing cursor now
-all_have_been Does first plans since commands left ex status standing cursor now answer been
-    ends is =
+    × HaveGone Does from (talk_dialogues exchanges) to
+all_have_been Does from to commands left ex status answer been ends is =
     let whole : Reply = record { status = status; content = ex.gather.bytes } in
     let exchanges = been.before ++ been.units ∷ [] in (
       exchanges,
@@ -508,13 +475,10 @@ pub sound_at : {C State : Type 0} (state_of : State → CardState) (state : C �
 sound_at state_of state standing means card seen same sound =
     subst IsCardState (sym (means card ∙ ap state same)) sound
 
-pub gone_from : {State : Type 0} (Does : State → ℕ → Tpdu → State → Type 0) (first was : State)
-    (plans : List Course) (since : Hearing) (ds : List Dialogue) (standing : State)
-    (cursor : Cursor) (now : Hearing) → first ≡ was
-    → HaveGone Does first plans since ds standing cursor now
-    → HaveGone Does was plans since ds standing cursor now
-gone_from Does first was plans since ds standing cursor now is gone =
-    subst (λ s. HaveGone Does s plans since ds standing cursor now) is gone
+pub gone_from : {State : Type 0} (Does : State → ℕ → Tpdu → State → Type 0)
+    (from was to : Point State) (ds : List Dialogue) → from ≡ was → HaveGone Does from ds to
+    → HaveGone Does was ds to
+gone_from Does from was to ds is gone = subst (λ p. HaveGone Does p ds to) is gone
 
 -- the answer of an exchange that is over
 pub told : (c : Command) (ex : ExchangeOf) (units : List UnitOf) (status : StatusWord)
@@ -525,23 +489,12 @@ pub told : (c : Command) (ex : ExchangeOf) (units : List UnitOf) (status : Statu
 told c ex units status given answer over done is = some_is given answer _ is
     (done status (over_turn c ex units status over))
 
--- it is what its units gather
-pub gathered_is : (c : Command) (ex : ExchangeOf) (units : List UnitOf) (status : StatusWord)
-    (answer : Reply) → IsOver c ex units status
-    → answer ≡ record { status = status; content = ex.gather.bytes }
-    → Gathers c units answer.content answer.status
-gathered_is c ex units status answer over is =
-    subst (λ (r : Reply). Gathers c units r.content r.status) (sym is) over.gathers
-
-pub as_left : {State : Type 0} (Does : State → ℕ → Tpdu → State → Type 0) (first : State)
-    (plans : List Course) (since : Hearing) (commands left others : List Command)
-    (ex : ExchangeOf) (status : StatusWord) (standing : State) (cursor : Cursor) (now : Hearing)
-    → left ≡ others
-    → HaveBeen Does first plans since commands left ex status standing cursor now
-    → HaveBeen Does first plans since commands others ex status standing cursor now
-as_left Does first plans since commands left others ex status standing cursor now is been =
-    subst (λ cs. HaveBeen Does first plans since commands cs ex status standing cursor now) is
-    been
+pub as_left : {State : Type 0} (Does : State → ℕ → Tpdu → State → Type 0)
+    (from to : Point State) (commands left others : List Command) (ex : ExchangeOf)
+    (status : StatusWord) → left ≡ others → HaveBeen Does from commands left ex status to
+    → HaveBeen Does from commands others ex status to
+as_left Does from to commands left others ex status is been =
+    subst (λ cs. HaveBeen Does from commands cs ex status to) is been
 
 pub never_both : (b : Bool) → b ≡ true → b ≡ false → ⊥
 never_both true one two = absurd (cc)
@@ -554,57 +507,50 @@ pub keeps_to : (R S : ℕ → Type 0) → ((ins : ℕ) → R ins ↔ ((ins ≡ 0
 keeps_to R S receives sends = record { receives = receives; sends = sends }
 
 -- a list of commands with some exchanges that are gone through
-abbrev pub Answered : {State : Type 0} → (State → ℕ → Tpdu → State → Type 0) → State
-    → List Course → Hearing → State → Cursor → Hearing → List Command → Reply → Type 0
-Answered Does first plans since standing cursor now commands answer =
+abbrev pub Answered : {State : Type 0} → (State → ℕ → Tpdu → State → Type 0) → Point State
+    → Point State → List Command → Reply → Type 0
+Answered Does from to commands answer =
     (exchanges : List (List UnitOf)) × AreExchangesOf commands exchanges answer
-    × HaveGone Does first plans since (talk_dialogues exchanges) standing cursor now
+    × HaveGone Does from (talk_dialogues exchanges) to
 
 -- the exchange of one command
-abbrev pub Sent : {State : Type 0} → (State → ℕ → Tpdu → State → Type 0) → State
-    → List Course → Hearing → State → Cursor → Hearing → Command → Reply → Type 0
-Sent Does first plans since standing cursor now c answer =
+abbrev pub Sent : {State : Type 0} → (State → ℕ → Tpdu → State → Type 0) → Point State
+    → Point State → Command → Reply → Type 0
+Sent Does from to c answer =
     (units : List UnitOf) × Gathers c units answer.content answer.status
-    × HaveGone Does first plans since (flat_map dialogues_of units) standing cursor now
+    × HaveGone Does from (flat_map dialogues_of units) to
 
-pub sent_alone : {State E : Type 0} (Does : State → ℕ → Tpdu → State → Type 0) (first : State)
-    (plans : List Course) (since : Hearing) (standing : State) (cursor : Cursor) (now : Hearing)
-    (c : Command) (r : Result Reply E)
-    → IfOk r (Sent Does first plans since standing cursor now c)
-    → IfOk r (Answered Does first plans since standing cursor now (c ∷ []))
-sent_alone Does first plans since standing cursor now c (Ok answer) (units, gathers, gone) = (
+pub sent_alone : {State E : Type 0} (Does : State → ℕ → Tpdu → State → Type 0)
+    (from to : Point State) (c : Command) (r : Result Reply E)
+    → IfOk r (Sent Does from to c) → IfOk r (Answered Does from to (c ∷ []))
+sent_alone Does from to c (Ok answer) (units, gathers, gone) = (
   units ∷ [],
   (gathers, inl refl),
-  gone_as Does first plans since (flat_map dialogues_of units) (talk_dialogues (units ∷ []))
-      standing cursor now (sym (one_more_exchange [] units)) gone,
+  gone_as Does from to (flat_map dialogues_of units) (talk_dialogues (units ∷ []))
+      (sym (one_more_exchange [] units)) gone,
 )
-sent_alone Does first plans since standing cursor now c (Err e) sent = tt
+sent_alone Does from to c (Err e) sent = tt
 
 -- or of an operation
-abbrev pub Talked : {State : Type 0} → (State → ℕ → Tpdu → State → Type 0) → State
-    → List Course → Hearing → State → Cursor → Hearing → Operation → Reply → Type 0
-Talked Does first plans since standing cursor now operation answer =
+abbrev pub Talked : {State : Type 0} → (State → ℕ → Tpdu → State → Type 0) → Point State
+    → Point State → Operation → Reply → Type 0
+Talked Does from to operation answer =
     (exchanges : List (List UnitOf)) × IsTalkOf operation exchanges answer
-    × HaveGone Does first plans since (talk_dialogues exchanges) standing cursor now
+    × HaveGone Does from (talk_dialogues exchanges) to
 
 -- the exchanges of its commands are a talk of the operation
-pub talked : {State E : Type 0} (Does : State → ℕ → Tpdu → State → Type 0) (first : State)
-    (plans : List Course) (since : Hearing) (standing : State) (cursor : Cursor) (now : Hearing)
-    (commands : List Command) (operation : Operation) (r : Result Reply E)
-    → AreCommandsOf operation commands
-    → IfOk r (Answered Does first plans since standing cursor now commands)
-    → IfOk r (Talked Does first plans since standing cursor now operation)
-talked Does first plans since standing cursor now commands operation (Ok answer) are gone =
+pub talked : {State E : Type 0} (Does : State → ℕ → Tpdu → State → Type 0)
+    (from to : Point State) (commands : List Command) (operation : Operation)
+    (r : Result Reply E) → AreCommandsOf operation commands
+    → IfOk r (Answered Does from to commands) → IfOk r (Talked Does from to operation)
+talked Does from to commands operation (Ok answer) are gone =
     (gone.0, (commands, are, gone.1), gone.2)
-talked Does first plans since standing cursor now commands operation (Err e) are gone = tt
+talked Does from to commands operation (Err e) are gone = tt
 
-pub talked_as : {State E : Type 0} (Does : State → ℕ → Tpdu → State → Type 0) (first : State)
-    (plans : List Course) (since : Hearing) (standing : State) (cursor : Cursor) (now : Hearing)
-    (a b : Operation) (r : Result Reply E) → a ≡ b
-    → IfOk r (Talked Does first plans since standing cursor now a)
-    → IfOk r (Talked Does first plans since standing cursor now b)
-talked_as Does first plans since standing cursor now a b r is talk =
-    subst (λ o. IfOk r (Talked Does first plans since standing cursor now o)) is talk
+pub talked_as : {State E : Type 0} (Does : State → ℕ → Tpdu → State → Type 0)
+    (from to : Point State) (a b : Operation) (r : Result Reply E) → a ≡ b
+    → IfOk r (Talked Does from to a) → IfOk r (Talked Does from to b)
+talked_as Does from to a b r is talk = subst (λ o. IfOk r (Talked Does from to o)) is talk
 
 no_pieces : (value : List ℕ) (pieces : List (List ℕ)) → IsPieces value pieces → pieces ≡ [] → ⊥
 no_pieces [] pieces is e = let f : [] ≡ [] ∷ [] = sym e ∙ is in absurd (cc)
@@ -625,9 +571,8 @@ some_command h value (p ∷ q ∷ others) left is same none =
 -- The first of the operations are carried out, so many as there are new answers: their talk is
 -- heard.
 pub record HaveAnswers {State A : Type 0} (Does : State → ℕ → Tpdu → State → Type 0)
-    (first : State) (plans : List Course) (since : Hearing) (ops : List (Op A))
-    (before : List Reply) (n : ℕ) (given : List Reply) (standing : State) (cursor : Cursor)
-    (now : Hearing) : Type 0 where
+    (from : Point State) (ops : List (Op A)) (before : List Reply) (n : ℕ) (given : List Reply)
+    (to : Point State) : Type 0 where
   pub done : List Operation
   pub replies : List Reply
   pub given_is : given ≡ before ++ replies
@@ -635,13 +580,12 @@ pub record HaveAnswers {State A : Type 0} (Does : State → ℕ → Tpdu → Sta
   pub many : length replies ≡ length done
   pub many_done : length done ≡ n
   pub few : n ≤ length ops
-  pub come : HaveCome Does first plans since done replies standing cursor now
+  pub come : HaveCome Does from done replies to
 
 pub none_answered : {State A : Type 0} (Does : State → ℕ → Tpdu → State → Type 0)
-    (first : State) (plans : List Course) (since : Hearing) (ops : List (Op A))
-    (before : List Reply) (cursor : Cursor) → cursor.rest ≡ plans
-    → HaveAnswers Does first plans since ops before 0 before first cursor since
-none_answered Does first plans since ops before cursor is = record {
+    (at : Point State) (ops : List (Op A)) (before : List Reply)
+    → HaveAnswers Does at ops before 0 before at
+none_answered Does at ops before = record {
   done = [];
   replies = [];
   given_is = sym (append-nil before);
@@ -649,39 +593,35 @@ none_answered Does first plans since ops before cursor is = record {
   many = refl;
   many_done = refl;
   few = omega arith;
-  come = none_come Does first plans since cursor is;
+  come = none_come Does at;
 }
 
 -- it is so where nothing has changed
 pub still_answered : {State A : Type 0} (Does : State → ℕ → Tpdu → State → Type 0)
-    (first : State) (plans : List Course) (since : Hearing) (ops : List (Op A))
-    (before : List Reply) (n : ℕ) (given given' : List Reply) (standing standing' : State)
-    (cursor cursor' : Cursor) (now now' : Hearing)
-    → HaveAnswers Does first plans since ops before n given standing cursor now
-    → given' ≡ given → standing' ≡ standing → cursor' ≡ cursor → now' ≡ now
-    → HaveAnswers Does first plans since ops before n given' standing' cursor' now'
-still_answered Does first plans since ops before n given given' standing standing' cursor cursor'
-    now now' have same_given same_standing same_cursor same_now =
-    subst (λ x. HaveAnswers Does first plans since ops before n x standing' cursor' now')
-    (sym same_given)
-    (subst (λ x. HaveAnswers Does first plans since ops before n given x cursor' now')
-    (sym same_standing)
-    (subst (λ x. HaveAnswers Does first plans since ops before n given standing x now')
-    (sym same_cursor)
-    (subst (λ x. HaveAnswers Does first plans since ops before n given standing cursor x)
-    (sym same_now) have)))
+    (from : Point State) (ops : List (Op A)) (before : List Reply) (n : ℕ)
+    (given given' : List Reply) (to to' : Point State)
+    → HaveAnswers Does from ops before n given to → given' ≡ given → to' ≡ to
+    → HaveAnswers Does from ops before n given' to'
+still_answered Does from ops before n given given' to to' have same_given same_point =
+    subst (λ x. HaveAnswers Does from ops before n x to') (sym same_given)
+    (subst (λ p. HaveAnswers Does from ops before n given p) (sym same_point) have)
+
+pub same_point : {State : Type 0} (standing standing' : State) (cursor cursor' : Cursor)
+    (now now' : Hearing) → standing' ≡ standing → cursor' ≡ cursor → now' ≡ now
+    → point standing' cursor'.rest now' ≡ point standing cursor.rest now
+same_point standing standing' cursor cursor' now now' same_standing same_cursor same_now =
+    ap (λ s. point s cursor'.rest now') same_standing
+    ∙ ap (λ (k : Cursor). point standing k.rest now') same_cursor
+    ∙ ap (λ h. point standing cursor.rest h) same_now
 
 -- one more is carried out
 pub one_more_answered : {State A : Type 0} (Does : State → ℕ → Tpdu → State → Type 0)
-    (first mid last : State) (plans : List Course) (since between now : Hearing)
-    (ops : List (Op A)) (before : List Reply) (n : ℕ) (given given' : List Reply)
-    (cursor later : Cursor) (op : Op A) (r : Reply)
-    → HaveAnswers Does first plans since ops before n given mid cursor between
-    → n < length ops → drop n ops ≡ op ∷ drop (n + 1) ops → given' ≡ given ++ r ∷ []
-    → Talked Does mid cursor.rest between last later now (operation_of op) r
-    → HaveAnswers Does first plans since ops before (n + 1) given' last later now
-one_more_answered Does first mid last plans since between now ops before n given given' cursor
-    later op r have lt next given_is talked =
+    (from mid to : Point State) (ops : List (Op A)) (before : List Reply) (n : ℕ)
+    (given given' : List Reply) (op : Op A) (r : Reply)
+    → HaveAnswers Does from ops before n given mid → n < length ops
+    → drop n ops ≡ op ∷ drop (n + 1) ops → given' ≡ given ++ r ∷ []
+    → Talked Does mid to (operation_of op) r → HaveAnswers Does from ops before (n + 1) given' to
+one_more_answered Does from mid to ops before n given given' op r have lt next given_is talked =
     let o = operation_of op in
     let rest = map operation_of (drop (n + 1) ops) in
     record {
@@ -695,46 +635,33 @@ one_more_answered Does first mid last plans since between now ops before n given
           ∙ sym (length-append have.done (o ∷ []));
       many_done = length-append have.done (o ∷ []) ∙ ap (λ k. k + 1) have.many_done;
       few = omega (arith, lt);
-      come = one_more_comes Does first mid last plans since between now have.done have.replies
-          cursor later o talked.0 r have.come talked.1 talked.2;
+      come = one_more_comes Does from mid to have.done have.replies o talked.0 r have.come
+          talked.1 talked.2;
     }
 
-pub has_given : {State A : Type 0} (Does : State → ℕ → Tpdu → State → Type 0) (first : State)
-    (plans : List Course) (since : Hearing) (ops : List (Op A)) (before : List Reply) (n : ℕ)
-    (given : List Reply) (standing : State) (cursor : Cursor) (now : Hearing)
-    → HaveAnswers Does first plans since ops before n given standing cursor now
-    → (given ≡ before ++ new_answers before given) × (length (new_answers before given) ≡ n)
-has_given Does first plans since ops before n given standing cursor now have =
-    let new = new_are before have.replies given have.given_is in (
-      have.given_is ∙ ap (λ l. before ++ l) (sym new),
-      ap length new ∙ have.many ∙ have.many_done,
-    )
-
-carried_here : {State A : Type 0} (Does : State → ℕ → Tpdu → State → Type 0) (first : State)
-    (plans : List Course) (since : Hearing) (ops : List (Op A)) (before : List Reply) (n : ℕ)
-    (given : List Reply) (standing : State) (cursor : Cursor) (now : Hearing)
-    (have : HaveAnswers Does first plans since ops before n given standing cursor now)
+carried_here : {State A : Type 0} (Does : State → ℕ → Tpdu → State → Type 0)
+    (from to : Point State) (ops : List (Op A)) (before : List Reply) (n : ℕ)
+    (given : List Reply) (have : HaveAnswers Does from ops before n given to)
     → carried_out ops (new_answers before given) ≡ have.done
-carried_here Does first plans since ops before n given standing cursor now have =
+carried_here Does from to ops before n given have =
     ap (λ l. carried_out ops l) (new_are before have.replies given have.given_is)
     ∙ carried_are ops have.done (map operation_of (drop n ops)) have.replies have.ops_are
     have.many
 
 pub has_one_step : {State A : Type 0} (Own : State → ℕ → Tpdu → State → Type 0)
     (own_reset : State → State) (state_of : State → CardState)
-    → StandsFor Own own_reset state_of → (first standing : State) (old new : CardState)
-    → state_of first ≡ old → state_of standing ≡ new → (plans : List Course)
-    (since : Hearing) (ops : List (Op A)) (before : List Reply) (n : ℕ) (given : List Reply)
-    (cursor : Cursor) (now : Hearing) → IsCardState old → is_idle old.pending ≡ true
-    → HaveAnswers Own first plans since ops before n given standing cursor now
+    → StandsFor Own own_reset state_of → (from to : Point State) (old new : CardState)
+    → state_of from.standing ≡ old → state_of to.standing ≡ new → (ops : List (Op A))
+    (before : List Reply) (n : ℕ) (given : List Reply) → IsCardState old
+    → is_idle old.pending ≡ true → HaveAnswers Own from ops before n given to
     → AnswersAll old (carried_out ops (new_answers before given)) (new_answers before given) new
     × (is_idle new.pending ≡ true) × IsCardState new
-has_one_step Own own_reset state_of stands first standing old new was is plans since ops before n
-    given cursor now sound idle have =
+has_one_step Own own_reset state_of stands from to old new was is ops before n given sound idle
+    have =
     let (answers, is_idle_then, is_sound) =
-    have_answers Own own_reset state_of stands first standing old new was is plans since now
-    have.done have.replies cursor sound idle have.come in
-    let same = carried_here Own first plans since ops before n given standing cursor now have in
+    have_answers Own own_reset state_of stands from to old new was is have.done have.replies
+    sound idle have.come in
+    let same = carried_here Own from to ops before n given have in
     let replies = new_are before have.replies given have.given_is in (
       subst (λ os. AnswersAll old os (new_answers before given) new) (sym same)
           (subst (λ rs. AnswersAll old have.done rs new) (sym replies) answers),
@@ -742,21 +669,20 @@ has_one_step Own own_reset state_of stands first standing old new was is plans s
       is_sound,
     )
 
-pub has_talk : {State A : Type 0} (Does : State → ℕ → Tpdu → State → Type 0) (first : State)
-    (plans : List Course) (since : Hearing) (ops : List (Op A)) (before : List Reply) (n : ℕ)
-    (given : List Reply) (standing : State) (cursor : Cursor) (now : Hearing)
-    → HaveAnswers Does first plans since ops before n given standing cursor now
+pub has_talk : {State A : Type 0} (Does : State → ℕ → Tpdu → State → Type 0)
+    (from to : Point State) (ops : List (Op A)) (before : List Reply) (n : ℕ)
+    (given : List Reply) → HaveAnswers Does from ops before n given to
     → (line : List Character)
-    × Talk Does first plans (carried_out ops (new_answers before given))
-    (new_answers before given) standing cursor.rest line × Hears since line now
-has_talk Does first plans since ops before n given standing cursor now have =
-    let same = carried_here Does first plans since ops before n given standing cursor now have in
+    × Talk Does from.standing from.plans (carried_out ops (new_answers before given))
+    (new_answers before given) to.standing to.plans line × Hears from.hearing line to.hearing
+has_talk Does from to ops before n given have =
+    let same = carried_here Does from to ops before n given have in
     let replies = new_are before have.replies given have.given_is in (
       have.come.line,
-      subst (λ os. Talk Does first plans os (new_answers before given) standing cursor.rest
-          have.come.line) (sym same)
-          (subst (λ rs. Talk Does first plans have.done rs standing cursor.rest have.come.line)
-          (sym replies) have.come.talk),
+      subst (λ os. Talk Does from.standing from.plans os (new_answers before given) to.standing
+          to.plans have.come.line) (sym same)
+          (subst (λ rs. Talk Does from.standing from.plans have.done rs to.standing to.plans
+          have.come.line) (sym replies) have.come.talk),
       have.come.hears,
     )
 

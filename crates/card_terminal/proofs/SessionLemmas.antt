@@ -1,5 +1,5 @@
 -- A character that passes from one end to the other takes both to the same front.
-use Rattle.std.proofs.Common.{◌≡◌, ℕ, ◌+◌, ◌-◌, ◌*◌, ◌<◌, ◌≤◌, List, [], ◌∷◌, ◌++◌, length, refl, sym, subst, ◌∙◌, ap, arith, inl, inr, ◌⊎◌, lit<, true, false, Bool, Option, Some, None, Result, Ok, Err, length-append, if◌then◌else◌}
+use Rattle.std.proofs.Common.{◌≡◌, ℕ, ◌+◌, ◌-◌, ◌*◌, ◌<◌, ◌≤◌, List, [], ◌∷◌, ◌++◌, length, drop, refl, sym, subst, ◌∙◌, ap, arith, inl, inr, ◌⊎◌, lit<, true, false, Bool, Option, Some, None, Result, Ok, Err, length-append, if◌then◌else◌}
 use Rattle.std.specs.Result.{OnOk}
 use Rattle.std.specs.List.{flat_map}
 use Rattle.apdu_core.specs.declared.header.Header.{Header}
@@ -37,8 +37,8 @@ use Rattle.card_terminal.specs.Gathered.{wanted_by, less, correction_of, after_d
 use Rattle.object_card.specs.OneStep.{Reply}
 use Rattle.card_terminal.specs.Agreed.{IsAgreed}
 use Rattle.card_terminal.specs.ExchangeSide.{ExchangeOf, HostAsks, HostSends, HostOpensBy, IsOpenedAs, UnderWay, IsOver, IsBounded, Stall, Continues, so_far, ended_with, exchange_turn, response_limit}
-use Rattle.card_terminal.specs.Conversing.{next_plan, HaveGone, HasStalled, HasOverflown, IsCaused, here, steps_in, is_done, most_tpdus}
-use Rattle.card_terminal.specs.Line.{Line, Start, line, Begins, left, IsAtPlan, StandsUnder, IsGoing, IsDone, IsOneOf, HasPassed}
+use Rattle.card_terminal.specs.Conversing.{Point, point, next_plan, HaveGone, HasStalled, HasOverflown, IsCaused, here, steps_in, is_done, most_tpdus}
+use Rattle.card_terminal.specs.Line.{Line, Start, line, point_of, Begins, left, IsAtPlan, StandsUnder, IsGoing, IsDone, IsOneOf, HasPassed}
 use Rattle.card_terminal.proofs.GoneLemmas.{none_gone, one_gone, gone_both}
 use Rattle.card_terminal.proofs.UnitLemmas.{unit_ends, unit_goes_on, unit_dialogues}
 
@@ -304,7 +304,8 @@ hears_on : (since now later : Hearing) (came more : List Character) (ch : Charac
     → Hears since came now → Hears now (ch ∷ []) later → more ≡ came ++ ch ∷ []
     → Hears since more later
 hears_on since now later came more ch before this is =
-    subst (λ cs. Hears since cs later) (sym is) (hears_more since now later came (ch ∷ []) before this)
+    subst (λ cs. Hears since cs later) (sym is)
+    (hears_more since now later came (ch ∷ []) before this)
 
 never_under : (R S : ℕ → Type 0) (c : Command) (ex : ExchangeOf) (units : List UnitOf)
     (tried : Option Dialogue) (front : Front) → IsAgreed R S c → UnderWay c ex units tried front
@@ -379,7 +380,10 @@ plan_stays stage new before cursor byte listening is at_plan =
     let plan = next_plan before.rest in
     let way : under_way new plan ≡ under_way stage plan =
     ap (λ s. under_way s plan) is ∙ taken_stays stage plan byte listening in
-    elim at_plan [ inl none ↦ inl (way ∙ none.0, none.1) | inr has ↦ inr (way ∙ has.0, has.1, has.2) ]
+    elim at_plan [
+      | inl none ↦ inl (way ∙ none.0, none.1)
+      | inr has ↦ inr (way ∙ has.0, has.1, has.2)
+    ]
 
 pub passed : {C : Type 0} (card : Ghosts C) (s : Start card.State) (l new : Line C)
     (ch : Character) (front : Front) (under : IsGoing card s l) → GoesOn under.front ch front
@@ -388,8 +392,8 @@ pub passed : {C : Type 0} (card : Ghosts C) (s : Start card.State) (l new : Line
     → card.standing new.end.card ≡ card.standing l.end.card
     → Hears l.hearing (ch ∷ []) new.hearing → IsGoing card s new
 passed card s l new ch front under goes terminal stands same hears =
-    let Gone : card.State → Type 0 = λ x. HaveGone card.Does s.first s.plans s.since
-    (so_far under.units under.tried) x under.before under.between in
+    let Gone : card.State → Type 0 = λ x. HaveGone card.Does s.from
+    (so_far under.units under.tried) (point x under.before.rest under.between) in
     record {
       agreed = under.agreed;
       units = under.units;
@@ -412,14 +416,13 @@ pub gone_more : {C : Type 0} (card : Ghosts C) (s : Start card.State) (l new : L
     → card.Does (card.standing l.end.card) (next_plan under.before.rest).cut (tpdu_of d)
     (card.standing new.end.card) → HasPlan l.end.stage under.before l.cursor new.cursor
     → Hears l.hearing ((Card, byte) ∷ []) new.hearing
-    → HaveGone card.Does s.first s.plans s.since (so_far under.units under.tried ++ d ∷ [])
-    (card.standing new.end.card) new.cursor new.hearing
+    → HaveGone card.Does s.from (so_far under.units under.tried ++ d ∷ []) (point_of card new)
 gone_more card s l new d byte under ends is follows does has hears =
-    let At : Cursor → Type 0 = λ k. HaveGone card.Does (card.standing l.end.card)
-    under.before.rest under.between (d ∷ []) (card.standing new.end.card) k new.hearing in
-    gone_both card.Does s.first (card.standing l.end.card) (card.standing new.end.card) s.plans
-    s.since under.between new.hearing (so_far under.units under.tried) (d ∷ []) under.before
-    new.cursor under.gone
+    let mid = point (card.standing l.end.card) under.before.rest under.between in
+    let At : Cursor → Type 0 = λ k. HaveGone card.Does mid (d ∷ [])
+    (point (card.standing new.end.card) k.rest new.hearing) in
+    gone_both card.Does s.from mid (point_of card new) (so_far under.units under.tried) (d ∷ [])
+    under.gone
     (subst At (sym has.is)
     (one_gone card.Does (card.standing l.end.card) (card.standing new.end.card)
     under.before.rest under.before.kept under.between new.hearing d is follows has.cut does
@@ -429,8 +432,7 @@ gone_more card s l new d byte under ends is follows does has hears =
 -- these dialogues have gone since then
 abbrev HasGone : {C : Type 0} (card : Ghosts C) → Start card.State → Line C → List Dialogue
     → Type 0
-HasGone card s l ds =
-    HaveGone card.Does s.first s.plans s.since ds (card.standing l.end.card) l.cursor l.hearing
+HasGone card s l ds = HaveGone card.Does s.from ds (point_of card l)
 
 -- the next TPDU begins
 begins_next : {C : Type 0} (card : Ghosts C) (s : Start card.State) (l : Line C)
@@ -460,7 +462,7 @@ pub begins : {C : Type 0} (card : Ghosts C) (command : Command) (l : Line C)
     → IsGoing card (on_line.begun card command l) l
 begins card command l rests (agreed, terminal) =
     begins_next card (on_line.begun card command l) l [] None [] agreed rests terminal refl
-    (none_gone card.Does (card.standing l.end.card) l.cursor l.hearing)
+    (none_gone card.Does (point_of card l))
 
 -- after a dialogue the exchange goes on, or is over
 pub continues : {C : Type 0} (card : Ghosts C) (s : Start card.State) (l : Line C)
@@ -487,8 +489,7 @@ pub has_stalled : {C : Type 0} (card : Ghosts C) (s : Start card.State) (l : Lin
     (units : List UnitOf) (tried : Option Dialogue) (d : Dialogue)
     → HasGone card s l (so_far units tried ++ d ∷ [])
     → Stall s.command (units ++ ended_with tried d ∷ [])
-    → HasStalled card.Does s.first s.plans s.since s.command (card.standing l.end.card) l.cursor
-    l.hearing
+    → HasStalled card.Does s.from s.command (point_of card l)
 has_stalled card s l units tried d gone stall =
     record {
       units = units ++ ended_with tried d ∷ [];
@@ -697,10 +698,16 @@ too_many room limit before one two byte bytes is full more =
 -- a card's end that has begun to answer has taken its plan
 taken_at : (stage : Stage) (before cursor : Cursor)
     → under_way stage (next_plan before.rest) ≡ next_plan before.rest ∷ []
-    → IsAtPlan stage before cursor → cursor ≡ advanced before
+    → IsAtPlan stage before cursor → cursor.rest ≡ drop 1 before.rest
 taken_at stage before cursor has_begun (inl (waits, same)) =
     absurd (no_plan_twice (next_plan before.rest) (sym has_begun ∙ waits))
-taken_at stage before cursor has_begun (inr (has, same, cut)) = same
+taken_at stage before cursor has_begun (inr (has, same, cut)) =
+    ap (λ (k : Cursor). k.rest) same ∙ by before.rest
+  where
+    by : (plans : List Course)
+        → (advanced (record { rest = plans; kept = before.kept })).rest ≡ drop 1 plans
+    by [] = refl
+    by (p ∷ plans) = refl
 
 pub has_overflown : {C : Type 0} (card : Ghosts C) (s : Start card.State) (l new : Line C)
     (front : Front) (byte : ℕ) (fault : LineFault) (under : IsGoing card s l)
@@ -709,15 +716,14 @@ pub has_overflown : {C : Type 0} (card : Ghosts C) (s : Start card.State) (l new
     → (fault_of l.exchange.host l.exchange.gather byte ≡ Some fault)
     ⊎ ((fault ≡ Stalled) × (fault_of l.exchange.host l.exchange.gather byte ≡ None))
     → Hears l.hearing ((Card, byte) ∷ []) new.hearing
-    → HasOverflown card.Does s.first s.plans s.since s.command (card.standing new.end.card)
-    new.cursor new.hearing
+    → HasOverflown card.Does s.from s.command (point_of card new)
 has_overflown card s l new front byte fault under goes stands same is faults hears =
     let ex = l.exchange in
     let full = too_long ex.host ex.gather byte under.front front under.terminal.stands
     (is_too_long ex.host ex.gather byte fault is faults) goes in
     let plan = next_plan under.before.rest in
-    let Gone : card.State → Type 0 = λ x. HaveGone card.Does s.first s.plans s.since
-    (so_far under.units under.tried) x under.before under.between in
+    let Gone : card.State → Type 0 = λ x. HaveGone card.Does s.from
+    (so_far under.units under.tried) (point x under.before.rest under.between) in
     record {
       units = under.units;
       tried = under.tried;
@@ -728,7 +734,7 @@ has_overflown card s l new front byte fault under goes stands same is faults hea
       goes = (byte, goes);
       prepared = card.prepared new.end.card;
       stage = new.end.stage;
-      begun = under.before;
+      plans = under.before.rest;
       between = under.between;
       gone = subst Gone (sym same) under.gone;
       card = stands.0;
@@ -836,25 +842,22 @@ some_is o x y one two = let e : Some x ≡ Some y = sym one ∙ two in cc
 
 -- what a whole exchange has answered
 pub answered : {C : Type 0} (card : Ghosts C) (s : Start card.State) (l : Line C)
-    (was : card.State) (answer : Reply) (over : IsDone card s l) → s.first ≡ was
+    (was : Point card.State) (answer : Reply) (over : IsDone card s l) → s.from ≡ was
     → answer ≡ record { status = over.status; content = l.exchange.gather.bytes }
     → (units : List UnitOf) × Gathers s.command units answer.content answer.status
-    × HaveGone card.Does was s.plans s.since (flat_map dialogues_of units)
-    (card.standing l.end.card) l.cursor l.hearing
+    × HaveGone card.Does was (flat_map dialogues_of units) (point_of card l)
 answered card s l was answer over same is =
     let G : Reply → Type 0 = λ r. Gathers s.command over.units r.content r.status in
-    let H : card.State → Type 0 = λ x. HaveGone card.Does x s.plans s.since
-    (flat_map dialogues_of over.units) (card.standing l.end.card) l.cursor l.hearing in
+    let H : Point card.State → Type 0 = λ x. HaveGone card.Does x
+    (flat_map dialogues_of over.units) (point_of card l) in
     (over.units, subst G (sym is) over.terminal.gathers, subst H same over.gone)
 
-pub caused : {State : Type 0} (Does : State → ℕ → Tpdu → State → Type 0) (first was : State)
-    (plans : List Course) (since now : Hearing) (c : Command) (standing : State)
-    (cursor : Cursor) (fault other : LineFault)
-    → IsCaused Does first plans since c standing cursor now fault → first ≡ was → fault ≡ other
-    → IsCaused Does was plans since c standing cursor now other
-caused {State = State} Does first was plans since now c standing cursor fault other is same faults =
-    let F : LineFault → Type 0 = λ f. IsCaused Does first plans since c standing cursor now f in
-    let S : State → Type 0 = λ s. IsCaused Does s plans since c standing cursor now other in
+pub caused : {State : Type 0} (Does : State → ℕ → Tpdu → State → Type 0)
+    (from was to : Point State) (c : Command) (fault other : LineFault)
+    → IsCaused Does from c to fault → from ≡ was → fault ≡ other → IsCaused Does was c to other
+caused {State = State} Does from was to c fault other is same faults =
+    let F : LineFault → Type 0 = λ f. IsCaused Does from c to f in
+    let S : Point State → Type 0 = λ p. IsCaused Does p c to other in
     subst S same (subst F faults is)
 
 pub same_err : {T E : Type 0} (a b : E) → ◌≡◌ {A = Result T E} (Err a) (Err b) → a ≡ b

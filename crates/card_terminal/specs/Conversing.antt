@@ -8,7 +8,7 @@ use Rattle.t0_core.specs.declared.end.End.TheVariants.{Card}
 use Rattle.t0_core.specs.declared.line_fault.LineFault.{LineFault}
 use Rattle.t0_core.specs.declared.line_fault.LineFault.TheVariants.{TooLong, Stalled}
 use Rattle.t0_core.specs.Dialogue.{Dialogue, characters, IsDialogue}
-use Rattle.t0_core.specs.Plan.{Course, Cursor, plain, plan_kept, advanced, FollowInTurn}
+use Rattle.t0_core.specs.Plan.{Course, Cursor, plain, plan_kept, FollowInTurn}
 use Rattle.t0_core.specs.Meaning.{Tpdu, Prepared, Runs, received}
 use Rattle.t0_core.specs.Front.{Front, GoesOn, front_characters, brought}
 use Rattle.t0_core.specs.Watch.{Hearing, Hears}
@@ -22,31 +22,37 @@ abbrev pub next_plan : List Course → Course
 next_plan [] = plain
 next_plan (p ∷ plans) = p
 
--- These dialogues follow the plans, whose cuts are 1 to 256, are a run of the card's meaning, and
--- are heard; and so many plans are taken.
-pub record HaveGone {State : Type 0} (Does : State → ℕ → Tpdu → State → Type 0) (first : State)
-    (plans : List Course) (since : Hearing)
-    (ds : List Dialogue) (standing : State) (cursor : Cursor) (now : Hearing) : Type 0 where
+-- a point of a talk: how the card stands, the plans that are left, and what a watch has heard
+pub record Point (State : Type 0) : Type 0 where
+  pub standing : State
+  pub plans : List Course
+  pub hearing : Hearing
+
+abbrev pub point : {State : Type 0} → State → List Course → Hearing → Point State
+point standing plans hearing = record { standing = standing; plans = plans; hearing = hearing }
+
+-- From one point to another these dialogues have gone: they follow the plans, whose cuts are 1 to
+-- 256, are a run of the card's meaning, and are heard; and so many plans are taken.
+pub record HaveGone {State : Type 0} (Does : State → ℕ → Tpdu → State → Type 0)
+    (from : Point State) (ds : List Dialogue) (to : Point State) : Type 0 where
   pub are_dialogues : AllByRecursion IsDialogue ds
-  pub follow : FollowInTurn ds plans
-  pub cuts : HaveCuts (take (length ds) plans)
-  pub runs : Runs Does first ds plans standing
-  pub used : cursor.rest ≡ drop (length ds) plans
-  pub hears : Hears since (flat_map characters ds) now
+  pub follow : FollowInTurn ds from.plans
+  pub cuts : HaveCuts (take (length ds) from.plans)
+  pub runs : Runs Does from.standing ds from.plans to.standing
+  pub used : to.plans ≡ drop (length ds) from.plans
+  pub hears : Hears from.hearing (flat_map characters ds) to.hearing
 
 -- the dialogues of an exchange that stalls
-pub record HasStalled {State : Type 0} (Does : State → ℕ → Tpdu → State → Type 0) (first : State)
-    (plans : List Course) (since : Hearing)
-    (c : Command) (standing : State) (cursor : Cursor) (now : Hearing) : Type 0 where
+pub record HasStalled {State : Type 0} (Does : State → ℕ → Tpdu → State → Type 0)
+    (from : Point State) (c : Command) (to : Point State) : Type 0 where
   pub units : List UnitOf
   pub stall : Stall c units
-  pub gone : HaveGone Does first plans since (flat_map dialogues_of units) standing cursor now
+  pub gone : HaveGone Does from (flat_map dialogues_of units) to
 
 -- the dialogues of an exchange, and the front of one more, with which the card has sent more
 -- than there is room for, and whose plan is taken
 pub record HasOverflown {State : Type 0} (Does : State → ℕ → Tpdu → State → Type 0)
-    (first : State) (plans : List Course) (since : Hearing)
-    (c : Command) (standing : State) (cursor : Cursor) (now : Hearing) : Type 0 where
+    (from : Point State) (c : Command) (to : Point State) : Type 0 where
   pub units : List UnitOf
   pub tried : Option Dialogue
   pub ex : ExchangeOf
@@ -56,21 +62,21 @@ pub record HasOverflown {State : Type 0} (Does : State → ℕ → Tpdu → Stat
   pub goes : (byte : ℕ) × GoesOn before (Card, byte) front
   pub prepared : Prepared State
   pub stage : Stage
-  pub begun : Cursor  -- as it was when the TPDU began
+  pub plans : List Course  -- those that were left when the TPDU began
   pub between : Hearing
-  pub gone : HaveGone Does first plans since (so_far units tried) standing begun between
-  pub card : StandsAt Does standing prepared stage (next_plan begun.rest).cut front
-  pub on_plan : IsOnPlan stage (next_plan begun.rest) front
-  pub taken : cursor ≡ advanced begun
+  pub gone : HaveGone Does from (so_far units tried) (point to.standing plans between)
+  pub card : StandsAt Does to.standing prepared stage (next_plan plans).cut front
+  pub on_plan : IsOnPlan stage (next_plan plans) front
+  pub taken : to.plans ≡ drop 1 plans
   pub too_many : response_limit < length (flat_map received (so_far units tried) ++ brought front)
-  pub hears : Hears between (front_characters front) now
+  pub hears : Hears between (front_characters front) to.hearing
 
 -- a card causes these faults alone
-abbrev pub IsCaused : {State : Type 0} → (State → ℕ → Tpdu → State → Type 0) → State
-    → List Course → Hearing → Command → State → Cursor → Hearing → LineFault → Type 0
-IsCaused Does first plans since c standing cursor now fault =
-    ((fault ≡ Stalled) × HasStalled Does first plans since c standing cursor now)
-    ⊎ ((fault ≡ TooLong) × HasOverflown Does first plans since c standing cursor now)
+abbrev pub IsCaused : {State : Type 0} → (State → ℕ → Tpdu → State → Type 0) → Point State
+    → Command → Point State → LineFault → Type 0
+IsCaused Does from c to fault =
+    ((fault ≡ Stalled) × HasStalled Does from c to)
+    ⊎ ((fault ≡ TooLong) × HasOverflown Does from c to)
 
 -- A number that falls with each character that passes: what is still to go of a TPDU, and of all
 -- that may come.

@@ -9,12 +9,12 @@ use Rattle.t0_core.specs.CardHistory.{under_way}
 use Rattle.t0_core.specs.CardSide.{EndOf, Stage, Taking_header, StandsAt, IsOnPlan}
 use Rattle.t0_core.specs.Dialogue.{Dialogue}
 use Rattle.t0_core.specs.Front.{Front, front_characters, fresh}
-use Rattle.t0_core.specs.Plan.{Course, Cursor, IsCut, advanced}
+use Rattle.t0_core.specs.Plan.{Cursor, IsCut, advanced}
 use Rattle.t0_core.specs.Watch.{Hearing, Hears}
 use Rattle.card_terminal.specs.ExchangeSide.{ExchangeOf, UnderWay, IsOver, so_far}
 use Rattle.card_terminal.specs.Gathered.{UnitOf, dialogues_of}
 use Rattle.card_terminal.specs.Agreed.{IsAgreed}
-use Rattle.card_terminal.specs.Conversing.{next_plan, HaveGone, IsCaused, characters_left}
+use Rattle.card_terminal.specs.Conversing.{Point, point, next_plan, HaveGone, IsCaused, characters_left}
 
 -- all that the passing of a character changes
 pub record Line (C : Type 0) : Type 0 where
@@ -30,18 +30,15 @@ line exchange end cursor hearing =
 -- where an exchange began
 pub record Start (State : Type 0) : Type 0 where
   pub command : Command
-  pub first : State
-  pub plans : List Course
-  pub since : Hearing
+  pub from : Point State
+
+-- the point of a talk at which a line is
+abbrev pub point_of : {C : Type 0} (card : Ghosts C) → Line C → Point card.State
+point_of card l = point (card.standing l.end.card) l.cursor.rest l.hearing
 
 -- a command begins here
 abbrev pub begun : {C : Type 0} (card : Ghosts C) → Command → Line C → Start card.State
-begun card command l = record {
-  command = command;
-  first = card.standing l.end.card;
-  plans = l.cursor.rest;
-  since = l.hearing;
-}
+begun card command l = record { command = command; from = point_of card l }
 
 abbrev pub Begins : {C : Type 0} (card : Ghosts C) → Command → Line C → Type 0
 Begins card command l = IsAgreed card.MayReceive card.MaySend command
@@ -70,8 +67,8 @@ pub record IsGoing {C : Type 0} (card : Ghosts C) (s : Start card.State) (l : Li
   pub terminal : UnderWay s.command l.exchange units tried front
   pub before : Cursor  -- as it was when the TPDU began
   pub between : Hearing
-  pub gone : HaveGone card.Does s.first s.plans s.since (so_far units tried)
-      (card.standing l.end.card) before between
+  pub gone : HaveGone card.Does s.from (so_far units tried)
+      (point (card.standing l.end.card) before.rest between)
   pub stands : StandsUnder card before front l
   pub hears : Hears between (front_characters front) l.hearing
 
@@ -80,8 +77,7 @@ pub record IsDone {C : Type 0} (card : Ghosts C) (s : Start card.State) (l : Lin
   pub units : List UnitOf
   pub status : StatusWord
   pub terminal : IsOver s.command l.exchange units status
-  pub gone : HaveGone card.Does s.first s.plans s.since (flat_map dialogues_of units)
-      (card.standing l.end.card) l.cursor l.hearing
+  pub gone : HaveGone card.Does s.from (flat_map dialogues_of units) (point_of card l)
   pub at_rest : l.end.stage ≡ Taking_header []
 
 abbrev pub IsOneOf : {C : Type 0} (card : Ghosts C) → Start card.State → Line C → Type 0
@@ -90,8 +86,7 @@ IsOneOf card s l = IsGoing card s l ⊎ IsDone card s l
 -- or the card has caused a fault
 abbrev pub HasFailed : {C : Type 0} (card : Ghosts C) → Start card.State → Line C → LineFault
     → Type 0
-HasFailed card s l fault = IsCaused card.Does s.first s.plans s.since s.command
-    (card.standing l.end.card) l.cursor l.hearing fault
+HasFailed card s l fault = IsCaused card.Does s.from s.command (point_of card l) fault
 
 abbrev pub left : {C : Type 0} → Line C → ℕ
 left l = characters_left l.exchange l.end.stage l.cursor

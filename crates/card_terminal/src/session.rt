@@ -1,3 +1,4 @@
+//! A terminal and a card that are joined, and one command carried out with them.
 ghost use Rattle.std.specs.Prelude.{◌≡◌, ℕ, ◌<◌, ◌≤◌, ◌++◌, List, [], ◌⊎◌, true, false, MatchResult, OnOk, OnErr, IfOk, IfErr};
 ghost use Rattle.apdu_core.specs.CommandBytes as spec;
 ghost use Rattle.t0_core.specs.CardHistory.{Leads, LeadsUnder};
@@ -6,7 +7,7 @@ ghost use Rattle.t0_core.specs.Plan.{Course, Cursor};
 ghost use Rattle.t0_core.specs.Watch.{Hearing};
 ghost use Rattle.card_terminal.specs.Agreed.{IsAgreed};
 ghost use Rattle.card_terminal.specs.ExchangeSide.{IsBounded, exchange_turn};
-ghost use Rattle.card_terminal.specs.Conversing.{IsCaused};
+ghost use Rattle.card_terminal.specs.Conversing.{point, IsCaused};
 ghost use Rattle.card_terminal.specs.Line.{Start, line, Begins, IsGoing, IsOneOf, Keeps, Passes, Converses};
 
 mod run;
@@ -93,16 +94,16 @@ impl<C: TpduCard> Session<C> {
         requires { IsAgreed C.MayReceive C.MaySend command }
         ensures answers { IfOk result
             (λ reply. (units : List UnitOf) × Gathers command.entry units reply.content reply.status
-            × HaveGone C.Does (C.standing self.old) plans.old.rest (W.hearing watch.old)
+            × HaveGone C.Does (point (C.standing self.old) plans.old.rest (W.hearing watch.old))
             (flat_map dialogues_of units)
-            (C.standing self.new) plans.new (W.hearing watch.new)) }
+            (point (C.standing self.new) plans.new.rest (W.hearing watch.new))) }
         ensures memory { IsErrOf result SessionFault.OutOfMemory →
             (self.new ≡ self.old) × (plans.new ≡ plans.old)
             × (W.hearing watch.new ≡ W.hearing watch.old) }
         ensures line { (fault : LineFault) → IsErrOf result (SessionFault.Line fault)
             → (standing : C.State) ×
-            IsCaused C.Does (C.standing self.old) plans.old.rest (W.hearing watch.old)
-            command.entry standing plans.new (W.hearing watch.new) fault
+            IsCaused C.Does (point (C.standing self.old) plans.old.rest (W.hearing watch.old))
+            command.entry (point standing plans.new.rest (W.hearing watch.new)) fault
             × (C.standing self.new ≡ C.after_reset standing) }
     {
         let mut exchange = Exchange::start(alloc, command)?;

@@ -16,7 +16,7 @@ ghost use Rattle.card_terminal.specs.ExchangeSide.{UnderWay, IsOver};
 ghost use Rattle.card_terminal.specs.Talk.{AreExchangesOf, IsTalkOf, Talk, talk_dialogues};
 ghost use Rattle.card_terminal.specs.Talk as talk;
 ghost use Rattle.card_terminal.specs.Operations.{operation_of};
-ghost use Rattle.card_terminal.specs.Conversing.{HaveGone};
+ghost use Rattle.card_terminal.specs.Conversing.{point, HaveGone};
 ghost use Rattle.card_terminal.specs.Running.{new_answers, carried_out};
 
 use super::{Session, converse};
@@ -100,9 +100,9 @@ impl<C: DataCard> Session<C> {
             × (W.hearing watch.new ≡ W.hearing watch.old)) }
         ensures answers { IfOk result
             (λ reply. (units : List UnitOf) × Gathers command.entry units reply.content reply.status
-            × HaveGone C.Does (C.standing self.old) plans.old.rest (W.hearing watch.old)
+            × HaveGone C.Does (point (C.standing self.old) plans.old.rest (W.hearing watch.old))
             (flat_map dialogues_of units)
-            (C.standing self.new) plans.new (W.hearing watch.new)) }
+            (point (C.standing self.new) plans.new.rest (W.hearing watch.new))) }
     {
         let _is_sound = self.is_idle();
         match self.transmit(alloc, command, plans, watch) {
@@ -125,8 +125,9 @@ impl<C: DataCard> Session<C> {
             × (W.hearing watch.new ≡ W.hearing watch.old)) }
         ensures talk { IfOk result (λ answer. (exchanges : List (List UnitOf))
             × IsTalkOf (operation_of op.now) exchanges answer
-            × HaveGone C.Does (C.standing self.old) plans.old.rest (W.hearing watch.old)
-            (talk_dialogues exchanges) (C.standing self.new) plans.new (W.hearing watch.new)) }
+            × HaveGone C.Does (point (C.standing self.old) plans.old.rest (W.hearing watch.old))
+            (talk_dialogues exchanges)
+            (point (C.standing self.new) plans.new.rest (W.hearing watch.new))) }
     {
         match op {
             Op::Select(aid) => self.send(alloc, select_command(aid), plans, watch),
@@ -149,8 +150,9 @@ impl<C: DataCard> Session<C> {
             × (W.hearing watch.new ≡ W.hearing watch.old)) }
         ensures talk { IfOk result (λ answer. (exchanges : List (List UnitOf))
             × IsTalkOf (Put tag value.now) exchanges answer
-            × HaveGone C.Does (C.standing self.old) plans.old.rest (W.hearing watch.old)
-            (talk_dialogues exchanges) (C.standing self.new) plans.new (W.hearing watch.new)) }
+            × HaveGone C.Does (point (C.standing self.old) plans.old.rest (W.hearing watch.old))
+            (talk_dialogues exchanges)
+            (point (C.standing self.new) plans.new.rest (W.hearing watch.new))) }
     {
         let (p1, p2) = tag.p1p2();
         let header = Header {
@@ -184,8 +186,9 @@ impl<C: DataCard> Session<C> {
             × (W.hearing watch.new ≡ W.hearing watch.old)) }
         ensures exchanges { IfOk result (λ answer. (exchanges : List (List UnitOf))
             × AreExchangesOf (first.entry ∷ others.entry) exchanges answer
-            × HaveGone C.Does (C.standing self.old) plans.old.rest (W.hearing watch.old)
-            (talk_dialogues exchanges) (C.standing self.new) plans.new (W.hearing watch.new)) }
+            × HaveGone C.Does (point (C.standing self.old) plans.old.rest (W.hearing watch.old))
+            (talk_dialogues exchanges)
+            (point (C.standing self.new) plans.new.rest (W.hearing watch.new))) }
     {
         let mut exchange = Exchange::start(alloc, first)?;
         let mut status = self.converse(&mut exchange, plans, watch);
@@ -213,8 +216,9 @@ impl<C: DataCard> Session<C> {
         ensures over { (c : spec.Command) → IsAgreed C.MayReceive C.MaySend c →
             UnderWay c exchange.old [] None fresh →
             (units : List UnitOf) × IsOver c exchange.new units result
-            × HaveGone C.Does (C.standing self.old) plans.old.rest (W.hearing watch.old)
-            (flat_map dialogues_of units) (C.standing self.new) plans.new (W.hearing watch.new) }
+            × HaveGone C.Does (point (C.standing self.old) plans.old.rest (W.hearing watch.old))
+            (flat_map dialogues_of units)
+            (point (C.standing self.new) plans.new.rest (W.hearing watch.new)) }
         ensures sound { IsCardState (C.state self.new) }
     {
         converse(exchange, &mut self.end, plans, watch).unwrap();

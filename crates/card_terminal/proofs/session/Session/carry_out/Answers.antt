@@ -1,6 +1,7 @@
 use Rattle.std.proofs.Common.{[], ◌∷◌, sym, ap, subst}
 use Rattle.object_card.specs.OneStep.{Select, Get}
 use Rattle.card_terminal.specs.Agreed.{IsAgreed}
+use Rattle.card_terminal.specs.Conversing.{point}
 use Rattle.card_terminal.specs.Operations.{operation_of}
 use Rattle.card_terminal.proofs.RunLemmas.{agreed_select, keeps_to, sent_alone, talked, talked_as}
 use Rattle.card_terminal.proofs.session.Session.carry_out.Goals as goal
@@ -17,24 +18,26 @@ send-requires g c =
 pub returns-in-Select-clause-talk : goal.returns-in-Select-clause-talk
 returns-in-Select-clause-talk g c =
     let card = g.C.TpduCard in
-    let hearing = g.W.Watch.hearing in
-    talked_as card.Does _ c.args.plans.now.rest (hearing c.args.watch.now) _ _ _
+    let from = point (card.standing c.args.self.now) c.args.plans.now.rest
+    (g.W.Watch.hearing c.args.watch.now) in
+    talked_as card.Does from _
     (Select c.in-Select.aid) _ c.send.result (sym (ap operation_of c.in-Select.is))
-    (talked card.Does _ c.args.plans.now.rest (hearing c.args.watch.now) _ _ _
+    (talked card.Does from _
     (c.select_command.result ∷ []) (Select c.in-Select.aid) c.send.result
     (c.select_command.ensures.aid, ap (λ x. x ∷ []) c.select_command.ensures.command)
-    (sent_alone card.Does _ c.args.plans.now.rest (hearing c.args.watch.now) _ _ _
+    (sent_alone card.Does from _
     c.select_command.result c.send.result c.send.ensures.answers))
 
 pub returns-in-Get-clause-talk : goal.returns-in-Get-clause-talk
 returns-in-Get-clause-talk g c =
     let card = g.C.TpduCard in
-    let hearing = g.W.Watch.hearing in
+    let from = point (card.standing c.args.self.now) c.args.plans.now.rest
+    (g.W.Watch.hearing c.args.watch.now) in
     let (p1, p2, names, same) = c.get_command.ensures in
-    talked_as card.Does _ c.args.plans.now.rest (hearing c.args.watch.now) _ _ _
+    talked_as card.Does from _
     (Get c.in-Get.tag) _ c.send-in-Get.result (sym (ap operation_of c.in-Get.is))
-    (talked card.Does _ c.args.plans.now.rest (hearing c.args.watch.now) _ _ _
+    (talked card.Does from _
     (c.get_command.result ∷ []) (Get c.in-Get.tag) c.send-in-Get.result
     (p1, p2, names, ap (λ x. x ∷ []) same)
-    (sent_alone card.Does _ c.args.plans.now.rest (hearing c.args.watch.now) _ _ _
+    (sent_alone card.Does from _
     c.get_command.result c.send-in-Get.result c.send-in-Get.ensures.answers))

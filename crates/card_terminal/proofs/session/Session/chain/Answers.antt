@@ -1,6 +1,7 @@
 use Rattle.std.proofs.Common.{inl, inr, sym, subst}
 use Rattle.std.specs.List.{AllByRecursion}
 use Rattle.card_terminal.specs.Agreed.{IsAgreed}
+use Rattle.card_terminal.specs.Conversing.{point}
 use Rattle.card_terminal.proofs.RunLemmas.{first_has_been, next_has_been, all_have_been, told, as_left, never_both}
 use Rattle.card_terminal.proofs.session.Session.chain.Goals as goal
 use Rattle.card_terminal.proofs.session.Session.chain.Goals.{in-None, in-Some+then-not-is_ok}
@@ -8,16 +9,16 @@ use Rattle.card_terminal.proofs.session.Session.chain.Goals.{in-None, in-Some+th
 pub pieces-init : goal.pieces-init
 pieces-init g c =
     let card = g.C.TpduCard in
-    let hearing = g.W.Watch.hearing in
+    let from = point (card.standing c.args.self.now) c.args.plans.now.rest
+    (g.W.Watch.hearing c.args.watch.now) in
     let same = c.into_iter-command-iterator.ensures.into_iter_gives in
     let done = c.converse-status.ensures.over c.args.first c.requires.agreed.0
     c.in_ok-exchange.ensures.begins in
     record {
-      been = as_left card.Does _ c.args.plans.now.rest (hearing c.args.watch.now) _ _ _ _ _ _ _ _
+      been = as_left card.Does from _ _ _ _ _ _
           (sym same)
-          (first_has_been card.Does _ c.args.plans.now.rest (hearing c.args.watch.now)
-          c.args.first c.args.others c.converse-status.new.exchange done.0
-          c.converse-status.result _ _ _ done.1 done.2);
+          (first_has_been card.Does from _ c.args.first c.args.others
+          c.converse-status.new.exchange done.0 c.converse-status.result done.1 done.2);
       sound = c.converse-status.ensures.sound;
       agreed = subst (λ cs. AllByRecursion (λ x. IsAgreed card.MayReceive card.MaySend x) cs)
           (sym same) c.requires.agreed.1;
@@ -26,18 +27,18 @@ pieces-init g c =
 pub pieces-preserved : goal.pieces-preserved
 pieces-preserved g c =
     let card = g.C.TpduCard in
-    let hearing = g.W.Watch.hearing in
+    let from = point (card.standing c.args.self.now) c.args.plans.now.rest
+    (g.W.Watch.hearing c.args.watch.now) in
     let steps = c.in-Some.ensures.steps in
     let agreed = subst (λ cs. AllByRecursion (λ x. IsAgreed card.MayReceive card.MaySend x) cs)
     steps c.pieces.invariant.agreed in
     let done = c.converse-status-in-pieces.ensures.over c.in-Some.command agreed.0
     c.again-exchange.ensures.begins in
     record {
-      been = next_has_been card.Does _ _ _ c.args.plans.now.rest (hearing c.args.watch.now) _ _ _
-          c.next.new.self c.in-Some.command c.pieces.exchange
-          c.converse-status-in-pieces.new.exchange done.0 c.pieces.status
-          c.converse-status-in-pieces.result _ _
-          (as_left card.Does _ c.args.plans.now.rest (hearing c.args.watch.now) _ _ _ _ _ _ _ _
+      been = next_has_been card.Does from _ _ _ c.next.new.self c.in-Some.command
+          c.pieces.exchange c.converse-status-in-pieces.new.exchange done.0 c.pieces.status
+          c.converse-status-in-pieces.result
+          (as_left card.Does from _ _ _ _ _ _
           steps c.pieces.invariant.been)
           (c.is_ok.ensures.0 c.if-not-is_ok.false) done.1 done.2;
       sound = c.converse-status-in-pieces.ensures.sound;
@@ -47,10 +48,11 @@ pieces-preserved g c =
 pub returns-clause-exchanges : goal.returns-clause-exchanges
 returns-clause-exchanges g c =
     let card = g.C.TpduCard in
-    let hearing = g.W.Watch.hearing in
+    let from = point (card.standing c.args.self.now) c.args.plans.now.rest
+    (g.W.Watch.hearing c.args.watch.now) in
     let been = c.pieces.invariant.been in
-    all_have_been card.Does _ c.args.plans.now.rest (hearing c.args.watch.now) _ _
-    c.pieces.exchange c.pieces.status _ _ _ c.unwrap.result been (elim c.match-next.branch [
+    all_have_been card.Does from _ _ _ c.pieces.exchange c.pieces.status c.unwrap.result been
+    (elim c.match-next.branch [
       | in-None w ↦ inl w.in-None.ensures.steps.0
       | in-Some+then-not-is_ok w ↦ inr
           (λ e. never_both w.is_ok.result (w.is_ok.ensures.1 e) w.if-not-is_ok.true)

@@ -2,6 +2,7 @@ use Rattle.std.proofs.Common.{◌∷◌}
 use Rattle.std.specs.List.{AllByRecursion}
 use Rattle.object_card.specs.State.{IsCardState}
 use Rattle.card_terminal.specs.Agreed.{IsAgreed}
+use Rattle.card_terminal.specs.Conversing.{point}
 use Rattle.card_terminal.proofs.RunLemmas.{HaveBeen}
 use Rattle.card_terminal.proofs.session.Session.chain.Given as goal
 
@@ -11,9 +12,10 @@ invariant-pieces g l =
     let card = g.C.TpduCard in
     let hearing = g.W.Watch.hearing in
     record {
-      been : HaveBeen card.Does (card.standing l.fn.self) l.fn.plans.rest (hearing l.fn.watch)
+      been : HaveBeen card.Does
+          (point (card.standing l.fn.self) l.fn.plans.rest (hearing l.fn.watch))
           (l.fn.first ∷ l.fn.others) l.command-iterator l.exchange l.status
-          (card.standing l.self) l.plans (hearing l.watch);
+          (point (card.standing l.self) l.plans.rest (hearing l.watch));
       sound : IsCardState (g.C.DataCard.state l.self);
       agreed : AllByRecursion (λ c. IsAgreed card.MayReceive card.MaySend c) l.command-iterator;
     }

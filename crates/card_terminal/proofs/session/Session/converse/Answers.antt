@@ -1,5 +1,6 @@
 use Rattle.std.proofs.Common.{ap, subst, ◌∙◌}
 use Rattle.object_card.specs.State.{IsCardState}
+use Rattle.card_terminal.specs.Conversing.{point}
 use Rattle.card_terminal.proofs.LeadsLemmas.{over_turn}
 use Rattle.card_terminal.proofs.RunLemmas.{never_caused, stays_sound, sound_at, ok_unless, when_ok, done_sends_nothing, over_then, gone_from}
 use Rattle.card_terminal.proofs.session.Session.converse.Goals as goal
@@ -17,8 +18,8 @@ unwrap-requires g c =
     let first = card.standing c.self.inside.end.card in
     let (command, agreed, way) = c.requires.begun in
     ok_unless c.converse.result _ _ (c.converse.ensures command (agreed, way))
-    (λ fault. never_caused card.Does card.after_reset m.0 m.2 first _ plans.rest now _ command _
-    fault (sound_at m.0 g.C.DataCard.state card.standing m.1 c.self.inside.end.card
+    (λ fault. never_caused card.Does card.after_reset m.0 m.2 (point first plans.rest now) _
+    command fault (sound_at m.0 g.C.DataCard.state card.standing m.1 c.self.inside.end.card
     c.args.self.now c.self.view_is c.requires.sound))
 
 pub unreachable-requires : goal.unreachable-requires
@@ -49,8 +50,8 @@ returns-clause-over g c = λ command agreed way.
           c.in-Done.status over.terminal
           (c.in-Done.ensures.stays (λ byte. done_sends_nothing c.in-Done.status byte))
           c.in-Done.ensures.turn,
-      gone_from card.Does first (card.standing c.args.self.now) plans.rest now _ _ _ _
-          (ap card.standing c.self.view_is) over.gone,
+      gone_from card.Does (point first plans.rest now) _ _ _
+          (ap (λ x. point (card.standing x) plans.rest now) c.self.view_is) over.gone,
     )
 
 pub returns-clause-sound : goal.returns-clause-sound
@@ -64,6 +65,6 @@ returns-clause-sound g c =
     let over = when_ok c.converse.result c.unwrap.result _ _ c.unwrap.ensures
     (c.converse.ensures command (agreed, way)) in
     subst IsCardState (m.1 c.converse.new.end.card)
-    (stays_sound card.Does card.after_reset m.0 m.2 first _ plans.rest now _ _ _
+    (stays_sound card.Does card.after_reset m.0 m.2 (point first plans.rest now) _ _
     (sound_at m.0 g.C.DataCard.state card.standing m.1 c.self.inside.end.card c.args.self.now
     c.self.view_is c.requires.sound) over.gone)

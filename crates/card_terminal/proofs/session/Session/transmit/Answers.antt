@@ -1,6 +1,7 @@
 use Rattle.std.proofs.Common.{◌≡◌, is_some, sym, ap, ◌∙◌}
 use Rattle.t0_core.specs.declared.line_fault.LineFault.{LineFault}
 use Rattle.card_terminal.specs.declared.session_fault.SessionFault.TheVariants.{OutOfMemory, Line}
+use Rattle.card_terminal.specs.Conversing.{point}
 use Rattle.card_terminal.specs.Line.{line, begun}
 use Rattle.card_terminal.proofs.LeadsLemmas.{over_turn}
 use Rattle.card_terminal.proofs.SessionLemmas.{some_is, same_err, answered, caused}
@@ -39,7 +40,7 @@ returns-in-Ok-clause-answers g c =
     answered card (begun card c.args.command (line c.in_ok-exchange.exchange c.self.inside.end
     c.args.plans.now now)) (line c.converse.new.exchange c.converse.new.end
     c.converse.new.plans (g.W.Watch.hearing c.converse.new.watch)) _ c.unwrap.result over
-    (ap card.standing c.self.view_is)
+    (ap (λ x. point (card.standing x) c.args.plans.now.rest now) c.self.view_is)
     (some_is c.into_answer.result c.unwrap.result _ c.unwrap.ensures
     (c.into_answer.ensures.done over.status
     (over_turn c.args.command _ over.units over.status over.terminal)))
@@ -53,8 +54,8 @@ returns-in-Err-clause-line g c = λ fault is.
     let now = g.W.Watch.hearing c.args.watch.now in
     let why = c.in-Err.ensures c.args.command (c.requires, c.in_ok-exchange.ensures.begins) in (
       card.standing c.converse.new.end.card,
-      caused card.Does _ _ c.args.plans.now.rest now _ c.args.command _ c.converse.new.plans
-          c.in-Err.fault fault why (ap card.standing c.self.view_is)
+      caused card.Does _ _ _ c.args.command c.in-Err.fault fault why
+          (ap (λ x. point (card.standing x) c.args.plans.now.rest now) c.self.view_is)
           (line_is c.in-Err.fault fault (same_err _ _ is)),
       c.reset.ensures.card,
     )

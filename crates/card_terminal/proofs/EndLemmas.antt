@@ -284,12 +284,6 @@ next_exchange ex host attempt =
           ex.stalled;
     }
 
--- the first dialogue of a unit is repeated
-none_is_first : (first : Option Dialogue) (corrected : Option ℕ) (n : ℕ)
-    → again_of first corrected ≡ Some n → (first ≡ None) × (corrected ≡ Some n)
-none_is_first None corrected n e = (refl, e)
-none_is_first (Some d) corrected n e = absurd (cc)
-
 repeats_first : (c : Command) (ex : ExchangeOf) (host : Hosting) (units : List UnitOf)
     (front : Front) (d : Dialogue) (n : ℕ) (under : UnderWay c ex units None front)
     → AtEnd c ex units None front d under → repeated_with under.left d ≡ Some n

@@ -1,10 +1,9 @@
 -- Bytes are at most one object in one way.
-use Rattle.std.proofs.Common.{◌≡◌, ℕ, ◌+◌, ◌*◌, ◌%◌, List, [], ◌∷◌, ◌++◌, length, sym, ◌∙◌, ap, arith, append_assoc, length-append, append-nil}
-use Rattle.std.specs.List.{All}
+use Rattle.std.proofs.Common.{◌≡◌, ℕ, ◌+◌, ◌*◌, ◌%◌, List, [], ◌∷◌, ◌++◌, length, sym, ◌∙◌, ap, arith, append_assoc, length-append}
 use Rattle.std.proofs.lemmas.List.Elements.{All-head}
 use Rattle.tlv_core.specs.TagForm.{IsTag}
 use Rattle.tlv_core.specs.Length.{SpellsLength}
-use Rattle.tlv_core.specs.Spelling.{Begins, AreObjects}
+use Rattle.tlv_core.specs.Spelling.{Begins}
 use Rattle.tlv_core.specs.Object.{Object}
 use Rattle.card_terminal.specs.OneObject.{IsOneObject}
 
@@ -84,18 +83,6 @@ tag_first : (bytes : List ℕ) (o : Object) → IsOneObject bytes o
     → bytes ≡ o.tag ++ (o.size ++ o.value)
 tag_first bytes o one = one.whole ∙ append_assoc o.tag o.size o.value
 
--- a list of padding alone is no object
-pub padding_is_none : (bytes : List ℕ) (o : Object) → All (λ b. b ≡ 0) bytes
-    → IsOneObject bytes o → ⊥
-padding_is_none [] o zeros one = nothing o.tag one.is_tag (tag_first [] o one)
-  where
-    nothing : (t : List ℕ) → IsTag t → [] ≡ t ++ (o.size ++ o.value) → ⊥
-    nothing [] is e = is
-    nothing (a ∷ t) is e = absurd (cc)
-padding_is_none (b ∷ bytes) o zeros one =
-    tag_is_no_padding o.tag (o.size ++ o.value) b bytes one.is_tag
-    (sym (tag_first (b ∷ bytes) o one)) (All-head (λ x. x ≡ 0) b bytes zeros)
-
 -- the first object of a list that is one object has all its bytes
 pub first_is_all : (bytes padding tag size value rest : List ℕ) (level : ℕ) (o : Object)
     → Begins bytes padding tag size value rest level → IsOneObject bytes o
@@ -117,43 +104,3 @@ first_is_all bytes (p ∷ padding) tag size value rest level o begins one =
     absurd (tag_is_no_padding o.tag (o.size ++ o.value) p _ one.is_tag
     (sym (tag_first bytes o one) ∙ begins.spelled)
     (All-head (λ x. x ≡ 0) p padding begins.is_padding))
-
--- and one with all the bytes is that object
-all_is_whole : (bytes padding tag size value rest : List ℕ) (level : ℕ)
-    → Begins bytes padding tag size value rest level → length (tag ++ size ++ value) ≡ length bytes
-    → bytes ≡ tag ++ size ++ value
-all_is_whole bytes [] tag size value [] level begins all = begins.spelled
-    ∙ append-nil (tag ++ size ++ value)
-all_is_whole bytes [] tag size value (r ∷ rest) level begins all =
-    let tail : List ℕ = r ∷ rest in
-    absurd (omega (
-      arith,
-      all,
-      ap length begins.spelled,
-      length-append (tag ++ size ++ value) tail,
-    ))
-all_is_whole bytes (p ∷ padding) tag size value rest level begins all =
-    let front : List ℕ = p ∷ padding in
-    absurd (omega (
-      arith,
-      all,
-      ap length begins.spelled,
-      length-append (front ++ tag ++ size ++ value) rest,
-      length-append (front ++ tag ++ size) value,
-      length-append (front ++ tag) size,
-      length-append front tag,
-      length-append (tag ++ size) value,
-      length-append tag size,
-    ))
-
-pub is_one : (bytes padding rest : List ℕ) (o : Object) → AreObjects bytes 1
-    → Begins bytes padding o.tag o.size o.value rest 1 → o.level ≡ 1
-    → length (o.tag ++ o.size ++ o.value) ≡ length bytes
-    → IsOneObject bytes o
-is_one bytes padding rest o are begins level all = record {
-  whole = all_is_whole bytes padding o.tag o.size o.value rest 1 begins all;
-  are_objects = are;
-  is_tag = begins.is_tag;
-  is_size = begins.is_size;
-  outermost = level;
-}

@@ -42,15 +42,6 @@ follow_both (x ∷ xs) ys [] first second = (
 )
 follow_both (x ∷ xs) ys (p ∷ plans) first second = (first.0, follow_both xs ys plans first.1 second)
 
-pub follow_apart : (xs ys : List Dialogue) (plans : List Course) → FollowInTurn (xs ++ ys) plans
-    → FollowInTurn xs plans × FollowInTurn ys (drop (length xs) plans)
-follow_apart [] ys plans both = (tt, both)
-follow_apart (x ∷ xs) ys [] both =
-    let rest = follow_apart xs ys [] both.1 in
-    ((both.0, rest.0), subst (λ p. FollowInTurn ys p) (no_plans xs (x ∷ xs)) rest.1)
-follow_apart (x ∷ xs) ys (p ∷ plans) both = let rest = follow_apart xs ys plans both.1 in
-    ((both.0, rest.0), rest.1)
-
 -- A run, and a run from where it ended: one run; and apart.
 pub runs_both : {State : Type 0} (Does : State → ℕ → Tpdu → State → Type 0) (old mid new : State)
     (xs ys : List Dialogue) (plans : List Course)
@@ -66,18 +57,6 @@ runs_both Does old mid new (x ∷ xs) ys [] (next, does, first) second = (
 )
 runs_both Does old mid new (x ∷ xs) ys (p ∷ plans) (next, does, first) second =
     (next, does, runs_both Does next mid new xs ys plans first second)
-
-pub runs_apart : {State : Type 0} (Does : State → ℕ → Tpdu → State → Type 0) (old new : State)
-    (xs ys : List Dialogue) (plans : List Course)
-    → Runs Does old (xs ++ ys) plans new → (mid : State) × Runs Does old xs plans mid
-    × Runs Does mid ys (drop (length xs) plans) new
-runs_apart Does old new [] ys plans both = (old, refl, both)
-runs_apart Does old new (x ∷ xs) ys [] (next, does, both) =
-    let (mid, first, second) = runs_apart Does next new xs ys [] both in
-    (mid, (next, does, first), subst (λ p. Runs Does mid ys p new) (no_plans xs (x ∷ xs)) second)
-runs_apart Does old new (x ∷ xs) ys (p ∷ plans) (next, does, both) =
-    let (mid, first, second) = runs_apart Does next new xs ys plans both in
-    (mid, (next, does, first), second)
 
 pub all_both : {A : Type 0} (P : A → Type 0) (xs ys : List A) → AllByRecursion P xs
     → AllByRecursion P ys → AllByRecursion P (xs ++ ys)

@@ -31,8 +31,8 @@ fetch a gathered = record {
   number = a.number + 1;
 }
 
--- the count that it is repeated with: it asks for data, repeats none, and another count that was
--- told is still wanted
+-- the count that it is repeated with: it asks for data, repeats none, and so much is still wanted
+-- as it was told that it should have asked for
 abbrev pub again_with : Attempt → Wanted → Option ℕ → Option ℕ
 again_with a left None = None
 again_with a left (Some n) =

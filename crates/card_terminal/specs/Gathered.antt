@@ -97,9 +97,8 @@ after_dialogue wanted d = less wanted (length (received d))
 abbrev pub after_unit : Wanted → UnitOf → Wanted
 after_unit wanted u = less wanted (length (unit_data u))
 
--- The count that a dialogue is repeated with: one that asked for data, and was told another
--- count (6CXX)
--- that is no more than what is still wanted.
+-- The count that a dialogue is repeated with: where it asked for data, the one that it was told by
+-- 6CXX, whatever it had asked for, if that is no more than what is still wanted.
 abbrev pub correction_of : Direction → Wanted → Option ℕ → Option ℕ
 correction_of ToCard left corrected = None
 correction_of FromCard left None = None

@@ -1,3 +1,4 @@
+//! What a command is answered: a status, and the data that were gathered.
 ghost use Rattle.std.specs.Prelude.{◌≡◌, IfSome, IfNone};
 ghost use Rattle.tlv_core.specs.Object.{Object};
 ghost use Rattle.card_terminal.specs.OneObject.{IsOneObject};

@@ -1,3 +1,4 @@
+//! The answers to a list of operations, which grows by one for each.
 ghost use Rattle.std.specs.Prelude.{◌≡◌, ◌≤◌, [], ◌∷◌, ◌++◌, length, slice_get, option_copied, OnOk, MatchOption};
 
 use crate::answer::Answer;

@@ -1,3 +1,4 @@
+//! The place of a TPDU in its exchange, and what follows it.
 ghost use Rattle.std.specs.Prelude.{◌≡◌, ◌≤◌};
 ghost use Rattle.apdu_core.specs.StatusWord.{corrects, announces};
 ghost use Rattle.card_terminal.specs.Gathered.{fetched_of};
@@ -24,7 +25,7 @@ pub struct Attempt {
     pub asks: bool,
     /// It is of a GET RESPONSE that fetches what was announced.
     pub fetches: bool,
-    /// It repeats the one before with another count.
+    /// It repeats the one before, with the count that a `6CXX` told.
     pub repeats: bool,
     /// So many bytes were gathered before its unit.
     pub before: usize,

@@ -1,3 +1,4 @@
+//! The value of a put, as bytes that it owns.
 ghost use Rattle.std.specs.Prelude.{◌≡◌};
 
 use std::alloc::{Allocator, Global};

@@ -1,3 +1,4 @@
+//! The exchange of one command: its TPDUs in turn, and the data that they bring.
 ghost use Rattle.std.specs.Prelude.{◌≡◌, ◌≤◌, ◌<◌, ◌+◌, ◌*◌, ℕ, ◌⊎◌, ◌↔◌, List, [], ◌∷◌, ◌++◌, length, Option, Some, None, true, false, IfOk, OnOk, OnErr, IfErr, IsOk, MatchResult, IsSome, IfSome, IsErrOf, is_some};
 ghost use Rattle.apdu_core.specs.declared.header.Header.{Header};
 ghost use Rattle.apdu_core.specs.StatusWord.{StatusWord};

@@ -1,3 +1,4 @@
+//! The operations that a session carries out with a card of data objects.
 use crate::bytes::Bytes;
 use object_card::Aid;
 use std::alloc::{Allocator, Global};

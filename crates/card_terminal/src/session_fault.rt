@@ -1,3 +1,4 @@
+//! Why a session has not answered a command.
 use std::alloc::AllocError;
 use std::error::Error;
 use std::fmt;

@@ -1,3 +1,4 @@
+//! How much of a response a command still wants.
 ghost use Rattle.std.specs.Prelude.{◌≡◌, ◌≤◌, IfSome};
 ghost use Rattle.card_terminal.specs.Gathered.{wanted_by, less, wants_some, wants_at_least, smaller};
 

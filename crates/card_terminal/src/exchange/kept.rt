@@ -1,3 +1,4 @@
+//! An exchange without its room and the data of its command.
 use crate::attempt::Attempt;
 use crate::wanted::Wanted;
 use t0_core::HostMark;

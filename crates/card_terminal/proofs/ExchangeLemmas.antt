@@ -8,7 +8,6 @@ use Rattle.t0_core.specs.declared.end.End.{End}
 use Rattle.t0_core.specs.declared.end.End.TheVariants.{Terminal, Card}
 use Rattle.t0_core.specs.declared.direction.Direction.{Direction}
 use Rattle.t0_core.specs.declared.direction.Direction.TheVariants.{ToCard, FromCard}
-use Rattle.t0_core.specs.declared.host_end.HostStage.{HostStage}
 use Rattle.t0_core.specs.declared.host_end.HostTurn.{HostTurn}
 use Rattle.t0_core.specs.declared.host_end.HostTurn.TheVariants.{Sends, Done, Failed}
 use Rattle.t0_core.specs.Dialogue.{Dialogue, data_sender}
@@ -16,7 +15,7 @@ use Rattle.t0_core.specs.Meaning.{received}
 use Rattle.t0_core.specs.Front.{Front, In_header, In_body, After_first, GoesOn, brought, from_card}
 use Rattle.t0_core.specs.FrontLaws.{goes_on}
 use Rattle.t0_core.specs.Room.{Room}
-use Rattle.t0_core.specs.HostSide.{Hosting, HostStandsAt, at_stage, turn_of, IsRequest}
+use Rattle.t0_core.specs.HostSide.{Hosting, HostStandsAt, at_stage, after_turn, turn_of, IsRequest}
 use Rattle.card_terminal.specs.declared.wanted.Wanted.{Wanted}
 use Rattle.card_terminal.specs.declared.attempt.Attempt.{Attempt}
 use Rattle.object_card.specs.CarryingOut.{get_response}
@@ -168,13 +167,13 @@ tells ex seen turn is going does =
     subst P is (ap (λ b. if b then Failed else turn_of ex.host) going ∙ does)
 
 -- a character that its end sends takes the dialogue under way further
-pub sends_further : (c : Command) (ex : ExchangeOf) (host : Hosting) (stage : HostStage)
-    (units : List UnitOf) (first : Option Dialogue) (front : Front) (byte : ℕ)
-    → UnderWay c ex units first front → host ≡ at_stage ex.host stage → IsRequest host
+pub sends_further : (c : Command) (ex : ExchangeOf) (host : Hosting) (units : List UnitOf)
+    (first : Option Dialogue) (front : Front) (byte : ℕ) → UnderWay c ex units first front
+    → host ≡ at_stage ex.host (after_turn ex.host) → IsRequest host
     → (new : Front) × GoesOn front (Terminal, byte) new × HostStandsAt host new
     → (new : Front) × GoesOn front (Terminal, byte) new
     × UnderWay c (with_host ex host ex.gather) units first new
-sends_further c ex host stage units first front byte under after request (new, goes, stands) = (
+sends_further c ex host units first front byte under after request (new, goes, stands) = (
   new,
   goes,
   goes_further c ex host ex.gather units first front new (Terminal, byte)

@@ -264,7 +264,7 @@ suits_body : (R S : ℕ → Type 0) (ins : ℕ) (direction : Direction) (b : Bod
 suits_body R S ins direction b (Taking_header bytes) is none permitted = tt
 suits_body R S ins direction b (Refusing h p3 status done) is none permitted = tt
 suits_body R S ins direction b (Serving s came) is none permitted = is
-    ∙ agree R S ins direction s.direction none permitted
+    ∙ agree R S ins direction _ none permitted
 suits_body R S ins direction b (Ending status) is none permitted = tt
 
 suits_header : (stage : Stage) (bytes : List ℕ) → SuitsFront stage (In_header bytes)

@@ -8,7 +8,7 @@ use Rattle.card_terminal.proofs.exchange.Exchange.next.Goals as goal
 pub returns-clause-goes_on : goal.returns-clause-goes_on
 returns-clause-goes_on g c = λ command units first front byte seen sends.
     let under = seen_under_way command _ _ units first front c.self.view_is seen in
-    sends_further command _ c.next.new.self _ units first front byte under c.next.ensures.after
+    sends_further command _ c.next.new.self units first front byte under c.next.ensures.after
     c.next.ensures.keeps (c.next.ensures.goes_on front byte under.stands sends)
 
 pub returns-clause-led : goal.returns-clause-led

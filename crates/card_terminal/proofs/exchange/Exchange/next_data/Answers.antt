@@ -10,7 +10,7 @@ returns-clause-sends g c = λ byte is.
 pub returns-clause-goes_on : goal.returns-clause-goes_on
 returns-clause-goes_on g c = λ command units first front byte seen is.
     let under = seen_under_way command _ _ units first front c.self.view_is seen in
-    sends_further command _ c.next_data.new.self _ units first front byte under
+    sends_further command _ c.next_data.new.self units first front byte under
     (c.next_data.ensures.sends byte is).1 c.next_data.ensures.keeps
     (c.next_data.ensures.goes_on front byte under.stands is)
 

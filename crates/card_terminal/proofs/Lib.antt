@@ -5,7 +5,7 @@ pub mod EndLemmas
 mod GoneLemmas
 pub mod SessionLemmas
 pub mod LeadsLemmas
-pub mod AnswerLemmas
+pub mod WholeTpduLemmas
 pub mod PrefixLemmas
 pub mod FetchLemmas
 pub mod OperationLemmas

@@ -452,8 +452,8 @@ pub when_ok : {A E : Type 0} (r : Result A E) (x : A) (P : A → Type 0) (Q : E 
 when_ok r x P Q is holds = let M : Result _ _ → Type 0 = λ s. MatchResult s P Q in
     subst M is holds
 
-pub done_sends_nothing : (status : StatusWord) (byte : ℕ) → Done status ≡ Sends byte → ⊥
-done_sends_nothing status byte e = absurd (cc)
+pub done_is_no_character : (status : StatusWord) (byte : ℕ) → Done status ≡ Sends byte → ⊥
+done_is_no_character status byte e = absurd (cc)
 
 same_status : (a b : StatusWord) → Done a ≡ Done b → a ≡ b
 same_status a b e = cc

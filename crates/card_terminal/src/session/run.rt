@@ -191,20 +191,20 @@ impl<C: DataCard> Session<C> {
             (point (C.standing self.new) plans.new.rest (W.hearing watch.new))) }
     {
         let mut exchange = Exchange::start(alloc, first)?;
-        let mut status = self.converse(&mut exchange, plans, watch);
+        let mut status = self.go_through(&mut exchange, plans, watch);
         'pieces: for command in others {
             if !status.is_ok() {
                 break;
             }
             exchange = exchange.again(command);
-            status = self.converse(&mut exchange, plans, watch);
+            status = self.go_through(&mut exchange, plans, watch);
         }
         Ok(exchange.into_answer().unwrap())
     }
 
     /// Passes the characters of an exchange that is begun until it is over, and answers its status.
     #[inline(always)]
-    fn converse<A: Allocator, B: Allocator, W: Watch>(
+    fn go_through<A: Allocator, B: Allocator, W: Watch>(
         &mut self,
         exchange: &mut Exchange<'_, A>,
         plans: &mut Plans<B>,

@@ -2,7 +2,7 @@ use Rattle.std.proofs.Common.{ap, inl, inr, refl}
 use Rattle.std.proofs.lemmas.Result.{err_from_is_err_and}
 use Rattle.t0_core.specs.Front.{After_first}
 use Rattle.card_terminal.specs.ExchangeSide.{is_final}
-use Rattle.card_terminal.proofs.AnswerLemmas.{took, under_took, front_took, leads_took, ends_took, leads_all, gives_inside, refused_ends, refused_leads}
+use Rattle.card_terminal.proofs.WholeTpduLemmas.{took, under_took, front_took, leads_took, ends_took, leads_all, gives_inside, refused_ends, refused_leads}
 use Rattle.card_terminal.proofs.exchange.Exchange.answered.Goals as goal
 
 pub returns-in-Ok-clause-ends : goal.returns-in-Ok-clause-ends

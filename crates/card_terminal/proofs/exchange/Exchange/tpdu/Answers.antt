@@ -1,4 +1,4 @@
-use Rattle.card_terminal.proofs.AnswerLemmas.{due_where_fresh}
+use Rattle.card_terminal.proofs.WholeTpduLemmas.{due_where_fresh}
 use Rattle.card_terminal.proofs.ExchangeLemmas.{seen_under_way}
 use Rattle.card_terminal.proofs.exchange.Exchange.tpdu.Goals as goal
 

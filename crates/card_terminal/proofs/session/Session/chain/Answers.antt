@@ -12,14 +12,14 @@ pieces-init g c =
     let from = point (card.standing c.args.self.now) c.args.plans.now.rest
     (g.W.Watch.hearing c.args.watch.now) in
     let same = c.into_iter-command-iterator.ensures.into_iter_gives in
-    let done = c.converse-status.ensures.over c.args.first c.requires.agreed.0
+    let done = c.go_through-status.ensures.over c.args.first c.requires.agreed.0
     c.in_ok-exchange.ensures.begins in
     record {
       been = as_left card.Does from _ _ _ _ _ _
           (sym same)
           (first_has_been card.Does from _ c.args.first c.args.others
-          c.converse-status.new.exchange done.0 c.converse-status.result done.1 done.2);
-      sound = c.converse-status.ensures.sound;
+          c.go_through-status.new.exchange done.0 c.go_through-status.result done.1 done.2);
+      sound = c.go_through-status.ensures.sound;
       agreed = subst (λ cs. AllByRecursion (λ x. IsAgreed card.MayReceive card.MaySend x) cs)
           (sym same) c.requires.agreed.1;
     }
@@ -32,16 +32,16 @@ pieces-preserved g c =
     let steps = c.in-Some.ensures.steps in
     let agreed = subst (λ cs. AllByRecursion (λ x. IsAgreed card.MayReceive card.MaySend x) cs)
     steps c.pieces.invariant.agreed in
-    let done = c.converse-status-in-pieces.ensures.over c.in-Some.command agreed.0
+    let done = c.go_through-status-in-pieces.ensures.over c.in-Some.command agreed.0
     c.again-exchange.ensures.begins in
     record {
       been = next_has_been card.Does from _ _ _ c.next.new.self c.in-Some.command
-          c.pieces.exchange c.converse-status-in-pieces.new.exchange done.0 c.pieces.status
-          c.converse-status-in-pieces.result
+          c.pieces.exchange c.go_through-status-in-pieces.new.exchange done.0 c.pieces.status
+          c.go_through-status-in-pieces.result
           (as_left card.Does from _ _ _ _ _ _
           steps c.pieces.invariant.been)
           (c.is_ok.ensures.0 c.if-not-is_ok.false) done.1 done.2;
-      sound = c.converse-status-in-pieces.ensures.sound;
+      sound = c.go_through-status-in-pieces.ensures.sound;
       agreed = agreed.1;
     }
 

@@ -2,8 +2,8 @@ use Rattle.std.proofs.Common.{ap, subst, ◌∙◌}
 use Rattle.object_card.specs.State.{IsCardState}
 use Rattle.card_terminal.specs.Conversing.{point}
 use Rattle.card_terminal.proofs.LeadsLemmas.{over_turn}
-use Rattle.card_terminal.proofs.RunLemmas.{never_caused, stays_sound, sound_at, ok_unless, when_ok, done_sends_nothing, over_then, gone_from}
-use Rattle.card_terminal.proofs.session.Session.converse.Goals as goal
+use Rattle.card_terminal.proofs.RunLemmas.{never_caused, stays_sound, sound_at, ok_unless, when_ok, done_is_no_character, over_then, gone_from}
+use Rattle.card_terminal.proofs.session.Session.go_through.Goals as goal
 
 pub converse-requires-clause-begun : goal.converse-requires-clause-begun
 converse-requires-clause-begun g c =
@@ -48,7 +48,7 @@ returns-clause-over g c = λ command agreed way.
       over.units,
       over_then command c.converse.new.exchange c.next.new.self over.units over.status
           c.in-Done.status over.terminal
-          (c.in-Done.ensures.stays (λ byte. done_sends_nothing c.in-Done.status byte))
+          (c.in-Done.ensures.stays (λ byte. done_is_no_character c.in-Done.status byte))
           c.in-Done.ensures.turn,
       gone_from card.Does (point first plans.rest now) _ _ _
           (ap (λ x. point (card.standing x) plans.rest now) c.self.view_is) over.gone,

@@ -6,6 +6,8 @@ use Rattle.apdu_core.specs.StatusWord.{StatusWord, ok, count, announces}
 use Rattle.apdu_core.specs.CommandBytes.{Command}
 use Rattle.t0_core.specs.Plan.{IsCut}
 use Rattle.t0_core.specs.Meaning.{Tpdu}
+use Rattle.object_card.specs.declared.instructions.Instruction.TheVariants.{Select, GetData, PutData, GetResponse}
+use Rattle.object_card.specs.Instructions.{ins_of}
 use Rattle.object_card.specs.State.{CardState, is_idle, waiting, pending_of}
 use Rattle.object_card.specs.OneStep.{Operation, Answers, SameTables}
 use Rattle.object_card.specs.CardMeaning.{Does, announcing}
@@ -13,16 +15,16 @@ use Rattle.object_card.specs.CardMeaning.{Does, announcing}
 -- The headers: SELECT by identifier, GET DATA, PUT DATA as the last of its chain, and GET RESPONSE,
 -- whose class is that of no chain and no channel (this project's profile).
 abbrev pub select_header : Header
-select_header = record { cla = 0x00; ins = 0xA4; p1 = 0x04; p2 = 0x00 }
+select_header = record { cla = 0x00; ins = ins_of Select; p1 = 0x04; p2 = 0x00 }
 
 abbrev pub get_header : ℕ → ℕ → Header
-get_header p1 p2 = record { cla = 0x00; ins = 0xCA; p1 = p1; p2 = p2 }
+get_header p1 p2 = record { cla = 0x00; ins = ins_of GetData; p1 = p1; p2 = p2 }
 
 abbrev pub put_header : ℕ → ℕ → Header
-put_header p1 p2 = record { cla = 0x00; ins = 0xDA; p1 = p1; p2 = p2 }
+put_header p1 p2 = record { cla = 0x00; ins = ins_of PutData; p1 = p1; p2 = p2 }
 
 abbrev pub get_response : Header
-get_response = record { cla = 0x00; ins = 0xC0; p1 = 0x00; p2 = 0x00 }
+get_response = record { cla = 0x00; ins = ins_of GetResponse; p1 = 0x00; p2 = 0x00 }
 
 -- The operation is answered so in one step, the tables are what that leaves, and no chain is
 -- pending.

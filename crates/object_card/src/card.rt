@@ -13,7 +13,7 @@ use crate::command_data::take_data;
 use crate::data_card::DataCard;
 use crate::entries::{Apps, Entries};
 use crate::limits::VALUE_LIMIT;
-use crate::pending_chain::{give_up, settle};
+use crate::pending_chain::{give_up, restore, settle};
 use crate::put_data::store;
 use crate::ready::{Put, Ready};
 use crate::response::Response;
@@ -205,7 +205,7 @@ impl<A: Allocator + Copy> TpduCard for ObjectCard<A> {
     }
 
     fn reset(&mut self) {
-        self.chain.drop_all();
+        restore(&mut self.chain, None);
         self.selected = None;
         self.response = None;
         self.ready = Ready::Nothing;

@@ -48,7 +48,7 @@ pub(crate) fn settle<A: Allocator>(chain: &mut Chain<A>, ready: Ready)
     }
 }
 
-/// The chain as it was, before a piece joined it.
+/// The chain as it was, before a piece joined it; none, where none was pending.
 pub(crate) fn restore<A: Allocator>(chain: &mut Chain<A>, before: Option<usize>)
     requires { IfSome before (λ len. len ≤ length chain.old.bytes) }
     ensures { chain.new ≡ chain_before chain.old before }

@@ -5,7 +5,7 @@ use Rattle.object_card.proofs.card.ObjectCardTpduCard.reset.Goals as goal
 
 pub invariant_of-self : goal.invariant_of-self
 invariant_of-self g c =
-    is_fresh c.self.inside.applications.items c.drop_all.new.self
+    is_fresh c.self.inside.applications.items c.restore.new.chain
     c.self.invariant.standing.sound.are_applications
-    (c.drop_all.ensures ∙ ap idle (sym (standing_limit c.self.inside.chain c.self.inside.ready)
+    (c.restore.ensures ∙ ap idle (sym (standing_limit c.self.inside.chain c.self.inside.ready)
     ∙ c.self.invariant.standing.limit_is))

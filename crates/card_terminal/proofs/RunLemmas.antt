@@ -27,6 +27,10 @@ use Rattle.object_card.specs.CardMeaning.{Does}
 use Rattle.object_card.specs.DataCard.{StandsFor}
 use Rattle.object_card.specs.OneStep.{Operation, Reply, AnswersAll}
 use Rattle.card_terminal.specs.declared.operation.Op.{Op}
+use Rattle.object_card.specs.declared.instructions.Instruction.{Instruction}
+use Rattle.object_card.specs.declared.instructions.Instruction.TheVariants.{Select, GetData, PutData, GetResponse}
+use Rattle.object_card.specs.Instructions.{MayReceive, MaySend, ins_of, takes_data}
+use Rattle.object_card.specs.InstructionLaws.{one_way}
 use Rattle.card_terminal.specs.Agreed.{IsAgreed}
 use Rattle.card_terminal.specs.Gathered.{Gathers, Opening, By_command, By_fetch, UnitOf, dialogues_of, repeated_with}
 use Rattle.card_terminal.specs.declared.wanted.Wanted.{Wanted}
@@ -303,43 +307,36 @@ have_answers Own own_reset state_of stands from to old new was is operations rep
 
 -- what a card of data objects may take and send under
 pub record KeepsTo (R S : ℕ → Type 0) : Type 0 where
-  pub receives : (ins : ℕ) → R ins ↔ ((ins ≡ 0xA4) ⊎ (ins ≡ 0xDA))
-  pub sends : (ins : ℕ) → S ins ↔ ((ins ≡ 0xCA) ⊎ (ins ≡ 0xC0))
+  pub receives : (ins : ℕ) → R ins ↔ MayReceive ins
+  pub sends : (ins : ℕ) → S ins ↔ MaySend ins
+
+no_data_from : (R S : ℕ → Type 0) → KeepsTo R S → (i : Instruction) → takes_data i ≡ true
+    → S (ins_of i) → ⊥
+no_data_from R S keeps i takes sends =
+    one_way (ins_of i) (i, refl, takes) ((keeps.sends (ins_of i)).0 sends)
+
+no_data_to : (R S : ℕ → Type 0) → KeepsTo R S → (i : Instruction) → takes_data i ≡ false
+    → R (ins_of i) → ⊥
+no_data_to R S keeps i gives takes =
+    one_way (ins_of i) ((keeps.receives (ins_of i)).0 takes) (i, refl, gives)
 
 agreed_select_by : (R S : ℕ → Type 0) → KeepsTo R S → (aid : List ℕ) → 5 ≤ length aid
     → IsAgreed R S (select_command aid)
 agreed_select_by R S keeps [] long = absurd (omega (arith, long))
-agreed_select_by R S keeps (b ∷ bs) long = (
-  λ sends. elim ((keeps.sends 0xA4).0 sends) [
-    | inl e ↦ absurd (omega (arith, e))
-    | inr e ↦ absurd
-        (omega (arith, e))
-  ],
-  λ takes. elim ((keeps.receives 0xC0).0 takes) [
-    | inl e ↦ absurd (omega (arith, e))
-    | inr e ↦ absurd
-        (omega (arith, e))
-  ],
-)
+agreed_select_by R S keeps (b ∷ bs) long =
+    (no_data_from R S keeps Select refl, no_data_to R S keeps GetResponse refl)
 
 pub agreed_select : (R S : ℕ → Type 0) → KeepsTo R S → (aid : List ℕ) → IsAid aid
     → IsAgreed R S (select_command aid)
 agreed_select R S keeps aid is = agreed_select_by R S keeps aid is.0
 
-no_data_from_a_put : (R S : ℕ → Type 0) → KeepsTo R S → S 0xDA → ⊥
-no_data_from_a_put R S keeps sends =
-    elim ((keeps.sends 0xDA).0 sends) [
-      | inl e ↦ absurd (omega (arith, e))
-      | inr e ↦ absurd (omega
-          (arith, e))
-    ]
-
-agreed_link : (R S : ℕ → Type 0) → KeepsTo R S → (h : Header) → h.ins ≡ 0xDA
+agreed_link : (R S : ℕ → Type 0) → KeepsTo R S → (h : Header) → h.ins ≡ ins_of PutData
     → (piece : List ℕ) → IsAgreed R S (link h piece)
-agreed_link R S keeps h is [] = λ sends. no_data_from_a_put R S keeps (subst S is sends)
-agreed_link R S keeps h is (b ∷ bs) = λ sends. no_data_from_a_put R S keeps (subst S is sends)
+agreed_link R S keeps h is [] = λ sends. no_data_from R S keeps PutData refl (subst S is sends)
+agreed_link R S keeps h is (b ∷ bs) =
+    λ sends. no_data_from R S keeps PutData refl (subst S is sends)
 
-pub agreed_pieces : (R S : ℕ → Type 0) → KeepsTo R S → (h : Header) → h.ins ≡ 0xDA
+pub agreed_pieces : (R S : ℕ → Type 0) → KeepsTo R S → (h : Header) → h.ins ≡ ins_of PutData
     → (pieces : List (List ℕ))
     → AllByRecursion (λ c. IsAgreed R S c) (chain_commands h pieces)
 agreed_pieces R S keeps h is [] = tt
@@ -502,8 +499,8 @@ never_both false one two = absurd (cc)
 
 -- ---- what an operation has been answered
 
-pub keeps_to : (R S : ℕ → Type 0) → ((ins : ℕ) → R ins ↔ ((ins ≡ 0xA4) ⊎ (ins ≡ 0xDA)))
-    → ((ins : ℕ) → S ins ↔ ((ins ≡ 0xCA) ⊎ (ins ≡ 0xC0))) → KeepsTo R S
+pub keeps_to : (R S : ℕ → Type 0) → ((ins : ℕ) → R ins ↔ MayReceive ins)
+    → ((ins : ℕ) → S ins ↔ MaySend ins) → KeepsTo R S
 keeps_to R S receives sends = record { receives = receives; sends = sends }
 
 -- a list of commands with some exchanges that are gone through

@@ -11,7 +11,7 @@ use apdu_core::{Header, Status};
 /// The header of a GET RESPONSE (ISO/IEC 7816-4, GET RESPONSE).
 pub const GET_RESPONSE: Header = Header {
     cla: 0x00,
-    ins: 0xC0,
+    ins: object_card::GET_RESPONSE,
     p1: 0x00,
     p2: 0x00,
 };

@@ -26,7 +26,7 @@ use crate::exchange::Exchange;
 use crate::operation::Op;
 use crate::session_fault::SessionFault;
 use apdu_core::{Command, Header, Pieces, Status, pieces};
-use object_card::{Aid, DataCard};
+use object_card::{Aid, DataCard, GET_DATA, PUT_DATA, SELECT};
 use std::alloc::{AllocError, Allocator};
 use t0_core::{HostTurn, Plans, Watch};
 use tlv_core::ObjectTag;
@@ -157,7 +157,7 @@ impl<C: DataCard> Session<C> {
         let (p1, p2) = tag.p1p2();
         let header = Header {
             cla: 0x00,
-            ins: 0xDA,
+            ins: PUT_DATA,
             p1,
             p2,
         };
@@ -236,7 +236,7 @@ fn select_command(aid: &Aid) -> Command<'_>
 {
     let header = Header {
         cla: 0x00,
-        ins: 0xA4,
+        ins: SELECT,
         p1: 0x04,
         p2: 0x00,
     };
@@ -250,7 +250,7 @@ fn get_command(tag: ObjectTag) -> Command<'static>
     let (p1, p2) = tag.p1p2();
     let header = Header {
         cla: 0x00,
-        ins: 0xCA,
+        ins: GET_DATA,
         p1,
         p2,
     };

@@ -1,5 +1,5 @@
 //! The data of a SELECT or a PUT DATA, and the answer that is decided on them.
-ghost use Rattle.std.specs.Prelude.{◌≡◌, None, length};
+ghost use Rattle.std.specs.Prelude.{◌≡◌, ◌≢◌, None, length, true, false};
 ghost use Rattle.t0_core.specs.Meaning.{Decides, IsReceiving, taken_with};
 ghost use Rattle.object_card.specs.CardMeaning.{Does};
 ghost use Rattle.object_card.specs.CardFields.{state_of};
@@ -15,7 +15,7 @@ use crate::response::Response;
 use crate::select_command::select;
 use crate::status_words::status;
 use crate::view::View;
-use apdu_core::{Chain, Status};
+use apdu_core::{Chain, Header, Status};
 use std::alloc::Allocator;
 
 /// What is decided on the data to the card.
@@ -71,7 +71,7 @@ pub(crate) fn take_data<A: Allocator + Copy>(
     }
     let before = pending_len(chain);
     join(chain, header, content);
-    if header.cla == CHAINED {
+    if is_piece(header) {
         return Taken {
             status: status(0x90, 0x00),
             ready: Ready::Joins { before },
@@ -81,4 +81,12 @@ pub(crate) fn take_data<A: Allocator + Copy>(
     let taken = put_value(applications, selected.unwrap(), header, chain.bytes());
     restore(chain, before);
     taken
+}
+
+/// Whether the command is not the last of its chain (ISO/IEC 7816-4, 5.1.1.1).
+fn is_piece(header: Header) -> bool
+    ensures piece { result ≡ true → header.cla ≡ 0x10 }
+    ensures last { result ≡ false → header.cla ≢ 0x10 }
+{
+    header.cla == CHAINED
 }

@@ -51,9 +51,9 @@ join-requires-clause-room g c =
           c.requires.standing c.pending_len-before.ensures.chain fits.0.taken put,
     )
 
-pub returns-then-header-eq-CHAINED-clause-decided :
-    goal.returns-then-header-eq-CHAINED-clause-decided
-returns-then-header-eq-CHAINED-clause-decided g c =
+pub returns-then-is_piece-clause-decided :
+    goal.returns-then-is_piece-clause-decided
+returns-then-is_piece-clause-decided g c =
     let Fits : Ready → Type 0 = λ r. IsReady c.args.applications.now c.args.selected
     c.args.chain.now c.args.response r None in
     let fits = subst Fits c.in-Receives.is c.requires.fits in
@@ -69,7 +69,7 @@ returns-then-header-eq-CHAINED-clause-decided g c =
     let does = lemmas.joins_does c.args.applications.now c.args.selected c.args.chain.now
     c.args.response c.in-Receives.header c.in-Receives.cut c.args.content.now c.status.result
     c.requires.standing c.pending_len-before.ensures.chain asked put
-    c.if-header-eq-CHAINED.true c.status.ensures in
+    (c.is_piece.ensures.piece c.if-is_piece.true) c.status.ensures in
     let Next : ChainState → Type 0 =
     λ x. Does (state_of c.args.applications.now c.args.selected c.args.chain.now
     c.args.response) c.in-Receives.cut
@@ -103,8 +103,8 @@ returns-then-header-eq-CHAINED-clause-decided g c =
           long (subst Next (sym c.join.ensures) does),
     )
 
-pub returns-then-header-eq-CHAINED-clause-fits : goal.returns-then-header-eq-CHAINED-clause-fits
-returns-then-header-eq-CHAINED-clause-fits g c =
+pub returns-then-is_piece-clause-fits : goal.returns-then-is_piece-clause-fits
+returns-then-is_piece-clause-fits g c =
     let Fits : Ready → Type 0 = λ r. IsReady c.args.applications.now c.args.selected
     c.args.chain.now c.args.response r None in
     let fits = subst Fits c.in-Receives.is c.requires.fits in
@@ -132,7 +132,7 @@ returns-then-header-eq-CHAINED-clause-fits g c =
     let standing = lemmas.joins_standing c.args.applications.now c.args.selected c.args.chain.now
     c.args.response c.in-Receives.header c.in-Receives.cut c.args.content.now c.status.result
     c.requires.standing c.pending_len-before.ensures.chain asked put
-    c.if-header-eq-CHAINED.true c.status.ensures in
+    (c.is_piece.ensures.piece c.if-is_piece.true) c.status.ensures in
     let Stands : ChainState → Type 0 = λ x. IsStanding c.args.applications.now c.args.selected x
     None in
     let Was : ChainState → Type 0 = λ x. IsStanding c.args.applications.now c.args.selected x
@@ -152,8 +152,8 @@ returns-then-header-eq-CHAINED-clause-fits g c =
       );
     }
 
-pub returns-then-header-eq-CHAINED-clause-keeps : goal.returns-then-header-eq-CHAINED-clause-keeps
-returns-then-header-eq-CHAINED-clause-keeps g c =
+pub returns-then-is_piece-clause-keeps : goal.returns-then-is_piece-clause-keeps
+returns-then-is_piece-clause-keeps g c =
     let Fits : Ready → Type 0 = λ r. IsReady c.args.applications.now c.args.selected
     c.args.chain.now c.args.response r None in
     let fits = subst Fits c.in-Receives.is c.requires.fits in
@@ -268,7 +268,7 @@ returns-clause-decided g c =
     c.args.content.now c.put_value-taken.result.status c.put_value-taken.result.ready
     (option_map (λ p. (p.tag, p.value.items)) c.put_value-taken.result.put)
     (subst Standing c.unwrap.ensures c.requires.standing) (subst Asked c.unwrap.ensures fits.0) put
-    long c.pending_len-before.ensures.chain c.if-header-eq-CHAINED.false outcome in
+    long c.pending_len-before.ensures.chain (c.is_piece.ensures.last c.if-is_piece.false) outcome in
     let Chosen : Option ℕ → Type 0 = λ v. Decides Does
     (state_of c.args.applications.now v c.args.chain.now c.args.response) c.in-Receives.cut
     (taken_with
@@ -346,7 +346,7 @@ returns-clause-fits g c =
     c.args.content.now c.put_value-taken.result.status c.put_value-taken.result.ready
     (option_map (λ p. (p.tag, p.value.items)) c.put_value-taken.result.put)
     (subst Standing c.unwrap.ensures c.requires.standing) (subst Asked c.unwrap.ensures fits.0) put
-    long c.pending_len-before.ensures.chain c.if-header-eq-CHAINED.false outcome in
+    long c.pending_len-before.ensures.chain (c.is_piece.ensures.last c.if-is_piece.false) outcome in
     let Chosen : Option ℕ → Type 0 = λ v. IsCard c.put_value-taken.new.applications v
     c.args.chain.now c.args.response c.put_value-taken.result.ready
     (option_map (λ p. (p.tag, p.value.items)) c.put_value-taken.result.put) in
@@ -395,7 +395,7 @@ returns-clause-keeps g c =
     c.args.content.now c.put_value-taken.result.status c.put_value-taken.result.ready
     (option_map (λ p. (p.tag, p.value.items)) c.put_value-taken.result.put)
     (subst Standing c.unwrap.ensures c.requires.standing) (subst Asked c.unwrap.ensures fits.0) put
-    long c.pending_len-before.ensures.chain c.if-header-eq-CHAINED.false outcome in
+    long c.pending_len-before.ensures.chain (c.is_piece.ensures.last c.if-is_piece.false) outcome in
     let Keeps : Option ℕ → Type 0 = λ v. state_of c.put_value-taken.new.applications v
     (standing_chain c.args.chain.now c.put_value-taken.result.ready) c.args.response
     ≡ state_of c.args.applications.now v c.args.chain.now c.args.response in

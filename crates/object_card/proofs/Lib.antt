@@ -1,4 +1,4 @@
-pub mod AnswerLemmas
+pub mod VerdictLemmas
 pub mod AnsweredLemmas
 pub mod BuilderLemmas
 pub mod CardMethodLemmas

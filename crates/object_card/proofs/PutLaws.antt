@@ -1,4 +1,4 @@
--- A value is put in one way.
+-- A value has one status with which it is put among some entries.
 use Rattle.std.proofs.Common.{◌≡◌, ◌<◌, ◌≤◌, ℕ, List, length, None, true, false, ◌⊎◌, inl, inr, refl, sym, ap, arith, ◌∙◌}
 use Rattle.std.specs.Prelude.{is_some}
 use Rattle.apdu_core.specs.StatusWord.{StatusWord}

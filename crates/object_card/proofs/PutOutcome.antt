@@ -15,7 +15,7 @@ use Rattle.object_card.specs.CardFields.{ApplicationView, state_of}
 use Rattle.object_card.specs.CardView.{NewValue, IsStanding, IsAsked, IsCard, prepared_of, standing_chain}
 use Rattle.object_card.specs.PutData.{IsPut}
 use Rattle.object_card.specs.StateLaws.{stays_sound}
-use Rattle.object_card.proofs.AnswerLemmas.{leaves_standing}
+use Rattle.object_card.proofs.VerdictLemmas.{leaves_standing}
 use Rattle.object_card.proofs.PutDataLemmas.{last_class, same_state, same_standing, stores_does, does_not_does, state_put}
 
 stored_free : (entries : List Entry) (tag value : List ℕ) (status : StatusWord)

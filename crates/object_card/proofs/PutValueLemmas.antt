@@ -1,4 +1,4 @@
--- How data are taken.
+-- Why a value is not put, and how an application is found by its identifier.
 use Rattle.std.proofs.Common.{◌≡◌, ◌≢◌, ◌∙◌, ℕ, zero, suc, ◌+◌, ◌<◌, ◌≤◌, List, [], ◌∷◌, length, drop, Option, Some, None, true, false, refl, sym, ap, subst, arith, add-one}
 use Rattle.std.specs.Prelude.{slice_get, slice_set, option_map, is_some, IsNone, if◌then◌else◌}
 use Rattle.apdu_core.specs.StatusWord.{StatusWord, ok}

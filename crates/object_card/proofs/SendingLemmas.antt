@@ -20,7 +20,7 @@ use Rattle.object_card.specs.CardFields.{ApplicationView, IsResponse, held_at, e
 use Rattle.object_card.specs.CardView.{IsStanding, IsAsked}
 use Rattle.object_card.specs.StateLaws.{stays_sound}
 use Rattle.object_card.proofs.CardFieldLemmas.{entries-sound, entries-known}
-use Rattle.object_card.proofs.AnswerLemmas.{leaves_standing, enough_left}
+use Rattle.object_card.proofs.VerdictLemmas.{leaves_standing, enough_left}
 
 abbrev pub next_at : ℕ → Response → Option Response
 next_at left rest = if left == 0 then None else Some rest

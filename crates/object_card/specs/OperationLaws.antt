@@ -14,7 +14,7 @@ use Rattle.tlv_core.specs.Length.{shortest}
 use Rattle.tlv_core.specs.Spelling.{object_bytes}
 use Rattle.object_card.specs.Tables.{Entry, IsAid, entries_in, value_under}
 use Rattle.object_card.specs.State.{CardState, Pending, NothingPending, ChainPending, ResponsePending, is_idle, waiting, pending_of, selected_entries, with_selected}
-use Rattle.object_card.specs.OneStep.{Operation, Select, Get, Reply, reply, Answers, selects, finds_no_application, none_selected, finds_no_object, gives, control_information, SameTables, AnswersAll}
+use Rattle.object_card.specs.OneStep.{Operation, Select, Get, reply, Answers, selects, finds_no_application, none_selected, finds_no_object, gives, control_information, SameTables}
 use Rattle.object_card.specs.Refusals.{is_select, is_get, is_get_response, refusal, breaks_chain, named_tag, to_send}
 use Rattle.object_card.specs.CardMeaning.{Does, announcing}
 use Rattle.object_card.specs.CarryingOut.{select_header, get_header, IsCarriedOut, Carries, FetchAll}
@@ -461,28 +461,3 @@ get_again_is_carried_out old next mid new tag p1 p2 before cut n t u fetches las
           subst (λ bs. IsCarriedOut old (Get tag) last (bs ++ all_brought (u ∷ fetches)) new)
           (sym nothing) at_old
     ]
-
--- ---- one operation after another
-
--- One more operation is carried out.
-pub one_more_answer : (first mid new : CardState) (operations : List Operation)
-    (replies : List Reply) (operation : Operation) (status : StatusWord) (content : List ℕ)
-    → AnswersAll first operations replies mid → IsCarriedOut mid operation status content new
-    → AnswersAll first (operations ++ operation ∷ [])
-    (replies ++ record { status = status; content = content } ∷ []) new
-one_more_answer first mid new [] [] operation status content so_far (after, answers, same, idle) =
-    let (here, now, tables) =
-    answers_alike mid first after operation (record { status = status; content = content })
-    (sym so_far.0, sym so_far.1) answers in
-    (here, now, (sym tables.0 ∙ same.0, sym tables.1 ∙ same.1))
-one_more_answer first mid new [] (r ∷ replies) operation status content so_far carried =
-    absurd so_far
-one_more_answer first mid new (o ∷ operations) [] operation status content so_far carried =
-    absurd so_far
-one_more_answer first mid new (o ∷ operations) (r ∷ replies) operation status content
-    (next, answers, rest) carried = (
-      next,
-      answers,
-      one_more_answer next mid new operations replies operation status content rest
-          carried,
-    )

@@ -331,11 +331,3 @@ module _ (tag : List ℕ) (p1 p2 : ℕ) (is_named : NamesTag tag p1 p2) where
           subst (λ v. IsCarriedOut old (Put tag v) other_status [] new) all
           (up_to_one first others before c after old old mid new [] other_status begun split
           taken answered other)
-
--- One more command is taken.
-pub taken_more : (old mid new : CardState) (before : List Command) (c : Command)
-    → AreTaken old before mid → IsAnswered mid c ok new → AreTaken old (before ++ c ∷ []) new
-taken_more old mid new [] c taken answered =
-    (new, subst (λ s. IsAnswered s c ok new) taken answered, refl)
-taken_more old mid new (b ∷ before) c taken answered =
-    (taken.0, taken.1, taken_more taken.0 mid new before c taken.2 answered)

@@ -1,3 +1,4 @@
+//! The identifier of an application.
 ghost use Rattle.std.specs.Prelude.{◌≡◌, ◌↔◌, ℕ, List, IsSome, IfSome};
 ghost use Rattle.object_card.specs.Tables.{IsAid};
 

@@ -1,3 +1,4 @@
+//! An application of a card: its identifier, and its data objects in a map.
 ghost use Rattle.std.specs.Prelude.{◌≡◌, ◌<◌, [], length, map, Some, None, true, is_some, MatchOption, IfSome, IfOk, IsOk, OnOk, slice_get};
 ghost use Rattle.std.specs.Option.{option_map};
 ghost use Rattle.object_card.specs.Tables.{value_under, is_locked, with_entry};

@@ -1,3 +1,4 @@
+//! The builder of a card, which takes applications and data objects one by one.
 ghost use Rattle.std.specs.Prelude.{◌≡◌, List, [], length, None, true, false, OnOk, OnErr, IfOk, IfErr, MatchResult};
 ghost use Rattle.tlv_core.specs.Address.{IsAddressable};
 ghost use Rattle.object_card.specs.Tables.{with_entry};

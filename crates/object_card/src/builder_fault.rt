@@ -1,3 +1,4 @@
+//! Why a builder refuses an application or a data object.
 use std::alloc::AllocError;
 use std::error::Error;
 use std::fmt;

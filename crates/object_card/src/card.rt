@@ -1,3 +1,4 @@
+//! The card of data objects: what it holds, and how it serves a TPDU.
 ghost use Rattle.std.specs.Prelude.{◌≡◌, map, refl, Some, None, MatchOption, slice_get};
 ghost use Rattle.std.specs.Option.{option_map};
 ghost use Rattle.apdu_core.specs.Chaining.{idle};

@@ -1,3 +1,4 @@
+//! What is known of every card of data objects.
 ghost use Rattle.std.specs.Prelude.{◌≡◌, ◌↔◌, ℕ, ◌≤◌, length};
 ghost use Rattle.object_card.specs.State.{CardState, IsCardState, is_idle, waiting};
 ghost use Rattle.object_card.specs.DataCard.{StandsFor};

@@ -20,7 +20,8 @@ pub const GET_RESPONSE: u8 = 0xC0;
 /// CLA of a command that is not the last of its chain.
 pub(crate) const CHAINED: u8 = 0x10;
 
-/// An instruction that a card of data objects takes (ISO/IEC 7816-4; which: this project's profile).
+/// An instruction that a card of data objects takes (ISO/IEC 7816-4; which of them: this project's
+/// profile).
 #[derive(Clone, Copy, Debug, PartialEq, Eq)]
 pub enum Instruction {
     /// SELECT by identifier: P1-P2 `0400`; the identifier goes to the card.

@@ -1,3 +1,4 @@
+//! The fields of a card, lent to what judges a header.
 use crate::application::Application;
 use crate::response::Response;
 use apdu_core::Chain;

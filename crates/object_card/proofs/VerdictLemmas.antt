@@ -1,4 +1,4 @@
--- What is ready, and what stands once an answer is handed out.
+-- What a verdict on a header leaves ready, and what a header that is not refused has to send.
 use Rattle.std.proofs.Common.{◌≡◌, ◌≢◌, ◌∙◌, ℕ, zero, suc, ◌≤◌, List, [], length, Option, Some, None, Bool, true, false, ◌⊎◌, inl, inr, refl, sym, ap, subst, arith}
 use Rattle.std.specs.Prelude.{unwrap_or, option_map, IfSome, IsSome, if◌then◌else◌, ◌==◌, ◌&&◌, ◌||◌, nat_lt}
 use Rattle.std.proofs.lemmas.Bool.{true≢false, ltb-false, ne_eqb, not-false, eqb-true}
@@ -80,16 +80,6 @@ leaves_standing held selected chain response next standing fits sound = record {
   response_is = fits;
   alone = λ some. refl;
 }
-
-pub kept_fits : (P : Response → Type 0) (h : Header) (status : StatusWord)
-    (response next : Option Response)
-    → next ≡ kept_after h status response → IfSome response P → IfSome next P
-kept_fits P h status response next is fits = subst (λ r. IfSome r P) (sym is)
-    (split (is_get_response h && (status.0 == 0x6C)))
-  where
-    split : (b : Bool) → IfSome (if b then response else None) P
-    split true = fits
-    split false = tt
 
 -- a header that is not refused
 known_sending : (n : ℕ) → ((n == 0xA4) || (n == 0xCA) || (n == 0xDA) || (n == 0xC0)) ≡ true

@@ -6,7 +6,8 @@ use Rattle.apdu_core.specs.CommandBytes.{Command, IsCommand, command_bytes}
 use Rattle.t0_core.specs.Plan.{Course}
 use Rattle.object_card.specs.OneStep.{Reply}
 use Rattle.object_card.specs.CardMeaning.{Does}
-use Rattle.card_terminal.specs.Agreed.{IsAgreed}
+use Rattle.object_card.specs.Agreed.{IsAgreed}
+use Rattle.object_card.specs.Instructions.{MayReceive, MaySend}
 use Rattle.card_terminal.specs.Gathered.{UnitOf, Gathers, dialogues_of}
 use Rattle.card_terminal.specs.Conversing.{point, HaveGone}
 use Rattle.card_c.specs.declared.card_side.CardSide.{CardSide}
@@ -15,14 +16,6 @@ use Rattle.card_c.specs.declared.session_side.SessionSide.{SessionSide}
 use Rattle.card_c.specs.Codes.{gt_ok, gt_state, gt_memory, gt_argument, command_code}
 use Rattle.card_c.specs.ExchangeCalls.{AreNone}
 use Rattle.card_c.specs.SessionCalls.{IsAsBefore, silence}
-
--- data may go to a card of data objects after SELECT and PUT DATA
-abbrev pub MayReceive : ℕ → Type 0
-MayReceive ins = (ins ≡ 0xA4) ⊎ (ins ≡ 0xDA)
-
--- data may come from it after GET DATA and GET RESPONSE
-abbrev pub MaySend : ℕ → Type 0
-MaySend ins = (ins ≡ 0xCA) ⊎ (ins ≡ 0xC0)
 
 -- The command has its answer, gathered from units that have gone over the line, under the plans,
 -- which are then used up.

@@ -1,14 +1,15 @@
 //! Any one command, sent to the card of a session.
-ghost use Rattle.std.specs.Prelude.{◌≡◌, ◌↔◌, IsTrue};
-ghost use Rattle.card_terminal.specs.Agreed.{IsAgreed};
+ghost use Rattle.object_card.specs.Agreed.{IsAgreed};
+ghost use Rattle.object_card.specs.Instructions.{MayReceive, MaySend};
 ghost use Rattle.card_c.specs.CardHandle.{held_by, OnHandle};
-ghost use Rattle.card_c.specs.SendCalls.{MayReceive, MaySend, SendsAgreed, SendsBytes};
+ghost use Rattle.card_c.specs.SendCalls.{SendsAgreed, SendsBytes};
 
 use crate::card_held::GtCard;
 use crate::card_side::CardSide;
 use crate::code;
 use crate::session_side::SessionSide;
 use apdu_core::Command;
+use object_card::is_agreed;
 use std::alloc::Global;
 use t0_core::{Plans, Recorder};
 
@@ -45,19 +46,6 @@ fn send(alloc: Global, side: &mut CardSide, bytes: &[u8]) -> i32
             }
         }
         Err(fault) => code::of_command(fault),
-    }
-}
-
-/// Whether the command is agreed with a card of data objects: GET DATA and GET RESPONSE ask for
-/// data and send none, and SELECT and PUT DATA are no commands that only ask.
-fn is_agreed(command: &Command) -> bool
-    ensures { IsTrue result ↔ IsAgreed MayReceive MaySend command.now }
-{
-    let only_asks = command.data().is_empty() && command.le().is_some();
-    match command.header().ins {
-        0xA4 | 0xDA => !only_asks,
-        0xCA | 0xC0 => only_asks,
-        _ => true,
     }
 }
 

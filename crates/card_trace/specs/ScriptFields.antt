@@ -8,7 +8,8 @@ use Rattle.t0_core.specs.declared.plan.Step.{Step}
 use Rattle.t0_core.specs.declared.plan.Step.TheVariants.{Null, One, All}
 use Rattle.t0_core.specs.Plan.{Course, IsCut}
 use Rattle.object_card.specs.Tables.{IsAid}
-use Rattle.card_terminal.specs.Agreed.{IsAgreed}
+use Rattle.object_card.specs.Agreed.{IsAgreed}
+use Rattle.object_card.specs.Instructions.{MayReceive, MaySend}
 
 -- HEX: an even number of hexadecimal digits, at least two, in either case
 pub record IsHexText (text bytes : List ℕ) : Type 0 where
@@ -63,14 +64,6 @@ pub record IsPlanText (steps_text cut_text : List ℕ) (plan : Course) : Type 0 
   pub steps : IsStepsText steps_text plan.steps
   pub cut : IsNumberText cut_text plan.cut
   pub cut_in_range : IsCut plan.cut
-
--- data may go to a card of data objects after SELECT and PUT DATA
-abbrev pub MayReceive : ℕ → Type 0
-MayReceive ins = (ins ≡ 0xA4) ⊎ (ins ≡ 0xDA)
-
--- data may come from it after GET DATA and GET RESPONSE
-abbrev pub MaySend : ℕ → Type 0
-MaySend ins = (ins ≡ 0xCA) ⊎ (ins ≡ 0xC0)
 
 -- the bytes of a command that is agreed with a card of data objects
 abbrev pub AreOfAgreedCommand : List ℕ → Type 0

@@ -1,13 +1,14 @@
 //! The fields of a line: hexadecimal text, tags, identifiers, values, plans, numbers and commands.
 //! What owns memory, or is decoded from HEX, may be refused as `OutOfMemory` besides.
-ghost use Rattle.std.specs.Prelude.{◌≡◌, ◌↔◌, ℕ, List, IsTrue, IfOk, IfErr, MatchOption, MatchResult};
+ghost use Rattle.std.specs.Prelude.{◌≡◌, ℕ, List, IfOk, IfErr, MatchOption, MatchResult};
 ghost use Rattle.t0_core.specs.declared.plan.Step.{Step};
 ghost use Rattle.t0_core.specs.Plan.{Course};
 ghost use Rattle.tlv_core.specs.Address.{IsAddressable};
 ghost use Rattle.apdu_core.specs.CommandBytes.{IsCommand, command_bytes};
-ghost use Rattle.card_terminal.specs.Agreed.{IsAgreed};
+ghost use Rattle.object_card.specs.Agreed.{IsAgreed};
+ghost use Rattle.object_card.specs.Instructions.{MayReceive, MaySend};
 ghost use Rattle.card_trace.specs.ScriptReasons.{OnReason};
-ghost use Rattle.card_trace.specs.ScriptFields.{IsHexText, IsAidText, IsTagText, IsNumberText, IsRepeatedText, IsValueText, IsStepsText, IsPlanText, MayReceive, MaySend, AreOfAgreedCommand, IsCommandText};
+ghost use Rattle.card_trace.specs.ScriptFields.{IsHexText, IsAidText, IsTagText, IsNumberText, IsRepeatedText, IsValueText, IsStepsText, IsPlanText, AreOfAgreedCommand, IsCommandText};
 
 use crate::script::places::place_of;
 use crate::script::reason::Reason;
@@ -15,7 +16,7 @@ use crate::script::refusal::Refusal;
 use apdu_core::Command;
 use card_terminal::Bytes;
 use hex::{FromHex, FromHexError};
-use object_card::Aid;
+use object_card::{Aid, is_agreed};
 use std::alloc::{AllocError, Allocator};
 use t0_core::{Plan, Step};
 use tlv_core::{ObjectTag, Tag};
@@ -171,18 +172,5 @@ pub fn agreed_command(bytes: &[u8]) -> Result<Command<'_>, Reason>
         Ok(command)
     } else {
         Err(Reason::BadCommandLength)
-    }
-}
-
-/// Whether the command is agreed with a card of data objects: GET DATA and GET RESPONSE ask for
-/// data and send none, and SELECT and PUT DATA are no commands that only ask.
-fn is_agreed(command: &Command) -> bool
-    ensures { IsTrue result ↔ IsAgreed MayReceive MaySend command.now }
-{
-    let only_asks = command.data().is_empty() && command.le().is_some();
-    match command.header().ins {
-        0xA4 | 0xDA => !only_asks,
-        0xCA | 0xC0 => only_asks,
-        _ => true,
     }
 }

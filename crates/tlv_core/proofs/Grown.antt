@@ -35,10 +35,6 @@ pub record Grows (forest : Forest) (whole rest : ObjectList) : Type 0 where
   pub spelled : (next : Forest) → Spells next rest.bytes rest.level
       → Spells (joined forest next) whole.bytes whole.level
 
-pub grows_at_start : (whole : ObjectList) → AreObjects whole.bytes whole.level
-    → Grows Empty whole whole
-grows_at_start whole h = record { one_level = refl; left = h; spelled = λ next spells. spells }
-
 -- what follows an object that stands in front of objects
 after_object : (bytes p t s v r : List ℕ) (level : ℕ) (f : Forest) → Begins bytes p t s v r level
     → Spells f bytes level → AreObjects r level
@@ -95,18 +91,10 @@ pub children_spelled : (f : Forest) (list : ObjectList) (value : List ℕ) (leve
 children_spelled f list value level e h = let P : ObjectList → Type 0 =
     λ l. Spells f l.bytes l.level in subst P e h
 
--- what an object given says of itself
-pub given_tag : (before after : ObjectList) (o : Object) → GivesNext before (Some o) after
-    → IsTag o.tag
-given_tag before after o gives = gives.0.1.is_tag
-
+-- the value of an object given is one that can be written
 pub given_fits : (before after : ObjectList) (o : Object) → GivesNext before (Some o) after
     → length o.value ≤ longest
 given_fits before after o gives = spelled_below o.size (length o.value) gives.0.1.is_size
-
-pub given_depth : (before after : ObjectList) (o : Object) → GivesNext before (Some o) after
-    → o.level ≤ deepest
-given_depth before after o gives = let d = gives.0.1.in_depth in omega (arith, gives.1)
 
 pub children_fit : (before after : ObjectList) (o : Object) (children : Forest)
     → GivesNext before (Some o) after

@@ -69,15 +69,6 @@ pub item_lent : {X : Type 0} (xs : List X) (i : ℕ) (r : Option (Bor X)) → Is
 item_lent xs i None h = sym (slice_get_past xs i h.3)
 item_lent xs i (Some x) h = sym (slice_get_read xs (length xs) i x.now refl h.3.0 h.1)
 
-pub empty_forest_of : (ns : List Item) → forest_of ns ≡ Empty → length ns ≡ 0
-empty_forest_of [] e = refl
-empty_forest_of (PrimitiveItem tag value ∷ ns) e = absurd cc
-empty_forest_of (TemplateItem tag children ∷ ns) e = absurd cc
-
-pub forest_of_none : (ns : List Item) → length ns ≡ 0 → forest_of ns ≡ Empty
-forest_of_none [] e = refl
-forest_of_none (n ∷ ns) e = absurd (omega arith)
-
 -- one more object at the end is kept as the others are
 pub kept-push : {A : Type 0} {allocator : Ghosts A} (ns : List Item) (n : Item)
     (written depth size deep written' depth' : ℕ) → IsKept allocator (forest_of ns) written depth
@@ -110,19 +101,6 @@ sound_at (PrimitiveItem tag value ∷ ns) (suc i) n within is (t, k, size, more)
     sound_at ns i n (omega arith) is more
 sound_at (TemplateItem tag children ∷ ns) (suc i) n within is (t, k, size, inner, more) =
     sound_at ns i n (omega arith) is more
-
--- a child is smaller than the forest that holds it
-pub child_at : (ns : List Item) (i : ℕ) (tag : List ℕ) (children : Forest) (n : Item) → i
-    < length ns → n ≡ get_or ns i n → n ≡ TemplateItem tag children
-    → forest_size children < forest_size (forest_of ns)
-child_at [] i tag children n within is e = absurd (omega arith)
-child_at (PrimitiveItem tag' value ∷ ns) zero tag children n within is e = absurd cc
-child_at (TemplateItem tag' children' ∷ ns) zero tag children n within is e =
-    let same : children ≡ children' = cc in rw same (omega arith)
-child_at (PrimitiveItem tag' value ∷ ns) (suc i) tag children n within is e =
-    let below = child_at ns i tag children n (omega arith) is e in omega arith
-child_at (TemplateItem tag' children' ∷ ns) (suc i) tag children n within is e =
-    let below = child_at ns i tag children n (omega arith) is e in omega arith
 
 -- one more object is written after the others
 pub encoding-more : (ns : List Item) (i : ℕ) (n : Item) → i < length ns → n ≡ get_or ns i n

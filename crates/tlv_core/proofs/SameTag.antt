@@ -2,7 +2,7 @@
 use Rattle.std.proofs.Common.{◌≡◌, ◌≢◌, ◌↔◌, ℕ, ◌-◌, List, length, replicate, refl, sym, ap, Bool, true, false, not, ◌&&◌, nat_eq, eq-eqb, inl, inr}
 use Rattle.std.specs.Cmp.Lexicographic.{pointwise, same_text, other_text}
 use Rattle.std.proofs.lemmas.Bool.{cases_Bool, eqb-true}
-use Rattle.tlv_core.specs.Tag.{padded}
+use Rattle.tlv_core.specs.TagCells.{padded}
 use Rattle.tlv_core.specs.StartLaws.{fronts_agree}
 
 both_true : (a b : Bool) → false ≡ not (a && b) → (a ≡ true) × (b ≡ true)
@@ -31,14 +31,3 @@ pub tags_differ : (s t : List ℕ) → true ≡ not
 tags_differ s t e same =
     one_false (pointwise nat_eq (padded s) (padded t)) (nat_eq (length s) (length t)) e
     (rw same (same_to_itself (padded t))) (rw same (eq-eqb (length t) (length t) refl))
-
--- `==` on tags is equality of their bytes.
-pub tags_equal : (s t : List ℕ)
-    → (pointwise nat_eq (padded s) (padded t) && nat_eq (length s) (length t)) ≡ true ↔ s ≡ t
-tags_equal s t = (
-  λ e. tags_same s t (sym (ap not e)),
-  λ same. elim (cases_Bool (pointwise nat_eq (padded s) (padded t) && nat_eq (length s) (length t))) [
-    | inl e ↦ e
-    | inr e ↦ absurd (tags_differ s t (sym (ap not e)) same)
-  ],
-)

@@ -42,9 +42,6 @@ spells_more (Primitive tag value next) rest level (p, s, r, b, kind, more) =
 spells_more (Template tag children next) rest level (p, s, v, r, b, kind, inner, more) =
     (0 ∷ p, s, v, r, begins_more rest p tag s v r level b, kind, inner, more)
 
-group : (p t s v r : List ℕ) → p ++ t ++ s ++ v ++ r ≡ p ++ (t ++ (s ++ (v ++ r)))
-group p t s v r = simp append_assoc
-
 -- Objects put in front of what is spelled.
 pub spells_primitive : (bytes t s v r : List ℕ) (level : ℕ) (next : Forest)
     → StartsWith bytes t s v r → level ≤ deepest

@@ -1,5 +1,5 @@
 pub mod TagForm
-pub mod Tag
+pub mod TagCells
 pub mod FrontParts
 pub mod Length
 pub mod HeadCells

@@ -1,3 +1,5 @@
+//! The reasons why an object cannot be added to a forest, with their texts.
+
 use std::alloc::AllocError;
 use std::fmt;
 

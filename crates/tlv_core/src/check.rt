@@ -1,3 +1,5 @@
+//! The first fault of bytes that are to be objects, at all levels, in one loop without recursion.
+
 ghost use Rattle.std.specs.Prelude.{◌≡◌, ◌↔◌, ◌≤◌, ◌+◌, true, IsNone, IfSome, MatchOption};
 ghost use Rattle.tlv_core.specs.FirstFault.{IsFirstFault};
 ghost use Rattle.tlv_core.specs.Spelling.{AreObjects, deepest};

@@ -1,3 +1,5 @@
+//! What is wrong with bytes that are no objects, and where: a reason with its place.
+
 ghost use Rattle.std.specs.Prelude.{◌≡◌};
 
 use std::fmt;

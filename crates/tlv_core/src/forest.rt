@@ -1,3 +1,6 @@
+//! A list of objects in memory, which is built object by object and written with the shortest
+//! lengths.
+
 ghost use Rattle.std.specs.Prelude.{◌≡◌, ◌≢◌, ℕ, ◌+◌, ◌<◌, ◌≤◌, ◌++◌, ◌==◌, ◌↔◌, length, slice_get, true, false, IsErrOf, OnErr, OnOk, IfOk};
 ghost use Rattle.std.specs.Option.{option_copied};
 ghost use Rattle.tlv_core.specs.TagForm.{IsTag, is_constructed};

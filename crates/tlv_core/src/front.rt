@@ -1,3 +1,5 @@
+//! What stands at the front of bytes: padding, a tag, a length, an object.
+
 ghost use Rattle.std.specs.Prelude.{◌≡◌, ◌≤◌, ◌<◌, length, drop, MatchResult};
 ghost use Rattle.tlv_core.specs.FrontParts.{IsFrontTagSize, IsSpelledFrom, HasNoFrontLength, IsPastPadding, HasParts};
 ghost use Rattle.tlv_core.specs.FirstFault.{FailsFor};

@@ -1,3 +1,5 @@
+//! The bytes of a head, which is a tag with a length.
+
 ghost use Rattle.std.specs.Prelude.{◌≡◌};
 
 use std::marker::Model;

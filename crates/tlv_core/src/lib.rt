@@ -1,6 +1,5 @@
-#![tactic(auto)]
-
 //! Data objects of smart cards: tag, length and value by EMV Book 3, Annex B.
+#![tactic(auto)]
 
 mod build_fault;
 mod check;

@@ -1,3 +1,5 @@
+//! One object of a forest: a primitive with its value, or a template with its objects.
+
 ghost use Rattle.std.specs.Prelude.{◌≡◌};
 ghost use Rattle.std.specs.Option.{option_copied};
 ghost use Rattle.tlv_core.specs.Items.{PrimitiveItem, TemplateItem, item_tag, item_value, item_children};

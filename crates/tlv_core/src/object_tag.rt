@@ -1,3 +1,5 @@
+//! The tags that P1-P2 can name.
+
 ghost use Rattle.std.specs.Prelude.{◌≡◌, ◌↔◌, ℕ, List, IsSome, IfSome};
 ghost use Rattle.tlv_core.specs.Address.{NamesTag, IsAddressable};
 

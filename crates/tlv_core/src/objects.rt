@@ -1,3 +1,5 @@
+//! Objects as they stand in bytes, one after another; nothing is copied.
+
 ghost use Rattle.std.specs.Prelude.{◌≡◌, ◌↔◌, ◌≤◌, ◌+◌, ◌++◌, length, true, false, IsOk, IfOk, IfErr, IsNone, IfSome};
 ghost use Rattle.std.specs.Iterator.{at_most};
 ghost use Rattle.tlv_core.specs.FirstFault.{IsFirstFault};

@@ -1,3 +1,5 @@
+//! The first object on a path of tags, and its place in the bytes.
+
 ghost use Rattle.std.specs.Prelude.{◌↔◌, IsOk, IfOk, IfErr, MatchOption};
 ghost use Rattle.tlv_core.specs.FirstFault.{IsFirstFault};
 ghost use Rattle.tlv_core.specs.Path.{IsFirstAt, IsFirstPlaced, NoneLiesAt, StandsAt};

@@ -1,3 +1,5 @@
+//! The reasons why bytes are not read as a forest, with their texts.
+
 use crate::fault::TlvFault;
 use std::alloc::AllocError;
 use std::fmt;

@@ -1,3 +1,5 @@
+//! A tag and a length in its shortest spelling.
+
 ghost use Rattle.std.specs.Prelude.{◌≡◌, ◌≤◌, ◌++◌, length};
 ghost use Rattle.tlv_core.specs.Length.{shortest};
 

@@ -1,3 +1,5 @@
+//! Tags of one to three bytes, and the reading of one from the front of bytes.
+
 ghost use Rattle.std.specs.Prelude.{◌≡◌, ◌↔◌, ◌++◌, ◌∷◌, [], ℕ, List, length, false, IfOk, IsErrOf, IsOk, IsTrue};
 ghost use Rattle.tlv_core.specs.TagForm.{IsTag, StartsWithTag, EndsInsideTag, is_constructed};
 ghost use Rattle.tlv_core.specs.FrontParts.{IsFrontTagSize};
@@ -15,7 +17,7 @@ pub struct Tag {
 
 impl Model for Tag {
     ghost use Rattle.std.specs.Prelude.{List, ℕ, take, length};
-    ghost use Rattle.tlv_core.specs.Tag.{IsPaddedTag, padded};
+    ghost use Rattle.tlv_core.specs.TagCells.{IsPaddedTag, padded};
 
     ghost Value = { List ℕ };
 
@@ -29,7 +31,7 @@ impl Model for Tag {
 }
 
 impl Tag {
-    ghost use Rattle.tlv_core.specs.Tag.{padded};
+    ghost use Rattle.tlv_core.specs.TagCells.{padded};
 
     /// Reads the tag at the front of `bytes`, with its size in bytes.
     ///

@@ -1,3 +1,5 @@
+//! The reading of bytes as a forest.
+
 ghost use Rattle.std.specs.Prelude.{◌≡◌, ◌↔◌, ◌≤◌, ◌<◌, IfOk, IsErrOf};
 ghost use Rattle.tlv_core.specs.FirstFault.{IsFirstFault};
 ghost use Rattle.tlv_core.specs.Object.{IsObjectList};

@@ -1,3 +1,5 @@
+//! Forests that are built, read and written, at their limits too, and the fault of each refusal.
+
 use std::alloc::{AllocGlobal, Global};
 use std::process::Abort;
 use tlv_core::{BuildFault, Forest, ReadFault, Reason, Tag, TlvFault, Tree};

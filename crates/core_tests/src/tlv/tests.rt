@@ -1,3 +1,5 @@
+//! Objects in bytes, faults, paths, heads and addresses of tags, each against the rules.
+
 use std::process::Abort;
 use std::test::Fail;
 use tlv_core::{

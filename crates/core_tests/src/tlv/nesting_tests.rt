@@ -114,12 +114,19 @@ fn push_template(
     forest.push_template(tag(rt, name), children)
 }
 
+/// A forest of primitives, of so many bytes each.
+fn primitives_of(rt: &(impl Abort + AllocGlobal), lens: &[usize]) -> Forest<Global> {
+    let mut forest = Forest::new(rt.alloc());
+    for &len in lens {
+        let value = vec![in rt.alloc(); 0x41; len].expect(rt, "memory");
+        assert!(rt; forest.push_primitive(tag(rt, 0x50), value).is_ok());
+    }
+    forest
+}
+
 /// A forest of one primitive, of so many bytes.
 fn primitive(rt: &(impl Abort + AllocGlobal), len: usize) -> Forest<Global> {
-    let value = vec![in rt.alloc(); 0x41; len].expect(rt, "memory");
-    let mut forest = Forest::new(rt.alloc());
-    assert!(rt; forest.push_primitive(tag(rt, 0x50), value).is_ok());
-    forest
+    primitives_of(rt, &[len])
 }
 
 /// A forest in a template.
@@ -188,6 +195,7 @@ fn takes_long_values(rt: HostRuntime) {
         (4, b"\x50\x04".as_slice()),
         (300, b"\x50\x82\x01\x2C".as_slice()),
         (5_000, b"\x50\x82\x13\x88".as_slice()),
+        (65_535, b"\x50\x82\xFF\xFF".as_slice()),
     ] {
         let bytes = written(&rt, &primitive(&rt, len));
         assert!(rt; bytes.starts_with(head));
@@ -195,19 +203,35 @@ fn takes_long_values(rt: HostRuntime) {
     }
 }
 
-/// Five thousand times the same bytes.
-fn five_thousand(rt: &(impl Abort + AllocGlobal), object: &[u8]) -> Vec<u8> {
+/// The longest value of a template: a primitive of 200 bytes, whose length is `81 C8`, and one of
+/// 65,328 bytes, whose length is `82 FF 30`, are 65,535 bytes with their heads.
+#[test]
+fn takes_the_longest_template(rt: HostRuntime) {
+    let bytes = written(&rt, &template(&rt, primitives_of(&rt, &[200, 65_328])));
+    let (first, second) = bytes.split_at_checked(207).expect(&rt, "two objects");
+    assert!(rt; first.starts_with(b"\x70\x82\xFF\xFF\x50\x81\xC8\x41"));
+    assert!(rt; second.starts_with(b"\x50\x82\xFF\x30\x41") && second.len() == 65_332);
+    is_read(&rt, &bytes);
+}
+
+/// So many primitives of three bytes, or templates of five, are 65,535 bytes.
+const PRIMITIVES: usize = 21_845;
+
+const TEMPLATES: usize = 13_107;
+
+/// The same bytes, so many times.
+fn repeated(rt: &(impl Abort + AllocGlobal), object: &[u8], times: usize) -> Vec<u8> {
     let mut bytes = Vec::new(rt.alloc());
-    for _ in 0..5_000 {
+    for _ in 0..times {
         bytes.extend_from_slice(object).expect(rt, "memory");
     }
     bytes
 }
 
-/// A forest of five thousand primitives.
+/// A forest of primitives of three bytes that are as long as a value may be.
 fn primitives(rt: &(impl Abort + AllocGlobal)) -> Forest<Global> {
     let mut forest = Forest::new(rt.alloc());
-    for _ in 0..5_000 {
+    for _ in 0..PRIMITIVES {
         let value = Vec::from_slice(rt.alloc(), b"\x41").expect(rt, "memory");
         assert!(rt; forest.push_primitive(tag(rt, 0x50), value).is_ok());
     }
@@ -215,28 +239,28 @@ fn primitives(rt: &(impl Abort + AllocGlobal)) -> Forest<Global> {
 }
 
 #[test]
-fn takes_five_thousand_primitives(rt: HostRuntime) {
+fn takes_a_template_full_of_primitives(rt: HostRuntime) {
     let all = written(&rt, &primitives(&rt));
-    assert!(rt; all == five_thousand(&rt, PRIMITIVE));
+    assert!(rt; all == repeated(&rt, PRIMITIVE, PRIMITIVES));
     is_read(&rt, &all);
     let outer = written(&rt, &template(&rt, primitives(&rt)));
     let (head, inner) = outer.split_at_checked(4).expect(&rt, "a head");
-    assert!(rt; head == b"\x70\x82\x3A\x98".as_slice() && inner == all.as_slice());
+    assert!(rt; head == b"\x70\x82\xFF\xFF".as_slice() && inner == all.as_slice());
     is_read(&rt, &outer);
 }
 
-/// A forest of five thousand templates, each with a primitive.
+/// A forest of templates, each with a primitive, that are as long as a value may be.
 fn templates(rt: &(impl Abort + AllocGlobal)) -> Forest<Global> {
     let mut forest = Forest::new(rt.alloc());
-    for _ in 0..5_000 {
+    for _ in 0..TEMPLATES {
         assert!(rt; push_template(rt, &mut forest, 0x70, primitive(rt, 1)).is_ok());
     }
     forest
 }
 
 #[test]
-fn takes_five_thousand_templates(rt: HostRuntime) {
+fn takes_thousands_of_templates(rt: HostRuntime) {
     let all = written(&rt, &templates(&rt));
-    assert!(rt; all == five_thousand(&rt, b"\x70\x03\x50\x01\x41"));
+    assert!(rt; all == repeated(&rt, b"\x70\x03\x50\x01\x41", TEMPLATES));
     is_read(&rt, &all);
 }

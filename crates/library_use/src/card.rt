@@ -1,3 +1,5 @@
+//! A card with one application and one object.
+
 use object_card::{Aid, BuilderFault, CardBuilder, ObjectCard};
 use std::alloc::Global;
 use t0_core::CardEnd;

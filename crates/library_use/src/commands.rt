@@ -1,3 +1,5 @@
+//! The commands that put a value.
+
 ghost use Rattle.std.specs.Prelude.{◌≡◌, true};
 ghost use Rattle.apdu_core.specs.HeaderBytes.{ins_is_valid};
 ghost use Rattle.apdu_core.specs.Chaining.{IsLast};

@@ -1,3 +1,5 @@
+//! One TPDU between the two ends of a line.
+
 use apdu_core::Status;
 use object_card::ObjectCard;
 use std::alloc::Allocator;

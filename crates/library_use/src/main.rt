@@ -11,8 +11,10 @@ mod tap;
 
 use anyhow::Context;
 use apdu_core::{Header, Status};
+use card_terminal::{Answer, Answers};
 use object_card::Aid;
 use std::alloc::Global;
+use std::fmt::Write;
 use t0_core::{End, Gather, HostEnd, Plans};
 use tlv_core::{ObjectTag, Tag};
 
@@ -53,40 +55,66 @@ const TRACE: [(End, u8); 7] = [
 
 fn main(rt: HostRuntime) -> anyhow::Result<()> {
     let alloc = rt.alloc();
-    let aid = Aid::new(&AID).context("no identifier")?;
-    let name = name_tag()?;
+    println!(rt; "objects: {}", objects::listed(alloc, &FCI)?)?;
+    println!(rt; "commands: {} bytes", size_of_put(alloc)?)?;
+    println!(rt; "line: {}", digits(alloc, selected(alloc)?)?)?;
+    let (tpdus, last) = heard()?;
+    println!(rt; "tap: {tpdus} TPDU, {}", digits(alloc, last)?)?;
+    print!(rt; "{}", answers_text(alloc)?)?;
+    Ok(())
+}
 
-    let listed = objects::listed(alloc, &FCI)?;
-    println!(rt; "objects: {listed}")?;
-
+/// How many bytes the commands have that put a value of 256 bytes.
+fn size_of_put(alloc: Global) -> anyhow::Result<usize> {
     let mut commands = Vec::new(alloc);
     commands::write_put(PUT, &[0x42; 256], &mut commands)?;
-    println!(rt; "commands: {} bytes", commands.len())?;
+    Ok(commands.len())
+}
 
-    let mut end = card::card(alloc, aid, name)?;
+/// The card's status after a SELECT, character by character.
+fn selected(alloc: Global) -> anyhow::Result<Status> {
+    let mut card = card::card(alloc, identifier()?, name_tag()?)?;
     let mut gather = Gather::with_room(alloc, 256)?;
     let terminal = HostEnd::sending(SELECT, &AID);
-    let status = line::talk(
-        terminal,
-        &mut end,
-        &mut Plans::<Global>::over(&[]),
-        &mut gather,
-    )
-    .ok()
-    .context("the line failed")?;
-    println!(rt; "line: {}", digits(alloc, status)?)?;
+    let mut plans = Plans::<Global>::over(&[]);
+    let status = line::talk(terminal, &mut card, &mut plans, &mut gather);
+    status.ok().context("the line failed")
+}
 
+/// How many TPDUs the trace has, and the last status.
+fn heard() -> anyhow::Result<(usize, Status)> {
     let (tpdus, last) = tap::followed(&TRACE).ok().context("no dialogue")?;
-    let last = last.context("no status")?;
-    println!(rt; "tap: {tpdus} TPDU, {}", digits(alloc, last)?)?;
+    Ok((tpdus, last.context("no status")?))
+}
 
-    let answers = session::carry_out(alloc, end, aid, name)?;
+/// The answers of a session, a line for each.
+fn answers_text(alloc: Global) -> anyhow::Result<String> {
+    let answers = answers(alloc)?;
+    let mut text = String::new(alloc);
     for at in 0..answers.len() {
-        let answer = answers.get(at).context("no answer")?;
-        let data = hex::encode_upper(alloc, answer.data())?;
-        println!(rt; "session: {} {data}", digits(alloc, answer.status())?)?;
+        if let Some(answer) = answers.get(at) {
+            push_answer(alloc, &mut text, answer)?;
+        }
     }
+    Ok(text)
+}
+
+fn answers(alloc: Global) -> anyhow::Result<Answers> {
+    let (aid, tag) = (identifier()?, name_tag()?);
+    let card = card::card(alloc, aid, tag)?;
+    Ok(session::carry_out(alloc, card, aid, tag)?)
+}
+
+fn push_answer(alloc: Global, text: &mut String, answer: &Answer) -> anyhow::Result<()> {
+    let status = digits(alloc, answer.status())?;
+    let data = hex::encode_upper(alloc, answer.data())?;
+    writeln!(text, "session: {status} {data}")?;
     Ok(())
+}
+
+/// The identifier of the application.
+fn identifier() -> anyhow::Result<Aid> {
+    Aid::new(&AID).context("no identifier")
 }
 
 /// The tag of a cardholder's name.

@@ -1,3 +1,5 @@
+//! The objects in the templates of a list, as text.
+
 use std::alloc::Global;
 use tlv_core::{Objects, Tag};
 

@@ -1,3 +1,5 @@
+//! Operations with a card.
+
 use card_terminal::{Answers, Op, Session, SessionFault};
 use object_card::{Aid, ObjectCard};
 use std::alloc::{AllocError, Global};

@@ -1,3 +1,5 @@
+//! A trace as a third party hears it.
+
 use apdu_core::Status;
 use t0_core::{End, Heard, Tap, Unheard};
 

@@ -1,4 +1,3 @@
 pub mod NotedLemmas
 pub mod ExplainedLemmas
-pub mod LineLemmas
 pub mod TraceLemmas

@@ -416,12 +416,6 @@ limit_kept (Ok x) (Some bytes) (Some left) (Some rest) chunk n size zero_is with
 limit_kept (Err f) (Some bytes) (Some left) (Some rest) chunk n size zero_is within h (reads, ends)
     room faults = of_lines_kept f bytes faults
 
-pub too_many : (a b : Option (List ℕ)) (size : ℕ) → HaveComeOf a b size → 67108864 < size
-    → IfSome a (λ bytes. 67108864 < length bytes)
-too_many None b size h more = tt
-too_many (Some bytes) None size h more = absurd h
-too_many (Some bytes) (Some left) size h more = omega (arith, h, more)
-
 -- a fault of a line, which is none of the trace's length
 pub limit_passed : {T : Type 0} (r : Result T ExplainFault) (f : ExplainFault)
     (a : Option (List ℕ)) → IsErrAnd r (λ x. x ≡ f) → IsOfLines f

@@ -1,3 +1,5 @@
+//! The commands that have a name in the explanation.
+
 use apdu_core::Header;
 use tlv_core::ObjectTag;
 

@@ -1,7 +1,10 @@
+//! What is said of a character with which no dialogue that a tap reads goes on.
+
 use std::fmt;
 use t0_core::{Direction, Due, End};
 
-/// A character with which no dialogue goes on: where it stands, what was due, and what came.
+/// A character with which no dialogue that a tap reads goes on: where it stands, what was due, and
+/// what came.
 #[derive(Clone, Copy, Debug, PartialEq, Eq)]
 pub struct Complaint {
     /// The line, counted from 1.
@@ -25,8 +28,8 @@ impl fmt::Display for Complaint {
         let from = end_text(self.from);
         write!(
             f,
-            "line {line}, character {character}: no dialogue: {due} was due, and {byte:02X} of the \
-             {from} came"
+            "line {line}, character {character}: no dialogue that it reads: {due} was due, and \
+             {byte:02X} of the {from} came"
         )
     }
 }

@@ -1,3 +1,5 @@
+//! The reasons why the program ends with status 1, with their texts.
+
 use crate::complaint::Complaint;
 use std::alloc::AllocError;
 use thiserror::Error;

@@ -1,3 +1,5 @@
+//! Explains a trace line by line: hears its characters, and tells of each TPDU once it has ended.
+
 ghost use Rattle.std.specs.Prelude.{◌≡◌, ◌<◌, ◌∷◌, ◌++◌, ◌&&◌, List, [], true, false, get_or, OnOk, IfErr};
 ghost use Rattle.t0_core.specs.Character.{sent_by};
 ghost use Rattle.t0_core.specs.History.{Event, Reset, passed};

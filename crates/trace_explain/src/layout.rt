@@ -1,3 +1,5 @@
+//! The two layouts of the explanation, text and a page, with one call for each thing in it.
+
 use crate::{html, text};
 use std::alloc::AllocError;
 

@@ -1,3 +1,5 @@
+//! What a TPDU is among those before it: a piece, a part, or a command once more.
+
 /// How a command goes on with those before it.
 #[derive(Clone, Copy, Debug, PartialEq, Eq)]
 pub enum Link {

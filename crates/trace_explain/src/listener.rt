@@ -1,3 +1,5 @@
+//! A tap that keeps what it has heard of the TPDU under way.
+
 ghost use Rattle.std.specs.Prelude.{◌≡◌, ◌++◌, ◌∷◌, [], List, map, take, length, ◌<◌, ℕ, true, OnOk, IfOk, IfErr, slice_get, Some};
 ghost use Rattle.t0_core.specs.Character.{sent_by};
 ghost use Rattle.t0_core.specs.Front.{Front, GoesOn, Ends};

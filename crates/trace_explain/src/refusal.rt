@@ -1,3 +1,5 @@
+//! The reasons why a listener does not take a character.
+
 use std::alloc::AllocError;
 use t0_core::Unheard;
 

@@ -1,3 +1,5 @@
+//! What goes over several TPDUs: their numbers, chains, and responses in parts.
+
 use crate::chain::{ChainHeard, VALUE_LIMIT};
 use crate::links::{Link, Links, Whole};
 use crate::response::{RESPONSE_LIMIT, ResponseHeard};

@@ -1,3 +1,5 @@
+//! How many procedure bytes of each kind a TPDU had.
+
 ghost use Rattle.std.specs.Prelude.{◌≡◌};
 
 use t0_core::Step;

@@ -1,3 +1,5 @@
+//! What was heard of one TPDU.
+
 ghost use Rattle.std.specs.Prelude.{◌≡◌, OnOk};
 ghost use Rattle.trace_explain.specs.Told.{told_by, untold, noted};
 

@@ -1,3 +1,5 @@
+//! A list of about 65,536 bytes, made of one pattern.
+
 use crate::shapes::SIZE;
 use std::alloc::{AllocError, Allocator};
 

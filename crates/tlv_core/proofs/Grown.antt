@@ -1,6 +1,6 @@
 -- A forest grows with the objects that a list gives.
 use Rattle.std.proofs.Common.{◌≡◌, ℕ, suc, ◌+◌, ◌<◌, ◌≤◌, List, length, true, false, Some, None, refl, ap, ◌∙◌, subst, add-one, arith}
-use Rattle.tlv_core.specs.TagForm.{IsTag, is_constructed}
+use Rattle.tlv_core.specs.TagForm.{is_constructed}
 use Rattle.tlv_core.specs.Spelling.{Forest, Empty, Primitive, Template, Begins, Spells, AreObjects, encoding, levels, longest, deepest}
 use Rattle.tlv_core.specs.Items.{Item, PrimitiveItem, TemplateItem, with_first, with_last}
 use Rattle.tlv_core.specs.Object.{Object, ObjectList, GivesNext}

@@ -4,7 +4,7 @@ use Rattle.std.proofs.Common.{Option, Some, None, Bor, slice_get, option_copied}
 use Rattle.std.specs.Slice.{IsItemAt}
 use Rattle.std.specs.declared.alloc.Allocator.{Ghosts}
 use Rattle.std.proofs.lemmas.List.{take_more, append-nil}
-use Rattle.tlv_core.specs.Nodes.{IsKept, forest_size}
+use Rattle.tlv_core.specs.Nodes.{IsKept}
 use Rattle.std.proofs.lemmas.Option.{slice_get_past, slice_get_read}
 use Rattle.tlv_core.specs.Length.{shortest}
 use Rattle.tlv_core.specs.Spelling.{Forest, Empty, Primitive, Template, encoding, object_bytes, levels, longest, deepest, HasSoundObjects}

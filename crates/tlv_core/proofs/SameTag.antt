@@ -1,5 +1,5 @@
 -- What a comparison of tags tells.
-use Rattle.std.proofs.Common.{◌≡◌, ◌≢◌, ◌↔◌, ℕ, ◌-◌, List, length, replicate, refl, sym, ap, Bool, true, false, not, ◌&&◌, nat_eq, eq-eqb, inl, inr}
+use Rattle.std.proofs.Common.{◌≡◌, ◌≢◌, ℕ, ◌-◌, List, length, replicate, refl, sym, Bool, true, false, not, ◌&&◌, nat_eq, eq-eqb, inl, inr}
 use Rattle.std.specs.Cmp.Lexicographic.{pointwise, same_text, other_text}
 use Rattle.std.proofs.lemmas.Bool.{cases_Bool, eqb-true}
 use Rattle.tlv_core.specs.TagCells.{padded}

@@ -18,8 +18,9 @@ use Rattle.clap.specs.Kinds.{Kinds, IsAmong, or_else}
 use Rattle.clap.specs.Faults.{walk_fault, turn_fault, word_fault, other_fault, settle_fault, defaults_fault, check_fault, entered_fault, level_fault, fault_of, is_simple_and_free}
 use Rattle.clap.specs.declared.error.kind.ErrorKind.{ErrorKind}
 use Rattle.clap.specs.declared.error.kind.ErrorKind.TheVariants.{OutOfMemory}
+use Rattle.card_trace.specs.declared.program_fault.ProgramFault.{ProgramFault}
 use Rattle.card_trace.specs.declared.program_fault.ProgramFault.TheVariants as fault
-use Rattle.card_trace.specs.CommandLine.{program, request_named, request_in, Asked, Play, Card, Objects, Stops, StopsAt, IsCall, AreRefused}
+use Rattle.card_trace.specs.CommandLine.{program, request_named, request_in, Asked, Play, Card, Objects, Stops, StopsAt, IsCall, AreRefused, IsUnanswered}
 
 -- both are empty
 or_else-nil : (a b : Kinds) → or_else a b ≡ [] → (a ≡ []) × (b ≡ [])
@@ -312,11 +313,19 @@ pub refused_for : (kinds : Kinds) (k : ErrorKind) → (k ≡ OutOfMemory) ⊎ Is
 refused_for kinds k (inl memory) call no_memory = absurd (no_memory memory)
 refused_for kinds k (inr among) call no_memory = (k, among, call, no_memory)
 
--- what ended with status 1 has a fault
-pub has_fault : {T E : Type 0} (r : Result T E) (status : ℕ) (P : E → Type 0) → OnOk r (status ≡ 0)
-    → status ≡ 1 → IfErr r P → (e : E) × P e
-has_fault (Ok x) status P well one stops = absurd (cc)
-has_fault (Err e) status P well one stops = (e, stops)
+-- what is told where it answers neither with matches nor with a mistake in the words
+pub unanswered_for : (kinds : Kinds) (k : ErrorKind) (Told : ProgramFault → Type 0)
+    → (k ≡ OutOfMemory) ⊎ IsAmong k kinds → (k ≡ OutOfMemory → Told fault.OutOfMemory)
+    → (k ≡ OutOfMemory) ⊎ (IsCall k × Told fault.Write) → IsUnanswered kinds Told
+unanswered_for kinds k Told (inl memory) told ended = inr (told memory)
+unanswered_for kinds k Told (inr among) told (inl memory) = inr (told memory)
+unanswered_for kinds k Told (inr among) told (inr call) = inl ((k, among, call.0), call.1)
+
+-- what ended with status 1 has a fault, which is told
+pub has_fault : {T E : Type 0} (r : Result T E) (status : ℕ) (P Told : E → Type 0)
+    → OnOk r (status ≡ 0) → status ≡ 1 → IfErr r P → IfErr r Told → (e : E) × P e × Told e
+has_fault (Ok x) status P Told well one stops told = absurd (cc)
+has_fault (Err e) status P Told well one stops told = (e, stops, told)
 
 -- a subcommand of the program's own asks for something
 asks : (found : Option (Text × List Row)) → IsNamed found
@@ -334,10 +343,16 @@ stops_unchanged (Objects digits) script old new same = same
 
 -- of words without a fault the parser answers nothing but want of memory
 pub stops_unread : (words : List Text) (k : ErrorKind) (script old new : Option (List ℕ))
-    → (k ≡ OutOfMemory) ⊎ IsAmong k (fault_of program words) → (k ≡ OutOfMemory → new ≡ old)
-    → fault_of program words ≡ [] → StopsAt (subcommand_of program words) script old new
-stops_unread words k script old new (inl memory) same none =
-    let asked = asks (subcommand_of program words) (taken words none) in
-    (asked.0, asked.1, fault.OutOfMemory, stops_unchanged asked.0 script old new (same memory))
-stops_unread words k script old new (inr among) same none =
+    (Told : ProgramFault → Type 0) → (k ≡ OutOfMemory) ⊎ IsAmong k (fault_of program words)
+    → (k ≡ OutOfMemory → (new ≡ old) × Told fault.OutOfMemory)
+    → fault_of program words ≡ [] → StopsAt (subcommand_of program words) script old new Told
+stops_unread words k script old new Told (inl memory) same none =
+    let asked = asks (subcommand_of program words) (taken words none) in (
+      asked.0,
+      asked.1,
+      fault.OutOfMemory,
+      stops_unchanged asked.0 script old new (same memory).0,
+      (same memory).1,
+    )
+stops_unread words k script old new Told (inr among) same none =
     let Among : Kinds → Type 0 = λ kinds. IsAmong k kinds in absurd (subst Among none among)

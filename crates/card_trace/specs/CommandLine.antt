@@ -102,11 +102,12 @@ Stops (Objects digits) script old new fault.BadHex = (new ≡ old) × IsDigitsFa
 Stops asked script old new fault.OutOfMemory = new ≡ old
 Stops asked script old new other = ⊥
 
--- what stands where what a subcommand with its matches asks for was not done
+-- what stands where what a subcommand with its matches asks for was not done, for the fault that is
+-- told
 abbrev pub StopsAt : Option (Text × List Row) → Option (List ℕ) → Option (List ℕ) → Option (List ℕ)
-    → Type 0
-StopsAt found script old new = (asked : Asked) × (request_in found ≡ Some asked)
-    × (f : ProgramFault) × Stops asked script old new f
+    → (ProgramFault → Type 0) → Type 0
+StopsAt found script old new Told = (asked : Asked) × (request_in found ≡ Some asked)
+    × (f : ProgramFault) × Stops asked script old new f × Told f
 
 -- what is asked for by a subcommand with its matches is done
 abbrev pub Runs : Option (Text × List Row) → Option (List ℕ) → Option (List ℕ) → Option (List ℕ)
@@ -121,6 +122,11 @@ IsCall k = (k ≡ kind.DisplayHelp) ⊎ (k ≡ kind.DisplayVersion)
 -- the words are a call for help or for the version
 abbrev pub AreCall : Kinds → Type 0
 AreCall kinds = (k : ErrorKind) × IsAmong k kinds × IsCall k
+
+-- What is told where a call for help or for the version is not answered, as it can't be written,
+-- or where there is no memory for the words.
+abbrev pub IsUnanswered : Kinds → (ProgramFault → Type 0) → Type 0
+IsUnanswered kinds Told = (AreCall kinds × Told fault.Write) ⊎ Told fault.OutOfMemory
 
 -- the words are refused for a mistake in them
 abbrev pub AreRefused : Kinds → Type 0

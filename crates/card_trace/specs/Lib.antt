@@ -11,6 +11,7 @@ pub mod ScriptLines
 pub mod Scripts
 pub mod CommandLine
 pub mod ScriptReasons
+pub mod FaultTexts
 pub mod ScriptWords
 pub mod ScriptKeywords
 pub mod ScriptFields

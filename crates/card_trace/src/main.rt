@@ -5,6 +5,7 @@ mod card;
 mod card_run;
 mod card_table;
 mod command_line;
+mod ending;
 mod fixed_line;
 mod help;
 mod main_status;
@@ -24,13 +25,13 @@ mod unread_words;
 use main_status::main_status;
 use std::process::ExitCode;
 use std::{env, io};
-use unread_words::status_without_words;
+use unread_words::ending_without_words;
 
 /// Runs the program on its own words and streams.
 fn main(rt: HostRuntime) -> ExitCode {
     let stderr = rt.stderr();
     let mut faults = io::writer(&stderr);
-    let status = match words(&rt) {
+    let ending = match words(&rt) {
         Ok(words) => main_status(
             rt.alloc(),
             words.as_slice(),
@@ -38,9 +39,9 @@ fn main(rt: HostRuntime) -> ExitCode {
             &mut io::writer(&rt),
             &mut faults,
         ),
-        Err(error) => status_without_words(&error, &mut faults),
+        Err(error) => ending_without_words(&error, &mut faults),
     };
-    ExitCode::from(status)
+    ExitCode::from(ending.status)
 }
 
 /// The program's own words.

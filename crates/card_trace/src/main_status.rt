@@ -1,11 +1,13 @@
 //! The program over any reader and writers.
-ghost use Rattle.std.specs.Prelude.{◌≡◌, ◌≢◌, ◌≤◌, [], map, Ok, IfOk, IfErr, OnOk, OnErr, string_bytes};
+ghost use Rattle.std.specs.Prelude.{◌≡◌, ◌≢◌, ◌≤◌, ◌⊎◌, [], map, Ok, IfOk, IfErr, OnOk, string_bytes};
 ghost use Rattle.hex.specs.Hex.{decode_of};
 ghost use Rattle.clap.specs.Words.{kind_of, subcommand_of, fault_of};
-ghost use Rattle.card_trace.specs.CommandLine.{program, asked_by, Does, Runs, IsDigitsFault, Stops, StopsAt, IsCall, AreCall, AreRefused};
+ghost use Rattle.card_trace.specs.CommandLine.{program, asked_by, Does, Runs, IsDigitsFault, Stops, StopsAt, IsCall, AreCall, AreRefused, IsUnanswered};
+ghost use Rattle.card_trace.specs.FaultTexts.{Tells};
 
 use crate::card::card_lines;
 use crate::command_line::{Request, parsed};
+use crate::ending::{Ending, ending_after};
 use crate::objects::print_objects;
 use crate::play::play_lines;
 use crate::program_fault::ProgramFault;
@@ -15,36 +17,41 @@ use hex::FromHexError;
 use std::alloc::Global;
 use std::io::{Read, Write};
 
-/// Runs the program on its words, of which the first is its name, and answers its exit status.
+/// Runs the program on its words, of which the first is its name, and answers how it ends.
 ///
-/// 0: the subcommand ended well, or help or the version was asked for, which goes to `output`. 1: a
-/// fault, which is told on `faults`. 2: the words were refused, as `faults` tells. That `faults`
-/// fails changes no status.
+/// Status 0: the subcommand ended well, or help or the version was asked for, which goes to
+/// `output`. 1: a fault, which is told on `faults` by its text in one line. 2: the words were
+/// refused, as `faults` tells.
 pub fn main_status<R: Read, W: Write, F: Write>(
     alloc: Global,
     words: &[String],
     input: &mut R,
     output: &mut W,
     faults: &mut F,
-) -> u8
-    ensures status { result ≤ 2 }
-    ensures runs { fault_of program (map string_bytes words.now) ≡ [] → result ≡ 0 →
+) -> Ending
+    ensures status { result.status ≤ 2 }
+    ensures runs { fault_of program (map string_bytes words.now) ≡ [] → result.status ≡ 0 →
         Runs (subcommand_of program (map string_bytes words.now)) (R.remaining input.old)
         (W.contents output.old) (W.contents output.new) }
-    ensures stops { fault_of program (map string_bytes words.now) ≡ [] → result ≡ 1 →
+    ensures stops { fault_of program (map string_bytes words.now) ≡ [] → result.status ≡ 1 →
         StopsAt (subcommand_of program (map string_bytes words.now)) (R.remaining input.old)
-        (W.contents output.old) (W.contents output.new) }
-    ensures taken { fault_of program (map string_bytes words.now) ≡ [] → result ≢ 2 }
-    ensures called { fault_of program (map string_bytes words.now) ≢ [] → result ≡ 0 →
+        (W.contents output.old) (W.contents output.new)
+        (Tells result.is_told (F.contents faults.old) (F.contents faults.new)) }
+    ensures taken { fault_of program (map string_bytes words.now) ≡ [] → result.status ≢ 2 }
+    ensures called { fault_of program (map string_bytes words.now) ≢ [] → result.status ≡ 0 →
         AreCall (fault_of program (map string_bytes words.now)) }
-    ensures refused { result ≡ 2 → AreRefused (fault_of program (map string_bytes words.now)) }
-    ensures quiet { result ≡ 0 → F.contents faults.new ≡ F.contents faults.old }
-    ensures unwritten { result ≡ 2 → W.contents output.new ≡ W.contents output.old }
+    ensures unanswered { fault_of program (map string_bytes words.now) ≢ [] →
+        result.status ≡ 1 → IsUnanswered (fault_of program (map string_bytes words.now))
+        (Tells result.is_told (F.contents faults.old) (F.contents faults.new)) }
+    ensures refused { result.status ≡ 2 →
+        AreRefused (fault_of program (map string_bytes words.now)) }
+    ensures quiet { result.status ≡ 0 → F.contents faults.new ≡ F.contents faults.old }
+    ensures unwritten { result.status ≡ 2 → W.contents output.new ≡ W.contents output.old }
     ensures unread { fault_of program (map string_bytes words.now) ≢ [] →
         R.remaining input.new ≡ R.remaining input.old }
 {
     match parsed(alloc, words) {
-        Ok(request) => told(&run(alloc, request, input, output), faults),
+        Ok(request) => ending_after(&run(alloc, request, input, output), faults),
         Err(error) => answered(&error, output, faults),
     }
 }
@@ -88,46 +95,40 @@ fn bytes_of(alloc: Global, digits: &str) -> Result<Vec<u8>, ProgramFault>
     }
 }
 
-/// The status for what the parser answered in place of matches. Help and the version go to
-/// `output`, and a refusal to `faults`.
-fn answered<W: Write, F: Write>(error: &Error, output: &mut W, faults: &mut F) -> u8
-    ensures status { result ≤ 2 }
+/// How the program ends with what the parser answered in place of matches. Help and the version go
+/// to `output`, and a refusal to `faults`.
+fn answered<W: Write, F: Write>(error: &Error, output: &mut W, faults: &mut F) -> Ending
+    ensures status { result.status ≤ 2 }
     ensures memory { kind_of error.now ≡ ErrorKind.OutOfMemory →
-        (result ≡ 1) × (W.contents output.new ≡ W.contents output.old) }
+        (result.status ≡ 1) × (W.contents output.new ≡ W.contents output.old)
+        × Tells result.is_told (F.contents faults.old) (F.contents faults.new)
+        ProgramFault.OutOfMemory }
     ensures mistake { ¬ IsCall (kind_of error.now) →
-        kind_of error.now ≢ ErrorKind.OutOfMemory → result ≡ 2 }
-    ensures called { result ≡ 0 → IsCall (kind_of error.now) }
-    ensures quiet { result ≡ 0 → F.contents faults.new ≡ F.contents faults.old }
-    ensures refused { result ≡ 2 → ¬ IsCall (kind_of error.now)
+        kind_of error.now ≢ ErrorKind.OutOfMemory → result.status ≡ 2 }
+    ensures called { result.status ≡ 0 → IsCall (kind_of error.now) }
+    ensures unanswered { result.status ≡ 1 → (kind_of error.now ≡ ErrorKind.OutOfMemory)
+        ⊎ (IsCall (kind_of error.now) × Tells result.is_told (F.contents faults.old)
+        (F.contents faults.new) ProgramFault.Write) }
+    ensures quiet { result.status ≡ 0 → F.contents faults.new ≡ F.contents faults.old }
+    ensures refused { result.status ≡ 2 → ¬ IsCall (kind_of error.now)
         × (kind_of error.now ≢ ErrorKind.OutOfMemory)
         × (W.contents output.new ≡ W.contents output.old) }
 {
     match error.kind() {
-        ErrorKind::OutOfMemory => told(&Err(ProgramFault::OutOfMemory), faults),
-        ErrorKind::DisplayHelp | ErrorKind::DisplayVersion => told(&shown(error, output), faults),
-        _ => {
-            let _ = faults.write_fmt(error);
-            2
+        ErrorKind::OutOfMemory => ending_after(&Err(ProgramFault::OutOfMemory), faults),
+        ErrorKind::DisplayHelp | ErrorKind::DisplayVersion => {
+            ending_after(&shown(error, output), faults)
         }
+        _ => Ending {
+            status: 2,
+            is_told: faults.write_fmt(error).is_ok(),
+        },
     }
 }
 
 /// Writes the help, or the version.
-fn shown<W: Write>(error: &Error, output: &mut W) -> Result<(), ProgramFault> {
-    output.write_fmt(error).map_err(|_| ProgramFault::Write)
-}
-
-/// The status for an outcome: 0, or 1 for a fault, which is told on `faults` in one line.
-pub fn told<F: Write>(outcome: &Result<(), ProgramFault>, faults: &mut F) -> u8
-    ensures success { OnOk outcome.now (result ≡ 0) }
-    ensures silent { OnOk outcome.now (F.contents faults.new ≡ F.contents faults.old) }
-    ensures fault { OnErr outcome.now (result ≡ 1) }
+fn shown<W: Write>(error: &Error, output: &mut W) -> Result<(), ProgramFault>
+    ensures { IfErr result (λ fault. fault ≡ ProgramFault.Write) }
 {
-    match outcome {
-        Ok(()) => 0,
-        Err(fault) => {
-            let _ = faults.writeln(fault);
-            1
-        }
-    }
+    output.write_fmt(error).map_err(|_| ProgramFault::Write)
 }

@@ -1,20 +1,36 @@
+//! The faults of printing objects.
 use std::alloc::AllocError;
-use thiserror::Error;
+use std::error::Error;
+use std::fmt;
 use tlv_core::TlvFault;
 
 /// Why objects were not printed.
-#[derive(Debug, Drop, PartialEq, Eq, Error)]
+#[derive(Debug, Drop, PartialEq, Eq)]
 pub enum ObjectsFault {
     /// The bytes are no list of objects; nothing was written.
-    #[error("{0}")]
     Tlv(TlvFault),
     /// The writer failed; how much it took is not known.
-    #[error("write fault")]
     Write,
     /// Memory was wanting; nothing was written.
-    #[error("out of memory")]
     OutOfMemory,
 }
+
+impl fmt::Display for ObjectsFault {
+    ghost use Rattle.std.specs.Prelude.{Some};
+    ghost use Rattle.card_trace.specs.FaultTexts.{objects_text};
+
+    ghost output = { λ fault. Some (objects_text fault) };
+
+    fn fmt<W: fmt::Write>(&self, f: &mut fmt::Formatter<W>) -> fmt::Result {
+        match self {
+            ObjectsFault::Tlv(fault) => write!(f, "{fault}"),
+            ObjectsFault::Write => f.write_str("write fault"),
+            ObjectsFault::OutOfMemory => f.write_str("out of memory"),
+        }
+    }
+}
+
+impl Error for ObjectsFault {}
 
 impl From<TlvFault> for ObjectsFault {
     ghost use Rattle.std.specs.Prelude.{◌≡◌};

@@ -1,26 +1,42 @@
+//! The faults of a script.
 use crate::script::reason::Reason;
 use std::alloc::AllocError;
-use thiserror::Error;
+use std::error::Error;
+use std::fmt;
 
 /// Why a script, of `play` or of `card`, was not carried out to its end.
-#[derive(Debug, Drop, PartialEq, Eq, Error)]
+#[derive(Debug, Drop, PartialEq, Eq)]
 pub enum PlayFault {
     /// A line, counted from 1, is refused; those before it were carried out.
-    #[error("line {line}: {reason}")]
     Script { line: usize, reason: Reason },
     /// The reader failed; nothing was written.
-    #[error("read fault")]
     Read,
     /// The writer failed; how much it took is not known.
-    #[error("write fault")]
     Write,
     /// The script has more bytes than a script may have; nothing was written.
-    #[error("input too long")]
     InputTooLong,
     /// Memory was wanting; what lines before wrote stands.
-    #[error("out of memory")]
     OutOfMemory,
 }
+
+impl fmt::Display for PlayFault {
+    ghost use Rattle.std.specs.Prelude.{Some};
+    ghost use Rattle.card_trace.specs.FaultTexts.{play_text};
+
+    ghost output = { λ fault. Some (play_text fault) };
+
+    fn fmt<W: fmt::Write>(&self, f: &mut fmt::Formatter<W>) -> fmt::Result {
+        match self {
+            PlayFault::Script { line, reason } => write!(f, "line {line}: {reason}"),
+            PlayFault::Read => f.write_str("read fault"),
+            PlayFault::Write => f.write_str("write fault"),
+            PlayFault::InputTooLong => f.write_str("input too long"),
+            PlayFault::OutOfMemory => f.write_str("out of memory"),
+        }
+    }
+}
+
+impl Error for PlayFault {}
 
 impl From<AllocError> for PlayFault {
     ghost use Rattle.std.specs.Prelude.{◌≡◌};

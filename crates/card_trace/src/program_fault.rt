@@ -1,26 +1,42 @@
+//! The faults of the program, those of its subcommands among them.
 use crate::objects_fault::ObjectsFault;
 use crate::play_fault::PlayFault;
-use thiserror::Error;
+use std::error::Error;
+use std::fmt;
 
 /// Why the program ends with status 1.
-#[derive(Debug, Drop, Error)]
+#[derive(Debug, Drop)]
 pub enum ProgramFault {
     /// A script came to no end.
-    #[error("{0}")]
     Play(PlayFault),
     /// Objects were not printed.
-    #[error("{0}")]
     Objects(ObjectsFault),
     /// The digits of `objects` are no bytes.
-    #[error("bad hex")]
     BadHex,
     /// The help could not be written.
-    #[error("write fault")]
     Write,
     /// Memory was wanting.
-    #[error("out of memory")]
     OutOfMemory,
 }
+
+impl fmt::Display for ProgramFault {
+    ghost use Rattle.std.specs.Prelude.{Some};
+    ghost use Rattle.card_trace.specs.FaultTexts.{program_text};
+
+    ghost output = { λ fault. Some (program_text fault) };
+
+    fn fmt<W: fmt::Write>(&self, f: &mut fmt::Formatter<W>) -> fmt::Result {
+        match self {
+            ProgramFault::Play(fault) => write!(f, "{fault}"),
+            ProgramFault::Objects(fault) => write!(f, "{fault}"),
+            ProgramFault::BadHex => f.write_str("bad hex"),
+            ProgramFault::Write => f.write_str("write fault"),
+            ProgramFault::OutOfMemory => f.write_str("out of memory"),
+        }
+    }
+}
+
+impl Error for ProgramFault {}
 
 impl From<PlayFault> for ProgramFault {
     ghost use Rattle.std.specs.Prelude.{◌≡◌};

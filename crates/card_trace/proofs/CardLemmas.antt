@@ -23,7 +23,6 @@ use Rattle.object_card.specs.Builder.{new_card}
 use Rattle.card_trace.specs.declared.fixed_line.FixedLine.TheVariants as fixed
 use Rattle.card_trace.specs.declared.script.section.Section.TheVariants as section
 use Rattle.card_trace.specs.FixedText.{fixed_text}
-use Rattle.card_trace.specs.TableText.{table_text}
 use Rattle.card_trace.specs.TraceText.{handed_out_text}
 use Rattle.card_trace.specs.ScriptWords.{words_of}
 use Rattle.card_trace.specs.declared.play_fault.PlayFault.{PlayFault}
@@ -39,7 +38,7 @@ use Rattle.card_trace.specs.declared.script.reading.TheConstants.{SCRIPT_LIMIT}
 use Rattle.card_trace.specs.ScriptTable.{Addition, MayStandIn}
 use Rattle.card_trace.specs.Scripts.{IsNotAdded}
 use Rattle.card_trace.specs.ScriptCard.{CardMeaning, Adds, Plan, Take, HandOut, Reset, Table, is_card_table_line, IsCardLine}
-use Rattle.card_trace.specs.CardScripts.{Past, heard, reset_to, no_past, RunningEnd, CardRun, Building, Running, TakeInTurn, IsFresh, AtWork, end_at, IsReady, IsReadyBy, LeadOn, Writes, Takes, HandsOut, IsEnough, RunsLine, DoesLine, DoesOrPasses, DoesAll, IsFirstRunLine, RefusesCardLine, CardWrites}
+use Rattle.card_trace.specs.CardScripts.{Past, heard, reset_to, no_past, RunningEnd, CardRun, Building, Running, TakeInTurn, IsFresh, AtWork, end_at, IsReady, IsReadyBy, LeadOn, Writes, TakesCharacters, HandsOut, IsEnough, RunsLine, DoesLine, DoesOrPasses, DoesAll, IsFirstRunLine, RefusesCardLine, CardWrites}
 
 -- ---- characters that pass
 
@@ -477,7 +476,7 @@ pub writes_taken : (old new : AtWork) (bytes taken : List ℕ) (before after : O
     → taken ≡ bytes
     → LeadOn old (sent_by Terminal taken) new
     → after ≡ before
-    → Writes (λ o text n. Takes o bytes text n) old new before after
+    → Writes (λ o text n. TakesCharacters o bytes text n) old new before after
 writes_taken old new bytes taken before after is led same = λ past ready.
     let l = led past ready in (
       [],
@@ -519,9 +518,9 @@ pub writes_refused : (start : AtWork) (old new : EndOf CardView) (plans : Cursor
     → i < length bytes → (new ≡ old) × (listens old.stage ≡ false) → before ≡ w
     → LeadOn start (sent_by Terminal (take i bytes)) (old, plans)
     → Appends before after (fixed_text fixed.NotListening)
-    → Writes (λ o text n. Takes o bytes text n) start (new, plans) w after
+    → Writes (λ o text n. TakesCharacters o bytes text n) start (new, plans) w after
 writes_refused start old new plans bytes i w before after within refused unwritten led appends =
-    let P : EndOf CardView → Type 0 = λ e. Writes (λ o text n. Takes o bytes text n) start
+    let P : EndOf CardView → Type 0 = λ e. Writes (λ o text n. TakesCharacters o bytes text n) start
     (e, plans) w after in
     subst P (sym refused.0) (λ past ready.
     let l = led past ready in (
@@ -563,17 +562,6 @@ writes_reset old new plans before after state anew appends = λ past ready.
       (record { past_is = refl; same_left = refl; standing_is = state; is_led = r.led }, refl),
       appends,
     )
-
-pub writes_table : (old : AtWork) (before after : Option (List ℕ))
-    → Appends before after (table_text old.0.card.state.applications)
-    → Writes (λ o text n. RunsLine o Table text n) old old before after
-writes_table old before after appends = λ past ready. (
-  table_text old.0.card.state.applications,
-  past,
-  ready,
-  (refl, refl),
-  appends,
-)
 
 -- ---- a line, and lines one after another
 

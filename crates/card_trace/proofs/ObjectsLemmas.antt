@@ -1,5 +1,5 @@
 -- The lines of objects, written one object after another.
-use Rattle.std.proofs.Common.{◌≡◌, ℕ, zero, suc, ◌+◌, ◌≤◌, List, ◌++◌, true, false, Some, None, refl, sym, ap, ◌∙◌, subst, add-one, append-nil, append_assoc, arith}
+use Rattle.std.proofs.Common.{◌≡◌, ℕ, zero, suc, ◌+◌, List, ◌++◌, true, false, Some, None, refl, sym, ap, ◌∙◌, subst, add-one, append-nil, append_assoc}
 use Rattle.std.specs.Prelude.{codes}
 use Rattle.hex.specs.Hex.{encode_upper}
 use Rattle.tlv_core.specs.TagForm.{is_constructed}
@@ -23,11 +23,6 @@ pub record Printed (below : ℕ) (whole rest : ObjectList) (before text : List �
   pub goes_on : (next : Forest) → Spells next rest.bytes rest.level
       → (all : Forest) × Spells all whole.bytes whole.level
       × (text ++ lines_below below next ≡ before ++ lines_below below all)
-
-pub printed_at_start : (below : ℕ) (whole : ObjectList) (text : List ℕ)
-    → Printed below whole whole text text
-printed_at_start below whole text =
-    record { one_level = refl; goes_on = λ next spells. (next, spells, refl) }
 
 -- what was written, a line, and the rest
 after_line : (text line rest : List ℕ) → (text ++ line) ++ rest ≡ text ++ (line ++ rest)
@@ -110,11 +105,6 @@ pub printed_all : (below : ℕ) (whole now after : ObjectList) (before text : Li
     × (text ≡ before ++ lines_below below forest)
 printed_all below whole now after before text h gives =
     let all = h.goes_on Empty gives.0 in (all.0, all.1, sym (append-nil text) ∙ all.2)
-
--- an object lies no deeper than the deepest level
-pub given_depth : (now after : ObjectList) (o : Object) → GivesNext now (Some o) after → o.level
-    ≤ 16
-given_depth now after o gives = let d = gives.0.1.in_depth in omega (arith, gives.1)
 
 -- what was pushed for a primitive, and for a template before its objects
 pub line_pushed : (below : ℕ) (tag value text a b c d new tag_given value_given : List ℕ) → a ≡ text

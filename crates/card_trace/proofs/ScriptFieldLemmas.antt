@@ -1,6 +1,6 @@
 -- Fields: a text stands for one thing, and which texts stand for none.
-use Rattle.std.proofs.Common.{◌≡◌, ◌≢◌, ℕ, zero, suc, ◌+◌, ◌*◌, ◌^◌, ◌<◌, ◌≤◌, ◌==◌, List, [], ◌∷◌, ◌++◌, length, take, drop, get_or, map, replicate, Bool, true, false, Option, Some, None, Result, Ok, Err, refl, sym, ap, subst, ◌∙◌, inl, inr, arith, codes, ◌⊎◌}
-use Rattle.std.specs.Prelude.{slice_index, IsSome, IfSome, IfOk, ◌↔◌, MatchOption}
+use Rattle.std.proofs.Common.{◌≡◌, ◌≢◌, ℕ, zero, suc, ◌+◌, ◌*◌, ◌<◌, ◌==◌, List, [], ◌∷◌, ◌++◌, length, take, drop, get_or, map, replicate, Bool, true, false, Option, Some, None, Result, Ok, Err, refl, sym, ap, subst, ◌∙◌, inl, inr, arith, codes, ◌⊎◌}
+use Rattle.std.specs.Prelude.{IsSome, IfSome, IfOk, ◌↔◌, MatchOption}
 use Rattle.std.specs.Result.{result_ok}
 use Rattle.std.specs.Str.{bytes_eq}
 use Rattle.std.proofs.lemmas.Slice.Eq.{bytes_eq-Decides}
@@ -8,20 +8,18 @@ use Rattle.std.proofs.lemmas.Bool.{lt-ltb, eqb-true}
 use Rattle.std.proofs.lemmas.List.Sums.{split_at_first}
 use Rattle.t0_core.specs.Plan.{Course}
 use Rattle.std.specs.Str.{IsAscii, IsUtf8}
-use Rattle.std.specs.Str.Parse.{IsNumeral, AllDigits, digits_value, without_leading_plus, ParsesUnsigned}
+use Rattle.std.specs.Str.Parse.{AllDigits}
 use Rattle.std.specs.List.{position}
 use Rattle.std.proofs.lemmas.Str.{IsUtf8-from_ascii}
-use Rattle.hex.specs.Hex.{decode_of, decode_sized, is_hex_digit}
-use Rattle.hex.proofs.HexLemmas.{decode_of-same, decode_of-ok, decode_sized-ok, decode_sized-twice}
-use Rattle.hex.specs.declared.error.FromHexError.{FromHexError}
+use Rattle.hex.specs.Hex.{decode_sized, is_hex_digit}
+use Rattle.hex.proofs.HexLemmas.{decode_of-same, decode_of-ok, decode_sized-twice}
 use Rattle.std.proofs.Common.{append-nil, append_assoc, length-append, true≢false, lit<, MatchResult}
 use Rattle.std.specs.List.{position_or_len}
 use Rattle.std.proofs.Math.Seq.{take-append_seam, drop-append-add}
 use Rattle.std.proofs.lemmas.Bool.{ne_eqb}
 use Rattle.std.proofs.lemmas.Str.Parse.{digit_from_value}
 use Rattle.std.proofs.lemmas.List.Quantifiers.{position-Some}
-use Rattle.tlv_core.specs.TagForm.{IsTag, StartsWithTag}
-use Rattle.tlv_core.specs.TagLaws.{tags_agree}
+use Rattle.tlv_core.specs.TagForm.{StartsWithTag}
 use Rattle.tlv_core.specs.Address.{IsAddressable}
 use Rattle.tlv_core.specs.AddressLaws.{named_is_tag}
 use Rattle.t0_core.specs.declared.plan.Step.{Step}
@@ -33,35 +31,12 @@ use Rattle.card_trace.specs.ScriptFields.{IsHexText, IsNumberText, IsRepeatedTex
 pub same_bytes : (text a b : List ℕ) → IsHexText text a → IsHexText text b → a ≡ b
 same_bytes text a b h g = decode_of-same text a b h.digits g.digits
 
--- what does not decode stands for no bytes
-pub no_bytes_of : (text : List ℕ) (e : FromHexError) → decode_of text ≡ Err e
-    → (bytes : List ℕ) → IsHexText text bytes → ⊥
-no_bytes_of text e refused bytes h = cc (sym refused ∙ h.digits)
-
--- two digits that stand for a byte
-pub sized_text : (text bytes : List ℕ) (n : ℕ) → 0 < n → decode_sized text n ≡ Ok bytes
-    → IsHexText text bytes
-sized_text text bytes n some h =
-    let twice = decode_sized-ok text n bytes h in
-    record {
-      is_not_empty = omega (arith, twice, some);
-      digits = sym
-          (decode_sized-twice text n twice) ∙ h;
-    }
-
 -- bytes that are a tag and what follows it are that tag, where nothing follows
 pub whole_tag : (bytes tag rest : List ℕ) → bytes ≡ tag ++ rest → length bytes ≡ length tag → tag
     ≡ bytes
 whole_tag bytes tag [] e len = sym (e ∙ append-nil tag)
 whole_tag bytes tag (r ∷ rest) e len =
     absurd (omega (arith, len, ap (λ x. length x) e, length-append tag (r ∷ rest)))
-
--- a tag that a command can name is all that stands at the front of itself
-pub front_of_named : (bytes tag rest : List ℕ) → IsAddressable bytes → IsTag tag → bytes ≡ tag
-    ++ rest → tag ≡ bytes
-front_of_named bytes tag rest named is_tag e =
-    tags_agree tag bytes rest [] is_tag (named_is_tag bytes named.0 named.1 named.2)
-    (sym e ∙ sym (append-nil bytes))
 
 pub named_starts : (bytes : List ℕ) → IsAddressable bytes → StartsWithTag bytes
 named_starts bytes named =
@@ -74,35 +49,6 @@ digits_ascii (c ∷ cs) h (suc i) = digits_ascii cs h.1 i
 
 pub number_is_utf8 : (text : List ℕ) (n : ℕ) → IsNumberText text n → IsUtf8 text
 number_is_utf8 text n h = IsUtf8-from_ascii text (digits_ascii text h.is_numeral.1)
-
--- the text of a number starts with a digit from 1 to 9
-pub number_starts : (text : List ℕ) (n : ℕ) → IsNumberText text n
-    → (0x31 ≤ slice_index text 0) × (slice_index text 0 ≤ 0x39)
-number_starts [] n h = absurd (omega (arith, h.is_numeral.0))
-number_starts (c ∷ cs) n h =
-    let range = digit_from_value c h.is_numeral.1.0 in
-    (omega (arith, range.0, h.no_leading_zero), range.1)
-
-plus_free : (text : List ℕ) → 0x31 ≤ slice_index text 0 → without_leading_plus text ≡ text
-plus_free text low = rw (ne_eqb (slice_index text 0) 43 (λ e. omega (arith, e, low))) refl
-
--- what is parsed that starts so
-pub parsed_number : {E : Type 0} (text : List ℕ) (r : Result ℕ E) → 0x31 ≤ slice_index text 0
-    → ParsesUnsigned 16 10 text r
-    → MatchResult r (λ n. IsNumberText text n) (λ _. (n : ℕ) → IsNumberText text n → ⊥)
-parsed_number text (Ok n) low h =
-    let P : List ℕ → Type 0 = λ w. (IsNumeral 10 w × (digits_value 10 w < 2 ^ 16))
-    × (n ≡ digits_value 10 w) in
-    let read = subst P (plus_free text low) h in
-    record {
-      is_numeral = read.0.0;
-      no_leading_zero = λ e. omega (arith, e, low);
-      value = sym read.1;
-      in_range = omega (arith, read.0.1, read.1);
-    }
-parsed_number text (Err e) low h = λ n t.
-    let Q : List ℕ → Type 0 = λ w. (IsNumeral 10 w × (digits_value 10 w < 2 ^ 16)) → ⊥ in
-    subst Q (plus_free text low) h (t.is_numeral, omega (arith, t.value, t.in_range))
 
 abbrev is_star : ℕ → Bool
 is_star other = other == 0x2A

@@ -40,20 +40,12 @@ first_part p xs i h =
     ∷ slice_split p (drop (n + 1) xs) in
     subst P at.0 (slice_split_first p xs 0) at.1
 
--- a space in front is of no word
-pub space_first : (bytes : List ℕ) → words_in (0x20 ∷ bytes) ≡ words_in bytes
-space_first bytes = refl
-
 kept : (test : List ℕ → Bool) (x : List ℕ) (xs : List (List ℕ)) → test x ≡ true
     → filter test (x ∷ xs) ≡ x ∷ filter test xs
 kept test x xs e = rw e refl
 
 abbrev is_word : List ℕ → Bool
 is_word word = nat_lt 0 (length word)
-
-pub no_words : (text : List ℕ) → length text ≡ 0 → words_in text ≡ []
-no_words [] h = refl
-no_words (b ∷ bytes) h = absurd (omega arith)
 
 pub last_word : (text : List ℕ) → 0 < length text → position (is 0x20) text ≡ None
     → words_in text ≡ text ∷ []
@@ -77,10 +69,6 @@ word_then text i front h =
     ap (filter is_word) (first_part (is 0x20) text i h)
     ∙ kept is_word (take i text) (slice_split (is 0x20) (drop (i + 1) text))
     (lt-ltb 0 (length (take i text)) (omega (arith, len, some)))
-
-pub no_lines : (bytes : List ℕ) → length bytes ≡ 0 → lines bytes ≡ []
-no_lines [] h = refl
-no_lines (b ∷ bytes) h = absurd (omega arith)
 
 one_line : (bytes : List ℕ) → 0 < length bytes → lines_of_parts (bytes ∷ []) ≡ bytes ∷ []
 one_line [] some = absurd (omega arith)

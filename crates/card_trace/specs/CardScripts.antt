@@ -112,7 +112,8 @@ pub record IsReset (old new : RunningEnd) : Type 0 where
 
 -- The end takes a front of the characters: all, and then nothing is printed, or as many as come
 -- before one that is refused since the next character is the card's, which is told.
-pub record Takes (old : RunningEnd) (bytes text : List ℕ) (new : RunningEnd) : Type 0 where
+pub record TakesCharacters (old : RunningEnd) (bytes text : List ℕ) (new : RunningEnd)
+    : Type 0 where
   pub taken : List ℕ
   pub refused : List ℕ
   pub all : bytes ≡ taken ++ refused
@@ -137,7 +138,7 @@ pub record HandsOut (old : RunningEnd) (most : Option ℕ) (text : List ℕ) (ne
 abbrev pub RunsLine : RunningEnd → CardMeaning → List ℕ → RunningEnd → Type 0
 RunsLine old (Adds addition) text new = ⊥
 RunsLine old (Plan plan) text new = ⊥
-RunsLine old (Take bytes) text new = Takes old bytes text new
+RunsLine old (Take bytes) text new = TakesCharacters old bytes text new
 RunsLine old (HandOut most) text new = HandsOut old most text new
 RunsLine old Reset text new = IsReset old new × (text ≡ fixed_text fixed.Reset)
 RunsLine old Table text new = (new ≡ old) × (text ≡ table_text old.standing.applications)

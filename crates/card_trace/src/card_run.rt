@@ -5,7 +5,7 @@ ghost use Rattle.t0_core.specs.Character.{sent_by};
 ghost use Rattle.t0_core.specs.Plan.{Cursor};
 ghost use Rattle.card_trace.specs.declared.script.section.Section.TheVariants as section;
 ghost use Rattle.card_trace.specs.ScriptCard.{card_meaning, is_card_table_line, IsCardLine};
-ghost use Rattle.card_trace.specs.CardScripts.{Running, IsEnough, HandsOut, Takes, RunsLine, DoesOrPasses, LeadOn, Writes};
+ghost use Rattle.card_trace.specs.CardScripts.{Running, IsEnough, HandsOut, TakesCharacters, RunsLine, DoesOrPasses, LeadOn, Writes};
 ghost use Rattle.card_trace.specs.ScriptFaults.{SaysNothing};
 ghost use Rattle.card_trace.specs.LineFaults.{IsWritingFault, IsFaultOfLine};
 
@@ -77,7 +77,7 @@ fn take<A: Allocator + Copy, W: Write>(
     writer: &mut W,
 ) -> Result<(), PlayFault>
     ensures written { OnOk result ((plans : Cursor) → Writes
-        (λ old text new. Takes old characters.now text new)
+        (λ old text new. TakesCharacters old characters.now text new)
         (end.old, plans) (end.new, plans) (W.contents writer.old) (W.contents writer.new)) }
     ensures fault { IfErr result (IsWritingFault (W.contents writer.old) (W.contents writer.new)) }
 {

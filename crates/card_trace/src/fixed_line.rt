@@ -1,3 +1,4 @@
+//! The lines that are always the same.
 ghost use Rattle.std.specs.Prelude.{◌≡◌};
 ghost use Rattle.card_trace.specs.FixedText.{fixed_text};
 

@@ -1,3 +1,4 @@
+//! The reasons to refuse a line of a script, with their texts.
 use apdu_core::ApduFault;
 use std::error::Error;
 use std::fmt;

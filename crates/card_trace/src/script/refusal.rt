@@ -1,3 +1,4 @@
+//! Why a line is not carried out: a reason to refuse it, or want of memory.
 use crate::play_fault::PlayFault;
 use crate::script::reason::Reason;
 use object_card::BuilderFault;

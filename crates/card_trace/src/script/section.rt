@@ -1,3 +1,4 @@
+//! The two sections of a script: its table lines, and the lines behind them.
 ghost use Rattle.std.specs.Prelude.{◌≡◌, ◌↔◌, IsOk, IfErr};
 
 use crate::script::reason::Reason;

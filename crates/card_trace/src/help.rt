@@ -45,9 +45,10 @@ HEX is one or more pairs of hexadecimal digits. TAG is one byte, 40 to FE but
 none of 5F, 7F, 9F, BF and DF, or two bytes: one of these or FF, then 01 to 7F.
 VALUE is HEX, `-` for no bytes, or HH*N for N times the byte HH, 1 to 65,535.
 STEPS is `-` or the letters n (a NULL), o (one byte) and a (all bytes that are
-left); CUT, 1 to 256, is the most that the card announces at a time. Words are
-in lower case, with spaces between them and no tabs. Empty lines, and lines
-that start with #, are passed over.
+left); CUT, 1 to 256, is the most that the card announces at a time. The first
+word of a line and STEPS are in lower case, and digits in either case. Words
+stand between spaces, and a tab is no space. Empty lines, and lines that start
+with #, are passed over.
 
 A script has at most 1,048,576 bytes, and a card 8 applications, 64 objects in
 each, and 8,192 bytes in a value. A `put` line takes 16,320; the card refuses
@@ -93,9 +94,10 @@ HEX is one or more pairs of hexadecimal digits. TAG is one byte, 40 to FE but
 none of 5F, 7F, 9F, BF and DF, or two bytes: one of these or FF, then 01 to 7F.
 VALUE is HEX, `-` for no bytes, or HH*N for N times the byte HH, 1 to 65,535.
 STEPS is `-` or the letters n (a NULL), o (one byte) and a (all bytes that are
-left); CUT, 1 to 256, is the most that the card announces at a time. Words are
-in lower case, with spaces between them and no tabs. Empty lines, and lines
-that start with #, are passed over.
+left); CUT, 1 to 256, is the most that the card announces at a time. The first
+word of a line and STEPS are in lower case, and digits in either case. Words
+stand between spaces, and a tab is no space. Empty lines, and lines that start
+with #, are passed over.
 
 A script has at most 1,048,576 bytes, and a card 8 applications, 64 objects in
 each, and 8,192 bytes in a value.

@@ -47,17 +47,6 @@ none_there (cell ∷ room) zero o high = absurd (omega (arith, high))
 none_there (cell ∷ room) (suc at) o high = ap (λ (r : List ObjectRecord). cell ∷ r)
     (none_there room at o (omega (arith, high)))
 
-front_length : (room all : List ObjectRecord) → length (with_front room all) ≡ length room
-front_length [] all = refl
-front_length (cell ∷ room) [] = refl
-front_length (cell ∷ room) (o ∷ all) = ap suc (front_length room all)
-
-pub same_length : (room : List ObjectRecord) (at : ℕ) (all : List ObjectRecord)
-    → length (with_from room at all) ≡ length room
-same_length room zero all = front_length room all
-same_length [] (suc at) all = refl
-same_length (cell ∷ room) (suc at) all = ap suc (same_length room at all)
-
 recorded_both : (xs ys : List Placed) → map recorded (xs ++ ys) ≡ map recorded xs ++ map recorded ys
 recorded_both [] ys = refl
 recorded_both (x ∷ xs) ys = ap (λ (r : List ObjectRecord). recorded x ∷ r) (recorded_both xs ys)

@@ -1,3 +1,4 @@
+//! The card that a handle holds: one that is built, one that stands, or one in a session.
 use crate::plan_queue::PlanQueue;
 use crate::session_side::SessionSide;
 use object_card::{CardBuilder, ObjectCard};

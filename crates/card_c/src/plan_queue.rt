@@ -1,3 +1,4 @@
+//! The plans that C has given for the TPDUs to come, in a queue.
 ghost use Rattle.std.specs.Prelude.{◌≡◌, ℕ, [], ◌∷◌, ◌++◌, None, OnOk, OnErr};
 ghost use Rattle.t0_core.specs.Plan.{advanced};
 

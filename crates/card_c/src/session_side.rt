@@ -1,3 +1,4 @@
+//! The session that a handle holds, with what is kept of its last operation.
 use card_terminal::{Answer, Session};
 use object_card::ObjectCard;
 use t0_core::{Plan, Recorder};

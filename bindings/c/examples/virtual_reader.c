@@ -2,8 +2,8 @@
  *
  * It is an IFD handler: pcscd loads it, as bindings/c/README.md says, and then shows a reader with
  * a card in it to every PC/SC client. The card's tables come from the file that the reader's
- * DEVICENAME names, of `app`, `object` and `locked` lines. What clients store lasts until pcscd lets
- * it go. */
+ * DEVICENAME names, of `app`, `object` and `locked` lines. What clients store lasts until pcscd
+ * lets it go. */
 #include "table.h"
 
 #include <ifdhandler.h>

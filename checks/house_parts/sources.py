@@ -1,0 +1,175 @@
+"""The files of the repository as text, and what a reading by names alone can say of them: which
+declarations a file of definitions or proofs has, and from where each name in it comes."""
+
+import re
+from collections import defaultdict
+from dataclasses import dataclass
+from pathlib import Path
+
+# What is built or kept, and no part of the repository.
+NOT_READ = {".git", "out", "target", "__pycache__"}
+BUILT = "bindings/c/build/"
+READ = {".rt", ".antt", ".c", ".h", ".rs", ".py", ".md", ".txt"}
+
+WORD = re.compile(r'[^\s(){}\[\],;.:`"]+')
+IMPORT = re.compile(
+    r"\buse (Rattle\.[\w.+]+?)(?:\.\{([^}]*)\}| as (\w+)| *;| *$)", re.M
+)
+# a name in an attribute or a clause of code, as crate::specs::Tag::is_tag
+IN_CODE = re.compile(r"\bcrate::((?:specs|proofs)(?:::[\w+]+)*)::([^\s,);:]+)")
+MODIFIERS = r"(?:(?:unfoldable|opaque|pub|private|abbrev|data|record|def|rec|mutual)\s+)*"
+DECLARED = re.compile(MODIFIERS + r'([^\s(){}\[\],;.:"]+)')
+IS_TYPE = re.compile(r"(?:(?:unfoldable|opaque|pub|private)\s+)*(?:data|record)\b")
+MEMBER = re.compile(r"\s+(?:pub\s+)?([^\s(){}\[\],;.:]+)\s*:")
+# Words that begin a line which goes on with the declaration above it.
+GOES_ON = {None, "unfolding", "where", "let", "in"}
+
+
+@dataclass
+class Import:
+    """A name, as the file calls it: `name` of `module`, or all of it where that is None."""
+
+    module: str
+    name: str | None
+    line: int
+
+
+@dataclass
+class Declaration:
+    """A lemma or a definition: where it begins, its names (a type's with its constructors or
+    fields), its lines, and those of the heads of the modules around it."""
+
+    path: str
+    line: int
+    names: set
+    lines: list
+    heads: list
+
+    @property
+    def name(self):
+        return DECLARED.match(self.lines[0].strip())[1]
+
+    @property
+    def words(self):
+        return set(WORD.findall(without_comments("\n".join([*self.heads, *self.lines]))))
+
+
+def without_comments(text):
+    """The text of definitions or proofs without what stands behind `--`."""
+    return re.sub(r"(?m)(^|\s)--( .*)?$", "", text)
+
+
+def code_without_comments(text):
+    """The text of code, its lines as they were, with what stands behind `//` left out."""
+    return re.sub(r"(?m)(^|\s)//.*$", "", text)
+
+
+def line_of(text, place):
+    return text.count("\n", 0, place) + 1
+
+
+class Repository:
+    """All that is read, as a text for each path."""
+
+    def __init__(self, texts):
+        self.texts = texts
+        self.below = {}
+        for line in texts.get("crates.txt", "").splitlines():
+            before, colon, after = line.partition(":")
+            if colon and not line.startswith("#"):
+                self.below[before.split()[0]] = set(after.split())
+        for crate in self.below:
+            self.below[crate] &= set(self.below)
+        self.imports = {path: imports_of(text) for path, text in self.code() if "use " in text}
+        self.cut = {path: declarations(path, text) for path, text in self.code(".antt")}
+
+    @classmethod
+    def at(cls, top):
+        texts = {}
+        for file in sorted(Path(top).rglob("*")):
+            path = file.relative_to(top)
+            if NOT_READ & set(path.parts) or str(path).startswith(BUILT):
+                continue
+            if not file.is_file():
+                continue
+            if file.suffix in READ or is_script(file):
+                texts[str(path)] = file.read_text(errors="replace")
+        return cls(texts)
+
+    def code(self, *suffixes):
+        """The paths and texts of code, definitions and proofs."""
+        for path, text in self.texts.items():
+            if path.startswith("crates/") and path.endswith(suffixes or (".rt", ".antt")):
+                yield path, text
+
+    def declarations(self):
+        for cut in self.cut.values():
+            yield from cut
+
+    def path_of(self, module):
+        """The file of a module of definitions or proofs, as Rattle.t0_core.specs.Front, if any."""
+        path = "crates/" + module.removeprefix("Rattle.").replace(".", "/") + ".antt"
+        return path if path in self.texts else None
+
+
+def is_script(file):
+    if file.suffix:
+        return False
+    with file.open("rb") as opened:
+        return opened.read(2) == b"#!"
+
+
+def crate_of(path):
+    return path.split("/")[1]
+
+
+def imports_of(text):
+    """From where each name of a file comes that it imports."""
+    found = defaultdict(list)
+    for it in IMPORT.finditer(text):
+        line = line_of(text, it.start())
+        if it[2] is None:
+            found[it[3] or it[1].rpartition(".")[2]].append(Import(it[1], None, line))
+            continue
+        for name in it[2].split(","):
+            name, _, called = (part.strip() for part in name.partition(" as "))
+            found[called or name].append(Import(it[1], name, line))
+    return found
+
+
+def declarations(path, text):
+    """Cuts a file into its declarations: each begins at the margin, which in a module with
+    parameters is that module's, with a name that is not the one before, as equations repeat it."""
+    found = []
+    margins = [0]
+    heads = [[]]
+    in_head = False
+    for number, line in enumerate(text.split("\n"), 1):
+        said = line.strip()
+        if not said or said.startswith("--") or line.startswith("use "):
+            continue
+        indent = len(line) - len(line.lstrip())
+        closes = said[0] in "})|,]-"
+        while margins[-1] is not None and indent < margins[-1] and not closes:
+            margins.pop()
+            heads.pop()
+        if in_head or said.startswith("module "):
+            if not in_head:
+                heads.append([*heads[-1]])
+                margins.append(None)
+            heads[-1].append(line)
+            in_head = not said.endswith("where")
+            continue
+        if margins[-1] is None:
+            margins[-1] = indent
+        named = DECLARED.match(said) if indent == margins[-1] and not closes else None
+        name = named[1] if named else None
+        if name in GOES_ON or (found and name in found[-1].names):
+            if found:
+                found[-1].lines.append(line)
+                member = MEMBER.match(line)
+                if member and IS_TYPE.match(found[-1].lines[0].strip()):
+                    found[-1].names.add(member[1])
+        else:
+            found.append(Declaration(path, number, {name}, [line], heads[-1]))
+    return found

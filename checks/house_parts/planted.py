@@ -87,6 +87,7 @@ FAULTS = [
     ("rule", "docs/RULES.md", 6, [
         ("docs/RULES.md", "(`IsLit`)\n", "(`IsLit`)\n- A lamp is `warm`.\n"),
     ]),
+    ("rule", "docs/RULES.md", 5, [("docs/RULES.md", "(`IsLit`)", "(`IsLit`, `IsDim`)")]),
     ("unruled", "crates/low/specs/Lamp.antt", 9, [
         ("docs/RULES.md", "(`IsLit`)", "(`Hanging`)"),
     ]),

@@ -2,7 +2,8 @@
 each definition that a public clause cites is named by a rule.
 
 A public clause is one of a `pub fn` that its library shows, of a trait that it shows, or of
-`main_status`. A rule names a definition in a code span; a constructor stands for its type."""
+`main_status`. A rule names a definition in a code span; a constructor stands for its type. Behind a
+rule stand names alone in parentheses, and each of them is a definition's."""
 
 import re
 from collections import defaultdict
@@ -17,6 +18,7 @@ PUBLIC = re.compile(r'^( *)pub (?:unsafe )?(extern "C" )?fn (\w+)(.*?)(?:^\1\{|;
 CLAUSE = re.compile(r"\b(?:requires|ensures)\b")
 TRAIT = re.compile(r"^pub trait (\w+)(.*?)^\}", re.M | re.S)
 DOTTED = re.compile(r'[^\s(){}\[\],;:`"]+')
+NAMES_ALONE = re.compile(r"\(((?:`\w+`[,;] )*`\w+`)\)")
 FIRST_WORDS = 5
 
 
@@ -128,6 +130,11 @@ def findings(repository):
             for word in words_of(it):
                 words[word].append(it)
     named = {word for word in spans(text) if word in words}
+    for it in NAMES_ALONE.finditer(text):
+        for name in spans(it[1]) - named:
+            if re.search("[a-z]", name):
+                what = f"no file of specs/ defines {name}"
+                yield Finding("rule", RULES, line_of(text, it.start()), name, what)
     for line, rule in rules(text):
         if not spans(rule) & named:
             first = " ".join(re.sub(r"[`*-]", "", rule).split()[:FIRST_WORDS])

@@ -2,10 +2,9 @@
 the crate does not show, and what looks into a value of such a type."""
 
 import re
-from collections import defaultdict
 
 from .findings import Finding
-from .sources import IS_TYPE, WORD, crate_of, line_of, without_comments
+from .sources import WORD, crate_of, line_of, without_comments
 
 OF_PROJECT = re.compile(r"\bRattle\.(\w+)\.(proofs|specs)\b([\w.+]*)(?:\.\{([^}]*)\})?")
 TYPE_IN_CODE = re.compile(r"^(?:pub(?:\([a-z]+\))? )?(?:struct|enum|trait|type|union) (\w+)", re.M)
@@ -22,12 +21,9 @@ def shown(repository, crate):
     for used in re.findall(r"\bpub use ([^;]*);", root):
         names |= set(re.findall(r"\w+", used))
     for module in re.findall(r"\bpub mod (\w+);", root):
-        names |= set(TYPE_IN_CODE.findall(module_text(repository, crate, module)))
+        text = repository.texts.get(f"crates/{crate}/src/{module}.rt", "")
+        names |= set(TYPE_IN_CODE.findall(text))
     return names
-
-
-def module_text(repository, crate, module):
-    return repository.texts.get(f"crates/{crate}/src/{module}.rt", "")
 
 
 def private_types(repository, crate):
@@ -43,9 +39,10 @@ def private_types(repository, crate):
     return fields
 
 
-def private_in(crate, below, path_after, names, seen):
-    """What of a path `Rattle.BELOW.specs..` or `Rattle.BELOW.proofs..` is private, if anything."""
-    parts = path_after.strip(".").split(".")
+def private_in(after, names, seen):
+    """What is private of what stands behind `Rattle.BELOW.specs`, and of the names in braces behind
+    that, where these are shown; None where nothing is."""
+    parts = after.strip(".").split(".")
     if "declared" not in parts:
         return None
     for part in parts[parts.index("declared") + 1 :]:
@@ -71,7 +68,7 @@ def of_paths(repository):
             names = [name.partition(" as ")[0].strip() for name in names.split(",")]
             if module == "proofs":
                 name, what = f"{below}.proofs", f"names the proofs of {below}"
-            elif name := private_in(crate, below, after, names, seen[below]):
+            elif name := private_in(after, names, seen[below]):
                 what = f"names {name}, which {below} does not show"
             else:
                 continue

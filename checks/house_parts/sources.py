@@ -1,14 +1,16 @@
 """The files of the repository as text, and what a reading by names alone can say of them: which
 declarations a file of definitions or proofs has, and from where each name in it comes."""
 
+import os
 import re
 from collections import defaultdict
 from dataclasses import dataclass
 from pathlib import Path
 
 # What is built or kept, and no part of the repository.
-NOT_READ = {".git", "out", "target", "__pycache__"}
-BUILT = "bindings/c/build/"
+NOT_READ = re.compile(
+    r"(.*/)?(\.git|__pycache__)|(crates/\w+/)?out|bindings/(c/build|rust/target)"
+)
 READ = {".rt", ".antt", ".c", ".h", ".rs", ".py", ".md", ".txt"}
 
 WORD = re.compile(r'[^\s(){}\[\],;.:`"]+')
@@ -86,14 +88,13 @@ class Repository:
     @classmethod
     def at(cls, top):
         texts = {}
-        for file in sorted(Path(top).rglob("*")):
-            path = file.relative_to(top)
-            if NOT_READ & set(path.parts) or str(path).startswith(BUILT):
-                continue
-            if not file.is_file():
-                continue
-            if file.suffix in READ or is_script(file):
-                texts[str(path)] = file.read_text(errors="replace")
+        for folder, folders, names in os.walk(top):
+            path = Path(folder).relative_to(top)
+            folders[:] = sorted(it for it in folders if not NOT_READ.fullmatch(str(path / it)))
+            for name in sorted(names):
+                file = Path(folder, name)
+                if file.suffix in READ or is_script(file):
+                    texts[str(path / name)] = file.read_text(errors="replace")
         return cls(texts)
 
     def code(self, *suffixes):
@@ -113,7 +114,7 @@ class Repository:
 
 
 def is_script(file):
-    if file.suffix:
+    if file.suffix or not file.is_file():
         return False
     with file.open("rb") as opened:
         return opened.read(2) == b"#!"

@@ -1,6 +1,6 @@
 //! A terminal and a card of data objects written by hand in Rust, which pass one character at a
-//! time over a line in memory. They are asked the same as the proved ones, and timed in the same way
-//! as `crates/session_speed` times those.
+//! time over a line in memory. They are asked the same as the proved ones, and timed in the same
+//! way as `crates/session_speed` times those.
 //!
 //!     mkdir -p out && rustc --edition 2021 -O -C target-cpu=x86-64-v2 -C codegen-units=1 \
 //!         -C lto=fat -C panic=abort compare/session_by_hand.rs -o out/session_by_hand
@@ -8,10 +8,10 @@
 //!
 //! The card refuses headers by the same rules in the same order, finds objects by hash, and changes
 //! nothing before the second status character; the terminal follows `6CXX` and `61XX`. Want of
-//! memory is told where the proved ones tell it: an operation's room and the place of its answer are
-//! taken before its first character, an answer keeps its data alone, and a put that finds no memory
-//! is answered `6581`. There are no plans and no watch, the data of a TPDU are not cleared after it,
-//! and the value of a constructed tag, which no load puts, is not checked.
+//! memory is told where the proved ones tell it: an operation's room and the place of its answer
+//! are taken before its first character, an answer keeps its data alone, and a put that finds no
+//! memory is answered `6581`. There are no plans and no watch, the data of a TPDU are not cleared
+//! after it, and the value of a constructed tag, which no load puts, is not checked.
 
 use std::collections::{HashMap, TryReserveError};
 use std::env;

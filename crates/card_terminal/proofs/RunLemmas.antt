@@ -31,7 +31,7 @@ use Rattle.object_card.specs.declared.instructions.Instruction.{Instruction}
 use Rattle.object_card.specs.declared.instructions.Instruction.TheVariants.{Select, GetData, PutData, GetResponse}
 use Rattle.object_card.specs.Instructions.{MayReceive, MaySend, ins_of, takes_data}
 use Rattle.object_card.specs.InstructionLaws.{one_way}
-use Rattle.card_terminal.specs.Agreed.{IsAgreed}
+use Rattle.object_card.specs.Agreed.{IsAgreed}
 use Rattle.card_terminal.specs.Gathered.{Gathers, Opening, By_command, By_fetch, UnitOf, dialogues_of, repeated_with}
 use Rattle.card_terminal.specs.declared.wanted.Wanted.{Wanted}
 use Rattle.card_terminal.specs.ExchangeSide.{ExchangeOf, exchange_turn, HostOpensBy, IsOver, IsOpenedAs, so_far}

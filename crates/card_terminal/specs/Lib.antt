@@ -1,7 +1,6 @@
 pub mod Gathered
 pub mod Attempts
 pub mod ExchangeSide
-pub mod Agreed
 pub mod Conversing
 pub mod ExchangeHistory
 pub mod ExchangeSteps

@@ -13,7 +13,7 @@ use Rattle.t0_core.specs.Plan.{Cursor, IsCut, advanced}
 use Rattle.t0_core.specs.Watch.{Hearing, Hears}
 use Rattle.card_terminal.specs.ExchangeSide.{ExchangeOf, UnderWay, IsOver, so_far}
 use Rattle.card_terminal.specs.Gathered.{UnitOf, dialogues_of}
-use Rattle.card_terminal.specs.Agreed.{IsAgreed}
+use Rattle.object_card.specs.Agreed.{IsAgreed}
 use Rattle.card_terminal.specs.Conversing.{Point, point, next_plan, HaveGone, IsCaused, characters_left}
 
 -- all that the passing of a character changes

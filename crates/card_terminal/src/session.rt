@@ -5,7 +5,7 @@ ghost use Rattle.t0_core.specs.CardHistory.{Leads, LeadsUnder};
 ghost use Rattle.t0_core.specs.CardSide.{Taking_header};
 ghost use Rattle.t0_core.specs.Plan.{Course, Cursor};
 ghost use Rattle.t0_core.specs.Watch.{Hearing};
-ghost use Rattle.card_terminal.specs.Agreed.{IsAgreed};
+ghost use Rattle.object_card.specs.Agreed.{IsAgreed};
 ghost use Rattle.card_terminal.specs.ExchangeSide.{IsBounded, exchange_turn};
 ghost use Rattle.card_terminal.specs.Conversing.{point, IsCaused};
 ghost use Rattle.card_terminal.specs.Line.{Start, line, Begins, IsGoing, IsOneOf, Keeps, Passes, Converses};

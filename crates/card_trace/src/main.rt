@@ -31,7 +31,7 @@ use unread_words::ending_without_words;
 fn main(rt: HostRuntime) -> ExitCode {
     let stderr = rt.stderr();
     let mut faults = io::writer(&stderr);
-    let ending = match words(&rt) {
+    let status = match words(&rt) {
         Ok(words) => main_status(
             rt.alloc(),
             words.as_slice(),
@@ -39,9 +39,9 @@ fn main(rt: HostRuntime) -> ExitCode {
             &mut io::writer(&rt),
             &mut faults,
         ),
-        Err(error) => ending_without_words(&error, &mut faults),
+        Err(error) => ending_without_words(&error, &mut faults).status,
     };
-    ExitCode::from(ending.status)
+    ExitCode::from(status)
 }
 
 /// The program's own words.

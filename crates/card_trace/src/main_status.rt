@@ -1,5 +1,5 @@
 //! The program over any reader and writers.
-ghost use Rattle.std.specs.Prelude.{◌≡◌, ◌≢◌, ◌≤◌, ◌⊎◌, [], map, Ok, IfOk, IfErr, OnOk, string_bytes};
+ghost use Rattle.std.specs.Prelude.{◌≡◌, ◌≢◌, ◌≤◌, ◌⊎◌, [], map, Ok, IfOk, IfErr, OnOk, Bool, string_bytes};
 ghost use Rattle.hex.specs.Hex.{decode_of};
 ghost use Rattle.clap.specs.Words.{kind_of, subcommand_of, fault_of};
 ghost use Rattle.card_trace.specs.CommandLine.{program, asked_by, Does, Runs, IsDigitsFault, Stops, StopsAt, IsCall, AreCall, AreRefused, IsUnanswered};
@@ -17,12 +17,45 @@ use hex::FromHexError;
 use std::alloc::Global;
 use std::io::{Read, Write};
 
+/// Runs the program on its words, of which the first is its name, and answers its exit status.
+///
+/// 0: the subcommand ended well, or help or the version was asked for, which goes to
+/// `output`. 1: a fault, which is told on `faults` by its text in one line. 2: the words were
+/// refused, as `faults` tells. That `faults` fails changes no status; `ended` says whether it did.
+pub fn main_status<R: Read, W: Write, F: Write>(
+    alloc: Global,
+    words: &[String],
+    input: &mut R,
+    output: &mut W,
+    faults: &mut F,
+) -> u8
+    ensures status { result ≤ 2 }
+    ensures runs { fault_of program (map string_bytes words.now) ≡ [] → result ≡ 0 →
+        Runs (subcommand_of program (map string_bytes words.now)) (R.remaining input.old)
+        (W.contents output.old) (W.contents output.new) }
+    ensures stops { fault_of program (map string_bytes words.now) ≡ [] → result ≡ 1 →
+        (is_told : Bool) × StopsAt (subcommand_of program (map string_bytes words.now))
+        (R.remaining input.old) (W.contents output.old) (W.contents output.new)
+        (Tells is_told (F.contents faults.old) (F.contents faults.new)) }
+    ensures taken { fault_of program (map string_bytes words.now) ≡ [] → result ≢ 2 }
+    ensures called { fault_of program (map string_bytes words.now) ≢ [] → result ≡ 0 →
+        AreCall (fault_of program (map string_bytes words.now)) }
+    ensures refused { result ≡ 2 →
+        AreRefused (fault_of program (map string_bytes words.now)) }
+    ensures quiet { result ≡ 0 → F.contents faults.new ≡ F.contents faults.old }
+    ensures unwritten { result ≡ 2 → W.contents output.new ≡ W.contents output.old }
+    ensures unread { fault_of program (map string_bytes words.now) ≢ [] →
+        R.remaining input.new ≡ R.remaining input.old }
+{
+    ended(alloc, words, input, output, faults).status
+}
+
 /// Runs the program on its words, of which the first is its name, and answers how it ends.
 ///
 /// Status 0: the subcommand ended well, or help or the version was asked for, which goes to
 /// `output`. 1: a fault, which is told on `faults` by its text in one line. 2: the words were
 /// refused, as `faults` tells.
-pub fn main_status<R: Read, W: Write, F: Write>(
+pub fn ended<R: Read, W: Write, F: Write>(
     alloc: Global,
     words: &[String],
     input: &mut R,

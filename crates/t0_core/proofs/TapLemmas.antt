@@ -203,7 +203,8 @@ from_the_card ToCard p3 some none = absurd (omega (arith, some, none))
 from_the_card FromCard p3 some none = refl
 
 pub may_come : (seen : Option Direction) (d : Direction) (p3 : ℕ) (moved : List ℕ)
-    → Shows seen d moved → 0 < foreseen d p3 → may_come_from (due.Data (way_of seen p3)) (data_sender d) ≡ true
+    → Shows seen d moved → 0 < foreseen d p3
+    → may_come_from (due.Data (way_of seen p3)) (data_sender d) ≡ true
 may_come (Some seen) d p3 moved shows some =
     rw (ap (λ x. goes_this_way x (data_sender d)) shows.0) (sender_goes d)
 may_come None d p3 moved shows some = split (p3 == 0) refl

@@ -11,7 +11,7 @@ ghost use Rattle.object_card.specs.State.{IsCardState, is_idle};
 ghost use Rattle.object_card.specs.OneStep.{Put, AnswersAll};
 ghost use Rattle.card_terminal.specs.declared.session_fault.SessionFault.TheVariants.{OutOfMemory};
 ghost use Rattle.card_terminal.specs.Gathered.{UnitOf, Gathers, dialogues_of};
-ghost use Rattle.card_terminal.specs.Agreed.{IsAgreed};
+ghost use Rattle.object_card.specs.Agreed.{IsAgreed};
 ghost use Rattle.card_terminal.specs.ExchangeSide.{UnderWay, IsOver};
 ghost use Rattle.card_terminal.specs.Talk.{AreExchangesOf, IsTalkOf, Talk, talk_dialogues};
 ghost use Rattle.card_terminal.specs.Talk as talk;

@@ -1,4 +1,4 @@
-use Rattle.object_card.proofs.PendingLaws.{other_status_drops_chain, last_ends_chain}
+use Rattle.object_card.proofs.PendingLemmas.{other_status_drops_chain, last_ends_chain}
 use Rattle.object_card.proofs.laws.a_chain_is_dropped_or_ended.Goals as goal
 
 pub returns-clause-dropped : goal.returns-clause-dropped

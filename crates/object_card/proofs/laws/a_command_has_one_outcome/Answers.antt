@@ -1,4 +1,4 @@
-use Rattle.object_card.proofs.OutcomeLaws.{one_answer, wanting_memory, one_outcome}
+use Rattle.object_card.proofs.OutcomeLemmas.{one_answer, wanting_memory, one_outcome}
 use Rattle.object_card.proofs.laws.a_command_has_one_outcome.Goals as goal
 
 pub returns-clause-operation : goal.returns-clause-operation

@@ -1,4 +1,4 @@
-use Rattle.object_card.proofs.PutLaws.{one_status}
+use Rattle.object_card.proofs.PutLemmas.{one_status}
 use Rattle.object_card.proofs.laws.a_put_has_one_status.Goals as goal
 
 pub returns : goal.returns

@@ -1,4 +1,4 @@
-use Rattle.object_card.proofs.PendingLaws.{all_of_a_put_moves}
+use Rattle.object_card.proofs.PendingLemmas.{all_of_a_put_moves}
 use Rattle.object_card.proofs.laws.all_of_a_put_moves.Goals as goal
 
 pub returns : goal.returns

@@ -1,4 +1,4 @@
-use Rattle.object_card.proofs.EntryLaws.{entries_stay}
+use Rattle.object_card.proofs.EntryLemmas.{entries_stay}
 use Rattle.object_card.proofs.laws.only_a_put_changes_entries.Goals as goal
 
 pub returns : goal.returns

@@ -1,6 +1,6 @@
 use Rattle.std.proofs.Common.{[], ◌∷◌, sym, ap, subst}
 use Rattle.object_card.specs.OneStep.{Select, Get}
-use Rattle.card_terminal.specs.Agreed.{IsAgreed}
+use Rattle.object_card.specs.Agreed.{IsAgreed}
 use Rattle.card_terminal.specs.Conversing.{point}
 use Rattle.card_terminal.specs.Operations.{operation_of}
 use Rattle.card_terminal.proofs.RunLemmas.{agreed_select, keeps_to, sent_alone, talked, talked_as}

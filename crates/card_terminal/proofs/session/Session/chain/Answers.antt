@@ -1,6 +1,6 @@
 use Rattle.std.proofs.Common.{inl, inr, sym, subst}
 use Rattle.std.specs.List.{AllByRecursion}
-use Rattle.card_terminal.specs.Agreed.{IsAgreed}
+use Rattle.object_card.specs.Agreed.{IsAgreed}
 use Rattle.card_terminal.specs.Conversing.{point}
 use Rattle.card_terminal.proofs.RunLemmas.{first_has_been, next_has_been, all_have_been, told, as_left, never_both}
 use Rattle.card_terminal.proofs.session.Session.chain.Goals as goal

@@ -1,7 +1,7 @@
 use Rattle.std.proofs.Common.{◌∷◌}
 use Rattle.std.specs.List.{AllByRecursion}
 use Rattle.object_card.specs.State.{IsCardState}
-use Rattle.card_terminal.specs.Agreed.{IsAgreed}
+use Rattle.object_card.specs.Agreed.{IsAgreed}
 use Rattle.card_terminal.specs.Conversing.{point}
 use Rattle.card_terminal.proofs.RunLemmas.{HaveBeen}
 use Rattle.card_terminal.proofs.session.Session.chain.Given as goal

@@ -1,7 +1,7 @@
 use Rattle.std.proofs.Common.{refl, sym, subst, ◌∙◌}
 use Rattle.std.specs.List.{AllByRecursion}
 use Rattle.object_card.specs.CarryingOut.{put_header}
-use Rattle.card_terminal.specs.Agreed.{IsAgreed}
+use Rattle.object_card.specs.Agreed.{IsAgreed}
 use Rattle.card_terminal.proofs.RunLemmas.{agreed_pieces, keeps_to, some_command}
 use Rattle.card_terminal.proofs.session.Session.put.Goals as goal
 

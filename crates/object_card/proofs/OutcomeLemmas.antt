@@ -14,7 +14,7 @@ use Rattle.object_card.specs.CardMeaning.{Does, refuses, selects_application, mi
 use Rattle.object_card.specs.TagLaws.{named}
 use Rattle.object_card.specs.RefusalLaws.{is_refusing}
 use Rattle.object_card.specs.StepLaws.{refused_step, select_step, select_refused, is_selected, is_missed, put_step, put_refused, is_chained, is_ended, send_step, send_refused, is_sent}
-use Rattle.object_card.proofs.PutLaws.{one_status}
+use Rattle.object_card.proofs.PutLemmas.{one_status}
 
 -- one reply and one state
 abbrev Same : Reply → Reply → CardState → CardState → Type 0

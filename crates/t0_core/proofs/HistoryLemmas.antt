@@ -237,7 +237,7 @@ events_item events items before e item is last =
     ∙ sym (flat_map_last events_of items item)
     ∙ sym (append-nil (flat_map events_of (items ++ item ∷ [])))
 
-whole_more : {State : Type 0} (Does : State → ℕ → Tpdu → State → Type 0)
+pub whole_more : {State : Type 0} (Does : State → ℕ → Tpdu → State → Type 0)
     (after_reset : State → State) (first old new : State) (items : List Item) (d : Dialogue)
     (plan : Course)
     → RunsOver Does after_reset first items old → IsUnderPlan d plan
@@ -359,7 +359,7 @@ take_leads_under Does first standing prepared stage came taken byte due led =
       plan = led.plan;
       front = next.0;
       taken_is = led.taken_is
-          ∙ ap (λ x. led.plans ++ x) (sym (taken_stays stage led.plan byte due));
+          ∙ ap (λ x. led.plans ++ x) (sym (taken_stays stage led.plan byte));
       came_is = came_with came led.whole led.front next.0 (Terminal, byte) led.came_is grown.1;
       done = led.done;
       at_front = at_front Does standing prepared (with_character stage byte) cut next.0 grown.0

@@ -5,8 +5,11 @@ pub mod CardLemmas
 pub mod HistoryLemmas
 mod Vectors
 pub mod PlannedFront
+pub mod TpduLemmas
+pub mod TpduBytesFacts
 pub mod HistoryCutting
 pub mod TapLemmas
 pub mod TapLineLemmas
 pub mod TapTurns
 mod TapVectors
+mod TpduVectors

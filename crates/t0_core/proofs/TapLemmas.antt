@@ -35,7 +35,7 @@ use Rattle.t0_core.proofs.HistoryLemmas.{events_with, events_item, passed_more}
 use Rattle.t0_core.proofs.PlanLemmas.{nulls_move_nothing}
 
 -- What the tap makes of a character with which a dialogue goes on.
-pub record Took (place : Place) (from : End) (byte : ℕ) (front new : Front) : Type 0 where
+pub record TapTook (place : Place) (from : End) (byte : ℕ) (front new : Front) : Type 0 where
   pub none : unheard_at place from byte ≡ None
   pub makes : Makes (heard_at place from byte) front (from, byte) new
   pub stands : TapStandsAt (after_hearing place from byte) new
@@ -51,7 +51,7 @@ opened_short (a ∷ b ∷ c ∷ d ∷ e ∷ bytes) lt = absurd (omega (arith, lt
 
 in_header : (bytes heard : List ℕ) (from : End) (byte : ℕ) (new : Front) → heard ≡ bytes
     → length bytes < 5 → GoesOn (In_header heard) (from, byte) new
-    → Took (In_opening bytes) from byte (In_header heard) new
+    → TapTook (In_opening bytes) from byte (In_header heard) new
 in_header bytes heard from byte new same lt (way, inl (short, is)) =
     let len : length (bytes ++ byte ∷ []) < 5 =
     omega (arith, short, ap length same, length-append bytes (byte ∷ [])) in
@@ -152,7 +152,7 @@ at_procedure : (said : Said) (from : End) (byte : ℕ) (b : Body) (s : Step)
     → said.header.ins < 256 → SaysSo said b → IsBetween b → from ≡ Card
     → (ins_is_valid b.header.ins ≡ false → s ≡ Null)
     → byte ≡ procedure_byte b.header.ins s → IsRead (with_segment b s)
-    → Took (Between said) from byte (In_body b) (In_body (with_segment b s))
+    → TapTook (Between said) from byte (In_body b) (In_body (with_segment b s))
 at_procedure said from byte b s small says between way nulls is read =
     let header = says.header_is in
     let nulls_here : ins_is_valid said.header.ins ≡ false → s ≡ Null =
@@ -178,7 +178,7 @@ at_procedure said from byte b s small says between way nulls is read =
 
 at_status : (said : Said) (from : End) (byte : ℕ) (b : Body) → said.header.ins < 256 → SaysSo said b
     → IsBetween b → from ≡ Card → IsStatusWord (byte, 0)
-    → Took (Between said) from byte (In_body b) (After_first b byte)
+    → TapTook (Between said) from byte (In_body b) (After_first b byte)
 at_status said from byte b small says between way status =
     let none_begun =
     status_begins_nothing said.header.ins byte (ins_is_valid said.header.ins) refl small status in
@@ -230,7 +230,7 @@ one_more_said said from byte b says way = record {
 
 in_data : (said : Said) (until : ℕ) (from : End) (byte : ℕ) (b : Body) → SaysSo said b
     → said.moved < until → to_move b ≡ until → from ≡ data_sender b.direction
-    → Took (In_data said until) from byte (In_body b) (In_body (with_moved b byte))
+    → TapTook (In_data said until) from byte (In_body b) (In_body (with_moved b byte))
 in_data said until from byte b says lt all way =
     let some : 0 < foreseen b.direction b.p3 =
     omega (arith, lt, all, all_moves-within b.segments (foreseen b.direction b.p3)) in
@@ -266,7 +266,7 @@ has_byte (After_sw1 said sw1) range = tt
 
 pub takes_all : (place : Place) (from : End) (byte : ℕ) (front new : Front) → HasByte place
     → TapStandsAt place front → GoesOn front (from, byte) new → IsReadFront new
-    → Took place from byte front new
+    → TapTook place from byte front new
 takes_all (In_opening bytes) from byte (In_header heard) new range at goes read =
     in_header bytes heard from byte new at.0 at.1 goes
 takes_all (Between said) from byte (In_body b) new range at (inl (lt, way, is)) read =
@@ -275,14 +275,14 @@ takes_all (Between said) from byte (In_body b) new range at
     (inr (inl (between, way, (s, nulls, byte_is, is)))) read =
     let Reads : Front → Type 0 = λ x. IsReadFront x in
     let here : IsRead (with_segment b s) = subst Reads is read in
-    let P : Front → Type 0 = λ x. Took (Between said) from byte (In_body b) x in
+    let P : Front → Type 0 = λ x. TapTook (Between said) from byte (In_body b) x in
     subst P (sym is) (at_procedure said from byte b s range at.0 between way nulls byte_is here)
 takes_all (Between said) from byte (In_body b) new range at (inr (inr (between, way, status, is)))
     read =
-    let P : Front → Type 0 = λ x. Took (Between said) from byte (In_body b) x in
+    let P : Front → Type 0 = λ x. TapTook (Between said) from byte (In_body b) x in
     subst P (sym is) (at_status said from byte b range at.0 between way status)
 takes_all (In_data said until) from byte (In_body b) new range at (inl (lt, way, is)) read =
-    let P : Front → Type 0 = λ x. Took (In_data said until) from byte (In_body b) x in
+    let P : Front → Type 0 = λ x. TapTook (In_data said until) from byte (In_body b) x in
     subst P (sym is) (in_data said until from byte b at.0 at.1 at.2 way)
 takes_all (In_data said until) from byte (In_body b) new range at
     (inr (inl (between, way, others))) read =
@@ -386,7 +386,7 @@ TakesBody place from byte b =
 goes_so : (place : Place) (from : End) (byte : ℕ) (b : Body) (new : Front) (way : Direction)
     → body_characters (turned_body way b) ≡ body_characters b → TurnsTo way b
     → GoesOn (In_body (turned_body way b)) (from, byte) new
-    → Took place from byte (In_body (turned_body way b)) new
+    → TapTook place from byte (In_body (turned_body way b)) new
     → TakesBody place from byte b
 goes_so place from byte b new way same turns goes took = record {
   way = way;
@@ -397,7 +397,7 @@ goes_so place from byte b new way same turns goes took = record {
 
 -- from the front as it is
 goes_straight : (place : Place) (from : End) (byte : ℕ) (b : Body) (new : Front)
-    → GoesOn (In_body b) (from, byte) new → Took place from byte (In_body b) new
+    → GoesOn (In_body b) (from, byte) new → TapTook place from byte (In_body b) new
     → TakesBody place from byte b
 goes_straight place from byte b new goes took =
     goes_so place from byte b new b.direction refl (λ is. is) goes took

@@ -1,6 +1,6 @@
 -- Laws of where a card's end stands.
-use Rattle.std.proofs.Common.{◌≡◌, ℕ, ◌<◌, List, [], ◌∷◌, length, refl, sym, ◌∙◌, ap, arith, inl, inr, lit<, true, false, ◌&&◌, nat_lt, length-append, eq-eqb}
-use Rattle.std.proofs.lemmas.Bool.{ltb-true, ltb-false}
+use Rattle.std.proofs.Common.{◌≡◌, ℕ, ◌+◌, ◌<◌, List, [], ◌∷◌, length, refl, sym, ◌∙◌, ap, arith, inl, inr, lit<, true, false, ◌&&◌, nat_lt, length-append, eq-eqb}
+use Rattle.std.proofs.lemmas.Bool.{eqb-true, ltb-true, ltb-false, ne_eqb}
 use Rattle.t0_core.specs.declared.end.End.TheVariants.{Terminal, Card}
 use Rattle.t0_core.specs.declared.direction.Direction.{Direction}
 use Rattle.t0_core.specs.declared.direction.Direction.TheVariants.{ToCard, FromCard}
@@ -8,7 +8,7 @@ use Rattle.t0_core.specs.Dialogue.{Body, data_sender}
 use Rattle.t0_core.specs.Plan.{Course}
 use Rattle.t0_core.specs.Meaning.{Tpdu, Prepared}
 use Rattle.t0_core.specs.Front.{Front, In_header, In_body, After_first, GoesOn, header_only, with_moved, with_segment}
-use Rattle.t0_core.specs.CardSide.{Stage, Taking_header, Refusing, Serving, Ending, StandsAt, listens, takes_plan, with_character, comes_from_terminal}
+use Rattle.t0_core.specs.CardSide.{Stage, Taking_header, Refusing, Serving, Ending, StandsAt, listens, takes_plan, with_character, still_to_go, comes_from_terminal}
 use Rattle.t0_core.specs.CardHistory.{under_way}
 
 -- the terminal's data are due
@@ -55,12 +55,30 @@ next_front Does s p (Serving service came) cut byte (After_first b sw1) due stan
 next_front Does s p (Ending status) cut byte front due stands = absurd (cc)
 
 -- with a character of the terminal the plan of the TPDU stays
-pub taken_stays : (stage : Stage) (plan : Course) (byte : ℕ) → listens stage ≡ true
+pub taken_stays : (stage : Stage) (plan : Course) (byte : ℕ)
     → under_way (with_character stage byte) plan ≡ under_way stage plan
-taken_stays (Taking_header bytes) plan byte due = refl
-taken_stays (Refusing h p3 status done) plan byte due = refl
-taken_stays (Serving s came) plan byte due = refl
-taken_stays (Ending status) plan byte due = refl
+taken_stays (Taking_header bytes) plan byte = refl
+taken_stays (Refusing h p3 status done) plan byte = refl
+taken_stays (Serving s came) plan byte = refl
+taken_stays (Ending status) plan byte = refl
+
+-- where a card's end listens, no plan is taken next
+pub no_plan_yet : (stage : Stage) → listens stage ≡ true → takes_plan stage ≡ false
+no_plan_yet (Taking_header bytes) listening =
+    let few : length bytes < 5 = ltb-true (length bytes) 5 listening in
+    ne_eqb (length bytes) 5 (λ e. absurd (omega (arith, few, e)))
+no_plan_yet (Refusing h p3 status done) listening = refl
+no_plan_yet (Serving s came) listening = refl
+no_plan_yet (Ending status) listening = refl
+
+-- what is to go where one is
+pub before_plan : (stage : Stage) (plan : Course) → takes_plan stage ≡ true
+    → still_to_go stage plan ≡ length plan.steps + 300
+before_plan (Taking_header bytes) plan e = let five : length bytes ≡ 5 =
+    eqb-true (length bytes) 5 e in omega (arith, five)
+before_plan (Refusing h p3 status done) plan e = absurd (cc)
+before_plan (Serving s came) plan e = absurd (cc)
+before_plan (Ending status) plan e = absurd (cc)
 
 the_body : Body → Front → Body
 the_body other (In_header f) = other

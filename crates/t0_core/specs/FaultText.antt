@@ -4,6 +4,8 @@ use Rattle.t0_core.specs.declared.line_fault.LineFault.{LineFault}
 use Rattle.t0_core.specs.declared.line_fault.LineFault.TheVariants.{BadProcedure, AfterEnd, TooLong, Stalled, NotListening}
 use Rattle.t0_core.specs.declared.answer_fault.AnswerFault.{AnswerFault}
 use Rattle.t0_core.specs.declared.answer_fault.AnswerFault.TheVariants as answer
+use Rattle.t0_core.specs.declared.tpdu_fault.TpduFault.{TpduFault}
+use Rattle.t0_core.specs.declared.tpdu_fault.TpduFault.TheVariants as tpdu
 
 -- why a terminal does not take a character
 abbrev pub fault_text : LineFault → List ℕ
@@ -20,3 +22,11 @@ answer_fault_text answer.NotAsked = codes "data not asked for"
 answer_fault_text answer.TooMany = codes "more data than asked for"
 answer_fault_text answer.TooLong = codes "response too long"
 answer_fault_text answer.Stalled = codes "response stalled"
+
+-- why a card's end does not carry out a whole TPDU
+abbrev pub tpdu_fault_text : TpduFault → List ℕ
+tpdu_fault_text tpdu.UnderWay = codes "another TPDU is under way"
+tpdu_fault_text tpdu.NoTpdu = codes "no whole TPDU"
+tpdu_fault_text tpdu.WantsData = codes "card takes data that were not given"
+tpdu_fault_text tpdu.SendsData = codes "card sends data that were not asked for"
+tpdu_fault_text tpdu.TooLong = codes "response too long"

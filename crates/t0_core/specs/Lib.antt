@@ -24,6 +24,9 @@ pub mod CardLaws
 pub mod HostLaws
 pub mod OwnLaws
 pub mod AnswerLaws
+pub mod TpduBytes
+pub mod CardTpdu
+pub mod Answering
 pub mod FaultText
 pub mod TapSide
 pub mod TapView

@@ -11,6 +11,8 @@ ghost use Rattle.t0_core.specs.Plan.{Course, IsCut, advanced, plan_kept};
 ghost use Rattle.t0_core.specs.declared.direction.Direction.{Direction};
 ghost use Rattle.t0_core.specs.Front.{Front, In_body, header_only};
 
+mod tpdu;
+
 use crate::direction::Direction;
 use crate::plan::{Plans, Step, next_step};
 use crate::service::{Service, serve};
@@ -20,6 +22,7 @@ use std::alloc::Allocator;
 use std::error::Error;
 use std::fmt;
 use std::marker::Model;
+pub use tpdu::Awaited;
 
 /// What a card's end does when it may.
 #[derive(Clone, Copy, Debug, PartialEq, Eq)]

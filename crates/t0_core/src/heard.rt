@@ -44,7 +44,7 @@ impl Said {
     }
 
     /// With one more data character, which moves this way.
-    pub(crate) fn with_data(self, direction: Direction) -> Said
+    pub(crate) fn with_one_more(self, direction: Direction) -> Said
         requires { self.moved ≤ 256 }
         ensures { result ≡ record self { direction = Some direction; moved = self.moved + 1 } }
     {

@@ -1,6 +1,6 @@
 //! Laws of dialogues and their fronts, over the definitions alone.
 
-ghost use Rattle.std.specs.Prelude.{◌≡◌, ◌<◌, ◌++◌, ◌∷◌, [], ℕ, List};
+ghost use Rattle.std.specs.Prelude.{◌≡◌, ◌<◌, ◌≤◌, ◌++◌, ◌∷◌, [], ℕ, List, length, Some};
 ghost use Rattle.std.specs.List.{AllByRecursion, flat_map};
 ghost use Rattle.t0_core.specs.Character.{Character};
 ghost use Rattle.t0_core.specs.Dialogue.{Dialogue, IsDialogue, characters};
@@ -11,6 +11,7 @@ ghost use Rattle.t0_core.specs.HostSide.{Hosting, HostStandsAt, HasRoom, IsOpene
 ghost use Rattle.t0_core.specs.declared.heard.Heard.{Heard};
 ghost use Rattle.t0_core.specs.Plan.{Course, FollowInTurn};
 ghost use Rattle.t0_core.specs.TapSide.{IsRead, afresh};
+ghost use Rattle.t0_core.specs.TpduBytes.{asked_by, asked_in, tpdu_bytes};
 ghost use Rattle.t0_core.specs.TapLine.{HearsInTurn, AreTold};
 ghost use Rattle.t0_core.specs.OwnLaws.{BeginsOwn};
 ghost use Rattle.t0_core.specs.History.{Item, IsItem, IsPart, IsByteEvent, AreAlikeInTurn, events_of, passed};
@@ -66,6 +67,15 @@ pub fn the_next_character_is_settled()
     ensures unfinished { (host : Hosting) (front : Front) (d : Dialogue) (rest : List Character) →
         IsRequest host → HostStandsAt host front → IsFront front → IsDialogue d →
         IsOpenedBy host d.body → characters d ++ rest ≡ front_characters front → ⊥ }
+{}
+
+/// The bytes that a terminal's end writes of a whole TPDU are read as what it has opened, and there
+/// are 4 to 260 of them: so no end guesses which way data move. P3 has to be a byte.
+pub fn a_whole_tpdu_is_read_as_it_is_written()
+    ensures read { (host : Hosting) → IsRequest host →
+        asked_in (tpdu_bytes (asked_by host)) ≡ Some (asked_by host) }
+    ensures few { (host : Hosting) → IsRequest host → host.p3 < 256 →
+        let bytes = tpdu_bytes (asked_by host) in (4 ≤ length bytes) × (length bytes ≤ 260) }
 {}
 
 /// Dialogues whose data are to move the same way are the same where their characters begin one

@@ -4,11 +4,13 @@ ghost use Rattle.t0_core.specs.declared.plan.Step.{Step};
 ghost use Rattle.t0_core.specs.CardContract.{IsDecided};
 ghost use Rattle.t0_core.specs.CardView.{Fits, IsInService, IsNext, IsReadyFor, GivesStatus, KeepsDirection, phase_after, stage_of};
 ghost use Rattle.t0_core.specs.CardSide.{comes_from_terminal, Advances, GoesByCount, IsServed, Serving, listens, one_moved, still_to_go, whole_of};
+ghost use Rattle.t0_core.specs.Answering.{awaited_in};
 ghost use Rattle.t0_core.specs.Dialogue as dialogue;
 ghost use Rattle.t0_core.specs.Dialogue.{Body};
 ghost use Rattle.t0_core.specs.Front.{In_body};
 ghost use Rattle.t0_core.specs.Plan.{Course, plan_kept, segments_of};
 
+use crate::card_end::Awaited;
 use crate::direction::Direction;
 use crate::plan::{Plans, Step, next_step};
 use crate::procedure::{moves, procedure_byte};
@@ -68,6 +70,20 @@ impl Service {
             ≡ (comes_from_terminal self.now.direction && nat_lt self.now.moved self.now.until) }
     {
         matches!(self.direction, Direction::ToCard) && self.moved < self.until
+    }
+
+    /// Which character its end goes on with.
+    pub(crate) fn awaited(&self) -> Awaited
+        ensures { (came : List ℕ) → result ≡ awaited_in (Serving self.now came) }
+    {
+        if self.moved < self.until {
+            match self.direction {
+                Direction::ToCard => Awaited::OfTerminal(self.moved),
+                Direction::FromCard => Awaited::OfCard(self.moved),
+            }
+        } else {
+            Awaited::Procedure
+        }
     }
 
     /// One data character more has moved.

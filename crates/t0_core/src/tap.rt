@@ -160,7 +160,7 @@ fn after(stage: TapStage, from: End, byte: u8) -> Result<(TapStage, Heard), Unhe
         TapStage::Moving { said, until } => {
             let direction = Direction::from_sender(from);
             Ok((
-                moving(said.with_data(direction), until),
+                moving(said.with_one_more(direction), until),
                 Heard::Data(direction),
             ))
         }

@@ -1,6 +1,9 @@
 //! A whole TPDU, for a transport that takes no single characters.
+ghost use Rattle.std.specs.Prelude.{◌≡◌, ◌<◌, ◌++◌, length, drop, MatchOption};
+ghost use Rattle.std.specs.Option.{option_map};
+ghost use Rattle.t0_core.specs.TpduBytes.{asked_of, asked_in, tpdu_bytes};
 
-use apdu_core::Header;
+use apdu_core::{Header, count};
 
 /// A whole command TPDU, as a transport of whole TPDUs is given it.
 #[derive(Clone, Copy, Debug)]
@@ -11,4 +14,72 @@ pub struct WholeTpdu<'a> {
     pub content: &'a [u8],
     /// How many bytes may come back before the status, 0 to 256.
     pub may_come: u16,
+}
+
+impl<'a> WholeTpdu<'a> {
+    /// The TPDU that these bytes are, all of them: a header alone, which moves no data and has P3
+    /// `00`; a header and P3, to which as many bytes may come back as that counts; or a header, P3
+    /// of 1 to 255, and so many data for the card. INS may be any byte.
+    pub fn read(bytes: &'a [u8]) -> Option<WholeTpdu<'a>>
+        ensures { option_map asked_of result ≡ asked_in bytes.now }
+    {
+        let [cla, ins, p1, p2, rest @ ..] = bytes else {
+            return None;
+        };
+        let header = Header {
+            cla: *cla,
+            ins: *ins,
+            p1: *p1,
+            p2: *p2,
+        };
+        match rest {
+            [] => Some(WholeTpdu {
+                header,
+                p3: 0,
+                content: rest,
+                may_come: 0,
+            }),
+            [p3] => Some(WholeTpdu {
+                header,
+                p3: *p3,
+                content: &[],
+                may_come: count(*p3),
+            }),
+            [p3, content @ ..] => {
+                if content.len() != usize::from(*p3) {
+                    return None;
+                }
+                Some(WholeTpdu {
+                    header,
+                    p3: *p3,
+                    content,
+                    may_come: 0,
+                })
+            }
+        }
+    }
+
+    /// Writes the TPDU's bytes to the front of `out`, as `read` takes them, and tells how many they
+    /// are: 4 where no data move, else P3 and the data behind those. What the terminal's end tells
+    /// has at most 260. `None`, where `out` has fewer, changes nothing.
+    pub fn write(&self, out: &mut [u8]) -> Option<usize>
+        ensures { let bytes = tpdu_bytes (asked_of self.now) in MatchOption result
+            ((length out.old < length bytes) × (out.new ≡ out.old))
+            (λ n. (n ≡ length bytes) × (out.new ≡ bytes ++ drop n out.old)) }
+    {
+        let Header { cla, ins, p1, p2 } = self.header;
+        let opening = [cla, ins, p1, p2, self.p3];
+        let first = if self.content.is_empty() && self.may_come == 0 {
+            4
+        } else {
+            5
+        };
+        let len = first + self.content.len();
+        if len > out.len() {
+            return None;
+        }
+        out[..first].copy_from_slice(&opening[..first]);
+        out[first..len].copy_from_slice(self.content);
+        Some(len)
+    }
 }

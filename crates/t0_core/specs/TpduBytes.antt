@@ -1,0 +1,56 @@
+-- A whole TPDU as bytes: those of a command without data or without a count (ISO/IEC 7816-3, 12.2,
+-- cases 1 to 3). That the four of case 1 stand for P3 00: this project's profile, as PC/SC has it.
+use Rattle.std.specs.Prelude.{ℕ, zero, suc, List, [], ◌∷◌, ◌++◌, length, Option, Some, None, ◌==◌, if◌then◌else◌}
+use Rattle.apdu_core.specs.declared.header.Header.{Header}
+use Rattle.apdu_core.specs.HeaderBytes.{header_bytes}
+use Rattle.apdu_core.specs.StatusWord.{count}
+use Rattle.t0_core.specs.declared.whole_tpdu.WholeTpdu.{WholeTpdu}
+use Rattle.t0_core.specs.HostSide.{Hosting}
+use Rattle.t0_core.specs.HostAnswer.{may_come}
+
+-- what a reader of whole TPDUs is asked
+pub record Asked : Type 0 where
+  pub header : Header
+  pub p3 : ℕ
+  pub content : List ℕ  -- data to the card
+  pub may_come : ℕ  -- how many bytes of data may come back
+
+abbrev pub asked_for : Header → ℕ → List ℕ → ℕ → Asked
+asked_for header p3 content may_come =
+    record { header = header; p3 = p3; content = content; may_come = may_come }
+
+-- The header alone: no data move. P3 behind it: as many bytes come back as it counts, or fewer. P3
+-- with so many data, at least one: these go to the card.
+abbrev pub asked_with : Header → List ℕ → Option Asked
+asked_with header [] = Some (asked_for header 0 [] 0)
+asked_with header (p3 ∷ []) = Some (asked_for header p3 [] (count p3))
+asked_with header (p3 ∷ b ∷ bs) =
+    if length (b ∷ bs) == p3 then Some (asked_for header p3 (b ∷ bs) 0) else None
+
+-- what these bytes ask, if they are a whole TPDU
+abbrev pub asked_in : List ℕ → Option Asked
+asked_in [] = None
+asked_in (cla ∷ []) = None
+asked_in (cla ∷ ins ∷ []) = None
+asked_in (cla ∷ ins ∷ p1 ∷ []) = None
+asked_in (cla ∷ ins ∷ p1 ∷ p2 ∷ rest) =
+    asked_with (record { cla = cla; ins = ins; p1 = p1; p2 = p2 }) rest
+
+abbrev pub asked_of : WholeTpdu → Asked
+asked_of t = asked_for t.header t.p3 t.content.now t.may_come
+
+-- what a terminal's end asks
+abbrev pub asked_by : Hosting → Asked
+asked_by host =
+    asked_for host.header host.p3 host.content (may_come host.direction host.p3)
+
+-- P3 and the data, where any move
+abbrev pub p3_field : ℕ → List ℕ → ℕ → List ℕ
+p3_field p3 [] zero = []
+p3_field p3 [] (suc may_come) = p3 ∷ []
+p3_field p3 (b ∷ bs) may_come = p3 ∷ b ∷ bs
+
+-- the bytes in which a reader is asked
+abbrev pub tpdu_bytes : Asked → List ℕ
+tpdu_bytes asked =
+    header_bytes asked.header ++ p3_field asked.p3 asked.content asked.may_come

@@ -1,0 +1,41 @@
+//! Why a card's end does not carry out a whole TPDU.
+
+use std::error::Error;
+use std::fmt;
+
+/// Why a card's end does not carry out a whole TPDU (this project's profile).
+///
+/// `UnderWay` and `NoTpdu` change nothing. With the others the card is reset: neither end would go
+/// on.
+#[derive(Clone, Copy, Debug, PartialEq, Eq)]
+pub enum TpduFault {
+    /// Characters of another TPDU have gone.
+    UnderWay,
+    /// The bytes are no whole TPDU.
+    NoTpdu,
+    /// The card takes more data than were given: both ends would wait.
+    WantsData,
+    /// The card sends more data than were asked for.
+    SendsData,
+    /// The card sends more data than there is room for.
+    TooLong,
+}
+
+impl fmt::Display for TpduFault {
+    ghost use Rattle.std.specs.Prelude.{Some};
+    ghost use Rattle.t0_core.specs.FaultText.{tpdu_fault_text};
+
+    ghost output = { λ fault. Some (tpdu_fault_text fault) };
+
+    fn fmt<W: fmt::Write>(&self, f: &mut fmt::Formatter<W>) -> fmt::Result {
+        match self {
+            TpduFault::UnderWay => f.write_str("another TPDU is under way"),
+            TpduFault::NoTpdu => f.write_str("no whole TPDU"),
+            TpduFault::WantsData => f.write_str("card takes data that were not given"),
+            TpduFault::SendsData => f.write_str("card sends data that were not asked for"),
+            TpduFault::TooLong => f.write_str("response too long"),
+        }
+    }
+}
+
+impl Error for TpduFault {}

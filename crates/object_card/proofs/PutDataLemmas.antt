@@ -13,7 +13,7 @@ use Rattle.object_card.specs.declared.response.Response.{Response}
 use Rattle.object_card.specs.Tables.{Entry}
 use Rattle.object_card.specs.State.{CardState, IsCardState, NothingPending, ChainPending, chained, with_pending, selected_entries}
 use Rattle.object_card.specs.OneStep.{Put, reply, Answers, PutStatus, stores, does_not_store, wants_memory, with_put}
-use Rattle.object_card.specs.Refusals.{refusal, breaks_chain, is_select, is_put, named_tag, class_is_known, is_locked_among, UnknownClass, WrongParameters, LockedEntry}
+use Rattle.object_card.specs.Refusals.{refusal, breaks_chain, is_select, is_put, named_tag, class_is_known, is_locked_among, OtherThanItsChain, UnknownClass, WrongParameters, LockedEntry}
 use Rattle.object_card.specs.CardMeaning.{Does, chains, puts_value}
 use Rattle.object_card.specs.CardFields.{ApplicationView, IsResponse, applications_of, aid_at, entries_at, pending_in, chain_pending, state_of}
 use Rattle.object_card.specs.CardView.{IsStanding, IsAsked, chain_before, length_before}
@@ -23,7 +23,7 @@ use Rattle.object_card.specs.TagLaws.{names}
 use Rattle.object_card.proofs.CardFieldLemmas.{entries-in, selected-known, chained-bytes}
 
 -- the chain accepts what does not break it
-pub accepts : (entries : List Entry) (chain : ChainState) (response : Option Response) (h : Header)
+accepts : (entries : List Entry) (chain : ChainState) (response : Option Response) (h : Header)
     → (IsSome response → chain.pending ≡ None)
     → IfSome chain.pending (λ first. (first.cla ≡ 0x00) × (first.ins ≡ 0xDA))
     → breaks_chain (pending_in entries chain response) h ≡ false → Accepts chain h
@@ -48,6 +48,14 @@ accepts entries chain None h alone of_puts goes_on = split chain.pending of_puts
         let c : h.p1 ≡ first.p1 = eqb-true h.p1 first.p1 p1 in
         let d : h.p2 ≡ first.p2 = eqb-true h.p2 first.p2 p2 in
         λ i. record { cla = a i; ins = b i; p1 = c i; p2 = d i }
+
+-- so it accepts each PUT DATA that is not refused
+pub accepts_put : (held : List ApplicationView) (selected : Option ℕ) (chain : ChainState)
+    (response : Option Response) (h : Header) (p3 cut : ℕ) → IsStanding held selected chain response
+    → IsAsked (state_of held selected chain response) h p3 cut → Accepts chain h
+accepts_put held selected chain response h p3 cut standing asked =
+    accepts (entries_at held selected) chain response h standing.alone standing.of_puts
+    (none_holds (state_of held selected chain response) h p3 OtherThanItsChain asked.taken)
 
 -- a piece that joined is undone
 pub undone : (chain : ChainState) (h : Header) (content : List ℕ) → IsChain chain → Accepts chain h

@@ -1,9 +1,9 @@
--- How a PUT DATA with CLA 00 comes out.
+-- How a PUT DATA comes out: a piece, and the last one.
 use Rattle.std.proofs.Common.{◌≡◌, ◌≢◌, ◌∙◌, ℕ, List, ◌++◌, length, Option, Some, None, true, false, inl, inr, refl, sym, ap, subst, arith}
 use Rattle.apdu_core.specs.declared.header.Header.{Header}
-use Rattle.apdu_core.specs.Chaining.{ChainState, IsChain, idle}
+use Rattle.apdu_core.specs.Chaining.{ChainState, IsChain, added, idle}
 use Rattle.apdu_core.specs.StatusWord.{StatusWord, ok}
-use Rattle.t0_core.specs.Meaning.{Decides, taken_with}
+use Rattle.t0_core.specs.Meaning.{taken_with}
 use Rattle.object_card.specs.declared.response.Response.{Response}
 use Rattle.object_card.specs.declared.ready.Ready.{Ready}
 use Rattle.object_card.specs.declared.ready.Ready.TheVariants as ready
@@ -12,11 +12,11 @@ use Rattle.object_card.specs.OneStep.{PutStatus, not_allowed, wrong_length, wron
 use Rattle.object_card.specs.Refusals.{is_put}
 use Rattle.object_card.specs.CardMeaning.{Does}
 use Rattle.object_card.specs.CardFields.{ApplicationView, state_of}
-use Rattle.object_card.specs.CardView.{NewValue, IsStanding, IsAsked, IsCard, prepared_of, standing_chain}
-use Rattle.object_card.specs.PutData.{IsPut}
+use Rattle.object_card.specs.CardView.{NewValue, IsStanding, IsAsked, length_before}
+use Rattle.object_card.specs.PutData.{IsPut, TakesPut}
 use Rattle.object_card.specs.StateLaws.{stays_sound}
 use Rattle.object_card.proofs.VerdictLemmas.{leaves_standing}
-use Rattle.object_card.proofs.PutDataLemmas.{last_class, same_state, same_standing, stores_does, does_not_does, state_put}
+use Rattle.object_card.proofs.PutDataLemmas.{accepts_put, undone, before_fits, joins_does, joins_standing, last_class, same_state, same_standing, stores_does, does_not_does, state_put}
 
 stored_free : (entries : List Entry) (tag value : List ℕ) (status : StatusWord)
     → PutStatus entries tag value status → status ≡ ok → is_locked tag entries ≡ false
@@ -27,26 +27,47 @@ stored_free entries tag value status (wrong_data free fits none) is = free
 stored_free entries tag value status (no_space free fits kind none full) is = free
 stored_free entries tag value status (stored free fits kind room) is = free
 
--- what is to show of what is ready then
-abbrev pub Comes : List ApplicationView → List ApplicationView → ℕ → ChainState → Option Response
-    → Header → ℕ → ℕ → List ℕ → StatusWord → Ready → Option NewValue → Type 0
-Comes held new i chain response h p3 cut content status next put =
-    Decides Does (state_of held (Some i) chain response) cut
-    (taken_with (record { header = h; p3 = p3; cut = cut }) content status)
-    (prepared_of new (Some i) chain response next put)
-    × IsCard new (Some i) chain response next put
-    × (state_of new (Some i) (standing_chain chain next) response
-    ≡ state_of held (Some i) chain response)
+-- a piece joins the chain, and is undone where the answer is not handed out
+pub piece_is_taken : (held : List ApplicationView) (selected : Option ℕ) (chain : ChainState)
+    (response : Option Response) (h : Header) (cut : ℕ) (content : List ℕ) (status : StatusWord)
+    → IsStanding held selected chain response
+    → IsAsked (state_of held selected chain response) h (length content) cut
+    → is_put h ≡ true → IsChain chain → h.cla ≡ 0x10 → status ≡ ok
+    → TakesPut held held selected chain (added chain h content) response h cut content status
+    (ready.Joins (length_before chain)) None
+piece_is_taken held selected chain response h cut content status standing asked put is cla
+    status_is =
+    let accepted = accepts_put held selected chain response h (length content) cut standing asked in
+    let back = undone chain h content is accepted in
+    record {
+      decided = (
+        state_of held selected (added chain h content) None,
+        refl,
+        joins_does held selected chain response h cut content status standing is asked put cla
+            status_is,
+      );
+      fits = record {
+        standing = subst (λ x. IsStanding held selected x response) (sym back) standing;
+        fits = (
+          joins_standing held selected chain response h cut content status standing is asked put
+              cla status_is,
+          before_fits chain content,
+          refl,
+        );
+      };
+      keeps = ap (λ x. state_of held selected x response) back;
+    }
 
-comes_whole : (held new : List ApplicationView) (i : ℕ) (chain : ChainState)
+-- the last piece, or the only one, makes the value that is put
+pub last_is_taken : (held new : List ApplicationView) (i : ℕ) (chain : ChainState)
     (response : Option Response) (h : Header) (cut : ℕ) (content : List ℕ) (status : StatusWord)
     (next : Ready) (put : Option NewValue) → IsStanding held (Some i) chain response
     → IsAsked (state_of held (Some i) chain response) h (length content) cut
     → is_put h ≡ true → IsChain chain → h.cla ≢ 0x10
     → IsPut held i h (chain.bytes ++ content) new status next put
-    → Comes held new i chain response h (length content) cut content status next put
-comes_whole held new i chain response h cut content status next put standing asked is_a_put is other
-    (a, b, tag, before, named, after, aid, entries, new_is, outcome) =
+    → TakesPut held new (Some i) chain chain response h cut content status next put
+last_is_taken held new i chain response h cut content status next put standing asked is_a_put is
+    other (a, b, tag, before, named, after, aid, entries, new_is, outcome) =
     let s = state_of held (Some i) chain response in
     let value = chain.bytes ++ content in
     let cla = last_class s h (length content) asked.taken is_a_put other in
@@ -54,7 +75,7 @@ comes_whole held new i chain response h cut content status next put standing ask
     let stands = same_standing held new i a b chain response before after aid entries new_is
     standing in
     let Goal : Ready → Option NewValue → Type 0 =
-    λ n p. Comes held new i chain response h (length content) cut content status n p in
+    λ n p. TakesPut held new (Some i) chain chain response h cut content status n p in
     let tpdu = taken_with (record { header = h; p3 = length content; cut = cut }) content status in
     elim outcome [
       | inl stores ↦
@@ -64,9 +85,9 @@ comes_whole held new i chain response h cut content status next put standing ask
           subst (λ x. Does s cut tpdu (state_put x tag value)) (sym same) does in
           let free : is_locked tag b.entries ≡ false = ap (is_locked tag) entries
           ∙ stored_free a.entries tag value ok stores.4 refl in
-          let here : Goal ready.Stores (Some (tag, value)) = (
-            (state_put (state_of new (Some i) chain response) tag value, refl, leads),
-            record {
+          let here : Goal ready.Stores (Some (tag, value)) = record {
+            decided = (state_put (state_of new (Some i) chain response) tag value, refl, leads);
+            fits = record {
               standing = stands;
               fits = (
                 b,
@@ -79,9 +100,9 @@ comes_whole held new i chain response h cut content status next put standing ask
                 stays_sound s _ cut tpdu leads
                     standing.sound,
               );
-            },
-            same,
-          ) in
+            };
+            keeps = same;
+          } in
           subst (λ p. Goal next p) (sym stores.1)
           (subst (λ n. Goal n (Some (tag, value))) (sym stores.0) here)
       | inr does_not ↦
@@ -91,31 +112,17 @@ comes_whole held new i chain response h cut content status next put standing ask
           subst (λ x. Does s cut tpdu x)
           (sym (same_state held new i a b (idle chain.limit) None before after aid entries
           new_is)) does in
-          let here : Goal (ready.Leaves None) None = (
-            (state_of new (Some i) (idle chain.limit) None, refl, leads),
-            record {
+          let here : Goal (ready.Leaves None) None = record {
+            decided = (state_of new (Some i) (idle chain.limit) None, refl, leads);
+            fits = record {
               standing = stands;
               fits = (
                 leaves_standing new (Some i) chain response None stands tt
                     (stays_sound s _ cut tpdu leads standing.sound),
                 refl,
               );
-            },
-            same,
-          ) in
+            };
+            keeps = same;
+          } in
           subst (λ p. Goal next p) (sym does_not.1) (subst (λ n. Goal n None) (sym does_not.0) here)
     ]
-
-pub comes : (held new : List ApplicationView) (i : ℕ) (chain : ChainState)
-    (response : Option Response) (h : Header) (p3 cut : ℕ) (content : List ℕ) (status : StatusWord)
-    (next : Ready) (put : Option NewValue) → IsStanding held (Some i) chain response
-    → IsAsked (state_of held (Some i) chain response) h p3 cut
-    → is_put h ≡ true → length content ≡ p3 → IsChain chain → h.cla ≢ 0x10
-    → IsPut held i h (chain.bytes ++ content) new status next put
-    → Comes held new i chain response h p3 cut content status next put
-comes held new i chain response h p3 cut content status next put standing asked is_a_put long is
-    other outcome =
-    subst (λ n. Comes held new i chain response h n cut content status next put) long
-    (comes_whole held new i chain response h cut content status next put standing
-    (subst (λ n. IsAsked (state_of held (Some i) chain response) h n cut) (sym long) asked) is_a_put
-    is other outcome)

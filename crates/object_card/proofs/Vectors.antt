@@ -100,6 +100,10 @@ chained_select = refl
 no_tag : refusal ready (head 0x00 0xCA 0x00 0xFF) 0 ≡ Some (0x6A, 0x86)
 no_tag = refl
 
+-- wrong P1-P2 come before a wrong length
+select_of_other_parameters : refusal ready (head 0x00 0xA4 0x00 0x00) 4 ≡ Some (0x6A, 0x86)
+select_of_other_parameters = refl
+
 no_application_selected : refusal fresh (head 0x00 0xCA 0x5F 0x20) 0 ≡ Some (0x69, 0x85)
 no_application_selected = refl
 

@@ -1,15 +1,19 @@
 -- How a value is put: when it can be, with which answer, and where it stands then.
 use Rattle.std.specs.Prelude.{◌≡◌, ◌≢◌, ℕ, ◌≤◌, ◌<◌, List, length, Option, Some, None, false, ◌⊎◌, slice_get, slice_set}
 use Rattle.apdu_core.specs.declared.header.Header.{Header}
+use Rattle.apdu_core.specs.Chaining.{ChainState}
 use Rattle.apdu_core.specs.StatusWord.{StatusWord, ok}
+use Rattle.t0_core.specs.Meaning.{Decides, taken_with}
 use Rattle.object_card.specs.declared.limits.TheConstants.{VALUE_LIMIT}
+use Rattle.object_card.specs.declared.response.Response.{Response}
 use Rattle.object_card.specs.declared.ready.Ready.{Ready}
 use Rattle.object_card.specs.declared.ready.Ready.TheVariants as ready
 use Rattle.object_card.specs.Tables.{Entry, is_locked, with_entry}
 use Rattle.object_card.specs.Refusals.{named_tag}
-use Rattle.object_card.specs.CardFields.{ApplicationView, HasPlace}
-use Rattle.object_card.specs.CardView.{NewValue}
+use Rattle.object_card.specs.CardFields.{ApplicationView, HasPlace, state_of}
+use Rattle.object_card.specs.CardView.{NewValue, IsCard, prepared_of, standing_chain}
 use Rattle.object_card.specs.OneStep.{PutStatus}
+use Rattle.object_card.specs.CardMeaning.{Does}
 
 -- the status of a refusal, or that of want of memory for a value that would be stored
 abbrev pub DoesNotStore : List Entry → List ℕ → List ℕ → StatusWord → Type 0
@@ -52,3 +56,15 @@ IsStored held None (Some value) new = ⊥
 IsStored held (Some i) (Some value) new = (a b : ApplicationView) × (slice_get held i ≡ Some a)
     × (slice_get new i ≡ Some b) × (b.aid ≡ a.aid)
     × (b.entries ≡ with_entry value.0 value.1 false a.entries) × (new ≡ slice_set held i b)
+
+-- The data of a PUT DATA are taken: with this status it does what is prepared, which fits what the
+-- fields now are, and the state that stands is as it was.
+pub record TakesPut (held new : List ApplicationView) (selected : Option ℕ) (old chain : ChainState)
+    (response : Option Response) (h : Header) (cut : ℕ) (content : List ℕ) (status : StatusWord)
+    (next : Ready) (put : Option NewValue) : Type 0 where
+  pub decided : Decides Does (state_of held selected old response) cut
+      (taken_with (record { header = h; p3 = length content; cut = cut }) content status)
+      (prepared_of new selected chain response next put)
+  pub fits : IsCard new selected chain response next put
+  pub keeps : state_of new selected (standing_chain chain next) response
+      ≡ state_of held selected old response

@@ -3,7 +3,9 @@ ghost use Rattle.std.specs.Prelude.{◌≡◌, ◌≢◌, None, length, true, fa
 ghost use Rattle.t0_core.specs.Meaning.{Decides, IsReceiving, taken_with};
 ghost use Rattle.object_card.specs.CardMeaning.{Does};
 ghost use Rattle.object_card.specs.CardFields.{state_of};
-ghost use Rattle.object_card.specs.CardView.{IsReady, IsStanding, prepared_of, standing_chain, IsCard};
+ghost use Rattle.object_card.specs.CardView.{IsAsked, IsReady, IsStanding, prepared_of, standing_chain, IsCard};
+ghost use Rattle.object_card.specs.PutData.{TakesPut};
+ghost use Rattle.object_card.specs.Refusals.{is_put};
 ghost use Rattle.std.specs.Option.{option_map};
 
 use crate::application::Application;
@@ -69,6 +71,36 @@ pub(crate) fn take_data<A: Allocator + Copy>(
             put: None,
         };
     }
+    take_put(
+        applications,
+        selected,
+        chain,
+        response,
+        header,
+        cut,
+        content,
+    )
+}
+
+/// Takes the data of a PUT DATA: a piece joins the chain; the last one makes the value that is put,
+/// and the chain stays as it was until the answer is handed out.
+fn take_put<A: Allocator + Copy>(
+    applications: &mut [Application<A>],
+    selected: Option<usize>,
+    chain: &mut Chain<A>,
+    response: Option<Response>,
+    header: Header,
+    cut: u16,
+    content: &[u8],
+) -> Taken<A>
+    requires standing { IsStanding applications.old selected chain.old response }
+    requires asked { IsAsked (state_of applications.old selected chain.old response) header
+        (length content.now) cut }
+    requires put { is_put header ≡ true }
+    ensures { TakesPut applications.old applications.new selected chain.old chain.new response
+        header cut content.now result.status result.ready
+        (option_map (λ put. (put.tag, put.value.items)) result.put) }
+{
     let before = pending_len(chain);
     join(chain, header, content);
     if is_piece(header) {

@@ -1,23 +1,22 @@
 //! The refusals of a header.
 ghost use Rattle.std.specs.Prelude.{◌≡◌, Some, None, if◌then◌else◌, true, IfSome, ℕ, nat_lt};
-ghost use Rattle.object_card.specs.CardFields.{IsResponse, held_at, left_of};
-ghost use Rattle.std.specs.Option.{option_map, option_copied};
-ghost use Rattle.object_card.specs.Refusals.{named_tag, class_is_known, instruction_is_known, parameters_fit, first_of_them, object_asked, refusal};
+ghost use Rattle.object_card.specs.CardFields.{IsResponse, left_of};
+ghost use Rattle.std.specs.Option.{option_map};
+ghost use Rattle.object_card.specs.Refusals.{class_is_known, instruction_is_known, parameters_fit, first_of_them, object_asked, refusal};
 ghost use Rattle.apdu_core.specs.StatusWord.{count};
 ghost use Rattle.apdu_core.specs.declared.header.Header.{Header};
 ghost use Rattle.object_card.specs.State.{CardState};
 ghost use Rattle.object_card.specs.HeaderReasons.{of_form, of_state};
 ghost use Rattle.object_card.specs.ViewState.{state_seen, entries_seen, IsStandingView};
 
-use crate::application::Application;
 use crate::instructions::{CHAINED, GET_DATA, GET_RESPONSE, PUT_DATA, SELECT};
 use crate::limits::VALUE_LIMIT;
+use crate::lookup::{chosen, named};
 use crate::response::Response;
 use crate::status_words::status;
 use crate::view::View;
 use apdu_core::{Header, Status, count};
 use std::alloc::Allocator;
-use tlv_core::{ObjectTag, head};
 
 /// The status with which a header is refused, if it is. A GET DATA asks for this object, if there
 /// is one.
@@ -96,13 +95,6 @@ fn parameters_fit(header: Header) -> bool
     }
 }
 
-/// The tag that P1-P2 name.
-pub(crate) fn named(header: Header) -> Option<ObjectTag>
-    ensures { result ≡ named_tag header.p1 header.p2 }
-{
-    ObjectTag::from_p1p2(header.p1, header.p2)
-}
-
 fn select_refusal(p3: u8) -> Option<Status>
     ensures { (state : CardState) (header : Header) → header.ins ≡ 0xA4 →
         result ≡ first_of_them state header p3 of_state }
@@ -175,30 +167,4 @@ fn too_much(left: usize, p3: u8) -> Option<Status>
     } else {
         None
     }
-}
-
-/// The application that is selected.
-pub(crate) fn chosen<'a, A: Allocator>(
-    applications: &'a [Application<A>],
-    selected: Option<usize>,
-) -> Option<&'a Application<A>>
-    ensures { option_copied result ≡ held_at applications.now selected }
-{
-    applications.get(selected?)
-}
-
-/// The data object that a GET DATA asks for, whole.
-pub(crate) fn object_asked<A: Allocator>(view: &View<A>, header: Header) -> Option<Response>
-    requires standing { IsStandingView view.now }
-    ensures response { IfSome result (IsResponse (entries_seen view.now)) }
-    ensures asked { option_map (left_of (entries_seen view.now)) result
-        ≡ object_asked (state_seen view.now) header }
-{
-    let application = chosen(view.applications, view.selected)?;
-    let tag = named(header)?;
-    let Some(place) = application.find(tag) else {
-        return None;
-    };
-    let len = application.value(place).len();
-    Some(Response::object(&head(tag.tag(), len as u16), place))
 }

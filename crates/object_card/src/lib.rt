@@ -58,6 +58,7 @@ mod header_refusals;
 mod instructions;
 pub mod laws;
 mod limits;
+mod lookup;
 mod pending_chain;
 mod put_data;
 mod ready;

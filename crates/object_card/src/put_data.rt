@@ -1,16 +1,17 @@
 //! PUT DATA: whether a value is put, the memory for it, and its place.
-ghost use Rattle.std.specs.Prelude.{◌≡◌, ◌<◌, ◌≤◌, length, true, false, is_some, IfSome, ◌≢◌, IfNone, IfOk, IfErr};
+ghost use Rattle.std.specs.Prelude.{◌≡◌, ◌<◌, ◌≤◌, length, true, false, None, is_some, IfSome, ◌≢◌, IfNone, IfOk, IfErr};
 ghost use Rattle.std.specs.Option.{option_map};
 ghost use Rattle.object_card.specs.Tables.{is_locked, value_under};
 ghost use Rattle.object_card.specs.PutData.{CanPut, IsPut, CanBeStored, IsStored, DoesNotStore};
 ghost use Rattle.apdu_core.specs.StatusWord.{ok};
 ghost use Rattle.object_card.specs.OneStep.{PutStatus};
 ghost use Rattle.object_card.specs.CardFields.{HasPlace};
+ghost use Rattle.object_card.specs.CardView.{NewValue};
 
 use crate::application::Application;
 use crate::command_data::Taken;
-use crate::header_refusals::named;
 use crate::limits::{ENTRY_LIMIT, VALUE_LIMIT};
+use crate::lookup::named;
 use crate::ready::{Put, Ready};
 use crate::status_words::status;
 use apdu_core::{Header, Status};
@@ -37,11 +38,20 @@ pub(crate) fn put_value<A: Allocator + Copy>(
             ready: Ready::Stores,
             put: Some(Put { tag, value }),
         },
-        Err(status) => Taken {
-            status,
-            ready: Ready::Leaves { response: None },
-            put: None,
-        },
+        Err(status) => not_put(status),
+    }
+}
+
+/// What is taken where a value is not put: nothing stays pending.
+fn not_put<A: Allocator>(status: Status) -> Taken<A>
+    ensures status { result.status ≡ status }
+    ensures ready { result.ready ≡ Ready.Leaves None }
+    ensures put { option_map {U = NewValue} (λ put. (put.tag, put.value.items)) result.put ≡ None }
+{
+    Taken {
+        ready: Ready::Leaves { response: None },
+        status,
+        put: None,
     }
 }
 

@@ -10,8 +10,9 @@ ghost use Rattle.object_card.specs.Instructions.{MayReceive, MaySend};
 ghost use Rattle.object_card.specs.Refusals.{is_get, is_get_response, object_asked, to_send};
 ghost use Rattle.object_card.specs.ViewState.{state_seen, entries_seen, IsStandingView, prepared_seen, FitsView};
 
-use crate::header_refusals::{object_asked, refusal};
+use crate::header_refusals::refusal;
 use crate::instructions::{GET_DATA, GET_RESPONSE, PUT_DATA, SELECT};
+use crate::lookup::object_asked;
 use crate::ready::Ready;
 use crate::response::Response;
 use crate::view::View;

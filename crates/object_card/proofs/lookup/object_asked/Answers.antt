@@ -5,7 +5,7 @@ use Rattle.tlv_core.specs.Spelling.{object_bytes}
 use Rattle.object_card.specs.CardFields.{entries_at, value_at, left_of, state_of}
 use Rattle.object_card.proofs.CardFieldLemmas as held
 use Rattle.object_card.proofs.HeaderRefusalLemmas as refusals
-use Rattle.object_card.proofs.header_refusals.object_asked.Goals as goal
+use Rattle.object_card.proofs.lookup.object_asked.Goals as goal
 
 pub overflow_cast-len : goal.overflow_cast-len
 overflow_cast-len g c =

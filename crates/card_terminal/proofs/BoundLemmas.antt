@@ -22,7 +22,7 @@ use Rattle.card_terminal.proofs.UnitLemmas.{gathered_parts}
 use Rattle.t0_core.specs.DialogueLaws.{flat_map_last}
 use Rattle.card_terminal.proofs.FetchLemmas.{Goes, goes_apart, goes_sound}
 
--- a dialogue that is repeated was told another count
+-- a dialogue that is repeated was told a count
 repeated_is_corrected : (w : Wanted) (d : Dialogue) (n : ℕ) → repeated_with w d ≡ Some n
     → (k : ℕ) × (corrects d.status ≡ Some k)
 repeated_is_corrected w d n is = by d.body.direction (corrects d.status) refl is

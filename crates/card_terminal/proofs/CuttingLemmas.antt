@@ -1,9 +1,9 @@
 -- What led to an exchange, and goes on to the characters of a whole one: they have one cutting into
 -- units, and the next character is settled.
-use Rattle.std.proofs.Common.{◌≡◌, ◌≤◌, ◌<◌, ℕ, zero, suc, ◌+◌, List, [], ◌∷◌, ◌++◌, length, take, refl, sym, subst, ◌∙◌, ap, arith, lit<, inl, inr, ◌⊎◌, true, false, Option, Some, None, if◌then◌else◌, append-nil, append_assoc, length-append}
+use Rattle.std.proofs.Common.{◌≡◌, ◌≤◌, ◌<◌, ℕ, zero, suc, ◌+◌, List, [], ◌∷◌, ◌++◌, length, take, refl, sym, subst, ◌∙◌, ap, arith, lit<, inl, inr, ◌⊎◌, true, false, Bool, Option, Some, None, if◌then◌else◌, append-nil, append_assoc, length-append}
 use Rattle.std.specs.List.{AllByRecursion, flat_map}
 use Rattle.std.proofs.lemmas.Grind.{flat_map-append}
-use Rattle.std.proofs.lemmas.List.{take-append-le, take_all}
+use Rattle.std.proofs.lemmas.List.{take-append-le, take_all, append_cancel_left}
 use Rattle.apdu_core.specs.declared.header.Header.{Header}
 use Rattle.apdu_core.specs.HeaderBytes.{ins_is_valid}
 use Rattle.apdu_core.specs.StatusWord.{StatusWord, count}
@@ -14,28 +14,32 @@ use Rattle.t0_core.specs.declared.direction.Direction.{Direction}
 use Rattle.t0_core.specs.declared.host_end.HostTurn.{HostTurn}
 use Rattle.t0_core.specs.declared.host_end.HostTurn.TheVariants.{Sends, Listens, Done, Failed}
 use Rattle.t0_core.specs.declared.line_fault.LineFault.{LineFault}
+use Rattle.t0_core.specs.declared.line_fault.LineFault.TheVariants.{AfterEnd}
 use Rattle.t0_core.specs.Character.{Character}
 use Rattle.t0_core.specs.Dialogue.{Dialogue, IsDialogue, characters}
 use Rattle.t0_core.specs.Meaning.{received}
 use Rattle.t0_core.specs.Front.{Front, front_characters, brought}
 use Rattle.t0_core.specs.HostSide.{Hosting, HasRoom, IsOpenedBy, AreOwn, fault_of, turn_of}
+use Rattle.t0_core.specs.HostLaws.{after_done}
 use Rattle.t0_core.specs.CuttingLaws.{same_dialogue, next_of, at_next, Suits}
 use Rattle.card_terminal.specs.declared.wanted.Wanted.{Wanted}
 use Rattle.object_card.specs.CarryingOut.{get_response}
 use Rattle.card_terminal.specs.Gathered.{Asks, SendsFrom, BeginsWith, wanted_by, repeated_with, after_unit, fetched_after, Opening, By_command, By_fetch, OpensWith, UnitOf, Single, Repeated, first_of, last_of, dialogues_of, unit_data, IsUnit, BringsSome, AreFollowed, IsOpenExchange, Gathers}
 use Rattle.card_terminal.specs.ExchangeSide.{ExchangeOf, HostAsks, HostSends, HostOpens, HostOpensBy, IsOpenedAs, UnderWay, IsOver, Stall, begun_with, exchange_turn, response_limit}
-use Rattle.card_terminal.specs.ExchangeHistory.{unit_characters, characters_to, Expects, Leads, to_front, to_end, to_stall, to_fault}
+use Rattle.card_terminal.specs.ExchangeHistory.{unit_characters, characters_to, Expects, BeginsExchange, Leads, to_front, to_end, to_stall, to_fault}
 use Rattle.object_card.specs.OperationLaws.{count_of_some}
 use Rattle.card_terminal.proofs.UnitLemmas.{gathered_parts}
 use Rattle.card_terminal.proofs.OverLemmas.{none_or_some}
+use Rattle.card_terminal.proofs.LeadsLemmas.{final_is_no_end, some_fault}
+use Rattle.card_terminal.proofs.PrefixLemmas.{led_begins}
 
 -- ---- an opening fixes the header, and which way data move
 
-abbrev header_of : Opening → Header
+abbrev pub header_of : Opening → Header
 header_of (By_command c) = c.header
 header_of (By_fetch n) = get_response
 
-abbrev IsValid : Opening → Type 0
+abbrev pub IsValid : Opening → Type 0
 IsValid opening = (ins_is_valid (header_of opening).ins ≡ true) × ((header_of opening).ins < 256)
 
 abbrev OpenAlike : Dialogue → Dialogue → Type 0
@@ -101,7 +105,7 @@ on_append (Repeated d e) r s =
     append_assoc (characters d) (characters e ++ r) s
     ∙ ap (λ z. characters d ++ z) (append_assoc (characters e) r s)
 
-abbrev AreAll : List Dialogue → Type 0
+abbrev pub AreAll : List Dialogue → Type 0
 AreAll ds = AllByRecursion IsDialogue ds
 
 some_is : (n m : ℕ) → Some n ≡ Some m → n ≡ m
@@ -571,7 +575,7 @@ at_last c units gathered status gone o tail valid whole are gone_are e =
 -- ---- what an exchange does on the way to the end of a whole one
 
 -- it is done with the whole one's status and data; or the next character is due
-abbrev Comes : ExchangeOf → List Character → List ℕ → StatusWord → Type 0
+abbrev pub Comes : ExchangeOf → List Character → List ℕ → StatusWord → Type 0
 Comes ex rest gathered status =
     ((rest ≡ []) × (exchange_turn ex ≡ Done status) × (ex.gather.bytes ≡ gathered))
     ⊎ ((ch : Character) × (after : List Character) × (rest ≡ ch ∷ after)
@@ -655,7 +659,7 @@ faults_not c ex units gone first front byte fault gathered status rest valid und
     ]) suits why
 
 -- the characters that led here go on to those of a whole exchange
-comes : (c : Command) (came : List Character) (ex : ExchangeOf) (units : List UnitOf)
+pub comes : (c : Command) (came : List Character) (ex : ExchangeOf) (units : List UnitOf)
     (gathered : List ℕ) (status : StatusWord) (rest : List Character) → IsValid (By_command c)
     → Leads c came ex → Gathers c units gathered status → AreAll (flat_map dialogues_of units)
     → (rest ≡ []) ⊎ (length gathered ≤ response_limit) → unit_characters units ≡ came ++ rest
@@ -703,12 +707,12 @@ next_character c came ex units gathered status ch rest valid small leads whole a
           let At : Character → Type 0 = λ k. Expects ex k in subst At same (next.3 fits)
     ]
 
-done_is_no_failure : (turn : HostTurn) (status : StatusWord) → turn ≡ Done status → turn ≡ Failed
-    → ⊥
+pub done_is_no_failure : (turn : HostTurn) (status : StatusWord) → turn ≡ Done status
+    → turn ≡ Failed → ⊥
 done_is_no_failure turn status done failed = let e : Done status ≡ Failed = sym done ∙ failed in
     absurd (cc)
 
-expecting_is_no_failure : (ex : ExchangeOf) (from : End) (byte : ℕ) → Expects ex (from, byte)
+pub expecting_is_no_failure : (ex : ExchangeOf) (from : End) (byte : ℕ) → Expects ex (from, byte)
     → exchange_turn ex ≡ Failed → ⊥
 expecting_is_no_failure ex Terminal byte sends failed =
     let e : Sends byte ≡ Failed = sym sends ∙ failed in absurd (cc)
@@ -726,3 +730,202 @@ unfailing c came ex units gathered status rest valid small leads whole are fits 
       | inl over ↦ done_is_no_failure (exchange_turn ex) status over.1 failed
       | inr next ↦ expecting_is_no_failure ex next.0.0 next.0.1 (next.3 fits) failed
     ]
+
+-- ---- nothing comes after a whole exchange, and there is one cutting into two of them
+
+-- units of an open exchange, from an opening on
+abbrev OpenFrom : Opening → Wanted → List UnitOf → Type 0
+OpenFrom opening w [] = ⊥
+OpenFrom opening w (u ∷ us) =
+    OpensWith opening (first_of u) × IsUnit w u × AreAll (dialogues_of u)
+    × ((us ≡ [])
+    ⊎ ((n : ℕ) × (fetched_after (after_unit w u) (last_of u).status ≡ Some n)
+    × OpenFrom (By_fetch n) (after_unit w u) us))
+
+open_from : (opening : Opening) (w : Wanted) (before : List UnitOf) (last : UnitOf)
+    (next : Opening) (left : Wanted) → AreFollowed opening w before next left
+    → OpensWith next (first_of last) → IsUnit left last
+    → AreAll (flat_map dialogues_of (before ++ last ∷ []))
+    → OpenFrom opening w (before ++ last ∷ [])
+open_from opening w [] last next left followed opens is are =
+    let Opens_at : Opening → Type 0 = λ o. OpensWith o (first_of last) in
+    let Unit_at : Wanted → Type 0 = λ v. IsUnit v last in (
+      subst Opens_at followed.0 opens,
+      subst Unit_at followed.1 is,
+      (split_dialogues last [] are).0,
+      inl refl,
+    )
+open_from opening w (u ∷ before) last next left followed opens is are =
+    let parts = split_dialogues u (before ++ last ∷ []) are in (
+      followed.1.opens,
+      followed.1.is_unit,
+      parts.0,
+      inr (
+        followed.0,
+        followed.1.fetched,
+        open_from (By_fetch followed.0) (after_unit w u) before last next left followed.2 opens is
+            parts.1,
+      ),
+    )
+
+open_of : (c : Command) (units : List UnitOf) → IsOpenExchange c units
+    → AreAll (flat_map dialogues_of units) → OpenFrom (By_command c) (wanted_by c.le) units
+open_of c units o are =
+    let Are : List UnitOf → Type 0 = λ us. AreAll (flat_map dialogues_of us) in
+    let Open : List UnitOf → Type 0 = λ us. OpenFrom (By_command c) (wanted_by c.le) us in
+    subst Open (sym o.units_are) (open_from (By_command c) (wanted_by c.le) o.before o.last
+    o.opening o.left o.followed o.opens o.is_unit (subst Are o.units_are are))
+
+none_after : (a b : List Character) → a ++ b ≡ [] → b ≡ []
+none_after [] b e = e
+none_after (x ∷ a) b e = absurd (cc)
+
+-- an open exchange that begins with a whole one is no longer
+none_longer : (s : StatusWord) (opening : Opening) (w : Wanted) (us vs : List UnitOf)
+    (tail : List Character) → IsValid opening → WholeFrom s opening w us → OpenFrom opening w vs
+    → unit_characters us ++ tail ≡ unit_characters vs → tail ≡ []
+none_longer s opening w [] vs tail valid whole opens e = absurd whole
+none_longer s opening w (u ∷ us) [] tail valid whole opens e = absurd opens
+none_longer s opening w (u ∷ us) (v ∷ vs) tail valid whole opens e =
+    let both = same_unit opening w u v (unit_characters us ++ tail) (unit_characters vs) valid
+    whole.0 opens.0 whole.1 opens.1 whole.2 opens.2
+    (sym (on_append u (unit_characters us) tail) ∙ ap (λ z. z ++ tail) (sym (units_on u us)) ∙ e
+    ∙ units_on v vs) in
+    let Fetched : UnitOf → Type 0 = λ x. (us ≡ [])
+    × (fetched_after (after_unit w x) (last_of x).status ≡ None) in
+    elim opens.3 [
+      | inl last ↦ none_after (unit_characters us) tail (both.1 ∙ ap unit_characters last)
+      | inr more ↦ elim whole.3 [
+        | inl ends ↦ absurd (none_or_some (fetched_after (after_unit w u) (last_of u).status)
+            more.0 ends.1 (ap (λ x. fetched_after (after_unit w x) (last_of x).status) both.0
+            ∙ more.1))
+        | inr again ↦
+            let also : fetched_after (after_unit w u) (last_of u).status ≡ Some more.0 =
+            ap (λ x. fetched_after (after_unit w x) (last_of x).status) both.0 ∙ more.1 in
+            let same : again.0 ≡ more.0 = some_is again.0 more.0 (sym again.2 ∙ also) in
+            let At : ℕ → Type 0 = λ n. WholeFrom s (By_fetch n) (after_unit w u) us in
+            let From : UnitOf → Type 0 = λ x. OpenFrom (By_fetch more.0) (after_unit w x) vs in
+            none_longer s (By_fetch more.0) (after_unit w u) us vs tail (fetches_validly more.0)
+            (subst At same again.3) (subst From (sym both.0) more.2) both.1
+      ]
+    ]
+
+-- so it is with what begins an open exchange
+none_begins_longer : (c : Command) (came : List Character) (units : List UnitOf)
+    (gathered : List ℕ) (status : StatusWord) (rest : List Character) → IsValid (By_command c)
+    → BeginsExchange c came → Gathers c units gathered status
+    → AreAll (flat_map dialogues_of units) → came ≡ unit_characters units ++ rest → rest ≡ []
+none_begins_longer c came units gathered status rest valid begins whole are e =
+    none_before rest begins.rest (none_longer status (By_command c) (wanted_by c.le) units
+    begins.units (rest ++ begins.rest) valid (whole_of c units gathered status whole are)
+    (open_of c begins.units begins.is_open begins.are_dialogues)
+    (sym (append_assoc (unit_characters units) rest begins.rest)
+    ∙ ap (λ z. z ++ begins.rest) (sym e) ∙ sym begins.whole))
+  where
+    none_before : (a b : List Character) → a ++ b ≡ [] → a ≡ []
+    none_before [] b is = refl
+    none_before (x ∷ a) b is = absurd (cc)
+
+-- one list before another in two ways
+pub before_both : {A : Type 0} (a b x y : List A) → a ++ x ≡ b ++ y
+    → ((t : List A) × (a ≡ b ++ t)) ⊎ ((t : List A) × (b ≡ a ++ t))
+before_both [] b x y e = inr (b, refl)
+before_both (c ∷ a) [] x y e = inl (c ∷ a, refl)
+before_both (c ∷ a) (d ∷ b) x y e =
+    let head : c ≡ d = cc in
+    let tail : a ++ x ≡ b ++ y = cc in
+    elim (before_both a b x y tail) [
+      | inl (t, is) ↦ inl (t, ap (λ z. z ∷ a) head ∙ ap (λ z. d ∷ z) is)
+      | inr (t, is) ↦ inr (t, ap (λ z. z ∷ b) (sym head) ∙ ap (λ z. c ∷ z) is)
+    ]
+
+-- the last of a list that is longer than another
+last_within : (before : List Character) (ch : Character) (whole rest : List Character)
+    → before ++ ch ∷ [] ≡ whole ++ rest
+    → (rest ≡ []) ⊎ ((more : List Character) × (before ≡ whole ++ more))
+last_within before ch whole rest e = elim (before_both before whole (ch ∷ []) rest e) [
+  | inl longer ↦ inr longer
+  | inr (t, is) ↦
+      by t is (append_cancel_left before (ch ∷ []) (t ++ rest)
+      (e ∙ ap (λ z. z ++ rest) is ∙ append_assoc before t rest))
+]
+  where
+    by : (t : List Character) → whole ≡ before ++ t → ch ∷ [] ≡ t ++ rest
+        → (rest ≡ []) ⊎ ((more : List Character) × (before ≡ whole ++ more))
+    by [] is same = inr ([], sym (append-nil before) ∙ sym is ∙ sym (append-nil whole))
+    by (x ∷ t) is same =
+        let tail : [] ≡ t ++ rest = cc in inl (none_after t rest (sym tail))
+
+-- what comes where an exchange is over is after the end
+over_fault : (ex : ExchangeOf) (status : StatusWord) (byte : ℕ) → exchange_turn ex ≡ Done status
+    → fault_of ex.host ex.gather byte ≡ Some AfterEnd
+over_fault ex status byte done = by ex.stalled refl
+  where
+    by : (v : Bool) → ex.stalled ≡ v → fault_of ex.host ex.gather byte ≡ Some AfterEnd
+    by true stalled = let e : Failed ≡ Done status =
+        ap (λ b. if b then Failed else turn_of ex.host) (sym stalled) ∙ done in absurd (cc)
+    by false going = after_done ex.host ex.gather byte status
+        (ap (λ b. if b then Failed else turn_of ex.host) (sym going) ∙ done)
+
+-- what led to an exchange goes no further than a whole one of its command
+pub none_led_longer : (c : Command) (came : List Character) (ex : ExchangeOf)
+    (units : List UnitOf) (gathered : List ℕ) (status : StatusWord) (rest : List Character)
+    → ins_is_valid c.header.ins ≡ true → c.header.ins < 256 → Leads c came ex
+    → Gathers c units gathered status → AreAll (flat_map dialogues_of units)
+    → came ≡ unit_characters units ++ rest → rest ≡ []
+none_led_longer c came ex units gathered status rest valid small leads whole are e =
+    elim (led_begins c came ex leads) [
+      | inl begins ↦ none_begins_longer c came units gathered status rest (valid, small) begins
+          whole are e
+      | inr last ↦ elim (last_within last.before (Card, last.byte) (unit_characters units) rest
+          (sym last.came_is ∙ e)) [
+            | inl none ↦ none
+            | inr (more, is) ↦
+                let none : more ≡ [] = none_begins_longer c last.before units gathered status more
+                (valid, small) last.begins whole are is in
+                let over = done c last.before last.prior units gathered status valid small last.led
+                whole are (is ∙ ap (λ z. unit_characters units ++ z) none
+                ∙ append-nil (unit_characters units)) in
+                absurd (final_is_no_end last.fault last.is_final (some_fault last.fault AfterEnd
+                (sym last.is_fault ∙ over_fault last.prior status last.byte over.0)))
+          ]
+    ]
+
+-- two whole exchanges of a command that begin one row of characters are the same
+longer_whole : (c : Command) (units gone : List UnitOf) (gathered brought : List ℕ)
+    (status other : StatusWord) (t : List Character) → IsValid (By_command c)
+    → Gathers c gone brought other → AreAll (flat_map dialogues_of gone)
+    → Gathers c units gathered status → AreAll (flat_map dialogues_of units)
+    → unit_characters units ≡ unit_characters gone ++ t → (units ≡ gone) × (status ≡ other)
+longer_whole c units gone gathered come status other t valid first first_are whole are e =
+    let o = first.is_open in
+    let last = at_last c units gathered status gone o t valid whole are first_are e in
+    elim last.goes [
+      | inl ends ↦ (
+        last.units_are ∙ ap (λ us. gone ++ us) ends.0 ∙ append-nil gone,
+        ends.2 ∙ sym first.status_is,
+      )
+      | inr more ↦ absurd (none_or_some (fetched_after (after_unit o.left o.last)
+          (last_of o.last).status) more.0 first.ends more.2)
+    ]
+
+pub same_whole : (c : Command) (units gone : List UnitOf) (gathered brought : List ℕ)
+    (status other : StatusWord) (x y : List Character) → ins_is_valid c.header.ins ≡ true
+    → c.header.ins < 256 → Gathers c gone brought other → AreAll (flat_map dialogues_of gone)
+    → Gathers c units gathered status → AreAll (flat_map dialogues_of units)
+    → unit_characters units ++ x ≡ unit_characters gone ++ y
+    → (x ≡ y) × (status ≡ other)
+same_whole c units gone gathered come status other x y valid small first first_are whole are e =
+    let both : (units ≡ gone) × (status ≡ other) =
+    elim (before_both (unit_characters units) (unit_characters gone) x y e) [
+      | inl (t, is) ↦ longer_whole c units gone gathered come status other t (valid, small)
+          first first_are whole are is
+      | inr (t, is) ↦
+          let turned = longer_whole c gone units come gathered other status t (valid, small)
+          whole are first first_are is in
+          (sym turned.0, sym turned.1)
+    ] in (
+      append_cancel_left (unit_characters gone) x y
+          (ap (λ us. unit_characters us ++ x) (sym both.0) ∙ e),
+      both.1,
+    )

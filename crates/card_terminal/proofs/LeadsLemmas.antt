@@ -16,7 +16,7 @@ use Rattle.t0_core.specs.DialogueLaws.{flat_map_last, ends_with, all_more}
 use Rattle.t0_core.specs.Room.{Room}
 use Rattle.t0_core.specs.HostSide.{Hosting, turn_of, fault_of, at_stage, after_fault}
 use Rattle.t0_core.specs.HostLaws.{after_done, after_failure, going}
-use Rattle.card_terminal.specs.Gathered.{UnitOf, Gathers}
+use Rattle.card_terminal.specs.Gathered.{UnitOf, Gathers, dialogues_of}
 use Rattle.card_terminal.specs.ExchangeSide.{ExchangeOf, UnderWay, IsOver, IsKept, IsAtEnd, Stall, Continues, so_far, ended_with, exchange_turn, is_final, response_limit}
 use Rattle.card_terminal.specs.ExchangeHistory.{unit_characters, characters_to, Leads, to_front, to_end, to_stall, to_fault}
 use Rattle.card_terminal.proofs.UnitLemmas.{unit_ends, unit_goes_on, unit_dialogues}
@@ -225,7 +225,7 @@ broken host new NotListening is final = absurd (cc)
 pub end_leads : (c : Command) (came : List Character) (ex : ExchangeOf) (status : StatusWord)
     → exchange_turn ex ≡ Done status → Leads c came ex
     → (units : List UnitOf) × Gathers c units ex.gather.bytes status
-    × (came ≡ unit_characters units)
+    × (came ≡ unit_characters units) × AllByRecursion IsDialogue (flat_map dialogues_of units)
 end_leads c came ex status done (to_front units first front under is) =
     absurd (going ex.host front status under.stands
     (ap (λ b. if b then Failed else turn_of ex.host) (sym under.going) ∙ done))
@@ -233,7 +233,7 @@ end_leads c came ex status done (to_end units other over is) =
     let same : other ≡ status = let e : Done other ≡ Done status =
     sym (over_turn c ex units other over) ∙ done in cc in
     let P : StatusWord → Type 0 = λ s. Gathers c units ex.gather.bytes s in
-    (units, subst P same over.gathers, is)
+    (units, subst P same over.gathers, is, over.are_dialogues)
 end_leads c came ex status done (to_stall units stall are failed is) =
     let e : Failed ≡ Done status = sym failed ∙ done in absurd (cc)
 end_leads c came ex status done

@@ -19,3 +19,9 @@ pub mod TalkVectors
 mod RunLemmas
 mod OverLemmas
 pub mod CuttingLemmas
+mod TerminalLemmas
+mod TerminalStepLemmas
+mod TerminalCutting
+mod TurnLemmas
+mod PieceLemmas
+mod PartLemmas

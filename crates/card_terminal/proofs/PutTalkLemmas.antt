@@ -114,7 +114,7 @@ taken_first old mid new c commands status answered
     stopped (c ∷ before) other after last end (ap (λ cs. c ∷ cs) split) (mid, answered, taken)
     refused not_ok
 
-is_ok_or_not : (status : StatusWord) → (status ≡ ok) ⊎ (status ≢ ok)
+pub is_ok_or_not : (status : StatusWord) → (status ≡ ok) ⊎ (status ≢ ok)
 is_ok_or_not status = elim (eqb_tells status.0 0x90) [
   | inl first ↦ elim (eqb_tells status.1 0x00) [
     | inl second ↦ inl (ap (λ a. (a, status.1)) first.1 ∙ ap (λ b. (0x90, b)) second.1)

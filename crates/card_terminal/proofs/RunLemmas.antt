@@ -28,7 +28,7 @@ use Rattle.object_card.specs.DataCard.{StandsFor}
 use Rattle.object_card.specs.OneStep.{Operation, Reply, AnswersAll}
 use Rattle.card_terminal.specs.declared.operation.Op.{Op}
 use Rattle.object_card.specs.declared.instructions.Instruction.{Instruction}
-use Rattle.object_card.specs.declared.instructions.Instruction.TheVariants.{Select, GetData, PutData, GetResponse}
+use Rattle.object_card.specs.declared.instructions.Instruction.TheVariants.{Select, PutData, GetResponse}
 use Rattle.object_card.specs.Instructions.{MayReceive, MaySend, ins_of, takes_data}
 use Rattle.object_card.specs.InstructionLaws.{one_way}
 use Rattle.object_card.specs.Agreed.{IsAgreed}
@@ -36,7 +36,7 @@ use Rattle.card_terminal.specs.Gathered.{Gathers, Opening, By_command, By_fetch,
 use Rattle.card_terminal.specs.declared.wanted.Wanted.{Wanted}
 use Rattle.card_terminal.specs.ExchangeSide.{ExchangeOf, exchange_turn, HostOpensBy, IsOver, IsOpenedAs, so_far}
 use Rattle.card_terminal.specs.Conversing.{Point, point, HaveGone, HasOverflown, IsCaused}
-use Rattle.card_terminal.specs.Talk.{HaveCuts, Talk, AreCommandsOf, AreExchangesOf, IsTalkOf, talk_dialogues, select_command}
+use Rattle.card_terminal.specs.Talk.{AreTakenUpTo, HaveCuts, Talk, AreCommandsOf, AreExchangesOf, IsTalkOf, talk_dialogues, select_command}
 use Rattle.card_terminal.specs.Operations.{operation_of}
 use Rattle.card_terminal.specs.Running.{new_answers, carried_out}
 use Rattle.card_terminal.proofs.FetchLemmas.{Goes, goes_by_runs, goes_sound}
@@ -45,7 +45,7 @@ use Rattle.card_terminal.proofs.SessionLemmas.{some_is}
 use Rattle.card_terminal.proofs.GoneLemmas.{cuts_both, gone_both}
 use Rattle.card_terminal.proofs.BoundLemmas.{so_far_brings, never_stalls}
 use Rattle.card_terminal.proofs.TalkLemmas.{own_talk_answers}
-use Rattle.card_terminal.proofs.TalkListLemmas.{runs_stand, AreTakenUpTo, taken_more, taken_to_end, one_more_exchange, talk_more}
+use Rattle.card_terminal.proofs.TalkListLemmas.{runs_stand, taken_more, taken_to_end, one_more_exchange, talk_more}
 
 -- ---- the plans that are used, and no others
 

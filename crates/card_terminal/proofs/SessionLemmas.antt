@@ -379,7 +379,7 @@ plan_stays : (stage new : Stage) (before cursor : Cursor) (byte : ℕ) → liste
 plan_stays stage new before cursor byte listening is at_plan =
     let plan = next_plan before.rest in
     let way : under_way new plan ≡ under_way stage plan =
-    ap (λ s. under_way s plan) is ∙ taken_stays stage plan byte listening in
+    ap (λ s. under_way s plan) is ∙ taken_stays stage plan byte in
     elim at_plan [
       | inl none ↦ inl (way ∙ none.0, none.1)
       | inr has ↦ inr (way ∙ has.0, has.1, has.2)

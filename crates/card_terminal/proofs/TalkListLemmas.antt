@@ -16,7 +16,7 @@ use Rattle.object_card.specs.CardMeaning.{Does}
 use Rattle.object_card.specs.DataCard.{StandsFor}
 use Rattle.object_card.specs.OneStep.{Operation, Reply}
 use Rattle.card_terminal.specs.Gathered.{UnitOf, Gathers, dialogues_of}
-use Rattle.card_terminal.specs.Talk.{AreExchangesOf, IsTalkOf, AreTalksOf, Talk, talk_dialogues}
+use Rattle.card_terminal.specs.Talk.{AreTakenUpTo, AreExchangesOf, IsTalkOf, AreTalksOf, Talk, talk_dialogues}
 
 -- no plan is left of none
 no_plans : (xs ys : List Dialogue)
@@ -62,14 +62,6 @@ pub all_both : {A : Type 0} (P : A → Type 0) (xs ys : List A) → AllByRecursi
     → AllByRecursion P ys → AllByRecursion P (xs ++ ys)
 all_both P [] ys first second = second
 all_both P (x ∷ xs) ys first second = (first.0, all_both P xs ys first.1 second)
-
--- Commands of which each has had its exchange and was answered 9000, and those that have not come
--- yet.
-abbrev pub AreTakenUpTo : List Command → List (List UnitOf) → List Command → Type 0
-AreTakenUpTo commands [] left = left ≡ commands
-AreTakenUpTo [] (units ∷ exchanges) left = ⊥
-AreTakenUpTo (c ∷ commands) (units ∷ exchanges) left =
-    (brought : List ℕ) × Gathers c units brought ok × AreTakenUpTo commands exchanges left
 
 -- one more is answered 9000
 pub taken_more : (commands : List Command) (exchanges : List (List UnitOf)) (c : Command)

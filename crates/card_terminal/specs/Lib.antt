@@ -12,3 +12,7 @@ pub mod Line
 pub mod OneObject
 pub mod FaultText
 pub mod Running
+pub mod TerminalSide
+pub mod TerminalSteps
+pub mod OperationRoom
+pub mod TerminalHistory

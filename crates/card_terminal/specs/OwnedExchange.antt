@@ -16,6 +16,15 @@ exchange_of kept gather content =
       stalled = kept.stalled;
     }
 
+-- an exchange without the data of its command
+pub record DetachedOf : Type 0 where
+  pub kept : Kept
+  pub gather : Room
+
+-- the exchange that it is over these data
+abbrev pub over_data : DetachedOf → List ℕ → ExchangeOf
+over_data ex content = exchange_of ex.kept ex.gather content
+
 -- an exchange that can go on
 abbrev pub IsSound : ExchangeOf → Type 0
 IsSound ex = IsInRange ex.host × IsKept ex

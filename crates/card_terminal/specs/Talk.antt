@@ -51,6 +51,14 @@ AreExchangesOf (c ∷ commands) (units ∷ next ∷ exchanges) answer =
     (brought : List ℕ) × Gathers c units brought ok
     × AreExchangesOf commands (next ∷ exchanges) answer
 
+-- Commands of which each has had its exchange and was answered 9000, and those that have not come
+-- yet.
+abbrev pub AreTakenUpTo : List Command → List (List UnitOf) → List Command → Type 0
+AreTakenUpTo commands [] left = left ≡ commands
+AreTakenUpTo [] (units ∷ exchanges) left = ⊥
+AreTakenUpTo (c ∷ commands) (units ∷ exchanges) left =
+    (brought : List ℕ) × Gathers c units brought ok × AreTakenUpTo commands exchanges left
+
 -- these are the exchanges of the operation, and this is its answer
 abbrev pub IsTalkOf : Operation → List (List UnitOf) → Reply → Type 0
 IsTalkOf operation exchanges answer =
@@ -67,6 +75,10 @@ AreTalksOf _ _ _ = ⊥
 -- the dialogues of exchanges, one after another
 abbrev pub talk_dialogues : List (List UnitOf) → List Dialogue
 talk_dialogues exchanges = flat_map (λ units. flat_map dialogues_of units) exchanges
+
+-- their characters
+abbrev pub talk_characters : List (List UnitOf) → List Character
+talk_characters exchanges = flat_map characters (talk_dialogues exchanges)
 
 -- each cut is 1 to 256
 abbrev pub HaveCuts : List Course → Type 0

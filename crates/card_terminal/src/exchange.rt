@@ -10,6 +10,7 @@ ghost use Rattle.t0_core.specs.HostMark.{HasOnly};
 ghost use Rattle.t0_core.specs.HostAnswer.{is_due, may_come, answer_fault, fails_with, Gives};
 ghost use Rattle.card_terminal.specs.ExchangeSide.{HostOpensBy, asks_card};
 
+mod detached;
 mod kept;
 mod owned;
 
@@ -17,6 +18,7 @@ use crate::answer::Answer;
 use crate::attempt::{Attempt, Next};
 use crate::wanted::Wanted;
 use apdu_core::{Command, Header, Status};
+pub(crate) use detached::Detached;
 pub use owned::OwnedExchange;
 use std::alloc::{AllocError, Allocator, Global};
 use std::marker::Model;
@@ -127,6 +129,10 @@ impl<'a, A: Allocator> Exchange<'a, A> {
         ensures bounds { IsBounded self.new }
         ensures data { (content : List ℕ) → HasOnly content self.old.host
             → HasOnly content self.new.host }
+
+        // It brings no exchange to its end.
+        ensures over { (status : StatusWord) → exchange_turn self.new ≡ HostTurn.Done status
+            → self.new ≡ self.old }
 
         // With it the dialogue under way goes on.
         ensures goes_on { (c : spec.Command) (units : List UnitOf) (first : Option Dialogue)

@@ -2,11 +2,9 @@
 ghost use Rattle.std.specs.Prelude.{◌≡◌, ℕ, ◌<◌, ◌++◌, List, [], ◌∷◌, None, length, true, MatchResult, OnErr, IfOk};
 ghost use Rattle.std.specs.List.{AllByRecursion, flat_map};
 ghost use Rattle.apdu_core.specs.CommandBytes as spec;
-ghost use Rattle.tlv_core.specs.Address.{NamesTag};
 ghost use Rattle.t0_core.specs.Character.{Character};
 ghost use Rattle.t0_core.specs.Front.{fresh};
 ghost use Rattle.t0_core.specs.Watch.{Hears};
-ghost use Rattle.object_card.specs.Tables.{IsAid};
 ghost use Rattle.object_card.specs.State.{IsCardState, is_idle};
 ghost use Rattle.object_card.specs.OneStep.{Put, AnswersAll};
 ghost use Rattle.card_terminal.specs.declared.session_fault.SessionFault.TheVariants.{OutOfMemory};
@@ -14,7 +12,6 @@ ghost use Rattle.card_terminal.specs.Gathered.{UnitOf, Gathers, dialogues_of};
 ghost use Rattle.object_card.specs.Agreed.{IsAgreed};
 ghost use Rattle.card_terminal.specs.ExchangeSide.{UnderWay, IsOver};
 ghost use Rattle.card_terminal.specs.Talk.{AreExchangesOf, IsTalkOf, Talk, talk_dialogues};
-ghost use Rattle.card_terminal.specs.Talk as talk;
 ghost use Rattle.card_terminal.specs.Operations.{operation_of};
 ghost use Rattle.card_terminal.specs.Conversing.{point, HaveGone};
 ghost use Rattle.card_terminal.specs.Running.{new_answers, carried_out};
@@ -22,11 +19,12 @@ ghost use Rattle.card_terminal.specs.Running.{new_answers, carried_out};
 use super::{Session, converse};
 use crate::answer::Answer;
 use crate::answers::Answers;
+use crate::commands::{get_command, put_header, select_command};
 use crate::exchange::Exchange;
 use crate::operation::Op;
 use crate::session_fault::SessionFault;
-use apdu_core::{Command, Header, Pieces, Status, pieces};
-use object_card::{Aid, DataCard, GET_DATA, PUT_DATA, SELECT};
+use apdu_core::{Command, Pieces, Status, pieces};
+use object_card::DataCard;
 use std::alloc::{AllocError, Allocator};
 use t0_core::{HostTurn, Plans, Watch};
 use tlv_core::ObjectTag;
@@ -155,13 +153,7 @@ impl<C: DataCard> Session<C> {
             (point (C.standing self.new) plans.new.rest (W.hearing watch.new))) }
     {
         let (p1, p2) = tag.p1p2();
-        let header = Header {
-            cla: 0x00,
-            ins: PUT_DATA,
-            p1,
-            p2,
-        };
-        let mut commands = pieces(header, value);
+        let mut commands = pieces(put_header(p1, p2), value);
         let Some(first) = commands.next() else {
             unreachable!()
         };
@@ -227,32 +219,4 @@ impl<C: DataCard> Session<C> {
         };
         status
     }
-}
-
-/// SELECT by identifier, with Le `00` (ISO/IEC 7816-4, SELECT).
-fn select_command(aid: &Aid) -> Command<'_>
-    ensures command { result ≡ talk.select_command aid.now }
-    ensures aid { IsAid aid.now }
-{
-    let header = Header {
-        cla: 0x00,
-        ins: SELECT,
-        p1: 0x04,
-        p2: 0x00,
-    };
-    Command::new(header, aid.bytes(), Some(256)).unwrap()
-}
-
-/// GET DATA of a tag, with Le `00` (ISO/IEC 7816-4, GET DATA).
-fn get_command(tag: ObjectTag) -> Command<'static>
-    ensures { (p1 p2 : ℕ) × NamesTag tag p1 p2 × (result ≡ talk.get_command p1 p2) }
-{
-    let (p1, p2) = tag.p1p2();
-    let header = Header {
-        cla: 0x00,
-        ins: GET_DATA,
-        p1,
-        p2,
-    };
-    Command::new(header, &[], Some(256)).unwrap()
 }

@@ -3,7 +3,12 @@ use Rattle.t0_core.specs.declared.host_end.HostTurn.TheVariants.{Sends}
 use Rattle.card_terminal.specs.ExchangeSide.{exchange_turn}
 use Rattle.card_terminal.proofs.ExchangeLemmas.{seen_under_way, sends_further, tells}
 use Rattle.card_terminal.proofs.LeadsLemmas.{next_leads}
+use Rattle.card_terminal.proofs.TurnLemmas.{over_by_turn}
 use Rattle.card_terminal.proofs.exchange.Exchange.next.Goals as goal
+
+pub returns-clause-over : goal.returns-clause-over
+returns-clause-over g c = λ status done.
+    over_by_turn _ _ c.next.new.self status c.self.view_is c.if-self.false c.next.ensures.after done
 
 pub returns-clause-goes_on : goal.returns-clause-goes_on
 returns-clause-goes_on g c = λ command units first front byte seen sends.

@@ -1,5 +1,6 @@
 use Rattle.std.proofs.Common.{refl, sym, subst, ◌∙◌}
 use Rattle.std.specs.List.{AllByRecursion}
+use Rattle.apdu_core.specs.Chaining.{chain_commands}
 use Rattle.object_card.specs.CarryingOut.{put_header}
 use Rattle.object_card.specs.Agreed.{IsAgreed}
 use Rattle.card_terminal.proofs.RunLemmas.{agreed_pieces, keeps_to, some_command}
@@ -17,6 +18,8 @@ chain-requires-clause-agreed g c =
     let (pieces, are, same) = c.pieces-commands.ensures in
     subst (λ cs. AllByRecursion (λ x. IsAgreed card.MayReceive card.MaySend x) cs)
     (sym same ∙ c.in-Some.ensures.steps)
+    (subst (λ h. AllByRecursion (λ x. IsAgreed card.MayReceive card.MaySend x)
+    (chain_commands h pieces)) (sym c.put_header.ensures)
     (agreed_pieces card.MayReceive card.MaySend
     (keeps_to card.MayReceive card.MaySend own.receives own.sends)
-    (put_header c.p1p2-p1.result.0 c.p1p2-p1.result.1) refl pieces)
+    (put_header c.p1p2-p1.result.0 c.p1p2-p1.result.1) refl pieces))

@@ -1,0 +1,148 @@
+-- What led to an operation at a terminal leads on with each call.
+use Rattle.std.proofs.Common.{◌≡◌, ◌≢◌, ℕ, List, [], ◌∷◌, ◌++◌, ◌⊎◌, inl, inr, refl, sym, subst, ◌∙◌, ap, append-nil, append_assoc}
+use Rattle.std.specs.List.{AllByRecursion, flat_map}
+use Rattle.std.proofs.lemmas.Grind.{flat_map-append}
+use Rattle.apdu_core.specs.StatusWord.{StatusWord, ok}
+use Rattle.apdu_core.specs.CommandBytes.{Command}
+use Rattle.t0_core.specs.declared.host_end.HostTurn.TheVariants.{Done}
+use Rattle.t0_core.specs.Character.{Character}
+use Rattle.t0_core.specs.Dialogue.{IsDialogue, characters}
+use Rattle.card_terminal.specs.Gathered.{UnitOf, dialogues_of}
+use Rattle.card_terminal.specs.Talk.{AreTakenUpTo, AreExchangesOf, talk_dialogues, talk_characters}
+use Rattle.card_terminal.specs.ExchangeSide.{ExchangeOf, exchange_turn}
+use Rattle.card_terminal.specs.ExchangeHistory.{Leads, unit_characters}
+use Rattle.card_terminal.specs.TerminalSide.{OperationOf, AreLeft, HasCome, LeadsThrough, IsSettled, GoesToNext, GoesOver, with_exchange}
+use Rattle.card_terminal.proofs.LeadsLemmas.{end_leads}
+use Rattle.card_terminal.proofs.TalkListLemmas.{taken_more, taken_to_end, one_more_exchange, all_both}
+use Rattle.card_terminal.proofs.PutTalkLemmas.{is_ok_or_not}
+
+-- an operation of one command begins
+pub one_begins : (c : Command) (o : OperationOf) → o.rest ≡ [] → Leads c [] o.exchange
+    → LeadsThrough (c ∷ []) [] o
+one_begins c o none led = record {
+  gone = [];
+  current = c;
+  left = [];
+  taken = refl;
+  are_dialogues = tt;
+  are_left = subst (λ (bs : List ℕ). AreLeft o.p1 o.p2 bs []) (sym none) refl;
+  here = [];
+  led = led;
+  came_is = refl;
+}
+
+-- one of several
+pub first_begins : (c : Command) (left : List Command) (o : OperationOf)
+    → AreLeft o.p1 o.p2 o.rest left → Leads c [] o.exchange → LeadsThrough (c ∷ left) [] o
+first_begins c left o are_left led = record {
+  gone = [];
+  current = c;
+  left = left;
+  taken = refl;
+  are_dialogues = tt;
+  are_left = are_left;
+  here = [];
+  led = led;
+  came_is = refl;
+}
+
+-- more has come of the exchange under way, and nothing else changes
+pub come_on : (Led New : Command → List Character → Type 0) (commands : List Command)
+    (came cs : List Character) (o : OperationOf) (ex : ExchangeOf)
+    (l : HasCome Led commands came o) → New l.current (l.here ++ cs)
+    → HasCome New commands (came ++ cs) (with_exchange o ex)
+come_on Led New commands came cs o ex l led = record {
+  gone = l.gone;
+  current = l.current;
+  left = l.left;
+  taken = l.taken;
+  are_dialogues = l.are_dialogues;
+  are_left = l.are_left;
+  here = l.here ++ cs;
+  led = led;
+  came_is = ap (λ z. z ++ cs) l.came_is ∙ append_assoc (talk_characters l.gone) l.here cs;
+}
+
+-- the same has come, and says something else
+pub come_as : (Led New : Command → List Character → Type 0) (commands : List Command)
+    (came : List Character) (o : OperationOf) (ex : ExchangeOf) (l : HasCome Led commands came o)
+    → New l.current l.here → HasCome New commands came (with_exchange o ex)
+come_as Led New commands came o ex l led = record {
+  gone = l.gone;
+  current = l.current;
+  left = l.left;
+  taken = l.taken;
+  are_dialogues = l.are_dialogues;
+  are_left = l.are_left;
+  here = l.here;
+  led = led;
+  came_is = l.came_is;
+}
+
+-- the characters of one more exchange
+pub talk_characters_more : (exchanges : List (List UnitOf)) (units : List UnitOf)
+    → talk_characters (exchanges ++ units ∷ []) ≡ talk_characters exchanges ++ unit_characters units
+talk_characters_more exchanges units =
+    ap (λ ds. flat_map characters ds) (one_more_exchange exchanges units)
+    ∙ flat_map-append characters (talk_dialogues exchanges) (flat_map dialogues_of units)
+
+-- a command is over with 9000, and the next begins
+to_next : (commands : List Command) (came : List Character) (o new : OperationOf)
+    → GoesToNext o new → LeadsThrough commands came o → LeadsThrough commands came new
+to_next commands came o new next l =
+    let (units, gathers, is, are) = end_leads l.current l.here o.exchange ok next.done l.led in
+    let (c, after, left_is, led, are_left) = next.next l.left l.are_left in
+    let taken : AreTakenUpTo commands l.gone (l.current ∷ c ∷ after) =
+    subst (λ cs. AreTakenUpTo commands l.gone (l.current ∷ cs)) left_is l.taken in
+    record {
+      gone = l.gone ++ units ∷ [];
+      current = c;
+      left = after;
+      taken = taken_more commands l.gone l.current (c ∷ after) units o.exchange.gather.bytes taken
+          gathers;
+      are_dialogues = subst (λ ds. AllByRecursion IsDialogue ds)
+          (sym (one_more_exchange l.gone units))
+          (all_both IsDialogue (talk_dialogues l.gone) (flat_map dialogues_of units)
+          l.are_dialogues are);
+      are_left = are_left;
+      here = [];
+      led = led;
+      came_is = l.came_is ∙ ap (λ z. talk_characters l.gone ++ z) is
+          ∙ sym (talk_characters_more l.gone units)
+          ∙ sym (append-nil (talk_characters (l.gone ++ units ∷ [])));
+    }
+
+pub goes_over : (commands : List Command) (came : List Character) (o new : OperationOf)
+    → GoesOver o new → LeadsThrough commands came o → LeadsThrough commands came new
+goes_over commands came o new (inl same) l =
+    subst (λ x. LeadsThrough commands came x) (sym same.1) l
+goes_over commands came o new (inr next) l = to_next commands came o new next l
+
+-- nothing is left of no value
+pub none_left : (p1 p2 : ℕ) (rest : List ℕ) (left : List Command) → rest ≡ []
+    → AreLeft p1 p2 rest left → left ≡ []
+none_left p1 p2 [] left none are = are
+none_left p1 p2 (b ∷ bs) left none are = absurd (cc)
+
+-- the answer of an operation that is over
+pub answer_led : (commands : List Command) (came : List Character) (o : OperationOf)
+    (status : StatusWord) → IsSettled o → exchange_turn o.exchange ≡ Done status
+    → LeadsThrough commands came o
+    → (exchanges : List (List UnitOf))
+    × AreExchangesOf commands exchanges
+    (record { status = status; content = o.exchange.gather.bytes })
+    × (came ≡ talk_characters exchanges)
+answer_led commands came o status settled done l =
+    let (units, gathers, is, are) = end_leads l.current l.here o.exchange status done l.led in (
+      l.gone ++ units ∷ [],
+      taken_to_end commands l.gone l.current l.left units
+          (record { status = status; content = o.exchange.gather.bytes }) l.taken gathers
+          (ends (is_ok_or_not status)),
+      l.came_is ∙ ap (λ z. talk_characters l.gone ++ z) is
+          ∙ sym (talk_characters_more l.gone units),
+    )
+  where
+    ends : (status ≡ ok) ⊎ (status ≢ ok) → (l.left ≡ []) ⊎ (status ≢ ok)
+    ends (inl fine) = inl (none_left o.p1 o.p2 o.rest l.left
+        (settled (done ∙ ap Done fine)) l.are_left)
+    ends (inr other) = inr other

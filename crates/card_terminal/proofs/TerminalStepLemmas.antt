@@ -1,0 +1,303 @@
+-- Each step of an exchange is one of the terminal that holds it.
+use Rattle.std.proofs.Common.{◌≡◌, ℕ, List, [], ◌∷◌, ◌++◌, ◌⊎◌, inl, inr, refl, sym, subst, ◌∙◌, ap, true, false, Option, Some, None}
+use Rattle.std.specs.Prelude.{Result, Ok, Err, MatchResult, IfErr, IfSome, not}
+use Rattle.apdu_core.specs.StatusWord.{StatusWord, ok}
+use Rattle.apdu_core.specs.CommandBytes.{Command}
+use Rattle.t0_core.specs.declared.end.End.TheVariants.{Terminal, Card}
+use Rattle.t0_core.specs.declared.host_end.HostTurn.{HostTurn}
+use Rattle.t0_core.specs.declared.host_end.HostTurn.TheVariants.{Sends, Listens, Done, Failed}
+use Rattle.t0_core.specs.declared.line_fault.LineFault.{LineFault}
+use Rattle.t0_core.specs.declared.line_fault.LineFault.TheVariants.{AfterEnd}
+use Rattle.t0_core.specs.declared.answer_fault.AnswerFault.{AnswerFault}
+use Rattle.t0_core.specs.declared.answer_fault.AnswerFault.TheVariants as answer
+use Rattle.t0_core.specs.Character.{Character}
+use Rattle.t0_core.specs.Dialogue.{Dialogue, characters}
+use Rattle.t0_core.specs.HostAnswer.{fails_with}
+use Rattle.card_terminal.specs.Conversing.{is_done}
+use Rattle.card_terminal.specs.ExchangeSide.{ExchangeOf, IsBounded, IsAtEnd, exchange_turn, is_final}
+use Rattle.card_terminal.specs.ExchangeHistory.{Leads, LeadsTooFar}
+use Rattle.card_terminal.specs.ExchangeSteps.{IsTurn, IsTaking, IsAnswering, IsAnswer}
+use Rattle.card_terminal.specs.Gathered.{UnitOf}
+use Rattle.card_terminal.specs.Talk.{AreExchangesOf, talk_characters}
+use Rattle.card_terminal.specs.TerminalSide.{OperationOf, LeadsThrough, LeadsThroughTooFar, LeadsTo, IsSettled, GoesOver, with_exchange}
+use Rattle.card_terminal.specs.TerminalSteps.{IsTerminalTurn, IsTerminalTaking, IsTerminalAnswering, IsTerminalAnswer}
+use Rattle.card_terminal.proofs.TerminalLemmas.{come_on, come_as, goes_over, answer_led}
+
+-- nothing is under way where the exchange is at its end
+at_end : (ex : ExchangeOf) → not (is_done (exchange_turn ex)) ≡ false → IsAtEnd ex
+at_end ex none = by (exchange_turn ex) refl none
+  where
+    by : (turn : HostTurn) → exchange_turn ex ≡ turn → not (is_done turn) ≡ false → IsAtEnd ex
+    by (Sends byte) is none = absurd (cc)
+    by Listens is none = absurd (cc)
+    by (Done status) is none = inr (status, is)
+    by Failed is none = inl is
+
+pub turns : (o new : OperationOf) (turn : HostTurn) → IsTurn o.exchange turn new.exchange
+    → new ≡ with_exchange o new.exchange → IsBounded new.exchange → IsSettled new
+    → IsTerminalTurn (Some o) (Some turn) (Some new)
+turns o new turn step same bounds settled = record {
+  turn_is = ap (λ t. Some t) step.turn_is;
+  stays = λ none. ap (λ x. Some x) (same ∙ ap (λ ex. with_exchange o ex)
+      (step.stays (λ byte is. none byte (ap (λ t. Some t) is))));
+  bounds = bounds;
+  led = λ commands came byte l is.
+      let sends : turn ≡ Sends byte = same_turn turn (Sends byte) is in (
+        subst (λ x. LeadsThrough commands (came ++ (Terminal, byte) ∷ []) x) (sym same)
+            (come_on (λ c here. Leads c here o.exchange) (λ c here. Leads c here new.exchange)
+            commands came ((Terminal, byte) ∷ []) o new.exchange l.0
+            (step.led l.0.current l.0.here byte l.0.led sends)),
+        settled,
+      );
+}
+  where
+    same_turn : (a b : HostTurn) → Some a ≡ Some b → a ≡ b
+    same_turn a b e = cc
+
+-- where the exchange of an operation stays, so does the operation
+stays : (o new : OperationOf) (ex : ExchangeOf) → IsSettled o → GoesOver (with_exchange o ex) new
+    → ex ≡ o.exchange → new ≡ o
+stays o new ex settled (inl same) is = same.1 ∙ ap (λ x. with_exchange o x) is
+stays o new ex settled (inr next) is =
+    absurd (next.more (settled (ap exchange_turn (sym is) ∙ next.done)))
+
+-- either way it is settled
+settles : (o new : OperationOf) → GoesOver o new → IsSettled new
+settles o new (inl same) = subst (λ x. IsSettled x) (sym same.1) same.0
+settles o new (inr next) = next.settled
+
+-- an exchange that has failed is not followed by another
+fails : (o new : OperationOf) (ex : ExchangeOf) → GoesOver (with_exchange o ex) new
+    → exchange_turn ex ≡ Failed → Some (exchange_turn new.exchange) ≡ Some Failed
+fails o new ex (inl same) failed =
+    ap (λ (x : OperationOf). Some (exchange_turn x.exchange)) same.1 ∙ ap (λ t. Some t) failed
+fails o new ex (inr next) failed =
+    let e : Done ok ≡ Failed = sym next.done ∙ failed in absurd (cc)
+
+-- the bounds hold of the exchange that has gone on, and of the next
+bounds_over : (o new : OperationOf) (ex : ExchangeOf) → IsBounded ex
+    → GoesOver (with_exchange o ex) new → IsBounded new.exchange
+bounds_over o new ex bounds (inl same) =
+    subst (λ (x : OperationOf). IsBounded x.exchange) (sym same.1) bounds
+bounds_over o new ex bounds (inr next) = next.bounds
+
+pub takes : (o new : OperationOf) (byte : ℕ) (result : Result (Unit {0}) LineFault)
+    (ex : ExchangeOf) → IsSettled o → IsTaking o.exchange byte result ex
+    → GoesOver (with_exchange o ex) new → IsTerminalTaking (Some o) byte result (Some new)
+takes o new byte result ex settled step over = record {
+  fault = step.fault;
+  after_end = λ none. step.after_end (at_end o.exchange none);
+  bounds = bounds_over o new ex step.bounds over;
+  unchanged = same result step.unchanged;
+  failed = broken result step.failed;
+  led = λ commands came l. on commands came l.0 result (step.led l.0.current l.0.here l.0.led);
+}
+  where
+    same : (r : Result (Unit {0}) LineFault)
+        → IfErr r (λ fault. is_final fault ≡ false → ex ≡ o.exchange)
+        → IfErr r (λ fault. is_final fault ≡ false → Some new ≡ Some o)
+    same (Ok u) is = tt
+    same (Err fault) is = λ not_final. ap (λ x. Some x) (stays o new ex settled over (is not_final))
+
+    broken : (r : Result (Unit {0}) LineFault)
+        → IfErr r (λ fault. is_final fault ≡ true → exchange_turn ex ≡ Failed)
+        → IfErr r (λ fault. is_final fault ≡ true
+        → Some (exchange_turn new.exchange) ≡ Some Failed)
+    broken (Ok u) is = tt
+    broken (Err fault) is = λ final. fails o new ex over (is final)
+
+    went : (commands : List Command) (came : List Character) (l : LeadsThrough commands came o)
+        → Leads l.current (l.here ++ (Card, byte) ∷ []) ex
+        → LeadsTo commands (came ++ (Card, byte) ∷ []) (Some new)
+    went commands came l led = (
+      goes_over commands (came ++ (Card, byte) ∷ []) (with_exchange o ex) new over
+          (come_on (λ c here. Leads c here o.exchange) (λ c here. Leads c here ex) commands came
+          ((Card, byte) ∷ []) o ex l led),
+      settles (with_exchange o ex) new over,
+    )
+
+    on : (commands : List Command) (came : List Character) (l : LeadsThrough commands came o)
+        (r : Result (Unit {0}) LineFault)
+        → MatchResult r (λ _. Leads l.current (l.here ++ (Card, byte) ∷ []) ex)
+        (λ fault. is_final fault ≡ true → Leads l.current (l.here ++ (Card, byte) ∷ []) ex)
+        → MatchResult r (λ _. LeadsTo commands (came ++ (Card, byte) ∷ []) (Some new))
+        (λ fault. is_final fault ≡ true
+        → LeadsTo commands (came ++ (Card, byte) ∷ []) (Some new))
+    on commands came l (Ok u) led = went commands came l led
+    on commands came l (Err fault) led = λ final. went commands came l (led final)
+
+pub answering : (o new : OperationOf) (bytes : List ℕ) (status : StatusWord)
+    (result : Result (Unit {0}) AnswerFault) (ex : ExchangeOf) → IsSettled o
+    → IsAnswering o.exchange bytes status result ex → GoesOver (with_exchange o ex) new
+    → IsTerminalAnswering (Some o) bytes status result (Some new)
+answering o new bytes status result ex settled step over = record {
+  fault = step.fault;
+  bounds = bounds_over o new ex step.bounds over;
+  unchanged = same result step.unchanged;
+  failed = broken result step.failed;
+  led = λ commands came d l gives.
+      on commands came d l.0 result step.failed (step.led l.0.current l.0.here d l.0.led gives);
+  given = step.given;
+}
+  where
+    same : (r : Result (Unit {0}) AnswerFault)
+        → IfErr r (λ fault. fails_with fault ≡ false → ex ≡ o.exchange)
+        → IfErr r (λ fault. fails_with fault ≡ false → Some new ≡ Some o)
+    same (Ok u) is = tt
+    same (Err fault) is = λ not_final. ap (λ x. Some x) (stays o new ex settled over (is not_final))
+
+    broken : (r : Result (Unit {0}) AnswerFault)
+        → IfErr r (λ fault. fails_with fault ≡ true → exchange_turn ex ≡ Failed)
+        → IfErr r (λ fault. fails_with fault ≡ true
+        → Some (exchange_turn new.exchange) ≡ Some Failed)
+    broken (Ok u) is = tt
+    broken (Err fault) is = λ final. fails o new ex over (is final)
+
+    went : (commands : List Command) (came : List Character) (d : Dialogue)
+        (l : LeadsThrough commands came o) → Leads l.current (l.here ++ characters d) ex
+        → LeadsTo commands (came ++ characters d) (Some new)
+    went commands came d l led = (
+      goes_over commands (came ++ characters d) (with_exchange o ex) new over
+          (come_on (λ c here. Leads c here o.exchange) (λ c here. Leads c here ex) commands came
+          (characters d) o ex l led),
+      settles (with_exchange o ex) new over,
+    )
+
+    too_far : (commands : List Command) (came : List Character) (d : Dialogue)
+        (l : LeadsThrough commands came o) (after : OperationOf)
+        → GoesOver (with_exchange o ex) after → exchange_turn ex ≡ Failed
+        → LeadsTooFar l.current l.here (characters d) ex
+        → LeadsThroughTooFar commands came (characters d) after
+    too_far commands came d l after (inl is) failed led =
+        subst (λ x. LeadsThroughTooFar commands came (characters d) x) (sym is.1)
+        (come_as (λ c here. Leads c here o.exchange)
+        (λ c here. LeadsTooFar c here (characters d) ex) commands came o ex l led)
+    too_far commands came d l after (inr next) failed led =
+        let e : Done ok ≡ Failed = sym next.done ∙ failed in absurd (cc)
+
+    on : (commands : List Command) (came : List Character) (d : Dialogue)
+        (l : LeadsThrough commands came o) (r : Result (Unit {0}) AnswerFault)
+        → IfErr r (λ fault. fails_with fault ≡ true → exchange_turn ex ≡ Failed)
+        → MatchResult r (λ _. Leads l.current (l.here ++ characters d) ex)
+        (λ fault. ((fault ≡ answer.Stalled) × Leads l.current (l.here ++ characters d) ex)
+        ⊎ ((fault ≡ answer.TooLong) × LeadsTooFar l.current l.here (characters d) ex)
+        ⊎ (fault ≡ answer.NotDue))
+        → MatchResult r (λ _. LeadsTo commands (came ++ characters d) (Some new))
+        (λ fault. ((fault ≡ answer.Stalled) × LeadsTo commands (came ++ characters d) (Some new))
+        ⊎ ((fault ≡ answer.TooLong) × LeadsThroughTooFar commands came (characters d) new)
+        ⊎ (fault ≡ answer.NotDue))
+    on commands came d l (Ok u) failed led = went commands came d l led
+    on commands came d l (Err fault) failed (inl led) =
+        inl (led.0, went commands came d l led.1)
+    on commands came d l (Err fault) failed (inr (inl led)) = inr (inl (
+      led.0,
+      too_far commands came d l new over (failed (ap fails_with led.0)) led.1,
+    ))
+    on commands came d l (Err fault) failed (inr (inr none)) = inr (inr none)
+
+-- the answer of an operation, for what led to it
+abbrev HasLed : OperationOf → Option (StatusWord × List ℕ) → Type 0
+HasLed o answer = (commands : List Command) (came : List Character)
+    → LeadsTo commands came (Some o)
+    → IfSome answer (λ a. (exchanges : List (List UnitOf))
+    × AreExchangesOf commands exchanges (record { status = a.0; content = a.1 })
+    × (came ≡ talk_characters exchanges))
+
+led_answer : (o : OperationOf) (answer : Option (StatusWord × List ℕ)) → IsSettled o
+    → IsAnswer o.exchange answer → HasLed o answer
+led_answer o answer settled is = by (exchange_turn o.exchange) refl
+  where
+    none : ((status : StatusWord) → exchange_turn o.exchange ≡ Done status → ⊥) → HasLed o answer
+    none going = subst (λ a. HasLed o a) (sym (is.undone going)) (λ commands came l. tt)
+
+    by : (turn : HostTurn) → exchange_turn o.exchange ≡ turn → HasLed o answer
+    by (Sends byte) e = none (λ status done.
+        let no : Sends byte ≡ Done status = sym e ∙ done in absurd (cc))
+    by Listens e = none (λ status done.
+        let no : Listens ≡ Done status = sym e ∙ done in absurd (cc))
+    by Failed e = none (λ status done.
+        let no : Failed ≡ Done status = sym e ∙ done in absurd (cc))
+    by (Done status) e = subst (λ a. HasLed o a) (sym (is.done status e))
+        (λ commands came l. answer_led commands came o status settled e l.0)
+
+pub answers_for : (o : OperationOf) (answer : Option (StatusWord × List ℕ)) → IsSettled o
+    → IsAnswer o.exchange answer → IsTerminalAnswer (Some o) answer
+answers_for o answer settled is = record {
+  done = λ status done. (
+    o.exchange.gather.bytes,
+    is.done status (same_turn (exchange_turn o.exchange) (Done status) done),
+    refl,
+  );
+  undone = λ none. is.undone (λ status done. none status (ap (λ t. Some t) done));
+  led = led_answer o answer settled is;
+}
+  where
+    same_turn : (a b : HostTurn) → Some a ≡ Some b → a ≡ b
+    same_turn a b e = cc
+
+-- ---- where no operation has begun
+
+pub idle_turn : IsTerminalTurn None None None
+idle_turn = record {
+  turn_is = refl;
+  stays = λ _. refl;
+  bounds = tt;
+  led = λ commands came byte l is. absurd l;
+}
+
+pub idle_take : (byte : ℕ) → IsTerminalTaking None byte (Err AfterEnd) None
+idle_take byte = record {
+  fault = inl refl;
+  after_end = λ _. refl;
+  bounds = tt;
+  unchanged = λ _. refl;
+  failed = λ final. absurd (cc);
+  led = λ commands came l. absurd l;
+}
+
+pub idle_answered : (bytes : List ℕ) (status : StatusWord)
+    → IsTerminalAnswering None bytes status (Err answer.NotDue) None
+idle_answered bytes status = record {
+  fault = inl refl;
+  bounds = tt;
+  unchanged = λ _. refl;
+  failed = λ final. absurd (cc);
+  led = λ commands came d l gives. absurd l;
+  given = λ final. absurd (cc);
+}
+
+-- ---- the same of what is seen
+
+pub settled_at : (t : Option OperationOf) (o : OperationOf) → IfSome t (λ x. IsSettled x)
+    → t ≡ Some o → IsSettled o
+settled_at t o all is = subst (λ (x : Option OperationOf). IfSome x (λ y. IsSettled y)) is all
+
+pub turn_as : (old seen : Option OperationOf) (turn told : Option HostTurn)
+    (new after : Option OperationOf) → old ≡ seen → told ≡ turn → after ≡ new
+    → IsTerminalTurn old turn new → IsTerminalTurn seen told after
+turn_as old seen turn told new after is same then_is step =
+    subst (λ x. IsTerminalTurn x told after) is
+    (subst (λ t. IsTerminalTurn old t after) (sym same)
+    (subst (λ x. IsTerminalTurn old turn x) (sym then_is) step))
+
+pub taking_as : (old seen : Option OperationOf) (byte : ℕ)
+    (result told : Result (Unit {0}) LineFault) (new after : Option OperationOf) → old ≡ seen
+    → told ≡ result → after ≡ new → IsTerminalTaking old byte result new
+    → IsTerminalTaking seen byte told after
+taking_as old seen byte result told new after is same then_is step =
+    subst (λ x. IsTerminalTaking x byte told after) is
+    (subst (λ r. IsTerminalTaking old byte r after) (sym same)
+    (subst (λ x. IsTerminalTaking old byte result x) (sym then_is) step))
+
+pub answering_as : (old seen : Option OperationOf) (bytes : List ℕ) (status : StatusWord)
+    (result told : Result (Unit {0}) AnswerFault) (new after : Option OperationOf) → old ≡ seen
+    → told ≡ result → after ≡ new → IsTerminalAnswering old bytes status result new
+    → IsTerminalAnswering seen bytes status told after
+answering_as old seen bytes status result told new after is same then_is step =
+    subst (λ x. IsTerminalAnswering x bytes status told after) is
+    (subst (λ r. IsTerminalAnswering old bytes status r after) (sym same)
+    (subst (λ x. IsTerminalAnswering old bytes status result x) (sym then_is) step))
+
+pub answer_as : (old seen : Option OperationOf) (answer : Option (StatusWord × List ℕ))
+    → old ≡ seen → IsTerminalAnswer old answer → IsTerminalAnswer seen answer
+answer_as old seen answer is step = subst (λ x. IsTerminalAnswer x answer) is step

@@ -1,0 +1,98 @@
+-- An operation at a terminal that is driven from outside: what is kept of it, and which characters
+-- led there.
+use Rattle.std.specs.Prelude.{◌≡◌, ◌⊎◌, ℕ, List, [], ◌∷◌, ◌++◌, Option, Some, None, Bool, false, not}
+use Rattle.std.specs.List.{AllByRecursion}
+use Rattle.apdu_core.specs.StatusWord.{ok}
+use Rattle.apdu_core.specs.CommandBytes.{Command}
+use Rattle.apdu_core.specs.Chaining.{IsPieces, chain_commands}
+use Rattle.t0_core.specs.declared.host_end.HostTurn.{HostTurn}
+use Rattle.t0_core.specs.declared.host_end.HostTurn.TheVariants.{Done}
+use Rattle.t0_core.specs.Character.{Character}
+use Rattle.t0_core.specs.Dialogue.{IsDialogue}
+use Rattle.object_card.specs.CarryingOut.{put_header}
+use Rattle.card_terminal.specs.Gathered.{UnitOf}
+use Rattle.card_terminal.specs.Talk.{AreTakenUpTo, talk_dialogues, talk_characters}
+use Rattle.card_terminal.specs.ExchangeSide.{ExchangeOf, IsBounded, exchange_turn}
+use Rattle.card_terminal.specs.ExchangeHistory.{Leads, LeadsTooFar}
+use Rattle.card_terminal.specs.Conversing.{is_done}
+
+-- The exchange of the operation's command that came last, and what is still to be put after its
+-- data, under a tag that these P1-P2 name.
+pub record OperationOf : Type 0 where
+  pub exchange : ExchangeOf
+  pub p1 : ℕ
+  pub p2 : ℕ
+  pub rest : List ℕ
+
+-- the commands that are still to come: none, or those that carry the rest of the value
+abbrev pub AreLeft : ℕ → ℕ → List ℕ → List Command → Type 0
+AreLeft p1 p2 [] left = left ≡ []
+AreLeft p1 p2 (b ∷ bs) left = (pieces : List (List ℕ)) × IsPieces (b ∷ bs) pieces
+    × (left ≡ chain_commands (put_header p1 p2) pieces)
+
+-- Of an operation with these commands, these characters have come: some commands have gone, an
+-- exchange each, and each was answered 9000; and what came after these exchanges led to that of the
+-- next.
+pub record HasCome (Led : Command → List Character → Type 0) (commands : List Command)
+    (came : List Character) (o : OperationOf) : Type 0 where
+  pub gone : List (List UnitOf)
+  pub current : Command
+  pub left : List Command
+  pub taken : AreTakenUpTo commands gone (current ∷ left)
+  pub are_dialogues : AllByRecursion IsDialogue (talk_dialogues gone)
+  pub are_left : AreLeft o.p1 o.p2 o.rest left
+  pub here : List Character
+  pub led : Led current here
+  pub came_is : came ≡ talk_characters gone ++ here
+
+-- these characters lead to what is kept of the operation
+abbrev pub LeadsThrough : List Command → List Character → OperationOf → Type 0
+LeadsThrough commands came o = HasCome (λ c here. Leads c here o.exchange) commands came o
+
+-- after those that came, these characters lead to the first for which there is no room
+abbrev pub LeadsThroughTooFar : List Command → List Character → List Character → OperationOf
+    → Type 0
+LeadsThroughTooFar commands came cs o =
+    HasCome (λ c here. LeadsTooFar c here cs o.exchange) commands came o
+
+-- where a command is answered 9000, no more are to come: else the next has begun at once
+abbrev pub IsSettled : OperationOf → Type 0
+IsSettled o = exchange_turn o.exchange ≡ Done ok → o.rest ≡ []
+
+-- So it is of a terminal, which has begun an operation, or has none. After a command that is
+-- answered 9000 the next has begun, if one follows.
+abbrev pub LeadsTo : List Command → List Character → Option OperationOf → Type 0
+LeadsTo commands came None = ⊥
+LeadsTo commands came (Some o) = LeadsThrough commands came o × IsSettled o
+
+abbrev pub LeadsTooFarTo : List Command → List Character → List Character → Option OperationOf
+    → Type 0
+LeadsTooFarTo commands came cs None = ⊥
+LeadsTooFarTo commands came cs (Some o) = LeadsThroughTooFar commands came cs o
+
+-- what a terminal does when it is its turn: what the exchange does
+abbrev pub terminal_turn : Option OperationOf → Option HostTurn
+terminal_turn None = None
+terminal_turn (Some o) = Some (exchange_turn o.exchange)
+
+-- an operation is under way: it sends or listens
+abbrev pub is_going : Option OperationOf → Bool
+is_going None = false
+is_going (Some o) = not (is_done (exchange_turn o.exchange))
+
+abbrev pub with_exchange : OperationOf → ExchangeOf → OperationOf
+with_exchange o ex = record { exchange = ex; p1 = o.p1; p2 = o.p2; rest = o.rest }
+
+-- the exchange of the next command has begun
+pub record GoesToNext (old new : OperationOf) : Type 0 where
+  pub done : exchange_turn old.exchange ≡ Done ok
+  pub more : old.rest ≡ [] → ⊥
+  pub next : (left : List Command) → AreLeft old.p1 old.p2 old.rest left
+      → (c : Command) × (after : List Command) × (left ≡ c ∷ after) × Leads c [] new.exchange
+      × AreLeft new.p1 new.p2 new.rest after
+  pub bounds : IsBounded new.exchange
+  pub settled : IsSettled new
+
+-- after a command's exchange that is over the next begins, if one follows; else nothing changes
+abbrev pub GoesOver : OperationOf → OperationOf → Type 0
+GoesOver old new = (IsSettled old × (new ≡ old)) ⊎ GoesToNext old new

@@ -1,0 +1,117 @@
+-- What each call does to a terminal that is driven from outside.
+use Rattle.std.specs.Prelude.{◌≡◌, ℕ, List, [], ◌∷◌, ◌++◌, Option, Some, None, Bool, true, false, ◌⊎◌, Result, MatchResult, IfErr, IsErrOf, IfSome}
+use Rattle.apdu_core.specs.StatusWord.{StatusWord}
+use Rattle.apdu_core.specs.CommandBytes.{Command}
+use Rattle.t0_core.specs.declared.end.End.TheVariants.{Terminal, Card}
+use Rattle.t0_core.specs.declared.host_end.HostTurn.{HostTurn}
+use Rattle.t0_core.specs.declared.host_end.HostTurn.TheVariants.{Sends, Done, Failed}
+use Rattle.t0_core.specs.declared.line_fault.LineFault.{LineFault}
+use Rattle.t0_core.specs.declared.line_fault.LineFault.TheVariants.{AfterEnd, Stalled}
+use Rattle.t0_core.specs.declared.answer_fault.AnswerFault.{AnswerFault}
+use Rattle.t0_core.specs.declared.answer_fault.AnswerFault.TheVariants as answer
+use Rattle.t0_core.specs.Character.{Character}
+use Rattle.t0_core.specs.Dialogue.{Dialogue, characters}
+use Rattle.t0_core.specs.HostSide.{fault_of}
+use Rattle.t0_core.specs.HostAnswer.{is_due, answer_fault, fails_with, Gives}
+use Rattle.card_terminal.specs.declared.terminal.begin_fault.BeginFault.{BeginFault}
+use Rattle.card_terminal.specs.declared.terminal.begin_fault.BeginFault.TheVariants.{OutOfMemory, UnderWay}
+use Rattle.card_terminal.specs.Gathered.{UnitOf}
+use Rattle.card_terminal.specs.Talk.{AreExchangesOf, talk_characters}
+use Rattle.card_terminal.specs.ExchangeSide.{IsBounded, is_final}
+use Rattle.card_terminal.specs.TerminalSide.{OperationOf, LeadsTo, LeadsTooFarTo, terminal_turn, is_going}
+
+-- An operation whose commands are these has begun; or one is under way, or memory was wanting, and
+-- nothing has changed.
+pub record IsBeginning (AreIts : List Command → Type 0) (old : Option OperationOf)
+    (result : Result (Unit {0}) BeginFault) (new : Option OperationOf) : Type 0 where
+  pub begun : MatchResult result
+      (λ _. (commands : List Command) × AreIts commands × LeadsTo commands [] new)
+      (λ fault. new ≡ old)
+  pub under_way : MatchResult result (λ _. is_going old ≡ false)
+      (λ fault. ((fault ≡ UnderWay) × (is_going old ≡ true))
+      ⊎ ((fault ≡ OutOfMemory) × (is_going old ≡ false)))
+
+-- the exchange keeps to the bounds on its data and its TPDUs
+abbrev pub KeepsBounds : Option OperationOf → Type 0
+KeepsBounds t = IfSome t (λ o. IsBounded o.exchange)
+
+-- A turn of the terminal: what it does now. With a character that it sends whatever led to it leads
+-- on; nothing else changes anything.
+pub record IsTerminalTurn (old : Option OperationOf) (turn : Option HostTurn)
+    (new : Option OperationOf) : Type 0 where
+  pub turn_is : turn ≡ terminal_turn old
+  pub stays : ((byte : ℕ) → turn ≡ Some (Sends byte) → ⊥) → new ≡ old
+  pub bounds : KeepsBounds new
+  pub led : (commands : List Command) (came : List Character) (byte : ℕ)
+      → LeadsTo commands came old → turn ≡ Some (Sends byte)
+      → LeadsTo commands (came ++ (Terminal, byte) ∷ []) new
+
+-- the fault that a character of the card is, if any; where no operation has begun it is after the
+-- end
+abbrev pub character_fault : Option OperationOf → ℕ → Option LineFault
+character_fault None byte = Some AfterEnd
+character_fault (Some o) byte = fault_of o.exchange.host o.exchange.gather byte
+
+-- A character of the card is taken, or is a fault. A fault that is not final changes nothing; after
+-- a final one the operation has failed.
+pub record IsTerminalTaking (old : Option OperationOf) (byte : ℕ)
+    (result : Result (Unit {0}) LineFault) (new : Option OperationOf) : Type 0 where
+  pub fault : MatchResult result (λ _. character_fault old byte ≡ None)
+      (λ fault. (character_fault old byte ≡ Some fault)
+      ⊎ ((fault ≡ Stalled) × (character_fault old byte ≡ None)))
+  pub after_end : is_going old ≡ false → IsErrOf result AfterEnd
+  pub bounds : KeepsBounds new
+  pub unchanged : IfErr result (λ fault. is_final fault ≡ false → new ≡ old)
+  pub failed : IfErr result (λ fault. is_final fault ≡ true → terminal_turn new ≡ Some Failed)
+  pub led : (commands : List Command) (came : List Character) → LeadsTo commands came old
+      → MatchResult result (λ _. LeadsTo commands (came ++ (Card, byte) ∷ []) new)
+      (λ fault. is_final fault ≡ true → LeadsTo commands (came ++ (Card, byte) ∷ []) new)
+
+-- The status and the data of the last command of an operation that is over; none of every other
+-- one. They are what the characters that led there say: exchanges of all its commands, or of those
+-- up to the first that is answered with another status than 9000.
+pub record IsTerminalAnswer (t : Option OperationOf) (answer : Option (StatusWord × List ℕ))
+    : Type 0 where
+  pub done : (status : StatusWord) → terminal_turn t ≡ Some (Done status)
+      → (bytes : List ℕ) × (answer ≡ Some (status, bytes))
+      × IfSome t (λ o. bytes ≡ o.exchange.gather.bytes)
+  pub undone : ((status : StatusWord) → terminal_turn t ≡ Some (Done status) → ⊥) → answer ≡ None
+  pub led : (commands : List Command) (came : List Character) → LeadsTo commands came t
+      → IfSome answer (λ a. (exchanges : List (List UnitOf))
+      × AreExchangesOf commands exchanges (record { status = a.0; content = a.1 })
+      × (came ≡ talk_characters exchanges))
+
+-- a TPDU is about to begin
+abbrev pub is_tpdu_due : Option OperationOf → Bool
+is_tpdu_due None = false
+is_tpdu_due (Some o) = is_due o.exchange.host
+
+-- the fault that an answer with these data is, if any; none is due where no operation has begun
+abbrev pub whole_fault : Option OperationOf → List ℕ → Option AnswerFault
+whole_fault None bytes = Some answer.NotDue
+whole_fault (Some o) bytes = answer_fault o.exchange.host o.exchange.gather bytes
+
+-- the dialogue is one that the terminal opens now, and it gives these data and this status
+abbrev pub GivesTo : Option OperationOf → Dialogue → List ℕ → StatusWord → Type 0
+GivesTo None d bytes status = ⊥
+GivesTo (Some o) d bytes status = Gives o.exchange.host d bytes status
+
+-- An answer to a whole TPDU is taken, or is a fault: whichever dialogue gives it, the terminal goes
+-- on as after its characters, or fails as there. A fault that is not final changes nothing. Some
+-- dialogue gives each answer that is taken, or ends the operation.
+pub record IsTerminalAnswering (old : Option OperationOf) (bytes : List ℕ) (status : StatusWord)
+    (result : Result (Unit {0}) AnswerFault) (new : Option OperationOf) : Type 0 where
+  pub fault : MatchResult result (λ _. whole_fault old bytes ≡ None)
+      (λ fault. (whole_fault old bytes ≡ Some fault)
+      ⊎ ((fault ≡ answer.Stalled) × (whole_fault old bytes ≡ None)))
+  pub bounds : KeepsBounds new
+  pub unchanged : IfErr result (λ fault. fails_with fault ≡ false → new ≡ old)
+  pub failed : IfErr result (λ fault. fails_with fault ≡ true → terminal_turn new ≡ Some Failed)
+  pub led : (commands : List Command) (came : List Character) (d : Dialogue)
+      → LeadsTo commands came old → GivesTo old d bytes status
+      → MatchResult result (λ _. LeadsTo commands (came ++ characters d) new)
+      (λ fault. ((fault ≡ answer.Stalled) × LeadsTo commands (came ++ characters d) new)
+      ⊎ ((fault ≡ answer.TooLong) × LeadsTooFarTo commands came (characters d) new)
+      ⊎ (fault ≡ answer.NotDue))
+  pub given : MatchResult result (λ _. (d : Dialogue) × GivesTo old d bytes status)
+      (λ fault. fails_with fault ≡ true → (d : Dialogue) × GivesTo old d bytes status)

@@ -1,0 +1,206 @@
+//! An exchange without its command's data, which each call is given.
+ghost use Rattle.std.specs.Prelude.{◌≡◌, ℕ, List, [], None, IfOk, IfSome, is_some};
+ghost use Rattle.std.specs.Option.{option_map};
+ghost use Rattle.apdu_core.specs.StatusWord.{StatusWord};
+ghost use Rattle.t0_core.specs.Front.{fresh};
+ghost use Rattle.t0_core.specs.HostMark.{HasOnly};
+ghost use Rattle.t0_core.specs.HostAnswer.{is_due, may_come};
+ghost use Rattle.card_terminal.specs.ExchangeSide.{UnderWay, exchange_turn, response_limit};
+ghost use Rattle.card_terminal.specs.ExchangeHistory.{Leads};
+ghost use Rattle.card_terminal.specs.ExchangeSteps.{IsTurn, IsTaking, IsAnswering, IsAnswer};
+ghost use Rattle.card_terminal.specs.OwnedExchange.{exchange_of, over_data, IsSound};
+
+use crate::exchange::Exchange;
+use crate::exchange::kept::Kept;
+use apdu_core::{Command, Status};
+use std::alloc::{AllocError, Allocator, Global};
+use std::marker::Model;
+use std::mem;
+use t0_core::{AnswerFault, Gather, HostEnd, HostTurn, LineFault, WholeTpdu};
+
+/// An exchange that holds no borrow: who keeps it keeps the data of its command too, and hands them
+/// to each call.
+#[derive(Drop)]
+pub struct Detached<A: Allocator + Copy = Global> {
+    alloc: A,
+    kept: Kept,
+    gather: Gather<A>,
+}
+
+impl<A: Allocator + Copy> Model for Detached<A> {
+    ghost use Rattle.card_terminal.specs.OwnedExchange.{DetachedOf};
+
+    ghost Value = { DetachedOf };
+
+    ghost view = { λ e. record { kept = e.kept; gather = e.gather } };
+}
+
+impl<A: Allocator + Copy> Detached<A> {
+    /// Begins the exchange of a command. The room for the response is taken here; the error is want
+    /// of memory.
+    pub fn start(alloc: A, command: Command<'_>) -> Result<Detached<A>, AllocError>
+        ensures led { IfOk result
+            (λ ex. Leads command.entry [] (over_data ex command.entry.content)) }
+        ensures begins { IfOk result
+            (λ ex. UnderWay command.entry (over_data ex command.entry.content) [] None fresh) }
+        ensures sound { IfOk result (λ ex. IsSound (over_data ex command.entry.content)) }
+    {
+        let (kept, gather) = aside(Exchange::start(alloc, command)?);
+        Ok(Detached {
+            alloc,
+            kept,
+            gather,
+        })
+    }
+
+    /// Begins the exchange of another command in the same room, which is emptied.
+    pub fn again(&mut self, command: Command<'_>)
+        requires { self.old.gather.limit ≡ response_limit }
+        ensures led { Leads command.entry [] (over_data self.new command.entry.content) }
+        ensures begins { UnderWay command.entry (over_data self.new command.entry.content)
+            [] None fresh }
+        ensures sound { IsSound (over_data self.new command.entry.content) }
+    {
+        let mut gather = mem::replace(&mut self.gather, Gather::without_room(self.alloc));
+        gather.clear();
+        let (kept, gather) = aside(Exchange::begin(gather, command));
+        self.kept = kept;
+        self.gather = gather;
+    }
+
+    /// What `next` answers, which changes nothing here.
+    pub fn turn(&self, content: &[u8]) -> HostTurn
+        requires { IsSound (over_data self.now content.now) }
+        ensures { result ≡ exchange_turn (over_data self.now content.now) }
+    {
+        if self.kept.stalled {
+            return HostTurn::Failed;
+        }
+        let mut end = HostEnd::at(self.kept.mark, content);
+        end.next()
+    }
+
+    /// What the terminal does now, as `Exchange::next`.
+    pub fn next(&mut self, content: &[u8]) -> HostTurn
+        requires { IsSound (over_data self.old content.now) }
+        ensures turn { IsTurn (over_data self.old content.now) result
+            (over_data self.new content.now) }
+        ensures over { (status : StatusWord)
+            → exchange_turn (over_data self.new content.now) ≡ HostTurn.Done status
+            → over_data self.new content.now ≡ over_data self.old content.now }
+        ensures sound { IsSound (over_data self.new content.now) }
+    {
+        let gather = mem::replace(&mut self.gather, Gather::without_room(self.alloc));
+        let mut exchange = resumed(self.kept, gather, content);
+        let turn = exchange.next();
+        let (kept, gather) = aside(exchange);
+        self.kept = kept;
+        self.gather = gather;
+        turn
+    }
+
+    /// Takes a character of the card, as `Exchange::take`.
+    pub fn take(&mut self, byte: u8, content: &[u8]) -> Result<(), LineFault>
+        requires { IsSound (over_data self.old content.now) }
+        ensures taking { IsTaking (over_data self.old content.now) byte result
+            (over_data self.new content.now) }
+        ensures sound { IsSound (over_data self.new content.now) }
+    {
+        let gather = mem::replace(&mut self.gather, Gather::without_room(self.alloc));
+        let mut exchange = resumed(self.kept, gather, content);
+        let taken = exchange.take(byte);
+        let (kept, gather) = aside(exchange);
+        self.kept = kept;
+        self.gather = gather;
+        taken
+    }
+
+    /// The whole TPDU that is due, as `Exchange::tpdu`.
+    pub fn tpdu<'c>(&self, content: &'c [u8]) -> Option<WholeTpdu<'c>>
+        requires { IsSound (over_data self.now content.now) }
+        ensures due { is_some result ≡ is_due (over_data self.now content.now).host }
+        ensures whole { IfSome result
+            (λ t. (t.header ≡ (over_data self.now content.now).host.header)
+            × (t.p3 ≡ (over_data self.now content.now).host.p3)
+            × (t.content.now ≡ (over_data self.now content.now).host.content)
+            × (t.may_come ≡ may_come (over_data self.now content.now).host.direction
+            (over_data self.now content.now).host.p3)) }
+    {
+        HostEnd::at(self.kept.mark, content).whole()
+    }
+
+    /// Takes the answer to it, as `Exchange::answered`.
+    pub fn answered(
+        &mut self,
+        bytes: &[u8],
+        status: Status,
+        content: &[u8],
+    ) -> Result<(), AnswerFault>
+        requires { IsSound (over_data self.old content.now) }
+        ensures answering { IsAnswering (over_data self.old content.now) bytes.now status result
+            (over_data self.new content.now) }
+        ensures sound { IsSound (over_data self.new content.now) }
+    {
+        let gather = mem::replace(&mut self.gather, Gather::without_room(self.alloc));
+        let mut exchange = resumed(self.kept, gather, content);
+        let taken = exchange.answered(bytes, status);
+        let (kept, gather) = aside(exchange);
+        self.kept = kept;
+        self.gather = gather;
+        taken
+    }
+
+    /// The status and the data, if the exchange is over, as `Exchange::into_answer`.
+    pub fn answer(&self, content: &[u8]) -> Option<(Status, &[u8])>
+        requires { IsSound (over_data self.now content.now) }
+        ensures { IsAnswer (over_data self.now content.now)
+            (option_map (λ a. (a.0, a.1.now)) result) }
+    {
+        match self.turn(content) {
+            HostTurn::Done(status) => Some((status, self.gather.bytes())),
+            _ => None,
+        }
+    }
+}
+
+/// The exchange again, over the data of its command.
+fn resumed<A: Allocator>(kept: Kept, gather: Gather<A>, content: &[u8]) -> Exchange<'_, A>
+    requires { IsSound (exchange_of kept gather content.now) }
+    ensures { result ≡ exchange_of kept gather content.now }
+{
+    let Kept {
+        mark,
+        attempt,
+        wanted,
+        stalled,
+    } = kept;
+    Exchange {
+        end: HostEnd::at(mark, content),
+        gather,
+        attempt,
+        wanted,
+        stalled,
+    }
+}
+
+/// What is kept of an exchange, and its room.
+fn aside<A: Allocator>(exchange: Exchange<'_, A>) -> (Kept, Gather<A>)
+    ensures again { (content : List ℕ) → HasOnly content exchange.entry.host
+        → exchange_of result.0 result.1 content ≡ exchange.entry }
+    ensures sound { IsSound exchange.entry }
+{
+    let Exchange {
+        end,
+        gather,
+        attempt,
+        wanted,
+        stalled,
+    } = exchange;
+    let kept = Kept {
+        mark: end.mark(),
+        attempt,
+        wanted,
+        stalled,
+    };
+    (kept, gather)
+}

@@ -1,0 +1,188 @@
+//! A terminal that a caller drives: an operation under way, over any line.
+ghost use Rattle.std.specs.Prelude.{◌≡◌, ℕ, List, [], ◌∷◌, None, Some, true, false, IfSome, is_some};
+ghost use Rattle.std.specs.Option.{option_map};
+ghost use Rattle.apdu_core.specs.CommandBytes as spec;
+ghost use Rattle.object_card.specs.OneStep.{Select, Get, Put};
+ghost use Rattle.card_terminal.specs.Talk.{AreCommandsOf};
+ghost use Rattle.card_terminal.specs.TerminalSide.{OperationOf, is_going};
+ghost use Rattle.card_terminal.specs.TerminalSteps.{IsBeginning, IsTerminalTurn, IsTerminalTaking, IsTerminalAnswering, IsTerminalAnswer, is_tpdu_due};
+ghost use Rattle.t0_core.specs.HostAnswer.{may_come};
+
+mod begin_fault;
+mod operation;
+
+use crate::commands::{get_command, select_command};
+use apdu_core::{Command, Status};
+pub use begin_fault::BeginFault;
+use object_card::Aid;
+use operation::Operation;
+use std::alloc::{Allocator, Global};
+use std::marker::Model;
+use t0_core::{AnswerFault, HostTurn, LineFault, WholeTpdu};
+use tlv_core::ObjectTag;
+
+/// A terminal that carries out operations with a card over any line: its caller asks it for its
+/// characters, and hands it those of the card. It holds no borrow.
+///
+/// `select`, `get`, `put` and `send` begin an operation, and take all its memory. `next` and `take`
+/// pass its characters, until `next` answers `Done`; then `answer` has the status and the data. The
+/// next operation may begin once it is over, has failed or was dropped by `reset`. Contracts see a
+/// terminal as what it keeps of the operation that it has begun last, if any.
+#[derive(Drop)]
+pub struct Terminal<A: Allocator + Copy = Global> {
+    alloc: A,
+    operation: Option<Operation<A>>,
+}
+
+impl<A: Allocator + Copy> Model for Terminal<A> {
+    ghost use Rattle.std.specs.Prelude.{Option, IfSome};
+    ghost use Rattle.card_terminal.specs.TerminalSide.{OperationOf, IsSettled};
+
+    ghost Value = { Option OperationOf };
+
+    ghost view = { λ t. t.operation };
+
+    ghost invariant = { λ t. IfSome t.operation (λ o. IsSettled o) };
+}
+
+impl<A: Allocator + Copy> Terminal<A> {
+    /// A terminal that has begun no operation. It takes no memory.
+    pub fn new(alloc: A) -> Terminal<A>
+        ensures { result ≡ None }
+    {
+        Terminal {
+            alloc,
+            operation: None,
+        }
+    }
+
+    /// Begins the selection of the application with this identifier.
+    ///
+    /// `UnderWay` comes where an operation is under way, `OutOfMemory` where memory is wanting for
+    /// the response (`RESPONSE_LIMIT` bytes) or the copy of the data that go to the card. Neither
+    /// changes anything. So it is with each operation.
+    pub fn select(&mut self, aid: &Aid) -> Result<(), BeginFault>
+        ensures { IsBeginning (AreCommandsOf (Select aid.now)) self.old result self.new }
+    {
+        self.send(select_command(aid))
+    }
+
+    /// Begins the reading of the data object with this tag.
+    pub fn get(&mut self, tag: ObjectTag) -> Result<(), BeginFault>
+        ensures { IsBeginning (AreCommandsOf (Get tag)) self.old result self.new }
+    {
+        self.send(get_command(tag))
+    }
+
+    /// Begins the storing of this value, which is copied, under the tag. It goes in pieces, up to
+    /// the first that is answered with another status than `9000`.
+    pub fn put(&mut self, tag: ObjectTag, value: &[u8]) -> Result<(), BeginFault>
+        ensures { IsBeginning (AreCommandsOf (Put tag value.now)) self.old result self.new }
+    {
+        if self.is_going() {
+            return Err(BeginFault::UnderWay);
+        }
+        self.operation = Some(Operation::of_put(self.alloc, tag, value)?);
+        Ok(())
+    }
+
+    /// Begins the exchange of a command, whose data are copied.
+    pub fn send(&mut self, command: Command<'_>) -> Result<(), BeginFault>
+        ensures { IsBeginning (λ commands. commands ≡ command.entry ∷ []) self.old result self.new }
+    {
+        if self.is_going() {
+            return Err(BeginFault::UnderWay);
+        }
+        self.operation = Some(Operation::of_command(self.alloc, command)?);
+        Ok(())
+    }
+
+    /// Whether an operation is under way: it is neither over nor failed, and none may begin.
+    pub fn is_going(&self) -> bool
+        ensures { result ≡ is_going self.now }
+    {
+        match &self.operation {
+            None => false,
+            Some(operation) => match operation.turn() {
+                HostTurn::Sends(_) | HostTurn::Listens => true,
+                HostTurn::Done(_) | HostTurn::Failed => false,
+            },
+        }
+    }
+
+    /// What the terminal does now, as `Exchange::next`; `None` where no operation has begun. A
+    /// character to send is handed out; nothing else changes anything. It is `Done` with the status
+    /// of the last command once the operation is over, and `Failed` after a line fault.
+    pub fn next(&mut self) -> Option<HostTurn>
+        ensures { IsTerminalTurn self.old result self.new }
+    {
+        match &mut self.operation {
+            None => None,
+            Some(operation) => Some(operation.next()),
+        }
+    }
+
+    /// Takes a character of the card, as `Exchange::take`. With the status `9000` of a piece of a
+    /// put the next is begun, if one follows.
+    ///
+    /// The faults are those of `Exchange::take`. `BadProcedure`, `TooLong` and `Stalled` end the
+    /// operation. `AfterEnd` comes where it is over or has failed, or none has begun, and
+    /// `NotListening` where it has characters to send: these change nothing.
+    pub fn take(&mut self, byte: u8) -> Result<(), LineFault>
+        ensures { IsTerminalTaking self.old byte result self.new }
+    {
+        match &mut self.operation {
+            None => Err(LineFault::AfterEnd),
+            Some(operation) => operation.take(byte),
+        }
+    }
+
+    /// The whole TPDU that is due, for a transport of whole TPDUs, as `Exchange::tpdu`; `None` also
+    /// where no operation has begun.
+    pub fn tpdu(&self) -> Option<WholeTpdu<'_>>
+        ensures due { is_some result ≡ is_tpdu_due self.now }
+        ensures whole { IfSome result (λ t. IfSome self.now
+            (λ o. (t.header ≡ o.exchange.host.header) × (t.p3 ≡ o.exchange.host.p3)
+            × (t.content.now ≡ o.exchange.host.content)
+            × (t.may_come ≡ may_come o.exchange.host.direction o.exchange.host.p3))) }
+    {
+        match &self.operation {
+            None => None,
+            Some(operation) => operation.tpdu(),
+        }
+    }
+
+    /// Takes the answer to the whole TPDU that is due, its data and its status, as
+    /// `Exchange::answered`. With the status `9000` of a piece of a put the next is begun, if one
+    /// follows.
+    ///
+    /// The faults are those of `Exchange::answered`. `TooLong` and `Stalled` end the operation.
+    /// `NotDue` comes also where no operation has begun; it, `NotAsked` and `TooMany` change
+    /// nothing.
+    pub fn answered(&mut self, bytes: &[u8], status: Status) -> Result<(), AnswerFault>
+        ensures { IsTerminalAnswering self.old bytes.now status result self.new }
+    {
+        match &mut self.operation {
+            None => Err(AnswerFault::NotDue),
+            Some(operation) => operation.answered(bytes, status),
+        }
+    }
+
+    /// The status and the data of the last command of the operation, if it is over. They can be
+    /// asked for again until the next operation begins, or a reset.
+    pub fn answer(&self) -> Option<(Status, &[u8])>
+        ensures { IsTerminalAnswer self.now (option_map (λ a. (a.0, a.1.now)) result) }
+    {
+        match &self.operation {
+            None => None,
+            Some(operation) => operation.answer(),
+        }
+    }
+
+    /// Drops the operation, wherever it is, and gives its memory back. Nothing is told to the card.
+    pub fn reset(&mut self)
+        ensures { self.new ≡ None }
+    {
+        self.operation = None;
+    }
+}

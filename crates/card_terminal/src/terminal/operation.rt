@@ -1,0 +1,191 @@
+//! An operation that has begun: the exchange of one of its commands, and what is still to be put.
+ghost use Rattle.std.specs.Prelude.{◌≡◌, ◌⊎◌, ℕ, ◌≤◌, List, [], ◌∷◌, ◌++◌, length, drop, None, Some, IfOk, MatchResult, OnOk, OnErr, true, false, IfSome, is_some};
+ghost use Rattle.std.specs.Option.{option_map};
+ghost use Rattle.apdu_core.specs.CommandBytes as spec;
+ghost use Rattle.object_card.specs.OneStep.{Put};
+ghost use Rattle.card_terminal.specs.Talk.{AreCommandsOf};
+ghost use Rattle.card_terminal.specs.ExchangeSide.{ExchangeOf, IsBounded, exchange_turn};
+ghost use Rattle.t0_core.specs.HostAnswer.{is_due, may_come};
+ghost use Rattle.apdu_core.specs.StatusWord.{ok};
+ghost use Rattle.card_terminal.specs.ExchangeSteps.{IsTurn, IsTaking, IsAnswering, IsAnswer};
+ghost use Rattle.card_terminal.specs.TerminalSide.{OperationOf, LeadsThrough, GoesOver, GoesToNext, IsSettled, with_exchange};
+
+use crate::commands::put_header;
+use crate::exchange::Detached;
+use apdu_core::{Command, Status, pieces};
+use std::alloc::{AllocError, Allocator, Global};
+use std::marker::Model;
+use t0_core::{AnswerFault, HostTurn, LineFault, WholeTpdu};
+use tlv_core::ObjectTag;
+
+/// An operation that has begun.
+#[derive(Drop)]
+pub struct Operation<A: Allocator + Copy = Global> {
+    exchange: Detached<A>,
+    /// All that goes to the card as data.
+    content: Vec<u8, A>,
+    /// The data of the command that came last begin here..
+    from: usize,
+    /// ..and end here. The rest goes in more pieces of a put.
+    until: usize,
+    p1: u8,
+    p2: u8,
+}
+
+impl<A: Allocator + Copy> Model for Operation<A> {
+    ghost use Rattle.std.specs.Prelude.{◌≡◌, ◌≤◌, length, drop};
+    ghost use Rattle.std.specs.List.{slice_range};
+    ghost use Rattle.card_terminal.specs.OwnedExchange.{over_data, IsSound};
+    ghost use Rattle.card_terminal.specs.TerminalSide.{OperationOf};
+    ghost use Rattle.card_terminal.specs.OperationRoom.{IsPart};
+
+    ghost Value = { OperationOf };
+
+    ghost view = { λ o. record {
+      exchange = over_data o.exchange (slice_range o.content.items o.from o.until);
+      p1 = o.p1;
+      p2 = o.p2;
+      rest = drop o.until o.content.items;
+    } };
+
+    ghost invariant = { λ o. IsPart o.content.items o.from o.until
+        (over_data o.exchange (slice_range o.content.items o.from o.until)) };
+}
+
+impl<A: Allocator + Copy> Operation<A> {
+    /// Begins an operation of one command. All memory is taken here: room for its response, and for
+    /// its data; the error is want of it.
+    pub fn of_command(alloc: A, command: Command<'_>) -> Result<Operation<A>, AllocError>
+        ensures led { IfOk result (λ o. LeadsThrough (command.entry ∷ []) [] o) }
+        ensures settled { IfOk result (λ o. IsSettled o) }
+    {
+        let data = command.data();
+        let until = data.len();
+        let content = Vec::from_slice(alloc, data)?;
+        let exchange = Detached::start(alloc, command)?;
+        Ok(Operation {
+            exchange,
+            content,
+            from: 0,
+            until,
+            p1: 0,
+            p2: 0,
+        })
+    }
+
+    /// Begins a put. All memory is taken here: room for a response, and for the value; the error is
+    /// want of it.
+    pub fn of_put(alloc: A, tag: ObjectTag, value: &[u8]) -> Result<Operation<A>, AllocError>
+        ensures led { IfOk result (λ o. (commands : List spec.Command)
+            × AreCommandsOf (Put tag value.now) commands × LeadsThrough commands [] o) }
+        ensures settled { IfOk result (λ o. IsSettled o) }
+    {
+        let content = Vec::from_slice(alloc, value)?;
+        let (p1, p2) = tag.p1p2();
+        let Some(first) = pieces(put_header(p1, p2), value).next() else {
+            unreachable!()
+        };
+        let until = first.data().len();
+        let exchange = Detached::start(alloc, first)?;
+        Ok(Operation {
+            exchange,
+            content,
+            from: 0,
+            until,
+            p1,
+            p2,
+        })
+    }
+
+    /// What `next` answers, which changes nothing here.
+    pub fn turn(&self) -> HostTurn
+        ensures { result ≡ exchange_turn self.now.exchange }
+    {
+        self.exchange.turn(&self.content[self.from..self.until])
+    }
+
+    /// What the terminal does now, as `Exchange::next`.
+    pub fn next(&mut self) -> HostTurn
+        ensures turn { IsTurn self.old.exchange result self.new.exchange }
+        ensures rest { self.new ≡ with_exchange self.old self.new.exchange }
+        ensures settled { IsSettled self.old → IsSettled self.new }
+        ensures bounds { IsBounded self.new.exchange }
+    {
+        self.exchange.next(&self.content[self.from..self.until])
+    }
+
+    /// Takes a character of the card, as `Exchange::take`. With a status `9000` the next piece of a
+    /// put is begun, if one follows.
+    pub fn take(&mut self, byte: u8) -> Result<(), LineFault>
+        ensures { (ex : ExchangeOf) × IsTaking self.old.exchange byte result ex
+            × GoesOver (with_exchange self.old ex) self.new }
+    {
+        let taken = self
+            .exchange
+            .take(byte, &self.content[self.from..self.until]);
+        self.go_on();
+        taken
+    }
+
+    /// The whole TPDU that is due, as `Exchange::tpdu`.
+    pub fn tpdu(&self) -> Option<WholeTpdu<'_>>
+        ensures due { is_some result ≡ is_due self.now.exchange.host }
+        ensures whole { IfSome result (λ t. (t.header ≡ self.now.exchange.host.header)
+            × (t.p3 ≡ self.now.exchange.host.p3)
+            × (t.content.now ≡ self.now.exchange.host.content)
+            × (t.may_come ≡ may_come self.now.exchange.host.direction
+            self.now.exchange.host.p3)) }
+    {
+        self.exchange.tpdu(&self.content[self.from..self.until])
+    }
+
+    /// Takes the answer to it, as `Exchange::answered`. With a status `9000` the next piece of a
+    /// put is begun, if one follows.
+    pub fn answered(&mut self, bytes: &[u8], status: Status) -> Result<(), AnswerFault>
+        ensures { (ex : ExchangeOf)
+            × IsAnswering self.old.exchange bytes.now status result ex
+            × GoesOver (with_exchange self.old ex) self.new }
+    {
+        let content = &self.content[self.from..self.until];
+        let taken = self.exchange.answered(bytes, status, content);
+        self.go_on();
+        taken
+    }
+
+    /// Begins the exchange of the next piece of a put, where the last was answered `9000` and one
+    /// follows.
+    fn go_on(&mut self)
+        ensures { GoesOver self.old self.new }
+    {
+        let is_last = self.until == self.content.as_slice().len();
+        if is_last {
+            return;
+        }
+        match self.turn() {
+            HostTurn::Done(status) if status.is_ok() => self.begin_next(),
+            _ => {}
+        }
+    }
+
+    /// Begins the exchange of the next piece of a put, in the same room.
+    fn begin_next(&mut self)
+        requires more { self.old.rest ≡ [] → ⊥ }
+        requires done { exchange_turn self.old.exchange ≡ HostTurn.Done ok }
+        ensures { GoesToNext self.old self.new }
+    {
+        let mut commands = pieces(put_header(self.p1, self.p2), &self.content[self.until..]);
+        let Some(next) = commands.next() else {
+            unreachable!()
+        };
+        self.from = self.until;
+        self.until += next.data().len();
+        self.exchange.again(next);
+    }
+
+    /// The status and the data, if the exchange is over.
+    pub fn answer(&self) -> Option<(Status, &[u8])>
+        ensures { IsAnswer self.now.exchange (option_map (λ a. (a.0, a.1.now)) result) }
+    {
+        self.exchange.answer(&self.content[self.from..self.until])
+    }
+}

@@ -1,0 +1,62 @@
+//! Laws of operations at a terminal that is driven from outside: each function's contract is one.
+ghost use Rattle.std.specs.Prelude.{◌≡◌, ◌⊎◌, ◌≤◌, ◌+◌, ◌*◌, ◌++◌, ◌∷◌, ℕ, List, length, Some};
+ghost use Rattle.std.specs.List.{AllByRecursion, flat_map};
+ghost use Rattle.apdu_core.specs.CommandBytes.{Command};
+ghost use Rattle.t0_core.specs.declared.host_end.HostTurn.TheVariants as HostTurn;
+ghost use Rattle.t0_core.specs.Character.{Character};
+ghost use Rattle.t0_core.specs.Dialogue.{IsDialogue};
+ghost use Rattle.object_card.specs.OneStep.{Reply};
+ghost use Rattle.card_terminal.specs.Gathered.{UnitOf};
+ghost use Rattle.card_terminal.specs.Talk.{AreExchangesOf, talk_dialogues, talk_characters};
+ghost use Rattle.card_terminal.specs.ExchangeSide.{exchange_turn};
+ghost use Rattle.card_terminal.specs.ExchangeHistory.{Expects, BeginsExchange, FaultCameLast};
+ghost use Rattle.card_terminal.specs.TerminalSide.{OperationOf, HasCome, LeadsTo};
+ghost use Rattle.card_terminal.specs.TerminalHistory.{HaveValidIns, HaveRoom, brought_by};
+
+/// What led to an operation are the characters of whole exchanges of its first commands, each
+/// answered `9000`, and the first characters of an open exchange of the next; but for a last one
+/// that was a fault at those before it, and so ended the operation.
+pub fn what_led_begins_an_operation()
+    ensures { (commands : List Command) (came : List Character) (o : OperationOf)
+        → LeadsTo commands came (Some o) → HasCome (λ c here. BeginsExchange c here) commands came o
+        ⊎ HasCome (λ c here. FaultCameLast c here o.exchange) commands came o }
+{}
+
+/// Where the characters that led to an operation are those of whole exchanges of its commands, up
+/// to the first that is answered with another status than `9000`, it is over, with their answer.
+pub fn a_whole_operation_is_done()
+    ensures { (commands : List Command) (came : List Character) (o : OperationOf)
+        (exchanges : List (List UnitOf)) (answer : Reply) → HaveValidIns commands →
+        LeadsTo commands came (Some o) → AreExchangesOf commands exchanges answer →
+        AllByRecursion IsDialogue (talk_dialogues exchanges) → came ≡ talk_characters exchanges →
+        (exchange_turn o.exchange ≡ HostTurn.Done answer.status)
+        × (o.exchange.gather.bytes ≡ answer.content) }
+{}
+
+/// The talk leaves a terminal no choice. Where what led to an operation goes on to the characters
+/// of whole exchanges of its commands, whose data there is room for, it sends the next character if
+/// that is the terminal's; if it is the card's, it listens and finds no fault in it. It has not
+/// failed, so that with such a character no operation stalls.
+pub fn the_next_character_of_an_operation_is_settled()
+    ensures next { (commands : List Command) (came : List Character) (o : OperationOf)
+        (exchanges : List (List UnitOf)) (answer : Reply) (ch : Character)
+        (rest : List Character) → HaveValidIns commands →
+        LeadsTo commands came (Some o) → AreExchangesOf commands exchanges answer →
+        AllByRecursion IsDialogue (talk_dialogues exchanges) → HaveRoom exchanges →
+        talk_characters exchanges ≡ came ++ ch ∷ rest → Expects o.exchange ch }
+    ensures going { (commands : List Command) (came : List Character) (o : OperationOf)
+        (exchanges : List (List UnitOf)) (answer : Reply) (rest : List Character) →
+        HaveValidIns commands → LeadsTo commands came (Some o) →
+        AreExchangesOf commands exchanges answer →
+        AllByRecursion IsDialogue (talk_dialogues exchanges) → HaveRoom exchanges →
+        talk_characters exchanges ≡ came ++ rest →
+        exchange_turn o.exchange ≡ HostTurn.Failed → ⊥ }
+{}
+
+/// An operation has at most four TPDUs for each command that has gone, and two for each byte that
+/// its exchanges bring.
+pub fn an_operation_has_few_tpdus()
+    ensures { (commands : List Command) (exchanges : List (List UnitOf)) (answer : Reply) →
+        AreExchangesOf commands exchanges answer → length (talk_dialogues exchanges)
+        ≤ 2 * (brought_by exchanges + 2 * length exchanges) }
+{}

@@ -4,3 +4,4 @@ mod card_tests;
 mod tap_tests;
 mod test_card;
 mod tests;
+mod tpdu_tests;

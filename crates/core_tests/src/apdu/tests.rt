@@ -2,7 +2,6 @@
 
 use apdu_core::{ApduFault, Chain, Command, Header, Status, TooLong, pieces};
 use linked_list_allocator::LocalHeap;
-use std::test::Fail;
 
 const PUT: Header = Header {
     cla: 0x00,
@@ -17,7 +16,7 @@ const SELECT: [u8; 13] = [
 ];
 
 #[test]
-fn commands_are_read_and_written_back(rt: HostRuntime) -> Result<(), Fail> {
+fn commands_are_read_and_written_back(rt: HostRuntime) {
     let aid = &SELECT[5..12];
     let cases: [(&[u8], &[u8], Option<u16>); 4] = [
         (&[0x00, 0xA4, 0x04, 0x00], &[], None),
@@ -26,19 +25,18 @@ fn commands_are_read_and_written_back(rt: HostRuntime) -> Result<(), Fail> {
         (&SELECT, aid, Some(256)),
     ];
     for (bytes, content, le) in cases {
-        let command = Command::read(bytes)?;
-        assert_eq!(rt; command.data(), content);
-        assert_eq!(rt; command.le(), le);
+        let command = Command::read(bytes).expect(&rt, "a command");
+        assert!(rt; command.data() == content);
+        assert!(rt; command.le() == le);
 
-        let again = Command::new(command.header(), content, le).ok_or("a command")?;
+        let again = Command::new(command.header(), content, le).expect(&rt, "a command");
         for written in [command, again] {
-            let mut out = vec![in rt.alloc(); 7]?;
-            written.write(&mut out)?;
-            assert_eq!(rt; out.first(), Some(&7));
-            assert_eq!(rt; &out[1..], bytes);
+            let mut out = vec![in rt.alloc(); 7].expect(&rt, "memory");
+            written.write(&mut out).expect(&rt, "memory");
+            assert!(rt; out.first() == Some(&7));
+            assert!(rt; &out[1..] == bytes);
         }
     }
-    Ok(())
 }
 
 #[test]
@@ -52,7 +50,7 @@ fn no_commands(rt: HostRuntime) {
         (&[0x00, 0x60, 0x00, 0x00, 0x02, 0x41], ApduFault::BadLength),
     ];
     for (bytes, fault) in cases {
-        assert_eq!(rt; Command::read(bytes).err(), Some(fault), "{bytes:?}");
+        assert!(rt; Command::read(bytes).err() == Some(fault), "{bytes:?}");
     }
     let too_many = [0x41; 256];
     assert!(rt; Command::new(PUT, &too_many, None).is_none());
@@ -62,34 +60,39 @@ fn no_commands(rt: HostRuntime) {
 }
 
 #[test]
-fn texts_of_faults(rt: HostRuntime) -> Result<(), Fail> {
+fn texts_of_faults(rt: HostRuntime) {
     for (fault, text) in [
         (ApduFault::TooShort, "command too short"),
         (ApduFault::BadLength, "bad command length"),
         (ApduFault::InvalidIns, "invalid INS"),
     ] {
-        assert_eq!(rt; format!(in rt.alloc(); "{fault}")?.as_str(), text);
+        assert!(rt;
+            format!(in rt.alloc(); "{fault}")
+                .expect(&rt, "memory")
+                .as_str()
+                == text
+        );
     }
-    assert_eq!(rt;
-        format!(in rt.alloc(); "{TooLong}")?.as_str(),
-        "chain too long"
+    assert!(rt;
+        format!(in rt.alloc(); "{TooLong}")
+            .expect(&rt, "memory")
+            .as_str()
+            == "chain too long"
     );
-    Ok(())
 }
 
 #[test]
-fn status_words(rt: HostRuntime) -> Result<(), Fail> {
-    assert_eq!(rt; Status::new(0x60, 0x00), None);
-    assert_eq!(rt; Status::new(0xA0, 0x00), None);
-    let full = Status::new(0x61, 0x00).ok_or("6100")?;
-    assert_eq!(rt; full.announces(), Some(256));
-    let wrong_le = Status::new(0x6C, 0x06).ok_or("6C06")?;
-    assert_eq!(rt; wrong_le.corrects(), Some(6));
-    assert_eq!(rt; wrong_le.announces(), None);
-    let done = Status::new(0x90, 0x00).ok_or("9000")?;
+fn status_words(rt: HostRuntime) {
+    assert!(rt; Status::new(0x60, 0x00) == None);
+    assert!(rt; Status::new(0xA0, 0x00) == None);
+    let full = Status::new(0x61, 0x00).expect(&rt, "6100");
+    assert!(rt; full.announces() == Some(256));
+    let wrong_le = Status::new(0x6C, 0x06).expect(&rt, "6C06");
+    assert!(rt; wrong_le.corrects() == Some(6));
+    assert!(rt; wrong_le.announces() == None);
+    let done = Status::new(0x90, 0x00).expect(&rt, "9000");
     assert!(rt; done.is_ok());
-    assert_eq!(rt; (done.sw1(), done.sw2()), (0x90, 0x00));
-    Ok(())
+    assert!(rt; (done.sw1(), done.sw2()) == (0x90, 0x00));
 }
 
 #[test]
@@ -108,71 +111,67 @@ fn sizes_of_pieces(rt: HostRuntime) {
             seen = number;
             let is_last = number == commands;
             let cla = if is_last { 0x00 } else { 0x10 };
-            assert_eq!(rt; command.header(), Header { cla, ..PUT });
-            assert_eq!(rt; command.data().len(), if is_last { last } else { 255 });
-            assert_eq!(rt; command.le(), None);
+            assert!(rt; command.header() == Header { cla, ..PUT });
+            assert!(rt; command.data().len() == if is_last { last } else { 255 });
+            assert!(rt; command.le() == None);
         }
-        assert_eq!(rt; seen, commands, "{size} bytes");
+        assert!(rt; seen == commands, "{size} bytes");
     }
 }
 
 #[test]
-fn a_chain_within_its_limit(rt: HostRuntime) -> Result<(), Fail> {
+fn a_chain_within_its_limit(rt: HostRuntime) {
     let first = Header { cla: 0x10, ..PUT };
-    let mut chain = Chain::with_room(rt.alloc(), 4)?;
+    let mut chain = Chain::with_room(rt.alloc(), 4).expect(&rt, "memory");
     assert!(rt; !chain.is_pending() && chain.accepts(first));
-    assert_eq!(rt; chain.add(first, &[1, 2, 3]), Ok(()));
+    assert!(rt; chain.add(first, &[1, 2, 3]) == Ok(()));
     for (header, accepted) in [
         (PUT, true),
         (first, true),
         (Header { p2: 0x21, ..first }, false),
         (Header { cla: 0x80, ..PUT }, false),
     ] {
-        assert_eq!(rt; chain.accepts(header), accepted, "{header:?}");
+        assert!(rt; chain.accepts(header) == accepted, "{header:?}");
     }
     assert!(rt; chain.accepts(PUT));
-    assert_eq!(rt; chain.add(PUT, &[4, 5]), Err(TooLong));
-    assert_eq!(rt; chain.bytes(), [1, 2, 3].as_slice());
+    assert!(rt; chain.add(PUT, &[4, 5]) == Err(TooLong));
+    assert!(rt; chain.bytes() == [1, 2, 3].as_slice());
     assert!(rt; chain.len() == 3);
     chain.keep_first(1);
-    assert_eq!(rt; chain.bytes(), [1].as_slice());
+    assert!(rt; chain.bytes() == [1].as_slice());
     assert!(rt; chain.is_pending());
     chain.drop_all();
     assert!(rt; !chain.is_pending() && chain.len() == 0);
-    Ok(())
 }
 
 #[test]
-fn an_empty_chain_is_pending(rt: HostRuntime) -> Result<(), Fail> {
-    let mut chain = Chain::with_room(rt.alloc(), 0)?;
+fn an_empty_chain_is_pending(rt: HostRuntime) {
+    let mut chain = Chain::with_room(rt.alloc(), 0).expect(&rt, "memory");
     assert!(rt; chain.accepts(PUT));
-    assert_eq!(rt; chain.add(PUT, &[]), Ok(()));
+    assert!(rt; chain.add(PUT, &[]) == Ok(()));
     assert!(rt; chain.is_pending() && chain.len() == 0);
-    Ok(())
 }
 
 /// The one growth of `write` is refused, and then granted.
 #[test]
-fn writing_is_all_or_nothing(rt: HostRuntime) -> Result<(), Fail> {
-    let command = Command::read(&SELECT)?;
+fn writing_is_all_or_nothing(rt: HostRuntime) {
+    let command = Command::read(&SELECT).expect(&rt, "a command");
     for (size, written) in [(16, &[] as &[u8]), (64, &SELECT)] {
-        let heap = LocalHeap::new(rt.alloc(), size)?;
-        let mut out = vec![in &heap; 7]?;
-        assert_eq!(rt; command.write(&mut out).is_ok(), !written.is_empty());
-        assert_eq!(rt; out.first(), Some(&7));
-        assert_eq!(rt; &out[1..], written);
+        let heap = LocalHeap::new(rt.alloc(), size).expect(&rt, "memory");
+        let mut out = vec![in &heap; 7].expect(&rt, "memory");
+        assert!(rt; command.write(&mut out).is_ok() == !written.is_empty());
+        assert!(rt; out.first() == Some(&7));
+        assert!(rt; &out[1..] == written);
     }
-    Ok(())
 }
 
 /// The one growth of `with_room` is refused, and then granted.
 #[test]
-fn no_room_for_a_chain(rt: HostRuntime) -> Result<(), Fail> {
+fn no_room_for_a_chain(rt: HostRuntime) {
     for (size, granted) in [(0, false), (48, false), (64, true)] {
-        let heap = LocalHeap::new(rt.alloc(), size)?;
-        assert_eq!(rt; Chain::with_room(&heap, 64).is_ok(), granted);
+        let heap = LocalHeap::new(rt.alloc(), size).expect(&rt, "memory");
+        assert!(rt; Chain::with_room(&heap, 64).is_ok() == granted);
     }
-    Ok(())
 }
 
 /// 255 bytes of data and an Le of 256: no command is longer.
@@ -195,9 +194,9 @@ fn a_chain_of_8192_bytes(rt: HostRuntime) {
     let mut chain = Chain::with_room(rt.alloc(), 8_192).expect(&rt, "memory");
     for (_, command) in (0..33).zip(pieces(PUT, &value)) {
         assert!(rt; chain.accepts(command.header()));
-        assert_eq!(rt; chain.add(command.header(), command.data()), Ok(()));
+        assert!(rt; chain.add(command.header(), command.data()) == Ok(()));
     }
     assert!(rt; chain.bytes() == value.as_slice());
     assert!(rt; chain.accepts(PUT));
-    assert_eq!(rt; chain.add(PUT, &[0x42]), Err(TooLong));
+    assert!(rt; chain.add(PUT, &[0x42]) == Err(TooLong));
 }

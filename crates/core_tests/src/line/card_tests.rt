@@ -4,7 +4,6 @@ use super::test_card::TestCard;
 use Step::{All, Null, One};
 use std::alloc::{Allocator, Global};
 use std::process::Abort;
-use std::test::Fail;
 use t0_core::{CardEnd, End, NotListening, Plan, Plans, Step, Turn};
 
 /// The card's end hands out its characters, and takes the terminal's, run by run.
@@ -17,33 +16,27 @@ fn passes<A: Allocator>(
     for (from, bytes) in runs {
         for &byte in *bytes {
             if *from == End::Terminal {
-                assert_eq!(rt; end.turn(plans), Turn::Listens, "{bytes:?}");
-                assert_eq!(rt; end.take(byte), Ok(()), "{bytes:?}");
+                assert!(rt; end.turn(plans) == Turn::Listens, "{bytes:?}");
+                assert!(rt; end.take(byte) == Ok(()), "{bytes:?}");
             } else {
-                assert_eq!(rt; end.take(byte), Err(NotListening), "{bytes:?}");
-                assert_eq!(rt; end.turn(plans), Turn::Sends(byte), "{bytes:?}");
+                assert!(rt; end.take(byte) == Err(NotListening), "{bytes:?}");
+                assert!(rt; end.turn(plans) == Turn::Sends(byte), "{bytes:?}");
             }
         }
     }
-    assert_eq!(rt; end.turn(plans), Turn::Listens);
+    assert!(rt; end.turn(plans) == Turn::Listens);
 }
 
 /// A fresh card's end under one plan of these steps passes the runs.
-fn passes_under(
-    rt: &impl Abort,
-    alloc: Global,
-    steps: &[Step],
-    runs: &[(End, &[u8])],
-) -> Result<(), Fail> {
-    let steps = Vec::from_slice(alloc, steps)?;
-    let plans = [Plan::new(steps, 256).ok_or("a plan")?];
+fn passes_under(rt: &impl Abort, alloc: Global, steps: &[Step], runs: &[(End, &[u8])]) {
+    let steps = Vec::from_slice(alloc, steps).expect(rt, "memory");
+    let plans = [Plan::new(steps, 256).expect(rt, "a plan")];
     let mut end = CardEnd::new(TestCard::new());
     passes(rt, &mut end, &mut Plans::over(&plans), runs);
-    Ok(())
 }
 
 #[test]
-fn each_step_of_a_plan(rt: HostRuntime) -> Result<(), Fail> {
+fn each_step_of_a_plan(rt: HostRuntime) {
     let get = (End::Terminal, b"\x00\xCA\x00\x00\x03".as_slice());
     let put = (End::Terminal, b"\x00\xDA\x00\x00\x02".as_slice());
     let none = (End::Card, b"".as_slice());
@@ -112,9 +105,8 @@ fn each_step_of_a_plan(rt: HostRuntime) -> Result<(), Fail> {
             ],
         ),
     ] {
-        passes_under(&rt, rt.alloc(), steps, &runs)?;
+        passes_under(&rt, rt.alloc(), steps, &runs);
     }
-    Ok(())
 }
 
 /// The most that P3 counts: 255 bytes to the card, and 256 from it with P3 `00`.
@@ -142,9 +134,9 @@ fn tpdus_of_the_greatest_size(rt: HostRuntime) {
 }
 
 #[test]
-fn second_tpdu_over_one_plan_has_no_steps(rt: HostRuntime) -> Result<(), Fail> {
-    let steps = Vec::from_slice(rt.alloc(), &[Null, One])?;
-    let plans = [Plan::new(steps, 1).ok_or("a plan")?];
+fn second_tpdu_over_one_plan_has_no_steps(rt: HostRuntime) {
+    let steps = Vec::from_slice(rt.alloc(), &[Null, One]).expect(&rt, "memory");
+    let plans = [Plan::new(steps, 1).expect(&rt, "a plan")];
     let mut cursor = Plans::over(&plans);
     let mut end = CardEnd::new(TestCard::new());
     let get = (End::Terminal, b"\x00\xCA\x00\x00\x02".as_slice());
@@ -153,16 +145,15 @@ fn second_tpdu_over_one_plan_has_no_steps(rt: HostRuntime) -> Result<(), Fail> {
         (b"\xCA\x01\x02\x90\x00".as_slice(), 256),
     ] {
         passes(&rt, &mut end, &mut cursor, &[get, (End::Card, answer)]);
-        assert_eq!(rt; end.card().cut(), cut);
+        assert!(rt; end.card().cut() == cut);
     }
-    Ok(())
 }
 
 #[test]
 fn cuts_of_a_plan(rt: HostRuntime) {
     for (cut, made) in [(0, false), (1, true), (256, true), (257, false)] {
         let steps = Vec::<Step, Global>::new(rt.alloc());
-        assert_eq!(rt; Plan::new(steps, cut).is_some(), made);
+        assert!(rt; Plan::new(steps, cut).is_some() == made);
     }
 }
 
@@ -189,7 +180,7 @@ fn reset_drops_a_tpdu(rt: HostRuntime) {
 /// The end takes these characters of the terminal.
 fn takes(rt: &impl Abort, end: &mut CardEnd<TestCard>, bytes: &[u8]) {
     for &byte in bytes {
-        assert_eq!(rt; end.take(byte), Ok(()), "{bytes:?}");
+        assert!(rt; end.take(byte) == Ok(()), "{bytes:?}");
     }
 }
 
@@ -201,24 +192,24 @@ fn hands_out<A: Allocator>(
     bytes: &[u8],
 ) {
     for &byte in bytes {
-        assert_eq!(rt; end.turn(plans), Turn::Sends(byte), "{bytes:?}");
+        assert!(rt; end.turn(plans) == Turn::Sends(byte), "{bytes:?}");
     }
 }
 
 /// A get of three characters, of whose plan null, one, null, all the first two steps are done.
-fn get_under_way(rt: &impl Abort, alloc: Global) -> Result<CardEnd<TestCard>, Fail> {
-    let steps = Vec::from_slice(alloc, &[Null, One, Null, All])?;
-    let plans = [Plan::new(steps, 256).ok_or("a plan")?];
+fn get_under_way(rt: &impl Abort, alloc: Global) -> CardEnd<TestCard> {
+    let steps = Vec::from_slice(alloc, &[Null, One, Null, All]).expect(rt, "memory");
+    let plans = [Plan::new(steps, 256).expect(rt, "a plan")];
     let mut end = CardEnd::new(TestCard::new());
     takes(rt, &mut end, b"\x00\xCA\x00\x00\x03");
     hands_out(rt, &mut end, &mut Plans::over(&plans), b"\x60\x35\x01");
-    Ok(end)
+    end
 }
 
 #[test]
-fn another_cursor_goes_on_from_the_count(rt: HostRuntime) -> Result<(), Fail> {
-    let steps = Vec::from_slice(rt.alloc(), &[All, All, One, Null, One])?;
-    let plans = [Plan::new(steps, 1).ok_or("a plan")?];
+fn another_cursor_goes_on_from_the_count(rt: HostRuntime) {
+    let steps = Vec::from_slice(rt.alloc(), &[All, All, One, Null, One]).expect(&rt, "memory");
+    let plans = [Plan::new(steps, 1).expect(&rt, "a plan")];
     let mut other = Plans::over(&plans);
     let refused = [
         (End::Terminal, b"\x00\x20\x00\x00\x00".as_slice()),
@@ -230,17 +221,15 @@ fn another_cursor_goes_on_from_the_count(rt: HostRuntime) -> Result<(), Fail> {
         &mut other,
         &refused,
     );
-    let mut end = get_under_way(&rt, rt.alloc())?;
+    let mut end = get_under_way(&rt, rt.alloc());
     hands_out(&rt, &mut end, &mut other, b"\x35\x02\x60\x35\x03\x90\x00");
-    Ok(())
 }
 
 #[test]
-fn cursor_that_keeps_no_plan_moves_all_that_is_left(rt: HostRuntime) -> Result<(), Fail> {
-    let mut end = get_under_way(&rt, rt.alloc())?;
+fn cursor_that_keeps_no_plan_moves_all_that_is_left(rt: HostRuntime) {
+    let mut end = get_under_way(&rt, rt.alloc());
     let mut other = Plans::<Global>::over(&[]);
     hands_out(&rt, &mut end, &mut other, b"\xCA\x02\x03\x90\x00");
-    Ok(())
 }
 
 #[test]
@@ -251,12 +240,12 @@ fn data_are_gone_when_a_tpdu_is_over(rt: HostRuntime) {
         takes(&rt, &mut end, b"\x00\xDA\x00\x00\x02");
         hands_out(&rt, &mut end, &mut plans, b"\xDA");
         takes(&rt, &mut end, b"\x41\x42");
-        assert_eq!(rt; &end.held()[..3], b"\x41\x42\x00".as_slice());
+        assert!(rt; &end.held()[..3] == b"\x41\x42\x00".as_slice());
         if answered {
             hands_out(&rt, &mut end, &mut plans, b"\x90\x00");
         } else {
             end.reset();
         }
-        assert_eq!(rt; *end.held(), [0; 255]);
+        assert!(rt; *end.held() == [0; 255]);
     }
 }

@@ -66,7 +66,7 @@ pub fn add<A: Allocator + Copy>(
 }
 
 /// Adds a data object, likewise.
-fn add_object<A: Allocator + Copy>(
+pub fn add_object<A: Allocator + Copy>(
     builder: &mut CardBuilder<A>,
     tag: ObjectTag,
     value: &[u8],
@@ -120,7 +120,7 @@ pub fn end_over<A: Allocator + Copy>(
 }
 
 /// The entries of an application, likewise without a clause.
-fn entries<'a, A: Allocator + Copy>(
+pub fn entries<'a, A: Allocator + Copy>(
     rt: &impl Abort,
     card: &'a ObjectCard<A>,
     aid: &Aid,

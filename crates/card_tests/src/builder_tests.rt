@@ -1,7 +1,7 @@
 //! What a builder takes, and what it refuses, in the order of its refusals.
 
-use super::trace::{add, aid, built, full, holds, tag};
-use object_card::{BuilderFault, ObjectCard};
+use super::trace::{add, add_object, aid, built, bytes, entries, full, holds, tag};
+use object_card::{BuilderFault, ObjectCard, VALUE_LIMIT};
 use std::alloc::AllocGlobal;
 use std::process::Abort;
 
@@ -94,6 +94,30 @@ fn refuses_objects(rt: HostRuntime) {
     ] {
         refuses(&rt, table, line, fault);
     }
+}
+
+/// A list of two objects with 8,192 bytes: the length of the one is `81C8`, that of the other
+/// `821F31`.
+fn longest_template(rt: &(impl Abort + AllocGlobal)) -> Vec<u8> {
+    let mut value = bytes(rt, "5081C8");
+    for part in ["41*200", "51821F31", "42*7985"] {
+        value
+            .extend_from_slice(&bytes(rt, part))
+            .expect(rt, "memory");
+    }
+    value
+}
+
+#[test]
+fn takes_a_template_of_8192_bytes(rt: HostRuntime) {
+    let value = longest_template(&rt);
+    assert!(rt; value.len() == VALUE_LIMIT);
+    let mut builder = built(&rt, rt.alloc(), FIRST);
+    assert!(rt; add_object(&mut builder, tag(&rt, "70"), &value, false).is_ok());
+    let card = builder.finish().expect(&rt, "memory");
+    let mut entries = entries(&rt, &card, &aid(&rt, "A000000003"));
+    assert!(rt; entries.next() == Some((tag(&rt, "70"), value.as_slice())));
+    assert!(rt; entries.next().is_none());
 }
 
 /// A full application still takes a value under a tag that it holds.

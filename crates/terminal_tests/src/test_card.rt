@@ -2,7 +2,7 @@
 ghost use Rattle.std.specs.Prelude.{◌≡◌, ℕ, ◌≤◌, ◌⊎◌, length, take};
 ghost use Rattle.apdu_core.specs.StatusWord.{count};
 ghost use Rattle.t0_core.specs.Meaning.{Prepared, Nothing, Receiving, Sending, Decided};
-ghost use Rattle.core_tests.specs.declared.terminal.test_card.Ready.TheVariants as ready;
+ghost use Rattle.terminal_tests.specs.declared.test_card.Ready.TheVariants as ready;
 
 use apdu_core::{Header, Status};
 use t0_core::{TpduCard, Verdict};

@@ -1,8 +1,0 @@
-//! Tests of `object_card`.
-
-mod builder_tests;
-mod line_tests;
-mod memory_tests;
-mod simulator;
-mod tests;
-mod trace;

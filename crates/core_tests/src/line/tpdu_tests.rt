@@ -1,0 +1,90 @@
+//! The bytes of whole TPDUs, and how a card's end carries them out under a plan.
+
+use super::test_card::TestCard;
+use apdu_core::Header;
+use std::alloc::AllocGlobal;
+use std::process::Abort;
+use t0_core::{CardEnd, Gather, HostEnd, Plan, Plans, Step, WholeTpdu};
+
+const GET: Header = Header {
+    cla: 0x00,
+    ins: 0xCA,
+    p1: 0x00,
+    p2: 0x00,
+};
+
+const PUT: Header = Header {
+    cla: 0x00,
+    ins: 0xDA,
+    p1: 0x00,
+    p2: 0x00,
+};
+
+/// The end's whole TPDU is written as these bytes, and as none where there is room for one less.
+fn is_written(rt: &impl Abort, end: &HostEnd<'_>, bytes: &[u8]) {
+    let tpdu = end.whole().expect(rt, "a TPDU");
+    let less = bytes.len().checked_sub(1).expect(rt, "bytes");
+    let mut out = [0xEE; 261];
+    let room = out.get_mut(..less).expect(rt, "room");
+    assert!(rt; tpdu.write(room).is_none());
+    assert!(rt; out == [0xEE; 261]);
+    assert!(rt; tpdu.write(&mut out) == Some(bytes.len()));
+    assert!(rt; out.get(..bytes.len()) == Some(bytes));
+    assert!(rt; out.get(bytes.len()) == Some(&0xEE));
+}
+
+#[test]
+fn a_terminal_writes_whole_tpdus(rt: HostRuntime) {
+    is_written(&rt, &HostEnd::sending(PUT, b""), b"\x00\xDA\x00\x00");
+    is_written(&rt, &HostEnd::asking(GET, 256), b"\x00\xCA\x00\x00\x00");
+    is_written(&rt, &HostEnd::asking(GET, 1), b"\x00\xCA\x00\x00\x01");
+    is_written(
+        &rt,
+        &HostEnd::sending(PUT, b"AB"),
+        b"\x00\xDA\x00\x00\x02AB",
+    );
+    let mut longest = [0x41; 260];
+    longest[..5].copy_from_slice(b"\x00\xDA\x00\x00\xFF");
+    is_written(&rt, &HostEnd::sending(PUT, &[0x41; 255]), &longest);
+}
+
+/// What is read of the bytes: P3, how many data there are, and how many may come back.
+fn read(bytes: &[u8]) -> Option<(u8, usize, u16)> {
+    match WholeTpdu::read(bytes) {
+        Some(tpdu) => Some((tpdu.p3, tpdu.content.len(), tpdu.may_come)),
+        None => None,
+    }
+}
+
+#[test]
+fn whole_tpdus_are_read(rt: HostRuntime) {
+    assert!(rt; read(b"\x00\xA4\x04\x00") == Some((0x00, 0, 0)));
+    assert!(rt; read(b"\x00\xCA\x5F\x20\x00") == Some((0x00, 0, 256)));
+    assert!(rt; read(b"\x00\xCA\x5F\x20\xFF") == Some((0xFF, 0, 255)));
+    assert!(rt; read(b"\x00\xDA\x5F\x20\x02AB") == Some((0x02, 2, 0)));
+    assert!(rt; read(b"\x00\xDA\x5F\x20\x02A").is_none());
+    assert!(rt; read(b"\x00\xDA\x5F\x20\x00A").is_none());
+    assert!(rt; read(b"\x00\xA4\x04").is_none());
+}
+
+/// NULLs and single bytes of the plan are not seen, and each TPDU takes the next plan.
+#[test]
+fn a_plan_is_not_seen(rt: HostRuntime) {
+    let steps = Vec::from_slice(rt.alloc(), &[Step::Null, Step::One]).expect(&rt, "memory");
+    let plans = [Plan::new(steps, 7).expect(&rt, "a plan")];
+    let mut plans = Plans::over(&plans);
+    let mut gather = Gather::with_room(rt.alloc(), 3).expect(&rt, "memory");
+    let mut end = CardEnd::new(TestCard::new());
+    assert!(rt;
+        end.tpdu(b"\x00\xCA\x00\x00\x03", &mut plans, &mut gather)
+            .is_ok()
+    );
+    assert!(rt; gather.bytes() == b"\x01\x02\x03".as_slice());
+    assert!(rt; end.card().cut() == 7);
+    assert!(rt;
+        end.tpdu(b"\x00\xDA\x00\x00\x02AB", &mut plans, &mut gather)
+            .is_ok()
+    );
+    assert!(rt; end.card().cut() == 256);
+    assert!(rt; *end.held() == [0; 255]);
+}

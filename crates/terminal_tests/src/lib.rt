@@ -1,0 +1,24 @@
+//! Tests of `card_terminal`, by its public calls alone: so no proof of it is made once more for the
+//! tests.
+#![tactic(auto)]
+
+#[cfg(test)]
+mod command_tests;
+#[cfg(test)]
+mod data_objects;
+#[cfg(test)]
+mod exchange_tests;
+#[cfg(test)]
+mod long_run_tests;
+#[cfg(test)]
+mod memory_tests;
+#[cfg(test)]
+mod run_memory_tests;
+#[cfg(test)]
+mod run_tests;
+#[cfg(test)]
+mod session_tests;
+#[cfg(test)]
+mod test_card;
+#[cfg(test)]
+mod trace;

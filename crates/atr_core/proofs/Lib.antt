@@ -1,0 +1,11 @@
+pub mod Compact
+pub mod Ends
+pub mod Groups
+pub mod OneReading
+pub mod Spelled
+pub mod Steps
+pub mod Turned
+pub mod Vectors
+pub mod Verdicts
+pub mod Whole
+pub mod Writing

@@ -1,0 +1,9 @@
+pub mod Answer
+pub mod Conventions
+pub mod FirstFault
+pub mod FaultText
+pub mod HistoricalBytes
+pub mod PpsBytes
+pub mod Reading
+pub mod Values
+pub mod Written

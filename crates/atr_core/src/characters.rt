@@ -1,0 +1,183 @@
+//! The characters of an answer to reset, read from the left, each where it is announced.
+
+ghost use Rattle.std.specs.Prelude.{◌≡◌, ◌≤◌, ◌<◌, drop, length, MatchResult};
+ghost use Rattle.atr_core.specs.Answer.{xor_of, may_follow, names_other_than_0};
+ghost use Rattle.atr_core.specs.FirstFault.{Plain, when, end_fault};
+ghost use Rattle.atr_core.specs.Reading.{IsAt, Fails, FailsBefore, FailsAtGroups, FailsAtHistorical, HasMaybe, HasGroup, HasGroups, HasHistorical, SaysFault, group_due};
+
+use crate::fault::{AtrFault, Reason};
+use crate::group::{Group, TypedGroup};
+use arrayvec::ArrayVec;
+
+/// How many characters an answer has at most, TS among them (ISO/IEC 7816-3, 8.2).
+pub(crate) const LONGEST: usize = 33;
+
+/// How many TDs an answer has at most: as many as characters behind T0.
+pub(crate) const MOST_GROUPS: usize = 31;
+
+/// The most historical bytes.
+pub(crate) const MOST_HISTORICAL: usize = 15;
+
+/// A character that is announced at this place.
+pub(crate) fn character(bytes: &[u8], place: usize) -> Result<u8, AtrFault>
+    requires inside { place ≤ length bytes.now }
+    requires within { place ≤ 33 }
+    ensures { MatchResult result (IsAt bytes.now place) (Fails bytes.now place) }
+{
+    if place == bytes.len() {
+        Err(AtrFault {
+            place,
+            reason: Reason::Cut,
+        })
+    } else if place == LONGEST {
+        Err(AtrFault {
+            place,
+            reason: Reason::TooLong,
+        })
+    } else {
+        Ok(bytes[place])
+    }
+}
+
+/// A character that may be announced at this place, where the bit says so, and where it ends.
+fn maybe(bytes: &[u8], place: usize, bit: u8) -> Result<(Option<u8>, usize), AtrFault>
+    requires inside { place ≤ length bytes.now }
+    requires within { place ≤ 33 }
+    requires bit { bit < 2 }
+    ensures { MatchResult result (λ read. HasMaybe bytes.now place bit read.0 read.1)
+        (FailsBefore bytes.now place (when bit Plain)) }
+{
+    if bit == 0 {
+        return Ok((None, place));
+    }
+    let byte = character(bytes, place)?;
+    Ok((Some(byte), place + 1))
+}
+
+/// TA, TB and TC that Y announces from this place on, and where they end.
+pub(crate) fn group(bytes: &[u8], place: usize, y: u8) -> Result<(Group, usize), AtrFault>
+    requires inside { place ≤ length bytes.now }
+    requires within { place ≤ 33 }
+    ensures { MatchResult result (λ read. HasGroup bytes.now place y read.0 read.1)
+        (FailsBefore bytes.now place (group_due y)) }
+{
+    let (ta, place) = maybe(bytes, place, y % 2)?;
+    let (tb, place) = maybe(bytes, place, y / 2 % 2)?;
+    let (tc, place) = maybe(bytes, place, y / 4 % 2)?;
+    Ok((Group { ta, tb, tc }, place))
+}
+
+/// The groups that TDs name, the first where Y announces one at this place, and where they end.
+pub(crate) fn typed_groups(
+    bytes: &[u8],
+    start: usize,
+    y: u8,
+) -> Result<(ArrayVec<TypedGroup, MOST_GROUPS>, usize), AtrFault>
+    requires behind { 2 ≤ start }
+    requires inside { start ≤ length bytes.now }
+    requires within { start ≤ 33 }
+    requires y { y < 16 }
+    ensures { MatchResult result (λ read. HasGroups bytes.now start y read.0.items read.1)
+        (FailsAtGroups bytes.now start y) }
+{
+    let mut others = ArrayVec::new();
+    let mut place = start;
+    let mut y = y;
+    let mut last = None;
+    'groups: while y >= 8 {
+        let td = character(bytes, place)?;
+        let t = td % 16;
+        if !may_follow(last, t) {
+            return Err(AtrFault {
+                place,
+                reason: Reason::OutOfOrder,
+            });
+        }
+        let (group, end) = group(bytes, place + 1, td / 16)?;
+        others.push(TypedGroup { t, group });
+        place = end;
+        y = td / 16;
+        last = Some(t);
+    }
+    Ok((others, place))
+}
+
+/// Whether a TD may name this T behind one that named `last`.
+pub(crate) fn may_follow(last: Option<u8>, t: u8) -> bool
+    ensures { result ≡ may_follow last t }
+{
+    match last {
+        None => t < 15,
+        Some(last) => last <= t,
+    }
+}
+
+/// So many historical bytes, and where they end.
+pub(crate) fn historical(
+    bytes: &[u8],
+    start: usize,
+    count: u8,
+) -> Result<(ArrayVec<u8, MOST_HISTORICAL>, usize), AtrFault>
+    requires inside { start ≤ length bytes.now }
+    requires within { start ≤ 33 }
+    requires few { count < 16 }
+    ensures { MatchResult result (λ read. HasHistorical bytes.now start count read.0.items read.1)
+        (FailsAtHistorical bytes.now start count) }
+{
+    let mut historical = ArrayVec::new();
+    let mut place = start;
+    for _ in 0..count {
+        let byte = character(bytes, place)?;
+        historical.push(byte);
+        place += 1;
+    }
+    Ok((historical, place))
+}
+
+/// Whether a T other than 0 is named, so that a check byte is due.
+pub(crate) fn names_other_than_0(others: &[TypedGroup]) -> bool
+    ensures { result ≡ names_other_than_0 others.now }
+{
+    others.iter().any(|named| named.t != 0)
+}
+
+/// The exclusive-or of all bytes.
+pub(crate) fn xor_of(bytes: &[u8]) -> u8
+    ensures { result ≡ xor_of bytes.now }
+{
+    let mut sum = 0;
+    for byte in bytes {
+        sum ^= *byte;
+    }
+    sum
+}
+
+/// Looks that the answer ends at this place, with a check byte where one is due.
+pub(crate) fn check_end(bytes: &[u8], place: usize, is_due: bool) -> Result<(), AtrFault>
+    requires inside { place ≤ length bytes.now }
+    requires behind { 1 ≤ place }
+    ensures { SaysFault result (end_fault bytes.now is_due place (drop place bytes.now)) }
+{
+    let behind = bytes.len() - place;
+    let reason = if !is_due {
+        match behind {
+            0 => return Ok(()),
+            1 => Reason::CheckNotDue,
+            _ => Reason::Surplus,
+        }
+    } else if behind == 0 {
+        Reason::CheckMissing
+    } else if place == LONGEST {
+        Reason::TooLong
+    } else if behind > 1 {
+        return Err(AtrFault {
+            place: place + 1,
+            reason: Reason::Surplus,
+        });
+    } else if bytes[place] == xor_of(&bytes[1..place]) {
+        return Ok(());
+    } else {
+        Reason::CheckWrong
+    };
+    Err(AtrFault { place, reason })
+}

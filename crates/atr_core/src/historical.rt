@@ -1,0 +1,117 @@
+//! What the historical bytes of an answer say.
+
+ghost use Rattle.std.specs.Prelude.{◌≡◌, ◌/◌, ◌%◌, ◌==◌, ◌&&◌};
+ghost use Rattle.atr_core.specs.HistoricalBytes.{category_of, compact_status, status_from, status_of};
+
+use crate::answer::Atr;
+
+/// The form of the historical bytes, by the first of them (ISO/IEC 7816-4, 12.1.1).
+#[derive(Clone, Copy, Debug, PartialEq, Eq)]
+pub enum Category {
+    /// There are none.
+    Absent,
+    /// `00`: objects in COMPACT-TLV, and behind them a status of three bytes.
+    StatusBehind,
+    /// `10`: the byte behind it refers to a record of EF.DIR.
+    DirReference,
+    /// `80`: objects in COMPACT-TLV, of which the last may be a status.
+    Objects,
+    /// `81` to `8F`, which are reserved.
+    Reserved,
+    /// Any other: the form is the maker's own.
+    Proprietary,
+}
+
+/// The status of a card as its historical bytes have it (ISO/IEC 7816-4, 12.1.1): its life cycle,
+/// and SW1 and SW2, or one of the two.
+#[derive(Clone, Copy, Debug, PartialEq, Eq)]
+pub struct CardStatus {
+    pub life_cycle: Option<u8>,
+    pub sw: Option<(u8, u8)>,
+}
+
+impl Atr {
+    /// The form of the historical bytes.
+    pub fn category(&self) -> Category
+        ensures { result ≡ category_of self.now.historical }
+    {
+        match self.historical() {
+            [] => Category::Absent,
+            [0x00, ..] => Category::StatusBehind,
+            [0x10, ..] => Category::DirReference,
+            [0x80, ..] => Category::Objects,
+            [0x81..=0x8F, ..] => Category::Reserved,
+            _ => Category::Proprietary,
+        }
+    }
+
+    /// The status in the historical bytes, where their category is `00` or `80` and it is there.
+    pub fn card_status(&self) -> Option<CardStatus>
+        ensures { result ≡ status_of self.now.historical }
+    {
+        status_of(self.historical())
+    }
+}
+
+/// The status in historical bytes.
+fn status_of(historical: &[u8]) -> Option<CardStatus>
+    ensures { result ≡ status_of historical.now }
+{
+    let [category, bytes @ ..] = historical else {
+        return None;
+    };
+    if *category == 0x80 {
+        return compact_status(bytes);
+    }
+    if *category != 0x00 || bytes.len() < 3 {
+        return None;
+    }
+    status_from(&bytes[bytes.len() - 3..])
+}
+
+/// The status that is the last of objects in COMPACT-TLV.
+fn compact_status(bytes: &[u8]) -> Option<CardStatus>
+    ensures { result ≡ compact_status 0 bytes.now }
+{
+    let mut place = 0;
+    'objects: while place < bytes.len() {
+        let head = bytes[place];
+        let behind = bytes.len() - place - 1;
+        if is_status(head, behind) {
+            return status_from(&bytes[place + 1..]);
+        }
+        if behind < usize::from(head % 16) {
+            return None;
+        }
+        place += 1 + usize::from(head % 16);
+    }
+    None
+}
+
+/// Whether an object in COMPACT-TLV with so many bytes behind its head is the last, and a status.
+fn is_status(head: u8, behind: usize) -> bool
+    ensures { result ≡ (head / 16 == 8 && behind == head % 16) }
+{
+    head / 16 == 8 && behind == usize::from(head % 16)
+}
+
+/// A status of one to three bytes.
+fn status_from(bytes: &[u8]) -> Option<CardStatus>
+    ensures { result ≡ status_from bytes.now }
+{
+    match bytes {
+        [life_cycle] => Some(CardStatus {
+            life_cycle: Some(*life_cycle),
+            sw: None,
+        }),
+        [sw1, sw2] => Some(CardStatus {
+            life_cycle: None,
+            sw: Some((*sw1, *sw2)),
+        }),
+        [life_cycle, sw1, sw2] => Some(CardStatus {
+            life_cycle: Some(*life_cycle),
+            sw: Some((*sw1, *sw2)),
+        }),
+        _ => None,
+    }
+}

@@ -1,0 +1,202 @@
+//! PPS: how a terminal asks for other values, and what a card may answer.
+
+ghost use Rattle.std.specs.Prelude.{◌≡◌, ◌↔◌, ◌<◌, ◌≤◌, ◌+◌, ◌++◌, [], ◌==◌, length, slice_index, Some, None, Ok, Err, IfOk, if◌then◌else◌};
+ghost use Rattle.atr_core.specs.Answer.{before, bit};
+ghost use Rattle.atr_core.specs.PpsBytes.{pps_characters, pps_end, pps_fault, answers, agreed, pps_rate_code};
+ghost use Rattle.atr_core.specs.declared.pps.Pps as spec;
+ghost use Rattle.atr_core.specs.declared.pps.PpsFault as fault;
+
+use crate::characters::xor_of;
+use arrayvec::ArrayVec;
+use std::fmt;
+
+/// How many characters a PPS request or response has at most.
+const LONGEST: usize = 6;
+
+/// What PPS1 says where it is not there: Fi 372 and Di 1.
+const DEFAULT_RATE: u8 = 0x11;
+
+/// A PPS request or response (ISO/IEC 7816-3, 9.2): the T of PPS0, 0 to 15, and PPS1 to PPS3, those
+/// that are there.
+#[derive(Clone, Copy, Debug, PartialEq, Eq)]
+pub struct Pps {
+    pub t: u8,
+    pub pps1: Option<u8>,
+    pub pps2: Option<u8>,
+    pub pps3: Option<u8>,
+}
+
+/// Why bytes are no PPS request or response. They are judged from the left, and PCK last.
+#[derive(Clone, Copy, Debug, PartialEq, Eq)]
+pub enum PpsFault {
+    /// The first byte is not `FF`.
+    NoPpss,
+    /// The bytes end before a character that is due.
+    Cut,
+    /// Bit 8 of PPS0 is 1, which is reserved.
+    Reserved,
+    /// Characters stand behind PCK.
+    Surplus,
+    /// PCK does not make the exclusive-or of all characters `00`.
+    CheckWrong,
+}
+
+impl fmt::Display for PpsFault {
+    ghost use Rattle.std.specs.Prelude.{Some};
+    ghost use Rattle.atr_core.specs.FaultText.{pps_text};
+
+    ghost output = { λ fault. Some (pps_text fault) };
+
+    fn fmt<W: fmt::Write>(&self, f: &mut fmt::Formatter<W>) -> fmt::Result {
+        f.write_str(match self {
+            PpsFault::NoPpss => "no PPSS",
+            PpsFault::Cut => "cut",
+            PpsFault::Reserved => "PPS0 reserved",
+            PpsFault::Surplus => "characters behind the end",
+            PpsFault::CheckWrong => "wrong check byte",
+        })
+    }
+}
+
+impl std::error::Error for PpsFault {}
+
+impl Pps {
+    /// The request or response that these bytes are, all of them.
+    pub fn read(bytes: &[u8]) -> Result<Pps, PpsFault>
+        ensures pps { IfOk result (λ p. (p.t < 16) × (bytes.now ≡ pps_characters p)) }
+        ensures each { (p : spec.Pps) → p.t < 16 → bytes.now ≡ pps_characters p → result ≡ Ok p }
+        ensures fault { (f : fault.PpsFault) →
+            (result ≡ Err f) ↔ (pps_fault bytes.now ≡ Some f) }
+    {
+        match pps_fault(bytes) {
+            Some(fault) => Err(fault),
+            None => Ok(parts(bytes)),
+        }
+    }
+
+    /// The bytes of the request or response.
+    pub fn write(&self) -> ArrayVec<u8, LONGEST>
+        requires { self.now.t < 16 }
+        ensures { result.items ≡ pps_characters self.now }
+    {
+        let mut out = ArrayVec::new();
+        out.push(0xFF);
+        out.push(self.t + 16 * bit(self.pps1) + 32 * bit(self.pps2) + 64 * bit(self.pps3));
+        push_maybe(&mut out, self.pps1);
+        push_maybe(&mut out, self.pps2);
+        push_maybe(&mut out, self.pps3);
+        let check = xor_of(&out);
+        out.push(check);
+        out
+    }
+
+    /// The code of Fi and Di that PPS1 says, as TA1 does; `11` where it is not there.
+    pub fn rate_code(&self) -> u8
+        ensures { result ≡ pps_rate_code self.now }
+    {
+        self.pps1.unwrap_or(DEFAULT_RATE)
+    }
+}
+
+/// Whether the response accepts the request (ISO/IEC 7816-3, 9.3): it names the same T, and each of
+/// PPS1 to PPS3 is as it was asked for or is not there, which accepts all but that one.
+pub fn agreed(request: &Pps, response: &Pps) -> bool
+    ensures { result ≡ agreed request.now response.now }
+{
+    request.t == response.t
+        && answers(request.pps1, response.pps1)
+        && answers(request.pps2, response.pps2)
+        && answers(request.pps3, response.pps3)
+}
+
+/// Whether a character of a response is as asked for, or is not there.
+fn answers(asked: Option<u8>, answered: Option<u8>) -> bool
+    ensures { result ≡ answers asked answered }
+{
+    match (asked, answered) {
+        (_, None) => true,
+        (Some(asked), Some(answered)) => asked == answered,
+        (None, Some(_)) => false,
+    }
+}
+
+/// 1 where the character is there.
+fn bit(byte: Option<u8>) -> u8
+    ensures { result ≡ bit byte }
+{
+    u8::from(byte.is_some())
+}
+
+/// Appends a character that may be there.
+fn push_maybe(out: &mut ArrayVec<u8, LONGEST>, byte: Option<u8>)
+    requires { length out.old.items + bit byte ≤ 6 }
+    ensures { out.new.items ≡ out.old.items ++ before byte [] }
+{
+    if let Some(byte) = byte {
+        out.push(byte);
+    }
+}
+
+/// What is wrong with the bytes, if anything is.
+fn pps_fault(bytes: &[u8]) -> Option<PpsFault>
+    ensures { result ≡ pps_fault bytes.now }
+{
+    if bytes.is_empty() {
+        return Some(PpsFault::Cut);
+    }
+    if bytes[0] != 0xFF {
+        return Some(PpsFault::NoPpss);
+    }
+    if bytes.len() == 1 {
+        return Some(PpsFault::Cut);
+    }
+    let pps0 = bytes[1];
+    if pps0 >= 128 {
+        return Some(PpsFault::Reserved);
+    }
+    let end = pps_end(pps0);
+    if bytes.len() <= end {
+        Some(PpsFault::Cut)
+    } else if bytes.len() > end + 1 {
+        Some(PpsFault::Surplus)
+    } else if bytes[end] == xor_of(&bytes[..end]) {
+        None
+    } else {
+        Some(PpsFault::CheckWrong)
+    }
+}
+
+/// The place of PCK, by PPS0.
+fn pps_end(pps0: u8) -> usize
+    ensures { result ≡ pps_end pps0 }
+{
+    2 + usize::from(pps0 / 16 % 2) + usize::from(pps0 / 32 % 2) + usize::from(pps0 / 64 % 2)
+}
+
+/// What the bytes say, where nothing is wrong with them.
+fn parts(bytes: &[u8]) -> Pps
+    requires { pps_fault bytes.now ≡ None }
+    ensures t { result.t < 16 }
+    ensures bytes { bytes.now ≡ pps_characters result }
+{
+    let pps0 = bytes[1];
+    let pps1 = taken(bytes, 2, pps0 / 16 % 2);
+    let second = 2 + usize::from(pps0 / 16 % 2);
+    let pps2 = taken(bytes, second, pps0 / 32 % 2);
+    let third = second + usize::from(pps0 / 32 % 2);
+    let pps3 = taken(bytes, third, pps0 / 64 % 2);
+    Pps {
+        t: pps0 % 16,
+        pps1,
+        pps2,
+        pps3,
+    }
+}
+
+/// The character at this place, where the bit is 1.
+fn taken(bytes: &[u8], place: usize, bit: u8) -> Option<u8>
+    requires { place < length bytes.now }
+    ensures { result ≡ (if bit == 1 then Some (slice_index bytes.now place) else None) }
+{
+    if bit == 1 { Some(bytes[place]) } else { None }
+}

@@ -1,0 +1,77 @@
+//! Says what answers to reset say: each line of standard input is one, in hexadecimal digits.
+#![tactic(auto)]
+
+mod say;
+
+use clap::error::ErrorKind;
+use clap::{Command, Error};
+use say::say;
+use std::alloc::Global;
+use std::io::{BufRead, BufReader, Write};
+use std::process::ExitCode;
+use std::{env, io};
+
+const VERSION: &str = "1.0";
+
+const ABOUT: &str = "Says what answers to reset say (ISO/IEC 7816-3), or what is wrong with them.";
+
+const INPUT: &str = "\
+Each line of standard input is an answer in hexadecimal digits, with or without
+spaces between its bytes. The exit status is 0 where all of them are answers, 1
+where one is not or the input can't be read, and 2 where the words are refused.";
+
+fn main(rt: HostRuntime) -> ExitCode {
+    let status = match parsed(&rt) {
+        Ok(()) => match all_said(&rt) {
+            Ok(true) => 0,
+            Ok(false) => 1,
+            Err(error) => {
+                let _ = io::writer(&rt.stderr()).writeln(&error);
+                1
+            }
+        },
+        Err(error) => answered(&rt, &error),
+    };
+    ExitCode::from(status)
+}
+
+/// Parses the words, which ask for nothing but help.
+fn parsed(rt: &HostRuntime) -> Result<(), Error> {
+    let alloc = rt.alloc();
+    let words: Vec<String> = match env::args(rt) {
+        Ok(words) => words.collect(alloc)?,
+        Err(_) => Vec::new(alloc),
+    };
+    Command::new(alloc, "atr_read")
+        .version(VERSION)
+        .about(ABOUT)
+        .after_help(INPUT)
+        .try_get_matches_from(words.as_slice())?;
+    Ok(())
+}
+
+/// The status for what the parser answered in place of matches.
+fn answered(rt: &HostRuntime, error: &Error) -> u8 {
+    match error.kind() {
+        ErrorKind::DisplayHelp | ErrorKind::DisplayVersion => {
+            u8::from(io::writer(rt).write_fmt(error).is_err())
+        }
+        _ => {
+            let _ = io::writer(&rt.stderr()).write_fmt(error);
+            2
+        }
+    }
+}
+
+/// Says each line of the input, and whether all of them are answers.
+fn all_said(rt: &HostRuntime) -> io::Result<bool> {
+    let mut output = io::writer(rt);
+    let mut well = true;
+    for line in BufReader::new(rt.alloc(), rt.reader())?.lines(rt.alloc()) {
+        let line = line?;
+        if !line.trim().is_empty() {
+            well &= say(rt.alloc(), line.as_str(), &mut output)?;
+        }
+    }
+    Ok(well)
+}

@@ -1,0 +1,139 @@
+//! What is said of one answer.
+
+use atr_core::{Atr, Classes, ClockStop, Convention, Group, Mode};
+use std::alloc::Global;
+use std::io;
+use std::io::Write;
+
+/// Says what the answer in this text says, and whether it is one.
+pub fn say<W: Write>(alloc: Global, text: &str, output: &mut W) -> io::Result<bool> {
+    let mut digits = String::new(alloc);
+    for word in text.split_ascii_whitespace() {
+        digits.push_str(word)?;
+    }
+    let Ok(bytes) = hex::decode(alloc, digits.as_str()) else {
+        writeln!(output, "{text}: bad hex")?;
+        return Ok(false);
+    };
+    match Atr::read(&bytes) {
+        Ok(answer) => {
+            writeln!(output, "{text}: an answer to reset")?;
+            say_groups(&answer, output)?;
+            say_values(&answer, output)?;
+            Ok(true)
+        }
+        Err(fault) => {
+            writeln!(output, "{text}: {fault}")?;
+            Ok(false)
+        }
+    }
+}
+
+/// The convention, the characters by their names, and the historical bytes.
+fn say_groups<W: Write>(answer: &Atr, output: &mut W) -> io::Result<()> {
+    let convention = match answer.convention() {
+        Convention::Direct => "direct",
+        Convention::Inverse => "inverse",
+    };
+    writeln!(output, "  convention    {convention}")?;
+    say_group(1, answer.first(), output)?;
+    let mut number = 1u32;
+    for named in answer.others() {
+        writeln!(output, "  TD{number}           T={}", named.t)?;
+        number = number.saturating_add(1);
+        say_group(number, named.group, output)?;
+    }
+    write!(output, "  historical    ")?;
+    if answer.historical().is_empty() {
+        write!(output, "none")?;
+    }
+    for byte in answer.historical() {
+        write!(output, "{byte:02X}")?;
+    }
+    writeln!(output)
+}
+
+/// TA, TB and TC with this number, those that are there.
+fn say_group<W: Write>(number: u32, group: Group, output: &mut W) -> io::Result<()> {
+    for (name, byte) in [("TA", group.ta), ("TB", group.tb), ("TC", group.tc)] {
+        if let Some(byte) = byte {
+            writeln!(output, "  {name}{number}           {byte:02X}")?;
+        }
+    }
+    Ok(())
+}
+
+/// What the interface bytes say.
+fn say_values<W: Write>(answer: &Atr, output: &mut W) -> io::Result<()> {
+    write!(output, "  protocols    ")?;
+    for t in &answer.protocols() {
+        write!(output, " T={t}")?;
+    }
+    writeln!(output)?;
+    match answer.fi() {
+        Ok(fi) => writeln!(
+            output,
+            "  Fi            {}, up to {} kHz",
+            fi.value, fi.max_khz
+        )?,
+        Err(rfu) => writeln!(output, "  Fi            {rfu}")?,
+    }
+    match answer.di() {
+        Ok(di) => writeln!(output, "  Di            {di}")?,
+        Err(rfu) => writeln!(output, "  Di            {rfu}")?,
+    }
+    for t in &answer.protocols() {
+        let guard = answer.guard_time(*t);
+        writeln!(
+            output,
+            "  guard time    T={t}: {} etu and {} Fi/Di cycles",
+            guard.etu, guard.indicated
+        )?;
+    }
+    match answer.waiting_time() {
+        Ok(cycles) => writeln!(output, "  waiting time  {cycles} cycles")?,
+        Err(rfu) => writeln!(output, "  waiting time  {rfu}")?,
+    }
+    say_mode(answer.mode(), output)?;
+    say_supply(answer, output)
+}
+
+fn say_mode<W: Write>(mode: Mode, output: &mut W) -> io::Result<()> {
+    match mode {
+        Mode::Negotiable => writeln!(output, "  mode          negotiable"),
+        Mode::Specific {
+            t,
+            can_change,
+            is_implicit,
+        } => {
+            let change = if can_change { "can" } else { "can't" };
+            let rate = if is_implicit { "implicit" } else { "of TA1" };
+            writeln!(
+                output,
+                "  mode          specific, T={t}, {change} change, Fi and Di {rate}"
+            )
+        }
+    }
+}
+
+fn say_supply<W: Write>(answer: &Atr, output: &mut W) -> io::Result<()> {
+    let stop = match answer.clock_stop() {
+        ClockStop::NotSupported => "not supported",
+        ClockStop::AtLow => "at low",
+        ClockStop::AtHigh => "at high",
+        ClockStop::AtEither => "at either level",
+    };
+    writeln!(output, "  clock stop    {stop}")?;
+    match answer.classes() {
+        Ok(Classes { a, b, c }) => {
+            write!(output, "  classes      ")?;
+            for (name, is_there) in [("A", a), ("B", b), ("C", c)] {
+                if is_there {
+                    write!(output, " {name}")?;
+                }
+            }
+            writeln!(output)
+        }
+        Err(rfu) => writeln!(output, "  classes       {rfu}"),
+    }
+}

@@ -1,79 +1,74 @@
-/* A reader for pcscd with a card of data objects in it.
+/* Readers for pcscd with a card of data objects in each.
  *
  * It is an IFD handler: pcscd loads it, as bindings/c/README.md says, and then shows a reader with
- * a card in it to every PC/SC client. The card's tables come from the file that the reader's
- * DEVICENAME names, of `app`, `object` and `locked` lines. What clients store lasts until pcscd
- * lets it go. */
+ * a card in it to every PC/SC client. A card's tables and its answer to reset come from the file
+ * that the reader's DEVICENAME names, of `app`, `object`, `locked` and `atr` lines. What clients
+ * store lasts until pcscd lets the reader go.
+ *
+ * A TPDU is carried out as a reader's firmware does: `61XX` and `6CXX` reach the client, which
+ * sends GET RESPONSE or asks again by itself. */
 #include "table.h"
 
 #include <ifdhandler.h>
 
 #include <string.h>
 
-/* An answer to reset of a card with T=0, and nothing else: the initial and the format character
- * (ISO/IEC 7816-3, 8.2). */
-static const UCHAR ANSWER_TO_RESET[] = { 0x3B, 0x00 };
-
 /* what a SCARD_IO_HEADER says of T=0 */
 #define PROTOCOL_T0 0
 
-/* one reader: pcscd loads the handler once for each that it is told of */
-static gt_card card;
-static int is_powered;
+/* as many readers as a pcscd has */
+#define READERS_LIMIT PCSCLITE_MAX_READERS_CONTEXTS
 
-/* Goes through one exchange. A character that the card doesn't take means that a client sent data
- * where the card has some to send: then the card is reset, and the exchange is given up. */
-static int32_t talk(gt_exchange *exchange)
+/* A reader, which pcscd calls by its number. It lets no two calls go on at once, of all readers of
+ * this handler, since TAG_IFD_THREAD_SAFE is not answered. */
+struct virtual_reader {
+    int is_used, is_powered;
+    DWORD lun;
+    struct table table;
+};
+
+static struct virtual_reader readers[READERS_LIMIT];
+
+/* The reader with this number, or NULL. */
+static struct virtual_reader *reader_of(DWORD lun)
 {
-    uint8_t byte;
-    int32_t code;
-    while ((code = gt_exchange_next(exchange, &byte)) != GT_DONE) {
-        if (code == GT_SENDS)
-            code = gt_card_take(&card, byte);
-        else if (code == GT_OK && (code = gt_card_turn(&card, &byte)) == GT_SENDS)
-            code = gt_exchange_take(exchange, byte);
-        else if (code == GT_OK)
-            code = GT_FAILED; /* both ends listen */
-        if (code != GT_OK) {
-            gt_card_reset(&card);
-            return code;
-        }
+    size_t i;
+    for (i = 0; i < READERS_LIMIT; i++) {
+        if (readers[i].is_used && readers[i].lun == lun)
+            return &readers[i];
     }
-    return GT_OK;
+    return NULL;
 }
 
-/* Carries out a command; the answer, data and status, goes to `out`. */
-static int32_t carry_out(const UCHAR *command, size_t n, UCHAR *out, size_t room, size_t *length)
+/* One that has no number yet, or NULL. */
+static struct virtual_reader *free_reader(void)
 {
-    gt_exchange exchange = GT_INIT;
-    uint16_t status;
-    int32_t code;
-    if (room < 2)
-        return GT_BUFFER;
-    code = gt_exchange_start(&exchange, command, n);
-    if (code == GT_OK)
-        code = talk(&exchange);
-    if (code == GT_OK)
-        code = gt_exchange_answer(&exchange, &status, out, room - 2, length);
-    if (code == GT_OK) {
-        out[(*length)++] = (UCHAR)(status >> 8);
-        out[(*length)++] = (UCHAR)status;
+    size_t i;
+    for (i = 0; i < READERS_LIMIT; i++) {
+        if (!readers[i].is_used)
+            return &readers[i];
     }
-    gt_exchange_free(&exchange);
-    return code;
+    return NULL;
 }
 
 RESPONSECODE IFDHCreateChannelByName(DWORD Lun, LPSTR DeviceName)
 {
-    FILE *file = fopen(DeviceName, "r");
-    int32_t code = GT_NOT_FOUND;
-    (void)Lun;
-    if (file != NULL) {
-        gt_card_free(&card);
-        code = table_read(file, &card);
-        fclose(file);
-    }
-    return code == GT_OK ? IFD_SUCCESS : IFD_COMMUNICATION_ERROR;
+    struct virtual_reader *reader = reader_of(Lun) == NULL ? free_reader() : NULL;
+    FILE *file;
+    int32_t code;
+    if (reader == NULL)
+        return IFD_COMMUNICATION_ERROR;
+    file = fopen(DeviceName, "r");
+    if (file == NULL)
+        return IFD_COMMUNICATION_ERROR;
+    code = table_read(file, &reader->table);
+    fclose(file);
+    if (code != GT_OK)
+        return IFD_COMMUNICATION_ERROR;
+    reader->is_used = 1;
+    reader->is_powered = 0;
+    reader->lun = Lun;
+    return IFD_SUCCESS;
 }
 
 /* The tables of a card need a name of a file. */
@@ -86,29 +81,45 @@ RESPONSECODE IFDHCreateChannel(DWORD Lun, DWORD Channel)
 
 RESPONSECODE IFDHCloseChannel(DWORD Lun)
 {
-    (void)Lun;
-    gt_card_free(&card);
-    is_powered = 0;
+    struct virtual_reader *reader = reader_of(Lun);
+    if (reader == NULL)
+        return IFD_NO_SUCH_DEVICE;
+    gt_card_free(&reader->table.card);
+    memset(reader, 0, sizeof *reader);
+    return IFD_SUCCESS;
+}
+
+/* The answer to reset, or no bytes where the card has no power. */
+static RESPONSECODE copy_atr(const struct virtual_reader *reader, DWORD room, PUCHAR value,
+                             PDWORD length)
+{
+    const DWORD n = reader->is_powered ? (DWORD)reader->table.atr_size : 0;
+    if (room < n)
+        return IFD_ERROR_INSUFFICIENT_BUFFER;
+    memcpy(value, reader->table.atr, n);
+    *length = n;
+    return IFD_SUCCESS;
+}
+
+static RESPONSECODE one_byte(UCHAR byte, PDWORD length, PUCHAR value)
+{
+    if (*length < 1)
+        return IFD_ERROR_INSUFFICIENT_BUFFER;
+    *length = 1;
+    *value = byte;
     return IFD_SUCCESS;
 }
 
 RESPONSECODE IFDHGetCapabilities(DWORD Lun, DWORD Tag, PDWORD Length, PUCHAR Value)
 {
-    (void)Lun;
+    const struct virtual_reader *reader = reader_of(Lun);
     switch (Tag) {
     case TAG_IFD_ATR:
-        if (*Length < sizeof ANSWER_TO_RESET)
-            return IFD_ERROR_INSUFFICIENT_BUFFER;
-        *Length = is_powered ? sizeof ANSWER_TO_RESET : 0;
-        memcpy(Value, ANSWER_TO_RESET, *Length);
-        return IFD_SUCCESS;
+        return reader != NULL ? copy_atr(reader, *Length, Value, Length) : IFD_NO_SUCH_DEVICE;
     case TAG_IFD_SLOTS_NUMBER:
+        return one_byte(1, Length, Value);
     case TAG_IFD_SIMULTANEOUS_ACCESS:
-        if (*Length < 1)
-            return IFD_ERROR_INSUFFICIENT_BUFFER;
-        *Length = 1;
-        *Value = 1;
-        return IFD_SUCCESS;
+        return one_byte(READERS_LIMIT, Length, Value);
     default:
         return IFD_ERROR_TAG;
     }
@@ -127,42 +138,49 @@ RESPONSECODE IFDHSetCapabilities(DWORD Lun, DWORD Tag, DWORD Length, PUCHAR Valu
 RESPONSECODE IFDHSetProtocolParameters(DWORD Lun, DWORD Protocol, UCHAR Flags, UCHAR PTS1,
                                        UCHAR PTS2, UCHAR PTS3)
 {
-    (void)Lun;
     (void)Flags;
     (void)PTS1;
     (void)PTS2;
     (void)PTS3;
+    if (reader_of(Lun) == NULL)
+        return IFD_NO_SUCH_DEVICE;
     return Protocol == SCARD_PROTOCOL_T0 ? IFD_SUCCESS : IFD_PROTOCOL_NOT_SUPPORTED;
 }
 
 RESPONSECODE IFDHPowerICC(DWORD Lun, DWORD Action, PUCHAR Atr, PDWORD AtrLength)
 {
-    (void)Lun;
+    struct virtual_reader *reader = reader_of(Lun);
+    if (reader == NULL)
+        return IFD_NO_SUCH_DEVICE;
     if (Action != IFD_POWER_UP && Action != IFD_RESET && Action != IFD_POWER_DOWN)
         return IFD_NOT_SUPPORTED;
-    if (gt_card_reset(&card) != GT_OK)
-        return IFD_COMMUNICATION_ERROR;
-    is_powered = Action != IFD_POWER_DOWN;
-    *AtrLength = is_powered ? sizeof ANSWER_TO_RESET : 0;
-    memcpy(Atr, ANSWER_TO_RESET, *AtrLength);
-    return IFD_SUCCESS;
+    if (gt_card_reset(&reader->table.card) != GT_OK)
+        return IFD_ERROR_POWER_ACTION;
+    reader->is_powered = Action != IFD_POWER_DOWN;
+    return copy_atr(reader, MAX_ATR_SIZE, Atr, AtrLength);
 }
 
 RESPONSECODE IFDHTransmitToICC(DWORD Lun, SCARD_IO_HEADER SendPci, PUCHAR TxBuffer, DWORD TxLength,
                                PUCHAR RxBuffer, PDWORD RxLength, PSCARD_IO_HEADER RecvPci)
 {
+    struct virtual_reader *reader = reader_of(Lun);
+    const size_t room = *RxLength;
     size_t length = 0;
     int32_t code;
-    (void)Lun;
-    if (SendPci.Protocol != PROTOCOL_T0 || !is_powered) {
-        *RxLength = 0;
-        return is_powered ? IFD_PROTOCOL_NOT_SUPPORTED : IFD_COMMUNICATION_ERROR;
-    }
-    code = carry_out(TxBuffer, TxLength, RxBuffer, *RxLength, &length);
-    *RxLength = code == GT_OK ? (DWORD)length : 0;
+    *RxLength = 0;
+    if (reader == NULL)
+        return IFD_NO_SUCH_DEVICE;
+    if (SendPci.Protocol != PROTOCOL_T0)
+        return IFD_PROTOCOL_NOT_SUPPORTED;
+    if (!reader->is_powered)
+        return IFD_COMMUNICATION_ERROR;
+    code = gt_card_tpdu(&reader->table.card, TxBuffer, TxLength, RxBuffer, room, &length);
+    if (code != GT_OK)
+        return IFD_COMMUNICATION_ERROR;
+    *RxLength = (DWORD)length;
     if (RecvPci != NULL)
         RecvPci->Protocol = PROTOCOL_T0;
-    return code == GT_OK ? IFD_SUCCESS : IFD_COMMUNICATION_ERROR;
+    return IFD_SUCCESS;
 }
 
 RESPONSECODE IFDHControl(DWORD Lun, DWORD dwControlCode, PUCHAR TxBuffer, DWORD TxLength,
@@ -180,6 +198,5 @@ RESPONSECODE IFDHControl(DWORD Lun, DWORD dwControlCode, PUCHAR TxBuffer, DWORD 
 
 RESPONSECODE IFDHICCPresence(DWORD Lun)
 {
-    (void)Lun;
-    return IFD_ICC_PRESENT;
+    return reader_of(Lun) != NULL ? IFD_ICC_PRESENT : IFD_NO_SUCH_DEVICE;
 }

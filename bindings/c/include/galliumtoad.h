@@ -31,9 +31,9 @@
  * A code is about the call, a status about the card: GT_OK with status 6982 is a call that went
  * well, and a value that is not stored. Look at both; the statuses are listed above "A session".
  *
- * Targets: 64 bits alone; the archive is built for x86-64-v2. Memory comes by malloc, realloc and
- * free, or by the caller's own three functions: galliumtoad_heap.h says which. Linking also asks
- * for memcpy, memmove and memset or the like.
+ * Targets: 64 bits alone; the archive is built for x86-64-v2. Memory comes by malloc and free, and
+ * is wiped before it is given back, or by the caller's own three functions: galliumtoad_heap.h says
+ * which, and what is then theirs. Linking also asks for memcpy, memmove and memset or the like.
  */
 #ifndef GALLIUMTOAD_H
 #define GALLIUMTOAD_H
@@ -97,7 +97,16 @@ enum {
     /* of a command */
     GT_TOO_SHORT = -50,     /* there are fewer than four bytes */
     GT_BAD_LENGTH = -51,    /* the bytes after the header fit none of the four cases */
-    GT_INVALID_INS = -52    /* INS is 6X or 9X */
+    GT_INVALID_INS = -52,   /* INS is 6X or 9X */
+
+    /* of whole TPDUs */
+    GT_NOT_DUE = -60,       /* no TPDU is about to begin */
+    GT_NO_STATUS = -61,     /* the answer does not end in a status word */
+    GT_NOT_ASKED = -62,     /* data came back, and the TPDU asks for none */
+    GT_TOO_MANY = -63,      /* more data came back than the TPDU asks for */
+    GT_NO_TPDU = -64,       /* the bytes are no whole TPDU */
+    GT_WANTS_DATA = -65,    /* the card takes data, and the TPDU has none: both ends would wait */
+    GT_SENDS_DATA = -66     /* the card sends data, and the TPDU asks for none */
 };
 
 /* What a code says, in a few words: a string that stays. Of a number that is no code: "unknown
@@ -136,6 +145,13 @@ static inline const char *gt_text(int32_t code) {
     case GT_TOO_SHORT: return "command too short";
     case GT_BAD_LENGTH: return "bad command length";
     case GT_INVALID_INS: return "invalid INS";
+    case GT_NOT_DUE: return "no TPDU due";
+    case GT_NO_STATUS: return "no status";
+    case GT_NOT_ASKED: return "data not asked for";
+    case GT_TOO_MANY: return "more data than asked for";
+    case GT_NO_TPDU: return "no whole TPDU";
+    case GT_WANTS_DATA: return "card takes data not given";
+    case GT_SENDS_DATA: return "card sends data not asked for";
     default: return "unknown code";
     }
 }
@@ -150,7 +166,9 @@ enum {
     GT_AID_LIMIT = 16,          /* and the most */
     GT_APPS_LIMIT = 8,          /* the most applications of a card */
     GT_ENTRIES_LIMIT = 64,      /* the most data objects of an application */
-    GT_LEVELS_LIMIT = 16        /* the deepest level of a list of objects */
+    GT_LEVELS_LIMIT = 16,       /* the deepest level of a list of objects */
+    GT_TPDU_LIMIT = 260,        /* the most bytes of a whole TPDU: header, P3 and 255 of data */
+    GT_ANSWER_LIMIT = 258       /* of the answer to one: 256 of data, and the status */
 };
 
 /* One object of a list. A tag is the number that its one to three bytes are: 0x50, 0x5F20,
@@ -176,6 +194,9 @@ typedef struct {
  * that are asked of the heap at once, without what the heap itself needs for each block:
  *
  *   an exchange   16,496, and the bytes of the command's data: at most 16,751
+ *   a terminal    144, and with an operation 16,384 more and the bytes that it sends as data, of an
+ *                 identifier, a value or a command. The last operation's are held until the next
+ *                 has begun
  *   a card        9,963 with one application and one object of 3 bytes, and 26,466 with an exchange
  *                 of SELECT or GET DATA with it; 4,240,592 with all that a card can hold
  *   a session     26,667 with that small card, for a select, a put of 3 bytes and a get; 116,584
@@ -183,6 +204,7 @@ typedef struct {
  *
  * What a freed handle held is given back, all of it. */
 typedef struct { bool live; void *held; } gt_exchange;
+typedef struct { bool live; void *held; } gt_terminal;
 typedef struct { bool live; void *held; } gt_card;
 typedef struct { bool live; void *held; } gt_session;
 
@@ -200,7 +222,24 @@ int32_t galliumtoad_exchange_next(gt_exchange *e, uint8_t *byte);
 int32_t galliumtoad_exchange_take(gt_exchange *e, uint8_t byte);
 int32_t galliumtoad_exchange_answer(const gt_exchange *e, uint16_t *status,
                                     uint8_t *data, size_t room, size_t *len);
+int32_t galliumtoad_exchange_tpdu(const gt_exchange *e, uint8_t *tpdu, size_t room, size_t *n,
+                                  size_t *most);
+int32_t galliumtoad_exchange_answered(gt_exchange *e, const uint8_t *answer, size_t n);
 void galliumtoad_exchange_free(gt_exchange *e);
+int32_t galliumtoad_terminal_new(gt_terminal *t);
+int32_t galliumtoad_terminal_reset(gt_terminal *t);
+int32_t galliumtoad_terminal_select(gt_terminal *t, const uint8_t *aid, size_t n);
+int32_t galliumtoad_terminal_get(gt_terminal *t, uint32_t tag);
+int32_t galliumtoad_terminal_put(gt_terminal *t, uint32_t tag, const uint8_t *value, size_t n);
+int32_t galliumtoad_terminal_send(gt_terminal *t, const uint8_t *command, size_t n);
+int32_t galliumtoad_terminal_next(gt_terminal *t, uint8_t *byte);
+int32_t galliumtoad_terminal_take(gt_terminal *t, uint8_t byte);
+int32_t galliumtoad_terminal_tpdu(const gt_terminal *t, uint8_t *tpdu, size_t room, size_t *n,
+                                  size_t *most);
+int32_t galliumtoad_terminal_answered(gt_terminal *t, const uint8_t *answer, size_t n);
+int32_t galliumtoad_terminal_answer(const gt_terminal *t, uint16_t *status,
+                                    uint8_t *data, size_t room, size_t *len);
+void galliumtoad_terminal_free(gt_terminal *t);
 int32_t galliumtoad_card_new(gt_card *c);
 int32_t galliumtoad_card_app(gt_card *c, const uint8_t *aid, size_t n);
 int32_t galliumtoad_card_object(gt_card *c, uint32_t tag, const uint8_t *value, size_t n,
@@ -209,6 +248,8 @@ int32_t galliumtoad_card_finish(gt_card *c);
 int32_t galliumtoad_card_take(gt_card *c, uint8_t byte);
 int32_t galliumtoad_card_turn(gt_card *c, uint8_t *byte);
 int32_t galliumtoad_card_reset(gt_card *c);
+int32_t galliumtoad_card_tpdu(gt_card *c, const uint8_t *tpdu, size_t n, uint8_t *answer,
+                              size_t room, size_t *len);
 int32_t galliumtoad_card_plan(gt_card *c, const uint8_t *steps, size_t n, uint16_t cut);
 int32_t galliumtoad_card_selected(const gt_card *c, uint8_t *aid, size_t room, size_t *n);
 int32_t galliumtoad_card_app_at(const gt_card *c, size_t app, uint8_t *aid, size_t room, size_t *n);
@@ -350,10 +391,136 @@ static inline int32_t gt_exchange_answer(const gt_exchange *e, uint16_t *status,
     return galliumtoad_exchange_answer(e, status, data ? data : &none, room, len);
 }
 
+/* The next two are for a reader that carries whole TPDUs, as PC/SC does (SCardTransmit at T=0). Its
+ * bytes are the header alone, where no data move; the header and P3, where at most P3 bytes come
+ * back (00: 256); or the header, P3 from 01 on, and so many bytes of data. Its answer is data, and
+ * then SW1 SW2.
+ *
+ * The TPDU that is due, where none of its characters has gone: its bytes stand at the front of
+ * `tpdu`, `n` gets how many they are, 4 to 260, and `most` how many bytes of data may come back,
+ * 0 to 256. Asked again it says the same.
+ *
+ * GT_OK. GT_NOT_DUE: a character of the TPDU has gone, or the exchange is over or has failed. */
+static inline int32_t gt_exchange_tpdu(const gt_exchange *e, uint8_t tpdu[GT_TPDU_LIMIT],
+                                       size_t *n, size_t *most) {
+    if (!e || !tpdu || !n || !most) return GT_NULL;
+    return galliumtoad_exchange_tpdu(e, tpdu, GT_TPDU_LIMIT, n, most);
+}
+
+/* Takes the answer to that TPDU, which goes on then as after the characters of any TPDU that brings
+ * these data and this status: another one is due, or the exchange is over.
+ *
+ * GT_OK. GT_NO_STATUS: the last two bytes are no status word (6X but 60, or 9X, and any byte).
+ * GT_NOT_DUE: see `gt_exchange_tpdu`. GT_NOT_ASKED, GT_TOO_MANY: more data came back than may.
+ * GT_TOO_LONG, GT_STALLED: the exchange has failed for good. */
+static inline int32_t gt_exchange_answered(gt_exchange *e, const uint8_t *answer, size_t n) {
+    if (!e || (!answer && n)) return GT_NULL;
+    return galliumtoad_exchange_answered(e, gt_bytes_(answer), n);
+}
+
 /* Gives the memory back, at any time; the handle holds nothing then, and may be used again. Of one
  * that holds nothing, or NULL, it is harmless. */
 static inline void gt_exchange_free(gt_exchange *e) {
     if (e) galliumtoad_exchange_free(e);
+}
+
+/* ---- A terminal, for the objects of a card over any line -------------------------------------
+ *
+ * An operation is several commands and many TPDUs: a terminal sends them one after another, and the
+ * caller carries its characters, or its whole TPDUs, to a card and back. `gt_terminal_select`,
+ * `_get`, `_put` and `_send` begin one; `gt_terminal_next` says when it is over, and
+ * `gt_terminal_answer` tells its answer, the status and the data of its last command. */
+
+/* A terminal that has begun no operation, in a handle that holds nothing.
+ *
+ * GT_OK. GT_STATE: the handle holds one. GT_MEMORY. Never GT_EMPTY. */
+static inline int32_t gt_terminal_new(gt_terminal *t) {
+    if (!t) return GT_NULL;
+    return galliumtoad_terminal_new(t);
+}
+
+/* Drops the operation that has begun, if any, wherever it is. The card is told nothing of it: reset
+ * that, too. GT_OK. */
+static inline int32_t gt_terminal_reset(gt_terminal *t) {
+    if (!t) return GT_NULL;
+    return galliumtoad_terminal_reset(t);
+}
+
+/* Begins the selection of an application by its identifier. All memory that the operation needs is
+ * taken here.
+ *
+ * GT_OK: it has begun, and sends first. After a fault nothing has changed: GT_STATE: an operation
+ * is under way. GT_ARGUMENT: the identifier has not 5 to 16 bytes. GT_MEMORY. */
+static inline int32_t gt_terminal_select(gt_terminal *t, const uint8_t *aid, size_t n) {
+    if (!t || (!aid && n)) return GT_NULL;
+    return galliumtoad_terminal_select(t, gt_bytes_(aid), n);
+}
+
+/* Begins the reading of a data object. Faults as above, with GT_ARGUMENT where GET DATA can't name
+ * the tag (see `gt_card_object`). */
+static inline int32_t gt_terminal_get(gt_terminal *t, uint32_t tag) {
+    if (!t) return GT_NULL;
+    return galliumtoad_terminal_get(t, tag);
+}
+
+/* Begins the storing of a value, which is copied and sent in pieces of up to 255 bytes, up to the
+ * first that is answered with another status than 9000. Faults as above, with GT_ARGUMENT where PUT
+ * DATA can't name the tag. */
+static inline int32_t gt_terminal_put(gt_terminal *t, uint32_t tag, const uint8_t *value,
+                                      size_t n) {
+    if (!t || (!value && n)) return GT_NULL;
+    return galliumtoad_terminal_put(t, tag, gt_bytes_(value), n);
+}
+
+/* Begins the exchange of any one command (as `gt_exchange_start` takes it), which is copied.
+ *
+ * GT_OK. After a fault nothing has changed: GT_STATE: an operation is under way. GT_TOO_SHORT,
+ * GT_BAD_LENGTH, GT_INVALID_INS: the bytes are no command. GT_MEMORY. */
+static inline int32_t gt_terminal_send(gt_terminal *t, const uint8_t *command, size_t n) {
+    if (!t || (!command && n)) return GT_NULL;
+    return galliumtoad_terminal_send(t, gt_bytes_(command), n);
+}
+
+/* What the terminal does now, as `gt_exchange_next` of its operation. GT_STATE: none has begun. */
+static inline int32_t gt_terminal_next(gt_terminal *t, uint8_t *byte) {
+    if (!t || !byte) return GT_NULL;
+    return galliumtoad_terminal_next(t, byte);
+}
+
+/* Takes a character of the card, as `gt_exchange_take`: GT_BAD_PROCEDURE, GT_TOO_LONG and
+ * GT_STALLED end the operation. GT_AFTER_END: it is over or has failed, or none has begun. */
+static inline int32_t gt_terminal_take(gt_terminal *t, uint8_t byte) {
+    if (!t) return GT_NULL;
+    return galliumtoad_terminal_take(t, byte);
+}
+
+/* The whole TPDU that is due, as `gt_exchange_tpdu`. GT_NOT_DUE: also where no operation has
+ * begun. */
+static inline int32_t gt_terminal_tpdu(const gt_terminal *t, uint8_t tpdu[GT_TPDU_LIMIT],
+                                       size_t *n, size_t *most) {
+    if (!t || !tpdu || !n || !most) return GT_NULL;
+    return galliumtoad_terminal_tpdu(t, tpdu, GT_TPDU_LIMIT, n, most);
+}
+
+/* Takes the answer to that TPDU, as `gt_exchange_answered`. */
+static inline int32_t gt_terminal_answered(gt_terminal *t, const uint8_t *answer, size_t n) {
+    if (!t || (!answer && n)) return GT_NULL;
+    return galliumtoad_terminal_answered(t, gt_bytes_(answer), n);
+}
+
+/* The answer of an operation that is over, as `gt_exchange_answer`. It can be asked for again until
+ * the next operation begins, or a reset. GT_STATE: there is none. */
+static inline int32_t gt_terminal_answer(const gt_terminal *t, uint16_t *status,
+                                         uint8_t *data, size_t room, size_t *len) {
+    uint8_t none = 0;
+    if (!t || !status || (!data && room) || !len) return GT_NULL;
+    return galliumtoad_terminal_answer(t, status, data ? data : &none, room, len);
+}
+
+/* Gives the memory back, at any time; the handle holds nothing then, and may be used again. Of one
+ * that holds nothing, or NULL, it is harmless. */
+static inline void gt_terminal_free(gt_terminal *t) {
+    if (t) galliumtoad_terminal_free(t);
 }
 
 /* ---- A card (ISO/IEC 7816-4; this project's profile) -----------------------------------------
@@ -433,6 +600,23 @@ static inline int32_t gt_card_turn(gt_card *c, uint8_t *byte) {
 static inline int32_t gt_card_reset(gt_card *c) {
     if (!c) return GT_NULL;
     return galliumtoad_card_reset(c);
+}
+
+/* Carries out a whole TPDU (`gt_exchange_tpdu` says which bytes are one), as the firmware of a
+ * reader does, under the next of the card's plans. `answer` gets the data from the card, and then
+ * SW1 SW2; `len` how many bytes these are, 2 to GT_ANSWER_LIMIT. At most 256 bytes of memory are
+ * taken for the time of the call.
+ *
+ * GT_OK: it was carried out, whatever its status. GT_STATE: the card is not finished yet, or
+ * characters of a TPDU have gone. GT_NO_TPDU. GT_BUFFER: `room` is less than 2. GT_MEMORY.
+ * GT_WANTS_DATA, GT_SENDS_DATA, GT_TOO_LONG (here: the card sends more data than `room` has place
+ * for before the status): neither end would go on, so the card was reset; the plan is taken, and
+ * `answer` and `len` are as they were. */
+static inline int32_t gt_card_tpdu(gt_card *c, const uint8_t *tpdu, size_t n,
+                                   uint8_t *answer, size_t room, size_t *len) {
+    uint8_t none = 0;
+    if (!c || (!tpdu && n) || (!answer && room) || !len) return GT_NULL;
+    return galliumtoad_card_tpdu(c, gt_bytes_(tpdu), n, answer ? answer : &none, room, len);
 }
 
 /* How the card answers a TPDU to come: each call is for one more of them, in turn. `steps` is a

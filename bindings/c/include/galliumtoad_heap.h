@@ -1,12 +1,20 @@
 /* galliumtoad_heap.h: the three functions by which the library takes memory. libgalliumtoad.a has a
- * set of them over malloc, realloc and free; a program that defines all three is linked with its
- * own.
+ * set of them over malloc and free; a program that defines all three is linked with its own.
  *
  * - gt_taken has `some` false and any `at` but NULL where memory is wanting.
  * - A block is aligned to `align`, a power of two up to 16, and has `size` bytes, at least one.
- * - rattle_realloc keeps the first bytes, as many as both sizes have; where memory is wanting the
- *   old block stays as it is.
+ * - rattle_realloc makes a block one of `size` bytes, more or fewer than it has; it may move.
+ *   `kept` is not how many it has, but how many at its front are in use, as many as it has and
+ *   `size` at most: these go along, and no others need to. Where memory is wanting the block stays
+ *   as it is.
  * - None of them is called from within another, and none may call the library.
+ * - They are called by whatever threads call the library. Where several use handles at once, the
+ *   three have to be safe in several threads at once, as malloc and free are.
+ * - Blocks hold values of data objects, commands and answers. Those that the archive has wipe each
+ *   block before they give it back to free, so that none of this stays in memory that is free. The
+ *   library itself wipes nothing: with three functions of your own that is theirs to do, for all
+ *   bytes of a block, also of one that rattle_realloc moves or makes shorter. What has stood on the
+ *   stack or in registers is not wiped.
  */
 #ifndef GALLIUMTOAD_HEAP_H
 #define GALLIUMTOAD_HEAP_H
@@ -24,7 +32,7 @@ typedef struct {
 } gt_taken;
 
 gt_taken rattle_alloc(size_t size, size_t align);
-gt_taken rattle_realloc(void *block, size_t old_size, size_t size, size_t align);
+gt_taken rattle_realloc(void *block, size_t kept, size_t size, size_t align);
 void rattle_dealloc(void *block);
 
 #ifdef __cplusplus

@@ -1,5 +1,5 @@
 /* The library's memory from a static array: first fit over a list of blocks in order of place, with
- * free neighbours joined when a block is given back. */
+ * free neighbours joined when a block is given back. What a block held is wiped then. */
 #include "arena.h"
 #include "galliumtoad_heap.h"
 
@@ -26,6 +26,9 @@ static union {
     unsigned char bytes[GT_ARENA_SIZE];
     long double alignment;
 } arena;
+
+/* A compiler has to read which function this is, so it can't leave the call out. */
+static void *(*const volatile wipe)(void *, int, size_t) = memset;
 
 static struct block *first;
 static size_t used_now, used_most;
@@ -97,11 +100,11 @@ gt_taken rattle_alloc(size_t size, size_t align)
     return take(size != 0 ? size : align);
 }
 
-gt_taken rattle_realloc(void *block, size_t old_size, size_t size, size_t align)
+gt_taken rattle_realloc(void *block, size_t kept, size_t size, size_t align)
 {
     gt_taken moved = take(size != 0 ? size : align);
     if (moved.some) {
-        memcpy(moved.at, block, old_size < size ? old_size : size);
+        memcpy(moved.at, block, kept < size ? kept : size);
         rattle_dealloc(block);
     }
     return moved;
@@ -110,6 +113,7 @@ gt_taken rattle_realloc(void *block, size_t old_size, size_t size, size_t align)
 void rattle_dealloc(void *at)
 {
     struct block *block = (struct block *)(void *)((unsigned char *)at - HEAD);
+    wipe(at, 0, block->size);
     block->used = false;
     used_now -= block->size + HEAD;
     for (block = first; block != NULL; block = block->next) {

@@ -1,6 +1,9 @@
+//! A card of data objects at the line, and how it is built.
+
 use crate::error::{told, Error};
 use crate::exchange::Turn;
 use crate::raw::{self, Handle};
+use crate::tables::Tables;
 
 /// The most bytes that a value has on a card.
 pub const VALUE_LIMIT: usize = 8_192;
@@ -65,30 +68,30 @@ pub struct CardBuilder(Owned);
 #[derive(Debug)]
 pub struct Card(pub(crate) Owned);
 
-/// A handle that is freed once. It is neither `Send` nor `Sync`, as its pointer is not.
+/// The handle of a card, which is freed once.
 #[derive(Debug)]
 pub(crate) struct Owned(pub(crate) Handle);
 
 impl Drop for Owned {
     fn drop(&mut self) {
-        // SAFETY: the handle is not used again.
-        unsafe { raw::galliumtoad_card_free(&mut self.0) }
+        // SAFETY: a card's handle, which is not used again.
+        unsafe { raw::galliumtoad_card_free(self.0.at()) }
     }
 }
 
 impl CardBuilder {
     /// A card without applications.
     pub fn new() -> Result<CardBuilder, Error> {
-        let mut builder = CardBuilder(Owned(Handle::EMPTY));
-        // SAFETY: the handle holds nothing.
-        told(unsafe { raw::galliumtoad_card_new(&mut builder.0 .0) })?;
+        let builder = CardBuilder(Owned(Handle::empty()));
+        // SAFETY: a handle that holds nothing.
+        told(unsafe { raw::galliumtoad_card_new(builder.0 .0.at()) })?;
         Ok(builder)
     }
 
     /// One more application, with an identifier of 5 to 16 bytes. A refusal changes nothing.
     pub fn app(&mut self, aid: &[u8]) -> Result<(), Error> {
-        // SAFETY: the handle is one of this crate, and the slice has its length.
-        told(unsafe { raw::galliumtoad_card_app(&mut self.0 .0, aid.as_ptr(), aid.len()) })
+        // SAFETY: a card's handle; a slice with its length.
+        told(unsafe { raw::galliumtoad_card_app(self.0 .0.at(), aid.as_ptr(), aid.len()) })
             .map(|_| ())
     }
 
@@ -104,18 +107,18 @@ impl CardBuilder {
     }
 
     fn add(&mut self, tag: u32, value: &[u8], locked: bool) -> Result<(), Error> {
-        // SAFETY: as above.
+        // SAFETY: a card's handle; a slice with its length.
         told(unsafe {
-            raw::galliumtoad_card_object(&mut self.0 .0, tag, value.as_ptr(), value.len(), locked)
+            raw::galliumtoad_card_object(self.0 .0.at(), tag, value.as_ptr(), value.len(), locked)
         })
         .map(|_| ())
     }
 
     /// The card: nothing is selected, and it listens. Where memory is wanting the builder is
     /// dropped.
-    pub fn finish(mut self) -> Result<Card, Error> {
-        // SAFETY: as above.
-        told(unsafe { raw::galliumtoad_card_finish(&mut self.0 .0) })?;
+    pub fn finish(self) -> Result<Card, Error> {
+        // SAFETY: a card's handle.
+        told(unsafe { raw::galliumtoad_card_finish(self.0 .0.at()) })?;
         Ok(Card(self.0))
     }
 }
@@ -124,17 +127,17 @@ impl Card {
     /// Takes a character of the terminal. [`Error::NotListening`]: the card has characters to send,
     /// and nothing changes.
     pub fn take(&mut self, byte: u8) -> Result<(), Error> {
-        // SAFETY: the handle is one of this crate, used by this thread alone.
-        told(unsafe { raw::galliumtoad_card_take(&mut self.0 .0, byte) }).map(|_| ())
+        // SAFETY: a card's handle.
+        told(unsafe { raw::galliumtoad_card_take(self.0 .0.at(), byte) }).map(|_| ())
     }
 
     /// What the card does now: it hands out a character, or listens. A put is stored when the
     /// second status byte has been handed out, not before.
     pub fn turn(&mut self) -> Result<Turn, Error> {
         let mut byte = 0;
-        // SAFETY: as above.
+        // SAFETY: a card's handle; `byte` is apart from it.
         Ok(
-            match told(unsafe { raw::galliumtoad_card_turn(&mut self.0 .0, &mut byte) })? {
+            match told(unsafe { raw::galliumtoad_card_turn(self.0 .0.at(), &mut byte) })? {
                 raw::SENDS => Turn::Sends(byte),
                 _ => Turn::Listens,
             },
@@ -143,8 +146,8 @@ impl Card {
 
     /// Resets the card: nothing is selected or pending, and its objects stay.
     pub fn reset(&mut self) -> Result<(), Error> {
-        // SAFETY: as above.
-        told(unsafe { raw::galliumtoad_card_reset(&mut self.0 .0) }).map(|_| ())
+        // SAFETY: a card's handle.
+        told(unsafe { raw::galliumtoad_card_reset(self.0 .0.at()) }).map(|_| ())
     }
 
     /// How the card answers one of the TPDUs to come, in turn. `steps` are letters, in any order
@@ -156,61 +159,25 @@ impl Card {
     ///
     /// [`Error::Argument`]: another letter, or another cut. [`Error::Memory`].
     pub fn plan(&mut self, steps: &str, cut: u16) -> Result<(), Error> {
-        // SAFETY: the slice has its length.
+        // SAFETY: a card's handle; a slice with its length.
         told(unsafe {
-            raw::galliumtoad_card_plan(&mut self.0 .0, steps.as_ptr(), steps.len(), cut)
+            raw::galliumtoad_card_plan(self.0 .0.at(), steps.as_ptr(), steps.len(), cut)
         })
         .map(|_| ())
     }
 
     /// The identifier of the application that is selected.
     pub fn selected(&self) -> Option<Vec<u8>> {
-        let (mut aid, mut n) = ([0; AID_LIMIT], 0);
-        // SAFETY: the handle is as it was when this returns; there is room for any identifier.
-        let code = unsafe {
-            raw::galliumtoad_card_selected(&self.0 .0, aid.as_mut_ptr(), aid.len(), &mut n)
-        };
-        (code == raw::OK).then(|| aid[..n].to_vec())
+        Tables::of_card(&self.0 .0).selected()
     }
 
     /// The identifiers of the applications, in order.
     pub fn apps(&self) -> impl Iterator<Item = Vec<u8>> + '_ {
-        (0..).map_while(|app| {
-            let (mut aid, mut n) = ([0; AID_LIMIT], 0);
-            // SAFETY: as above.
-            let code = unsafe {
-                raw::galliumtoad_card_app_at(&self.0 .0, app, aid.as_mut_ptr(), aid.len(), &mut n)
-            };
-            (code == raw::OK).then(|| aid[..n].to_vec())
-        })
+        Tables::of_card(&self.0 .0).apps()
     }
 
     /// The data objects of an application, which is counted from 0, in order of first storing.
     pub fn entries(&self, app: usize) -> impl Iterator<Item = Entry> + '_ {
-        (0..).map_while(move |entry| self.entry(app, entry))
-    }
-
-    fn entry(&self, app: usize, entry: usize) -> Option<Entry> {
-        let (mut tag, mut locked, mut n) = (0, 0, 0);
-        let mut value = vec![0; VALUE_LIMIT];
-        // SAFETY: as above; there is room for any value.
-        let code = unsafe {
-            raw::galliumtoad_card_entry_at(
-                &self.0 .0,
-                app,
-                entry,
-                &mut tag,
-                &mut locked,
-                value.as_mut_ptr(),
-                value.len(),
-                &mut n,
-            )
-        };
-        value.truncate(n);
-        (code == raw::OK).then_some(Entry {
-            tag,
-            value,
-            is_locked: locked != 0,
-        })
+        Tables::of_card(&self.0 .0).entries(app)
     }
 }

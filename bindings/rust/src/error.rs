@@ -1,3 +1,5 @@
+//! Why a call was refused.
+
 use std::error;
 use std::fmt;
 
@@ -45,12 +47,26 @@ pub enum Error {
     BadLength,
     /// INS is `6X` or `9X`.
     InvalidIns,
+    /// No whole TPDU is about to begin.
+    NotDue,
+    /// The answer to a whole TPDU does not end in a status word.
+    NoStatus,
+    /// Data came back, and the TPDU asks for none.
+    NotAsked,
+    /// More data came back than the TPDU asks for.
+    TooMany,
+    /// The bytes are no whole TPDU.
+    NoTpdu,
+    /// The card takes data, and the TPDU has none: both ends would wait.
+    WantsData,
+    /// The card sends data, and the TPDU asks for none.
+    SendsData,
     /// A number that this crate does not know: the archive is of another version.
     Unknown(i32),
 }
 
 /// Each fault with its number and its text.
-const FAULTS: [(Error, i32, &str); 20] = [
+const FAULTS: [(Error, i32, &str); 27] = [
     (Error::State, -3, "not in this state"),
     (Error::Memory, -4, "out of memory"),
     (Error::Argument, -5, "bad argument"),
@@ -71,6 +87,13 @@ const FAULTS: [(Error, i32, &str); 20] = [
     (Error::TooShort, -50, "command too short"),
     (Error::BadLength, -51, "bad command length"),
     (Error::InvalidIns, -52, "invalid INS"),
+    (Error::NotDue, -60, "no TPDU due"),
+    (Error::NoStatus, -61, "no status"),
+    (Error::NotAsked, -62, "data not asked for"),
+    (Error::TooMany, -63, "more data than asked for"),
+    (Error::NoTpdu, -64, "no whole TPDU"),
+    (Error::WantsData, -65, "card takes data not given"),
+    (Error::SendsData, -66, "card sends data not asked for"),
 ];
 
 impl Error {

@@ -1,3 +1,5 @@
+//! A terminal's exchange of one command.
+
 use crate::error::{told, Error};
 use crate::raw::{self, Handle};
 
@@ -64,15 +66,15 @@ pub struct Answer {
 /// ever, as with `00 A4 04 00 05`: this and the card's turn are [`Turn::Listens`]. Drop the
 /// exchange then, and reset the card.
 #[derive(Debug)]
-pub struct Exchange(Handle);
+pub struct Exchange(pub(crate) Handle);
 
 impl Exchange {
     /// The exchange of a command (ISO/IEC 7816-4, 5.1, short lengths). The bytes are copied.
     pub fn start(command: &[u8]) -> Result<Exchange, Error> {
-        let mut exchange = Exchange(Handle::EMPTY);
-        // SAFETY: the handle holds nothing, and the slice has its length.
+        let exchange = Exchange(Handle::empty());
+        // SAFETY: a handle that holds nothing; a slice with its length.
         told(unsafe {
-            raw::galliumtoad_exchange_start(&mut exchange.0, command.as_ptr(), command.len())
+            raw::galliumtoad_exchange_start(exchange.0.at(), command.as_ptr(), command.len())
         })?;
         Ok(exchange)
     }
@@ -85,8 +87,8 @@ impl Exchange {
     #[allow(clippy::should_implement_trait)]
     pub fn next(&mut self) -> Result<Turn, Error> {
         let mut byte = 0;
-        // SAFETY: the handle is one of this crate, used by this thread alone.
-        let code = unsafe { raw::galliumtoad_exchange_next(&mut self.0, &mut byte) };
+        // SAFETY: an exchange's handle; `byte` is apart from it.
+        let code = unsafe { raw::galliumtoad_exchange_next(self.0.at(), &mut byte) };
         Ok(match told(code)? {
             raw::SENDS => Turn::Sends(byte),
             raw::DONE => Turn::Done,
@@ -102,18 +104,19 @@ impl Exchange {
     /// exchange has failed for good. [`Error::NotListening`]: it has characters to send, and
     /// [`Error::AfterEnd`]: it is over, or has failed; these change nothing.
     pub fn take(&mut self, byte: u8) -> Result<(), Error> {
-        // SAFETY: as above.
-        told(unsafe { raw::galliumtoad_exchange_take(&mut self.0, byte) }).map(|_| ())
+        // SAFETY: an exchange's handle.
+        told(unsafe { raw::galliumtoad_exchange_take(self.0.at(), byte) }).map(|_| ())
     }
 
     /// The answer, where the exchange is done.
     pub fn answer(&self) -> Option<Answer> {
         let (mut status, mut n) = (0, 0);
         let mut data = vec![0; RESPONSE_LIMIT];
-        // SAFETY: the handle is as it was when this returns; there is room for as much as is said.
+        // SAFETY: an exchange's handle, which a call by `&` may write to (`Handle`); `status`,
+        // `data` with its length, and `n` are apart from it and from one another.
         let code = unsafe {
             raw::galliumtoad_exchange_answer(
-                &self.0,
+                self.0.at(),
                 &mut status,
                 data.as_mut_ptr(),
                 data.len(),
@@ -129,7 +132,7 @@ impl Exchange {
 
 impl Drop for Exchange {
     fn drop(&mut self) {
-        // SAFETY: the handle is not used again.
-        unsafe { raw::galliumtoad_exchange_free(&mut self.0) }
+        // SAFETY: an exchange's handle, which is not used again.
+        unsafe { raw::galliumtoad_exchange_free(self.0.at()) }
     }
 }

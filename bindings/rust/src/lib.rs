@@ -4,7 +4,9 @@
 //! [`Objects`] lists the data objects of a list of bytes, and [`find`] gives the one at a path of
 //! tags. An [`Exchange`] is the terminal's end of one command, and a [`Card`] holds data objects
 //! and answers a terminal, character by character. Neither end knows of a real line: characters
-//! are handed in and out. A [`Session`] joins both, and carries out whole operations.
+//! are handed in and out. A [`Session`] joins both, and carries out whole operations. A
+//! [`Terminal`] carries them out with a card behind any line, as that of a PC/SC reader
+//! ([`Transport`]).
 //!
 //! Values of this crate stay on the thread that made them.
 
@@ -14,6 +16,10 @@ mod exchange;
 mod objects;
 mod raw;
 mod session;
+mod tables;
+mod terminal;
+mod transport;
+mod whole;
 
 pub use card::{Card, CardBuilder, Entry};
 pub use card::{AID_LEAST, AID_LIMIT, APPS_LIMIT, ENTRIES_LIMIT, OBJECT_LIMIT, VALUE_LIMIT};
@@ -21,3 +27,6 @@ pub use error::Error;
 pub use exchange::{Answer, Exchange, Turn, RESPONSE_LIMIT};
 pub use objects::{find, head, FindError, Object, Objects, ObjectsError, Reason, LEVELS_LIMIT};
 pub use session::{End, Session};
+pub use terminal::{Operation, Terminal};
+pub use transport::{RunError, Transport};
+pub use whole::{Tpdu, ANSWER_LIMIT, TPDU_LIMIT};

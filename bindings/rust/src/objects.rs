@@ -1,3 +1,5 @@
+//! Data objects in bytes: all of them, the one at a path, and how one begins.
+
 use crate::raw;
 use std::error;
 use std::fmt;
@@ -162,7 +164,8 @@ impl<'a> Objects<'a> {
 /// Lists as many objects as there is room for, and answers how many there are.
 fn list(bytes: &[u8], room: &mut [raw::Object]) -> Result<usize, ObjectsError> {
     let (mut count, mut place) = (0, 0);
-    // SAFETY: pointers and lengths are those of slices, which don't overlap, as one can be written.
+    // SAFETY: slices with their lengths, which don't overlap, as one is borrowed by `&mut`; `count`
+    // and `place` are apart from them and from one another.
     let code = unsafe {
         raw::galliumtoad_objects(
             bytes.as_ptr(),
@@ -217,7 +220,8 @@ impl ExactSizeIterator for Objects<'_> {}
 /// bytes are no list of objects, wherever the path leads; it has their first fault.
 pub fn find<'a>(bytes: &'a [u8], path: &[u32]) -> Result<Option<Object<'a>>, FindError> {
     let (mut told, mut place) = (raw::Object::default(), 0);
-    // SAFETY: pointers and lengths are those of slices, and what is written stands apart from them.
+    // SAFETY: slices with their lengths, which are only read; `told` and `place` are apart from
+    // them and from one another.
     let code = unsafe {
         raw::galliumtoad_find(
             bytes.as_ptr(),
@@ -243,7 +247,7 @@ pub fn find<'a>(bytes: &'a [u8], path: &[u32]) -> Result<Option<Object<'a>>, Fin
 /// no tag of one to three bytes has this number.
 pub fn head(tag: u32, length: u16) -> Option<Vec<u8>> {
     let (mut bytes, mut n) = ([0; 6], 0);
-    // SAFETY: the pointer has room for as many bytes as it says.
+    // SAFETY: an array with its length; `n` is apart from it.
     let code =
         unsafe { raw::galliumtoad_head(tag, length, bytes.as_mut_ptr(), bytes.len(), &mut n) };
     (code == raw::OK).then(|| bytes[..n].to_vec())

@@ -1,22 +1,43 @@
-//! The archive's functions, as `galliumtoad.h` declares them. No pointer may be NULL here; a
-//! slice's never is.
+//! The archive's functions, as `galliumtoad.h` declares them. A call is right where
+//!
+//! - a pointer with a count is that of a slice with its length, and every other one is that of a
+//!   value, of the type that is written here: so none is NULL, and each is aligned;
+//! - what is written to does not overlap with anything else that is handed over;
+//! - a handle holds nothing, or what the function's name says, and no other call has it.
+//!
+//! The last of these holds wherever a handle's owner is called by `&` or `&mut`, see [`Handle`].
 
+use std::cell::UnsafeCell;
 use std::ffi::c_void;
 
-/// What a handle of the library is: 16 bytes that nothing but the library reads or writes.
+/// What C sees of a handle: 16 bytes that nothing but the library reads or writes.
 #[repr(C)]
 #[derive(Debug)]
-pub struct Handle {
+pub struct Held {
     live: bool,
     held: *mut c_void,
 }
 
+/// A handle, in a cell, since also those functions that take it as `const` write to it: they take
+/// out what it holds, and put it back before they return. A `&Handle` is enough for a call: a cell
+/// is not `Sync`, so no other thread has one, and no function of the archive calls back, so that no
+/// two calls have one handle at once.
+#[derive(Debug)]
+pub struct Handle(UnsafeCell<Held>);
+
 impl Handle {
     /// A handle that holds nothing.
-    pub const EMPTY: Handle = Handle {
-        live: false,
-        held: std::ptr::null_mut(),
-    };
+    pub const fn empty() -> Handle {
+        Handle(UnsafeCell::new(Held {
+            live: false,
+            held: std::ptr::null_mut(),
+        }))
+    }
+
+    /// Where it stands, for a call that may write to it.
+    pub fn at(&self) -> *mut Held {
+        self.0.get()
+    }
 }
 
 #[repr(C)]
@@ -66,51 +87,84 @@ declared! {
     );
     fn galliumtoad_head(tag: u32, length: u16, head: *mut u8, room: usize, len: *mut usize);
 
-    fn galliumtoad_exchange_start(e: *mut Handle, command: *const u8, n: usize);
-    fn galliumtoad_exchange_next(e: *mut Handle, byte: *mut u8);
-    fn galliumtoad_exchange_take(e: *mut Handle, byte: u8);
+    fn galliumtoad_exchange_start(e: *mut Held, command: *const u8, n: usize);
+    fn galliumtoad_exchange_next(e: *mut Held, byte: *mut u8);
+    fn galliumtoad_exchange_take(e: *mut Held, byte: u8);
     fn galliumtoad_exchange_answer(
-        e: *const Handle, status: *mut u16, data: *mut u8, room: usize, len: *mut usize
+        e: *const Held, status: *mut u16, data: *mut u8, room: usize, len: *mut usize
     );
 
-    fn galliumtoad_card_new(c: *mut Handle);
-    fn galliumtoad_card_app(c: *mut Handle, aid: *const u8, n: usize);
-    fn galliumtoad_card_object(
-        c: *mut Handle, tag: u32, value: *const u8, n: usize, locked: bool
+    fn galliumtoad_exchange_tpdu(
+        e: *const Held, tpdu: *mut u8, room: usize, n: *mut usize, most: *mut usize
     );
-    fn galliumtoad_card_finish(c: *mut Handle);
-    fn galliumtoad_card_take(c: *mut Handle, byte: u8);
-    fn galliumtoad_card_turn(c: *mut Handle, byte: *mut u8);
-    fn galliumtoad_card_reset(c: *mut Handle);
-    fn galliumtoad_card_plan(c: *mut Handle, steps: *const u8, n: usize, cut: u16);
-    fn galliumtoad_card_selected(c: *const Handle, aid: *mut u8, room: usize, n: *mut usize);
+    fn galliumtoad_exchange_answered(e: *mut Held, answer: *const u8, n: usize);
+
+    fn galliumtoad_terminal_new(t: *mut Held);
+    fn galliumtoad_terminal_reset(t: *mut Held);
+    fn galliumtoad_terminal_select(t: *mut Held, aid: *const u8, n: usize);
+    fn galliumtoad_terminal_get(t: *mut Held, tag: u32);
+    fn galliumtoad_terminal_put(t: *mut Held, tag: u32, value: *const u8, n: usize);
+    fn galliumtoad_terminal_send(t: *mut Held, command: *const u8, n: usize);
+    fn galliumtoad_terminal_next(t: *mut Held, byte: *mut u8);
+    fn galliumtoad_terminal_take(t: *mut Held, byte: u8);
+    fn galliumtoad_terminal_tpdu(
+        t: *const Held, tpdu: *mut u8, room: usize, n: *mut usize, most: *mut usize
+    );
+    fn galliumtoad_terminal_answered(t: *mut Held, answer: *const u8, n: usize);
+    fn galliumtoad_terminal_answer(
+        t: *const Held, status: *mut u16, data: *mut u8, room: usize, len: *mut usize
+    );
+
+    fn galliumtoad_card_new(c: *mut Held);
+    fn galliumtoad_card_app(c: *mut Held, aid: *const u8, n: usize);
+    fn galliumtoad_card_object(
+        c: *mut Held, tag: u32, value: *const u8, n: usize, locked: bool
+    );
+    fn galliumtoad_card_finish(c: *mut Held);
+    fn galliumtoad_card_take(c: *mut Held, byte: u8);
+    fn galliumtoad_card_turn(c: *mut Held, byte: *mut u8);
+    fn galliumtoad_card_reset(c: *mut Held);
+    fn galliumtoad_card_tpdu(
+        c: *mut Held, tpdu: *const u8, n: usize, answer: *mut u8, room: usize, len: *mut usize
+    );
+    fn galliumtoad_card_plan(c: *mut Held, steps: *const u8, n: usize, cut: u16);
+    fn galliumtoad_card_selected(c: *const Held, aid: *mut u8, room: usize, n: *mut usize);
     fn galliumtoad_card_app_at(
-        c: *const Handle, app: usize, aid: *mut u8, room: usize, n: *mut usize
+        c: *const Held, app: usize, aid: *mut u8, room: usize, n: *mut usize
     );
     fn galliumtoad_card_entry_at(
-        c: *const Handle, app: usize, entry: usize, tag: *mut u32, locked: *mut i32,
+        c: *const Held, app: usize, entry: usize, tag: *mut u32, locked: *mut i32,
         value: *mut u8, room: usize, len: *mut usize
     );
 
-    fn galliumtoad_session_start(s: *mut Handle, c: *mut Handle);
-    fn galliumtoad_session_select(s: *mut Handle, aid: *const u8, n: usize);
-    fn galliumtoad_session_get(s: *mut Handle, tag: u32);
-    fn galliumtoad_session_put(s: *mut Handle, tag: u32, value: *const u8, n: usize);
-    fn galliumtoad_session_send(s: *mut Handle, command: *const u8, n: usize);
+    fn galliumtoad_session_start(s: *mut Held, c: *mut Held);
+    fn galliumtoad_session_select(s: *mut Held, aid: *const u8, n: usize);
+    fn galliumtoad_session_get(s: *mut Held, tag: u32);
+    fn galliumtoad_session_put(s: *mut Held, tag: u32, value: *const u8, n: usize);
+    fn galliumtoad_session_send(s: *mut Held, command: *const u8, n: usize);
     fn galliumtoad_session_answer(
-        s: *const Handle, status: *mut u16, data: *mut u8, room: usize, len: *mut usize
+        s: *const Held, status: *mut u16, data: *mut u8, room: usize, len: *mut usize
     );
     fn galliumtoad_session_heard(
-        s: *const Handle, line: *mut Character, room: usize, count: *mut usize
+        s: *const Held, line: *mut Character, room: usize, count: *mut usize
     );
-    fn galliumtoad_session_idle(s: *const Handle);
-    fn galliumtoad_session_plan(s: *mut Handle, steps: *const u8, n: usize, cut: u16);
-    fn galliumtoad_session_reset(s: *mut Handle);
-    fn galliumtoad_session_end(s: *mut Handle, c: *mut Handle);
+    fn galliumtoad_session_idle(s: *const Held);
+    fn galliumtoad_session_plan(s: *mut Held, steps: *const u8, n: usize, cut: u16);
+    fn galliumtoad_session_reset(s: *mut Held);
+    fn galliumtoad_session_selected(s: *const Held, aid: *mut u8, room: usize, n: *mut usize);
+    fn galliumtoad_session_app_at(
+        s: *const Held, app: usize, aid: *mut u8, room: usize, n: *mut usize
+    );
+    fn galliumtoad_session_entry_at(
+        s: *const Held, app: usize, entry: usize, tag: *mut u32, locked: *mut i32,
+        value: *mut u8, room: usize, len: *mut usize
+    );
+    fn galliumtoad_session_end(s: *mut Held, c: *mut Held);
 }
 
 extern "C" {
-    pub fn galliumtoad_exchange_free(e: *mut Handle);
-    pub fn galliumtoad_card_free(c: *mut Handle);
-    pub fn galliumtoad_session_free(s: *mut Handle);
+    pub fn galliumtoad_exchange_free(e: *mut Held);
+    pub fn galliumtoad_terminal_free(t: *mut Held);
+    pub fn galliumtoad_card_free(c: *mut Held);
+    pub fn galliumtoad_session_free(s: *mut Held);
 }

@@ -1,7 +1,10 @@
-use crate::card::{Card, Owned};
+//! A terminal and a card, joined by a line.
+
+use crate::card::{Card, Entry, Owned};
 use crate::error::{told, Error};
 use crate::exchange::{Answer, RESPONSE_LIMIT};
 use crate::raw::{self, Handle};
+use crate::tables::Tables;
 
 /// One of the two ends of the line.
 #[derive(Clone, Copy, Debug, PartialEq, Eq, Hash)]
@@ -37,17 +40,17 @@ pub struct Session(Handle);
 
 impl Session {
     /// Takes a card, and resets it. This takes no memory.
-    pub fn start(mut card: Card) -> Result<Session, Error> {
-        let mut session = Session(Handle::EMPTY);
-        // SAFETY: the session's handle holds nothing, and the card's is one of this crate.
-        told(unsafe { raw::galliumtoad_session_start(&mut session.0, &mut card.0 .0) })?;
+    pub fn start(card: Card) -> Result<Session, Error> {
+        let session = Session(Handle::empty());
+        // SAFETY: a handle that holds nothing, and a card's, which are apart.
+        told(unsafe { raw::galliumtoad_session_start(session.0.at(), card.0 .0.at()) })?;
         Ok(session)
     }
 
     /// Whether an operation can be begun: no chain is pending.
     pub fn is_idle(&self) -> Result<bool, Error> {
-        // SAFETY: the handle is as it was when this returns.
-        Ok(told(unsafe { raw::galliumtoad_session_idle(&self.0) })? == 1)
+        // SAFETY: a session's handle, which a call by `&` may write to (`Handle`).
+        Ok(told(unsafe { raw::galliumtoad_session_idle(self.0.at()) })? == 1)
     }
 
     /// How the card answers one of the next operation's TPDUs, in turn, as [`Card::plan`]. What the
@@ -60,9 +63,9 @@ impl Session {
     /// to have the bytes of a short get come singly, plan `""` first, and then an `o` for each byte
     /// of tag, length and value: `"oooooo"` for a value of 3 bytes under `5F20`.
     pub fn plan(&mut self, steps: &str, cut: u16) -> Result<(), Error> {
-        // SAFETY: the slice has its length.
+        // SAFETY: a session's handle; a slice with its length.
         told(unsafe {
-            raw::galliumtoad_session_plan(&mut self.0, steps.as_ptr(), steps.len(), cut)
+            raw::galliumtoad_session_plan(self.0.at(), steps.as_ptr(), steps.len(), cut)
         })
         .map(|_| ())
     }
@@ -75,26 +78,25 @@ impl Session {
     /// [`Error::Busy`]: a chain is pending, [`Error::Argument`]: another length, [`Error::Memory`].
     /// Nothing is sent then.
     pub fn select(&mut self, aid: &[u8]) -> Result<Answer, Error> {
-        // SAFETY: the handle is one of this crate, used by this thread alone; the slice has its
-        // length.
-        told(unsafe { raw::galliumtoad_session_select(&mut self.0, aid.as_ptr(), aid.len()) })?;
+        // SAFETY: a session's handle; a slice with its length.
+        told(unsafe { raw::galliumtoad_session_select(self.0.at(), aid.as_ptr(), aid.len()) })?;
         self.answer()
     }
 
     /// Reads a data object: the data are its tag, length and value. Errors as [`Session::select`];
     /// [`Error::Argument`]: GET DATA can't name the tag.
     pub fn get(&mut self, tag: u32) -> Result<Answer, Error> {
-        // SAFETY: as above.
-        told(unsafe { raw::galliumtoad_session_get(&mut self.0, tag) })?;
+        // SAFETY: a session's handle.
+        told(unsafe { raw::galliumtoad_session_get(self.0.at(), tag) })?;
         self.answer()
     }
 
     /// Stores a value, in as many chained commands as it takes, and answers the status. Errors as
     /// [`Session::get`].
     pub fn put(&mut self, tag: u32, value: &[u8]) -> Result<u16, Error> {
-        // SAFETY: as above.
+        // SAFETY: a session's handle; a slice with its length.
         told(unsafe {
-            raw::galliumtoad_session_put(&mut self.0, tag, value.as_ptr(), value.len())
+            raw::galliumtoad_session_put(self.0.at(), tag, value.as_ptr(), value.len())
         })?;
         Ok(self.answer()?.status)
     }
@@ -108,9 +110,9 @@ impl Session {
     /// [`Error::Argument`]: over T=0 both ends have to know which way data move, and the card takes
     /// the command the other way. [`Error::Memory`]. Nothing is sent then.
     pub fn send(&mut self, command: &[u8]) -> Result<Answer, Error> {
-        // SAFETY: as above.
+        // SAFETY: a session's handle; a slice with its length.
         told(unsafe {
-            raw::galliumtoad_session_send(&mut self.0, command.as_ptr(), command.len())
+            raw::galliumtoad_session_send(self.0.at(), command.as_ptr(), command.len())
         })?;
         self.answer()
     }
@@ -119,10 +121,11 @@ impl Session {
     pub fn answer(&self) -> Result<Answer, Error> {
         let (mut status, mut n) = (0, 0);
         let mut data = vec![0; RESPONSE_LIMIT];
-        // SAFETY: the handle is as it was when this returns; there is room for any answer.
+        // SAFETY: a session's handle, which a call by `&` may write to (`Handle`); `status`, `data`
+        // with its length, and `n` are apart from it and from one another.
         told(unsafe {
             raw::galliumtoad_session_answer(
-                &self.0,
+                self.0.at(),
                 &mut status,
                 data.as_mut_ptr(),
                 data.len(),
@@ -151,9 +154,9 @@ impl Session {
     /// Fills the room where it is enough, and answers how many characters there are.
     fn hear(&self, room: &mut [raw::Character]) -> Result<usize, Error> {
         let mut count = 0;
-        // SAFETY: the handle is as it was when this returns; the room has its length.
+        // SAFETY: as in `answer`; `room` with its length, and `count`.
         let code = unsafe {
-            raw::galliumtoad_session_heard(&self.0, room.as_mut_ptr(), room.len(), &mut count)
+            raw::galliumtoad_session_heard(self.0.at(), room.as_mut_ptr(), room.len(), &mut count)
         };
         match code {
             raw::OK | raw::BUFFER => Ok(count),
@@ -163,22 +166,37 @@ impl Session {
 
     /// Resets the card: nothing is selected or pending, and its objects stay.
     pub fn reset(&mut self) -> Result<(), Error> {
-        // SAFETY: as above.
-        told(unsafe { raw::galliumtoad_session_reset(&mut self.0) }).map(|_| ())
+        // SAFETY: a session's handle.
+        told(unsafe { raw::galliumtoad_session_reset(self.0.at()) }).map(|_| ())
+    }
+
+    /// The identifier of the application that is selected, as [`Card::selected`].
+    pub fn selected(&self) -> Option<Vec<u8>> {
+        Tables::of_session(&self.0).selected()
+    }
+
+    /// The identifiers of the card's applications, as [`Card::apps`].
+    pub fn apps(&self) -> impl Iterator<Item = Vec<u8>> + '_ {
+        Tables::of_session(&self.0).apps()
+    }
+
+    /// The data objects of an application of the card, as [`Card::entries`].
+    pub fn entries(&self, app: usize) -> impl Iterator<Item = Entry> + '_ {
+        Tables::of_session(&self.0).entries(app)
     }
 
     /// Gives the card back, reset: a next session selects again. Plans that are left are dropped.
-    pub fn end(mut self) -> Result<Card, Error> {
-        let mut card = Card(Owned(Handle::EMPTY));
-        // SAFETY: as above; the card's handle holds nothing.
-        told(unsafe { raw::galliumtoad_session_end(&mut self.0, &mut card.0 .0) })?;
+    pub fn end(self) -> Result<Card, Error> {
+        let card = Card(Owned(Handle::empty()));
+        // SAFETY: a session's handle, and one that holds nothing, which are apart.
+        told(unsafe { raw::galliumtoad_session_end(self.0.at(), card.0 .0.at()) })?;
         Ok(card)
     }
 }
 
 impl Drop for Session {
     fn drop(&mut self) {
-        // SAFETY: the handle is not used again.
-        unsafe { raw::galliumtoad_session_free(&mut self.0) }
+        // SAFETY: a session's handle, which is not used again.
+        unsafe { raw::galliumtoad_session_free(self.0.at()) }
     }
 }

@@ -2,6 +2,7 @@
 
 use galliumtoad::{find, head, FindError, ObjectsError};
 use galliumtoad::{Card, CardBuilder, End, Error, Exchange, Objects, Reason, Session, Turn};
+use std::error::Error as _;
 
 const AID: [u8; 7] = [0xA0, 0x00, 0x00, 0x00, 0x03, 0x10, 0x10];
 
@@ -69,6 +70,12 @@ fn objects_are_found_by_path() {
     });
     assert_eq!(find(&[0x50, 0x05, 0x41], &[0x50]), Err(fault));
     assert_eq!(fault.to_string(), "value cut at 0");
+    let source = fault.source().expect("a source").to_string();
+    assert_eq!(source, "value cut at 0");
+    let behind = find(b"\x50\x00\x9F\x80\x00", &[0x50]);
+    assert_eq!(behind.expect_err("a fault").to_string(), "tag form at 2");
+    assert_eq!(FindError::NoTag.to_string(), "a step is no tag");
+    assert!(FindError::NoTag.source().is_none());
 }
 
 #[test]

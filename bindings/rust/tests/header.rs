@@ -1,10 +1,11 @@
 //! The numbers of the C header are those of this crate.
 
 use galliumtoad::{Error, Reason, AID_LEAST, AID_LIMIT, APPS_LIMIT, ENTRIES_LIMIT};
-use galliumtoad::{LEVELS_LIMIT, OBJECT_LIMIT, RESPONSE_LIMIT, VALUE_LIMIT};
+use galliumtoad::{ObjectsError, TPDU_LIMIT, VALUE_LIMIT};
+use galliumtoad::{ANSWER_LIMIT, LEVELS_LIMIT, OBJECT_LIMIT, RESPONSE_LIMIT};
 
 /// The faults of the header's list, with what this crate calls them.
-const FAULTS: [(&str, Error); 20] = [
+const FAULTS: [(&str, Error); 27] = [
     ("GT_STATE", Error::State),
     ("GT_MEMORY", Error::Memory),
     ("GT_ARGUMENT", Error::Argument),
@@ -25,6 +26,13 @@ const FAULTS: [(&str, Error); 20] = [
     ("GT_TOO_SHORT", Error::TooShort),
     ("GT_BAD_LENGTH", Error::BadLength),
     ("GT_INVALID_INS", Error::InvalidIns),
+    ("GT_NOT_DUE", Error::NotDue),
+    ("GT_NO_STATUS", Error::NoStatus),
+    ("GT_NOT_ASKED", Error::NotAsked),
+    ("GT_TOO_MANY", Error::TooMany),
+    ("GT_NO_TPDU", Error::NoTpdu),
+    ("GT_WANTS_DATA", Error::WantsData),
+    ("GT_SENDS_DATA", Error::SendsData),
 ];
 
 const REASONS: [(&str, Reason); 6] = [
@@ -70,7 +78,13 @@ fn faults_have_the_numbers_and_texts_of_the_header() {
     for (name, reason) in REASONS {
         let wanted = Some(i64::from(reason.code()));
         assert_eq!(number(&header, name), wanted, "{name}");
+        let wanted = text(&header, name).map(|text| format!("{text} at 7"));
+        let fault = ObjectsError { place: 7, reason };
+        assert_eq!(Some(fault.to_string()), wanted, "{name}");
     }
+    let unknown = Error::Unknown(-99);
+    assert_eq!(unknown.code(), -99);
+    assert_eq!(unknown.to_string(), "unknown code -99");
 }
 
 #[test]
@@ -103,6 +117,8 @@ fn limits_are_those_of_the_header() {
         ("GT_APPS_LIMIT", APPS_LIMIT),
         ("GT_ENTRIES_LIMIT", ENTRIES_LIMIT),
         ("GT_LEVELS_LIMIT", usize::from(LEVELS_LIMIT)),
+        ("GT_TPDU_LIMIT", TPDU_LIMIT),
+        ("GT_ANSWER_LIMIT", ANSWER_LIMIT),
     ];
     let header = header();
     for (name, limit) in limits {

@@ -1,7 +1,10 @@
 pub mod CardHeldValues
+pub mod CardTpduLemmas
 pub mod FindLemmas
 pub mod HeldExchangeValues
+pub mod HeldTerminalValues
 pub mod Listing
 pub mod LooseValues
 pub mod PlanLemmas
 pub mod SessionLemmas
+pub mod TpduLemmas

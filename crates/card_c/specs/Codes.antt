@@ -4,6 +4,8 @@ use Rattle.object_card.specs.declared.builder_fault.BuilderFault as builder
 use Rattle.t0_core.specs.declared.line_fault.LineFault as line
 use Rattle.tlv_core.specs.declared.fault.Reason as reason
 use Rattle.apdu_core.specs.declared.command.ApduFault as command
+use Rattle.t0_core.specs.declared.answer_fault.AnswerFault as answer
+use Rattle.t0_core.specs.declared.tpdu_fault.TpduFault as tpdu
 
 abbrev pub gt_ok : ℤ
 gt_ok = pos 0
@@ -67,3 +69,26 @@ abbrev pub command_code : command.ApduFault → ℤ
 command_code command.TheVariants.TooShort = negsuc 49
 command_code command.TheVariants.BadLength = negsuc 50
 command_code command.TheVariants.InvalidIns = negsuc 51
+
+abbrev pub gt_not_due : ℤ
+gt_not_due = negsuc 59
+
+abbrev pub gt_no_status : ℤ
+gt_no_status = negsuc 60
+
+abbrev pub gt_no_tpdu : ℤ
+gt_no_tpdu = negsuc 63
+
+abbrev pub answer_code : answer.AnswerFault → ℤ
+answer_code answer.TheVariants.NotDue = gt_not_due
+answer_code answer.TheVariants.NotAsked = negsuc 61
+answer_code answer.TheVariants.TooMany = negsuc 62
+answer_code answer.TheVariants.TooLong = negsuc 31
+answer_code answer.TheVariants.Stalled = negsuc 32
+
+abbrev pub tpdu_code : tpdu.TpduFault → ℤ
+tpdu_code tpdu.TheVariants.UnderWay = gt_state
+tpdu_code tpdu.TheVariants.NoTpdu = gt_no_tpdu
+tpdu_code tpdu.TheVariants.WantsData = negsuc 64
+tpdu_code tpdu.TheVariants.SendsData = negsuc 65
+tpdu_code tpdu.TheVariants.TooLong = negsuc 31

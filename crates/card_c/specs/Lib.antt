@@ -1,5 +1,6 @@
 pub mod CardCalls
 pub mod CardHandle
+pub mod CardTpduCalls
 pub mod CardHeldOwned
 pub mod Codes
 pub mod Copying
@@ -7,6 +8,7 @@ pub mod ExchangeCalls
 pub mod ExchangeHandle
 pub mod HeardCalls
 pub mod HeldExchangeOwned
+pub mod HeldTerminalOwned
 pub mod PlanCalls
 pub mod PlanLetters
 pub mod Reading
@@ -14,3 +16,6 @@ pub mod SendCalls
 pub mod SessionCalls
 pub mod TableCalls
 pub mod TagNumbers
+pub mod TerminalCalls
+pub mod TerminalHandle
+pub mod TpduCalls

@@ -1,10 +1,10 @@
 //! The codes that exports answer: one list, whose numbers are fixed. The header has it too.
 ghost use Rattle.std.specs.Prelude.{◌≡◌};
-ghost use Rattle.card_c.specs.Codes.{builder_code, command_code, line_code, reason_code};
+ghost use Rattle.card_c.specs.Codes.{answer_code, builder_code, command_code, line_code, reason_code, tpdu_code};
 
 use apdu_core::ApduFault;
 use object_card::BuilderFault;
-use t0_core::LineFault;
+use t0_core::{AnswerFault, LineFault, TpduFault};
 use tlv_core::Reason;
 
 /// It went well; of a turn, the end listens.
@@ -41,6 +41,15 @@ pub const NOT_FOUND: i32 = -8;
 
 /// The exchange has failed for good.
 pub const FAILED: i32 = -9;
+
+/// No whole TPDU is about to begin.
+pub const NOT_DUE: i32 = -60;
+
+/// The answer to a whole TPDU ends in no status word.
+pub const NO_STATUS: i32 = -61;
+
+/// Bytes are no whole TPDU.
+pub const NO_TPDU: i32 = -64;
 
 /// Why a builder refuses.
 pub fn of_builder(fault: BuilderFault) -> i32
@@ -92,5 +101,31 @@ pub fn of_command(fault: ApduFault) -> i32
         ApduFault::TooShort => -50,
         ApduFault::BadLength => -51,
         ApduFault::InvalidIns => -52,
+    }
+}
+
+/// Why a terminal does not take the answer to a whole TPDU.
+pub fn of_answer(fault: AnswerFault) -> i32
+    ensures { result ≡ answer_code fault }
+{
+    match fault {
+        AnswerFault::NotDue => NOT_DUE,
+        AnswerFault::NotAsked => -62,
+        AnswerFault::TooMany => -63,
+        AnswerFault::TooLong => -32,
+        AnswerFault::Stalled => -33,
+    }
+}
+
+/// Why a card's end does not carry out a whole TPDU.
+pub fn of_tpdu(fault: TpduFault) -> i32
+    ensures { result ≡ tpdu_code fault }
+{
+    match fault {
+        TpduFault::UnderWay => STATE,
+        TpduFault::NoTpdu => NO_TPDU,
+        TpduFault::WantsData => -65,
+        TpduFault::SendsData => -66,
+        TpduFault::TooLong => -32,
     }
 }

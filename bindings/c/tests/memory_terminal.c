@@ -1,0 +1,73 @@
+/* Want of memory at each request in turn of a terminal, and what is taken and given back. */
+#include "galliumtoad.h"
+#include "check.h"
+#include "counting_heap.h"
+
+static const uint8_t AID[] = { 0xA0, 0x00, 0x00, 0x00, 0x03, 0x10, 0x10 };
+static uint8_t value[16320];
+
+/* Begins one operation of each kind. */
+static int32_t begin(gt_terminal *t, int kind) {
+    static const uint8_t command[260] = { 0x00, 0xD0, 0x00, 0x00, 0xFF };
+    requests = 0;
+    switch (kind) {
+    case 0: return gt_terminal_select(t, AID, sizeof AID);
+    case 1: return gt_terminal_get(t, 0x5F20);
+    case 2: return gt_terminal_put(t, 0x5F20, value, sizeof value);
+    default: return gt_terminal_send(t, command, sizeof command);
+    }
+}
+
+/* What goes to the card as data, of which a copy is kept. */
+static const size_t copies[] = { sizeof AID, 0, sizeof value, 255 };
+
+int main(void) {
+    gt_terminal t = GT_INIT;
+    uint8_t byte = 0;
+    uint16_t status = 0;
+    size_t len = 0;
+    refused = 1;
+    CHECK(gt_terminal_new(&t), GT_MEMORY);
+    CHECK(gt_terminal_next(&t, &byte), GT_EMPTY);
+    CHECK(taken, 0);
+    refused = 0;
+    requests = 0;
+    CHECK(gt_terminal_new(&t), GT_OK);
+    CHECK(requests, 1);
+    const size_t alone = taken;
+    CHECK(alone, 144); /* as the header says */
+    for (int kind = 0; kind < 4; kind++) {
+        const size_t times = copies[kind] ? 2 : 1;
+        for (refused = 1; refused <= times; refused++) {
+            CHECK(begin(&t, kind), GT_MEMORY);
+            CHECK(gt_terminal_next(&t, &byte), GT_STATE);
+            CHECK(taken, alone);
+        }
+        refused = 0;
+        peak = 0;
+        CHECK(begin(&t, kind), GT_OK);
+        CHECK(requests, times);
+        CHECK(taken, alone + 16384 + copies[kind]);
+        CHECK(peak, taken);
+        requests = 0;
+        refused = 1; /* nothing asks for memory any more */
+        CHECK(gt_terminal_answered(&t, (const uint8_t *)"\x6A\x82", 2), GT_OK);
+        CHECK(gt_terminal_answer(&t, &status, NULL, 0, &len), GT_OK);
+        CHECK(status, 0x6A82);
+        /* want of memory for the next leaves the answer */
+        CHECK(begin(&t, kind), GT_MEMORY);
+        CHECK(gt_terminal_answer(&t, &status, NULL, 0, &len), GT_OK);
+        /* the last one is given back once the next has begun */
+        refused = 0;
+        peak = 0;
+        CHECK(begin(&t, kind), GT_OK);
+        CHECK(peak, alone + 2 * (16384 + copies[kind]));
+        CHECK(taken, alone + 16384 + copies[kind]);
+        CHECK(gt_terminal_reset(&t), GT_OK);
+        CHECK(taken, alone);
+    }
+    CHECK(begin(&t, 2), GT_OK);
+    gt_terminal_free(&t);
+    CHECK(taken, 0);
+    return check_result("memory_terminal");
+}

@@ -1,0 +1,110 @@
+/* What heap.c gives back to malloc holds nothing any more. The linker puts the functions below in
+ * the place of malloc and free, for heap.c as the library has it: so a wipe that the compiler has
+ * left out is seen too. */
+#include "galliumtoad_heap.h"
+#include "check.h"
+
+#include <stdint.h>
+#include <stdlib.h>
+
+void *__real_malloc(size_t n);
+void __real_free(void *block);
+void *__wrap_malloc(size_t n);
+void *__wrap_realloc(void *block, size_t n);
+void __wrap_free(void *block);
+
+enum { MOST = 4096 };
+
+/* the blocks that are taken, how many were given back, and how many of these held something */
+static struct { unsigned char *at; size_t size; } blocks[MOST];
+static size_t given_back, not_wiped, moved;
+static bool is_refused;
+
+void *__wrap_malloc(size_t n) {
+    size_t i;
+    void *block = is_refused ? NULL : __real_malloc(n);
+    for (i = 0; i < MOST && blocks[i].at; i++) {}
+    if (i == MOST) abort();
+    if (block) {
+        blocks[i].at = block;
+        blocks[i].size = n;
+    }
+    return block;
+}
+
+void __wrap_free(void *block) {
+    size_t i, at;
+    for (i = 0; i < MOST && blocks[i].at != block; i++) {}
+    if (i == MOST) abort();
+    for (at = 0; at < blocks[i].size && blocks[i].at[at] == 0; at++) {}
+    not_wiped += at < blocks[i].size;
+    given_back++;
+    blocks[i].at = NULL;
+    __real_free(block);
+}
+
+/* It would leave what it moves away from as it is. */
+void *__wrap_realloc(void *block, size_t n) {
+    moved++;
+    (void)block;
+    return __wrap_malloc(n);
+}
+
+static size_t taken(void) {
+    size_t i, n = 0;
+    for (i = 0; i < MOST; i++) n += blocks[i].at != NULL;
+    return n;
+}
+
+/* A block that grows or gets shorter: what is kept goes along, and the old one is wiped whole. */
+static void a_block_that_changes(size_t from, size_t kept, size_t to) {
+    gt_taken old = rattle_alloc(from, 8), next;
+    size_t i, same = 0;
+    CHECK(old.some, 1);
+    memset(old.at, 0xFA, from);
+    given_back = 0;
+    next = rattle_realloc(old.at, kept, to, 16);
+    CHECK(next.some, 1);
+    CHECK((uintptr_t)next.at % 16, 0);
+    CHECK(given_back, 1);
+    for (i = 0; i < kept; i++) same += ((unsigned char *)next.at)[i] == 0xFA;
+    CHECK(same, kept);
+    memset(next.at, 0xFB, to);
+    rattle_dealloc(next.at);
+    CHECK(given_back, 2);
+    CHECK(taken(), 0);
+    CHECK(not_wiped, 0);
+}
+
+static void wants_memory(gt_taken got) {
+    CHECK(got.some, 0);
+    CHECK(got.at != NULL, 1);
+}
+
+/* Where memory is wanting, also for a size that no block has, a block stays as it was. */
+static void want_of_memory(void) {
+    gt_taken block = rattle_alloc(3, 1);
+    CHECK(block.some, 1);
+    memcpy(block.at, "\x01\x02\x03", 3);
+    wants_memory(rattle_alloc(SIZE_MAX, 1));
+    wants_memory(rattle_alloc(SIZE_MAX - 15, 1));
+    wants_memory(rattle_realloc(block.at, 3, SIZE_MAX, 1));
+    is_refused = true;
+    wants_memory(rattle_alloc(1, 1));
+    wants_memory(rattle_realloc(block.at, 3, 4, 1));
+    is_refused = false;
+    CHECK_BYTES(block.at, "\x01\x02\x03", 3);
+    CHECK(taken(), 1);
+    rattle_dealloc(block.at);
+    CHECK(taken(), 0);
+    CHECK(not_wiped, 0);
+}
+
+int main(void) {
+    a_block_that_changes(11, 11, 16384);
+    a_block_that_changes(16384, 11, 16);
+    a_block_that_changes(24, 0, 48);
+    want_of_memory();
+    CHECK(moved, 0);
+    return check_result("memory_wiped");
+}

@@ -1,0 +1,112 @@
+/* The stand-in for libpcsclite itself, as a careless program calls it: it refuses what libpcsclite
+ * refuses, and its log says what was done out of order or not given back. */
+#define _POSIX_C_SOURCE 200112L
+
+#include "check.h"
+
+#include <galliumtoad.h>
+#include <winscard.h>
+
+#include <stdlib.h>
+
+static const BYTE GET[] = { 0x00, 0xCA, 0x5F, 0x20, 0x00 };
+
+/* How many lines of the log are this one. */
+static int lines_of(const char *line)
+{
+    char found[512];
+    int count = 0;
+    FILE *file = fopen(getenv("STANDIN_LOG"), "r");
+    if (file == NULL)
+        return -1;
+    while (fgets(found, sizeof found, file) != NULL) {
+        found[strcspn(found, "\n")] = '\0';
+        count += strcmp(found, line) == 0;
+    }
+    fclose(file);
+    return count;
+}
+
+static void lists(SCARDCONTEXT context)
+{
+    char names[64];
+    DWORD size = sizeof names, length = 0;
+    /* a fault is of one call, and neither of those before it nor of those behind it */
+    CHECK(setenv("STANDIN_FAULT", "list:2=80100014 begin:7=80100014", 1), 0);
+    CHECK(SCardListReaders(context, NULL, NULL, &length), SCARD_S_SUCCESS);
+    CHECK(SCardListReaders(context, NULL, NULL, &length), 0x80100014);
+    CHECK(SCardListReaders(context, NULL, NULL, &length), SCARD_S_SUCCESS);
+    CHECK(length, sizeof "Galliumtoad card 00 00" + 1);
+    CHECK(SCardListReaders(context, NULL, names, &size), SCARD_S_SUCCESS);
+    CHECK(size, length);
+    CHECK_BYTES(names, "Galliumtoad card 00 00\0", size);
+    size = length - 1;
+    CHECK(SCardListReaders(context, NULL, names, &size), SCARD_E_INSUFFICIENT_BUFFER);
+    CHECK(SCardListReaders(context + 1, NULL, names, &size), SCARD_E_INVALID_HANDLE);
+}
+
+static void transmits(SCARDHANDLE card)
+{
+    const SCARD_IO_REQUEST t1 = { SCARD_PROTOCOL_T1, sizeof t1 };
+    BYTE answer[2];
+    DWORD n = sizeof answer;
+    CHECK(SCardTransmit(card, SCARD_PCI_T0, GET, sizeof GET, NULL, answer, &n), SCARD_S_SUCCESS);
+    CHECK(n, 2);
+    CHECK_BYTES(answer, "\x69\x85", 2);
+    CHECK(lines_of("no transaction"), 1);
+    CHECK(SCardBeginTransaction(card), SCARD_S_SUCCESS);
+    CHECK(SCardBeginTransaction(card), SCARD_E_INVALID_HANDLE);
+    CHECK(SCardTransmit(card, &t1, GET, sizeof GET, NULL, answer, &n), SCARD_E_INVALID_HANDLE);
+    CHECK(SCardTransmit(card, SCARD_PCI_T0, GET, 3, NULL, answer, &n), SCARD_E_NOT_TRANSACTED);
+    n = 1;
+    CHECK(SCardTransmit(card, SCARD_PCI_T0, GET, sizeof GET, NULL, answer, &n),
+          SCARD_E_INSUFFICIENT_BUFFER);
+    CHECK(lines_of("no transaction"), 1);
+    CHECK(SCardEndTransaction(card, SCARD_LEAVE_CARD), SCARD_S_SUCCESS);
+    CHECK(SCardEndTransaction(card, SCARD_RESET_CARD), SCARD_E_INVALID_HANDLE);
+    CHECK(lines_of("end, no reset"), 1);
+    CHECK(SCardDisconnect(card, SCARD_RESET_CARD), SCARD_S_SUCCESS);
+    CHECK(SCardDisconnect(card, SCARD_LEAVE_CARD), SCARD_E_INVALID_HANDLE);
+    CHECK(lines_of("disconnect, and not leave"), 1);
+}
+
+/* Runs at the end, behind what the stand-in itself does there. */
+static void check_what_is_left(void)
+{
+    CHECK(lines_of("left: a transaction"), 1);
+    CHECK(lines_of("left: a connection"), 1);
+    CHECK(lines_of("left: names"), 1);
+    CHECK(lines_of("left: a context"), 1);
+    if (check_result("calls") != 0) {
+        fflush(stdout);
+        _Exit(1);
+    }
+}
+
+int main(void)
+{
+    SCARDCONTEXT context;
+    SCARDHANDLE card;
+    DWORD protocol, size = SCARD_AUTOALLOCATE;
+    static char *names; /* LeakSanitizer reads static storage: what is left is meant here */
+    atexit(check_what_is_left);
+    CHECK(SCardEstablishContext(0, NULL, NULL, &context), SCARD_S_SUCCESS);
+    CHECK(lines_of("establish, of another scope"), 1);
+    lists(context);
+    CHECK(SCardConnect(context, "one", SCARD_SHARE_SHARED, SCARD_PROTOCOL_T0 | SCARD_PROTOCOL_T1,
+                       &card, &protocol),
+          SCARD_S_SUCCESS);
+    CHECK(lines_of("connect, not shared at T=0 alone, to one"), 1);
+    CHECK(protocol, SCARD_PROTOCOL_T0);
+    transmits(card);
+    CHECK(SCardReleaseContext(context), SCARD_S_SUCCESS);
+    CHECK(SCardReleaseContext(context), SCARD_E_INVALID_HANDLE);
+    CHECK(lines_of("left: a context"), 0);
+    CHECK(SCardEstablishContext(SCARD_SCOPE_SYSTEM, NULL, NULL, &context), SCARD_S_SUCCESS);
+    CHECK(SCardListReaders(context, NULL, (LPSTR)(void *)&names, &size), SCARD_S_SUCCESS);
+    CHECK(SCardConnect(context, names, SCARD_SHARE_SHARED, SCARD_PROTOCOL_T0, &card, &protocol),
+          SCARD_S_SUCCESS);
+    CHECK(lines_of("connect to Galliumtoad card 00 00"), 1);
+    CHECK(SCardBeginTransaction(card), SCARD_S_SUCCESS);
+    return 0;
+}

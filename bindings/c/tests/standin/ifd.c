@@ -1,0 +1,277 @@
+/* The functions of the virtual reader as pcscd calls them, without pcscd. */
+#include "check.h"
+
+#include <galliumtoad.h>
+#include <ifdhandler.h>
+
+#include <stdlib.h>
+
+/* two readers, by the numbers that pcscd gives them: each has one slot */
+#define ONE 0x00000
+#define OTHER 0x10000
+#define NONE 0x20000
+
+#define TABLE_FILE "ifd.table"
+
+static const char NAMES[] = "app A0000000031010\nobject 5F20 4A4F45\nlocked 50 56495341\n";
+static const char OTHERS[] = "atr 3B6500002063CB6800\n# another card\napp A0000000031010\n"
+                             "object 5F20 414E4E\n";
+
+/* Makes a reader whose table is this text. */
+static RESPONSECODE create(DWORD lun, const char *text)
+{
+    char name[] = TABLE_FILE;
+    FILE *file = fopen(name, "w");
+    RESPONSECODE code;
+    if (file == NULL || fputs(text, file) < 0 || fclose(file) != 0)
+        exit(1);
+    code = IFDHCreateChannelByName(lun, name);
+    remove(name);
+    return code;
+}
+
+static UCHAR received[300];
+static DWORD length;
+
+/* Sends a TPDU at a protocol, and says what the reader answers; `room` is for what comes back. */
+static RESPONSECODE send_at(DWORD lun, DWORD protocol, const char *tpdu, DWORD n, DWORD room)
+{
+    UCHAR sent[300];
+    SCARD_IO_HEADER to = { protocol, sizeof to }, from = { 77, sizeof from };
+    RESPONSECODE code;
+    memcpy(sent, tpdu, n);
+    length = room;
+    code = IFDHTransmitToICC(lun, to, sent, n, received, &length, &from);
+    CHECK(from.Protocol, code == IFD_SUCCESS ? 0 : 77);
+    return code;
+}
+
+/* What comes back of a TPDU of T=0 that is carried out, for CHECK_ANSWER. */
+#define CHECK_ANSWER(lun, tpdu, answer) do { \
+        CHECK(send_at(lun, 0, tpdu, sizeof tpdu - 1, 258), IFD_SUCCESS); \
+        CHECK(length, sizeof answer - 1); \
+        CHECK_BYTES(received, answer, sizeof answer - 1); \
+    } while (0)
+
+/* One that is not, which leaves no bytes. */
+#define CHECK_FAULT(lun, protocol, tpdu, room, fault) do { \
+        CHECK(send_at(lun, protocol, tpdu, sizeof tpdu - 1, room), fault); \
+        CHECK(length, 0); \
+    } while (0)
+
+#define SELECT "\x00\xA4\x04\x00\x07\xA0\x00\x00\x00\x03\x10\x10"
+#define GET "\x00\xCA\x5F\x20\x00"
+#define GET_NAME "\x00\xCA\x5F\x20\x06"
+
+static void check_power(DWORD lun, DWORD action, const char *atr, size_t n)
+{
+    UCHAR found[MAX_ATR_SIZE];
+    DWORD size = MAX_ATR_SIZE;
+    CHECK(IFDHPowerICC(lun, action, found, &size), IFD_SUCCESS);
+    CHECK(size, n);
+    CHECK_BYTES(found, atr, n);
+    size = MAX_ATR_SIZE;
+    CHECK(IFDHGetCapabilities(lun, TAG_IFD_ATR, &size, found), IFD_SUCCESS);
+    CHECK(size, n);
+    CHECK_BYTES(found, atr, n);
+}
+
+/* A number that no reader has. */
+static void no_reader(DWORD lun)
+{
+    UCHAR bytes[MAX_ATR_SIZE];
+    DWORD size = sizeof bytes;
+    CHECK(IFDHICCPresence(lun), IFD_NO_SUCH_DEVICE);
+    CHECK(IFDHCloseChannel(lun), IFD_NO_SUCH_DEVICE);
+    CHECK(IFDHPowerICC(lun, IFD_POWER_UP, bytes, &size), IFD_NO_SUCH_DEVICE);
+    CHECK(IFDHGetCapabilities(lun, TAG_IFD_ATR, &size, bytes), IFD_NO_SUCH_DEVICE);
+    CHECK(IFDHSetProtocolParameters(lun, SCARD_PROTOCOL_T0, 0, 0, 0, 0), IFD_NO_SUCH_DEVICE);
+    CHECK_FAULT(lun, 0, GET, 258, IFD_NO_SUCH_DEVICE);
+}
+
+/* Each reader has a card of its own, and its own answer to reset. */
+static void two_cards(void)
+{
+    CHECK(create(ONE, NAMES), IFD_SUCCESS);
+    CHECK(create(OTHER, OTHERS), IFD_SUCCESS);
+    CHECK(create(ONE, OTHERS), IFD_COMMUNICATION_ERROR);
+    CHECK(IFDHICCPresence(ONE), IFD_ICC_PRESENT);
+    CHECK(IFDHICCPresence(OTHER), IFD_ICC_PRESENT);
+    no_reader(NONE);
+    check_power(ONE, IFD_POWER_UP, "\x3B\x00", 2);
+    check_power(OTHER, IFD_POWER_UP, "\x3B\x65\x00\x00\x20\x63\xCB\x68\x00", 9);
+    CHECK_ANSWER(ONE, SELECT, "\x61\x0B");
+    CHECK_ANSWER(OTHER, GET, "\x69\x85");
+    CHECK_ANSWER(ONE, "\x00\xC0\x00\x00\x0B",
+                 "\x6F\x09\x84\x07\xA0\x00\x00\x00\x03\x10\x10\x90\x00");
+    CHECK_ANSWER(OTHER, SELECT, "\x61\x0B");
+    CHECK_ANSWER(ONE, GET_NAME, "\x5F\x20\x03JOE\x90\x00");
+    CHECK_ANSWER(OTHER, GET_NAME, "\x5F\x20\x03" "ANN\x90\x00");
+    CHECK_ANSWER(ONE, "\x00\xDA\x5F\x20\x03LEE", "\x90\x00");
+    CHECK_ANSWER(ONE, GET_NAME, "\x5F\x20\x03LEE\x90\x00");
+    CHECK_ANSWER(OTHER, GET_NAME, "\x5F\x20\x03" "ANN\x90\x00");
+}
+
+/* What the card answers comes back as it is: nothing is fetched or asked again by the reader. */
+static void answers(void)
+{
+    CHECK_ANSWER(ONE, GET, "\x6C\x06");
+    CHECK_ANSWER(ONE, "\x00\xCA\x5F\x20\x02", "\x5F\x20\x61\x04");
+    CHECK_ANSWER(ONE, "\x00\xC0\x00\x00\x05", "\x6C\x04");
+    CHECK_ANSWER(ONE, "\x00\xDA\x00\x50\x01\x00", "\x69\x82");
+    CHECK_ANSWER(ONE, "\x00\xDA\x5F\x20", "\x90\x00");
+    CHECK_ANSWER(ONE, "\x00\xCA\x5F\x20\x03", "\x5F\x20\x00\x90\x00");
+    CHECK_ANSWER(ONE, "\x00\xDA\x5F\x20\x03JOE", "\x90\x00");
+    /* INS that are none: the card answers, as it does to any that it does not know */
+    CHECK_ANSWER(ONE, "\x00\x60\x00\x00\x00", "\x6D\x00");
+    CHECK_ANSWER(ONE, "\x00\x6F\x00\x00", "\x6D\x00");
+    CHECK_ANSWER(ONE, "\x00\x90\x00\x00\x01\x00", "\x6D\x00");
+    CHECK_ANSWER(ONE, "\x01\x9F\x00\x00\x00", "\x6E\x00");
+    CHECK_ANSWER(ONE, GET_NAME, "\x5F\x20\x03JOE\x90\x00");
+}
+
+/* What can't be carried out is a fault; some of these reset the card. */
+static void faults(void)
+{
+    CHECK_FAULT(ONE, 1, GET_NAME, 258, IFD_PROTOCOL_NOT_SUPPORTED);
+    CHECK_FAULT(ONE, 0, "\x00\xCA\x5F", 258, IFD_COMMUNICATION_ERROR);
+    CHECK_FAULT(ONE, 0, "\x00\xDA\x5F\x20\x03JO", 258, IFD_COMMUNICATION_ERROR);
+    CHECK_FAULT(ONE, 0, GET_NAME, 1, IFD_COMMUNICATION_ERROR);
+    CHECK_ANSWER(ONE, GET_NAME, "\x5F\x20\x03JOE\x90\x00");
+    CHECK(send_at(ONE, 0, GET_NAME, 5, 8), IFD_SUCCESS);
+    CHECK(length, 8);
+    CHECK_FAULT(ONE, 0, GET_NAME, 7, IFD_COMMUNICATION_ERROR);
+    CHECK_ANSWER(ONE, GET_NAME, "\x69\x85");
+    CHECK_ANSWER(ONE, SELECT, "\x61\x0B");
+    CHECK_FAULT(ONE, 0, "\x00\xCA\x5F\x20\x06JOEJOE", 258, IFD_COMMUNICATION_ERROR);
+    CHECK_ANSWER(ONE, GET_NAME, "\x69\x85");
+    CHECK_FAULT(ONE, 0, "\x00\xA4\x04\x00\x05", 258, IFD_COMMUNICATION_ERROR);
+}
+
+/* Power and resets: what is stored stays, and nothing is selected. */
+static void power(void)
+{
+    UCHAR atr[MAX_ATR_SIZE];
+    DWORD size = sizeof atr;
+    CHECK_ANSWER(ONE, SELECT, "\x61\x0B");
+    CHECK_ANSWER(ONE, "\x00\xDA\x5F\x20\x03LEE", "\x90\x00");
+    check_power(ONE, IFD_RESET, "\x3B\x00", 2);
+    CHECK_ANSWER(ONE, GET_NAME, "\x69\x85");
+    check_power(ONE, IFD_POWER_DOWN, "", 0);
+    CHECK_FAULT(ONE, 0, SELECT, 258, IFD_COMMUNICATION_ERROR);
+    check_power(ONE, IFD_POWER_UP, "\x3B\x00", 2);
+    CHECK_ANSWER(ONE, SELECT, "\x61\x0B");
+    CHECK_ANSWER(ONE, GET_NAME, "\x5F\x20\x03LEE\x90\x00");
+    CHECK_ANSWER(OTHER, GET_NAME, "\x5F\x20\x03" "ANN\x90\x00");
+    CHECK(IFDHPowerICC(ONE, 503, atr, &size), IFD_NOT_SUPPORTED);
+    CHECK_ANSWER(ONE, GET_NAME, "\x5F\x20\x03LEE\x90\x00");
+}
+
+/* What pcscd asks of a handler. */
+static void capabilities(void)
+{
+    UCHAR bytes[MAX_ATR_SIZE];
+    DWORD size = 1;
+    CHECK(IFDHGetCapabilities(ONE, TAG_IFD_ATR, &size, bytes), IFD_ERROR_INSUFFICIENT_BUFFER);
+    CHECK(IFDHGetCapabilities(ONE, TAG_IFD_SLOTS_NUMBER, &size, bytes), IFD_SUCCESS);
+    CHECK(size, 1);
+    CHECK(bytes[0], 1);
+    CHECK(IFDHGetCapabilities(ONE, TAG_IFD_SIMULTANEOUS_ACCESS, &size, bytes), IFD_SUCCESS);
+    CHECK(bytes[0], PCSCLITE_MAX_READERS_CONTEXTS);
+    CHECK(IFDHGetCapabilities(ONE, TAG_IFD_THREAD_SAFE, &size, bytes), IFD_ERROR_TAG);
+    size = 0;
+    CHECK(IFDHGetCapabilities(ONE, TAG_IFD_SLOTS_NUMBER, &size, bytes),
+          IFD_ERROR_INSUFFICIENT_BUFFER);
+    CHECK(IFDHSetCapabilities(ONE, TAG_IFD_ATR, 1, bytes), IFD_NOT_SUPPORTED);
+    CHECK(IFDHSetProtocolParameters(ONE, SCARD_PROTOCOL_T0, 0, 0, 0, 0), IFD_SUCCESS);
+    CHECK(IFDHSetProtocolParameters(ONE, SCARD_PROTOCOL_T1, 0, 0, 0, 0),
+          IFD_PROTOCOL_NOT_SUPPORTED);
+    size = 5;
+    CHECK(IFDHControl(ONE, 1, bytes, 1, bytes, 1, &size), IFD_ERROR_NOT_SUPPORTED);
+    CHECK(size, 0);
+    CHECK(IFDHCreateChannel(NONE, 0), IFD_COMMUNICATION_ERROR);
+}
+
+/* An object of 600 bytes comes in parts, none of which is more than a client's room of 258. */
+static void long_object(void)
+{
+    char text[4096] = "app A0000000031010\nobject 5F20 ";
+    size_t n = strlen(text), i;
+    for (i = 0; i < 600; i++)
+        n += (size_t)snprintf(text + n, sizeof text - n, "%02X", (unsigned)(i % 256));
+    CHECK(create(NONE, text), IFD_SUCCESS);
+    check_power(NONE, IFD_POWER_UP, "\x3B\x00", 2);
+    CHECK_ANSWER(NONE, SELECT, "\x61\x0B");
+    CHECK(send_at(NONE, 0, GET, 5, 258), IFD_SUCCESS);
+    CHECK(length, 258);
+    CHECK_BYTES(received, "\x5F\x20\x82\x02\x58\x00\x01", 7);
+    CHECK_BYTES(received + 256, "\x61\x00", 2);
+    CHECK(send_at(NONE, 0, "\x00\xC0\x00\x00\x00", 5, 258), IFD_SUCCESS);
+    CHECK(length, 258);
+    CHECK(received[0], 251);
+    CHECK_BYTES(received + 256, "\x61\x5D", 2);
+    CHECK(IFDHCloseChannel(NONE), IFD_SUCCESS);
+}
+
+/* Answers to reset of 2 to 33 bytes are taken; what else a table may not say is refused. */
+static void tables(void)
+{
+    char name[] = "there.table", text[128];
+    int i;
+    CHECK(IFDHCreateChannelByName(NONE, name), IFD_COMMUNICATION_ERROR);
+    CHECK(create(NONE, "atr 3B\n"), IFD_COMMUNICATION_ERROR);
+    CHECK(create(NONE, "atr 3B0\n"), IFD_COMMUNICATION_ERROR);
+    CHECK(create(NONE, "atr 3B 00\n"), IFD_COMMUNICATION_ERROR);
+    CHECK(create(NONE, "atr\n"), IFD_COMMUNICATION_ERROR);
+    CHECK(create(NONE, "object 50 41\n"), IFD_COMMUNICATION_ERROR);
+    CHECK(create(NONE, "app A000000003 41\n"), IFD_COMMUNICATION_ERROR);
+    CHECK(create(NONE, "app A000000003\nobject 50\n"), IFD_COMMUNICATION_ERROR);
+    CHECK(create(NONE, "app A000000003\nobject 50 41 41\n"), IFD_COMMUNICATION_ERROR);
+    CHECK(create(NONE, "app A000000003\nobject 50 4\n"), IFD_COMMUNICATION_ERROR);
+    CHECK(create(NONE, "app A000000003\nobject 5F2001 41\n"), IFD_COMMUNICATION_ERROR);
+    CHECK(create(NONE, "select A000000003\n"), IFD_COMMUNICATION_ERROR);
+    no_reader(NONE);
+    strcpy(text, "atr ");
+    for (i = 0; i < MAX_ATR_SIZE; i++)
+        strcat(text, "3F");
+    CHECK(create(NONE, text), IFD_SUCCESS);
+    check_power(NONE, IFD_POWER_UP,
+                "??????????????????????????????" "???", MAX_ATR_SIZE);
+    CHECK(IFDHCloseChannel(NONE), IFD_SUCCESS);
+    CHECK(create(NONE, strcat(text, "3F")), IFD_COMMUNICATION_ERROR);
+    CHECK(create(NONE, "\r\n  \n app A000000003\r\nlocked 50 -\natr 3b01"), IFD_SUCCESS);
+    check_power(NONE, IFD_POWER_UP, "\x3B\x01", 2);
+    CHECK(IFDHCloseChannel(NONE), IFD_SUCCESS);
+}
+
+/* As many readers as a pcscd has, and one more; a number that is free again gets a new card. */
+static void all_readers(void)
+{
+    DWORD lun;
+    CHECK(IFDHCloseChannel(ONE), IFD_SUCCESS);
+    CHECK(IFDHCloseChannel(OTHER), IFD_SUCCESS);
+    no_reader(ONE);
+    for (lun = 0; lun < PCSCLITE_MAX_READERS_CONTEXTS; lun++)
+        CHECK(create(lun << 16, NAMES), IFD_SUCCESS);
+    CHECK(create(lun << 16, NAMES), IFD_COMMUNICATION_ERROR);
+    CHECK_FAULT(ONE, 0, SELECT, 258, IFD_COMMUNICATION_ERROR);
+    check_power(ONE, IFD_POWER_UP, "\x3B\x00", 2);
+    CHECK_ANSWER(ONE, SELECT, "\x61\x0B");
+    CHECK_ANSWER(ONE, GET_NAME, "\x5F\x20\x03JOE\x90\x00");
+    while (lun-- > 0)
+        CHECK(IFDHCloseChannel(lun << 16), IFD_SUCCESS);
+}
+
+int main(void)
+{
+    no_reader(ONE);
+    two_cards();
+    answers();
+    faults();
+    power();
+    capabilities();
+    long_object();
+    tables();
+    all_readers();
+    return check_result("virtual_reader");
+}

@@ -1,0 +1,35 @@
+/* malloc and realloc that refuse one request, the one whose number the environment's REFUSE_AT is,
+ * counted from 1, and note so in the stand-in's log. A program that is linked with --wrap of both
+ * has these. */
+#include <stdio.h>
+#include <stdlib.h>
+
+void *__real_malloc(size_t size);
+void *__real_realloc(void *block, size_t size);
+void *__wrap_malloc(size_t size);
+void *__wrap_realloc(void *block, size_t size);
+
+static int is_refused(void)
+{
+    static unsigned long time;
+    const char *at = getenv("REFUSE_AT"), *name = getenv("STANDIN_LOG");
+    FILE *file;
+    if (at == NULL || name == NULL || strtoul(at, NULL, 10) != ++time)
+        return 0;
+    file = fopen(name, "a");
+    if (file == NULL)
+        exit(3);
+    fputs("refused\n", file);
+    fclose(file);
+    return 1;
+}
+
+void *__wrap_malloc(size_t size)
+{
+    return is_refused() ? NULL : __real_malloc(size);
+}
+
+void *__wrap_realloc(void *block, size_t size)
+{
+    return is_refused() ? NULL : __real_realloc(block, size);
+}

@@ -1,0 +1,315 @@
+/* A stand-in for libpcsclite: a reader with a card of data objects in it, in the same process.
+ *
+ * The environment says what it is like: STANDIN_TABLE names the file of the card's tables (else it
+ * is that of the examples), STANDIN_READERS has the readers' names between strokes, STANDIN_FAULT
+ * says which call goes wrong, and how (`words_of`), and STANDIN_LOG names a file to which each call
+ * is appended, and at the end what was not given back. */
+#include "table.h"
+
+#include <winscard.h>
+
+#include <stdlib.h>
+#include <string.h>
+
+#define THE_CONTEXT 0x1001
+#define THE_CARD 0x2002
+#define THE_READER "Galliumtoad card 00 00"
+
+/* the most bytes of a list of names, and of what a faulty reader hands back */
+#define NAMES_ROOM 4096
+#define LONG_ANSWER 300
+
+const SCARD_IO_REQUEST g_rgSCardT0Pci = { SCARD_PROTOCOL_T0, sizeof(SCARD_IO_REQUEST) };
+const SCARD_IO_REQUEST g_rgSCardT1Pci = { SCARD_PROTOCOL_T1, sizeof(SCARD_IO_REQUEST) };
+const SCARD_IO_REQUEST g_rgSCardRawPci = { 4, sizeof(SCARD_IO_REQUEST) };
+
+static gt_card card;
+static int has_context, is_connected, is_held, names_held;
+
+static FILE *log_file(void)
+{
+    static FILE *file;
+    const char *name = getenv("STANDIN_LOG");
+    if (file == NULL && name != NULL)
+        file = fopen(name, "a");
+    return file;
+}
+
+/* A line of the log; the bytes come behind the words. */
+static void note(const char *words, const uint8_t *bytes, size_t n)
+{
+    FILE *file = log_file();
+    size_t i;
+    if (file == NULL)
+        return;
+    fputs(words, file);
+    for (i = 0; i < n; i++)
+        fprintf(file, "%02X", bytes[i]);
+    fputc('\n', file);
+    fflush(file);
+}
+
+static void note_reader(const char *name, int is_as_wanted)
+{
+    char words[256];
+    const char *how = is_as_wanted ? "" : ", not shared at T=0 alone,";
+    snprintf(words, sizeof words, "connect%s to %s", how, name);
+    note(words, NULL, 0);
+}
+
+static void note_what_is_left(void)
+{
+    if (is_held)
+        note("left: a transaction", NULL, 0);
+    if (is_connected)
+        note("left: a connection", NULL, 0);
+    if (names_held)
+        note("left: names", NULL, 0);
+    if (has_context)
+        note("left: a context", NULL, 0);
+    gt_card_free(&card);
+}
+
+/* What STANDIN_FAULT says of this call, or NULL: in `CALL:N=WHAT`, rows of which stand between
+ * spaces, that of its N-th time, counted from 1. WHAT is the code that it answers, or a word. */
+static const char *words_of(const char *call, unsigned long time)
+{
+    static char word[16];
+    const char *at = getenv("STANDIN_FAULT");
+    const size_t n = strlen(call);
+    while (at != NULL && *at != '\0') {
+        char *end = NULL;
+        if (strncmp(at, call, n) == 0 && at[n] == ':' && strtoul(at + n + 1, &end, 10) == time
+            && *end == '=') {
+            const size_t size = strcspn(end + 1, " ");
+            if (size < sizeof word) {
+                memcpy(word, end + 1, size);
+                word[size] = '\0';
+                return word;
+            }
+        }
+        at += strcspn(at, " ");
+        at += strspn(at, " ");
+    }
+    return NULL;
+}
+
+/* The code that a call is to answer, or success. */
+static LONG fault_of(const char *call, unsigned long time)
+{
+    const char *word = words_of(call, time);
+    return word != NULL && strlen(word) == 8 ? (LONG)strtoul(word, NULL, 16) : SCARD_S_SUCCESS;
+}
+
+LONG SCardEstablishContext(DWORD scope, LPCVOID reserved, LPCVOID more, LPSCARDCONTEXT context)
+{
+    static unsigned long time;
+    const LONG fault = fault_of("establish", ++time);
+    (void)reserved;
+    (void)more;
+    if (time == 1)
+        atexit(note_what_is_left);
+    note(scope == SCARD_SCOPE_SYSTEM ? "establish" : "establish, of another scope", NULL, 0);
+    if (fault != SCARD_S_SUCCESS)
+        return fault;
+    has_context = 1;
+    *context = THE_CONTEXT;
+    return SCARD_S_SUCCESS;
+}
+
+LONG SCardReleaseContext(SCARDCONTEXT context)
+{
+    static unsigned long time;
+    note("release", NULL, 0);
+    if (context != THE_CONTEXT || !has_context)
+        return SCARD_E_INVALID_HANDLE;
+    has_context = 0;
+    return fault_of("release", ++time);
+}
+
+/* The readers' names, each with a NUL behind it, and one more NUL. */
+static DWORD names_of_readers(char *names)
+{
+    const char *set = getenv("STANDIN_READERS");
+    size_t n, i;
+    if (set == NULL)
+        set = THE_READER;
+    n = strlen(set);
+    if (n > NAMES_ROOM - 2)
+        n = NAMES_ROOM - 2;
+    for (i = 0; i < n; i++)
+        names[i] = set[i] == '/' ? '\0' : set[i];
+    names[n] = names[n + 1] = '\0';
+    return n == 0 ? 0 : (DWORD)(n + 2);
+}
+
+LONG SCardListReaders(SCARDCONTEXT context, LPCSTR groups, LPSTR readers, LPDWORD size)
+{
+    static unsigned long time;
+    static char names[NAMES_ROOM];
+    const DWORD n = names_of_readers(names);
+    const LONG fault = fault_of("list", ++time);
+    (void)groups;
+    note("list", NULL, 0);
+    if (context != THE_CONTEXT)
+        return SCARD_E_INVALID_HANDLE;
+    if (fault != SCARD_S_SUCCESS || n == 0)
+        return fault != SCARD_S_SUCCESS ? fault : SCARD_E_NO_READERS_AVAILABLE;
+    if (*size == SCARD_AUTOALLOCATE) {
+        char *room = malloc(n);
+        if (room == NULL)
+            return SCARD_E_NO_MEMORY;
+        memcpy(room, names, n);
+        *(char **)(void *)readers = room;
+        names_held++;
+    } else if (readers != NULL) {
+        if (*size < n)
+            return SCARD_E_INSUFFICIENT_BUFFER;
+        memcpy(readers, names, n);
+    }
+    *size = n;
+    return SCARD_S_SUCCESS;
+}
+
+LONG SCardFreeMemory(SCARDCONTEXT context, LPCVOID memory)
+{
+    if (context != THE_CONTEXT)
+        return SCARD_E_INVALID_HANDLE;
+    names_held--;
+    free((void *)memory);
+    return SCARD_S_SUCCESS;
+}
+
+/* The card, which is made once; what is stored stays as long as the process. */
+static LONG make_card(void)
+{
+    const char *name = getenv("STANDIN_TABLE");
+    struct table table = TABLE_INIT;
+    FILE *file;
+    int32_t code;
+    if (card.live)
+        return SCARD_S_SUCCESS;
+    file = fopen(name != NULL ? name : STANDIN_TABLE, "r");
+    if (file == NULL)
+        return SCARD_E_NO_SMARTCARD;
+    code = table_read(file, &table);
+    fclose(file);
+    card = table.card;
+    return code == GT_OK ? SCARD_S_SUCCESS : SCARD_W_UNRESPONSIVE_CARD;
+}
+
+LONG SCardConnect(SCARDCONTEXT context, LPCSTR reader, DWORD share, DWORD protocols,
+                  LPSCARDHANDLE handle, LPDWORD protocol)
+{
+    static unsigned long time;
+    LONG fault = fault_of("connect", ++time);
+    const char *word = words_of("connect", time);
+    note_reader(reader, share == SCARD_SHARE_SHARED && protocols == SCARD_PROTOCOL_T0);
+    if (context != THE_CONTEXT)
+        return SCARD_E_INVALID_HANDLE;
+    if (fault == SCARD_S_SUCCESS)
+        fault = make_card();
+    if (fault != SCARD_S_SUCCESS)
+        return fault;
+    gt_card_reset(&card);
+    is_connected = 1;
+    *handle = THE_CARD;
+    *protocol = word != NULL && strcmp(word, "T1") == 0 ? SCARD_PROTOCOL_T1 : SCARD_PROTOCOL_T0;
+    return SCARD_S_SUCCESS;
+}
+
+LONG SCardDisconnect(SCARDHANDLE handle, DWORD disposition)
+{
+    static unsigned long time;
+    note(disposition == SCARD_LEAVE_CARD ? "disconnect" : "disconnect, and not leave", NULL, 0);
+    if (handle != THE_CARD || !is_connected)
+        return SCARD_E_INVALID_HANDLE;
+    is_connected = 0;
+    return fault_of("disconnect", ++time);
+}
+
+LONG SCardBeginTransaction(SCARDHANDLE handle)
+{
+    static unsigned long time;
+    const LONG fault = fault_of("begin", ++time);
+    note("begin", NULL, 0);
+    if (handle != THE_CARD || !is_connected || is_held)
+        return SCARD_E_INVALID_HANDLE;
+    is_held = fault == SCARD_S_SUCCESS;
+    return fault;
+}
+
+LONG SCardEndTransaction(SCARDHANDLE handle, DWORD disposition)
+{
+    static unsigned long time;
+    note(disposition == SCARD_RESET_CARD ? "end, reset" : "end, no reset", NULL, 0);
+    if (handle != THE_CARD || !is_held)
+        return SCARD_E_INVALID_HANDLE;
+    is_held = 0;
+    gt_card_reset(&card);
+    return fault_of("end", ++time);
+}
+
+/* What a faulty reader makes of an answer of `n` bytes; `answer` has room for LONG_ANSWER. */
+static size_t spoil(const char *word, uint8_t *answer, size_t n)
+{
+    static const uint8_t get_response[] = { 0x00, 0xC0, 0x00, 0x00 };
+    const unsigned long status = strtoul(word, NULL, 16);
+    uint8_t tpdu[5];
+    size_t fetched = 2;
+    if (strcmp(word, "none") == 0)
+        return 0;
+    if (strcmp(word, "short") == 0)
+        return 1;
+    if (strcmp(word, "cut") == 0)
+        return n - 1;
+    if (strlen(word) == 4 && status > 0xFFF) { /* another status */
+        answer[n - 2] = (uint8_t)(status >> 8);
+        answer[n - 1] = (uint8_t)status;
+        return n;
+    }
+    if (strcmp(word, "more") == 0) { /* one byte of data before all others */
+        memmove(answer + 1, answer, n);
+        return n + 1;
+    }
+    if (strcmp(word, "long") == 0) {
+        memset(answer, 0x90, LONG_ANSWER);
+        answer[LONG_ANSWER - 1] = 0x00;
+        return LONG_ANSWER;
+    }
+    if (strcmp(word, "fetch") == 0 && answer[n - 2] == 0x61) { /* the reader's own GET RESPONSE */
+        memcpy(tpdu, get_response, sizeof get_response);
+        tpdu[4] = answer[n - 1];
+        gt_card_tpdu(&card, tpdu, sizeof tpdu, answer + n - 2, GT_ANSWER_LIMIT, &fetched);
+        return n - 2 + fetched;
+    }
+    return n;
+}
+
+LONG SCardTransmit(SCARDHANDLE handle, const SCARD_IO_REQUEST *protocol, LPCBYTE sent, DWORD n,
+                   SCARD_IO_REQUEST *answered, LPBYTE received, LPDWORD length)
+{
+    static unsigned long time;
+    uint8_t answer[2 * LONG_ANSWER];
+    size_t size = 0;
+    const LONG fault = fault_of("transmit", ++time);
+    const char *word = words_of("transmit", time);
+    (void)answered;
+    note("> ", sent, n);
+    if (handle != THE_CARD || !is_connected || protocol->dwProtocol != SCARD_PROTOCOL_T0)
+        return SCARD_E_INVALID_HANDLE;
+    if (!is_held)
+        note("no transaction", NULL, 0);
+    if (fault != SCARD_S_SUCCESS)
+        return fault;
+    if (gt_card_tpdu(&card, sent, n, answer, LONG_ANSWER, &size) != GT_OK)
+        return SCARD_E_NOT_TRANSACTED;
+    if (word != NULL)
+        size = spoil(word, answer, size);
+    note("< ", answer, size);
+    if (*length < size)
+        return SCARD_E_INSUFFICIENT_BUFFER;
+    memcpy(received, answer, size);
+    *length = size;
+    return SCARD_S_SUCCESS;
+}

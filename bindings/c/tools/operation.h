@@ -1,0 +1,57 @@
+/* An operation with a card, as its words say it. */
+#ifndef OPERATION_H
+#define OPERATION_H
+
+#include <galliumtoad.h>
+
+/* the most bytes of a value that is put: 64 pieces of a chain, as in a script of card_trace */
+#define OPERATION_VALUE_LIMIT 16320
+
+enum operation_kind { OPERATION_SELECT, OPERATION_GET, OPERATION_PUT, OPERATION_SEND };
+
+struct operation {
+    enum operation_kind kind;
+    uint32_t tag;       /* of a get and a put */
+    uint8_t *bytes;     /* the identifier, the value or the command; NULL where there are none */
+    size_t n;
+};
+
+/* Why words are no operation. What is not of the words, but of the machine, comes last. */
+enum operation_refusal {
+    OPERATION_IS_WELL,
+    OPERATION_UNKNOWN_WORD,
+    OPERATION_WORD_COUNT,
+    OPERATION_BAD_HEX,
+    OPERATION_BAD_TAG,
+    OPERATION_BAD_AID,
+    OPERATION_VALUE_TOO_LONG,
+    OPERATION_TOO_SHORT,
+    OPERATION_BAD_LENGTH,
+    OPERATION_INVALID_INS,
+    OPERATION_READ_FAULT,
+    OPERATION_MEMORY
+};
+
+/* the most words of an operation, the first one with them */
+#define OPERATION_WORDS 3
+
+/* How many words an operation has that begins with this one, the first one with them. 0: none
+ * begins so. */
+size_t operation_word_count(const char *first);
+
+/* Reads an operation from its words: `select AID`, `get TAG`, `put TAG VALUE`, `send HEX`. The
+ * words are those of a script of card_trace, and VALUE may be `@` with the name of a file, whose
+ * bytes are the value. Nothing is held after a refusal. */
+enum operation_refusal operation_read(struct operation *operation, char *const *words,
+                                      size_t count);
+
+/* A few words for a refusal, as card_trace has them. */
+const char *operation_text(enum operation_refusal refusal);
+
+/* Begins the operation at a terminal. A code of galliumtoad.h. */
+int32_t operation_begin(const struct operation *operation, gt_terminal *terminal);
+
+/* Gives the memory back. */
+void operation_free(struct operation *operation);
+
+#endif

@@ -1,0 +1,179 @@
+#include "reader.h"
+
+#include <string.h>
+
+/* What some of the codes of PC/SC say of a card and its reader. */
+static const struct {
+    LONG code;
+    const char *text;
+} TEXTS[] = {
+    { SCARD_E_NO_SERVICE, "no pcscd runs" },
+    { SCARD_E_NO_READERS_AVAILABLE, "no reader" },
+    { SCARD_E_UNKNOWN_READER, "the reader is gone" },
+    { SCARD_E_READER_UNAVAILABLE, "the reader is gone" },
+    { SCARD_E_NO_SMARTCARD, "no card in the reader" },
+    { SCARD_W_REMOVED_CARD, "the card was taken out" },
+    { SCARD_W_RESET_CARD, "the card was reset by another program" },
+    { SCARD_W_UNPOWERED_CARD, "the card has no power" },
+    { SCARD_W_UNRESPONSIVE_CARD, "the card does not answer to reset" },
+    { SCARD_E_PROTO_MISMATCH, "the card does not talk T=0" },
+    { SCARD_E_SHARING_VIOLATION, "another program has the card for itself" },
+    { SCARD_E_NOT_TRANSACTED, "the reader could not carry out the TPDU" },
+    { SCARD_F_COMM_ERROR, "the reader could not carry out the TPDU" },
+    { SCARD_E_INSUFFICIENT_BUFFER, "the reader hands back more than any answer has" },
+};
+
+/* NULL of success, and a text of each other code. */
+static const char *text_of(LONG code)
+{
+    static char other[64];
+    size_t i;
+    if (code == SCARD_S_SUCCESS)
+        return NULL;
+    for (i = 0; i < sizeof TEXTS / sizeof TEXTS[0]; i++) {
+        if (TEXTS[i].code == code)
+            return TEXTS[i].text;
+    }
+    snprintf(other, sizeof other, "PC/SC fault %08lX", (unsigned long)code & 0xFFFFFFFFUL);
+    return other;
+}
+
+/* The names of all readers, one behind another, each with a NUL behind it: `size` bytes. */
+struct names {
+    char *first;
+    DWORD size;
+};
+
+static LONG get_names(SCARDCONTEXT context, struct names *names)
+{
+    names->first = NULL;
+    names->size = SCARD_AUTOALLOCATE;
+    return SCardListReaders(context, NULL, (LPSTR)&names->first, &names->size);
+}
+
+static void free_names(SCARDCONTEXT context, struct names *names)
+{
+    if (names->first != NULL)
+        SCardFreeMemory(context, names->first);
+    names->first = NULL;
+}
+
+/* The name behind `before`, or the first where that is NULL; NULL behind the last. An empty one
+ * ends them. */
+static const char *next_name(const struct names *names, const char *before)
+{
+    const char *end = names->first + names->size;
+    const char *name = before == NULL ? names->first : before + strlen(before) + 1;
+    if (name >= end || *name == '\0' || memchr(name, '\0', (size_t)(end - name)) == NULL)
+        return NULL;
+    return name;
+}
+
+/* The reader that is meant, or NULL and why there is none. */
+static const char *find_name(const struct names *names, const char *wanted, const char **why)
+{
+    const char *name = NULL, *found = NULL;
+    size_t count = 0;
+    while ((name = next_name(names, name)) != NULL) {
+        if (wanted != NULL && strcmp(name, wanted) == 0)
+            return name;
+        if (wanted == NULL || strstr(name, wanted) != NULL) {
+            found = name;
+            count++;
+        }
+    }
+    if (count == 1)
+        return found;
+    if (count == 0)
+        *why = wanted == NULL ? "no reader" : "no such reader";
+    else
+        *why = wanted == NULL ? "more than one reader; -r says which" : "more than one such reader";
+    return NULL;
+}
+
+static LONG establish(SCARDCONTEXT *context)
+{
+    return SCardEstablishContext(SCARD_SCOPE_SYSTEM, NULL, NULL, context);
+}
+
+const char *reader_list(FILE *out)
+{
+    SCARDCONTEXT context;
+    struct names names;
+    const char *name = NULL;
+    LONG code = establish(&context);
+    if (code != SCARD_S_SUCCESS)
+        return text_of(code);
+    code = get_names(context, &names);
+    while (code == SCARD_S_SUCCESS && (name = next_name(&names, name)) != NULL)
+        fprintf(out, "%s\n", name);
+    free_names(context, &names);
+    SCardReleaseContext(context);
+    return code == SCARD_E_NO_READERS_AVAILABLE ? NULL : text_of(code);
+}
+
+/* Connects to the reader of this name at T=0, whatever else its card talks. */
+static const char *connect_to(struct reader *reader, const char *name)
+{
+    DWORD protocol = SCARD_PROTOCOL_UNDEFINED;
+    const LONG code = SCardConnect(reader->context, name, SCARD_SHARE_SHARED, SCARD_PROTOCOL_T0,
+                                   &reader->card, &protocol);
+    if (code != SCARD_S_SUCCESS)
+        return text_of(code);
+    reader->is_connected = true;
+    return protocol == SCARD_PROTOCOL_T0 ? NULL : text_of(SCARD_E_PROTO_MISMATCH);
+}
+
+static const char *begin_transaction(struct reader *reader)
+{
+    const LONG code = SCardBeginTransaction(reader->card);
+    reader->is_held = code == SCARD_S_SUCCESS;
+    return text_of(code);
+}
+
+const char *reader_open(struct reader *reader, const char *name)
+{
+    struct names names;
+    const char *why = NULL, *found;
+    LONG code;
+    memset(reader, 0, sizeof *reader);
+    code = establish(&reader->context);
+    if (code != SCARD_S_SUCCESS)
+        return text_of(code);
+    reader->has_context = true;
+    code = get_names(reader->context, &names);
+    if (code != SCARD_S_SUCCESS)
+        return text_of(code);
+    found = find_name(&names, name, &why);
+    if (found != NULL)
+        why = connect_to(reader, found);
+    free_names(reader->context, &names);
+    return why != NULL ? why : begin_transaction(reader);
+}
+
+const char *reader_transmit(struct reader *reader, const uint8_t *tpdu, size_t n,
+                            uint8_t answer[READER_ROOM], size_t *length)
+{
+    DWORD got = READER_ROOM;
+    const LONG code =
+        SCardTransmit(reader->card, SCARD_PCI_T0, tpdu, (DWORD)n, NULL, answer, &got);
+    *length = code == SCARD_S_SUCCESS && got <= READER_ROOM ? got : 0;
+    return text_of(code);
+}
+
+const char *reader_close(struct reader *reader)
+{
+    LONG code = SCARD_S_SUCCESS, last;
+    if (reader->is_held)
+        code = SCardEndTransaction(reader->card, SCARD_RESET_CARD);
+    if (reader->is_connected) {
+        last = SCardDisconnect(reader->card, SCARD_LEAVE_CARD);
+        code = code != SCARD_S_SUCCESS ? code : last;
+    }
+    if (reader->has_context) {
+        last = SCardReleaseContext(reader->context);
+        code = code != SCARD_S_SUCCESS ? code : last;
+    }
+    memset(reader, 0, sizeof *reader);
+    return text_of(code);
+}

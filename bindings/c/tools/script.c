@@ -1,0 +1,149 @@
+#include "script.h"
+#include "text.h"
+
+#include <stdlib.h>
+#include <string.h>
+
+static bool refuse(struct script_refusal *refusal, size_t number, const char *text)
+{
+    refusal->number = number;
+    refusal->text = text;
+    refusal->is_of_words = false;
+    return false;
+}
+
+/* Room for one more step: twice as much as before where there is none. */
+static bool has_room(struct script *script)
+{
+    const size_t room = script->room > 0 ? 2 * script->room : 16;
+    struct step *steps;
+    if (script->count < script->room)
+        return true;
+    steps = realloc(script->steps, room * sizeof *steps);
+    if (steps == NULL)
+        return false;
+    script->steps = steps;
+    script->room = room;
+    return true;
+}
+
+/* Adds the operation that these words say. */
+static bool add(struct script *script, size_t number, char *const *words, size_t count,
+                struct script_refusal *refusal)
+{
+    enum operation_refusal why = OPERATION_MEMORY;
+    if (has_room(script))
+        why = operation_read(&script->steps[script->count].operation, words, count);
+    if (why != OPERATION_IS_WELL) {
+        refuse(refusal, number, operation_text(why));
+        refusal->is_of_words = why < OPERATION_READ_FAULT;
+        return false;
+    }
+    script->steps[script->count++].number = number;
+    return true;
+}
+
+static void begin(struct script *script, const char *unit)
+{
+    memset(script, 0, sizeof *script);
+    script->unit = unit;
+}
+
+bool script_of_words(struct script *script, char *const *words, size_t count,
+                     struct script_refusal *refusal)
+{
+    size_t at = 0, number = 1;
+    begin(script, "operation");
+    while (at < count) {
+        const size_t wanted = operation_word_count(words[at]);
+        const size_t n = wanted == 0 ? 1 : wanted < count - at ? wanted : count - at;
+        if (!add(script, number++, words + at, n, refusal)) {
+            script_free(script);
+            return false;
+        }
+        at += n;
+    }
+    return true;
+}
+
+/* The whole file, with a NUL behind it; NULL where it can't be read or is too long. */
+static char *read_all(FILE *file, size_t *n, struct script_refusal *refusal)
+{
+    char *text = malloc(SCRIPT_SIZE_LIMIT + 1);
+    const char *why = NULL;
+    if (text == NULL) {
+        refuse(refusal, 0, "out of memory");
+        return NULL;
+    }
+    *n = fread(text, 1, SCRIPT_SIZE_LIMIT + 1, file);
+    if (ferror(file))
+        why = "read fault";
+    else if (*n > SCRIPT_SIZE_LIMIT)
+        why = "input too long";
+    if (why != NULL) {
+        refuse(refusal, 0, why);
+        free(text);
+        return NULL;
+    }
+    text[*n] = '\0';
+    return text;
+}
+
+/* One line, which ends at a NUL; one inside it is a character of no word. */
+static bool add_line(struct script *script, size_t number, char *line, size_t n,
+                     struct script_refusal *refusal)
+{
+    char *words[OPERATION_WORDS + 1];
+    size_t count = 0;
+    if (line[0] == '#')
+        return true;
+    if (strlen(line) != n) {
+        refuse(refusal, number, operation_text(OPERATION_UNKNOWN_WORD));
+        return false;
+    }
+    while (count <= OPERATION_WORDS && (words[count] = text_word(&line)) != NULL)
+        count++;
+    return count == 0 || add(script, number, words, count, refusal);
+}
+
+/* The lines of a text, each with an LF, or a CR and an LF, behind it; the last may lack its LF. */
+static bool add_lines(struct script *script, char *text, size_t n, struct script_refusal *refusal)
+{
+    size_t at = 0, number = 1;
+    while (at < n) {
+        char *line = text + at;
+        char *end = memchr(line, '\n', n - at);
+        size_t size = end != NULL ? (size_t)(end - line) : n - at;
+        at += size + 1;
+        if (end != NULL && size > 0 && line[size - 1] == '\r')
+            size--;
+        line[size] = '\0';
+        if (!add_line(script, number++, line, size, refusal))
+            return false;
+    }
+    return true;
+}
+
+bool script_of_file(struct script *script, FILE *file, struct script_refusal *refusal)
+{
+    size_t n;
+    char *text = read_all(file, &n, refusal);
+    bool is_well;
+    begin(script, "line");
+    if (text == NULL)
+        return false;
+    is_well = add_lines(script, text, n, refusal);
+    free(text);
+    if (!is_well)
+        script_free(script);
+    return is_well;
+}
+
+void script_free(struct script *script)
+{
+    size_t i;
+    for (i = 0; i < script->count; i++)
+        operation_free(&script->steps[i].operation);
+    free(script->steps);
+    begin(script, script->unit);
+}

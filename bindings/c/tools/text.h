@@ -1,0 +1,21 @@
+/* Words and hexadecimal digits of a line of text. */
+#ifndef TEXT_H
+#define TEXT_H
+
+#include <stdbool.h>
+#include <stddef.h>
+#include <stdint.h>
+
+/* The next word of a line, or NULL where none is left. Words stand between spaces. The word gets a
+ * NUL behind it, and `line` goes on behind that. */
+char *text_word(char **line);
+
+/* How many bytes the hexadecimal digits spell, in either case: at least one. 0: the text is none of
+ * that kind. */
+size_t text_hex_size(const char *digits);
+
+/* The bytes of such digits, as many as `text_hex_size` says. `out` has room for them, and may be
+ * where the digits stand. */
+void text_hex_bytes(const char *digits, uint8_t *out);
+
+#endif

@@ -1,0 +1,257 @@
+//! Each room at its limit, exactly full and one less or more, tables of a card and of a session,
+//! and iterators to their end.
+
+use galliumtoad::{head, CardBuilder, Entry, Error, Exchange, Objects, Session, Turn};
+use galliumtoad::{AID_LEAST, AID_LIMIT, APPS_LIMIT, ENTRIES_LIMIT, LEVELS_LIMIT};
+use galliumtoad::{OBJECT_LIMIT, RESPONSE_LIMIT, VALUE_LIMIT};
+
+/// Bytes that go round with a prime period.
+fn bytes(n: usize, from: usize) -> Vec<u8> {
+    (from..from + n).map(|i| (i % 251) as u8).collect()
+}
+
+fn aid(app: usize, n: usize) -> Vec<u8> {
+    let mut aid = bytes(n, 1);
+    aid[0] = 0xA0 + app as u8;
+    aid
+}
+
+/// As many applications as there may be, of identifiers of 5 to 16 bytes; the last has as many
+/// objects as it may, every other one locked, and the first of them the longest value.
+fn full_card() -> CardBuilder {
+    let mut builder = CardBuilder::new().expect("memory");
+    for app in 0..APPS_LIMIT {
+        let n = if app % 2 == 0 { AID_LEAST } else { AID_LIMIT };
+        builder.app(&aid(app, n)).expect("an application");
+    }
+    for entry in 0..ENTRIES_LIMIT {
+        let (tag, value) = (0xDF01 + entry as u32, value_of(entry));
+        let added = match entry % 2 {
+            0 => builder.object(tag, &value),
+            _ => builder.locked(tag, &value),
+        };
+        added.expect("an object");
+    }
+    builder
+}
+
+fn value_of(entry: usize) -> Vec<u8> {
+    bytes(if entry == 0 { VALUE_LIMIT } else { entry - 1 }, entry)
+}
+
+fn wanted_aids() -> Vec<Vec<u8>> {
+    let size = |app| if app % 2 == 0 { 5 } else { 16 };
+    (0..8).map(|app| aid(app, size(app))).collect()
+}
+
+fn wanted_entries() -> Vec<Entry> {
+    (0..64)
+        .map(|entry| Entry {
+            tag: 0xDF01 + entry as u32,
+            value: value_of(entry),
+            is_locked: entry % 2 == 1,
+        })
+        .collect()
+}
+
+#[test]
+fn a_card_tells_all_of_its_tables() {
+    let mut builder = full_card();
+    assert_eq!(builder.app(&aid(9, 5)), Err(Error::TooManyApps));
+    assert_eq!(builder.object(0x50, b""), Err(Error::TableFull));
+    assert_eq!(builder.locked(0x50, b""), Err(Error::TableFull));
+    let card = builder.finish().expect("a card");
+    assert_eq!(card.selected(), None);
+    assert_eq!(card.apps().collect::<Vec<_>>(), wanted_aids());
+    assert_eq!(card.entries(7).collect::<Vec<_>>(), wanted_entries());
+    assert_eq!(card.entries(6).count(), 0);
+    assert_eq!(card.entries(8).count(), 0);
+    let mut apps = card.apps().skip(7);
+    assert!(apps.next().is_some());
+    assert_eq!(apps.next(), None);
+    let mut entries = card.entries(7).skip(63);
+    assert!(entries.next().is_some());
+    assert_eq!(entries.next(), None);
+}
+
+#[test]
+fn a_session_tells_all_of_its_tables() {
+    let card = full_card().finish().expect("a card");
+    let mut session = Session::start(card).expect("a session");
+    assert_eq!(session.selected(), None);
+    assert_eq!(session.apps().collect::<Vec<_>>(), wanted_aids());
+    assert_eq!(session.entries(7).collect::<Vec<_>>(), wanted_entries());
+    assert_eq!(session.entries(6).count(), 0);
+    assert_eq!(session.entries(8).count(), 0);
+    assert_eq!(session.select(&aid(7, 16)).expect("one").status, 0x9000);
+    assert_eq!(session.selected(), Some(aid(7, 16)));
+    assert_eq!(session.select(&aid(7, 15)).expect("one").status, 0x6A82);
+    assert_eq!(session.selected(), Some(aid(7, 16)));
+    assert_eq!(session.select(&aid(0, 5)).expect("one").status, 0x9000);
+    assert_eq!(session.selected(), Some(aid(0, 5)));
+    let of_a_get = |session: &mut Session| session.get(0xDF01).expect("one").status;
+    assert_eq!(of_a_get(&mut session), 0x6A88);
+    session.reset().expect("a reset");
+    assert_eq!(session.selected(), None);
+    let mut card = session.end().expect("the card");
+    assert_eq!(card.turn(), Ok(Turn::Listens));
+    assert_eq!(card.entries(7).collect::<Vec<_>>(), wanted_entries());
+}
+
+#[test]
+fn identifiers_have_5_to_16_bytes() {
+    let mut builder = CardBuilder::new().expect("memory");
+    assert_eq!(builder.app(&aid(0, 4)), Err(Error::Argument));
+    assert_eq!(builder.app(&aid(0, 17)), Err(Error::Argument));
+    assert_eq!(builder.app(&[]), Err(Error::Argument));
+    builder.app(&aid(0, 16)).expect("an application");
+    let card = builder.finish().expect("a card");
+    let mut session = Session::start(card).expect("a session");
+    assert_eq!(session.select(&aid(0, 4)), Err(Error::Argument));
+    assert_eq!(session.select(&aid(0, 17)), Err(Error::Argument));
+    assert_eq!(session.select(&aid(0, 5)).expect("one").status, 0x6A82);
+}
+
+/// A value of the most bytes, and what is heard of it: 33 TPDUs to put it, and as many to get it.
+#[test]
+fn the_longest_value_goes_through_a_session() {
+    let card = full_card().finish().expect("a card");
+    let mut session = Session::start(card).expect("a session");
+    session.select(&aid(7, 16)).expect("an answer");
+    let value = bytes(VALUE_LIMIT, 77);
+    assert_eq!(session.put(0xDF01, &value), Ok(0x9000));
+    assert_eq!(session.heard().expect("all").len(), 33 * 8 + VALUE_LIMIT);
+    let answer = session.get(0xDF01).expect("an answer");
+    assert_eq!(answer.data.len(), OBJECT_LIMIT);
+    assert_eq!(answer.data[..5], [0xDF, 0x01, 0x82, 0x20, 0x00]);
+    assert_eq!(answer.data[5..], value);
+    assert_eq!(session.heard().expect("all").len(), 33 * 8 + OBJECT_LIMIT);
+    assert_eq!(session.put(0xDF01, &bytes(VALUE_LIMIT + 1, 0)), Ok(0x6700));
+    assert_eq!(session.put(0xDF01, b""), Ok(0x9000));
+    assert_eq!(session.get(0xDF01).expect("one").data, b"\xDF\x01\x00");
+    let mut builder = CardBuilder::new().expect("memory");
+    builder.app(&aid(0, 5)).expect("an application");
+    let too_long = bytes(VALUE_LIMIT + 1, 0);
+    assert_eq!(builder.object(0xDF01, &too_long), Err(Error::ValueTooLong));
+}
+
+/// 64 TPDUs of 256 bytes; one byte more is too much.
+fn longest_answer(exchange: &mut Exchange) {
+    for tpdu in 0..64 {
+        while let Ok(Turn::Sends(_)) = exchange.next() {}
+        let procedure = if tpdu == 0 { 0xCA } else { 0xC0 };
+        exchange.take(procedure).expect("a procedure byte");
+        for byte in bytes(256, 256 * tpdu) {
+            exchange.take(byte).expect("a data byte");
+        }
+        if tpdu < 63 {
+            exchange.take(0x61).expect("SW1");
+            exchange.take(0x00).expect("SW2");
+        }
+    }
+}
+
+#[test]
+fn the_longest_answer_is_told() {
+    let get = [0x00, 0xCA, 0xDF, 0x01, 0x00];
+    let mut exchange = Exchange::start(&get).expect("an exchange");
+    longest_answer(&mut exchange);
+    exchange.take(0x90).expect("SW1");
+    assert_eq!(exchange.answer(), None);
+    exchange.take(0x00).expect("SW2");
+    let answer = exchange.answer().expect("an answer");
+    assert_eq!(answer.status, 0x9000);
+    assert_eq!(answer.data, bytes(RESPONSE_LIMIT, 0));
+    let mut exchange = Exchange::start(&get).expect("an exchange");
+    longest_answer(&mut exchange);
+    exchange.take(0x61).expect("SW1");
+    exchange.take(0x01).expect("SW2");
+    while let Ok(Turn::Sends(_)) = exchange.next() {}
+    exchange.take(0xC0).expect("a procedure byte");
+    assert_eq!(exchange.take(0x00), Err(Error::TooLong));
+    assert_eq!(exchange.answer(), None);
+}
+
+#[test]
+fn the_longest_command_is_sent() {
+    let command = [&[0x00, 0xDA, 0xDF, 0x01, 0xFF], &bytes(255, 3)[..]].concat();
+    let mut exchange = Exchange::start(&command).expect("an exchange");
+    for (i, byte) in command.iter().enumerate() {
+        if i == 5 {
+            assert_eq!(exchange.next(), Ok(Turn::Listens));
+            exchange.take(0xDA).expect("a procedure byte");
+        }
+        assert_eq!(exchange.next(), Ok(Turn::Sends(*byte)));
+    }
+    assert_eq!(exchange.next(), Ok(Turn::Listens));
+    let refused = Exchange::start(&[&command[..], &[0x00, 0x00]].concat());
+    assert_eq!(refused.err(), Some(Error::BadLength));
+}
+
+/// Nine letters, and 300: each is a NULL before the card goes on.
+#[test]
+fn plans_of_many_letters_are_carried_out() {
+    let card = full_card().finish().expect("a card");
+    let mut session = Session::start(card).expect("a session");
+    session.plan("nnnnnnnnn", 256).expect("nine letters");
+    session.plan(&"n".repeat(300), 1).expect("300 letters");
+    session.select(&aid(7, 16)).expect("an answer");
+    let line = session.heard().expect("all");
+    let nulls = line.iter().filter(|(_, byte)| *byte == 0x60).count();
+    assert_eq!(nulls, 309);
+    assert_eq!(session.plan("n", 0), Err(Error::Argument));
+    let mut card = session.end().expect("the card");
+    assert_eq!(card.plan("n", 0), Err(Error::Argument));
+    assert_eq!(card.plan("n", 257), Err(Error::Argument));
+    assert_eq!(card.plan("nox", 1), Err(Error::Argument));
+    card.plan("nnnnnnnnno", 1).expect("ten letters");
+    for byte in [0x00, 0xCA, 0x00, 0x50, 0x01] {
+        card.take(byte).expect("a character in turn");
+    }
+    for wanted in [0x60; 9].iter().chain(&[0x69, 0x85]) {
+        assert_eq!(card.turn(), Ok(Turn::Sends(*wanted)));
+    }
+    assert_eq!(card.turn(), Ok(Turn::Listens));
+}
+
+#[test]
+fn heads_have_2_to_6_bytes() {
+    assert_eq!(head(0x50, 0), Some(vec![0x50, 0x00]));
+    assert_eq!(head(0x50, 255), Some(vec![0x50, 0x81, 0xFF]));
+    let longest = vec![0x9F, 0x81, 0x01, 0x82, 0xFF, 0xFF];
+    assert_eq!(head(0x9F8101, 65535), Some(longest));
+    assert_eq!(head(0x1005F20, 0), None);
+}
+
+#[test]
+fn objects_are_listed_to_the_last() {
+    let list = [0x50, 0x01, 0x41].repeat(2730);
+    let mut objects = Objects::over(&list).expect("objects");
+    assert_eq!(objects.len(), 2730);
+    for left in (0..2730).rev() {
+        let object = objects.next().expect("an object");
+        let place = 3 * (2729 - left);
+        assert_eq!((object.place, object.size), (place, 3));
+        assert_eq!(object.value, b"A");
+        assert_eq!(objects.size_hint(), (left, Some(left)));
+    }
+    assert_eq!(objects.next(), None);
+    assert_eq!(objects.next(), None);
+    assert_eq!(objects.len(), 0);
+}
+
+#[test]
+fn objects_stand_at_16_levels() {
+    let nested = |levels: u8| -> Vec<u8> {
+        let inside = (0..levels).rev().map(|level| [0x70, 2 * level]);
+        inside.flatten().collect()
+    };
+    let list = nested(LEVELS_LIMIT);
+    let levels: Vec<u8> = Objects::over(&list)
+        .expect("objects")
+        .map(|it| it.level)
+        .collect();
+    assert_eq!(levels, (1..=16).collect::<Vec<u8>>());
+    let fault = Objects::over(&nested(17)).expect_err("a fault");
+    assert_eq!((fault.place, fault.reason.code()), (32, -45));
+}

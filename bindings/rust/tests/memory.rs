@@ -1,0 +1,250 @@
+//! What is taken is given back, and want of memory is told: over a heap that counts, in the place
+//! of the library's own.
+
+use galliumtoad::{CardBuilder, Error, Exchange, Session, Turn, APPS_LIMIT};
+use std::alloc::{alloc, dealloc, Layout};
+use std::sync::atomic::{AtomicUsize, Ordering::SeqCst};
+use std::sync::{Mutex, MutexGuard};
+
+#[repr(C)]
+pub struct Taken {
+    some: bool,
+    at: *mut u8,
+}
+
+/// Before each block stands its size.
+const HEAD: usize = 16;
+
+static TAKEN: AtomicUsize = AtomicUsize::new(0);
+static REQUESTS: AtomicUsize = AtomicUsize::new(0);
+static REFUSED: AtomicUsize = AtomicUsize::new(0);
+
+fn layout(size: usize) -> Layout {
+    Layout::from_size_align(HEAD + size, HEAD).expect("a size")
+}
+
+#[no_mangle]
+pub extern "C" fn rattle_alloc(size: usize, _align: usize) -> Taken {
+    if REQUESTS.fetch_add(1, SeqCst) + 1 == REFUSED.load(SeqCst) {
+        let at = std::ptr::NonNull::dangling().as_ptr();
+        return Taken { some: false, at };
+    }
+    TAKEN.fetch_add(size, SeqCst);
+    // SAFETY: the layout has a size; the block has room for its own before what is handed out.
+    let at = unsafe {
+        let whole = alloc(layout(size));
+        assert!(!whole.is_null(), "memory");
+        whole.cast::<usize>().write(size);
+        whole.add(HEAD)
+    };
+    Taken { some: true, at }
+}
+
+/// # Safety
+///
+/// The block is one of `rattle_alloc`, which is not used again.
+#[no_mangle]
+pub unsafe extern "C" fn rattle_dealloc(block: *mut u8) {
+    let whole = block.sub(HEAD);
+    let size = whole.cast::<usize>().read();
+    TAKEN.fetch_sub(size, SeqCst);
+    dealloc(whole, layout(size));
+}
+
+/// # Safety
+///
+/// The block is one of `rattle_alloc`, which is not used again where there is a new one.
+#[no_mangle]
+pub unsafe extern "C" fn rattle_realloc(
+    block: *mut u8,
+    kept: usize,
+    size: usize,
+    align: usize,
+) -> Taken {
+    let taken = rattle_alloc(size, align);
+    if taken.some {
+        taken.at.copy_from_nonoverlapping(block, kept);
+        rattle_dealloc(block);
+    }
+    taken
+}
+
+/// The heap, for one test at a time; nothing of it is taken.
+fn heap() -> MutexGuard<'static, ()> {
+    static ONE: Mutex<()> = Mutex::new(());
+    let guard = ONE.lock().unwrap_or_else(|poisoned| poisoned.into_inner());
+    REFUSED.store(0, SeqCst);
+    assert_eq!(TAKEN.load(SeqCst), 0);
+    guard
+}
+
+/// The request of this number is refused, counted from now.
+fn refuse(number: usize) {
+    REQUESTS.store(0, SeqCst);
+    REFUSED.store(number, SeqCst);
+}
+
+fn taken() -> usize {
+    TAKEN.load(SeqCst)
+}
+
+const AID: [u8; 7] = [0xA0, 0x00, 0x00, 0x00, 0x03, 0x10, 0x10];
+
+fn builder() -> Result<CardBuilder, Error> {
+    let mut builder = CardBuilder::new()?;
+    builder.app(&AID)?;
+    builder.object(0x5F20, b"JOE")?;
+    builder.locked(0x50, b"VISA")?;
+    Ok(builder)
+}
+
+#[test]
+fn an_exchange_gives_back_what_it_took() {
+    let _heap = heap();
+    let exchange = Exchange::start(&[0x00, 0xCA, 0x5F, 0x20, 0x00]).expect("an exchange");
+    assert!(taken() > 16_384);
+    drop(exchange);
+    assert_eq!(taken(), 0);
+}
+
+#[test]
+fn a_card_gives_back_what_it_took() {
+    let _heap = heap();
+    let building = builder().expect("a builder");
+    assert!(taken() > 0);
+    drop(building);
+    assert_eq!(taken(), 0);
+    let card = builder().and_then(CardBuilder::finish).expect("a card");
+    assert!(taken() > 0);
+    drop(card);
+    assert_eq!(taken(), 0);
+}
+
+#[test]
+fn a_session_gives_back_what_it_took() {
+    let _heap = heap();
+    let card = builder().and_then(CardBuilder::finish).expect("a card");
+    let mut session = Session::start(card).expect("a session");
+    session.select(&AID).expect("an answer");
+    let with_session = taken();
+    let card = session.end().expect("the card");
+    assert!(0 < taken() && taken() < with_session);
+    let mut session = Session::start(card).expect("a session");
+    session.plan("nona", 256).expect("a plan");
+    session.select(&AID).expect("an answer");
+    drop(session);
+    assert_eq!(taken(), 0);
+}
+
+#[test]
+fn want_of_memory_is_told_by_what_is_made() {
+    let _heap = heap();
+    for number in 1..=3 {
+        refuse(number);
+        let refused = Exchange::start(&[0x00, 0xDA, 0x5F, 0x20, 0x01, 0xAA]);
+        assert_eq!(refused.err(), Some(Error::Memory));
+        assert_eq!(taken(), 0);
+    }
+    let mut seen = 0;
+    loop {
+        seen += 1;
+        refuse(seen);
+        match builder().and_then(CardBuilder::finish) {
+            Ok(_) => break,
+            Err(fault) => assert_eq!((fault, taken()), (Error::Memory, 0)),
+        }
+    }
+    assert!(seen > 3);
+    assert_eq!(taken(), 0);
+}
+
+#[test]
+fn want_of_memory_leaves_a_builder_as_it_was() {
+    let _heap = heap();
+    let mut builder = builder().expect("a builder");
+    refuse(1);
+    assert_eq!(builder.object(0xDF01, b"A"), Err(Error::Memory));
+    refuse(1);
+    assert_eq!(builder.locked(0xDF01, b"A"), Err(Error::Memory));
+    // there is room for some applications before one asks for more
+    let mut apps = 1;
+    while apps < APPS_LIMIT {
+        refuse(1);
+        match builder.app(&[0xD0, 0, 0, 0, apps as u8]) {
+            Ok(()) => apps += 1,
+            Err(fault) => {
+                assert_eq!(fault, Error::Memory);
+                break;
+            }
+        }
+    }
+    assert!(apps < APPS_LIMIT);
+    refuse(0);
+    let mut card = builder.finish().expect("a card");
+    assert_eq!(card.apps().count(), apps);
+    assert_eq!(card.entries(0).count(), 2);
+    refuse(1);
+    assert_eq!(card.plan("nona", 256), Err(Error::Memory));
+    assert_eq!(card.turn(), Ok(Turn::Listens));
+    drop(card);
+    assert_eq!(taken(), 0);
+}
+
+/// Requests of an operation are refused in turn, until it is carried out.
+fn retried<T>(mut operation: impl FnMut() -> Result<T, Error>) -> (usize, T) {
+    for number in 1.. {
+        refuse(number);
+        match operation() {
+            Ok(answer) => return (number, answer),
+            Err(fault) => assert_eq!(fault, Error::Memory),
+        }
+    }
+    unreachable!()
+}
+
+#[test]
+fn want_of_memory_is_told_by_a_session() {
+    let _heap = heap();
+    let card = builder().and_then(CardBuilder::finish).expect("a card");
+    let mut session = Session::start(card).expect("a session");
+    let (tries, answer) = retried(|| session.select(&AID));
+    assert!(tries > 1);
+    assert_eq!(answer.status, 0x9000);
+    let (tries, answer) = retried(|| session.get(0x5F20));
+    assert!(tries > 1);
+    assert_eq!(answer.data, b"\x5F\x20\x03JOE");
+    let (tries, answer) = retried(|| session.send(&[0x00, 0xCA, 0x5F, 0x20, 0x06]));
+    assert!(tries > 1);
+    assert_eq!(answer.status, 0x9000);
+    let (tries, _) = retried(|| session.plan("n", 256));
+    assert!(tries > 1);
+    let (tries, _) = retried(|| session.put(0x5F20, b"ANN"));
+    assert!(tries > 1);
+    drop(session);
+    assert_eq!(taken(), 0);
+}
+
+/// Some request of a get is for what is heard: then the get goes well, and nothing is told of it.
+#[test]
+fn characters_that_were_lost_are_told() {
+    let _heap = heap();
+    let card = builder().and_then(CardBuilder::finish).expect("a card");
+    let mut session = Session::start(card).expect("a session");
+    let mut lost = 0;
+    for number in 1..20 {
+        refuse(number);
+        if session.get(0x5F20).is_ok() {
+            refuse(0);
+            match session.heard() {
+                Ok(line) => assert_eq!(line.len(), 7),
+                Err(fault) => {
+                    assert_eq!(fault, Error::Memory);
+                    lost += 1;
+                }
+            }
+        }
+    }
+    assert!(lost > 0);
+    drop(session);
+    assert_eq!(taken(), 0);
+}

@@ -1,0 +1,268 @@
+//! A terminal with a card behind a transport of whole TPDUs.
+
+use galliumtoad::{Card, CardBuilder, Error, Operation, RunError, Terminal, Transport, Turn};
+use std::io;
+
+const AID: [u8; 7] = [0xA0, 0x00, 0x00, 0x00, 0x03, 0x10, 0x10];
+
+fn card() -> Card {
+    let mut builder = CardBuilder::new().expect("memory");
+    builder.app(&AID).expect("an application");
+    builder.object(0x5F20, b"JOE").expect("an object");
+    builder.locked(0x50, b"VISA").expect("an object");
+    builder.finish().expect("a card")
+}
+
+/// A card as a reader has it, which notes each TPDU with its answer.
+struct Reader {
+    card: Card,
+    seen: Vec<(Vec<u8>, Vec<u8>)>,
+}
+
+impl Transport for Reader {
+    fn transmit(&mut self, tpdu: &[u8], answer: &mut [u8]) -> io::Result<usize> {
+        let came = self
+            .card
+            .tpdu(tpdu)
+            .map_err(|it| io::Error::new(io::ErrorKind::Other, it))?;
+        answer[..came.len()].copy_from_slice(&came);
+        self.seen.push((tpdu.to_vec(), came.clone()));
+        Ok(came.len())
+    }
+}
+
+fn reader() -> Reader {
+    Reader {
+        card: card(),
+        seen: Vec::new(),
+    }
+}
+
+#[test]
+fn operations_run_over_a_transport() {
+    let mut reader = reader();
+    let mut terminal = Terminal::new().expect("memory");
+    let mut run = |operation| {
+        let answer = terminal.run(&mut reader, operation).expect("an answer");
+        (answer.status, answer.data)
+    };
+    assert_eq!(run(Operation::Get(0x5F20)), (0x6985, vec![]));
+    let name = b"\x6F\x09\x84\x07\xA0\x00\x00\x00\x03\x10\x10".to_vec();
+    assert_eq!(run(Operation::Select(&AID)), (0x9000, name));
+    let joe = b"\x5F\x20\x03JOE".to_vec();
+    assert_eq!(run(Operation::Get(0x5F20)), (0x9000, joe));
+    assert_eq!(run(Operation::Put(0x50, b"X")), (0x6982, vec![]));
+    let part = b"\x5F\x20".to_vec();
+    let command = [0x00, 0xCA, 0x5F, 0x20, 0x02];
+    assert_eq!(run(Operation::Send(&command)), (0x6104, part));
+    let sent = |at: usize| (&reader.seen[at].0[..], &reader.seen[at].1[..]);
+    assert_eq!(sent(2), (&[0, 0xC0, 0, 0, 0x0B][..], &reader.seen[2].1[..]));
+    assert_eq!(sent(3), (&[0, 0xCA, 0x5F, 0x20, 0][..], &[0x6C, 6][..]));
+    assert_eq!(sent(4).0, &[0, 0xCA, 0x5F, 0x20, 6]);
+    assert_eq!(reader.seen.len(), 7);
+}
+
+#[test]
+fn a_long_value_goes_in_pieces_and_stops_at_the_first_refusal() {
+    let mut reader = reader();
+    let mut terminal = Terminal::new().expect("memory");
+    let value: Vec<u8> = (0..3000).map(|it| (it % 251) as u8).collect();
+    let select = terminal.run(&mut reader, Operation::Select(&AID));
+    assert_eq!(select.expect("an answer").status, 0x9000);
+    let put = terminal.run(&mut reader, Operation::Put(0x5F20, &value));
+    assert_eq!(put.expect("an answer").status, 0x9000);
+    assert_eq!(reader.seen.len(), 2 + 12);
+    let answer = terminal.run(&mut reader, Operation::Get(0x5F20));
+    let answer = answer.expect("an answer");
+    assert_eq!(answer.status, 0x9000);
+    assert_eq!(&answer.data[..5], b"\x5F\x20\x82\x0B\xB8");
+    assert_eq!(&answer.data[5..], value);
+    reader.seen.clear();
+    let put = terminal.run(&mut reader, Operation::Put(0x50, &value));
+    assert_eq!(put.expect("an answer").status, 0x6982);
+    assert_eq!(reader.seen.len(), 1);
+}
+
+#[test]
+fn a_closure_is_a_transport() {
+    let mut asked = Vec::new();
+    let mut reader = |tpdu: &[u8], answer: &mut [u8]| {
+        asked.push(tpdu.to_vec());
+        answer[..2].copy_from_slice(&[0x6A, 0x82]);
+        Ok(2)
+    };
+    let mut terminal = Terminal::new().expect("memory");
+    let answer = terminal.run(&mut reader, Operation::Select(&AID));
+    assert_eq!(answer.expect("an answer").status, 0x6A82);
+    assert_eq!(asked, [b"\x00\xA4\x04\x00\x07\xA0\x00\x00\x00\x03\x10\x10"]);
+}
+
+/// What a terminal says of a reader that answers so, once.
+fn fault_of(bytes: &[u8], says: usize) -> (Result<u16, RunError>, usize, bool) {
+    let mut times = 0;
+    let mut reader = |_: &[u8], answer: &mut [u8]| {
+        times += 1;
+        answer[..bytes.len()].copy_from_slice(bytes);
+        Ok(says)
+    };
+    let mut terminal = Terminal::new().expect("memory");
+    let answer = terminal.run(&mut reader, Operation::Select(&AID));
+    let can_begin = terminal.begin(Operation::Get(0x5F20)).is_ok();
+    (answer.map(|it| it.status), times, can_begin)
+}
+
+#[test]
+fn what_a_reader_may_not_hand_back_is_a_fault_and_the_next_operation_may_begin() {
+    for (bytes, says, wanted) in [
+        (&[0x90, 0x00][..], 0, Error::NoStatus),
+        (&[0x90, 0x00], 1, Error::NoStatus),
+        (&[0x60, 0x00], 2, Error::NoStatus),
+        (&[0x6F, 0x90, 0x00], 3, Error::NotAsked),
+    ] {
+        let (found, times, can_begin) = fault_of(bytes, says);
+        assert!(matches!(found, Err(RunError::Terminal(it)) if it == wanted));
+        assert_eq!((times, can_begin), (1, true));
+    }
+    for says in [259, usize::MAX] {
+        let (found, times, can_begin) = fault_of(&[0x90, 0x00], says);
+        let Err(RunError::Transport(fault)) = found else {
+            panic!("{found:?}");
+        };
+        assert_eq!(fault.kind(), io::ErrorKind::InvalidData);
+        assert_eq!((times, can_begin), (1, true));
+    }
+}
+
+#[test]
+fn a_byte_more_than_asked_for_is_a_fault() {
+    let mut reader = |tpdu: &[u8], answer: &mut [u8]| {
+        assert_eq!(tpdu, [0x00, 0xCA, 0x5F, 0x20, 0x02]);
+        answer[..5].copy_from_slice(&[1, 2, 3, 0x90, 0x00]);
+        Ok(5)
+    };
+    let mut terminal = Terminal::new().expect("memory");
+    let found = terminal.run(&mut reader, Operation::Send(&[0, 0xCA, 0x5F, 0x20, 2]));
+    assert!(matches!(found, Err(RunError::Terminal(Error::TooMany))));
+}
+
+#[test]
+fn a_transport_that_fails_is_told_and_nothing_is_sent_again() {
+    let mut times = 0;
+    let mut reader = |_: &[u8], _: &mut [u8]| {
+        times += 1;
+        Err(io::Error::new(
+            io::ErrorKind::BrokenPipe,
+            "the card was taken out",
+        ))
+    };
+    let mut terminal = Terminal::new().expect("memory");
+    let found = terminal
+        .run(&mut reader, Operation::Select(&AID))
+        .expect_err("a fault");
+    assert_eq!(found.to_string(), "the card was taken out");
+    assert!(matches!(found, RunError::Transport(it) if it.kind() == io::ErrorKind::BrokenPipe));
+    assert_eq!(times, 1);
+    assert!(terminal.answer().is_none());
+    let mut reader = self::reader();
+    let answer = terminal.run(&mut reader, Operation::Select(&AID));
+    assert_eq!(answer.expect("an answer").status, 0x9000);
+}
+
+#[test]
+fn what_is_no_operation_is_not_begun() {
+    let mut times = 0;
+    let mut reader = |_: &[u8], _: &mut [u8]| {
+        times += 1;
+        Ok(0)
+    };
+    let mut terminal = Terminal::new().expect("memory");
+    for (operation, wanted) in [
+        (Operation::Select(&AID[..4]), Error::Argument),
+        (Operation::Get(0x5F), Error::Argument),
+        (Operation::Put(0x9F8101, b""), Error::Argument),
+        (Operation::Send(&[0x00, 0xCA, 0x5F]), Error::TooShort),
+        (
+            Operation::Send(&[0x00, 0xDA, 0x5F, 0x20, 0x03, 0x41]),
+            Error::BadLength,
+        ),
+        (
+            Operation::Send(&[0x00, 0x60, 0x00, 0x00]),
+            Error::InvalidIns,
+        ),
+    ] {
+        let found = terminal.run(&mut reader, operation).expect_err("a fault");
+        assert!(
+            matches!(found, RunError::Terminal(it) if it == wanted),
+            "{operation:?}"
+        );
+    }
+    terminal.begin(Operation::Get(0x5F20)).expect("begun");
+    let found = terminal
+        .run(&mut reader, Operation::Get(0x50))
+        .expect_err("a fault");
+    assert!(matches!(found, RunError::Terminal(Error::State)));
+    assert_eq!(
+        terminal.tpdu().expect("due").bytes,
+        [0x00, 0xCA, 0x5F, 0x20, 0x00]
+    );
+    assert_eq!(times, 0);
+}
+
+/// What the terminal sends until its operation is over, with a card at the line.
+fn passed(terminal: &mut Terminal, card: &mut Card) -> Vec<u8> {
+    let mut sent = Vec::new();
+    loop {
+        match terminal.next().expect("no fault") {
+            Turn::Sends(byte) => {
+                sent.push(byte);
+                card.take(byte).expect("the card listens");
+            }
+            Turn::Listens => match card.turn().expect("no fault") {
+                Turn::Sends(byte) => terminal.take(byte).expect("no fault"),
+                other => panic!("{other:?}"),
+            },
+            Turn::Done => return sent,
+        }
+    }
+}
+
+#[test]
+fn characters_pass_by_hand() {
+    let mut card = card();
+    let mut terminal = Terminal::new().expect("memory");
+    terminal.begin(Operation::Select(&AID)).expect("begun");
+    let sent = passed(&mut terminal, &mut card);
+    assert_eq!(
+        sent,
+        b"\x00\xA4\x04\x00\x07\xA0\x00\x00\x00\x03\x10\x10\x00\xC0\x00\x00\x0B"
+    );
+    assert_eq!(terminal.take(0x90), Err(Error::AfterEnd));
+    assert_eq!(terminal.answer().expect("an answer").status, 0x9000);
+    terminal.begin(Operation::Get(0x5F20)).expect("begun");
+    assert_eq!(terminal.take(0xCA), Err(Error::NotListening));
+    assert_eq!(terminal.next(), Ok(Turn::Sends(0x00)));
+    assert!(terminal.tpdu().is_none());
+    assert_eq!(terminal.answered(&[0x90, 0x00]), Err(Error::NotDue));
+    card.take(0x00).expect("the card listens");
+    passed(&mut terminal, &mut card);
+    let answer = terminal.answer().expect("an answer");
+    assert_eq!(
+        (answer.status, &answer.data[..]),
+        (0x9000, &b"\x5F\x20\x03JOE"[..])
+    );
+}
+
+#[test]
+fn a_terminal_at_rest_has_no_turn() {
+    let mut terminal = Terminal::new().expect("memory");
+    for _ in 0..2 {
+        assert_eq!(terminal.next(), Err(Error::State));
+        assert_eq!(terminal.take(0x90), Err(Error::AfterEnd));
+        assert_eq!(terminal.answered(&[0x90, 0x00]), Err(Error::NotDue));
+        assert!(terminal.tpdu().is_none());
+        assert!(terminal.answer().is_none());
+        terminal.begin(Operation::Get(0x5F20)).expect("begun");
+        assert_eq!(terminal.next(), Ok(Turn::Sends(0x00)));
+        terminal.reset().expect("it drops what is under way");
+    }
+}

@@ -1,0 +1,113 @@
+-- What the calls on a terminal's handle do to what it holds. A refusal leaves it as it was.
+use Rattle.std.specs.Prelude.{◌≡◌, ◌⊎◌, ℕ, ℤ, List, [], ◌∷◌, true, Option, Some, None, Result, Ok, Err, MatchOption, if◌then◌else◌}
+use Rattle.apdu_core.specs.declared.command.ApduFault.{ApduFault}
+use Rattle.apdu_core.specs.CommandBytes.{Command, IsCommand, command_bytes}
+use Rattle.apdu_core.specs.StatusWord.{StatusWord}
+use Rattle.t0_core.specs.declared.host_end.HostTurn.{HostTurn}
+use Rattle.t0_core.specs.declared.line_fault.LineFault.{LineFault}
+use Rattle.t0_core.specs.declared.answer_fault.AnswerFault.{AnswerFault}
+use Rattle.t0_core.specs.TpduBytes.{Asked}
+use Rattle.object_card.specs.Tables.{IsAid}
+use Rattle.object_card.specs.OneStep.{Operation, Select, Get, Put}
+use Rattle.card_terminal.specs.declared.terminal.begin_fault.BeginFault.{BeginFault}
+use Rattle.card_terminal.specs.declared.terminal.begin_fault.BeginFault.TheVariants.{OutOfMemory, UnderWay}
+use Rattle.card_terminal.specs.Talk.{AreCommandsOf}
+use Rattle.card_terminal.specs.TerminalSide.{OperationOf, is_going}
+use Rattle.card_terminal.specs.TerminalSteps.{IsBeginning, IsTerminalTurn, IsTerminalTaking, IsTerminalAnswering, IsTerminalAnswer}
+use Rattle.card_c.specs.declared.operating_side.OperatingSide.{OperatingSide}
+use Rattle.card_c.specs.Codes.{gt_ok, gt_empty, gt_state, gt_memory, gt_argument, gt_no_status, command_code}
+use Rattle.card_c.specs.ExchangeCalls.{AreNone, turn_code, turn_byte, taking_code, TellsEnd}
+use Rattle.card_c.specs.TagNumbers.{IsNumbered}
+use Rattle.card_c.specs.TpduCalls.{AreAnswer, TellsTpdu, answered_code, due_of}
+
+-- A call on a handle: one that holds nothing says so, and stays so; what another holds is as this
+-- says, and it stays live.
+abbrev pub OnTerminal : (Option OperationOf → ℤ → Option OperationOf → Type 0)
+    → Option OperatingSide → ℤ → Option OperatingSide → Type 0
+OnTerminal Does None code new = (code ≡ gt_empty) × (new ≡ None)
+OnTerminal Does (Some old) code new =
+    MatchOption new ⊥ (λ side. Does old.terminal code side.terminal)
+
+-- a terminal in a handle that held nothing, which has begun no operation
+abbrev pub HasBegun : Option OperatingSide → ℤ → Option OperatingSide → Type 0
+HasBegun (Some old) code new = (code ≡ gt_state) × (new ≡ Some old)
+HasBegun None code new = ((code ≡ gt_memory) × (new ≡ None))
+    ⊎ ((code ≡ gt_ok) × MatchOption new ⊥ (λ side. side.terminal ≡ None))
+
+-- the operation under way is dropped
+abbrev pub Resets : Option OperationOf → ℤ → Option OperationOf → Type 0
+Resets old code new = (code ≡ gt_ok) × (new ≡ None)
+
+-- how an operation is begun
+abbrev pub begin_code : Result (Unit {0}) BeginFault → ℤ
+begin_code (Ok _) = gt_ok
+begin_code (Err UnderWay) = gt_state
+begin_code (Err OutOfMemory) = gt_memory
+
+abbrev pub Begins : (List Command → Type 0) → Option OperationOf → ℤ → Option OperationOf → Type 0
+Begins AreIts old code new = (begun : Result (Unit {0}) BeginFault) × (code ≡ begin_code begun)
+    × IsBeginning AreIts old begun new
+
+-- what can't be begun, since this is no argument, where none is under way
+abbrev pub IsRefusedWith : ℤ → Option OperationOf → ℤ → Option OperationOf → Type 0
+IsRefusedWith fault old code new =
+    (code ≡ (if is_going old then gt_state else fault)) × (new ≡ old)
+
+abbrev pub BeginsSelect : List ℕ → Option OperationOf → ℤ → Option OperationOf → Type 0
+BeginsSelect aid old code new =
+    ((¬ IsAid aid) × IsRefusedWith gt_argument old code new)
+    ⊎ (IsAid aid × Begins (AreCommandsOf (Select aid)) old code new)
+
+abbrev pub BeginsGet : ℕ → Option OperationOf → ℤ → Option OperationOf → Type 0
+BeginsGet number old code new =
+    (((tag : List ℕ) → ¬ IsNumbered number tag) × IsRefusedWith gt_argument old code new)
+    ⊎ ((tag : List ℕ) × IsNumbered number tag × Begins (AreCommandsOf (Get tag)) old code new)
+
+abbrev pub BeginsPut : ℕ → List ℕ → Option OperationOf → ℤ → Option OperationOf → Type 0
+BeginsPut number value old code new =
+    (((tag : List ℕ) → ¬ IsNumbered number tag) × IsRefusedWith gt_argument old code new)
+    ⊎ ((tag : List ℕ) × IsNumbered number tag
+    × Begins (AreCommandsOf (Put tag value)) old code new)
+
+abbrev pub BeginsSend : List ℕ → Option OperationOf → ℤ → Option OperationOf → Type 0
+BeginsSend bytes old code new =
+    ((fault : ApduFault) × AreNone bytes fault
+    × IsRefusedWith (command_code fault) old code new)
+    ⊎ ((c : Command) × IsCommand c × (bytes ≡ command_bytes c)
+    × Begins (λ commands. commands ≡ c ∷ []) old code new)
+
+-- a turn of the terminal; where no operation has begun it has none
+abbrev pub told_turn : Option HostTurn → ℤ
+told_turn None = gt_state
+told_turn (Some turn) = turn_code turn
+
+abbrev pub told_byte : Option HostTurn → ℕ → ℕ
+told_byte None before = before
+told_byte (Some turn) before = turn_byte turn before
+
+abbrev pub TakesTurn : ℕ → ℕ → Option OperationOf → ℤ → Option OperationOf → Type 0
+TakesTurn before byte old code new = (turn : Option HostTurn) × (code ≡ told_turn turn)
+    × (byte ≡ told_byte turn before) × IsTerminalTurn old turn new
+
+abbrev pub TakesCharacter : ℕ → Option OperationOf → ℤ → Option OperationOf → Type 0
+TakesCharacter byte old code new = (taken : Result (Unit {0}) LineFault)
+    × (code ≡ taking_code taken) × IsTerminalTaking old byte taken new
+
+-- what it asks a reader now
+abbrev pub due_in : Option OperationOf → Option Asked
+due_in None = None
+due_in (Some operation) = due_of operation.exchange
+
+abbrev pub TakesAnswer : List ℕ → Option OperationOf → ℤ → Option OperationOf → Type 0
+TakesAnswer answer old code new =
+    (((bytes : List ℕ) (status : StatusWord) → AreAnswer answer bytes status → ⊥)
+    × (code ≡ gt_no_status) × (new ≡ old))
+    ⊎ ((bytes : List ℕ) × (status : StatusWord) × AreAnswer answer bytes status
+    × (taken : Result (Unit {0}) AnswerFault) × (code ≡ answered_code taken)
+    × IsTerminalAnswering old bytes status taken new)
+
+-- The answer of an operation goes out, if there is one.
+abbrev pub TellsAnswer : Option OperationOf → ℕ → List ℕ → ℕ → ℤ → ℕ → List ℕ → ℕ → Type 0
+TellsAnswer terminal status room len code status' room' len' =
+    (answer : Option (StatusWord × List ℕ)) × IsTerminalAnswer terminal answer
+    × TellsEnd answer status room len code status' room' len'

@@ -1,0 +1,44 @@
+-- What the exports on whole TPDUs answer.
+use Rattle.std.specs.Prelude.{◌≡◌, ◌⊎◌, ℕ, ℤ, ◌<◌, ◌≤◌, List, [], ◌∷◌, ◌++◌, drop, length, true, false, Option, Some, None, IsSome, Result, Ok, Err, if◌then◌else◌}
+use Rattle.apdu_core.specs.StatusWord.{StatusWord, IsStatusWord}
+use Rattle.t0_core.specs.declared.answer_fault.AnswerFault.{AnswerFault}
+use Rattle.t0_core.specs.HostAnswer.{is_due}
+use Rattle.t0_core.specs.TpduBytes.{Asked, asked_by, tpdu_bytes}
+use Rattle.card_terminal.specs.ExchangeSide.{ExchangeOf}
+use Rattle.card_terminal.specs.ExchangeSteps.{IsAnswering}
+use Rattle.card_c.specs.Codes.{gt_ok, gt_buffer, gt_not_due, gt_no_status, answer_code}
+
+-- what an exchange asks a reader now
+abbrev pub due_of : ExchangeOf → Option Asked
+due_of exchange = if is_due exchange.host then Some (asked_by exchange.host) else None
+
+-- The TPDU that is due goes out, and how many bytes may come back. Where none is, or there is too
+-- little room, nothing changes.
+abbrev pub TellsTpdu : Option Asked → List ℕ → ℕ → ℕ → ℤ → List ℕ → ℕ → ℕ → Type 0
+TellsTpdu None room len most code room' len' most' =
+    (code ≡ gt_not_due) × (room' ≡ room) × (len' ≡ len) × (most' ≡ most)
+TellsTpdu (Some asked) room len most code room' len' most' =
+    ((length room < length (tpdu_bytes asked)) × (code ≡ gt_buffer) × (room' ≡ room)
+    × (len' ≡ len) × (most' ≡ most))
+    ⊎ ((code ≡ gt_ok)
+    × (room' ≡ tpdu_bytes asked ++ drop (length (tpdu_bytes asked)) room)
+    × (len' ≡ length (tpdu_bytes asked)) × (most' ≡ asked.may_come))
+
+-- an answer: data, and then a status
+abbrev pub AreAnswer : List ℕ → List ℕ → StatusWord → Type 0
+AreAnswer answer bytes status =
+    (answer ≡ bytes ++ status.0 ∷ status.1 ∷ []) × IsStatusWord status
+
+-- how it is taken
+abbrev pub answered_code : Result (Unit {0}) AnswerFault → ℤ
+answered_code (Ok _) = gt_ok
+answered_code (Err fault) = answer_code fault
+
+-- These bytes are taken as the answer to the TPDU that is due, where they end in a status.
+abbrev pub IsAnswered : ExchangeOf → List ℕ → ℤ → ExchangeOf → Type 0
+IsAnswered old answer code new =
+    (((bytes : List ℕ) (status : StatusWord) → AreAnswer answer bytes status → ⊥)
+    × (code ≡ gt_no_status) × (new ≡ old))
+    ⊎ ((bytes : List ℕ) × (status : StatusWord) × AreAnswer answer bytes status
+    × (taken : Result (Unit {0}) AnswerFault) × (code ≡ answered_code taken)
+    × IsAnswering old bytes status taken new)

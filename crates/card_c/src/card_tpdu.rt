@@ -1,0 +1,103 @@
+//! A whole TPDU at a card, as a reader carries it out.
+ghost use Rattle.std.specs.Prelude.{◌≡◌, ◌+◌, ◌≤◌, ◌++◌, ◌∷◌, length, drop, true, None, IsSome};
+ghost use Rattle.t0_core.specs.CardTpdu.{rests};
+ghost use Rattle.t0_core.specs.TpduBytes.{asked_in};
+ghost use Rattle.card_c.specs.CardHandle.{held_by, OnHandle};
+ghost use Rattle.card_c.specs.CardTpduCalls.{CarriesOut, IsCarriedOut};
+
+use crate::card_held::GtCard;
+use crate::card_side::CardSide;
+use crate::code;
+use crate::plan_queue::PlanQueue;
+use apdu_core::Status;
+use object_card::ObjectCard;
+use std::alloc::Global;
+use t0_core::{CardEnd, Gather, WholeTpdu};
+
+/// Carries out a whole TPDU under the next of the card's plans.
+#[unsafe(no_mangle)]
+pub extern "C" fn galliumtoad_card_tpdu(
+    alloc: Global,
+    card: &mut GtCard,
+    tpdu: &[u8],
+    answer: &mut [u8],
+    len: &mut usize,
+) -> i32
+    ensures empty { held_by card.old ≡ None
+        → (answer.new ≡ answer.old) × (len.new ≡ len.old) }
+    ensures carries_out { OnHandle (CarriesOut tpdu.now answer.old len.old answer.new len.new)
+        (held_by card.old) result (held_by card.new) }
+{
+    let Some(mut side) = card.take_out(alloc) else {
+        return code::EMPTY;
+    };
+    let code = carry_out(alloc, &mut side, tpdu, answer, len);
+    card.put(side);
+    code
+}
+
+fn carry_out(
+    alloc: Global,
+    side: &mut CardSide,
+    tpdu: &[u8],
+    answer: &mut [u8],
+    len: &mut usize,
+) -> i32
+    ensures { CarriesOut tpdu.now answer.old len.old answer.new len.new side.old result side.new }
+{
+    let CardSide::Standing(end, plans) = side else {
+        return code::STATE;
+    };
+    if !end.is_at_rest() {
+        return code::STATE;
+    }
+    if WholeTpdu::read(tpdu).is_none() {
+        return code::NO_TPDU;
+    }
+    if answer.len() < 2 {
+        return code::BUFFER;
+    }
+    match Gather::with_room(alloc, (answer.len() - 2).min(256)) {
+        Ok(mut gather) => pass(end, plans, tpdu, &mut gather, answer, len),
+        Err(_) => code::MEMORY,
+    }
+}
+
+/// Carries out a TPDU at a card's end that can, and hands its answer out to C.
+fn pass(
+    end: &mut CardEnd<ObjectCard>,
+    plans: &mut PlanQueue,
+    tpdu: &[u8],
+    gather: &mut Gather,
+    answer: &mut [u8],
+    len: &mut usize,
+) -> i32
+    requires rests { rests end.old.stage ≡ true }
+    requires whole { IsSome (asked_in tpdu.now) }
+    requires room { gather.old.limit + 2 ≤ length answer.old }
+    ensures { IsCarriedOut tpdu.now end.old plans.old gather.old answer.old len.old
+        result end.new plans.new answer.new len.new }
+{
+    let done = end.tpdu(tpdu, &mut plans.cursor(), gather);
+    plans.advance();
+    match done {
+        Ok(status) => {
+            hand_out(gather.bytes(), status, answer, len);
+            code::OK
+        }
+        Err(fault) => code::of_tpdu(fault),
+    }
+}
+
+/// Data and a status go to the front of an array that has room for them.
+fn hand_out(bytes: &[u8], status: Status, answer: &mut [u8], len: &mut usize)
+    requires { length bytes.now + 2 ≤ length answer.old }
+    ensures answer { answer.new ≡ bytes.now ++ status.0 ∷ status.1
+        ∷ drop (length bytes.now + 2) answer.old }
+    ensures len { len.new ≡ length bytes.now + 2 }
+{
+    let count = bytes.len();
+    answer[..count].copy_from_slice(bytes);
+    answer[count..count + 2].copy_from_slice(&[status.sw1(), status.sw2()]);
+    *len = count + 2;
+}

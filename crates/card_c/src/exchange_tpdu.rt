@@ -1,0 +1,79 @@
+//! An exchange that is driven by whole TPDUs.
+ghost use Rattle.std.specs.Prelude.{◌≡◌, Some, None, IsSome};
+ghost use Rattle.card_c.specs.Codes.{gt_empty};
+ghost use Rattle.card_c.specs.declared.terminal_side.TerminalSide.{TerminalSide};
+ghost use Rattle.card_c.specs.ExchangeHandle.{exchange_in};
+ghost use Rattle.card_c.specs.TpduCalls.{TellsTpdu, IsAnswered, due_of};
+
+use crate::code;
+use crate::held_exchange::ExchangeHandle;
+use crate::terminal_side::TerminalSide;
+use crate::whole_tpdu::{answer_of, told};
+use std::alloc::Global;
+
+/// The whole TPDU that is due, and how many bytes may come back.
+#[unsafe(no_mangle)]
+pub extern "C" fn galliumtoad_exchange_tpdu(
+    alloc: Global,
+    exchange: &mut ExchangeHandle,
+    tpdu: &mut [u8],
+    len: &mut usize,
+    most: &mut usize,
+) -> i32
+    ensures kept { exchange_in exchange.new ≡ exchange_in exchange.old }
+    ensures empty { exchange_in exchange.old ≡ None → (result ≡ gt_empty)
+        × (tpdu.new ≡ tpdu.old) × (len.new ≡ len.old) × (most.new ≡ most.old) }
+    ensures told { (side : TerminalSide) → exchange_in exchange.old ≡ Some side
+        → TellsTpdu (due_of side.exchange) tpdu.old len.old most.old
+        result tpdu.new len.new most.new }
+{
+    let Some(side) = exchange.take_out(alloc) else {
+        return code::EMPTY;
+    };
+    let answer = due(&side, tpdu, len, most);
+    exchange.put(side);
+    answer
+}
+
+/// The TPDU that is due goes out to C.
+fn due(side: &TerminalSide, tpdu: &mut [u8], len: &mut usize, most: &mut usize) -> i32
+    ensures { TellsTpdu (due_of side.now.exchange) tpdu.old len.old most.old
+        result tpdu.new len.new most.new }
+{
+    told(side.exchange.tpdu(), tpdu, len, most)
+}
+
+/// Takes the answer to that TPDU: data, and then the status.
+#[unsafe(no_mangle)]
+pub extern "C" fn galliumtoad_exchange_answered(
+    alloc: Global,
+    exchange: &mut ExchangeHandle,
+    answer: &[u8],
+) -> i32
+    ensures empty { exchange_in exchange.old ≡ None
+        → (result ≡ gt_empty) × (exchange_in exchange.new ≡ None) }
+    ensures held { IsSome (exchange_in exchange.old) → IsSome (exchange_in exchange.new) }
+    ensures answered { (before after : TerminalSide) → exchange_in exchange.old ≡ Some before
+        → exchange_in exchange.new ≡ Some after
+        → IsAnswered before.exchange answer.now result after.exchange }
+{
+    let Some(mut side) = exchange.take_out(alloc) else {
+        return code::EMPTY;
+    };
+    let code = taken(&mut side, answer);
+    exchange.put(side);
+    code
+}
+
+/// An answer, as C is told of it.
+fn taken(side: &mut TerminalSide, answer: &[u8]) -> i32
+    ensures { IsAnswered side.old.exchange answer.now result side.new.exchange }
+{
+    let Some((bytes, status)) = answer_of(answer) else {
+        return code::NO_STATUS;
+    };
+    match side.exchange.answered(bytes, status) {
+        Ok(()) => code::OK,
+        Err(fault) => code::of_answer(fault),
+    }
+}

@@ -1,0 +1,359 @@
+//! A terminal with an operation under way, over any line.
+ghost use Rattle.std.specs.Prelude.{◌≡◌, Some, None, IfOk, IfErr, if◌then◌else◌};
+ghost use Rattle.apdu_core.specs.declared.command.ApduFault.{ApduFault};
+ghost use Rattle.apdu_core.specs.CommandBytes.{IsCommand, command_bytes};
+ghost use Rattle.card_c.specs.Codes.{gt_empty, gt_state, command_code};
+ghost use Rattle.card_c.specs.ExchangeCalls.{AreNone};
+ghost use Rattle.card_terminal.specs.TerminalSide.{is_going};
+ghost use Rattle.card_c.specs.declared.operating_side.OperatingSide.{OperatingSide};
+ghost use Rattle.card_c.specs.TerminalHandle.{terminal_in};
+ghost use Rattle.card_c.specs.TerminalCalls.{HasBegun, OnTerminal, BeginsSelect, BeginsGet, BeginsPut, BeginsSend, Resets, TakesTurn, TakesCharacter, TakesAnswer, TellsAnswer, due_in, begin_code};
+ghost use Rattle.card_c.specs.TpduCalls.{TellsTpdu};
+
+use crate::code;
+use crate::copied::copied;
+use crate::held_terminal::TerminalHandle;
+use crate::operating_side::OperatingSide;
+use crate::tag_number::tag_of;
+use crate::whole_tpdu::{answer_of, told};
+use apdu_core::Command;
+use card_terminal::{BeginFault, Terminal};
+use object_card::Aid;
+use std::alloc::Global;
+use t0_core::HostTurn;
+
+/// A terminal that has begun no operation, in a handle that holds nothing.
+#[unsafe(no_mangle)]
+pub extern "C" fn galliumtoad_terminal_new(alloc: Global, terminal: &mut TerminalHandle) -> i32
+    ensures { HasBegun (terminal_in terminal.old) result (terminal_in terminal.new) }
+{
+    if terminal.is_live() {
+        return code::STATE;
+    }
+    match Box::new(
+        alloc,
+        OperatingSide {
+            terminal: Terminal::new(alloc),
+        },
+    ) {
+        Ok(side) => {
+            terminal.put(side);
+            code::OK
+        }
+        Err(_) => code::MEMORY,
+    }
+}
+
+/// Gives all memory back. A handle that holds nothing stays so.
+#[unsafe(no_mangle)]
+pub extern "C" fn galliumtoad_terminal_free(alloc: Global, terminal: &mut TerminalHandle)
+    ensures { terminal_in terminal.new ≡ None }
+{
+    drop(terminal.take_out(alloc));
+}
+
+/// Drops the operation that is under way.
+#[unsafe(no_mangle)]
+pub extern "C" fn galliumtoad_terminal_reset(alloc: Global, terminal: &mut TerminalHandle) -> i32
+    ensures { OnTerminal Resets (terminal_in terminal.old) result (terminal_in terminal.new) }
+{
+    let Some(mut side) = terminal.take_out(alloc) else {
+        return code::EMPTY;
+    };
+    side.terminal.reset();
+    terminal.put(side);
+    code::OK
+}
+
+/// Begins the selection of an application.
+#[unsafe(no_mangle)]
+pub extern "C" fn galliumtoad_terminal_select(
+    alloc: Global,
+    terminal: &mut TerminalHandle,
+    aid: &[u8],
+) -> i32
+    ensures { OnTerminal (BeginsSelect aid.now)
+        (terminal_in terminal.old) result (terminal_in terminal.new) }
+{
+    let Some(mut side) = terminal.take_out(alloc) else {
+        return code::EMPTY;
+    };
+    let answer = select(&mut side.terminal, aid);
+    terminal.put(side);
+    answer
+}
+
+fn select(terminal: &mut Terminal, aid: &[u8]) -> i32
+    ensures { BeginsSelect aid.now terminal.old result terminal.new }
+{
+    match Aid::new(aid) {
+        Some(aid) => begun(terminal.select(&aid)),
+        None => refused(terminal, code::ARGUMENT),
+    }
+}
+
+/// Begins the reading of a data object.
+#[unsafe(no_mangle)]
+pub extern "C" fn galliumtoad_terminal_get(
+    alloc: Global,
+    terminal: &mut TerminalHandle,
+    tag: u32,
+) -> i32
+    ensures { OnTerminal (BeginsGet tag)
+        (terminal_in terminal.old) result (terminal_in terminal.new) }
+{
+    let Some(mut side) = terminal.take_out(alloc) else {
+        return code::EMPTY;
+    };
+    let answer = get(&mut side.terminal, tag);
+    terminal.put(side);
+    answer
+}
+
+fn get(terminal: &mut Terminal, number: u32) -> i32
+    ensures { BeginsGet number terminal.old result terminal.new }
+{
+    match tag_of(number) {
+        Some(tag) => begun(terminal.get(tag)),
+        None => refused(terminal, code::ARGUMENT),
+    }
+}
+
+/// Begins the storing of a value.
+#[unsafe(no_mangle)]
+pub extern "C" fn galliumtoad_terminal_put(
+    alloc: Global,
+    terminal: &mut TerminalHandle,
+    tag: u32,
+    value: &[u8],
+) -> i32
+    ensures { OnTerminal (BeginsPut tag value.now)
+        (terminal_in terminal.old) result (terminal_in terminal.new) }
+{
+    let Some(mut side) = terminal.take_out(alloc) else {
+        return code::EMPTY;
+    };
+    let answer = put(&mut side.terminal, tag, value);
+    terminal.put(side);
+    answer
+}
+
+fn put(terminal: &mut Terminal, number: u32, value: &[u8]) -> i32
+    ensures { BeginsPut number value.now terminal.old result terminal.new }
+{
+    match tag_of(number) {
+        Some(tag) => begun(terminal.put(tag, value)),
+        None => refused(terminal, code::ARGUMENT),
+    }
+}
+
+/// Begins the exchange of any one command.
+#[unsafe(no_mangle)]
+pub extern "C" fn galliumtoad_terminal_send(
+    alloc: Global,
+    terminal: &mut TerminalHandle,
+    command: &[u8],
+) -> i32
+    ensures { OnTerminal (BeginsSend command.now)
+        (terminal_in terminal.old) result (terminal_in terminal.new) }
+{
+    let Some(mut side) = terminal.take_out(alloc) else {
+        return code::EMPTY;
+    };
+    let answer = send(&mut side.terminal, command);
+    terminal.put(side);
+    answer
+}
+
+fn send(terminal: &mut Terminal, bytes: &[u8]) -> i32
+    ensures { BeginsSend bytes.now terminal.old result terminal.new }
+{
+    match command_of(bytes) {
+        Ok(command) => begun(terminal.send(command)),
+        Err(fault) => refused(terminal, fault),
+    }
+}
+
+/// The command that the bytes are, or the code of what refuses it.
+fn command_of(bytes: &[u8]) -> Result<Command<'_>, i32>
+    ensures command { IfOk result (λ c. IsCommand c × (bytes.now ≡ command_bytes c)) }
+    ensures refused { IfErr result (λ code. (fault : ApduFault) × AreNone bytes.now fault
+        × (code ≡ command_code fault)) }
+{
+    match Command::read(bytes) {
+        Ok(command) => Ok(command),
+        Err(fault) => Err(code::of_command(fault)),
+    }
+}
+
+/// How an operation was begun.
+fn begun(begun: Result<(), BeginFault>) -> i32
+    ensures { result ≡ begin_code begun }
+{
+    match begun {
+        Ok(()) => code::OK,
+        Err(BeginFault::UnderWay) => code::STATE,
+        Err(BeginFault::OutOfMemory) => code::MEMORY,
+    }
+}
+
+/// Why an operation is not begun, whose arguments are none.
+fn refused(terminal: &Terminal, fault: i32) -> i32
+    ensures { result ≡ (if is_going terminal.now then gt_state else fault) }
+{
+    if terminal.is_going() {
+        code::STATE
+    } else {
+        fault
+    }
+}
+
+/// What the terminal does now.
+#[unsafe(no_mangle)]
+pub extern "C" fn galliumtoad_terminal_next(
+    alloc: Global,
+    terminal: &mut TerminalHandle,
+    byte: &mut u8,
+) -> i32
+    ensures empty { terminal_in terminal.old ≡ None → byte.new ≡ byte.old }
+    ensures turn { OnTerminal (TakesTurn byte.old byte.new)
+        (terminal_in terminal.old) result (terminal_in terminal.new) }
+{
+    let Some(mut side) = terminal.take_out(alloc) else {
+        return code::EMPTY;
+    };
+    let answer = turned(&mut side.terminal, byte);
+    terminal.put(side);
+    answer
+}
+
+fn turned(terminal: &mut Terminal, byte: &mut u8) -> i32
+    ensures { TakesTurn byte.old byte.new terminal.old result terminal.new }
+{
+    match terminal.next() {
+        None => code::STATE,
+        Some(HostTurn::Sends(sent)) => {
+            *byte = sent;
+            code::SENDS
+        }
+        Some(HostTurn::Listens) => code::OK,
+        Some(HostTurn::Done(_)) => code::DONE,
+        Some(HostTurn::Failed) => code::FAILED,
+    }
+}
+
+/// Takes a character of the card.
+#[unsafe(no_mangle)]
+pub extern "C" fn galliumtoad_terminal_take(
+    alloc: Global,
+    terminal: &mut TerminalHandle,
+    byte: u8,
+) -> i32
+    ensures { OnTerminal (TakesCharacter byte)
+        (terminal_in terminal.old) result (terminal_in terminal.new) }
+{
+    let Some(mut side) = terminal.take_out(alloc) else {
+        return code::EMPTY;
+    };
+    let answer = taken(&mut side.terminal, byte);
+    terminal.put(side);
+    answer
+}
+
+fn taken(terminal: &mut Terminal, byte: u8) -> i32
+    ensures { TakesCharacter byte terminal.old result terminal.new }
+{
+    match terminal.take(byte) {
+        Ok(()) => code::OK,
+        Err(fault) => code::of_line(fault),
+    }
+}
+
+/// The whole TPDU that is due, and how many bytes may come back.
+#[unsafe(no_mangle)]
+pub extern "C" fn galliumtoad_terminal_tpdu(
+    alloc: Global,
+    terminal: &mut TerminalHandle,
+    tpdu: &mut [u8],
+    len: &mut usize,
+    most: &mut usize,
+) -> i32
+    ensures kept { terminal_in terminal.new ≡ terminal_in terminal.old }
+    ensures empty { terminal_in terminal.old ≡ None → (result ≡ gt_empty)
+        × (tpdu.new ≡ tpdu.old) × (len.new ≡ len.old) × (most.new ≡ most.old) }
+    ensures told { (side : OperatingSide) → terminal_in terminal.old ≡ Some side
+        → TellsTpdu (due_in side.terminal) tpdu.old len.old most.old
+        result tpdu.new len.new most.new }
+{
+    let Some(side) = terminal.take_out(alloc) else {
+        return code::EMPTY;
+    };
+    let answer = told(side.terminal.tpdu(), tpdu, len, most);
+    terminal.put(side);
+    answer
+}
+
+/// Takes the answer to that TPDU: data, and then the status.
+#[unsafe(no_mangle)]
+pub extern "C" fn galliumtoad_terminal_answered(
+    alloc: Global,
+    terminal: &mut TerminalHandle,
+    answer: &[u8],
+) -> i32
+    ensures { OnTerminal (TakesAnswer answer.now)
+        (terminal_in terminal.old) result (terminal_in terminal.new) }
+{
+    let Some(mut side) = terminal.take_out(alloc) else {
+        return code::EMPTY;
+    };
+    let code = answered(&mut side.terminal, answer);
+    terminal.put(side);
+    code
+}
+
+fn answered(terminal: &mut Terminal, answer: &[u8]) -> i32
+    ensures { TakesAnswer answer.now terminal.old result terminal.new }
+{
+    let Some((bytes, status)) = answer_of(answer) else {
+        return code::NO_STATUS;
+    };
+    match terminal.answered(bytes, status) {
+        Ok(()) => code::OK,
+        Err(fault) => code::of_answer(fault),
+    }
+}
+
+/// The status and the data of an operation that is over. They can be asked for again.
+#[unsafe(no_mangle)]
+pub extern "C" fn galliumtoad_terminal_answer(
+    alloc: Global,
+    terminal: &mut TerminalHandle,
+    status: &mut u16,
+    content: &mut [u8],
+    len: &mut usize,
+) -> i32
+    ensures kept { terminal_in terminal.new ≡ terminal_in terminal.old }
+    ensures empty { terminal_in terminal.old ≡ None → (result ≡ gt_empty)
+        × (status.new ≡ status.old) × (content.new ≡ content.old) × (len.new ≡ len.old) }
+    ensures answer { (side : OperatingSide) → terminal_in terminal.old ≡ Some side
+        → TellsAnswer side.terminal status.old content.old len.old
+        result status.new content.new len.new }
+{
+    let Some(side) = terminal.take_out(alloc) else {
+        return code::EMPTY;
+    };
+    let answer = given(&side.terminal, status, content, len);
+    terminal.put(side);
+    answer
+}
+
+fn given(terminal: &Terminal, status: &mut u16, content: &mut [u8], len: &mut usize) -> i32
+    ensures { TellsAnswer terminal.now status.old content.old len.old
+        result status.new content.new len.new }
+{
+    let Some((word, bytes)) = terminal.answer() else {
+        return code::STATE;
+    };
+    *status = u16::from_be_bytes([word.sw1(), word.sw2()]);
+    copied(bytes, content, len)
+}

@@ -1,0 +1,43 @@
+//! Whole TPDUs that go out to C, and their answers.
+ghost use Rattle.std.specs.Prelude.{◌≡◌, ℕ, List, MatchOption};
+ghost use Rattle.std.specs.Option.{option_map};
+ghost use Rattle.apdu_core.specs.StatusWord.{StatusWord};
+ghost use Rattle.t0_core.specs.TpduBytes.{asked_of};
+ghost use Rattle.card_c.specs.TpduCalls.{TellsTpdu, AreAnswer};
+
+use crate::code;
+use apdu_core::Status;
+use t0_core::WholeTpdu;
+
+/// The TPDU that is due, if there is one, goes out to C.
+pub fn told(due: Option<WholeTpdu<'_>>, tpdu: &mut [u8], len: &mut usize, most: &mut usize) -> i32
+    ensures { TellsTpdu (option_map asked_of due.entry) tpdu.old len.old most.old
+        result tpdu.new len.new most.new }
+{
+    let Some(due) = due else {
+        return code::NOT_DUE;
+    };
+    match due.write(tpdu) {
+        Some(count) => {
+            *len = count;
+            *most = usize::from(due.may_come);
+            code::OK
+        }
+        None => code::BUFFER,
+    }
+}
+
+/// The data and the status of an answer, if it ends in one.
+pub fn answer_of(answer: &[u8]) -> Option<(&[u8], Status)>
+    ensures { MatchOption result
+        ((bytes : List ℕ) (status : StatusWord) → AreAnswer answer.now bytes status → ⊥)
+        (λ parts. AreAnswer answer.now parts.0.now parts.1) }
+{
+    let [bytes @ .., sw1, sw2] = answer else {
+        return None;
+    };
+    match Status::new(*sw1, *sw2) {
+        Some(status) => Some((bytes, status)),
+        None => None,
+    }
+}

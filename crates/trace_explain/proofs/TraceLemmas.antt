@@ -401,7 +401,7 @@ more_has_come (Some bytes) (Some left) (Some rest) chunk size more h reads is =
 
 -- all has come, and it is no more than may
 pub limit_kept : {T : Type 0} (r : Result T ExplainFault) (a b c : Option (List ℕ))
-    (chunk : List ℕ) (n size : ℕ) → n ≡ 0 → size ≤ 67108864 → HaveComeOf a b size
+    (chunk : List ℕ) (n size : ℕ) → n ≡ 0 → size ≤ 1099511627776 → HaveComeOf a b size
     → Consumes b c (take n chunk) × (n ≡ 0 → 0 < length chunk → IsAtEnd c) → 0 < length chunk
     → IfErr r IsOfLines → IfSome a (λ bytes. KeepsLimit bytes r)
 limit_kept r None b c chunk n size zero_is within h (reads, ends) room faults = tt

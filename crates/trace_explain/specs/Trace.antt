@@ -82,14 +82,13 @@ StopsIn all other = Unit {0}
 
 -- of a fault: where it is one of the trace's length, the trace is longer than a trace may be
 abbrev pub IsOver : List ℕ → ExplainFault → Type 0
-IsOver bytes fault.InputTooLong = 67108864 < length bytes
+IsOver bytes fault.InputTooLong = 1099511627776 < length bytes
 IsOver bytes other = Unit {0}
 
 -- A trace that was explained to its end is no longer than a trace may be, and one that is refused
--- for
--- its length is longer.
+-- for its length is longer.
 abbrev pub KeepsLimit : {T : Type 0} → List ℕ → Result T ExplainFault → Type 0
-KeepsLimit bytes (Ok x) = length bytes ≤ 67108864
+KeepsLimit bytes (Ok x) = length bytes ≤ 1099511627776
 KeepsLimit bytes (Err f) = IsOver bytes f
 
 -- the fault at the end of a trace that was explained on

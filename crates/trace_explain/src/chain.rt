@@ -18,6 +18,7 @@ const PROPRIETARY: u8 = 0x80;
 pub struct ChainHeard {
     pending: Option<Header>,
     pieces: u64,
+    is_whole: bool,
     value: Vec<u8>,
 }
 
@@ -27,6 +28,7 @@ impl ChainHeard {
         ChainHeard {
             pending: None,
             pieces: 0,
+            is_whole: true,
             value: Vec::new(alloc),
         }
     }
@@ -45,7 +47,18 @@ impl ChainHeard {
     pub fn drop_all(&mut self) {
         self.pending = None;
         self.pieces = 0;
+        self.is_whole = true;
         self.value.clear();
+    }
+
+    /// Some of what came was not heard, so that pieces of the chain may lack.
+    pub fn lose_some(&mut self) {
+        self.is_whole = false;
+    }
+
+    /// Whether each piece of the chain was heard whole.
+    pub fn is_whole(&self) -> bool {
+        self.is_whole
     }
 
     /// Whether a command with this header goes on with the chain that is pending.
@@ -53,26 +66,37 @@ impl ChainHeard {
         self.pending == Some(as_last(header))
     }
 
-    /// Takes a command that goes on with the chain, or begins one, and says which piece it is.
-    pub fn take(&mut self, header: Header, piece: &[u8]) -> Result<Link, AllocError> {
+    /// Which piece a command with this header is, if it goes on with the chain or begins one.
+    pub fn link_of(&self, header: Header) -> Link {
+        let goes_on = self.goes_on_with(header);
+        let before = if goes_on { self.pieces } else { 0 };
+        let number = before.saturating_add(1);
+        match (goes_on, has_more(header)) {
+            (false, false) => Link::None,
+            (true, true) if !self.is_whole => Link::LaterPiece,
+            (true, false) if !self.is_whole => Link::LastOfLater,
+            (_, true) => Link::Piece(number),
+            (true, false) => Link::LastPiece(number),
+        }
+    }
+
+    /// Takes a command that goes on with the chain, or begins one; `has_come` says whether all its
+    /// data have come.
+    pub fn take(&mut self, header: Header, piece: &[u8], has_come: bool) -> Result<(), AllocError> {
         let goes_on = self.goes_on_with(header);
         if !goes_on {
             self.drop_all();
         }
         if !goes_on && !has_more(header) {
-            return Ok(Link::None);
+            return Ok(());
         }
         self.pieces = self.pieces.saturating_add(1);
+        self.is_whole = self.is_whole && has_come;
         if self.value.len() < VALUE_LIMIT {
             self.value.extend_from_slice(piece)?;
         }
-        if has_more(header) {
-            self.pending = Some(as_last(header));
-            Ok(Link::Piece(self.pieces))
-        } else {
-            self.pending = None;
-            Ok(Link::LastPiece(self.pieces))
-        }
+        self.pending = has_more(header).then(|| as_last(header));
+        Ok(())
     }
 }
 

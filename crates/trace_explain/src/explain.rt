@@ -12,7 +12,7 @@ use std::alloc::{AllocError, Global};
 use std::io::{Read, Write};
 
 /// The most bytes of a trace (this project's profile).
-pub const TRACE_LIMIT: usize = 67_108_864;
+pub const TRACE_LIMIT: usize = 1_099_511_627_776;
 
 /// The most bytes of a line (this project's profile).
 pub const LINE_LIMIT: usize = 4_194_304;

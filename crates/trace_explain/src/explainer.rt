@@ -13,7 +13,7 @@ ghost use Rattle.trace_explain.specs.Told.{Told};
 use crate::complaint::{Complaint, due_text, end_text};
 use crate::explain_fault::ExplainFault;
 use crate::layout::{Kind, Layout, Side};
-use crate::links::{Links, Whole};
+use crate::links::{Link, Links, Whole};
 use crate::listener::{Listener, Stop};
 use crate::meaning::push_meaning;
 use crate::phrases;
@@ -21,7 +21,7 @@ use crate::refusal::Refusal;
 use crate::story::{Story, brought, header_of, sent, status_of};
 use crate::tpdu::Tpdu;
 use crate::trace_line::{BadLine, TraceLine, read_line};
-use crate::tree::{hex_lines, push_hex, tree_of};
+use crate::tree::{hex_lines, push_hex, text_lines, tree_of};
 use std::alloc::{AllocError, Global};
 use t0_core::{Direction, End};
 
@@ -45,6 +45,18 @@ pub struct Explainer {
     story: Story,
     complaints: u64,
     first: Option<Complaint>,
+    passed: Option<Passed>,
+}
+
+/// What is passed over after a character with which no dialogue goes on.
+#[derive(Clone, Copy, Debug, PartialEq, Eq)]
+struct Passed {
+    /// The line of that character, counted from 1.
+    line: u64,
+    /// Its place in the line, counted from 0.
+    place: usize,
+    /// The last line of which characters are passed over.
+    last: u64,
 }
 
 impl Explainer {
@@ -67,6 +79,7 @@ impl Explainer {
             story: Story::new(alloc),
             complaints: 0,
             first: None,
+            passed: None,
         }
     }
 
@@ -147,6 +160,10 @@ impl Explainer {
         if self.passes_over && is_header(from, bytes) {
             self.passes_over = false;
         }
+        if self.passes_over {
+            let last = self.line;
+            self.passed = self.passed.map(|passed| Passed { last, ..passed });
+        }
         self.passes_over
     }
 
@@ -163,6 +180,7 @@ impl Explainer {
         ensures counts { OnOk result (self.new.line ≡ self.old.line) }
         ensures of_lines { IfErr result IsOfLines }
     {
+        self.tell_passed(out)?;
         self.note_beginning();
         let mut told = Vec::new(self.alloc);
         let heard = self.listener.hear_all(from, bytes, &mut told);
@@ -173,10 +191,12 @@ impl Explainer {
         }
     }
 
-    /// Notes the line in which a TPDU begins, where none is under way.
+    /// Notes the line in which a TPDU begins, where none is under way, and that nothing is passed
+    /// over.
     fn note_beginning(&mut self)
         ensures { KeepsAll self.old self.new }
     {
+        self.passed = None;
         if self.listener.under_way().is_empty() {
             self.began = self.line;
         }
@@ -234,15 +254,61 @@ impl Explainer {
             byte: bytes.get(stop.place).copied().unwrap_or(0),
         };
         self.cut_off(out)?;
-        self.story.reset();
+        self.story.lose_some();
         self.complain(complaint, out)?;
         if !self.resumes {
             return Err(ExplainFault::NoDialogue(complaint));
         }
         self.complaints = self.complaints.saturating_add(1);
         self.first = Some(self.first.unwrap_or(complaint));
+        self.resume(from, bytes, stop.place)
+    }
+
+    /// Goes on after a character at this place of a line: with that line, where it is a header, and
+    /// else passes over what follows.
+    fn resume(&mut self, from: End, bytes: &[u8], place: usize) -> Result<(), ExplainFault>
+        ensures counts { self.new.line ≡ self.old.line }
+        ensures of_lines { IfErr result IsOfLines }
+    {
+        if is_header(from, bytes) {
+            return self.hear_header(bytes);
+        }
         self.passes_over = true;
+        self.passed = Some(Passed {
+            line: self.line,
+            place,
+            last: self.line,
+        });
         Ok(())
+    }
+
+    /// Hears a line that is taken for a header, while no dialogue is under way.
+    fn hear_header(&mut self, bytes: &[u8]) -> Result<(), ExplainFault>
+        ensures counts { self.new.line ≡ self.old.line }
+        ensures of_lines { IfErr result IsOfLines }
+    {
+        self.began = self.line;
+        let mut told = Vec::new(self.alloc);
+        match self.listener.hear_all(End::Terminal, bytes, &mut told) {
+            Ok(()) => Ok(()),
+            Err(_) => Err(ExplainFault::OutOfMemory),
+        }
+    }
+
+    /// Tells what has been passed over, if anything has.
+    fn tell_passed(&self, out: &mut String) -> Result<(), AllocError> {
+        let Some(Passed { line, place, last }) = self.passed else {
+            return Ok(());
+        };
+        let character = place.saturating_add(1);
+        let mut text = format!(in self.alloc;
+            "passed over: line {line} from character {character}"
+        )?;
+        if last > line {
+            write!(text, ", to line {last}")?;
+        }
+        text.push('\n')?;
+        self.layout.note(out, text.as_str())
     }
 
     /// Adds a box for a complaint.
@@ -254,7 +320,8 @@ impl Explainer {
             from,
             byte,
         } = complaint;
-        self.layout.open(out, Kind::Complaint, "no dialogue", line)?;
+        self.layout
+            .open(out, Kind::Complaint, "no dialogue that it reads", line)?;
         let character = place.saturating_add(1);
         let stands = format!(in self.alloc; "line {line}, character {character}\n")?;
         self.layout.row(out, Side::Told, "place", stands.as_str())?;
@@ -274,6 +341,8 @@ impl Explainer {
             OnOk result (ExplainsMore (Reset ∷ []) true events before self.new) }
         ensures counts { OnOk result (self.new.line ≡ self.old.line) }
     {
+        self.tell_passed(out)?;
+        self.passed = None;
         self.passes_over = false;
         self.begins = true;
         self.cut_off(out)?;
@@ -332,6 +401,7 @@ impl Explainer {
 
     /// Explains what is under way where the trace ends.
     pub fn end(&mut self, out: &mut String) -> Result<(), AllocError> {
+        self.tell_passed(out)?;
         self.cut_off(out)?;
         self.layout.end(out)
     }
@@ -352,7 +422,7 @@ impl Explainer {
             self.layout
                 .row(out, Side::Told, "before", "the chain is dropped\n")?;
         }
-        self.tell_rows(tpdu, out)?;
+        self.tell_rows(tpdu, links, out)?;
         if links.drops_after {
             self.layout
                 .row(out, Side::Told, "after", "the chain is dropped\n")?;
@@ -362,23 +432,27 @@ impl Explainer {
     }
 
     /// Adds the rows of what went over the line.
-    fn tell_rows(&self, tpdu: &Tpdu, out: &mut String) -> Result<(), AllocError> {
+    fn tell_rows(&self, tpdu: &Tpdu, links: Links, out: &mut String) -> Result<(), AllocError> {
         let header = hex_lines(self.alloc, tpdu.header.as_slice())?;
         self.layout
             .row(out, Side::Terminal, "header", header.as_str())?;
         let procedure = phrases::procedure(self.alloc, tpdu.tally)?;
         self.layout
             .row(out, Side::Card, "procedure", procedure.as_str())?;
-        self.tell_data(tpdu, out)?;
+        self.tell_data(tpdu, links, out)?;
         self.tell_status(tpdu, out)
     }
 
-    /// Adds the row of the data: as a tree where they come from the card and are objects.
-    fn tell_data(&self, tpdu: &Tpdu, out: &mut String) -> Result<(), AllocError> {
+    /// Adds the row of the data: as a tree where they may be objects, and are some.
+    fn tell_data(&self, tpdu: &Tpdu, links: Links, out: &mut String) -> Result<(), AllocError> {
         match tpdu.way {
             None => Ok(()),
             Some(Direction::ToCard) => {
-                let lines = hex_lines(self.alloc, sent(tpdu))?;
+                let lines = if may_be_objects(tpdu, links) {
+                    data_lines(self.alloc, sent(tpdu))?
+                } else {
+                    text_lines(self.alloc, sent(tpdu))?
+                };
                 self.layout.row(out, Side::Terminal, "data", lines.as_str())
             }
             Some(Direction::FromCard) => {
@@ -388,20 +462,16 @@ impl Explainer {
         }
     }
 
-    /// Adds the row of the status, or that none came.
+    /// Adds the row of the status, or that the TPDU was cut off.
     fn tell_status(&self, tpdu: &Tpdu, out: &mut String) -> Result<(), AllocError> {
-        let Some(status) = status_of(tpdu) else {
-            let mut lines = String::new(self.alloc);
-            push_hex(self.alloc, &mut lines, tpdu.status.as_slice())?;
-            let space = if lines.is_empty() { "" } else { " " };
-            lines.push_str(space)?;
-            lines.push_str("cut off\n")?;
-            return self.layout.row(out, Side::Told, "status", lines.as_str());
-        };
         let mut lines = String::new(self.alloc);
         push_hex(self.alloc, &mut lines, tpdu.status.as_slice())?;
+        let (Some(status), Some((header, _))) = (status_of(tpdu), header_of(tpdu)) else {
+            phrases::push_cut_off(&mut lines, tpdu)?;
+            return self.layout.row(out, Side::Told, "status", lines.as_str());
+        };
         lines.push(' ')?;
-        push_meaning(&mut lines, status)?;
+        push_meaning(&mut lines, header, status)?;
         lines.push('\n')?;
         self.layout.row(out, Side::Card, "status", lines.as_str())
     }
@@ -413,20 +483,31 @@ impl Explainer {
             return Ok(());
         }
         let mut lines = phrases::whole(self.alloc, whole, bytes.len())?;
-        let data = match whole {
-            Whole::Response(_) => data_lines(self.alloc, bytes)?,
-            _ => hex_lines(self.alloc, bytes)?,
-        };
-        lines.push_str(data.as_str())?;
+        lines.push_str(data_lines(self.alloc, bytes)?.as_str())?;
         self.layout.row(out, Side::Told, "together", lines.as_str())
     }
 }
 
-/// The data as a tree where they are objects, else as digits.
+/// The data as a tree where they are objects, else as digits, with text beside them.
 fn data_lines(alloc: Global, bytes: &[u8]) -> Result<String, AllocError> {
     match tree_of(alloc, bytes)? {
         Some(tree) => Ok(tree),
-        None => hex_lines(alloc, bytes),
+        None => text_lines(alloc, bytes),
+    }
+}
+
+/// Whether the data of the terminal may be objects: not where they are a piece of a chain, a name
+/// or a path, or reference data (ISO/IEC 7816-4, 7.1.1 and 7.5.6 to 7.5.10).
+fn may_be_objects(tpdu: &Tpdu, links: Links) -> bool {
+    let is_whole = matches!(
+        links.link,
+        Link::None | Link::AskedAgain(_) | Link::Fetches(_) | Link::FetchesMore(_)
+    );
+    match header_of(tpdu) {
+        Some((header, _)) => {
+            is_whole && !matches!(header.ins, 0xA4 | 0x20 | 0x24 | 0x26 | 0x28 | 0x2C)
+        }
+        None => false,
     }
 }
 

@@ -11,7 +11,7 @@ pub const VERSION: &str = "0.1.0";
 pub const HTML: &str = "Writes one page of HTML, which needs nothing else, and no text";
 
 /// Of `--resume`.
-pub const RESUME: &str = "Goes on after a character with which no dialogue goes on";
+pub const RESUME: &str = "Goes on after a character with which no dialogue that it reads goes on";
 
 /// What a trace is, and what comes where it is no dialogue.
 pub const TRACE: &str = "\
@@ -24,17 +24,19 @@ The trace stands on standard input, in lines as `card_trace play` prints them:
 Every other line is a note, and is told behind `| `; one within a TPDU stands before it. An empty
 line is passed over. Characters of the card that come before the first of the terminal, since the
 trace began or the card was reset, are told as such: an answer to reset, or the end of what was not
-heard. A trace has at most 67,108,864 bytes, and a line at most 4,194,304.
+heard. A trace has at most 2^40 bytes, and a line at most 4,194,304.
 
-Where no dialogue goes on with a character, the line and the character are told, counted from 1,
-with what was due and what came. Then the program stops. With `--resume` it passes over what
-follows, up to the next line `reset`, or the next line `> HEX` of just five characters, which it
-takes for a header.
+Where no dialogue that it reads goes on with a character, the line and the character are told,
+counted from 1, with what was due and what came. Then the program stops. With `--resume` it passes
+over what follows, up to the next line `reset`, or the next line `> HEX` of just five characters,
+which it takes for a header: that may be the character's own line. It tells which lines it passed
+over.
 
 A TPDU that a reset or the end of the trace has cut off is told as far as it came, and is no fault.
 
 The exit status is 0 where the trace came to its end as dialogues, 1 after a fault or where no
-dialogue goes on with a character, and 2 where the words of the command line are refused.
+dialogue that it reads goes on with a character, and 2 where the words of the command line are
+refused.
 
 Example:
 

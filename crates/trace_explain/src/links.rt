@@ -7,12 +7,18 @@ pub enum Link {
     None,
     /// The one before it, which was answered `6CXX`, with this many bytes asked for.
     AskedAgain(u16),
-    /// A GET RESPONSE after `61XX`, for this many bytes.
+    /// A GET RESPONSE after a status that announces data, for this many bytes, the first.
     Fetches(u16),
+    /// The same where others have come.
+    FetchesMore(u16),
     /// The piece of this number of a chain, which goes on.
     Piece(u64),
     /// The piece of this number of a chain, which is its last.
     LastPiece(u64),
+    /// A piece of a chain of which some were not heard, and which goes on.
+    LaterPiece,
+    /// The last piece of such a chain.
+    LastOfLater,
 }
 
 /// What has come together with a TPDU.

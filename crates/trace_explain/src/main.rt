@@ -1,6 +1,7 @@
 //! A trace of both ends of a line, explained.
 #![tactic(auto)]
 
+mod ascii;
 mod chain;
 mod command_line;
 mod command_name;
@@ -10,14 +11,17 @@ mod explain_fault;
 mod explainer;
 mod help;
 mod html;
+mod instructions;
 mod layout;
 mod links;
 mod listener;
 mod main_status;
 mod meaning;
+mod parts;
 mod phrases;
 mod refusal;
 mod response;
+mod statuses;
 mod story;
 mod tally;
 mod text;

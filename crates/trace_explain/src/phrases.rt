@@ -1,99 +1,22 @@
 //! What is said of a TPDU, in plain words.
 
-use crate::command_name::CommandName;
+use crate::command_name::push_command;
 use crate::links::{Link, Links, Whole};
 use crate::story::{header_of, sent};
 use crate::tally::Tally;
 use crate::tpdu::Tpdu;
-use crate::tree::push_hex;
-use apdu_core::Header;
+use apdu_core::count;
 use std::alloc::{AllocError, Global};
-use tlv_core::ObjectTag;
-
-/// The most bytes of an identifier that stands in a title.
-const LONGEST_NAME: usize = 16;
+use t0_core::Direction;
 
 /// The title of a TPDU: its command by name, with its parts.
 pub fn title(alloc: Global, tpdu: &Tpdu) -> Result<String, AllocError> {
     let mut text = String::new(alloc);
     match header_of(tpdu) {
-        Some((header, _)) => push_name(alloc, &mut text, header, sent(tpdu))?,
+        Some((header, _)) => push_command(alloc, &mut text, header, sent(tpdu))?,
         None => text.push_str("part of a header")?,
     }
     Ok(text)
-}
-
-/// Adds the name of a command with this header and these data.
-fn push_name(
-    alloc: Global,
-    text: &mut String,
-    header: Header,
-    sent: &[u8],
-) -> Result<(), AllocError> {
-    match CommandName::of(header) {
-        CommandName::SelectByName => {
-            text.push_str("SELECT ")?;
-            push_identifier(alloc, text, sent)?;
-        }
-        CommandName::Select => {
-            text.push_str("SELECT")?;
-            push_parameters(text, header)?;
-        }
-        CommandName::GetData(tag) => push_tagged(alloc, text, "GET DATA of ", &tag)?,
-        CommandName::PutData(tag) => push_tagged(alloc, text, "PUT DATA of ", &tag)?,
-        CommandName::GetResponse => text.push_str("GET RESPONSE")?,
-        CommandName::Other => {
-            push_instruction(text, header.ins)?;
-            push_parameters(text, header)?;
-        }
-    }
-    push_class(text, header.cla)
-}
-
-/// Adds the name of an instruction, or its number.
-fn push_instruction(text: &mut String, ins: u8) -> Result<(), AllocError> {
-    match ins {
-        0xCA => text.push_str("GET DATA"),
-        0xDA => text.push_str("PUT DATA"),
-        _ => write!(text, "INS {ins:02X}"),
-    }
-}
-
-/// Adds the class where it is none of those that say nothing more.
-fn push_class(text: &mut String, cla: u8) -> Result<(), AllocError> {
-    match cla {
-        0x00 | 0x10 => Ok(()),
-        _ => write!(text, ", class {cla:02X}"),
-    }
-}
-
-/// Adds what a command does, and the tag of its object.
-fn push_tagged(
-    alloc: Global,
-    text: &mut String,
-    name: &str,
-    tag: &ObjectTag,
-) -> Result<(), AllocError> {
-    text.push_str(name)?;
-    push_hex(alloc, text, tag.tag().bytes())
-}
-
-/// Adds P1 and P2.
-fn push_parameters(text: &mut String, header: Header) -> Result<(), AllocError> {
-    let p1 = header.p1;
-    let p2 = header.p2;
-    write!(text, " with P1-P2 {p1:02X}{p2:02X}")
-}
-
-/// Adds the identifier that is selected.
-fn push_identifier(alloc: Global, text: &mut String, name: &[u8]) -> Result<(), AllocError> {
-    if name.is_empty() {
-        return text.push_str("by identifier");
-    }
-    if name.len() > LONGEST_NAME {
-        return text.push_str("by a long identifier");
-    }
-    push_hex(alloc, text, name)
 }
 
 /// Adds how a TPDU goes on with those before it.
@@ -104,9 +27,12 @@ pub fn push_links(text: &mut String, links: Links) -> Result<(), AllocError> {
             let unit = unit_of(u64::from(count));
             write!(text, ", asked again for {count} {unit}")?;
         }
-        Link::Fetches(count) => write!(text, ", fetches {count} more")?,
+        Link::Fetches(count) => write!(text, ", fetches {count}")?,
+        Link::FetchesMore(count) => write!(text, ", fetches {count} more")?,
         Link::Piece(number) => write!(text, ", piece {number} of a chain")?,
         Link::LastPiece(number) => write!(text, ", piece {number} of a chain, the last")?,
+        Link::LaterPiece => text.push_str(", a piece of a chain")?,
+        Link::LastOfLater => text.push_str(", the last piece of a chain")?,
     }
     Ok(())
 }
@@ -137,6 +63,32 @@ pub fn procedure(alloc: Global, tally: Tally) -> Result<String, AllocError> {
         alls => write!(text, "{alls} times all that is left")?,
     }
     Ok(text)
+}
+
+/// Adds how far a TPDU came that was cut off: behind SW1, or within its header, or after how many
+/// of the bytes that P3 foresees, where some have come.
+pub fn push_cut_off(text: &mut String, tpdu: &Tpdu) -> Result<(), AllocError> {
+    if !text.is_empty() {
+        return text.push_str(" cut off\n");
+    }
+    text.push_str("cut off")?;
+    match (header_of(tpdu), tpdu.way) {
+        (None, _) => {
+            let came = tpdu.header.len();
+            write!(text, " after {came} of 5 characters")?;
+        }
+        (Some(_), None) => {}
+        (Some((_, p3)), Some(way)) => {
+            let came = tpdu.moved.len();
+            let foreseen = match way {
+                Direction::ToCard => u16::from(p3),
+                Direction::FromCard => count(p3),
+            };
+            let unit = unit_of(u64::from(foreseen));
+            write!(text, " after {came} of {foreseen} {unit}")?;
+        }
+    }
+    text.push('\n')
 }
 
 /// Adds a comma where more follows.

@@ -1,17 +1,18 @@
 //! A response that comes in parts (ISO/IEC 7816-3, clause 12).
 
 use crate::links::Link;
+use crate::meaning::waiting;
 use apdu_core::{Header, Status, count};
 use std::alloc::{AllocError, Global};
 
 /// The least bytes of a response that is not told as a whole (this project's profile).
-pub const RESPONSE_LIMIT: usize = 65_536;
+pub const UNTOLD_SIZE: usize = 65_536;
 
 /// What the last status asks of the terminal.
 #[derive(Clone, Copy, Debug, PartialEq, Eq)]
 enum Asked {
     Nothing,
-    /// `61XX`: a GET RESPONSE.
+    /// `61XX`, or `9FXX` of a SIM card: a GET RESPONSE.
     Fetch,
     /// `6CXX`: the same header with this P3.
     Again(Header, u8),
@@ -46,7 +47,8 @@ impl ResponseHeard {
     pub fn link_of(&self, header: Header, p3: u8) -> Link {
         match self.asked {
             Asked::Again(other, le) if other == header && le == p3 => Link::AskedAgain(count(p3)),
-            Asked::Fetch if header.ins == 0xC0 => Link::Fetches(count(p3)),
+            Asked::Fetch if header.ins == 0xC0 && self.parts == 0 => Link::Fetches(count(p3)),
+            Asked::Fetch if header.ins == 0xC0 => Link::FetchesMore(count(p3)),
             _ => Link::None,
         }
     }
@@ -56,7 +58,7 @@ impl ResponseHeard {
         if part.is_empty() {
             return Ok(());
         }
-        if self.bytes.len() < RESPONSE_LIMIT {
+        if self.bytes.len() < UNTOLD_SIZE {
             self.bytes.extend_from_slice(part)?;
         }
         self.parts = self.parts.saturating_add(1);
@@ -64,25 +66,24 @@ impl ResponseHeard {
     }
 
     /// Ends a command with this header by its status, and says in how many parts the response came,
-    /// where it is over.
+    /// where it is over and all of it came: its last status is no error.
     pub fn end(&mut self, header: Header, status: Status) -> u64 {
+        if waiting(header, status).is_some() {
+            self.asked = Asked::Fetch;
+            return 0;
+        }
+        if status.sw1() == 0x6C {
+            self.asked = Asked::Again(header, status.sw2());
+            return 0;
+        }
+        self.asked = Asked::Nothing;
         match (status.sw1(), status.sw2()) {
-            (0x61, _) => {
-                self.asked = Asked::Fetch;
-                0
-            }
-            (0x6C, le) => {
-                self.asked = Asked::Again(header, le);
-                0
-            }
-            _ => {
-                self.asked = Asked::Nothing;
-                self.parts
-            }
+            (0x90, 0x00) | (0x62 | 0x63, _) => self.parts,
+            _ => 0,
         }
     }
 
-    /// The bytes of all parts; only the first of them where they are `RESPONSE_LIMIT` or more.
+    /// The bytes of all parts; only the first of them where they are `UNTOLD_SIZE` or more.
     pub fn bytes(&self) -> &[u8] {
         self.bytes.as_slice()
     }

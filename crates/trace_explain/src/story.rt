@@ -2,7 +2,7 @@
 
 use crate::chain::{ChainHeard, VALUE_LIMIT};
 use crate::links::{Link, Links, Whole};
-use crate::response::{RESPONSE_LIMIT, ResponseHeard};
+use crate::response::{ResponseHeard, UNTOLD_SIZE};
 use crate::tpdu::Tpdu;
 use apdu_core::{Header, Status};
 use std::alloc::{AllocError, Global};
@@ -31,7 +31,8 @@ impl Story {
         self.number = self.number.saturating_add(1);
         match (header_of(tpdu), status_of(tpdu)) {
             (Some((header, p3)), Some(status)) => self.tell_whole(tpdu, header, p3, status),
-            _ => Ok(self.alone()),
+            (Some((header, p3)), None) => Ok(self.with(self.link_of(header, p3))),
+            _ => Ok(self.with(Link::None)),
         }
     }
 
@@ -43,39 +44,55 @@ impl Story {
         p3: u8,
         status: Status,
     ) -> Result<Links, AllocError> {
-        let was_pending = self.chain.is_pending();
-        let goes_on = self.chain.goes_on_with(header);
-        let asked = self.response.link_of(header, p3);
-        if asked == Link::None {
+        let drops_before = self.chain.is_pending() && !self.chain.goes_on_with(header);
+        let piece = self.chain.link_of(header);
+        let links = self.with(self.link_of(header, p3));
+        if self.response.link_of(header, p3) == Link::None {
             self.response.drop_all();
         }
-        let piece = self.chain.take(header, sent(tpdu))?;
+        self.chain
+            .take(header, sent(tpdu), sent(tpdu).len() == usize::from(p3))?;
         self.response.take(brought(tpdu))?;
-        let drops_after = self.chain.is_pending() && !(status.sw1() == 0x90 && status.sw2() == 0);
+        let drops_after = self.chain.is_pending() && !status.is_ok();
         let parts = self.response.end(header, status);
         if drops_after {
             self.chain.drop_all();
         }
         Ok(Links {
-            number: self.number,
-            link: if asked == Link::None { piece } else { asked },
-            drops_before: was_pending && !goes_on,
+            drops_before,
             drops_after,
             whole: self.come_together(piece, parts),
+            ..links
         })
+    }
+
+    /// How a command with this header and P3 goes on with those before it.
+    fn link_of(&self, header: Header, p3: u8) -> Link {
+        match self.response.link_of(header, p3) {
+            Link::None => self.chain.link_of(header),
+            asked => asked,
+        }
     }
 
     /// What has come together, with this piece or in so many parts.
     fn come_together(&self, piece: Link, parts: u64) -> Whole {
         match piece {
-            Link::LastPiece(pieces) if self.chain.value().len() < VALUE_LIMIT => {
+            Link::LastPiece(pieces)
+                if self.chain.is_whole() && self.chain.value().len() < VALUE_LIMIT => {
                 Whole::Value(pieces)
             }
-            _ if parts > 1 && self.response.bytes().len() < RESPONSE_LIMIT => {
+            _ if parts > 1 && self.response.bytes().len() < UNTOLD_SIZE => {
                 Whole::Response(parts)
             }
             _ => Whole::None,
         }
+    }
+
+    /// Some of what came was not heard: a response under way ends, and of a chain it is not known
+    /// which piece comes next.
+    pub fn lose_some(&mut self) {
+        self.response.drop_all();
+        self.chain.lose_some();
     }
 
     /// A reset came; it answers whether it drops a chain.
@@ -95,11 +112,11 @@ impl Story {
         }
     }
 
-    /// A TPDU that stands alone.
-    fn alone(&self) -> Links {
+    /// A TPDU that goes on so with those before it, and does nothing else to them.
+    fn with(&self, link: Link) -> Links {
         Links {
             number: self.number,
-            link: Link::None,
+            link,
             drops_before: false,
             drops_after: false,
             whole: Whole::None,

@@ -3,9 +3,21 @@
 use crate::layout::Side;
 use std::alloc::AllocError;
 
+/// The most columns of a line.
+const COLUMNS: usize = 100;
+
+/// How many columns stand before what a row says.
+const ROW_INDENT: usize = 15;
+
 /// Adds the title of a box.
 pub fn open(out: &mut String, title: &str, line: u64) -> Result<(), AllocError> {
-    writeln!(out, "{title}  (line {line})")
+    let column = push_words(out, title, 0, "    ")?;
+    let width = "  (line )".len().saturating_add(digits(line));
+    if column.saturating_add(width) > COLUMNS {
+        writeln!(out, "\n    (line {line})")
+    } else {
+        writeln!(out, "  (line {line})")
+    }
 }
 
 /// Adds a row: a sign for the end that says it, and the label, before the first line, and spaces
@@ -19,10 +31,12 @@ pub fn row(out: &mut String, side: Side, label: &str, lines: &str) -> Result<(),
     let mut is_first = true;
     for line in lines.lines() {
         if is_first {
-            writeln!(out, "  {sign} {label:<10} {line}")?;
+            write!(out, "  {sign} {label:<10} ")?;
         } else {
-            writeln!(out, "               {line}")?;
+            out.push_str("               ")?;
         }
+        push_words(out, line, ROW_INDENT, "               ")?;
+        out.push('\n')?;
         is_first = false;
     }
     Ok(())
@@ -31,7 +45,50 @@ pub fn row(out: &mut String, side: Side, label: &str, lines: &str) -> Result<(),
 /// Adds a line that stands alone.
 pub fn note(out: &mut String, note: &str) -> Result<(), AllocError> {
     for line in note.lines() {
-        writeln!(out, "| {line}")?;
+        out.push_str("| ")?;
+        push_words(out, line, 2, "|   ")?;
+        out.push('\n')?;
     }
     Ok(())
+}
+
+/// Adds words that begin in this column, counted from 0, and go on behind an indent in a new line
+/// where there are too many; it answers the column behind them.
+fn push_words(
+    out: &mut String,
+    words: &str,
+    begins: usize,
+    indent: &str,
+) -> Result<usize, AllocError> {
+    let mut column = begins;
+    let mut is_first = true;
+    for word in words.split(' ') {
+        let behind = column.saturating_add(word.len());
+        if is_first {
+            column = behind;
+        } else if behind < COLUMNS {
+            out.push(' ')?;
+            column = behind.saturating_add(1);
+        } else {
+            out.push('\n')?;
+            out.push_str(indent)?;
+            column = indent.len().saturating_add(word.len());
+        }
+        out.push_str(word)?;
+        is_first = false;
+    }
+    Ok(column)
+}
+
+/// How many decimal digits a number has.
+fn digits(number: u64) -> usize {
+    let mut rest = number;
+    let mut count: usize = 1;
+    for _place in 0..20 {
+        if rest >= 10 {
+            rest /= 10;
+            count = count.saturating_add(1);
+        }
+    }
+    count
 }

@@ -2,6 +2,7 @@
 ghost use Rattle.std.specs.Prelude.{◌≡◌, ◌+◌};
 ghost use Rattle.tlv_core.specs.Object.{IsObjectList};
 
+use crate::ascii::{is_text, push_text};
 use std::alloc::{AllocError, Global};
 use tlv_core::Objects;
 
@@ -11,6 +12,12 @@ const LINE_BYTES: usize = 40;
 /// How many bytes of a value stand in a line: with a tag of three bytes and at level 16 they come
 /// to the columns of `LINE_BYTES`, and five more.
 const VALUE_BYTES: usize = 24;
+
+/// The same of bytes that are text, which stands beside them.
+const LINE_TEXT: usize = 25;
+
+/// The same of a value that is text.
+const VALUE_TEXT: usize = 15;
 
 /// The bytes as objects: a line for each, two spaces further in for each level below the first, and
 /// more lines for a long value. `None` where they are no list of objects, or hold none.
@@ -57,15 +64,20 @@ fn push_value(
     if value.is_empty() {
         return text.push_str(" -\n");
     }
+    let is_text = is_text(value);
     let mut is_first = true;
-    for bytes in value.chunks(VALUE_BYTES) {
+    for bytes in value.chunks(if is_text { VALUE_TEXT } else { VALUE_BYTES }) {
         if is_first {
             text.push(' ')?;
         } else {
             push_indent(text, below)?;
             text.push_str("     ")?;
         }
-        push_hex(alloc, text, bytes)?;
+        if is_text {
+            push_text(alloc, text, bytes)?;
+        } else {
+            push_hex(alloc, text, bytes)?;
+        }
         text.push('\n')?;
         is_first = false;
     }
@@ -91,6 +103,19 @@ pub fn hex_lines(alloc: Global, bytes: &[u8]) -> Result<String, AllocError> {
     let mut text = String::new(alloc);
     for line in bytes.chunks(LINE_BYTES) {
         push_hex(alloc, &mut text, line)?;
+        text.push('\n')?;
+    }
+    Ok(text)
+}
+
+/// The bytes as lines of hexadecimal digits, with the text beside them where they are text.
+pub fn text_lines(alloc: Global, bytes: &[u8]) -> Result<String, AllocError> {
+    if !is_text(bytes) {
+        return hex_lines(alloc, bytes);
+    }
+    let mut text = String::new(alloc);
+    for line in bytes.chunks(LINE_TEXT) {
+        push_text(alloc, &mut text, line)?;
         text.push('\n')?;
     }
     Ok(text)

@@ -12,4 +12,4 @@ invariant-reading g l = (HasExplained [] [] l.initial.explainer
     × HaveComeOf (g.R.Read.remaining l.initial.reader) (g.R.Read.remaining l.reader) l.size
 
 abbrev pub decreases-reading : goal.decreases-reading
-decreases-reading g l = 67108864 + 1 - l.size
+decreases-reading g l = 1099511627776 + 1 - l.size

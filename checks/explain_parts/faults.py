@@ -1,0 +1,233 @@
+"""Applies each fault of faults.txt to a copy of trace_explain, one at a time, and looks that a case
+of checks/explain_cases or of the tables here is told otherwise then, or not at all. What the
+program words is not proved, so this shows that its cases guard it. It takes some minutes, and is no
+part of the gate.
+
+A fault is three lines, `file: FILE` in crates/trace_explain/src, `old: TEXT`, which stands once
+there, and `new: TEXT`. All copies are built as modules of one program, by `rt try` and without
+proofs, beside a copy with no fault, in which every case has to pass. The last line is
+'N passed, N failed'. With words it tries only the faults in whose lines one of them stands."""
+
+import re
+import subprocess
+import sys
+import tempfile
+from dataclasses import dataclass
+from pathlib import Path
+
+sys.dont_write_bytecode = True
+HERE = Path(__file__).resolve().parent
+sys.path.insert(0, str(HERE))
+from cases import all_cases  # noqa: E402
+
+TOP = HERE.parent.parent
+BELOW = ("apdu_core", "tlv_core", "t0_core")
+SOURCE = TOP / "crates" / "trace_explain" / "src"
+# what takes words and streams, which the program below does in its place
+LEFT_OUT = ("main", "main_status", "command_line", "help")
+# stands between the cases that a program is given, and between what it says of them
+MARK = "\x1e"
+DECLARED = re.compile(r"^ *ghost use [^;]*;\n", re.M)
+
+
+@dataclass
+class Fault:
+    """A line of a file, and what stands there in its place."""
+
+    file: str
+    old: str
+    new: str
+
+    def apply(self, texts):
+        """The files with the fault in them."""
+        text = texts[self.file]
+        if text.count(self.old) != 1:
+            raise SystemExit(f"{self.file} has {text.count(self.old)} times: {self.old}")
+        return {**texts, self.file: text.replace(self.old, self.new)}
+
+    def __str__(self):
+        return f"{self.file}: {self.old} -> {self.new}"
+
+
+def read_faults(words):
+    """The faults of the list in which one of the words stands; all without words."""
+    lines = (HERE / "faults.txt").read_text(encoding="utf-8").splitlines()
+    lines = [line for line in lines if line and not line.startswith("#")]
+    found = []
+    for three in zip(lines[::3], lines[1::3], lines[2::3]):
+        kinds, texts = zip(*(line.split(":", 1) for line in three))
+        if kinds != ("file", "old", "new"):
+            raise SystemExit(f"faults.txt: no fault: {three}")
+        found.append(Fault(*(text.strip() for text in texts)))
+    return [it for it in found if not words or any(word in str(it) for word in words)]
+
+
+def write_program(folder, faults):
+    """The crate with a module for the program as it is, and for each fault."""
+    crates = folder / "crates"
+    for name in BELOW:
+        (crates / name).mkdir(parents=True)
+        for part in ("src", "specs", "proofs"):
+            (crates / name / part).symlink_to(TOP / "crates" / name / part)
+    (folder / "crates.txt").write_text(
+        "apdu_core:\ntlv_core:\nt0_core: apdu_core\n"
+        f"trace_explain: {' '.join(BELOW)} hex thiserror\n",
+        encoding="utf-8",
+    )
+    crate = crates / "trace_explain"
+    for part in ("specs", "proofs"):
+        (crate / part).mkdir(parents=True)
+        (crate / part / "Lib.antt").write_text("", encoding="utf-8")
+    texts = {it.stem: it.read_text(encoding="utf-8") for it in SOURCE.glob("*.rt")}
+    texts = {name: text for name, text in texts.items() if name not in LEFT_OUT}
+    for number, fault in enumerate([None, *faults]):
+        write_module(crate / "src", f"m{number}", fault.apply(texts) if fault else texts)
+    (crate / "src" / "main.rt").write_text(main_text(len(faults) + 1), encoding="utf-8")
+    return crate
+
+
+def write_module(source, module, texts):
+    """A copy of the crate as a module."""
+    (source / module).mkdir(parents=True)
+    for name, text in texts.items():
+        text = DECLARED.sub("", text).replace("crate::", f"crate::{module}::")
+        (source / module / f"{name}.rt").write_text(text, encoding="utf-8")
+    names = "".join(f"pub mod {name};\n" for name in texts)
+    (source / f"{module}.rt").write_text(f"//! A copy.\n{names}", encoding="utf-8")
+
+
+def main_text(count):
+    """The program: its input is the number of a module, and then each case with its words."""
+    modules = "".join(f"mod m{number};\n" for number in range(count))
+    arms = "".join(f"            {number} => run{number}(&rt, part),\n" for number in range(count))
+    return HEAD.format(modules=modules, arms=arms) + "".join(
+        ONE.format(number=number) for number in range(count)
+    )
+
+
+HEAD = """//! The program, and copies of it with a fault in each.
+#![tactic(auto)]
+
+{modules}
+use std::io;
+use std::io::{{Read, Write}};
+use std::process::ExitCode;
+
+fn main(rt: HostRuntime) -> ExitCode {{
+    let mut all = Vec::new(rt.alloc());
+    let mut chunk = [0; 4096];
+    loop {{
+        match rt.stdin().read(&mut chunk) {{
+            Ok(0) => break,
+            Ok(count) => all.extend_from_slice(&chunk[..count]).unwrap(),
+            Err(_) => return ExitCode::from(2),
+        }}
+    }}
+    let mut which = 0;
+    let mut is_first = true;
+    for part in all.as_slice().split(|byte| *byte == 0x1E) {{
+        if is_first {{
+            for &byte in part {{
+                which = which * 10 + usize::from(byte - b'0');
+            }}
+            is_first = false;
+            continue;
+        }}
+        match which {{
+{arms}            _ => return ExitCode::from(2),
+        }}
+    }}
+    ExitCode::from(0)
+}}
+"""
+
+ONE = """
+fn run{number}(rt: &HostRuntime, part: &[u8]) {{
+    let layout = if part[0] == b'h' {{
+        m{number}::layout::Layout::Html
+    }} else {{
+        m{number}::layout::Layout::Text
+    }};
+    let resumes = part[1] == b'r';
+    let mut trace = &part[2..];
+    let mut out = io::writer(rt);
+    let outcome = m{number}::explain::explain(rt.alloc(), layout, resumes, &mut trace, &mut out);
+    let _ = out.write_all(b"\\x1e");
+    if let Err(fault) = outcome {{
+        let _ = out.writeln(&fault);
+    }}
+    let _ = out.write_all(b"\\x1e");
+}}
+"""
+
+
+def write_inputs(folder, cases, count):
+    """For each module a file with its number and all cases."""
+    folder.mkdir()
+    given = b""
+    for case in cases:
+        words = ("h" if "--html" in case.words else "t") + (
+            "r" if "--resume" in case.words else "s"
+        )
+        given += MARK.encode() + words.encode() + case.given
+    for number in range(count):
+        (folder / f"f{number:03}").write_bytes(str(number).encode() + given)
+
+
+def run_all(crate, folder):
+    """What each module says of the cases, by its number; None where it ended otherwise."""
+    run = subprocess.run(
+        ["rt", "try", "--steps", "1", "--cases", str(folder)],
+        cwd=crate,
+        capture_output=True,
+        check=False,
+    )
+    said = re.split(rb"^== f(\d+)\n", run.stdout, flags=re.M)[1:]
+    if not said:
+        raise SystemExit(run.stderr.decode()[-2000:])
+    ended = {int(it) for it in re.findall(rb"^case=f(\d+) run=ended status=0 ", run.stderr, re.M)}
+    texts = {int(number): text.decode() for number, text in zip(said[::2], said[1::2])}
+    return {number: texts[number] if number in ended else None for number in texts}
+
+
+def faults_in(text, cases):
+    """Each case in which something else is said, or that the program ended."""
+    if text is None:
+        yield "the program ended"
+        return
+    said = text.split(MARK)
+    for case, out, err in zip(cases, said[::2], said[1::2]):
+        found = case.fault(out, err)
+        if found:
+            yield found
+    if len(said) < 2 * len(cases):
+        yield "the output ends too soon"
+
+
+def main(words):
+    cases = all_cases()
+    faults = read_faults(words)
+    with tempfile.TemporaryDirectory() as name:
+        folder = Path(name)
+        crate = write_program(folder, faults)
+        write_inputs(folder / "cases", cases, len(faults) + 1)
+        texts = run_all(crate, folder / "cases")
+    wrong = list(faults_in(texts.get(0), cases))
+    for told in wrong:
+        print(f"FAILED: without a fault: {told}")
+    through = []
+    for number, fault in enumerate(faults, 1):
+        found = next(faults_in(texts.get(number), cases), "")
+        if found:
+            print(f"refused: {fault}\n    {found}")
+        else:
+            through.append(fault)
+    for fault in through:
+        print(f"FAILED: no case refuses: {fault}")
+    failed = len(through) + bool(wrong)
+    print(f"{len(faults) + 1 - failed} passed, {failed} failed")
+    return 1 if failed else 0
+
+
+if __name__ == "__main__":
+    sys.exit(main(sys.argv[1:]))

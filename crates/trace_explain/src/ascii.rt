@@ -1,0 +1,28 @@
+//! Bytes that are text.
+
+use crate::tree::push_hex;
+use std::alloc::{AllocError, Global};
+
+/// The least bytes that are taken for text.
+const LEAST: usize = 3;
+
+/// Whether the bytes are taken for text: at least three, each of printable ASCII (this project's
+/// profile).
+pub fn is_text(bytes: &[u8]) -> bool {
+    for &byte in bytes {
+        if !matches!(byte, b' '..=b'~') {
+            return false;
+        }
+    }
+    bytes.len() >= LEAST
+}
+
+/// Adds bytes of text as digits, and the text in quotes beside them.
+pub fn push_text(alloc: Global, text: &mut String, bytes: &[u8]) -> Result<(), AllocError> {
+    push_hex(alloc, text, bytes)?;
+    text.push_str(" \"")?;
+    for &byte in bytes {
+        text.push(char::from(byte))?;
+    }
+    text.push('"')
+}

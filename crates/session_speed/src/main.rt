@@ -1,14 +1,16 @@
-//! How fast a terminal and a card talk. With no argument it says what they are asked and how much
-//! goes over the line for one operation; with one, it measures.
+//! How fast a terminal and a card talk, in a session and by a terminal that is driven. With no
+//! argument it says what they are asked and how much goes over the line for one operation; with
+//! one, it measures.
 #![tactic(auto)]
 
+mod driven;
 mod load;
 mod operation;
 mod session;
 
+use driven::Driven;
 use load::{LOADS, Load};
 use session::{ObjectSession, characters_of_one, selected};
-use std::alloc::Global;
 use std::num::nearest_usize_to_f64;
 use std::time::{Clock, Instant};
 use std::{env, io};
@@ -17,37 +19,66 @@ fn main(rt: HostRuntime) -> anyhow::Result<()> {
     let measures = env::args(&rt)?.count() > 1;
     let mut session = selected(rt.alloc())?;
     for load in &LOADS {
-        let characters = characters_of_one(rt.alloc(), &mut session, load)?;
-        println!(rt;
-            "{}: {} TPDUs, {characters} characters",
-            load.name, load.tpdus
-        )?;
-        if measures {
-            let seconds = seconds(&rt, rt.alloc(), &mut session, load)?;
-            let rate = nearest_usize_to_f64(load.operations()) / seconds;
-            let tpdus = rate * nearest_usize_to_f64(load.tpdus) / 1e6;
-            let each = 1e9 / (rate * nearest_usize_to_f64(characters));
-            println!(rt;
-                "  {} times in {seconds:.2} s: {tpdus:.2} million TPDUs a second, \
-                 {each:.2} ns a character",
-                load.operations()
-            )?;
-        }
+        tell(&rt, &mut session, load, measures)?;
     }
     Ok(())
 }
 
-/// How long all operations of a load take.
-fn seconds(
-    clock: &impl Clock,
-    alloc: Global,
+/// Says what a load is, and how long it takes where that is measured.
+fn tell(
+    rt: &HostRuntime,
     session: &mut ObjectSession,
     load: &Load,
-) -> anyhow::Result<f64> {
-    let ops = operation::list(alloc, load)?;
-    let start = Instant::now(clock)?;
-    for _ in 0..load.rounds {
-        session::carry_out(alloc, session, &ops)?;
+    measures: bool,
+) -> anyhow::Result<()> {
+    let characters = characters_of_one(rt.alloc(), session, load)?;
+    println!(rt;
+        "{}: {} TPDUs, {characters} characters",
+        load.name, load.tpdus
+    )?;
+    if measures {
+        tell_speed(rt, "", load, characters, seconds(rt, session, load)?)?;
+        tell_speed(rt, "driven ", load, characters, driven_seconds(rt, load)?)?;
     }
-    Ok(start.elapsed(clock)?.as_secs_f64())
+    Ok(())
+}
+
+/// Says how fast a load was carried out, and how.
+fn tell_speed(
+    rt: &HostRuntime,
+    how: &str,
+    load: &Load,
+    characters: usize,
+    seconds: f64,
+) -> anyhow::Result<()> {
+    let rate = nearest_usize_to_f64(load.operations()) / seconds;
+    let tpdus = rate * nearest_usize_to_f64(load.tpdus) / 1e6;
+    let each = 1e9 / (rate * nearest_usize_to_f64(characters));
+    println!(rt;
+        "  {how}{} times in {seconds:.2} s: {tpdus:.2} million TPDUs a second, \
+         {each:.2} ns a character",
+        load.operations()
+    )?;
+    Ok(())
+}
+
+/// How long all operations of a load take.
+fn seconds(rt: &HostRuntime, session: &mut ObjectSession, load: &Load) -> anyhow::Result<f64> {
+    let ops = operation::list(rt.alloc(), load)?;
+    let start = Instant::now(rt)?;
+    for _ in 0..load.rounds {
+        session::carry_out(rt.alloc(), session, &ops)?;
+    }
+    Ok(start.elapsed(rt)?.as_secs_f64())
+}
+
+/// How long they take by a terminal that is driven.
+fn driven_seconds(rt: &HostRuntime, load: &Load) -> anyhow::Result<f64> {
+    let ops = operation::list(rt.alloc(), load)?;
+    let mut driven = Driven::selected(rt.alloc())?;
+    let start = Instant::now(rt)?;
+    for _ in 0..load.rounds {
+        driven.carry_out(&ops)?;
+    }
+    Ok(start.elapsed(rt)?.as_secs_f64())
 }

@@ -1,6 +1,6 @@
 //! A terminal, and a card of data objects that holds small values and a large one.
 
-use crate::load::{Load, OBJECTS};
+use crate::load::{Load, OBJECTS, Object};
 use crate::operation::{operation, tag_of, value_of};
 use anyhow::Context;
 use card_terminal::{Answers, Op, Session};
@@ -15,17 +15,40 @@ const AID: [u8; 7] = [0xA0, 0x00, 0x00, 0x00, 0x03, 0x10, 0x10];
 
 /// A session in which the application is selected.
 pub fn selected(alloc: Global) -> anyhow::Result<ObjectSession> {
-    let aid = Aid::new(&AID).context("no identifier")?;
-    let mut builder = CardBuilder::new(alloc);
-    builder.app(aid)?;
-    for object in &OBJECTS {
-        builder.object(tag_of(object)?, &value_of(alloc, object)?)?;
-    }
-    let mut session = Session::new(CardEnd::new(builder.finish()?));
-    let mut ops = Vec::new(alloc);
-    ops.push(Op::Select(aid)).map_err(AllocError::from)?;
-    carry_out(alloc, &mut session, &ops)?;
+    let mut session = Session::new(CardEnd::new(card(alloc)?));
+    carry_out(alloc, &mut session, &selection(alloc)?)?;
     Ok(session)
+}
+
+/// The selection of the application.
+pub fn selection(alloc: Global) -> anyhow::Result<Vec<Op>> {
+    Ok(one(alloc, Op::Select(aid()?))?)
+}
+
+fn aid() -> anyhow::Result<Aid> {
+    Aid::new(&AID).context("no identifier")
+}
+
+/// A card with one application, which holds all objects.
+pub fn card(alloc: Global) -> anyhow::Result<ObjectCard<Global>> {
+    let mut builder = CardBuilder::new(alloc);
+    builder.app(aid()?)?;
+    for object in &OBJECTS {
+        add(alloc, &mut builder, object)?;
+    }
+    Ok(builder.finish()?)
+}
+
+fn add(alloc: Global, builder: &mut CardBuilder<Global>, object: &Object) -> anyhow::Result<()> {
+    builder.object(tag_of(object)?, &value_of(alloc, object)?)?;
+    Ok(())
+}
+
+/// A list of one operation.
+fn one(alloc: Global, op: Op) -> Result<Vec<Op>, AllocError> {
+    let mut ops = Vec::new(alloc);
+    ops.push(op)?;
+    Ok(ops)
 }
 
 /// Carries out operations, all of which the card answers with `9000`.
@@ -39,8 +62,7 @@ pub fn characters_of_one(
     session: &mut ObjectSession,
     load: &Load,
 ) -> anyhow::Result<usize> {
-    let mut ops = Vec::new(alloc);
-    ops.push(operation(alloc, load)?).map_err(AllocError::from)?;
+    let ops = one(alloc, operation(alloc, load)?)?;
     let mut recorder = Recorder::new(alloc);
     run(alloc, session, &ops, &mut recorder)?;
     if recorder.lost() {
@@ -59,18 +81,22 @@ fn run<W: Watch>(
         anyhow::bail!("a chain is pending");
     }
     let mut answers = Answers::new(alloc);
-    session.run(
-        alloc,
-        ops,
-        &mut Plans::<Global>::over(&[]),
-        watch,
-        &mut answers,
-    )?;
-    for at in 0..answers.len() {
-        let answer = answers.get(at).context("no answer")?;
-        if !answer.status().is_ok() {
-            anyhow::bail!("an operation was refused");
-        }
+    let mut plans = Plans::<Global>::over(&[]);
+    session.run(alloc, ops, &mut plans, watch, &mut answers)?;
+    if !are_ok(&answers) {
+        anyhow::bail!("an operation was refused");
     }
     Ok(())
+}
+
+fn are_ok(answers: &Answers) -> bool {
+    for at in 0..answers.len() {
+        if !answers
+            .get(at)
+            .is_some_and(|answer| answer.status().is_ok())
+        {
+            return false;
+        }
+    }
+    true
 }

@@ -1,6 +1,6 @@
 -- What lines of a script of `card` come to, one after another.
 use Rattle.std.proofs.Common.{◌≡◌, ◌≢◌, ◌⊎◌, inl, inr, Result, Ok, Err, drop, length-append, ℕ, zero, suc, ◌+◌, ◌<◌, ◌≤◌, List, [], ◌∷◌, ◌++◌, length, take, min, ◌-◌, ◌^◌, Option, Some, None, IfSome, Bool, true, false, nat_lt, if◌then◌else◌, refl, sym, ap, subst, ◌∙◌, arith, append_assoc, append-nil, true≢false, rules}
-use Rattle.std.proofs.lemmas.Bool.{eqb-true, ltb-true, ltb-false, ne_eqb}
+use Rattle.std.proofs.lemmas.Bool.{ltb-true, ltb-false}
 use Rattle.std.proofs.KnownBytes.{Appends-nil, Appends-trans}
 use Rattle.std.specs.Io.KnownBytes.{Appends}
 use Rattle.std.specs.Str.Lines.{lines}
@@ -12,9 +12,9 @@ use Rattle.t0_core.specs.Character.{Character, sent_by}
 use Rattle.t0_core.specs.Plan.{Course, Cursor, advanced, plain, plan_kept}
 use Rattle.t0_core.specs.History.{Event, Passed, passed}
 use Rattle.t0_core.specs.History as history
-use Rattle.t0_core.specs.CardSide.{Stage, EndOf, Taking_header, Refusing, Serving, Ending, listens, takes_plan, with_character, still_to_go}
+use Rattle.t0_core.specs.CardSide.{Stage, EndOf, Taking_header, listens, takes_plan, with_character, still_to_go}
 use Rattle.t0_core.specs.CardHistory.{Leads, LeadsUnder, IsTakenLast, under_way}
-use Rattle.t0_core.specs.CardLaws.{answers_on}
+use Rattle.t0_core.specs.CardLaws.{answers_on, before_plan, no_plan_yet, taken_stays}
 use Rattle.object_card.specs.Tables.{Application}
 use Rattle.object_card.specs.State.{CardState, after_reset}
 use Rattle.object_card.specs.CardMeaning.{Does}
@@ -230,15 +230,6 @@ lead_turn old new before after byte silent is led led_under =
             },
           )
 
--- before the card's turn no plan is taken
-no_plan_yet : (stage : Stage) → listens stage ≡ true → takes_plan stage ≡ false
-no_plan_yet (Taking_header bytes) listening =
-    let few : length bytes < 5 = ltb-true (length bytes) 5 listening in
-    ne_eqb (length bytes) 5 (λ e. absurd (omega (arith, few, e)))
-no_plan_yet (Refusing h p3 status done) listening = refl
-no_plan_yet (Serving s came) listening = refl
-no_plan_yet (Ending status) listening = refl
-
 -- the end listens, and nothing changes
 pub lead_listens : (start : AtWork) (characters : List Character) (old new : EndOf CardView)
     (before after : Cursor)
@@ -250,15 +241,6 @@ lead_listens start characters old new before after listening same is led =
     let E : EndOf CardView → Type 0 = λ e. LeadOn start characters (e, after) in
     let C : Cursor → Type 0 = λ c. LeadOn start characters (old, c) in
     subst E (sym same) (subst C (sym still) led)
-
-keeps_with : (stage : Stage) (byte : ℕ) (cursor : Cursor) (taken : List Course)
-    → ((plan : Course) → under_way stage plan ≡ plan ∷ [] → IsTakenLast (plan_kept cursor) taken)
-    → (plan : Course) → under_way (with_character stage byte) plan ≡ plan ∷ []
-    → IsTakenLast (plan_kept cursor) taken
-keeps_with (Taking_header bytes) byte cursor taken keeps = keeps
-keeps_with (Refusing h p3 status done) byte cursor taken keeps = keeps
-keeps_with (Serving s came) byte cursor taken keeps = keeps
-keeps_with (Ending status) byte cursor taken keeps = keeps
 
 -- a character of the terminal
 pub lead_take : (old new : EndOf CardView) (byte : ℕ) → new
@@ -290,7 +272,7 @@ lead_take old new byte is led led_under plans = λ past ready.
         };
         keeps = subst L (sym (append-nil past.taken))
             (subst K (sym (ap (λ e. e.stage) is))
-            (keeps_with old.stage byte plans past.taken ready.keeps));
+            (λ plan has. ready.keeps plan (sym (taken_stays old.stage plan byte) ∙ has)));
       },
     )
 
@@ -346,17 +328,10 @@ may_hand_out stage cursor =
 hands_at_most : (stage : Stage) (cursor : Cursor)
     → may_hand_out stage cursor ≤ suc (steps_in cursor.rest + still_to_go stage (plan_kept cursor))
 hands_at_most stage cursor = by (listens stage) refl where
-  header : (s : Stage) (plan : Course) → takes_plan s ≡ true → 300 ≤ still_to_go s plan
-  header (Taking_header bytes) plan h = omega arith
-  header (Refusing h p3 status done) plan e = cc e
-  header (Serving s came) plan e = cc e
-  header (Ending status) plan e = cc e
-
   at : (v : Bool) → takes_plan stage ≡ v → listens stage ≡ false
       → may_hand_out stage cursor
       ≤ suc (steps_in cursor.rest + still_to_go stage (plan_kept cursor))
-  at true e l = let many : 300 ≤ still_to_go stage (plan_kept cursor) =
-      header stage (plan_kept cursor) e in rw l (rw e (omega arith))
+  at true e l = rw l (rw e (omega (arith, before_plan stage (plan_kept cursor) e)))
   at false e l = rw l (rw e (omega arith))
 
   by : (v : Bool) → listens stage ≡ v
@@ -366,24 +341,16 @@ hands_at_most stage cursor = by (listens stage) refl where
   by false l = at (takes_plan stage) refl l
 
 -- with the plan that is taken there is as much
-header_by : (bytes : List ℕ) (rest : List Course) (kept : Option Course)
-    → listens (Taking_header bytes) ≡ false → takes_plan (Taking_header bytes) ≡ true
+header_hands : (stage : Stage) (rest : List Course) (kept : Option Course) → listens stage ≡ false
+    → takes_plan stage ≡ true
     → suc (steps_in (advanced (record { rest = rest; kept = kept })).rest
-    + still_to_go (Taking_header bytes)
-    (plan_kept (advanced (record { rest = rest; kept = kept }))))
-    ≤ may_hand_out (Taking_header bytes) (record { rest = rest; kept = kept })
-header_by bytes [] kept l e = let five : length bytes ≡ 5 = eqb-true (length bytes) 5 e in
-    rw l (rw e (omega arith))
-header_by bytes (p ∷ rest) kept l e = let five : length bytes ≡ 5 = eqb-true (length bytes) 5 e in
-    rw l (rw e (omega arith))
-
-header_hands : (stage : Stage) (cursor : Cursor) → listens stage ≡ false → takes_plan stage ≡ true
-    → suc (steps_in (advanced cursor).rest + still_to_go stage (plan_kept (advanced cursor)))
-    ≤ may_hand_out stage cursor
-header_hands (Taking_header bytes) cursor l e = header_by bytes cursor.rest cursor.kept l e
-header_hands (Refusing h p3 status done) cursor l e = cc e
-header_hands (Serving s came) cursor l e = cc e
-header_hands (Ending status) cursor l e = cc e
+    + still_to_go stage (plan_kept (advanced (record { rest = rest; kept = kept }))))
+    ≤ may_hand_out stage (record { rest = rest; kept = kept })
+header_hands stage [] kept l e =
+    let whole : still_to_go stage plain ≡ 300 = before_plan stage plain e in
+    rw l (rw e (omega (arith, whole)))
+header_hands stage (p ∷ rest) kept l e =
+    rw l (rw e (omega (arith, before_plan stage p e)))
 
 turn_hands : (stage : Stage) (before after : Cursor) → listens stage ≡ false
     → after ≡ (if takes_plan stage then advanced before else before)
@@ -395,7 +362,7 @@ turn_hands stage before after l is = by (takes_plan stage) refl where
       let new : after ≡ advanced before = rw e at is in
       let P : Cursor → Type 0 = λ c. suc (steps_in c.rest + still_to_go stage (plan_kept c))
       ≤ may_hand_out stage before in
-      subst P (sym new) (header_hands stage before l e)
+      subst P (sym new) (header_hands stage before.rest before.kept l e)
   by false e =
       let new : after ≡ before = rw e at is in
       let P : Cursor → Type 0 = λ c. suc (steps_in c.rest + still_to_go stage (plan_kept c))

@@ -84,10 +84,10 @@ LeadsOn event old new = (first : CardState) (events : List Event) → HaveLed fi
     → HaveLed first (events ++ event ∷ []) new
 
 -- A character of the terminal is taken where the card listens.
-abbrev pub Takes : ℕ → CardSide → ℤ → CardSide → Type 0
-Takes byte (Building applications) code new = (code ≡ gt_state) × (new ≡ Building applications)
-Takes byte (Joined session) code new = (code ≡ gt_state) × (new ≡ Joined session)
-Takes byte (Standing end plans) code new =
+abbrev pub TakesOne : ℕ → CardSide → ℤ → CardSide → Type 0
+TakesOne byte (Building applications) code new = (code ≡ gt_state) × (new ≡ Building applications)
+TakesOne byte (Joined session) code new = (code ≡ gt_state) × (new ≡ Joined session)
+TakesOne byte (Standing end plans) code new =
     ((listens end.stage ≡ false) × (code ≡ line_code NotListening) × (new ≡ Standing end plans))
     ⊎ ((next : EndOf CardView) × (listens end.stage ≡ true) × (code ≡ gt_ok)
     × (new ≡ Standing next plans)

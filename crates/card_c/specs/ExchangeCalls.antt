@@ -9,7 +9,7 @@ use Rattle.t0_core.specs.declared.host_end.HostTurn.TheVariants.{Sends, Listens,
 use Rattle.t0_core.specs.declared.line_fault.LineFault.{LineFault}
 use Rattle.t0_core.specs.Front.{fresh}
 use Rattle.card_terminal.specs.ExchangeSide.{ExchangeOf, UnderWay}
-use Rattle.card_terminal.specs.ExchangeHistory.{Leads}
+use Rattle.card_terminal.specs.ExchangeHistory.{ComesTo}
 use Rattle.card_c.specs.Codes.{gt_ok, gt_sends, gt_done, gt_failed, gt_state, gt_memory, line_code, command_code}
 use Rattle.card_c.specs.Copying.{GoesOut}
 
@@ -27,7 +27,7 @@ IsRefused bytes code = ((fault : ApduFault) × AreNone bytes fault × (code ≡ 
 -- an exchange of the command that the bytes are, before its first character
 abbrev pub IsBegun : List ℕ → ExchangeOf → Type 0
 IsBegun bytes ex = (c : Command) × IsCommand c × (bytes ≡ command_bytes c)
-    × UnderWay c ex [] None fresh × Leads c [] ex
+    × UnderWay c ex [] None fresh × ComesTo c [] ex
 
 -- what a turn of the terminal is called, and the character that it hands out
 abbrev pub turn_code : HostTurn → ℤ

@@ -1,7 +1,7 @@
 //! A card, which C builds and then drives character by character.
 ghost use Rattle.std.specs.Prelude.{◌≡◌, ◌≢◌, ◌==◌, not, pos, None};
 ghost use Rattle.card_c.specs.CardHandle.{held_by, OnHandle};
-ghost use Rattle.card_c.specs.CardCalls.{Begins, AddsApplication, AddsObject, Finishes, Takes, Turns, Resets};
+ghost use Rattle.card_c.specs.CardCalls.{Begins, AddsApplication, AddsObject, Finishes, TakesOne, Turns, Resets};
 
 use crate::card_held::GtCard;
 use crate::card_side::CardSide;
@@ -143,7 +143,7 @@ fn finish(alloc: Global, side: &mut CardSide) -> i32
 /// Takes a character of the terminal.
 #[unsafe(no_mangle)]
 pub extern "C" fn galliumtoad_card_take(alloc: Global, card: &mut GtCard, byte: u8) -> i32
-    ensures { OnHandle (Takes byte) (held_by card.old) result (held_by card.new) }
+    ensures { OnHandle (TakesOne byte) (held_by card.old) result (held_by card.new) }
 {
     let Some(mut side) = card.take_out(alloc) else {
         return code::EMPTY;
@@ -154,7 +154,7 @@ pub extern "C" fn galliumtoad_card_take(alloc: Global, card: &mut GtCard, byte: 
 }
 
 fn take(side: &mut CardSide, byte: u8) -> i32
-    ensures { Takes byte side.old result side.new }
+    ensures { TakesOne byte side.old result side.new }
 {
     let CardSide::Standing(end, _) = side else {
         return code::STATE;

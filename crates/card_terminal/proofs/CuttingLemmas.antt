@@ -26,11 +26,11 @@ use Rattle.card_terminal.specs.declared.wanted.Wanted.{Wanted}
 use Rattle.object_card.specs.CarryingOut.{get_response}
 use Rattle.card_terminal.specs.Gathered.{Asks, SendsFrom, BeginsWith, wanted_by, repeated_with, after_unit, fetched_after, Opening, By_command, By_fetch, OpensWith, UnitOf, Single, Repeated, first_of, last_of, dialogues_of, unit_data, IsUnit, BringsSome, AreFollowed, IsOpenExchange, Gathers}
 use Rattle.card_terminal.specs.ExchangeSide.{ExchangeOf, HostAsks, HostSends, HostOpens, HostOpensBy, IsOpenedAs, UnderWay, IsOver, Stall, begun_with, exchange_turn, response_limit}
-use Rattle.card_terminal.specs.ExchangeHistory.{unit_characters, characters_to, Expects, BeginsExchange, Leads, to_front, to_end, to_stall, to_fault}
+use Rattle.card_terminal.specs.ExchangeHistory.{unit_characters, characters_to, Expects, BeginsExchange, ComesTo, to_front, to_end, to_stall, to_fault}
 use Rattle.object_card.specs.OperationLaws.{count_of_some}
 use Rattle.card_terminal.proofs.UnitLemmas.{gathered_parts}
 use Rattle.card_terminal.proofs.OverLemmas.{none_or_some}
-use Rattle.card_terminal.proofs.LeadsLemmas.{final_is_no_end, some_fault}
+use Rattle.card_terminal.proofs.ComesToLemmas.{final_is_no_end, some_fault}
 use Rattle.card_terminal.proofs.PrefixLemmas.{led_begins}
 
 -- ---- an opening fixes the header, and which way data move
@@ -661,7 +661,7 @@ faults_not c ex units gone first front byte fault gathered status rest valid und
 -- the characters that led here go on to those of a whole exchange
 pub comes : (c : Command) (came : List Character) (ex : ExchangeOf) (units : List UnitOf)
     (gathered : List ℕ) (status : StatusWord) (rest : List Character) → IsValid (By_command c)
-    → Leads c came ex → Gathers c units gathered status → AreAll (flat_map dialogues_of units)
+    → ComesTo c came ex → Gathers c units gathered status → AreAll (flat_map dialogues_of units)
     → (rest ≡ []) ⊎ (length gathered ≤ response_limit) → unit_characters units ≡ came ++ rest
     → Comes ex rest gathered status
 comes c came ex units gathered status rest valid (to_front gone first front under is) whole are
@@ -682,7 +682,7 @@ comes c came ex units gathered status rest valid
 
 pub done : (c : Command) (came : List Character) (ex : ExchangeOf) (units : List UnitOf)
     (gathered : List ℕ) (status : StatusWord) → ins_is_valid c.header.ins ≡ true
-    → c.header.ins < 256 → Leads c came ex → Gathers c units gathered status
+    → c.header.ins < 256 → ComesTo c came ex → Gathers c units gathered status
     → AllByRecursion IsDialogue (flat_map dialogues_of units) → came ≡ unit_characters units
     → (exchange_turn ex ≡ Done status) × (ex.gather.bytes ≡ gathered)
 done c came ex units gathered status valid small leads whole are is =
@@ -695,7 +695,7 @@ done c came ex units gathered status valid small leads whole are is =
 pub next_character : (c : Command) (came : List Character) (ex : ExchangeOf)
     (units : List UnitOf) (gathered : List ℕ) (status : StatusWord) (ch : Character)
     (rest : List Character) → ins_is_valid c.header.ins ≡ true → c.header.ins < 256
-    → Leads c came ex → Gathers c units gathered status
+    → ComesTo c came ex → Gathers c units gathered status
     → AllByRecursion IsDialogue (flat_map dialogues_of units) → length gathered ≤ response_limit
     → unit_characters units ≡ came ++ ch ∷ rest → Expects ex ch
 next_character c came ex units gathered status ch rest valid small leads whole are fits e =
@@ -721,7 +721,7 @@ expecting_is_no_failure ex Card byte takes failed =
 
 pub unfailing : (c : Command) (came : List Character) (ex : ExchangeOf) (units : List UnitOf)
     (gathered : List ℕ) (status : StatusWord) (rest : List Character)
-    → ins_is_valid c.header.ins ≡ true → c.header.ins < 256 → Leads c came ex
+    → ins_is_valid c.header.ins ≡ true → c.header.ins < 256 → ComesTo c came ex
     → Gathers c units gathered status → AllByRecursion IsDialogue (flat_map dialogues_of units)
     → length gathered ≤ response_limit → unit_characters units ≡ came ++ rest
     → exchange_turn ex ≡ Failed → ⊥
@@ -870,7 +870,7 @@ over_fault ex status byte done = by ex.stalled refl
 -- what led to an exchange goes no further than a whole one of its command
 pub none_led_longer : (c : Command) (came : List Character) (ex : ExchangeOf)
     (units : List UnitOf) (gathered : List ℕ) (status : StatusWord) (rest : List Character)
-    → ins_is_valid c.header.ins ≡ true → c.header.ins < 256 → Leads c came ex
+    → ins_is_valid c.header.ins ≡ true → c.header.ins < 256 → ComesTo c came ex
     → Gathers c units gathered status → AreAll (flat_map dialogues_of units)
     → came ≡ unit_characters units ++ rest → rest ≡ []
 none_led_longer c came ex units gathered status rest valid small leads whole are e =

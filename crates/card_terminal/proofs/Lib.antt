@@ -4,7 +4,7 @@ pub mod ExchangeLemmas
 pub mod EndLemmas
 mod GoneLemmas
 pub mod SessionLemmas
-pub mod LeadsLemmas
+pub mod ComesToLemmas
 pub mod WholeTpduLemmas
 pub mod PrefixLemmas
 pub mod FetchLemmas

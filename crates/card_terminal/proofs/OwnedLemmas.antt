@@ -9,7 +9,7 @@ use Rattle.card_terminal.specs.Gathered.{Gathers}
 use Rattle.card_terminal.specs.ExchangeSide.{ExchangeOf, exchange_turn}
 use Rattle.card_terminal.specs.ExchangeSteps.{IsAnswer}
 use Rattle.card_terminal.specs.OwnedExchange.{exchange_of}
-use Rattle.card_terminal.proofs.LeadsLemmas.{end_leads}
+use Rattle.card_terminal.proofs.ComesToLemmas.{end_leads}
 
 pub made_again : (kept : Kept) (room gather : Room) (bytes content : List ℕ) (made ex : ExchangeOf)
     → made ≡ exchange_of kept room bytes → room ≡ gather → bytes ≡ content

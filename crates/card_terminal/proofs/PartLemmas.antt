@@ -17,7 +17,7 @@ use Rattle.object_card.specs.OneStep.{Put}
 use Rattle.card_terminal.specs.Attempts.{most_begun, one_more}
 use Rattle.card_terminal.specs.Talk.{AreCommandsOf}
 use Rattle.card_terminal.specs.ExchangeSide.{ExchangeOf, UnderWay, IsKept, IsBounded, exchange_turn}
-use Rattle.card_terminal.specs.ExchangeHistory.{Leads}
+use Rattle.card_terminal.specs.ExchangeHistory.{ComesTo}
 use Rattle.card_terminal.specs.OwnedExchange.{DetachedOf, over_data, IsSound}
 use Rattle.card_terminal.specs.OperationRoom.{IsPart}
 use Rattle.card_terminal.specs.TerminalSide.{OperationOf, AreLeft, LeadsThrough, GoesToNext}
@@ -96,7 +96,7 @@ part_of items content from until ex front sound = record {
 -- ---- an operation of one command
 
 pub command_begins : (c : Command) (ex : DetachedOf) (items : List ℕ) (until : ℕ)
-    → items ≡ c.content → until ≡ length items → Leads c [] (over_data ex c.content)
+    → items ≡ c.content → until ≡ length items → ComesTo c [] (over_data ex c.content)
     → LeadsThrough (c ∷ []) [] (record {
       exchange = over_data ex (slice_range items 0 until);
       p1 = 0;
@@ -113,7 +113,7 @@ command_begins c ex items until same is led =
       p1 = 0;
       p2 = 0;
       rest = drop until items;
-    }) none (subst (λ (bs : List ℕ). Leads c [] (over_data ex bs)) (sym whole) led)
+    }) none (subst (λ (bs : List ℕ). ComesTo c [] (over_data ex bs)) (sym whole) led)
 
 -- ---- a put
 
@@ -135,7 +135,7 @@ pub put_begins : (tag value items : List ℕ) (ex : DetachedOf) (p1 p2 until : �
     (pieces : List (List ℕ)) (list others : List Command) (c : Command) → items ≡ value
     → header ≡ put_header p1 p2 → NamesTag tag p1 p2 → IsPieces value pieces
     → list ≡ chain_commands header pieces → list ≡ c ∷ others → until ≡ length c.content
-    → Leads c [] (over_data ex c.content)
+    → ComesTo c [] (over_data ex c.content)
     → (commands : List Command) × AreCommandsOf (Put tag value) commands
     × LeadsThrough commands [] (record {
       exchange = over_data ex (slice_range items 0 until);
@@ -158,7 +158,7 @@ put_begins tag value items ex p1 p2 until header pieces list others c copied hea
         p1 = p1;
         p2 = p2;
         rest = drop until items;
-      }) left (subst (λ (bs : List ℕ). Leads c [] (over_data ex bs)) (sym front.slice) led),
+      }) left (subst (λ (bs : List ℕ). ComesTo c [] (over_data ex bs)) (sym front.slice) led),
     )
 
 -- ---- the next piece
@@ -191,7 +191,7 @@ pub next_begins : (old : OperationOf) (ex : ExchangeOf) (new : DetachedOf)
     → header ≡ put_header p1 p2 → IsPieces (slice_range seen until (length seen)) pieces
     → list ≡ chain_commands header pieces → list ≡ c ∷ others → until ≤ length items
     → size ≡ length c.content → UnderWay c (over_data new c.content) [] None fresh
-    → Leads c [] (over_data new c.content) → IsSound (over_data new c.content)
+    → ComesTo c [] (over_data new c.content) → IsSound (over_data new c.content)
     → GoesToNext old (record {
       exchange = over_data new (slice_range items until (until + size));
       p1 = p1;
@@ -218,7 +218,7 @@ next_begins old ex new items seen until p1 p2 size header pieces list others c v
             (λ e. more (ap (λ (o : OperationOf). o.rest) (sym view) ∙ e)) are_now
             (subst (λ (o : OperationOf). AreLeft o.p1 o.p2 o.rest left) (sym view) are_left)
             ∙ chain,
-        subst (λ (bs : List ℕ). Leads c [] (over_data new bs)) (sym front.slice) led,
+        subst (λ (bs : List ℕ). ComesTo c [] (over_data new bs)) (sym front.slice) led,
         subst (λ z. AreLeft p1 p2 z others) after_is
             (left_after p1 p2 (drop until items) pieces c others are_now chain),
       );

@@ -14,7 +14,7 @@ use Rattle.t0_core.specs.OwnLaws.{begins_own}
 use Rattle.card_terminal.specs.declared.wanted.Wanted.{Wanted}
 use Rattle.card_terminal.specs.Gathered.{Asks, wants_at_least, correction_of, repeated_with, after_dialogue, UnitOf, Repeated, dialogues_of, IsOpenExchange}
 use Rattle.card_terminal.specs.ExchangeSide.{ExchangeOf, UnderWay, so_far, ended_with}
-use Rattle.card_terminal.specs.ExchangeHistory.{unit_characters, characters_to, Leads, to_front, to_end, to_stall, to_fault, BeginsExchange, FaultCameLast}
+use Rattle.card_terminal.specs.ExchangeHistory.{unit_characters, characters_to, ComesTo, to_front, to_end, to_stall, to_fault, BeginsExchange, FaultCameLast}
 use Rattle.card_terminal.proofs.UnitLemmas.{unit_dialogues}
 use Rattle.card_terminal.proofs.EndLemmas.{again_of, unit_is, unit_opens, some_or_none}
 
@@ -162,7 +162,7 @@ whole_begins c units is_open are =
     }
 
 -- but for a last character that ended it by a fault
-pub led_begins : (c : Command) (came : List Character) (ex : ExchangeOf) → Leads c came ex
+pub led_begins : (c : Command) (came : List Character) (ex : ExchangeOf) → ComesTo c came ex
     → BeginsExchange c came ⊎ FaultCameLast c came ex
 led_begins c came ex (to_front units first front under is) =
     inl (as_came c _ came is (front_begins c ex units first front under))

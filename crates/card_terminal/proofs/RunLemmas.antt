@@ -40,7 +40,7 @@ use Rattle.card_terminal.specs.Talk.{AreTakenUpTo, HaveCuts, Talk, AreCommandsOf
 use Rattle.card_terminal.specs.Operations.{operation_of}
 use Rattle.card_terminal.specs.Running.{new_answers, carried_out}
 use Rattle.card_terminal.proofs.FetchLemmas.{Goes, goes_by_runs, goes_sound}
-use Rattle.card_terminal.proofs.LeadsLemmas.{over_turn}
+use Rattle.card_terminal.proofs.ComesToLemmas.{over_turn}
 use Rattle.card_terminal.proofs.SessionLemmas.{some_is}
 use Rattle.card_terminal.proofs.GoneLemmas.{cuts_both, gone_both}
 use Rattle.card_terminal.proofs.BoundLemmas.{so_far_brings, never_stalls}

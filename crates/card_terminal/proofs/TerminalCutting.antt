@@ -14,7 +14,7 @@ use Rattle.object_card.specs.OneStep.{Reply}
 use Rattle.card_terminal.specs.Gathered.{UnitOf, Gathers, dialogues_of, unit_data, tpdus}
 use Rattle.card_terminal.specs.Talk.{AreTakenUpTo, AreExchangesOf, talk_dialogues, talk_characters}
 use Rattle.card_terminal.specs.ExchangeSide.{ExchangeOf, exchange_turn, response_limit}
-use Rattle.card_terminal.specs.ExchangeHistory.{Leads, Expects, BeginsExchange, FaultCameLast, unit_characters}
+use Rattle.card_terminal.specs.ExchangeHistory.{ComesTo, Expects, BeginsExchange, FaultCameLast, unit_characters}
 use Rattle.card_terminal.specs.TerminalSide.{OperationOf, AreLeft, HasCome, LeadsTo, IsSettled}
 use Rattle.card_terminal.specs.TerminalHistory.{HaveValidIns, HaveRoom, brought_by}
 use Rattle.card_terminal.proofs.CuttingLemmas.{Comes, comes, before_both, none_led_longer, same_whole, done_is_no_failure, expecting_is_no_failure}
@@ -66,7 +66,7 @@ none_of_none exchanges answer (c ∷ left) none are = absurd (cc)
 first_of_more : (c : Command) (left : List Command) (here : List Character) (ex : ExchangeOf)
     (units next : List UnitOf) (others : List (List UnitOf)) (answer : Reply) (brought : List ℕ)
     (rest : List Character) → ins_is_valid c.header.ins ≡ true → c.header.ins < 256
-    → Leads c here ex → Ends ex left → Gathers c units brought ok
+    → ComesTo c here ex → Ends ex left → Gathers c units brought ok
     → AreExchangesOf left (next ∷ others) answer
     → AllByRecursion IsDialogue (flat_map dialogues_of units)
     → (rest ≡ []) ⊎ HaveRoom (units ∷ next ∷ others)
@@ -115,7 +115,7 @@ first_of_more c left here ex units next others answer brought rest valid small l
 -- the exchange under way, where none has gone before it
 here_comes : (c : Command) (left : List Command) (here : List Character) (ex : ExchangeOf)
     (exchanges : List (List UnitOf)) (answer : Reply) (rest : List Character)
-    → ins_is_valid c.header.ins ≡ true → c.header.ins < 256 → Leads c here ex → Ends ex left
+    → ins_is_valid c.header.ins ≡ true → c.header.ins < 256 → ComesTo c here ex → Ends ex left
     → AreExchangesOf (c ∷ left) exchanges answer
     → AllByRecursion IsDialogue (talk_dialogues exchanges)
     → (rest ≡ []) ⊎ HaveRoom exchanges → talk_characters exchanges ≡ here ++ rest
@@ -164,7 +164,7 @@ pub operation_comes : (commands : List Command) (gone : List (List UnitOf)) (cur
     (left : List Command) (here : List Character) (ex : ExchangeOf)
     (exchanges : List (List UnitOf)) (answer : Reply) (rest : List Character)
     → HaveValidIns commands → AreTakenUpTo commands gone (current ∷ left)
-    → AllByRecursion IsDialogue (talk_dialogues gone) → Leads current here ex → Ends ex left
+    → AllByRecursion IsDialogue (talk_dialogues gone) → ComesTo current here ex → Ends ex left
     → AreExchangesOf commands exchanges answer
     → AllByRecursion IsDialogue (talk_dialogues exchanges)
     → (rest ≡ []) ⊎ HaveRoom exchanges
@@ -177,7 +177,8 @@ operation_comes (c ∷ commands) [] current left here ex exchanges answer rest v
     let head : current ≡ c = cc in
     let tail : left ≡ commands = cc in
     here_comes c commands here ex exchanges answer rest valid.0.0 valid.0.1
-    (subst (λ d. Leads d here ex) head leads) (subst (λ cs. Ends ex cs) tail ends) whole are room e
+    (subst (λ d. ComesTo d here ex) head leads)
+    (subst (λ cs. Ends ex cs) tail ends) whole are room e
 operation_comes [] (g ∷ gone) current left here ex exchanges answer rest valid taken gone_are
     leads ends whole are room e = absurd taken
 operation_comes (c ∷ commands) (g ∷ gone) current left here ex [] answer rest valid taken gone_are
@@ -272,7 +273,7 @@ pub operation_begins : (commands : List Command) (came : List Character) (o : Op
     → LeadsTo commands came (Some o) → HasCome (λ c here. BeginsExchange c here) commands came o
     ⊎ HasCome (λ c here. FaultCameLast c here o.exchange) commands came o
 operation_begins commands came o (l, settled) =
-    let Led : Command → List Character → Type 0 = λ c here. Leads c here o.exchange in
+    let Led : Command → List Character → Type 0 = λ c here. ComesTo c here o.exchange in
     elim (led_begins l.current l.here o.exchange l.led) [
       | inl begins ↦ inl (come_as Led (λ c here. BeginsExchange c here) commands came o o.exchange
           l begins)

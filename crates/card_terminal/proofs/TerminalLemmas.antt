@@ -10,14 +10,14 @@ use Rattle.t0_core.specs.Dialogue.{IsDialogue, characters}
 use Rattle.card_terminal.specs.Gathered.{UnitOf, dialogues_of}
 use Rattle.card_terminal.specs.Talk.{AreTakenUpTo, AreExchangesOf, talk_dialogues, talk_characters}
 use Rattle.card_terminal.specs.ExchangeSide.{ExchangeOf, exchange_turn}
-use Rattle.card_terminal.specs.ExchangeHistory.{Leads, unit_characters}
+use Rattle.card_terminal.specs.ExchangeHistory.{ComesTo, unit_characters}
 use Rattle.card_terminal.specs.TerminalSide.{OperationOf, AreLeft, HasCome, LeadsThrough, IsSettled, GoesToNext, GoesOver, with_exchange}
-use Rattle.card_terminal.proofs.LeadsLemmas.{end_leads}
+use Rattle.card_terminal.proofs.ComesToLemmas.{end_leads}
 use Rattle.card_terminal.proofs.TalkListLemmas.{taken_more, taken_to_end, one_more_exchange, all_both}
 use Rattle.card_terminal.proofs.PutTalkLemmas.{is_ok_or_not}
 
 -- an operation of one command begins
-pub one_begins : (c : Command) (o : OperationOf) → o.rest ≡ [] → Leads c [] o.exchange
+pub one_begins : (c : Command) (o : OperationOf) → o.rest ≡ [] → ComesTo c [] o.exchange
     → LeadsThrough (c ∷ []) [] o
 one_begins c o none led = record {
   gone = [];
@@ -33,7 +33,7 @@ one_begins c o none led = record {
 
 -- one of several
 pub first_begins : (c : Command) (left : List Command) (o : OperationOf)
-    → AreLeft o.p1 o.p2 o.rest left → Leads c [] o.exchange → LeadsThrough (c ∷ left) [] o
+    → AreLeft o.p1 o.p2 o.rest left → ComesTo c [] o.exchange → LeadsThrough (c ∷ left) [] o
 first_begins c left o are_left led = record {
   gone = [];
   current = c;

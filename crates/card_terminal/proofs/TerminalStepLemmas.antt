@@ -15,7 +15,7 @@ use Rattle.t0_core.specs.Dialogue.{Dialogue, characters}
 use Rattle.t0_core.specs.HostAnswer.{fails_with}
 use Rattle.card_terminal.specs.Conversing.{is_done}
 use Rattle.card_terminal.specs.ExchangeSide.{ExchangeOf, IsBounded, IsAtEnd, exchange_turn, is_final}
-use Rattle.card_terminal.specs.ExchangeHistory.{Leads, LeadsTooFar}
+use Rattle.card_terminal.specs.ExchangeHistory.{ComesTo, ComesTooFar}
 use Rattle.card_terminal.specs.ExchangeSteps.{IsTurn, IsTaking, IsAnswering, IsAnswer}
 use Rattle.card_terminal.specs.Gathered.{UnitOf}
 use Rattle.card_terminal.specs.Talk.{AreExchangesOf, talk_characters}
@@ -44,7 +44,7 @@ turns o new turn step same bounds settled = record {
   led = λ commands came byte l is.
       let sends : turn ≡ Sends byte = same_turn turn (Sends byte) is in (
         subst (λ x. LeadsThrough commands (came ++ (Terminal, byte) ∷ []) x) (sym same)
-            (come_on (λ c here. Leads c here o.exchange) (λ c here. Leads c here new.exchange)
+            (come_on (λ c here. ComesTo c here o.exchange) (λ c here. ComesTo c here new.exchange)
             commands came ((Terminal, byte) ∷ []) o new.exchange l.0
             (step.led l.0.current l.0.here byte l.0.led sends)),
         settled,
@@ -107,19 +107,19 @@ takes o new byte result ex settled step over = record {
     broken (Err fault) is = λ final. fails o new ex over (is final)
 
     went : (commands : List Command) (came : List Character) (l : LeadsThrough commands came o)
-        → Leads l.current (l.here ++ (Card, byte) ∷ []) ex
+        → ComesTo l.current (l.here ++ (Card, byte) ∷ []) ex
         → LeadsTo commands (came ++ (Card, byte) ∷ []) (Some new)
     went commands came l led = (
       goes_over commands (came ++ (Card, byte) ∷ []) (with_exchange o ex) new over
-          (come_on (λ c here. Leads c here o.exchange) (λ c here. Leads c here ex) commands came
+          (come_on (λ c here. ComesTo c here o.exchange) (λ c here. ComesTo c here ex) commands came
           ((Card, byte) ∷ []) o ex l led),
       settles (with_exchange o ex) new over,
     )
 
     on : (commands : List Command) (came : List Character) (l : LeadsThrough commands came o)
         (r : Result (Unit {0}) LineFault)
-        → MatchResult r (λ _. Leads l.current (l.here ++ (Card, byte) ∷ []) ex)
-        (λ fault. is_final fault ≡ true → Leads l.current (l.here ++ (Card, byte) ∷ []) ex)
+        → MatchResult r (λ _. ComesTo l.current (l.here ++ (Card, byte) ∷ []) ex)
+        (λ fault. is_final fault ≡ true → ComesTo l.current (l.here ++ (Card, byte) ∷ []) ex)
         → MatchResult r (λ _. LeadsTo commands (came ++ (Card, byte) ∷ []) (Some new))
         (λ fault. is_final fault ≡ true
         → LeadsTo commands (came ++ (Card, byte) ∷ []) (Some new))
@@ -154,11 +154,11 @@ answering o new bytes status result ex settled step over = record {
     broken (Err fault) is = λ final. fails o new ex over (is final)
 
     went : (commands : List Command) (came : List Character) (d : Dialogue)
-        (l : LeadsThrough commands came o) → Leads l.current (l.here ++ characters d) ex
+        (l : LeadsThrough commands came o) → ComesTo l.current (l.here ++ characters d) ex
         → LeadsTo commands (came ++ characters d) (Some new)
     went commands came d l led = (
       goes_over commands (came ++ characters d) (with_exchange o ex) new over
-          (come_on (λ c here. Leads c here o.exchange) (λ c here. Leads c here ex) commands came
+          (come_on (λ c here. ComesTo c here o.exchange) (λ c here. ComesTo c here ex) commands came
           (characters d) o ex l led),
       settles (with_exchange o ex) new over,
     )
@@ -166,21 +166,21 @@ answering o new bytes status result ex settled step over = record {
     too_far : (commands : List Command) (came : List Character) (d : Dialogue)
         (l : LeadsThrough commands came o) (after : OperationOf)
         → GoesOver (with_exchange o ex) after → exchange_turn ex ≡ Failed
-        → LeadsTooFar l.current l.here (characters d) ex
+        → ComesTooFar l.current l.here (characters d) ex
         → LeadsThroughTooFar commands came (characters d) after
     too_far commands came d l after (inl is) failed led =
         subst (λ x. LeadsThroughTooFar commands came (characters d) x) (sym is.1)
-        (come_as (λ c here. Leads c here o.exchange)
-        (λ c here. LeadsTooFar c here (characters d) ex) commands came o ex l led)
+        (come_as (λ c here. ComesTo c here o.exchange)
+        (λ c here. ComesTooFar c here (characters d) ex) commands came o ex l led)
     too_far commands came d l after (inr next) failed led =
         let e : Done ok ≡ Failed = sym next.done ∙ failed in absurd (cc)
 
     on : (commands : List Command) (came : List Character) (d : Dialogue)
         (l : LeadsThrough commands came o) (r : Result (Unit {0}) AnswerFault)
         → IfErr r (λ fault. fails_with fault ≡ true → exchange_turn ex ≡ Failed)
-        → MatchResult r (λ _. Leads l.current (l.here ++ characters d) ex)
-        (λ fault. ((fault ≡ answer.Stalled) × Leads l.current (l.here ++ characters d) ex)
-        ⊎ ((fault ≡ answer.TooLong) × LeadsTooFar l.current l.here (characters d) ex)
+        → MatchResult r (λ _. ComesTo l.current (l.here ++ characters d) ex)
+        (λ fault. ((fault ≡ answer.Stalled) × ComesTo l.current (l.here ++ characters d) ex)
+        ⊎ ((fault ≡ answer.TooLong) × ComesTooFar l.current l.here (characters d) ex)
         ⊎ (fault ≡ answer.NotDue))
         → MatchResult r (λ _. LeadsTo commands (came ++ characters d) (Some new))
         (λ fault. ((fault ≡ answer.Stalled) × LeadsTo commands (came ++ characters d) (Some new))

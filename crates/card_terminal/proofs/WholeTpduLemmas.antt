@@ -24,10 +24,10 @@ use Rattle.t0_core.specs.WholeLaws.{whole_front}
 use Rattle.t0_core.specs.AnswerLaws.{due_is_fresh, fresh_is_due, due_sends, dialogue_overflows}
 use Rattle.card_terminal.specs.Gathered.{UnitOf}
 use Rattle.card_terminal.specs.ExchangeSide.{ExchangeOf, UnderWay, IsKept, so_far, exchange_turn, response_limit}
-use Rattle.card_terminal.specs.ExchangeHistory.{Leads, LeadsTooFar, to_front, to_end, to_stall, to_fault, characters_to}
+use Rattle.card_terminal.specs.ExchangeHistory.{ComesTo, ComesTooFar, to_front, to_end, to_stall, to_fault, characters_to}
 use Rattle.card_terminal.proofs.UnitLemmas.{received_of}
 use Rattle.card_terminal.proofs.ExchangeLemmas.{IsSameRequest, opened_too, place_too, with_host, sending_is_going, seen_under_way}
-use Rattle.card_terminal.proofs.LeadsLemmas.{done_sends_nothing, failed_sends_nothing, over_turn, failed_turn}
+use Rattle.card_terminal.proofs.ComesToLemmas.{done_sends_nothing, failed_sends_nothing, over_turn, failed_turn}
 
 -- the TPDU under way stands at another front, with the data that it has brought
 pub stands_at : (c : Command) (ex : ExchangeOf) (host : Hosting) (units : List UnitOf)
@@ -67,7 +67,7 @@ up_to_sw2 c ex units first bytes sw d under gives stands =
 
 -- an exchange to which a TPDU is due stands at the fresh front
 pub due_front : (c : Command) (came : List Character) (ex : ExchangeOf) → IsKept ex
-    → is_due ex.host ≡ true → Leads c came ex
+    → is_due ex.host ≡ true → ComesTo c came ex
     → (units : List UnitOf) × (first : Option Dialogue) × UnderWay c ex units first fresh
     × (came ≡ characters_to units first fresh)
 due_front c came ex kept due leads = by leads
@@ -80,7 +80,7 @@ due_front c came ex kept due leads = by leads
               ∙ turn.1,
         )
 
-    by : Leads c came ex
+    by : ComesTo c came ex
         → (units : List UnitOf) × (first : Option Dialogue) × UnderWay c ex units first fresh
         × (came ≡ characters_to units first fresh)
     by (to_front units first front under is) =
@@ -101,9 +101,9 @@ due_front c came ex kept due leads = by leads
 
 -- where the room is too small, the first character that is too much is the fault
 pub leads_too_long : (c : Command) (came : List Character) (ex new : ExchangeOf) (d : Dialogue)
-    → IsKept ex → is_due ex.host ≡ true → Leads c came ex → IsOpenedBy ex.host d.body
+    → IsKept ex → is_due ex.host ≡ true → ComesTo c came ex → IsOpenedBy ex.host d.body
     → IsDialogue d → response_limit < length ex.gather.bytes + length (received d)
-    → exchange_turn new ≡ Failed → LeadsTooFar c came (characters d) new
+    → exchange_turn new ≡ Failed → ComesTooFar c came (characters d) new
 leads_too_long c came ex new d kept due leads opened is over failed =
     let at = due_front c came ex kept due leads in
     let left : ℕ = response_limit - length ex.gather.bytes in
@@ -194,8 +194,8 @@ gives_inside ex seen bytes sw d is gives = let P : ExchangeOf → Type 0 =
     λ e. Gives e.host d bytes sw in subst P (sym is) gives
 
 leads_inside : (c : Command) (came : List Character) (ex seen : ExchangeOf) → ex ≡ seen
-    → Leads c came seen → Leads c came ex
-leads_inside c came ex seen is leads = let P : ExchangeOf → Type 0 = λ e. Leads c came e in
+    → ComesTo c came seen → ComesTo c came ex
+leads_inside c came ex seen is leads = let P : ExchangeOf → Type 0 = λ e. ComesTo c came e in
     subst P (sym is) leads
 
 as_took : (ex : ExchangeOf) (host : Hosting) (room : Room) (bytes : List ℕ) (sw : StatusWord)
@@ -238,7 +238,7 @@ under_took c ex seen host room units first bytes sw d is took gives under =
 -- where they led to the exchange before the answer, the TPDU is at its fresh front
 pub front_took : (c : Command) (came : List Character) (ex seen : ExchangeOf) (host : Hosting)
     (room : Room) (bytes : List ℕ) (sw : StatusWord) → ex ≡ seen
-    → TookAnswer ex host room bytes sw → Leads c came seen
+    → TookAnswer ex host room bytes sw → ComesTo c came seen
     → (units : List UnitOf) × (first : Option Dialogue) × UnderWay c seen units first fresh
     × (came ≡ characters_to units first fresh)
 front_took c came ex seen host room bytes sw is took leads =
@@ -250,8 +250,8 @@ front_took c came ex seen host room bytes sw is took leads =
 
 pub leads_took : (c : Command) (came : List Character) (ex seen : ExchangeOf) (host : Hosting)
     (room : Room) (bytes : List ℕ) (sw : StatusWord) (d : Dialogue) → ex ≡ seen
-    → TookAnswer ex host room bytes sw → Gives seen.host d bytes sw → Leads c came seen
-    → Leads c (came ++ front_characters (After_first d.body sw.0)) (with_host ex host room)
+    → TookAnswer ex host room bytes sw → Gives seen.host d bytes sw → ComesTo c came seen
+    → ComesTo c (came ++ front_characters (After_first d.body sw.0)) (with_host ex host room)
 leads_took c came ex seen host room bytes sw d is took gives leads =
     let at = front_took c came ex seen host room bytes sw is took leads in
     to_front at.0 at.1 (After_first d.body sw.0)
@@ -270,10 +270,10 @@ ends_took host d bytes sw byte is gives =
 pub leads_all : (c : Command) (came : List Character) (new : ExchangeOf) (host : Hosting)
     (d : Dialogue) (bytes : List ℕ) (sw : StatusWord) (byte : ℕ) → byte ≡ sw.1
     → Gives host d bytes sw
-    → Leads c ((came ++ front_characters (After_first d.body sw.0)) ++ (Card, byte) ∷ []) new
-    → Leads c (came ++ characters d) new
+    → ComesTo c ((came ++ front_characters (After_first d.body sw.0)) ++ (Card, byte) ∷ []) new
+    → ComesTo c (came ++ characters d) new
 leads_all c came new host d bytes sw byte is gives leads =
-    let P : List Character → Type 0 = λ cs. Leads c cs new in
+    let P : List Character → Type 0 = λ cs. ComesTo c cs new in
     subst P (append_assoc came (front_characters (After_first d.body sw.0)) ((Card, byte) ∷ [])
     ∙ ap (λ cs. came ++ cs) (sym (ends_with (After_first d.body sw.0) byte d
     (ends_took host d bytes sw byte is gives)))) leads
@@ -312,11 +312,11 @@ refused_ends c ex seen units first bytes fault is kept under (inr long) e =
 
 pub refused_leads : (c : Command) (came : List Character) (ex seen : ExchangeOf) (host : Hosting)
     (bytes : List ℕ) (sw : StatusWord) (d : Dialogue) (fault : AnswerFault) → ex ≡ seen
-    → IsKept ex → Leads c came seen → Gives seen.host d bytes sw
+    → IsKept ex → ComesTo c came seen → Gives seen.host d bytes sw
     → host ≡ at_stage ex.host (after_answer_fault ex.host.stage fault)
     → (fault ≡ NotDue) ⊎ (fault ≡ AnswerTooLong)
     → Some fault ≡ answer_fault ex.host ex.gather bytes → (room : Room)
-    → ((fault ≡ AnswerTooLong) × LeadsTooFar c came (characters d) (with_host ex host room))
+    → ((fault ≡ AnswerTooLong) × ComesTooFar c came (characters d) (with_host ex host room))
     ⊎ (fault ≡ NotDue)
 refused_leads c came ex seen host bytes sw d fault is kept leads gives host_is (inl none) e room =
     inr none

@@ -28,33 +28,33 @@ characters_to units first front = flat_map characters (so_far units first) ++ fr
 -- whole exchange; to that of
 -- one that stalls; or a character came last that was refused for good at such a front: it was no
 -- procedure byte where one was due, or it was too much (`is_final`).
-pub data Leads (c : Command) (came : List Character) (ex : ExchangeOf) : Type 0 where
+pub data ComesTo (c : Command) (came : List Character) (ex : ExchangeOf) : Type 0 where
   to_front : (units : List UnitOf) (first : Option Dialogue) (front : Front)
       → UnderWay c ex units first front
-      → came ≡ characters_to units first front → Leads c came ex
+      → came ≡ characters_to units first front → ComesTo c came ex
   to_end : (units : List UnitOf) (status : StatusWord) → IsOver c ex units status
-      → came ≡ unit_characters units → Leads c came ex
+      → came ≡ unit_characters units → ComesTo c came ex
   to_stall : (units : List UnitOf) → Stall c units
       → AllByRecursion IsDialogue (flat_map dialogues_of units)
-      → exchange_turn ex ≡ Failed → came ≡ unit_characters units → Leads c came ex
+      → exchange_turn ex ≡ Failed → came ≡ unit_characters units → ComesTo c came ex
   to_fault : (units : List UnitOf) (first : Option Dialogue) (front : Front)
       (before : ExchangeOf) (byte : ℕ) (fault : LineFault)
       → UnderWay c before units first front
       → fault_of before.host before.gather byte ≡ Some fault → is_final fault ≡ true
       → exchange_turn ex ≡ Failed
-      → came ≡ characters_to units first front ++ (Card, byte) ∷ [] → Leads c came ex
+      → came ≡ characters_to units first front ++ (Card, byte) ∷ [] → ComesTo c came ex
 
 -- After those that came, these characters lead to the first for which there is no room, and with it
 -- to the exchange as it is, which has failed.
-pub record LeadsTooFar (c : Command) (came cs : List Character) (ex : ExchangeOf) : Type 0 where
+pub record ComesTooFar (c : Command) (came cs : List Character) (ex : ExchangeOf) : Type 0 where
   pub before : List Character
   pub byte : ℕ
   pub rest : List Character
   pub cs_are : cs ≡ before ++ (Card, byte) ∷ rest
   pub prior : ExchangeOf
-  pub led : Leads c (came ++ before) prior
+  pub led : ComesTo c (came ++ before) prior
   pub is_fault : fault_of prior.host prior.gather byte ≡ Some TooLong
-  pub led_to : Leads c ((came ++ before) ++ (Card, byte) ∷ []) ex
+  pub led_to : ComesTo c ((came ++ before) ++ (Card, byte) ∷ []) ex
 
 -- the characters are a front of those of an open exchange
 pub record BeginsExchange (c : Command) (came : List Character) : Type 0 where
@@ -80,7 +80,7 @@ pub record FaultCameLast (c : Command) (came : List Character) (ex : ExchangeOf)
   pub came_is : came ≡ before ++ (Card, byte) ∷ []
   pub begins : BeginsExchange c before
   pub prior : ExchangeOf
-  pub led : Leads c before prior
+  pub led : ComesTo c before prior
   pub fault : LineFault
   pub is_fault : fault_of prior.host prior.gather byte ≡ Some fault
   pub is_final : is_final fault ≡ true

@@ -17,7 +17,7 @@ use Rattle.t0_core.specs.HostSide.{fault_of}
 use Rattle.t0_core.specs.HostAnswer.{answer_fault, fails_with, Gives}
 use Rattle.card_terminal.specs.Gathered.{UnitOf, Gathers}
 use Rattle.card_terminal.specs.ExchangeSide.{ExchangeOf, UnderWay, IsBounded, IsAtEnd, Continues, Stall, exchange_turn, ended_with, is_final, response_limit}
-use Rattle.card_terminal.specs.ExchangeHistory.{Leads, LeadsTooFar, unit_characters}
+use Rattle.card_terminal.specs.ExchangeHistory.{ComesTo, ComesTooFar, unit_characters}
 
 -- A turn of the terminal: what it does now. With a character that it sends the dialogue under way
 -- goes on, and whatever led to the exchange leads to it with this character; nothing else changes
@@ -29,8 +29,8 @@ pub record IsTurn (old : ExchangeOf) (turn : HostTurn) (new : ExchangeOf) : Type
   pub goes_on : (c : Command) (units : List UnitOf) (first : Option Dialogue) (front : Front)
       (byte : ℕ) → UnderWay c old units first front → turn ≡ Sends byte
       → (next : Front) × GoesOn front (Terminal, byte) next × UnderWay c new units first next
-  pub led : (c : Command) (came : List Character) (byte : ℕ) → Leads c came old
-      → turn ≡ Sends byte → Leads c (came ++ (Terminal, byte) ∷ []) new
+  pub led : (c : Command) (came : List Character) (byte : ℕ) → ComesTo c came old
+      → turn ≡ Sends byte → ComesTo c (came ++ (Terminal, byte) ∷ []) new
 
 -- A character of the card is taken, or is a fault. A fault that is not final changes nothing; after
 -- a final one the exchange has failed.
@@ -58,9 +58,9 @@ pub record IsTaking (old : ExchangeOf) (byte : ℕ) (result : Result (Unit {0}) 
       (d : Dialogue) → UnderWay c old units first front → Ends front (Card, byte) d
       → MatchResult result (λ _. Continues c new units first d)
       (λ fault. (fault ≡ Stalled) × Stall c (units ++ ended_with first d ∷ []))
-  pub led : (c : Command) (came : List Character) → Leads c came old
-      → MatchResult result (λ _. Leads c (came ++ (Card, byte) ∷ []) new)
-      (λ fault. is_final fault ≡ true → Leads c (came ++ (Card, byte) ∷ []) new)
+  pub led : (c : Command) (came : List Character) → ComesTo c came old
+      → MatchResult result (λ _. ComesTo c (came ++ (Card, byte) ∷ []) new)
+      (λ fault. is_final fault ≡ true → ComesTo c (came ++ (Card, byte) ∷ []) new)
 
 -- An answer to a whole TPDU is taken, or is a fault: whichever dialogue gives it, the exchange goes
 -- on as after its characters, or fails as there. A fault that is not final changes nothing.
@@ -78,11 +78,11 @@ pub record IsAnswering (old : ExchangeOf) (bytes : List ℕ) (status : StatusWor
       (λ fault. ((fault ≡ answer.Stalled) × Stall c (units ++ ended_with first d ∷ []))
       ⊎ ((fault ≡ answer.TooLong)
       × (response_limit < length old.gather.bytes + length bytes)))
-  pub led : (c : Command) (came : List Character) (d : Dialogue) → Leads c came old
+  pub led : (c : Command) (came : List Character) (d : Dialogue) → ComesTo c came old
       → Gives old.host d bytes status
-      → MatchResult result (λ _. Leads c (came ++ characters d) new)
-      (λ fault. ((fault ≡ answer.Stalled) × Leads c (came ++ characters d) new)
-      ⊎ ((fault ≡ answer.TooLong) × LeadsTooFar c came (characters d) new)
+      → MatchResult result (λ _. ComesTo c (came ++ characters d) new)
+      (λ fault. ((fault ≡ answer.Stalled) × ComesTo c (came ++ characters d) new)
+      ⊎ ((fault ≡ answer.TooLong) × ComesTooFar c came (characters d) new)
       ⊎ (fault ≡ answer.NotDue))
   pub given : MatchResult result (λ _. (d : Dialogue) × Gives old.host d bytes status)
       (λ fault. fails_with fault ≡ true → (d : Dialogue) × Gives old.host d bytes status)
@@ -93,6 +93,6 @@ pub record IsAnswer (ex : ExchangeOf) (answer : Option (StatusWord × List ℕ))
   pub done : (status : StatusWord) → exchange_turn ex ≡ Done status
       → answer ≡ Some (status, ex.gather.bytes)
   pub undone : ((status : StatusWord) → exchange_turn ex ≡ Done status → ⊥) → answer ≡ None
-  pub led : (c : Command) (came : List Character) → Leads c came ex
+  pub led : (c : Command) (came : List Character) → ComesTo c came ex
       → IfSome answer (λ a. (units : List UnitOf) × Gathers c units a.1 a.0
       × (came ≡ unit_characters units))

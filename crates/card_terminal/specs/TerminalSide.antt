@@ -13,7 +13,7 @@ use Rattle.object_card.specs.CarryingOut.{put_header}
 use Rattle.card_terminal.specs.Gathered.{UnitOf}
 use Rattle.card_terminal.specs.Talk.{AreTakenUpTo, talk_dialogues, talk_characters}
 use Rattle.card_terminal.specs.ExchangeSide.{ExchangeOf, IsBounded, exchange_turn}
-use Rattle.card_terminal.specs.ExchangeHistory.{Leads, LeadsTooFar}
+use Rattle.card_terminal.specs.ExchangeHistory.{ComesTo, ComesTooFar}
 use Rattle.card_terminal.specs.Conversing.{is_done}
 
 -- The exchange of the operation's command that came last, and what is still to be put after its
@@ -47,13 +47,13 @@ pub record HasCome (Led : Command → List Character → Type 0) (commands : Lis
 
 -- these characters lead to what is kept of the operation
 abbrev pub LeadsThrough : List Command → List Character → OperationOf → Type 0
-LeadsThrough commands came o = HasCome (λ c here. Leads c here o.exchange) commands came o
+LeadsThrough commands came o = HasCome (λ c here. ComesTo c here o.exchange) commands came o
 
 -- after those that came, these characters lead to the first for which there is no room
 abbrev pub LeadsThroughTooFar : List Command → List Character → List Character → OperationOf
     → Type 0
 LeadsThroughTooFar commands came cs o =
-    HasCome (λ c here. LeadsTooFar c here cs o.exchange) commands came o
+    HasCome (λ c here. ComesTooFar c here cs o.exchange) commands came o
 
 -- where a command is answered 9000, no more are to come: else the next has begun at once
 abbrev pub IsSettled : OperationOf → Type 0
@@ -88,7 +88,7 @@ pub record GoesToNext (old new : OperationOf) : Type 0 where
   pub done : exchange_turn old.exchange ≡ Done ok
   pub more : old.rest ≡ [] → ⊥
   pub next : (left : List Command) → AreLeft old.p1 old.p2 old.rest left
-      → (c : Command) × (after : List Command) × (left ≡ c ∷ after) × Leads c [] new.exchange
+      → (c : Command) × (after : List Command) × (left ≡ c ∷ after) × ComesTo c [] new.exchange
       × AreLeft new.p1 new.p2 new.rest after
   pub bounds : IsBounded new.exchange
   pub settled : IsSettled new

@@ -70,7 +70,7 @@ impl<'a, A: Allocator> Exchange<'a, A> {
     ghost use Rattle.t0_core.specs.Front.{Front, GoesOn, Ends, brought};
     ghost use Rattle.t0_core.specs.HostSide.{fault_of, data_due};
     ghost use Rattle.card_terminal.specs.Gathered.{UnitOf, Gathers};
-    ghost use Rattle.card_terminal.specs.ExchangeHistory.{Leads, LeadsTooFar, unit_characters};
+    ghost use Rattle.card_terminal.specs.ExchangeHistory.{ComesTo, ComesTooFar, unit_characters};
     ghost use Rattle.t0_core.specs.Character.{Character};
     ghost use Rattle.card_terminal.specs.ExchangeSide.{UnderWay, IsKept, IsBounded, IsAtEnd, Continues, Stall, exchange_turn, ended_with, is_final};
 
@@ -78,7 +78,7 @@ impl<'a, A: Allocator> Exchange<'a, A> {
     /// of memory.
     pub fn start(alloc: A, command: Command<'a>) -> Result<Exchange<'a, A>, AllocError>
         ensures begins { IfOk result (λ ex. UnderWay command.entry ex [] None fresh) }
-        ensures led { IfOk result (λ ex. Leads command.entry [] ex) }
+        ensures led { IfOk result (λ ex. ComesTo command.entry [] ex) }
         ensures data { IfOk result (λ ex. HasOnly command.entry.content ex.host) }
     {
         let gather = Gather::with_room(alloc, RESPONSE_LIMIT)?;
@@ -88,7 +88,7 @@ impl<'a, A: Allocator> Exchange<'a, A> {
     /// Begins the exchange of another command in the same room, which is emptied.
     pub fn again<'b>(self, command: Command<'b>) -> Exchange<'b, A>
         ensures begins { UnderWay command.entry result [] None fresh }
-        ensures led { Leads command.entry [] result }
+        ensures led { ComesTo command.entry [] result }
     {
         let Exchange { mut gather, .. } = self;
         gather.clear();
@@ -143,8 +143,8 @@ impl<'a, A: Allocator> Exchange<'a, A> {
 
         // Whatever led to the exchange leads to it with this character.
         ensures led { (c : spec.Command) (came : List Character) (byte : ℕ)
-            → Leads c came self.old → result ≡ HostTurn.Sends byte →
-            Leads c (came ++ (Terminal, byte) ∷ []) self.new }
+            → ComesTo c came self.old → result ≡ HostTurn.Sends byte →
+            ComesTo c (came ++ (Terminal, byte) ∷ []) self.new }
     {
         if self.stalled {
             return HostTurn::Failed;
@@ -217,10 +217,10 @@ impl<'a, A: Allocator> Exchange<'a, A> {
 
         // Whatever led to the exchange leads to it with this character, also with one that ends it
         // by a fault.
-        ensures led { (c : spec.Command) (came : List Character) → Leads c came self.old
+        ensures led { (c : spec.Command) (came : List Character) → ComesTo c came self.old
             → MatchResult result
-            (λ _. Leads c (came ++ (Card, byte) ∷ []) self.new)
-            (λ fault. is_final fault ≡ true → Leads c (came ++ (Card, byte) ∷ []) self.new) }
+            (λ _. ComesTo c (came ++ (Card, byte) ∷ []) self.new)
+            (λ fault. is_final fault ≡ true → ComesTo c (came ++ (Card, byte) ∷ []) self.new) }
     {
         self.end.take(byte, &mut self.gather)?;
         let Some(status) = self.end.status() else {
@@ -291,10 +291,10 @@ impl<'a, A: Allocator> Exchange<'a, A> {
         // Whatever led to the exchange leads to it with its characters; where there is no room for
         // the data, with those up to the first that is too much.
         ensures led { (c : spec.Command) (came : List Character) (d : Dialogue) →
-            Leads c came self.old → Gives self.old.host d bytes.now status →
-            MatchResult result (λ _. Leads c (came ++ characters d) self.new)
-            (λ fault. ((fault ≡ AnswerFault.Stalled) × Leads c (came ++ characters d) self.new)
-            ⊎ ((fault ≡ AnswerFault.TooLong) × LeadsTooFar c came (characters d) self.new)
+            ComesTo c came self.old → Gives self.old.host d bytes.now status →
+            MatchResult result (λ _. ComesTo c (came ++ characters d) self.new)
+            (λ fault. ((fault ≡ AnswerFault.Stalled) × ComesTo c (came ++ characters d) self.new)
+            ⊎ ((fault ≡ AnswerFault.TooLong) × ComesTooFar c came (characters d) self.new)
             ⊎ (fault ≡ AnswerFault.NotDue)) }
 
         // Some dialogue gives each answer that is taken or ends the exchange.
@@ -314,7 +314,7 @@ impl<'a, A: Allocator> Exchange<'a, A> {
     pub fn into_answer(self) -> Option<Answer<A>>
         ensures done { (status : StatusWord) → exchange_turn self.entry ≡ HostTurn.Done status →
             result ≡ Some (record { status = status; content = self.entry.gather.bytes }) }
-        ensures led { (c : spec.Command) (came : List Character) → Leads c came self.entry →
+        ensures led { (c : spec.Command) (came : List Character) → ComesTo c came self.entry →
             IfSome result (λ answer. (units : List UnitOf)
             × Gathers c units answer.content answer.status × (came ≡ unit_characters units)) }
         ensures undone { ((status : StatusWord) → exchange_turn self.entry ≡ HostTurn.Done status

@@ -10,12 +10,12 @@ ghost use Rattle.apdu_core.specs.CommandBytes as spec;
 ghost use Rattle.t0_core.specs.Character.{Character};
 ghost use Rattle.card_terminal.specs.Gathered.{UnitOf, dialogues_of, IsOpenExchange, Gathers, unit_data, tpdus};
 ghost use Rattle.card_terminal.specs.ExchangeSide.{ExchangeOf, Continues, IsOver, Stall, ended_with, exchange_turn, response_limit};
-ghost use Rattle.card_terminal.specs.ExchangeHistory.{Leads, Expects, BeginsExchange, FaultCameLast, unit_characters};
+ghost use Rattle.card_terminal.specs.ExchangeHistory.{ComesTo, Expects, BeginsExchange, FaultCameLast, unit_characters};
 
 /// What led to an exchange are the first characters of an open exchange of its command, but for a
 /// last one that was a fault at those before it, and so ended it.
 pub fn what_led_begins_an_exchange()
-    ensures { (c : spec.Command) (came : List Character) (ex : ExchangeOf) → Leads c came ex →
+    ensures { (c : spec.Command) (came : List Character) (ex : ExchangeOf) → ComesTo c came ex →
         BeginsExchange c came ⊎ FaultCameLast c came ex }
 {}
 
@@ -31,7 +31,7 @@ pub fn a_whole_exchange_is_done()
     ensures { (c : spec.Command) (came : List Character) (ex : ExchangeOf) (units : List UnitOf)
         (gathered : List ℕ) (status : StatusWord) →
         ins_is_valid c.header.ins ≡ true → c.header.ins < 256 →
-        Leads c came ex → Gathers c units gathered status →
+        ComesTo c came ex → Gathers c units gathered status →
         AllByRecursion IsDialogue (flat_map dialogues_of units) →
         came ≡ unit_characters units →
         (exchange_turn ex ≡ HostTurn.Done status) × (ex.gather.bytes ≡ gathered) }
@@ -46,14 +46,14 @@ pub fn the_next_character_is_settled()
         (units : List UnitOf) (gathered : List ℕ) (status : StatusWord) (ch : Character)
         (rest : List Character) →
         ins_is_valid c.header.ins ≡ true → c.header.ins < 256 →
-        Leads c came ex → Gathers c units gathered status →
+        ComesTo c came ex → Gathers c units gathered status →
         AllByRecursion IsDialogue (flat_map dialogues_of units) →
         length gathered ≤ response_limit →
         unit_characters units ≡ came ++ ch ∷ rest → Expects ex ch }
     ensures going { (c : spec.Command) (came : List Character) (ex : ExchangeOf)
         (units : List UnitOf) (gathered : List ℕ) (status : StatusWord) (rest : List Character) →
         ins_is_valid c.header.ins ≡ true → c.header.ins < 256 →
-        Leads c came ex → Gathers c units gathered status →
+        ComesTo c came ex → Gathers c units gathered status →
         AllByRecursion IsDialogue (flat_map dialogues_of units) →
         length gathered ≤ response_limit →
         unit_characters units ≡ came ++ rest → exchange_turn ex ≡ HostTurn.Failed → ⊥ }

@@ -6,7 +6,7 @@ ghost use Rattle.t0_core.specs.Front.{fresh};
 ghost use Rattle.t0_core.specs.HostMark.{HasOnly};
 ghost use Rattle.t0_core.specs.HostAnswer.{is_due, may_come};
 ghost use Rattle.card_terminal.specs.ExchangeSide.{UnderWay, exchange_turn, response_limit};
-ghost use Rattle.card_terminal.specs.ExchangeHistory.{Leads};
+ghost use Rattle.card_terminal.specs.ExchangeHistory.{ComesTo};
 ghost use Rattle.card_terminal.specs.ExchangeSteps.{IsTurn, IsTaking, IsAnswering, IsAnswer};
 ghost use Rattle.card_terminal.specs.OwnedExchange.{exchange_of, over_data, IsSound};
 
@@ -40,7 +40,7 @@ impl<A: Allocator + Copy> Detached<A> {
     /// of memory.
     pub fn start(alloc: A, command: Command<'_>) -> Result<Detached<A>, AllocError>
         ensures led { IfOk result
-            (λ ex. Leads command.entry [] (over_data ex command.entry.content)) }
+            (λ ex. ComesTo command.entry [] (over_data ex command.entry.content)) }
         ensures begins { IfOk result
             (λ ex. UnderWay command.entry (over_data ex command.entry.content) [] None fresh) }
         ensures sound { IfOk result (λ ex. IsSound (over_data ex command.entry.content)) }
@@ -56,7 +56,7 @@ impl<A: Allocator + Copy> Detached<A> {
     /// Begins the exchange of another command in the same room, which is emptied.
     pub fn again(&mut self, command: Command<'_>)
         requires { self.old.gather.limit ≡ response_limit }
-        ensures led { Leads command.entry [] (over_data self.new command.entry.content) }
+        ensures led { ComesTo command.entry [] (over_data self.new command.entry.content) }
         ensures begins { UnderWay command.entry (over_data self.new command.entry.content)
             [] None fresh }
         ensures sound { IsSound (over_data self.new command.entry.content) }

@@ -4,7 +4,7 @@ ghost use Rattle.std.specs.Option.{option_map};
 ghost use Rattle.t0_core.specs.Front.{fresh};
 ghost use Rattle.t0_core.specs.HostAnswer.{is_due, may_come};
 ghost use Rattle.card_terminal.specs.ExchangeSide.{UnderWay};
-ghost use Rattle.card_terminal.specs.ExchangeHistory.{Leads};
+ghost use Rattle.card_terminal.specs.ExchangeHistory.{ComesTo};
 ghost use Rattle.card_terminal.specs.ExchangeSteps.{IsTurn, IsTaking, IsAnswering, IsAnswer};
 
 use crate::exchange::detached::Detached;
@@ -41,7 +41,7 @@ impl OwnedExchange {
     /// `Exchange::start`, and room for the data; the error is want of it.
     pub fn start(alloc: Global, command: Command<'_>) -> Result<OwnedExchange, AllocError>
         ensures begins { IfOk result (λ ex. UnderWay command.entry ex [] None fresh) }
-        ensures led { IfOk result (λ ex. Leads command.entry [] ex) }
+        ensures led { IfOk result (λ ex. ComesTo command.entry [] ex) }
     {
         let content = Vec::from_slice(alloc, command.data())?;
         let exchange = Detached::start(alloc, command)?;

@@ -3,7 +3,7 @@ use Rattle.t0_core.specs.declared.host_end.HostTurn.TheVariants.{Done}
 use Rattle.card_terminal.specs.ExchangeSide.{ExchangeOf}
 use Rattle.object_card.specs.OneStep.{Reply}
 use Rattle.card_terminal.specs.Gathered.{Gathers}
-use Rattle.card_terminal.proofs.LeadsLemmas.{end_leads}
+use Rattle.card_terminal.proofs.ComesToLemmas.{end_leads}
 use Rattle.card_terminal.proofs.EndLemmas.{same_status}
 use Rattle.card_terminal.proofs.ExchangeLemmas.{told, tells}
 use Rattle.card_terminal.proofs.exchange.Exchange.into_answer.Goals as goal

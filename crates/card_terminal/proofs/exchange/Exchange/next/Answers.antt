@@ -2,7 +2,7 @@ use Rattle.std.proofs.Common.{◌≡◌, sym, ◌∙◌}
 use Rattle.t0_core.specs.declared.host_end.HostTurn.TheVariants.{Sends}
 use Rattle.card_terminal.specs.ExchangeSide.{exchange_turn}
 use Rattle.card_terminal.proofs.ExchangeLemmas.{seen_under_way, sends_further, tells}
-use Rattle.card_terminal.proofs.LeadsLemmas.{next_leads}
+use Rattle.card_terminal.proofs.ComesToLemmas.{next_leads}
 use Rattle.card_terminal.proofs.TurnLemmas.{over_by_turn}
 use Rattle.card_terminal.proofs.exchange.Exchange.next.Goals as goal
 

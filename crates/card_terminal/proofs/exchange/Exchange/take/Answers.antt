@@ -10,7 +10,7 @@ use Rattle.card_terminal.proofs.EndLemmas.{at_end, follows_as, asks_next, ends_o
 use Rattle.card_terminal.proofs.ExchangeLemmas.{goes_further, seen_under_way}
 use Rattle.std.proofs.lemmas.Result.{err_from_is_err_and}
 use Rattle.t0_core.specs.declared.line_fault.LineFault.TheVariants.{AfterEnd}
-use Rattle.card_terminal.proofs.LeadsLemmas.{take_leads, stall_leads, fault_leads, at_end_fault, none_is_no_fault, final_is_no_end, some_fault, failed_turn, broken, full_room}
+use Rattle.card_terminal.proofs.ComesToLemmas.{take_leads, stall_leads, fault_leads, at_end_fault, none_is_no_fault, final_is_no_end, some_fault, failed_turn, broken, full_room}
 use Rattle.card_terminal.proofs.exchange.Exchange.take.Goals as goal
 
 pub returns-in_default-clause-goes_on : goal.returns-in_default-clause-goes_on

@@ -1,14 +1,14 @@
 use Rattle.std.proofs.Common.{[], None, refl, sym, subst}
 use Rattle.t0_core.specs.Front.{fresh}
 use Rattle.card_terminal.specs.ExchangeSide.{ExchangeOf, UnderWay}
-use Rattle.card_terminal.specs.ExchangeHistory.{Leads, to_front}
+use Rattle.card_terminal.specs.ExchangeHistory.{ComesTo, to_front}
 use Rattle.card_terminal.specs.OwnedExchange.{IsSound}
 use Rattle.card_terminal.proofs.exchange.detached.Detached.again.Goals as goal
 
 pub returns-clause-led : goal.returns-clause-led
 returns-clause-led g c =
     let again = c.aside-kept.ensures.again c.args.command.content c.begin.ensures.data in
-    let P : ExchangeOf → Type 0 = λ ex. Leads c.args.command [] ex in
+    let P : ExchangeOf → Type 0 = λ ex. ComesTo c.args.command [] ex in
     subst P (sym again) (to_front [] None fresh c.begin.ensures.begins refl)
 
 pub returns-clause-begins : goal.returns-clause-begins

@@ -1,14 +1,14 @@
 use Rattle.std.proofs.Common.{[], None, sym, subst}
 use Rattle.t0_core.specs.Front.{fresh}
 use Rattle.card_terminal.specs.ExchangeSide.{ExchangeOf, UnderWay}
-use Rattle.card_terminal.specs.ExchangeHistory.{Leads}
+use Rattle.card_terminal.specs.ExchangeHistory.{ComesTo}
 use Rattle.card_terminal.specs.OwnedExchange.{IsSound}
 use Rattle.card_terminal.proofs.exchange.detached.Detached.start.Goals as goal
 
 pub returns-clause-led : goal.returns-clause-led
 returns-clause-led g c =
     let again = c.aside-kept.ensures.again c.args.command.content c.in_ok-start.ensures.data in
-    let P : ExchangeOf → Type 0 = λ ex. Leads c.args.command [] ex in
+    let P : ExchangeOf → Type 0 = λ ex. ComesTo c.args.command [] ex in
     subst P (sym again) c.in_ok-start.ensures.led
 
 pub returns-clause-begins : goal.returns-clause-begins

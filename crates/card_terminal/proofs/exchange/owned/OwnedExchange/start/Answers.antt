@@ -1,5 +1,5 @@
 use Rattle.std.proofs.Common.{ℕ, List, [], sym, subst, ◌∙◌}
-use Rattle.card_terminal.specs.ExchangeHistory.{Leads}
+use Rattle.card_terminal.specs.ExchangeHistory.{ComesTo}
 use Rattle.card_terminal.specs.OwnedExchange.{over_data}
 use Rattle.card_terminal.proofs.exchange.owned.OwnedExchange.start.Goals as goal
 
@@ -7,5 +7,5 @@ pub returns-clause-led : goal.returns-clause-led
 returns-clause-led c =
     let same = c.in_ok-content.ensures.items ∙ c.data.ensures.value in
     let P : List ℕ → Type 0 =
-    λ bs. Leads c.args.command [] (over_data c.in_ok-exchange.exchange bs) in
+    λ bs. ComesTo c.args.command [] (over_data c.in_ok-exchange.exchange bs) in
     subst P (sym same) c.in_ok-exchange.ensures.led

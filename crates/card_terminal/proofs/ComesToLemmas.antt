@@ -18,7 +18,7 @@ use Rattle.t0_core.specs.HostSide.{Hosting, turn_of, fault_of, at_stage, after_f
 use Rattle.t0_core.specs.HostLaws.{after_done, after_failure, going}
 use Rattle.card_terminal.specs.Gathered.{UnitOf, Gathers, dialogues_of}
 use Rattle.card_terminal.specs.ExchangeSide.{ExchangeOf, UnderWay, IsOver, IsKept, IsAtEnd, Stall, Continues, so_far, ended_with, exchange_turn, is_final, response_limit}
-use Rattle.card_terminal.specs.ExchangeHistory.{unit_characters, characters_to, Leads, to_front, to_end, to_stall, to_fault}
+use Rattle.card_terminal.specs.ExchangeHistory.{unit_characters, characters_to, ComesTo, to_front, to_end, to_stall, to_fault}
 use Rattle.card_terminal.proofs.UnitLemmas.{unit_ends, unit_goes_on, unit_dialogues}
 use Rattle.card_terminal.proofs.EndLemmas.{ended_at}
 
@@ -67,7 +67,7 @@ pub next_leads : (c : Command) (came : List Character) (ex new : ExchangeOf) (by
     → ((units : List UnitOf) (first : Option Dialogue) (front : Front)
     → UnderWay c ex units first front → (f : Front) × GoesOn front (Terminal, byte) f
     × UnderWay c new units first f)
-    → Leads c came ex → Leads c (came ++ (Terminal, byte) ∷ []) new
+    → ComesTo c came ex → ComesTo c (came ++ (Terminal, byte) ∷ []) new
 next_leads c came ex new byte sends goes_on (to_front units first front under is) =
     let goes = goes_on units first front under in
     to_front units first goes.0 goes.2
@@ -102,7 +102,7 @@ at_end_fault ex seen room byte is kept end = by (ex.stalled) refl (subst At (sym
         after_done ex.host room byte status
         (ap (λ b. if b then Failed else turn_of ex.host) (sym going) ∙ done)
 
-end_of : (c : Command) (came : List Character) (ex : ExchangeOf) → Leads c came ex
+end_of : (c : Command) (came : List Character) (ex : ExchangeOf) → ComesTo c came ex
     → ((units : List UnitOf) × (first : Option Dialogue) × (front : Front)
     × UnderWay c ex units first front × (came ≡ characters_to units first front)) ⊎ IsAtEnd ex
 end_of c came ex (to_front units first front under is) = inl (units, first, front, under, is)
@@ -115,7 +115,7 @@ end_of c came ex (to_fault units first front before b fault under why final fail
 continues_leads : (c : Command) (came : List Character) (new : ExchangeOf) (units : List UnitOf)
     (first : Option Dialogue) (d : Dialogue)
     → came ≡ flat_map characters (so_far units first ++ d ∷ [])
-    → Continues c new units first d → Leads c came new
+    → Continues c new units first d → ComesTo c came new
 continues_leads c came new units first d is (inl (none, under)) =
     to_front units (Some d) fresh under
     (fresh_more came _ _ is (unit_goes_on units d
@@ -138,7 +138,7 @@ pub take_leads : (c : Command) (came : List Character) (ex new : ExchangeOf) (by
     → ((units : List UnitOf) (first : Option Dialogue) (front : Front)
     → UnderWay c ex units first front → ((f : Front) × GoesOn front (Card, byte) f)
     ⊎ ((d : Dialogue) × Ends front (Card, byte) d))
-    → Leads c came ex → Leads c (came ++ (Card, byte) ∷ []) new
+    → ComesTo c came ex → ComesTo c (came ++ (Card, byte) ∷ []) new
 take_leads c came ex new byte going goes_on ends takes leads = elim (end_of c came ex leads) [
   | inl (units, first, front, under, is) ↦
       elim (takes units first front under) [
@@ -162,7 +162,7 @@ pub stall_leads : (c : Command) (came : List Character) (ex new : ExchangeOf) (b
     → ((units : List UnitOf) (first : Option Dialogue) (front : Front)
     → UnderWay c ex units first front → ((f : Front) × GoesOn front (Card, byte) f)
     ⊎ ((d : Dialogue) × Ends front (Card, byte) d))
-    → Leads c came ex → Leads c (came ++ (Card, byte) ∷ []) new
+    → ComesTo c came ex → ComesTo c (came ++ (Card, byte) ∷ []) new
 stall_leads c came ex new byte going failed goes_on ends takes leads =
     elim (end_of c came ex leads) [
       | inl (units, first, front, under, is) ↦
@@ -183,8 +183,8 @@ stall_leads c came ex new byte going failed goes_on ends takes leads =
 
 pub fault_leads : (c : Command) (came : List Character) (ex new : ExchangeOf) (byte : ℕ)
     (fault : LineFault) → (IsAtEnd ex → ⊥) → fault_of ex.host ex.gather byte ≡ Some fault
-    → is_final fault ≡ true → exchange_turn new ≡ Failed → Leads c came ex
-    → Leads c (came ++ (Card, byte) ∷ []) new
+    → is_final fault ≡ true → exchange_turn new ≡ Failed → ComesTo c came ex
+    → ComesTo c (came ++ (Card, byte) ∷ []) new
 fault_leads c came ex new byte fault going why final failed leads = elim (end_of c came ex leads) [
   | inl (units, first, front, under, is) ↦
       to_fault units first front ex byte fault under why final failed
@@ -223,7 +223,7 @@ broken host new NotListening is final = absurd (cc)
 
 -- what a whole exchange came with
 pub end_leads : (c : Command) (came : List Character) (ex : ExchangeOf) (status : StatusWord)
-    → exchange_turn ex ≡ Done status → Leads c came ex
+    → exchange_turn ex ≡ Done status → ComesTo c came ex
     → (units : List UnitOf) × Gathers c units ex.gather.bytes status
     × (came ≡ unit_characters units) × AllByRecursion IsDialogue (flat_map dialogues_of units)
 end_leads c came ex status done (to_front units first front under is) =

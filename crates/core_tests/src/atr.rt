@@ -1,0 +1,126 @@
+//! PPS requests and responses, and answers to reset that are made from their parts.
+
+use atr_core::{Atr, BuildFault, Convention, Group, Pps, PpsFault, TypedGroup, agreed};
+use std::process::Abort;
+use std::test::Fail;
+
+fn reads(rt: &impl Abort, bytes: &[u8], pps: Pps) {
+    assert!(rt; Pps::read(bytes) == Ok(pps), "in {bytes:?}");
+    assert!(rt; &pps.write()[..] == bytes, "in {bytes:?}");
+}
+
+fn pps(t: u8, pps1: Option<u8>) -> Pps {
+    Pps {
+        t,
+        pps1,
+        pps2: None,
+        pps3: None,
+    }
+}
+
+/// PCK is the exclusive-or of the characters before it, worked out by hand.
+#[test]
+fn reads_and_writes_pps(rt: HostRuntime) {
+    reads(&rt, b"\xFF\x00\xFF", pps(0, None));
+    reads(&rt, b"\xFF\x01\xFE", pps(1, None));
+    reads(&rt, b"\xFF\x10\x18\xF7", pps(0, Some(0x18)));
+    reads(&rt, b"\xFF\x11\x95\x7B", pps(1, Some(0x95)));
+    let all = Pps {
+        t: 15,
+        pps1: Some(0x11),
+        pps2: Some(0x22),
+        pps3: Some(0x44),
+    };
+    reads(&rt, b"\xFF\x7F\x11\x22\x44\xF7", all);
+    let last = Pps {
+        t: 0,
+        pps1: None,
+        pps2: None,
+        pps3: Some(0x00),
+    };
+    reads(&rt, b"\xFF\x40\x00\xBF", last);
+}
+
+#[test]
+fn finds_the_fault_of_pps(rt: HostRuntime) {
+    let faults: [(&[u8], PpsFault); 9] = [
+        (b"", PpsFault::Cut),
+        (b"\xFE", PpsFault::NoPpss),
+        (b"\xFF", PpsFault::Cut),
+        (b"\xFF\x80", PpsFault::Reserved),
+        (b"\xFF\x00", PpsFault::Cut),
+        (b"\xFF\x10\x18", PpsFault::Cut),
+        (b"\xFF\x00\xFF\x00", PpsFault::Surplus),
+        (b"\xFF\x00\xFE", PpsFault::CheckWrong),
+        (b"\xFF\x10\x18\xF6", PpsFault::CheckWrong),
+    ];
+    for (bytes, fault) in faults {
+        assert!(&rt; Pps::read(bytes) == Err(fault), "in {bytes:?}");
+    }
+}
+
+/// What is left out is not accepted, and the rest is; what was not asked for can't be answered.
+#[test]
+fn agrees_to_what_was_asked_for(rt: HostRuntime) {
+    let asked = pps(0, Some(0x18));
+    assert!(&rt; agreed(&asked, &asked));
+    assert!(&rt; agreed(&asked, &pps(0, None)));
+    assert!(&rt; !agreed(&asked, &pps(0, Some(0x11))));
+    assert!(&rt; !agreed(&asked, &pps(1, Some(0x18))));
+    assert!(&rt; !agreed(&pps(0, None), &asked));
+    assert!(&rt; asked.rate_code() == 0x18 && pps(0, None).rate_code() == 0x11);
+}
+
+fn group(ta: Option<u8>) -> Group {
+    Group {
+        ta,
+        tb: None,
+        tc: None,
+    }
+}
+
+fn is_made(rt: &impl Abort, first: Group, others: &[TypedGroup], historical: &[u8], bytes: &[u8]) {
+    let Ok(made) = Atr::new(Convention::Direct, first, others, historical) else {
+        panic!(rt; "no answer to reset for {bytes:?}");
+    };
+    assert!(rt; &made.write()[..] == bytes, "for {bytes:?}");
+}
+
+/// T0 is due always, TCK only where a T other than 0 is named.
+#[test]
+fn makes_answers_of_their_parts(rt: HostRuntime) {
+    is_made(&rt, group(None), &[], b"", b"\x3B\x00");
+    is_made(&rt, group(Some(0x18)), &[], b"\x80", b"\x3B\x11\x18\x80");
+    let one = TypedGroup {
+        t: 1,
+        group: group(None),
+    };
+    is_made(&rt, group(None), &[one], b"", b"\x3B\x80\x01\x81");
+    let zero = TypedGroup {
+        t: 0,
+        group: group(None),
+    };
+    is_made(&rt, group(None), &[zero], b"A", b"\x3B\x81\x00A");
+}
+
+#[test]
+fn refuses_parts_of_no_answer(rt: HostRuntime) {
+    let refused = |first: Group, others: &[TypedGroup], historical: &[u8]| {
+        Atr::new(Convention::Inverse, first, others, historical).err()
+    };
+    let named = |t: u8, ta: Option<u8>| TypedGroup {
+        t,
+        group: group(ta),
+    };
+    let none = group(None);
+    assert!(&rt; refused(none, &[], &[0; 15]).is_none());
+    assert!(&rt; refused(none, &[], &[0; 16]) == Some(BuildFault::TooManyHistorical));
+    let fault = Some(BuildFault::OutOfOrder);
+    assert!(&rt; refused(none, &[named(15, None)], b"") == fault);
+    assert!(&rt; refused(none, &[named(1, None), named(0, None)], b"") == fault);
+    assert!(&rt; refused(none, &[named(16, None)], b"") == fault);
+    // T0, 15 TDs with TA each, TCK: 32 characters after TS, and one more is too much
+    let long = [named(1, Some(0)); 15];
+    assert!(&rt; refused(none, &long, b"").is_none());
+    assert!(&rt; refused(none, &long, b"A") == Some(BuildFault::TooLong));
+}

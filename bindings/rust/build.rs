@@ -1,19 +1,52 @@
-//! Links `libgalliumtoad.a`, which `make` in `bindings/c` builds, or that of the folder that
-//! `GALLIUMTOAD_LIB_DIR` names.
+//! Links the proved archive of the target, which is in `lib`; or `libgalliumtoad.a` of the folder
+//! that `GALLIUMTOAD_LIB_DIR` names, which has the functions for memory in it.
 
 use std::env;
-use std::path::PathBuf;
+use std::path::{Path, PathBuf};
+use std::process::exit;
+
+/// The targets that have an archive.
+const TARGETS: [&str; 2] = ["x86_64-linux-gnu", "aarch64-linux-gnu"];
 
 fn main() {
     println!("cargo:rerun-if-env-changed=GALLIUMTOAD_LIB_DIR");
-    let folder = env::var_os("GALLIUMTOAD_LIB_DIR").map_or_else(
-        || PathBuf::from(env!("CARGO_MANIFEST_DIR")).join("../c/build"),
-        PathBuf::from,
-    );
-    println!(
-        "cargo:rerun-if-changed={}",
-        folder.join("libgalliumtoad.a").display()
-    );
+    println!("cargo:rustc-check-cfg=cfg(heap_in_rust)");
+    if let Some(folder) = env::var_os("GALLIUMTOAD_LIB_DIR") {
+        return link(&PathBuf::from(folder), "galliumtoad");
+    }
+    let Some(folder) = TARGETS.into_iter().find(|&name| name == target()) else {
+        eprintln!(
+            "galliumtoad: no archive for {}: there are those for {}, and the toolchain makes none \
+             for 32 bits. GALLIUMTOAD_LIB_DIR may name a folder with a libgalliumtoad.a",
+            env::var("TARGET").unwrap_or_default(),
+            TARGETS.join(" and ")
+        );
+        exit(1);
+    };
+    // asked for now: a package's copy of this program may have been compiled in another folder
+    let here = env::var_os("CARGO_MANIFEST_DIR").unwrap_or_default();
+    link(&Path::new(&here).join("lib").join(folder), "card_c");
+    if env::var_os("CARGO_FEATURE_HEAP").is_some() {
+        println!("cargo:rustc-cfg=heap_in_rust");
+    }
+}
+
+/// What is built for, in the words of the archives' folders: for Linux the processor alone counts,
+/// since an archive asks nothing of the C library but to copy and set memory. Of another width of
+/// pointers, or with the big end first, it is none of them.
+fn target() -> String {
+    let of = |name: &str| env::var(format!("CARGO_CFG_TARGET_{name}")).unwrap_or_default();
+    match (of("OS"), of("POINTER_WIDTH"), of("ENDIAN")) {
+        (os, width, endian) if (&*os, &*width, &*endian) == ("linux", "64", "little") => {
+            format!("{}-linux-gnu", of("ARCH"))
+        }
+        (os, width, endian) => format!("{}-{os}-{width}-{endian}", of("ARCH")),
+    }
+}
+
+fn link(folder: &Path, library: &str) {
+    let file = folder.join(format!("lib{library}.a"));
+    println!("cargo:rerun-if-changed={}", file.display());
     println!("cargo:rustc-link-search=native={}", folder.display());
-    println!("cargo:rustc-link-lib=static=galliumtoad");
+    println!("cargo:rustc-link-lib=static={library}");
 }

@@ -8,11 +8,18 @@
 //! [`Terminal`] carries them out with a card behind any line, as that of a PC/SC reader
 //! ([`Transport`]).
 //!
+//! The library takes memory by three functions. Those of the feature `heap`, which is there by
+//! default, are over the program's allocator, and wipe what they give back. A program without that
+//! feature brings its own `rattle_alloc`, `rattle_realloc` and `rattle_dealloc`, as
+//! `galliumtoad_heap.h` declares them.
+//!
 //! Values of this crate stay on the thread that made them.
 
 mod card;
 mod error;
 mod exchange;
+#[cfg(heap_in_rust)]
+mod heap;
 mod objects;
 mod raw;
 mod session;

@@ -1,5 +1,6 @@
 //! What is taken is given back, and want of memory is told: over a heap that counts, in the place
-//! of the library's own.
+//! of the library's own. It is run without the feature `heap`, which brings those.
+#![cfg(not(feature = "heap"))]
 
 use galliumtoad::{CardBuilder, Error, Exchange, Session, Turn, APPS_LIMIT};
 use std::alloc::{alloc, dealloc, Layout};

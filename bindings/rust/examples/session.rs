@@ -1,0 +1,28 @@
+//! A session: a terminal and a card in one program, and every operation carried out to its answer.
+//! An object is read, written and read again, and one that is locked is not written.
+
+use galliumtoad::{CardBuilder, Error, Session};
+
+const AID: [u8; 7] = [0xA0, 0x00, 0x00, 0x00, 0x03, 0x10, 0x10];
+
+fn hex(data: &[u8]) -> String {
+    data.iter().map(|byte| format!("{byte:02X}")).collect()
+}
+
+fn main() -> Result<(), Error> {
+    let mut builder = CardBuilder::new()?;
+    builder.app(&AID)?;
+    builder.object(0x5F20, b"JOE")?;
+    builder.locked(0x50, b"VISA")?;
+    let mut session = Session::start(builder.finish()?)?;
+
+    let answer = session.select(&AID)?;
+    println!("select: {:04X} {}", answer.status, hex(&answer.data));
+    let answer = session.get(0x5F20)?;
+    println!("get: {:04X} {}", answer.status, hex(&answer.data));
+    println!("put: {:04X}", session.put(0x5F20, b"ANN")?);
+    let answer = session.get(0x5F20)?;
+    println!("get: {:04X} {}", answer.status, hex(&answer.data));
+    println!("put of a locked object: {:04X}", session.put(0x50, b"NEW")?);
+    Ok(())
+}

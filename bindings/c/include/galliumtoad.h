@@ -38,6 +38,12 @@
 #ifndef GALLIUMTOAD_H
 #define GALLIUMTOAD_H
 
+/* Of this header, and of the library with it. Before 1.0 another minor number may have other
+ * functions. */
+#define GT_VERSION_MAJOR 0
+#define GT_VERSION_MINOR 1
+#define GT_VERSION_PATCH 0
+
 #include <stddef.h>
 #include <stdint.h>
 

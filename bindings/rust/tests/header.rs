@@ -106,6 +106,23 @@ fn every_fault_of_the_header_is_known() {
     }
 }
 
+/// The number that `#define NAME` gives.
+fn defined<'a>(header: &'a str, name: &str) -> Option<&'a str> {
+    let start = format!("#define {name} ");
+    header.lines().find_map(|line| line.strip_prefix(&start))
+}
+
+#[test]
+fn the_version_is_that_of_the_header() {
+    let header = header();
+    let major = defined(&header, "GT_VERSION_MAJOR");
+    assert_eq!(major, Some(env!("CARGO_PKG_VERSION_MAJOR")));
+    let minor = defined(&header, "GT_VERSION_MINOR");
+    assert_eq!(minor, Some(env!("CARGO_PKG_VERSION_MINOR")));
+    let patch = defined(&header, "GT_VERSION_PATCH");
+    assert_eq!(patch, Some(env!("CARGO_PKG_VERSION_PATCH")));
+}
+
 #[test]
 fn limits_are_those_of_the_header() {
     let limits = [

@@ -31,9 +31,11 @@
  * A code is about the call, a status about the card: GT_OK with status 6982 is a call that went
  * well, and a value that is not stored. Look at both; the statuses are listed above "A session".
  *
- * Targets: 64 bits alone; the archive is built for x86-64-v2. Memory comes by malloc and free, and
- * is wiped before it is given back, or by the caller's own three functions: galliumtoad_heap.h says
- * which, and what is then theirs. Linking also asks for memcpy, memmove and memset or the like.
+ * Targets: Linux on x86-64-v2 and on 64-bit ARM (AArch64, the small end first). There is none with
+ * 32 bits: the toolchain refuses them, since usize has 64 bits in its logic. Memory comes by malloc
+ * and free, and is wiped before it is given back, or by the caller's own three functions:
+ * galliumtoad_heap.h says which, and what is then theirs. Linking also asks for memcpy, memmove and
+ * memset.
  */
 #ifndef GALLIUMTOAD_H
 #define GALLIUMTOAD_H

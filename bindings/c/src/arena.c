@@ -21,7 +21,7 @@ struct block {
 
 #define HEAD ((sizeof(struct block) + UNIT - 1) / UNIT * UNIT)
 
-/* with the alignment of a long double, which on x86-64 is a unit */
+/* with the alignment of a long double, which is a unit on each target */
 static union {
     unsigned char bytes[GT_ARENA_SIZE];
     long double alignment;

@@ -11,7 +11,7 @@ from .findings import Finding
 from .sources import IN_CODE, WORD, code_without_comments, crate_of
 
 # Files of proofs that the prover takes up without a name.
-TAKEN_UP = ("/Answers.antt", "/Invariants.antt", "/Proof.antt")
+TAKEN_UP = ("/Answers.antt", "/Invariants.antt", "/Proof.antt", "/TheSendSync/Send.antt")
 
 
 def is_root(path):

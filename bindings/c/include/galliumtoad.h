@@ -11,8 +11,10 @@
  *   static storage. Its fields are the library's: nothing else reads or writes them. It may be
  *   moved by assignment where the old copy is never used again; two copies must not both be
  *   used.
- * - A handle is for one thread at a time, also in functions that take it as const: these change
- *   it and put it back. Different handles may be used by different threads at once.
+ * - A handle may go from one thread to another, and is for one at a time, also in functions that
+ *   take it as const: these change it and put it back. What the next thread does with it comes
+ *   after what the one before did, by a lock, by the start or the end of a thread, or by an atomic
+ *   that is sequentially consistent. Different handles may be used by different threads at once.
  * - No function is called from a signal handler, or in the child of a fork of a process with
  *   threads.
  *

@@ -8,8 +8,9 @@
  *   `size` at most: these go along, and no others need to. Where memory is wanting the block stays
  *   as it is.
  * - None of them is called from within another, and none may call the library.
- * - They are called by whatever threads call the library. Where several use handles at once, the
- *   three have to be safe in several threads at once, as malloc and free are.
+ * - They are called by whatever threads call the library, and a block may be given back by another
+ *   thread than the one that took it. Where several use handles at once, the three have to be safe
+ *   in several threads at once, as malloc and free are.
  * - Blocks hold values of data objects, commands and answers. Those that the archive has wipe each
  *   block before they give it back to free, so that none of this stays in memory that is free. The
  *   library itself wipes nothing: with three functions of your own that is theirs to do, for all

@@ -2,8 +2,9 @@
  * of heap.c. GT_ARENA_SIZE says how many bytes the array has; one of 28 KB holds a card with a few
  * small objects and an exchange with it (examples/dialogue.c).
  *
- * It is for one thread: it has no lock, so no two functions of the library may run at once, also
- * where their handles are different ones. What a block held is wiped when it is given back. */
+ * It has no lock, so no two functions of the library may run at once, also where their handles are
+ * different ones: it is for one thread, or for several that take turns. What a block held is wiped
+ * when it is given back. */
 #ifndef GALLIUMTOAD_ARENA_H
 #define GALLIUMTOAD_ARENA_H
 

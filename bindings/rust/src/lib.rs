@@ -13,7 +13,13 @@
 //! feature brings its own `rattle_alloc`, `rattle_realloc` and `rattle_dealloc`, as
 //! `galliumtoad_heap.h` declares them.
 //!
-//! Values of this crate stay on the thread that made them.
+//! Values of this crate may go to another thread (they are `Send`), and several threads don't share
+//! one (they are not `Sync`):
+//!
+//! ```compile_fail
+//! fn share<T: Sync>(_: &T) {}
+//! share(&galliumtoad::Terminal::new().unwrap());
+//! ```
 
 mod card;
 mod error;

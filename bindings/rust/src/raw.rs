@@ -25,6 +25,11 @@ pub struct Held {
 #[derive(Debug)]
 pub struct Handle(UnsafeCell<Held>);
 
+// SAFETY: of each kind of handle it is proved that it may go to another thread; what hands a value
+// of Rust over orders what both threads do with it. The functions for memory are those of an
+// allocator of Rust, or of `malloc`, or the program's own, which owe the same.
+unsafe impl Send for Handle {}
+
 impl Handle {
     /// A handle that holds nothing.
     pub const fn empty() -> Handle {

@@ -24,6 +24,9 @@ impl Model for CardHeld {
     ghost also_owns = { λ h. held_owns h.at h.alloc h.value };
 }
 
+// What it holds names no thread, and neither does what frees it.
+unsafe impl Send for CardHeld {}
+
 impl CardHeld {
     fn of(value: Loose<CardSide, Global>) -> CardHeld
         ensures { result.value ≡ Some value.value }

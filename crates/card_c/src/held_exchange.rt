@@ -22,6 +22,9 @@ impl Model for HeldExchange {
     ghost also_owns = { λ h. held_owns h.at h.alloc h.value };
 }
 
+// What it holds names no thread, and neither does what frees it.
+unsafe impl Send for HeldExchange {}
+
 impl HeldExchange {
     pub(crate) fn of(value: Loose<TerminalSide, Global>) -> HeldExchange
         ensures { result.value ≡ Some value.value }

@@ -22,6 +22,9 @@ impl Model for HeldTerminal {
     ghost also_owns = { λ h. held_owns h.at h.alloc h.value };
 }
 
+// What it holds names no thread, and neither does what frees it.
+unsafe impl Send for HeldTerminal {}
+
 impl HeldTerminal {
     pub(crate) fn of(value: Loose<OperatingSide, Global>) -> HeldTerminal
         ensures { result.value ≡ Some value.value }

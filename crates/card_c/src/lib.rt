@@ -35,4 +35,5 @@ mod tag_number;
 mod terminal;
 mod terminal_handle;
 mod terminal_side;
+mod threads;
 mod whole_tpdu;

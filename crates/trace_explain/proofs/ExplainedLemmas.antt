@@ -11,10 +11,11 @@ use Rattle.trace_explain.specs.declared.refusal.Refusal.{Refusal}
 use Rattle.trace_explain.specs.declared.refusal.Refusal.TheVariants.{NoDialogue, OutOfMemory}
 use Rattle.trace_explain.specs.declared.explainer.Explainer.{Explainer}
 use Rattle.trace_explain.specs.declared.listener.Listener.{Listener}
+use Rattle.trace_explain.specs.declared.standing.Standing.{Standing}
 use Rattle.trace_explain.specs.declared.trace_line.TraceLine.{TraceLine}
 use Rattle.trace_explain.specs.declared.tpdu.Tpdu.{Tpdu}
 use Rattle.trace_explain.specs.Told.{Told, told_by}
-use Rattle.trace_explain.specs.Lines.{is_card, heard_in, begins_after, SpellsCharacters, Says, events_in, begins_then}
+use Rattle.trace_explain.specs.Lines.{is_card, heard_in, after_characters, SpellsCharacters, Says, events_in, standing_after}
 use Rattle.trace_explain.specs.Noted.{HasNoted, StopsWith}
 use Rattle.trace_explain.specs.Explained.{HasExplained, ExplainsMore, ExplainsLine, IsRight, StopsRightly, StopsAtLine, IsStop, Stopped, next_line}
 
@@ -27,30 +28,30 @@ noted_none events before none l m is same h =
     let R : Listener → Type 0 = λ x. HasNoted events (before ++ map told_by none) x in
     subst R (sym same) (subst Q (sym is) (subst P (sym (append-nil before)) h))
 
-pub explains_events : (more events : List Event) (before : List Told) (begins : Bool)
-    (e : Explainer) → HasExplained (events ++ more) before e → e.begins ≡ begins
-    → ExplainsMore more begins events before e
-explains_events more events before begins e h is =
+pub explains_events : (more events : List Event) (before : List Told) (at : Standing)
+    (e : Explainer) → HasExplained (events ++ more) before e → e.standing ≡ at
+    → ExplainsMore more at events before e
+explains_events more events before at e h is =
     let P : List Told → Type 0 = λ t. HasExplained (events ++ more) t e in
     record {
       told = [];
       explained = subst P (sym (append-nil before)) h;
-      begins_is = is;
+      standing_is = is;
     }
 
-pub explains_nothing : (events : List Event) (before : List Told) (begins : Bool) (e : Explainer)
-    → HasExplained events before e → e.begins ≡ begins → ExplainsMore [] begins events before e
-explains_nothing events before begins e h is =
+pub explains_nothing : (events : List Event) (before : List Told) (at : Standing) (e : Explainer)
+    → HasExplained events before e → e.standing ≡ at → ExplainsMore [] at events before e
+explains_nothing events before at e h is =
     let P : List Event → Type 0 = λ es. HasExplained es before e in
-    explains_events [] events before begins e (subst P (sym (append-nil events)) h) is
+    explains_events [] events before at e (subst P (sym (append-nil events)) h) is
 
 -- the characters of a line have been heard, and what ended with them is told
 pub explains_line : (events more : List Event) (before told : List Told) (l : Listener)
     (old new : Explainer) → HasExplained events before old
     → HasNoted (events ++ more) (before ++ told) l → new.listener ≡ l → new.resumes ≡ old.resumes
-    → new.passes_over ≡ old.passes_over → new.begins ≡ old.begins
-    → ExplainsMore more old.begins events before new
-explains_line events more before told l old new h noted listener resumes passes_over begins =
+    → new.passes_over ≡ old.passes_over → new.standing ≡ old.standing
+    → ExplainsMore more old.standing events before new
+explains_line events more before told l old new h noted listener resumes passes_over standing =
     let P : Listener → Type 0 = λ x. HasNoted (events ++ more) (before ++ told) x in
     record {
       told = told;
@@ -59,7 +60,7 @@ explains_line events more before told l old new h noted listener resumes passes_
         resumes = resumes ∙ h.resumes;
         passes_over = passes_over ∙ h.passes_over;
       };
-      begins_is = begins;
+      standing_is = standing;
     }
 
 -- the complaint for a character with which no dialogue goes on
@@ -111,6 +112,8 @@ stops_rightly (Err (fault.BadHex m)) why n line place due l events from bytes be
     n_is due_is = absurd is
 stops_rightly (Err (fault.LineTooLong m)) why n line place due l events from bytes before told is
     stops n_is due_is = absurd is
+stops_rightly (Err fault.NoCharacters) why n line place due l events from bytes before told is
+    stops n_is due_is = absurd is
 stops_rightly (Err (fault.Resumed m first)) why n line place due l events from bytes before told is
     stops n_is due_is = tt
 stops_rightly (Err fault.Read) why n line place due l events from bytes before told is stops n_is
@@ -131,28 +134,29 @@ heard_before : (begins : Bool) (from : End) (bytes : List ℕ) → (begins && is
 heard_before begins from bytes e = rw e refl
 
 -- characters of the card that come before a header
-pub explains_before : (begins : Bool) (from : End) (bytes : List ℕ) (events : List Event)
-    (before : List Told) (e : Explainer) → (begins && is_card from) ≡ true
-    → HasExplained events before e → e.begins ≡ begins_after begins from bytes
-    → ExplainsMore (heard_in begins from bytes) (begins_after begins from bytes) events before e
-explains_before begins from bytes events before e is h begins_is =
+pub explains_before : (at : Standing) (from : End) (bytes : List ℕ) (events : List Event)
+    (before : List Told) (e : Explainer) → (at.begins && is_card from) ≡ true
+    → HasExplained events before e → e.standing ≡ after_characters at from bytes
+    → ExplainsMore (heard_in at.begins from bytes) (after_characters at from bytes) events before e
+explains_before at from bytes events before e is h standing_is =
     let P : List Event → Type 0 = λ more.
-    ExplainsMore more (begins_after begins from bytes) events before e in
-    subst P (sym (heard_before begins from bytes is))
-    (explains_nothing events before (begins_after begins from bytes) e h begins_is)
+    ExplainsMore more (after_characters at from bytes) events before e in
+    subst P (sym (heard_before at.begins from bytes is))
+    (explains_nothing events before (after_characters at from bytes) e h standing_is)
 
 -- what a line says
 pub as_line : {T : Type 0} (result : Result T ExplainFault) (line : List ℕ) (said : TraceLine)
-    (more : List Event) (begins : Bool) (events : List Event) (before : List Told)
-    (old new : Explainer) → Says line said → more ≡ events_in old.begins said
-    → begins ≡ begins_then old.begins said → OnOk result
-    (ExplainsMore more begins events before new)
+    (more : List Event) (at : Standing) (events : List Event) (before : List Told)
+    (old new : Explainer) → Says line said → more ≡ events_in old.standing said
+    → at ≡ standing_after old.standing said → OnOk result
+    (ExplainsMore more at events before new)
     → OnOk result (ExplainsLine line events before old new)
-as_line (Err e) line said more begins events before old new says more_is begins_is h = tt
-as_line (Ok x) line said more begins events before old new says more_is begins_is h =
-    let P : List Event → Type 0 = λ es. ExplainsMore es begins events before new in
-    let Q : Bool → Type 0 = λ b. ExplainsMore (events_in old.begins said) b events before new in
-    (said, says, subst Q begins_is (subst P more_is h))
+as_line (Err e) line said more at events before old new says more_is at_is h = tt
+as_line (Ok x) line said more at events before old new says more_is at_is h =
+    let P : List Event → Type 0 = λ es. ExplainsMore es at events before new in
+    let Q : Standing → Type 0 = λ s. ExplainsMore (events_in old.standing said) s events before
+    new in
+    (said, says, subst Q at_is (subst P more_is h))
 
 pub line_stops : {T : Type 0} (result : Result T ExplainFault) (line : List ℕ) (n : ℕ) (from : End)
     (bytes given : List ℕ) (events : List Event) (before : List Told) (old : Explainer)
@@ -164,6 +168,8 @@ line_stops (Err (fault.BadHex m)) line n from bytes given events before old same
     absurd h
 line_stops (Err (fault.LineTooLong m)) line n from bytes given events before old same spells n_is
     h =
+    absurd h
+line_stops (Err fault.NoCharacters) line n from bytes given events before old same spells n_is h =
     absurd h
 line_stops (Err (fault.Resumed m c)) line n from bytes given events before old same spells n_is h =
     tt

@@ -9,33 +9,34 @@ use Rattle.t0_core.specs.History.{Event}
 use Rattle.trace_explain.specs.declared.explain_fault.ExplainFault.{ExplainFault}
 use Rattle.trace_explain.specs.declared.explain_fault.ExplainFault.TheVariants as fault
 use Rattle.trace_explain.specs.declared.explainer.Explainer.{Explainer}
+use Rattle.trace_explain.specs.declared.standing.Standing.{Standing}
 use Rattle.trace_explain.specs.declared.trace_line.TraceLine.{TraceLine}
 use Rattle.trace_explain.specs.Told.{Told}
-use Rattle.trace_explain.specs.Lines.{Says, events_in, begins_then}
+use Rattle.trace_explain.specs.Lines.{Says, events_in, first_of_all, standing_after}
 use Rattle.trace_explain.specs.Explained.{HasExplained, ExplainsLine, StopsAtLine, next_line}
-use Rattle.trace_explain.specs.Trace.{lines_from, lines_of, IsReached, IsResumed, SayInTurn, IsExplained, IsOver, KeepsLimit, StopsIn}
+use Rattle.trace_explain.specs.Trace.{lines_from, lines_of, IsReached, IsOfEnd, SayInTurn, IsExplained, IsWhole, IsOver, KeepsLimit, StopsIn}
 use Rattle.trace_explain.specs.UnderWay.{HasCome, IsOfLines}
 
 -- one line more says its events behind the others
-say_more : (begins mid after : Bool) (before : List (List ℕ)) (line : List ℕ) (said : TraceLine)
-    (events : List Event) → SayInTurn begins before events mid → Says line said
-    → after ≡ begins_then mid said
-    → SayInTurn begins (before ++ line ∷ []) (events ++ events_in mid said) after
-say_more begins mid after [] line said events (none, same) says is =
+say_more : (at mid after : Standing) (before : List (List ℕ)) (line : List ℕ) (said : TraceLine)
+    (events : List Event) → SayInTurn at before events mid → Says line said
+    → after ≡ standing_after mid said
+    → SayInTurn at (before ++ line ∷ []) (events ++ events_in mid said) after
+say_more at mid after [] line said events (none, same) says is =
     let P : List Event → Type 0 = λ es.
-    SayInTurn begins (line ∷ []) (es ++ events_in mid said) after in
-    let Q : Bool → Type 0 = λ b. SayInTurn begins (line ∷ []) (events_in b said) after in
-    let at : after ≡ begins_then begins said = is ∙ ap (λ b. begins_then b said) same in
+    SayInTurn at (line ∷ []) (es ++ events_in mid said) after in
+    let Q : Standing → Type 0 = λ s. SayInTurn at (line ∷ []) (events_in s said) after in
+    let ends : after ≡ standing_after at said = is ∙ ap (λ s. standing_after s said) same in
     subst P (sym none) (subst Q (sym same)
-    (said, [], says, sym (append-nil (events_in begins said)), (refl, at)))
-say_more begins mid after (first ∷ before) line said events (one, rest, first_says, cut, others)
+    (said, [], says, sym (append-nil (events_in at said)), (refl, ends)))
+say_more at mid after (first ∷ before) line said events (one, rest, first_says, cut, others)
     says is = (
       one,
       rest ++ events_in mid said,
       first_says,
       ap (λ es. es ++ events_in mid said) cut
-          ∙ append_assoc (events_in begins one) rest (events_in mid said),
-      say_more (begins_then begins one) mid after before line said rest others says is,
+          ∙ append_assoc (events_in at one) rest (events_in mid said),
+      say_more (standing_after at one) mid after before line said rest others says is,
     )
 
 fed : (line given left bytes : List ℕ) (b : ℕ) → bytes ≡ b ∷ left → b ≡ 10
@@ -77,9 +78,9 @@ line_more all line given next bytes left others old new come counts ends rest ex
       number_is = counted_on new.line (length come.before)
           (length (come.before ++ given ∷ [])) (counts ∙ come.number_is)
           (length-append come.before (given ∷ []));
-      events = come.events ++ events_in old.begins said;
-      says = say_more true old.begins new.begins come.before given said come.events come.says says
-          more.begins_is;
+      events = come.events ++ events_in old.standing said;
+      says = say_more first_of_all old.standing new.standing come.before given said come.events
+          come.says says more.standing_is;
       told = come.told ++ more.told;
       explained = more.explained;
     }
@@ -122,14 +123,13 @@ next_byte chunk left i within =
 
 -- at the end all lines are explained
 all_explained : (all : List (List ℕ)) (line : List ℕ) (e : Explainer) → HasCome all line [] e
-    → lines_from line [] ≡ [] → IsExplained all
+    → lines_from line [] ≡ [] → IsExplained all e.standing
 all_explained all line e come none =
     let whole : all ≡ come.before =
     come.is_cut ∙ ap (λ ls. come.before ++ ls) none ∙ append-nil come.before in
-    let P : List (List ℕ) → Type 0 = λ ls. SayInTurn true ls come.events e.begins in
+    let P : List (List ℕ) → Type 0 = λ ls. SayInTurn first_of_all ls come.events e.standing in
     record {
       events = come.events;
-      begins = e.begins;
       says = subst P (sym whole) come.says;
       told = come.told;
       listener = e.listener;
@@ -137,7 +137,8 @@ all_explained all line e come none =
     }
 
 pub none_is_left : (all : List (List ℕ)) (line : List ℕ) (e : Explainer)
-    → (length line == 0) ≡ true → HasCome all line [] e → IsExplained all
+    → (length line == 0) ≡ true → HasCome all line [] e
+    → IsExplained all e.standing
 none_is_left all line e none come = all_explained all line e come (rw none refl)
 
 last_line : (line : List ℕ) → (length line == 0) ≡ false → lines_from line [] ≡ line ∷ []
@@ -148,7 +149,7 @@ pub last_explained : {T : Type 0} (result : Result T ExplainFault) (all : List (
     → OnOk result (new.line ≡ next_line old)
     → ((events : List Event) (before : List Told) → HasExplained events before old
     → OnOk result (ExplainsLine line events before old new))
-    → OnOk result (IsExplained all)
+    → OnOk result (IsExplained all new.standing)
 last_explained (Err f) all line old new some come counts explains = tt
 last_explained (Ok x) all line old new some come counts explains =
     all_explained all [] new
@@ -166,7 +167,7 @@ reached n all line given left others old come ends number = record {
   is_cut = come.is_cut ∙ ap (λ ls. come.before ++ ls) ends;
   number_is = number ∙ come.number_is;
   events = come.events;
-  begins = old.begins;
+  at = old.standing;
   says = come.says;
   told = come.told;
   listener = old.listener;
@@ -224,6 +225,7 @@ of_lines_kept fault.OutOfMemory bytes h = tt
 of_lines_kept fault.Read bytes h = tt
 of_lines_kept fault.Write bytes h = tt
 of_lines_kept fault.InputTooLong bytes h = absurd h
+of_lines_kept fault.NoCharacters bytes h = absurd h
 
 -- a line at which an explainer stops
 pub line_stops_in : (f : ExplainFault) (all : List (List ℕ)) (line given left : List ℕ)
@@ -246,6 +248,8 @@ line_stops_in (fault.BadHex n) all line given left others old come ends stops =
     let (number, nothing) = stops come.events come.told come.explained in
     (reached n all line given left others old come ends number, nothing)
 line_stops_in (fault.LineTooLong n) all line given left others old come ends stops =
+    absurd (stops come.events come.told come.explained)
+line_stops_in fault.NoCharacters all line given left others old come ends stops =
     absurd (stops come.events come.told come.explained)
 line_stops_in (fault.Resumed m c) all line given left others old come ends stops = tt
 line_stops_in fault.Read all line given left others old come ends stops = tt
@@ -288,14 +292,14 @@ StillComes (Some bytes) None line e = ⊥
 StillComes (Some bytes) (Some left) line e = HasCome (lines_of bytes) line left e
 
 pub all_comes : (a : Option (List ℕ)) (line : List ℕ) (e : Explainer) → line ≡ []
-    → HasExplained [] [] e → e.begins ≡ true → e.line ≡ 0 → StillComes a a line e
-all_comes None line e none h begins first = tt
-all_comes (Some bytes) line e none h begins first = record {
+    → HasExplained [] [] e → e.standing ≡ first_of_all → e.line ≡ 0 → StillComes a a line e
+all_comes None line e none h at first = tt
+all_comes (Some bytes) line e none h at first = record {
   before = [];
   is_cut = ap (λ l. lines_from l bytes) (sym none);
   number_is = ap (λ n. min (n + 1) (2 ^ 64 - 1)) first;
   events = [];
-  says = (refl, begins);
+  says = (refl, at);
   told = [];
   explained = h;
 }
@@ -354,12 +358,13 @@ none_comes (Some bytes) (Some left) (Some rest) n chunk line given e zero_is sam
     subst Q (sym same) (subst P none come)
 
 pub known_explained : {T : Type 0} (r : Result T ExplainFault) (a : Option (List ℕ))
-    (line : List ℕ) (e : Explainer) → IfSome a (λ bytes. HasCome (lines_of bytes) line [] e)
-    → ((all : List (List ℕ)) → HasCome all line [] e → OnOk r (IsExplained all))
-    → OnOk r (IfSome a (λ bytes. IsExplained (lines_of bytes)))
-known_explained (Err f) a line e come explains = tt
-known_explained (Ok x) None line e come explains = tt
-known_explained (Ok x) (Some bytes) line e come explains = explains (lines_of bytes) come
+    (line : List ℕ) (e : Explainer) (at : Standing)
+    → IfSome a (λ bytes. HasCome (lines_of bytes) line [] e)
+    → ((all : List (List ℕ)) → HasCome all line [] e → OnOk r (IsExplained all at))
+    → OnOk r (IfSome a (λ bytes. IsExplained (lines_of bytes) at))
+known_explained (Err f) a line e at come explains = tt
+known_explained (Ok x) None line e at come explains = tt
+known_explained (Ok x) (Some bytes) line e at come explains = explains (lines_of bytes) come
 
 pub known_stops : {T : Type 0} (r : Result T ExplainFault) (a : Option (List ℕ))
     (line : List ℕ) (e : Explainer) → IfSome a (λ bytes. HasCome (lines_of bytes) line [] e)
@@ -369,17 +374,20 @@ known_stops (Ok x) a line e come stops = tt
 known_stops (Err f) None line e come stops = tt
 known_stops (Err f) (Some bytes) line e come stops = stops (lines_of bytes) come
 
-resumed_at : (f : ExplainFault) (a : Option (List ℕ)) → IsResumed f
+ended_at : (f : ExplainFault) (a : Option (List ℕ)) (at : Standing) → IsOfEnd f at.came
+    → IfSome a (λ bytes. IsExplained (lines_of bytes) at)
     → IfSome a (λ bytes. StopsIn (lines_of bytes) f)
-resumed_at f None resumed = tt
-resumed_at (fault.Resumed m c) (Some bytes) resumed = tt
-resumed_at (fault.NoDialogue c) (Some bytes) resumed = absurd resumed
-resumed_at (fault.BadHex m) (Some bytes) resumed = absurd resumed
-resumed_at (fault.LineTooLong m) (Some bytes) resumed = absurd resumed
-resumed_at fault.Read (Some bytes) resumed = tt
-resumed_at fault.Write (Some bytes) resumed = tt
-resumed_at fault.InputTooLong (Some bytes) resumed = tt
-resumed_at fault.OutOfMemory (Some bytes) resumed = tt
+ended_at f None at ended explained = tt
+ended_at fault.NoCharacters (Some bytes) at ended explained =
+    (explained.events, at, explained.says, ended)
+ended_at (fault.Resumed m c) (Some bytes) at ended explained = tt
+ended_at (fault.NoDialogue c) (Some bytes) at ended explained = absurd ended
+ended_at (fault.BadHex m) (Some bytes) at ended explained = absurd ended
+ended_at (fault.LineTooLong m) (Some bytes) at ended explained = absurd ended
+ended_at fault.Read (Some bytes) at ended explained = tt
+ended_at fault.Write (Some bytes) at ended explained = tt
+ended_at fault.InputTooLong (Some bytes) at ended explained = tt
+ended_at fault.OutOfMemory (Some bytes) at ended explained = tt
 
 -- of known bytes so many have come
 abbrev pub HaveComeOf : Option (List ℕ) → Option (List ℕ) → ℕ → Type 0
@@ -426,8 +434,25 @@ limit_passed (Err g) f (Some bytes) same h =
     let P : ExplainFault → Type 0 = λ x. IsOfLines x in
     of_lines_kept g bytes (subst P (sym same) h)
 
+-- what is known of the trace holds where it stands in the end
+pub kept_to_end : (a : Option (List ℕ)) (at after : Standing) → after ≡ at
+    → IfSome a (λ bytes. IsExplained (lines_of bytes) at)
+    → IfSome a (λ bytes. IsExplained (lines_of bytes) after)
+kept_to_end a at after same explained =
+    let P : Standing → Type 0 = λ s. IfSome a (λ bytes. IsExplained (lines_of bytes) s) in
+    subst P (sym same) explained
+
 -- what is answered at the end of a trace is no complaint
-pub resumed_stops : {T : Type 0} (r : Result T ExplainFault) (a : Option (List ℕ))
-    → IfErr r IsResumed → IfErr r (λ f. IfSome a (λ bytes. StopsIn (lines_of bytes) f))
-resumed_stops (Ok x) a resumed = tt
-resumed_stops (Err f) a resumed = resumed_at f a resumed
+pub ended_stops : {T : Type 0} (r : Result T ExplainFault) (a : Option (List ℕ)) (at : Standing)
+    → IfErr r (λ f. IsOfEnd f at.came) → IfSome a (λ bytes. IsExplained (lines_of bytes) at)
+    → IfErr r (λ f. IfSome a (λ bytes. StopsIn (lines_of bytes) f))
+ended_stops (Ok x) a at ended explained = tt
+ended_stops (Err f) a at ended explained = ended_at f a at ended explained
+
+-- and where all is well a character has come
+pub ended_well : {T : Type 0} (r : Result T ExplainFault) (a : Option (List ℕ)) (at : Standing)
+    → OnOk r (at.came ≡ true) → IfSome a (λ bytes. IsExplained (lines_of bytes) at)
+    → OnOk r (IfSome a (λ bytes. IsWhole (lines_of bytes)))
+ended_well (Err f) a at ended explained = tt
+ended_well (Ok x) None at ended explained = tt
+ended_well (Ok x) (Some bytes) at ended explained = (at, explained, ended)

@@ -1,5 +1,5 @@
 -- What an explainer that does not resume has explained, line after line.
-use Rattle.std.specs.Prelude.{◌≡◌, ◌<◌, ℕ, ◌+◌, ◌-◌, ◌^◌, min, List, ◌++◌, length, take, get_or, Bool, false, Result}
+use Rattle.std.specs.Prelude.{◌≡◌, ◌<◌, ℕ, ◌+◌, ◌-◌, ◌^◌, min, List, ◌++◌, length, take, get_or, false, Result}
 use Rattle.std.specs.Result.{IsErrAnd}
 use Rattle.t0_core.specs.declared.end.End.{End}
 use Rattle.t0_core.specs.Character.{sent_by}
@@ -10,10 +10,11 @@ use Rattle.trace_explain.specs.declared.explain_fault.ExplainFault.{ExplainFault
 use Rattle.trace_explain.specs.declared.explain_fault.ExplainFault.TheVariants as fault
 use Rattle.trace_explain.specs.declared.explainer.Explainer.{Explainer}
 use Rattle.trace_explain.specs.declared.listener.Listener.{Listener}
+use Rattle.trace_explain.specs.declared.standing.Standing.{Standing}
 use Rattle.trace_explain.specs.declared.trace_line.TraceLine.{TraceLine}
 use Rattle.trace_explain.specs.declared.refusal.Refusal.{Refusal}
 use Rattle.trace_explain.specs.declared.refusal.Refusal.TheVariants.{NoDialogue}
-use Rattle.trace_explain.specs.Lines.{SpellsCharacters, Says, SaysNothing, events_in, begins_then}
+use Rattle.trace_explain.specs.Lines.{SpellsCharacters, Says, SaysNothing, events_in, standing_after}
 use Rattle.trace_explain.specs.Noted.{HasNoted, NoneGoesOn}
 use Rattle.trace_explain.specs.Told.{Told}
 
@@ -24,16 +25,17 @@ pub record HasExplained (events : List Event) (told : List Told) (e : Explainer)
   pub passes_over : e.passes_over ≡ false
 
 -- With these events more it has told so many dialogues more.
-pub record ExplainsMore (more : List Event) (begins : Bool) (events : List Event)
+pub record ExplainsMore (more : List Event) (at : Standing) (events : List Event)
     (before : List Told) (new : Explainer) : Type 0 where
   pub told : List Told
   pub explained : HasExplained (events ++ more) (before ++ told) new
-  pub begins_is : new.begins ≡ begins
+  pub standing_is : new.standing ≡ at
 
 -- and these are the events of a line
 abbrev pub ExplainsLine : List ℕ → List Event → List Told → Explainer → Explainer → Type 0
 ExplainsLine line events before old new = (said : TraceLine) × Says line said
-    × ExplainsMore (events_in old.begins said) (begins_then old.begins said) events before new
+    × ExplainsMore (events_in old.standing said) (standing_after old.standing said) events before
+    new
 
 -- The complaint is right: the characters of one end before its place have been heard and told, and
 -- no dialogue goes on with the one at this place.
@@ -55,6 +57,7 @@ StopsRightly (fault.NoDialogue c) line from bytes events before =
     (c.line ≡ line) × IsRight c from bytes events before
 StopsRightly (fault.BadHex number) line from bytes events before = ⊥
 StopsRightly (fault.LineTooLong number) line from bytes events before = ⊥
+StopsRightly fault.NoCharacters line from bytes events before = ⊥
 StopsRightly other line from bytes events before = Unit {0}
 
 -- the number of the next line
@@ -70,6 +73,7 @@ StopsAtLine (fault.NoDialogue c) line old events before = (from : End) × (bytes
 StopsAtLine (fault.BadHex number) line old events before =
     (number ≡ next_line old) × SaysNothing line
 StopsAtLine (fault.LineTooLong number) line old events before = ⊥
+StopsAtLine fault.NoCharacters line old events before = ⊥
 StopsAtLine other line old events before = Unit {0}
 
 -- of an explainer that stops for a character: the complaint, or want of memory
@@ -86,5 +90,5 @@ pub record KeepsAll (old new : Explainer) : Type 0 where
   pub listener : new.listener ≡ old.listener
   pub resumes : new.resumes ≡ old.resumes
   pub passes_over : new.passes_over ≡ old.passes_over
-  pub begins : new.begins ≡ old.begins
+  pub standing : new.standing ≡ old.standing
   pub line : new.line ≡ old.line

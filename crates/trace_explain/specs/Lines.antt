@@ -6,6 +6,7 @@ use Rattle.t0_core.specs.declared.end.End.TheVariants as end
 use Rattle.t0_core.specs.Character.{sent_by}
 use Rattle.t0_core.specs.History as history
 use Rattle.t0_core.specs.History.{Event, passed}
+use Rattle.trace_explain.specs.declared.standing.Standing.{Standing}
 use Rattle.trace_explain.specs.declared.trace_line.TraceLine.{TraceLine}
 use Rattle.trace_explain.specs.declared.trace_line.TraceLine.TheVariants as said
 
@@ -55,12 +56,28 @@ heard_in begins from bytes = if begins && is_card from then [] else passed (sent
 abbrev pub begins_after : Bool → End → List ℕ → Bool
 begins_after begins from bytes = begins && (is_card from || is_none bytes)
 
-abbrev pub events_in : Bool → TraceLine → List Event
-events_in begins (said.Characters from bytes) = heard_in begins from bytes.items
-events_in begins said.Reset = history.Reset ∷ []
-events_in begins (said.Note note) = []
+-- whether a character has come by then
+abbrev pub came_after : Bool → List ℕ → Bool
+came_after came [] = came
+came_after came (b ∷ bytes) = true
 
-abbrev pub begins_then : Bool → TraceLine → Bool
-begins_then begins (said.Characters from bytes) = begins_after begins from bytes.items
-begins_then begins said.Reset = true
-begins_then begins (said.Note note) = begins
+abbrev pub events_in : Standing → TraceLine → List Event
+events_in at (said.Characters from bytes) = heard_in at.begins from bytes.items
+events_in at said.Reset = history.Reset ∷ []
+events_in at (said.Note note) = []
+
+-- where a trace stands before its first line, and after characters
+abbrev pub first_of_all : Standing
+first_of_all = record { begins = true; came = false }
+
+abbrev pub after_characters : Standing → End → List ℕ → Standing
+after_characters at from bytes = record {
+  begins = begins_after at.begins from bytes;
+  came = came_after at.came bytes;
+}
+
+-- and after a line
+abbrev pub standing_after : Standing → TraceLine → Standing
+standing_after at (said.Characters from bytes) = after_characters at from bytes.items
+standing_after at said.Reset = record { begins = true; came = at.came }
+standing_after at (said.Note note) = at

@@ -1,5 +1,5 @@
 -- A whole trace: its lines, and what an explainer that does not resume has explained of them.
-use Rattle.std.specs.Prelude.{◌≡◌, ◌≤◌, ◌<◌, ℕ, ◌+◌, ◌-◌, ◌^◌, min, List, [], ◌∷◌, ◌++◌, length, Bool, true, ◌==◌, if◌then◌else◌, Result, Ok, Err}
+use Rattle.std.specs.Prelude.{◌≡◌, ◌≤◌, ◌<◌, ℕ, ◌+◌, ◌-◌, ◌^◌, min, List, [], ◌∷◌, ◌++◌, length, Bool, true, false, ◌==◌, if◌then◌else◌, Result, Ok, Err}
 use Rattle.std.specs.Str.Lines.{strip_carriage_return}
 use Rattle.t0_core.specs.declared.end.End.{End}
 use Rattle.t0_core.specs.History.{Event}
@@ -7,9 +7,10 @@ use Rattle.trace_explain.specs.declared.complaint.Complaint.{Complaint}
 use Rattle.trace_explain.specs.declared.explain_fault.ExplainFault.{ExplainFault}
 use Rattle.trace_explain.specs.declared.explain_fault.ExplainFault.TheVariants as fault
 use Rattle.trace_explain.specs.declared.listener.Listener.{Listener}
+use Rattle.trace_explain.specs.declared.standing.Standing.{Standing}
 use Rattle.trace_explain.specs.declared.trace_line.TraceLine.{TraceLine}
 use Rattle.trace_explain.specs.Explained.{IsRight}
-use Rattle.trace_explain.specs.Lines.{SpellsCharacters, Says, SaysNothing, events_in, begins_then}
+use Rattle.trace_explain.specs.Lines.{SpellsCharacters, Says, SaysNothing, events_in, first_of_all, standing_after}
 use Rattle.trace_explain.specs.Noted.{HasNoted}
 use Rattle.trace_explain.specs.Told.{Told}
 
@@ -25,22 +26,31 @@ lines_from line (b ∷ bytes) =
 abbrev pub lines_of : List ℕ → List (List ℕ)
 lines_of bytes = lines_from [] bytes
 
--- Lines say these events, one after another. The flags before and after them say whether no
--- character of the terminal has come since the trace began or the card was reset.
-abbrev pub SayInTurn : Bool → List (List ℕ) → List Event → Bool → Type 0
-SayInTurn begins [] events after = (events ≡ []) × (after ≡ begins)
-SayInTurn begins (line ∷ others) events after = (said : TraceLine) × (rest : List Event)
-    × Says line said × (events ≡ events_in begins said ++ rest)
-    × SayInTurn (begins_then begins said) others rest after
+-- Lines say these events, one after another, and lead from where the trace stands before them to
+-- where it stands behind them.
+abbrev pub SayInTurn : Standing → List (List ℕ) → List Event → Standing → Type 0
+SayInTurn at [] events after = (events ≡ []) × (after ≡ at)
+SayInTurn at (line ∷ others) events after = (said : TraceLine) × (rest : List Event)
+    × Says line said × (events ≡ events_in at said ++ rest)
+    × SayInTurn (standing_after at said) others rest after
 
--- All events of these lines have been heard, and each whole dialogue in them was told, in turn.
-pub record IsExplained (all : List (List ℕ)) : Type 0 where
+-- All events of these lines have been heard, and each whole dialogue in them was told, in turn;
+-- behind them the trace stands here.
+pub record IsExplained (all : List (List ℕ)) (at : Standing) : Type 0 where
   pub events : List Event
-  pub begins : Bool
-  pub says : SayInTurn true all events begins
+  pub says : SayInTurn first_of_all all events at
   pub told : List Told
   pub listener : Listener
   pub noted : HasNoted events told listener
+
+-- and at least one of them had a character
+abbrev pub IsWhole : List (List ℕ) → Type 0
+IsWhole all = (at : Standing) × IsExplained all at × (at.came ≡ true)
+
+-- no line of these has a character of either end
+abbrev pub SayNoCharacters : List (List ℕ) → Type 0
+SayNoCharacters all = (events : List Event) × (at : Standing)
+    × SayInTurn first_of_all all events at × (at.came ≡ false)
 
 -- the number of the line behind these, from 1 up to the largest that is counted to
 abbrev pub number_behind : List (List ℕ) → ℕ
@@ -55,8 +65,8 @@ pub record IsReached (all : List (List ℕ)) (number : ℕ) : Type 0 where
   pub is_cut : all ≡ before ++ line ∷ others
   pub number_is : number ≡ number_behind before
   pub events : List Event
-  pub begins : Bool
-  pub says : SayInTurn true before events begins
+  pub at : Standing
+  pub says : SayInTurn first_of_all before events at
   pub told : List Told
   pub listener : Listener
   pub noted : HasNoted events told listener
@@ -72,12 +82,13 @@ pub record IsRightIn (all : List (List ℕ)) (c : Complaint) : Type 0 where
 
 -- Of a fault that stops it at a line: a complaint is right; the line with bad digits says nothing;
 -- and the line that is too long has, without the CR right before its LF, as many bytes as a line
--- may have, or more.
+-- may have, or more. Of the one that comes at the end: no line has a character.
 abbrev pub StopsIn : List (List ℕ) → ExplainFault → Type 0
 StopsIn all (fault.NoDialogue c) = IsRightIn all c
 StopsIn all (fault.BadHex number) = (at : IsReached all number) × SaysNothing at.line
 StopsIn all (fault.LineTooLong number) =
     (at : IsReached all number) × (4194304 ≤ length at.line)
+StopsIn all fault.NoCharacters = SayNoCharacters all
 StopsIn all other = Unit {0}
 
 -- of a fault: where it is one of the trace's length, the trace is longer than a trace may be
@@ -91,7 +102,8 @@ abbrev pub KeepsLimit : {T : Type 0} → List ℕ → Result T ExplainFault → 
 KeepsLimit bytes (Ok x) = length bytes ≤ 1099511627776
 KeepsLimit bytes (Err f) = IsOver bytes f
 
--- the fault at the end of a trace that was explained on
-abbrev pub IsResumed : ExplainFault → Type 0
-IsResumed (fault.Resumed complaints first) = Unit {0}
-IsResumed other = ⊥
+-- the faults at the end of a trace: it was explained on, or no character has come
+abbrev pub IsOfEnd : ExplainFault → Bool → Type 0
+IsOfEnd (fault.Resumed complaints first) came = Unit {0}
+IsOfEnd fault.NoCharacters came = came ≡ false
+IsOfEnd other came = ⊥

@@ -1,10 +1,11 @@
 -- What is kept from one byte of a trace to the next: for proofs alone, no part of a promise.
-use Rattle.std.specs.Prelude.{◌≡◌, ℕ, List, ◌++◌, true}
+use Rattle.std.specs.Prelude.{◌≡◌, ℕ, List, ◌++◌}
 use Rattle.t0_core.specs.History.{Event}
 use Rattle.trace_explain.specs.declared.explain_fault.ExplainFault.{ExplainFault}
 use Rattle.trace_explain.specs.declared.explain_fault.ExplainFault.TheVariants as fault
 use Rattle.trace_explain.specs.declared.explainer.Explainer.{Explainer}
 use Rattle.trace_explain.specs.Explained.{HasExplained, next_line}
+use Rattle.trace_explain.specs.Lines.{first_of_all}
 use Rattle.trace_explain.specs.Told.{Told}
 use Rattle.trace_explain.specs.Trace.{SayInTurn, lines_from, number_behind}
 
@@ -15,7 +16,7 @@ pub record HasCome (all : List (List ℕ)) (line left : List ℕ) (e : Explainer
   pub is_cut : all ≡ before ++ lines_from line left
   pub number_is : next_line e ≡ number_behind before
   pub events : List Event
-  pub says : SayInTurn true before events e.begins
+  pub says : SayInTurn first_of_all before events e.standing
   pub told : List Told
   pub explained : HasExplained events told e
 
@@ -24,4 +25,5 @@ abbrev pub IsOfLines : ExplainFault → Type 0
 IsOfLines fault.Read = ⊥
 IsOfLines fault.Write = ⊥
 IsOfLines fault.InputTooLong = ⊥
+IsOfLines fault.NoCharacters = ⊥
 IsOfLines other = Unit {0}

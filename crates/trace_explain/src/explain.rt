@@ -1,8 +1,9 @@
 //! A whole trace.
-ghost use Rattle.std.specs.Prelude.{◌≡◌, ◌++◌, ◌∷◌, List, [], ℕ, true, false, IfErr, IfSome, OnOk};
+ghost use Rattle.std.specs.Prelude.{◌≡◌, ◌++◌, ◌∷◌, List, [], ℕ, false, IfErr, IfSome, OnOk};
 ghost use Rattle.std.specs.Str.Lines.{strip_carriage_return};
 ghost use Rattle.trace_explain.specs.Explained.{HasExplained};
-ghost use Rattle.trace_explain.specs.Trace.{IsExplained, KeepsLimit, StopsIn, lines_of};
+ghost use Rattle.trace_explain.specs.Lines.{first_of_all};
+ghost use Rattle.trace_explain.specs.Trace.{IsExplained, IsWhole, KeepsLimit, StopsIn, lines_of};
 ghost use Rattle.trace_explain.specs.UnderWay.{HasCome, IsOfLines};
 
 use crate::explain_fault::ExplainFault;
@@ -29,7 +30,7 @@ pub fn explain<R: Read, W: Write>(
     writer: &mut W,
 ) -> Result<(), ExplainFault>
     ensures explained { resumes ≡ false →
-        OnOk result (IfSome (R.remaining reader.old) (λ bytes. IsExplained (lines_of bytes))) }
+        OnOk result (IfSome (R.remaining reader.old) (λ bytes. IsWhole (lines_of bytes))) }
     ensures stops { resumes ≡ false → IfErr result (λ fault.
         IfSome (R.remaining reader.old) (λ bytes. StopsIn (lines_of bytes) fault)) }
     ensures limited { IfSome (R.remaining reader.old) (λ bytes. KeepsLimit bytes result) }
@@ -52,10 +53,11 @@ fn explain_chunks<R: Read, W: Write>(
     writer: &mut W,
     text: &mut String,
 ) -> Result<(), ExplainFault>
-    ensures explained { HasExplained [] [] explainer.old → explainer.old.begins ≡ true →
+    ensures explained { HasExplained [] [] explainer.old → explainer.old.standing ≡ first_of_all →
         explainer.old.line ≡ 0 →
-        OnOk result (IfSome (R.remaining reader.old) (λ bytes. IsExplained (lines_of bytes))) }
-    ensures stops { HasExplained [] [] explainer.old → explainer.old.begins ≡ true →
+        OnOk result (IfSome (R.remaining reader.old) (λ bytes.
+        IsExplained (lines_of bytes) explainer.new.standing)) }
+    ensures stops { HasExplained [] [] explainer.old → explainer.old.standing ≡ first_of_all →
         explainer.old.line ≡ 0 →
         IfErr result (λ fault.
         IfSome (R.remaining reader.old) (λ bytes. StopsIn (lines_of bytes) fault)) }
@@ -122,7 +124,7 @@ fn explain_last(
     text: &mut String,
 ) -> Result<(), ExplainFault>
     ensures explained { (all : List (List ℕ)) → HasCome all line.now [] explainer.old →
-        OnOk result (IsExplained all) }
+        OnOk result (IsExplained all explainer.new.standing) }
     ensures stops { (all : List (List ℕ)) → HasCome all line.now [] explainer.old →
         IfErr result (StopsIn all) }
     ensures of_lines { IfErr result IsOfLines }

@@ -20,6 +20,9 @@ pub enum ExplainFault {
     /// There are such characters, after which the explanation went on.
     #[error("{first} (complaints: {complaints})")]
     Resumed { complaints: u64, first: Complaint },
+    /// The trace came to its end, and no line has a character of either end.
+    #[error("no characters heard")]
+    NoCharacters,
     /// The reader failed; what came before was explained.
     #[error("read fault")]
     Read,

@@ -5,9 +5,9 @@ ghost use Rattle.t0_core.specs.Character.{sent_by};
 ghost use Rattle.t0_core.specs.History.{Event, Reset, passed};
 ghost use Rattle.t0_core.specs.TapSide.{due_at};
 ghost use Rattle.trace_explain.specs.Explained.{HasExplained, ExplainsMore, ExplainsLine, StopsRightly, StopsAtLine, Stopped, KeepsAll, next_line};
-ghost use Rattle.trace_explain.specs.Trace.{IsResumed};
+ghost use Rattle.trace_explain.specs.Trace.{IsOfEnd};
 ghost use Rattle.trace_explain.specs.UnderWay.{IsOfLines};
-ghost use Rattle.trace_explain.specs.Lines.{heard_in, begins_after, is_card};
+ghost use Rattle.trace_explain.specs.Lines.{heard_in, after_characters, first_of_all, is_card};
 ghost use Rattle.trace_explain.specs.Told.{Told};
 
 use crate::complaint::{Complaint, due_text, end_text};
@@ -18,6 +18,7 @@ use crate::listener::{Listener, Stop};
 use crate::meaning::push_meaning;
 use crate::phrases;
 use crate::refusal::Refusal;
+use crate::standing::Standing;
 use crate::story::{Story, brought, header_of, sent, status_of};
 use crate::tpdu::Tpdu;
 use crate::trace_line::{BadLine, TraceLine, read_line};
@@ -38,7 +39,7 @@ pub struct Explainer {
     layout: Layout,
     resumes: bool,
     passes_over: bool,
-    begins: bool,
+    standing: Standing,
     line: u64,
     began: u64,
     listener: Listener,
@@ -64,7 +65,7 @@ impl Explainer {
     /// does.
     pub fn new(alloc: Global, layout: Layout, resumes: bool) -> Explainer
         ensures explained { resumes ≡ false → HasExplained [] [] result }
-        ensures begins { result.begins ≡ true }
+        ensures standing { result.standing ≡ first_of_all }
         ensures line { result.line ≡ 0 }
     {
         Explainer {
@@ -72,7 +73,7 @@ impl Explainer {
             layout,
             resumes,
             passes_over: false,
-            begins: true,
+            standing: Standing::FIRST,
             line: 0,
             began: 0,
             listener: Listener::new(alloc),
@@ -130,8 +131,8 @@ impl Explainer {
     fn characters(&mut self, from: End, bytes: &[u8], out: &mut String) -> Result<(), ExplainFault>
         ensures explained { (events : List Event) (before : List Told) →
             HasExplained events before self.old →
-            OnOk result (ExplainsMore (heard_in self.old.begins from bytes.now)
-            (begins_after self.old.begins from bytes.now) events before self.new) }
+            OnOk result (ExplainsMore (heard_in self.old.standing.begins from bytes.now)
+            (after_characters self.old.standing from bytes.now) events before self.new) }
         ensures stops { (events : List Event) (before : List Told) →
             HasExplained events before self.old →
             IfErr result (λ fault.
@@ -142,8 +143,8 @@ impl Explainer {
         if self.is_passed_over(from, bytes) {
             return Ok(());
         }
-        let is_before = is_before_header(self.begins, from);
-        self.begins = begins_after(self.begins, from, bytes);
+        let is_before = is_before_header(self.standing.begins, from);
+        self.standing = self.standing.after(from, bytes);
         if is_before {
             self.before_header(bytes, out)?;
             return Ok(());
@@ -171,7 +172,7 @@ impl Explainer {
     fn hear(&mut self, from: End, bytes: &[u8], out: &mut String) -> Result<(), ExplainFault>
         ensures explained { (events : List Event) (before : List Told) →
             HasExplained events before self.old →
-            OnOk result (ExplainsMore (passed (sent_by from bytes.now)) self.old.begins events
+            OnOk result (ExplainsMore (passed (sent_by from bytes.now)) self.old.standing events
             before self.new) }
         ensures stops { (events : List Event) (before : List Told) →
             HasExplained events before self.old →
@@ -338,13 +339,16 @@ impl Explainer {
     fn reset(&mut self, out: &mut String) -> Result<(), AllocError>
         ensures explained { (events : List Event) (before : List Told) →
             HasExplained events before self.old →
-            OnOk result (ExplainsMore (Reset ∷ []) true events before self.new) }
+            OnOk result (ExplainsMore (Reset ∷ []) (record {
+              begins = true;
+              came = self.old.standing.came;
+            }) events before self.new) }
         ensures counts { OnOk result (self.new.line ≡ self.old.line) }
     {
         self.tell_passed(out)?;
         self.passed = None;
         self.passes_over = false;
-        self.begins = true;
+        self.standing = self.standing.after_reset();
         self.cut_off(out)?;
         let drops = self.story.reset();
         let note = if drops {
@@ -361,7 +365,7 @@ impl Explainer {
         ensures cut_off { (events : List Event) (before : List Told) →
             HasExplained events before self.old →
             OnOk result (HasExplained (events ++ Reset ∷ []) before self.new) }
-        ensures keeps { OnOk result ((self.new.begins ≡ self.old.begins)
+        ensures keeps { OnOk result ((self.new.standing ≡ self.old.standing)
             × (self.new.resumes ≡ self.old.resumes)
             × (self.new.line ≡ self.old.line)) }
     {
@@ -386,12 +390,14 @@ impl Explainer {
         self.layout.note(out, text.as_str())
     }
 
-    /// Whether all of it was a dialogue.
+    /// Whether all of it was a dialogue, in which some character came.
     pub fn outcome(&self) -> Result<(), ExplainFault>
-        ensures { IfErr result IsResumed }
+        ensures came { OnOk result (self.now.standing.came ≡ true) }
+        ensures ended { IfErr result (λ fault. IsOfEnd fault self.now.standing.came) }
     {
         match self.first {
-            None => Ok(()),
+            None if self.standing.came => Ok(()),
+            None => Err(ExplainFault::NoCharacters),
             Some(complaint) => Err(ExplainFault::Resumed {
                 complaints: self.complaints,
                 first: complaint,
@@ -400,7 +406,9 @@ impl Explainer {
     }
 
     /// Explains what is under way where the trace ends.
-    pub fn end(&mut self, out: &mut String) -> Result<(), AllocError> {
+    pub fn end(&mut self, out: &mut String) -> Result<(), AllocError>
+        ensures { OnOk result (self.new.standing ≡ self.old.standing) }
+    {
         self.tell_passed(out)?;
         self.cut_off(out)?;
         self.layout.end(out)
@@ -517,16 +525,6 @@ fn is_before_header(begins: bool, from: End) -> bool
 {
     match from {
         End::Terminal => false,
-        End::Card => begins,
-    }
-}
-
-/// Whether no character of the terminal has come after these either.
-fn begins_after(begins: bool, from: End, bytes: &[u8]) -> bool
-    ensures { result ≡ begins_after begins from bytes.now }
-{
-    match from {
-        End::Terminal => begins && bytes.is_empty(),
         End::Card => begins,
     }
 }

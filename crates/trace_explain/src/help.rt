@@ -33,6 +33,7 @@ which it takes for a header: that may be the character's own line. It tells whic
 over.
 
 A TPDU that a reset or the end of the trace has cut off is told as far as it came, and is no fault.
+A trace in which no line has a character of either end, as an empty one, is a fault.
 
 The exit status is 0 where the trace came to its end as dialogues, 1 after a fault or where no
 dialogue that it reads goes on with a character, and 2 where the words of the command line are

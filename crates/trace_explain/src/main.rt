@@ -21,6 +21,7 @@ mod parts;
 mod phrases;
 mod refusal;
 mod response;
+mod standing;
 mod statuses;
 mod story;
 mod tally;

@@ -1,6 +1,20 @@
-use Rattle.trace_explain.proofs.TraceLemmas.{resumed_stops}
+use Rattle.trace_explain.proofs.TraceLemmas.{ended_stops, ended_well, kept_to_end}
 use Rattle.trace_explain.proofs.explain.explain.Goals as goal
 
 pub returns-clause-stops : goal.returns-clause-stops
 returns-clause-stops g c = λ kept.
-    resumed_stops c.outcome.result (g.R.Read.remaining c.args.reader.now) c.outcome.ensures
+    let known = g.R.Read.remaining c.args.reader.now in
+    ended_stops c.outcome.result known c.end.new.self.standing c.outcome.ensures.ended
+    (kept_to_end known c.explain_chunks-outcome.new.explainer.standing c.end.new.self.standing
+    c.in_ok-end.ensures
+    (c.in_ok-outcome.ensures.explained (c.new-explainer.ensures.explained kept)
+    c.new-explainer.ensures.standing c.new-explainer.ensures.line))
+
+pub returns-clause-explained : goal.returns-clause-explained
+returns-clause-explained g c = λ kept.
+    let known = g.R.Read.remaining c.args.reader.now in
+    ended_well c.outcome.result known c.end.new.self.standing c.outcome.ensures.came
+    (kept_to_end known c.explain_chunks-outcome.new.explainer.standing c.end.new.self.standing
+    c.in_ok-end.ensures
+    (c.in_ok-outcome.ensures.explained (c.new-explainer.ensures.explained kept)
+    c.new-explainer.ensures.standing c.new-explainer.ensures.line))

@@ -23,7 +23,7 @@ returns-in-Ok-eq0-clause-explained g c = λ fresh begins first.
     let room : 0 < length c.read.new.buf = omega (arith, c.read.auto.buf) in
     let zero_is : c.in-Ok-eq0.field-0 ≡ 0 = c.in-Ok-eq0.field-0-test in
     known_explained c.explain_last.result (g.R.Read.remaining c.args.reader.now)
-    c.as_slice.result.now c.reading.explainer
+    c.as_slice.result.now c.reading.explainer c.explain_last.new.explainer.standing
     (none_comes _ _ _ c.in-Ok-eq0.field-0 c.read.new.buf c.reading.line.items c.as_slice.result.now
     c.reading.explainer zero_is c.as_slice.ensures.value
     (c.reading.invariant.0 fresh begins first) c.in-Ok-eq0.ensures.bytes room)

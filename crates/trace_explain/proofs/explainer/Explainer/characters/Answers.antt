@@ -1,7 +1,7 @@
 use Rattle.std.proofs.Common.{◌∙◌, ◌&&◌, sym, ap, subst}
 use Rattle.trace_explain.specs.declared.explainer.Explainer.{Explainer}
 use Rattle.trace_explain.specs.Explained.{HasExplained}
-use Rattle.trace_explain.specs.Lines.{begins_after, is_card}
+use Rattle.trace_explain.specs.Lines.{after_characters, is_card}
 use Rattle.trace_explain.proofs.ExplainedLemmas.{explains_before}
 use Rattle.trace_explain.proofs.explainer.Explainer.characters.Goals as goal
 
@@ -10,9 +10,9 @@ returns-then-is_before-clause-explained c = λ events before h.
     let same = (c.is_passed_over.ensures.none h.passes_over).1 in
     let P : Explainer → Type 0 = λ e. HasExplained events before e in
     let still = subst P (sym same) h in
-    explains_before c.args.self.now.begins c.args.from c.args.bytes.now events before _
-    (ap (λ (e : Explainer). e.begins && is_card c.args.from) (sym same)
+    explains_before c.args.self.now.standing c.args.from c.args.bytes.now events before _
+    (ap (λ (e : Explainer). e.standing.begins && is_card c.args.from) (sym same)
     ∙ sym c.is_before_header-is_before.ensures ∙ c.if-is_before.true)
     (record { noted = still.noted; resumes = still.resumes; passes_over = still.passes_over })
-    (c.begins_after-self.ensures
-    ∙ ap (λ (e : Explainer). begins_after e.begins c.args.from c.args.bytes.now) same)
+    (c.after-self.ensures
+    ∙ ap (λ (e : Explainer). after_characters e.standing c.args.from c.args.bytes.now) same)

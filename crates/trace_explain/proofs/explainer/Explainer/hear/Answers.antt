@@ -18,7 +18,7 @@ returns-in-Ok-clause-explained c = λ events before h.
     (noted_none events before c.new-told.result.items c.args.self.now.listener
     c.note_beginning.new.self.listener c.new-told.ensures.items kept.listener h.noted))
     told.listener (told.resumes ∙ kept.resumes) (told.passes_over ∙ kept.passes_over)
-    (told.begins ∙ kept.begins)
+    (told.standing ∙ kept.standing)
 
 pub returns-clause-stops : goal.returns-clause-stops
 returns-clause-stops c = λ events before h.

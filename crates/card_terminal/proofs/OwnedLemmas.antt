@@ -1,15 +1,22 @@
 -- An exchange that is put aside and made again.
-use Rattle.std.proofs.Common.{◌≡◌, ℕ, List, refl, sym, subst, ap, ◌∙◌, Some, None}
+use Rattle.std.proofs.Common.{◌≡◌, ℕ, ◌≤◌, ◌+◌, ◌*◌, List, refl, sym, subst, ap, ◌∙◌, Some, None, Bool, true, false, if◌then◌else◌, arith}
 use Rattle.apdu_core.specs.StatusWord.{StatusWord}
-use Rattle.t0_core.specs.declared.host_end.HostTurn.TheVariants.{Done}
+use Rattle.t0_core.specs.declared.end.End.TheVariants.{Terminal}
+use Rattle.t0_core.specs.declared.host_end.HostTurn.{HostTurn}
+use Rattle.t0_core.specs.declared.host_end.HostTurn.TheVariants.{Sends, Done, Failed}
+use Rattle.t0_core.specs.declared.host_mark.HostMark.{HostMark}
+use Rattle.t0_core.specs.Front.{Front, GoesOn}
 use Rattle.t0_core.specs.Room.{Room}
-use Rattle.t0_core.specs.HostMark.{HasOnly}
+use Rattle.t0_core.specs.HostSide.{Hosting, HostStandsAt, IsRequest, at_stage, turn_of, after_turn}
+use Rattle.t0_core.specs.HostMark.{HasOnly, with_data}
 use Rattle.card_terminal.specs.declared.exchange.kept.Kept.{Kept}
+use Rattle.card_terminal.specs.Attempts.{most_begun, one_more}
 use Rattle.card_terminal.specs.Gathered.{Gathers}
-use Rattle.card_terminal.specs.ExchangeSide.{ExchangeOf, exchange_turn}
-use Rattle.card_terminal.specs.ExchangeSteps.{IsAnswer}
-use Rattle.card_terminal.specs.OwnedExchange.{exchange_of}
-use Rattle.card_terminal.proofs.ComesToLemmas.{end_leads}
+use Rattle.card_terminal.specs.ExchangeSide.{ExchangeOf, IsKept, exchange_turn}
+use Rattle.card_terminal.specs.ExchangeSteps.{IsTurn, IsAnswer}
+use Rattle.card_terminal.specs.OwnedExchange.{exchange_of, of_parts}
+use Rattle.card_terminal.proofs.ExchangeLemmas.{sends_further, with_host}
+use Rattle.card_terminal.proofs.ComesToLemmas.{end_leads, next_leads}
 
 pub made_again : (kept : Kept) (room gather : Room) (bytes content : List ℕ) (made ex : ExchangeOf)
     → made ≡ exchange_of kept room bytes → room ≡ gather → bytes ≡ content
@@ -44,3 +51,54 @@ answers ex status bytes turn same = record {
   led = λ c came leads. let end = end_leads c came ex status turn leads in
       (end.0, subst (λ (bs : List ℕ). Gathers c end.0 bs status) (sym same) end.1, end.2);
 }
+
+pub same_sent : (a b : ℕ) → Sends a ≡ Sends b → a ≡ b
+same_sent a b e = cc
+
+-- the exchange of these parts, whose end was made again over its data
+pub same_parts : (kept : Kept) (gather : Room) (content : List ℕ) (host : Hosting) (ex : ExchangeOf)
+    → host ≡ with_data kept.mark content → exchange_of kept gather content ≡ ex
+    → of_parts host gather kept.attempt kept.wanted kept.stalled ≡ ex
+same_parts kept gather content host ex is view =
+    ap (λ (h : Hosting). of_parts h gather kept.attempt kept.wanted kept.stalled) is ∙ view
+
+pub end_has_only : (mark : HostMark) (content : List ℕ) (host : Hosting)
+    → host ≡ with_data mark content → HasOnly content host
+end_has_only mark content host is =
+    subst (λ (h : Hosting). HasOnly content h) (sym is) refl
+
+-- the bound on its TPDUs
+begun_within : (fetches repeats : Bool) (before number bytes : ℕ) → before ≤ bytes
+    → number ≤ most_begun fetches before + one_more repeats → number ≤ 2 * (bytes + 2)
+begun_within false false before number bytes begun most = omega (arith, begun, most)
+begun_within false true before number bytes begun most = omega (arith, begun, most)
+begun_within true false before number bytes begun most = omega (arith, begun, most)
+begun_within true true before number bytes begun most = omega (arith, begun, most)
+
+-- a turn of its end is one of the exchange
+pub turned : (ex : ExchangeOf) (turn : HostTurn) (host : Hosting) → IsKept ex
+    → ex.stalled ≡ false → turn ≡ turn_of ex.host → host ≡ at_stage ex.host (after_turn ex.host)
+    → IsRequest host → (((byte : ℕ) → turn ≡ Sends byte → ⊥) → host ≡ ex.host)
+    → ((front : Front) (byte : ℕ) → HostStandsAt ex.host front → turn ≡ Sends byte
+    → (new : Front) × GoesOn front (Terminal, byte) new × HostStandsAt host new)
+    → IsTurn ex turn (with_host ex host ex.gather)
+turned ex turn host kept going is after request stays goes_on =
+    let does : turn ≡ exchange_turn ex =
+    is ∙ sym (ap (λ b. if b then Failed else turn_of ex.host) going) in
+    record {
+      turn_is = does;
+      stays = λ none. ap (λ (h : Hosting). with_host ex h ex.gather) (stays none);
+      bounds = record {
+        fits = kept.fits;
+        tpdus = begun_within ex.attempt.fetches ex.attempt.repeats ex.attempt.before
+            ex.attempt.number _ kept.counted.begun kept.counted.number;
+      };
+      goes_on = λ c units first front byte under sends.
+          sends_further c ex host units first front byte under after request
+          (goes_on front byte under.stands sends);
+      led = λ c came byte leads sends.
+          next_leads c came ex (with_host ex host ex.gather) byte (sym does ∙ sends)
+          (λ units first front under.
+          sends_further c ex host units first front byte under after request
+          (goes_on front byte under.stands sends)) leads;
+    }

@@ -1,11 +1,25 @@
--- An exchange as what is kept of it, with the room and the data of its command.
-use Rattle.std.specs.Prelude.{ℕ, List}
+-- An exchange by its parts, and as what is kept of it, with the room and the data of its command.
+use Rattle.std.specs.Prelude.{ℕ, List, Bool}
 use Rattle.t0_core.specs.HostMark.{with_data}
 use Rattle.t0_core.specs.Room.{Room}
-use Rattle.t0_core.specs.HostSide.{IsInRange}
+use Rattle.t0_core.specs.HostSide.{Hosting, IsInRange}
 use Rattle.card_terminal.specs.declared.exchange.kept.Kept.{Kept}
+use Rattle.card_terminal.specs.declared.attempt.Attempt.{Attempt}
+use Rattle.card_terminal.specs.declared.wanted.Wanted.{Wanted}
 use Rattle.card_terminal.specs.ExchangeSide.{ExchangeOf, IsKept}
 
+-- the exchange that has these parts
+abbrev pub of_parts : Hosting → Room → Attempt → Wanted → Bool → ExchangeOf
+of_parts host gather attempt wanted stalled =
+    record {
+      host = host;
+      gather = gather;
+      attempt = attempt;
+      wanted = wanted;
+      stalled = stalled;
+    }
+
+-- the exchange of what is kept, in this room and over these data
 abbrev pub exchange_of : Kept → Room → List ℕ → ExchangeOf
 exchange_of kept gather content =
     record {

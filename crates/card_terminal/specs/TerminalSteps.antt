@@ -11,7 +11,7 @@ use Rattle.t0_core.specs.declared.answer_fault.AnswerFault.{AnswerFault}
 use Rattle.t0_core.specs.declared.answer_fault.AnswerFault.TheVariants as answer
 use Rattle.t0_core.specs.Character.{Character}
 use Rattle.t0_core.specs.Dialogue.{Dialogue, characters}
-use Rattle.t0_core.specs.HostSide.{fault_of}
+use Rattle.t0_core.specs.HostSide.{fault_of, data_due}
 use Rattle.t0_core.specs.HostAnswer.{is_due, answer_fault, fails_with, Gives}
 use Rattle.card_terminal.specs.declared.terminal.begin_fault.BeginFault.{BeginFault}
 use Rattle.card_terminal.specs.declared.terminal.begin_fault.BeginFault.TheVariants.{OutOfMemory, UnderWay}
@@ -45,6 +45,11 @@ pub record IsTerminalTurn (old : Option OperationOf) (turn : Option HostTurn)
   pub led : (commands : List Command) (came : List Character) (byte : ℕ)
       → LeadsTo commands came old → turn ≡ Some (Sends byte)
       → LeadsTo commands (came ++ (Terminal, byte) ∷ []) new
+
+-- the data character that the terminal sends now, if one is due
+abbrev pub terminal_data : Option OperationOf → Option ℕ
+terminal_data None = None
+terminal_data (Some o) = data_due o.exchange.host
 
 -- the fault that a character of the card is, if any; where no operation has begun it is after the
 -- end

@@ -13,9 +13,10 @@ ghost use Rattle.card_terminal.specs.ExchangeSide.{HostOpensBy, asks_card};
 mod detached;
 mod kept;
 mod owned;
+mod taking;
 
 use crate::answer::Answer;
-use crate::attempt::{Attempt, Next};
+use crate::attempt::Attempt;
 use crate::wanted::Wanted;
 use apdu_core::{Command, Header, Status};
 pub(crate) use detached::Detached;
@@ -23,6 +24,7 @@ pub use owned::OwnedExchange;
 use std::alloc::{AllocError, Allocator, Global};
 use std::marker::Model;
 use t0_core::{AnswerFault, Gather, HostEnd, HostTurn, LineFault, WholeTpdu};
+use taking::taken_by;
 
 /// The most bytes of a response that a terminal gathers (this project's profile).
 pub const RESPONSE_LIMIT: usize = 16_384;
@@ -222,26 +224,14 @@ impl<'a, A: Allocator> Exchange<'a, A> {
             (λ _. ComesTo c (came ++ (Card, byte) ∷ []) self.new)
             (λ fault. is_final fault ≡ true → ComesTo c (came ++ (Card, byte) ∷ []) self.new) }
     {
-        self.end.take(byte, &mut self.gather)?;
-        let Some(status) = self.end.status() else {
-            return Ok(());
-        };
-        let gathered = self.gather.bytes().len();
-        match self
-            .attempt
-            .followed(gathered, self.wanted.less(gathered), status)
-        {
-            Next::Asks { attempt, count } => {
-                self.end = HostEnd::asking(attempt.header, count);
-                self.attempt = attempt;
-                Ok(())
-            }
-            Next::Stalls => {
-                self.stalled = true;
-                Err(LineFault::Stalled)
-            }
-            Next::Ends => Ok(()),
-        }
+        taken_by(
+            &mut self.end,
+            &mut self.gather,
+            &mut self.attempt,
+            self.wanted,
+            &mut self.stalled,
+            byte,
+        )
     }
 
     /// The whole TPDU that is due, for a transport of whole TPDUs, where none of its characters has

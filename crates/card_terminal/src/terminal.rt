@@ -5,7 +5,7 @@ ghost use Rattle.apdu_core.specs.CommandBytes as spec;
 ghost use Rattle.object_card.specs.OneStep.{Select, Get, Put};
 ghost use Rattle.card_terminal.specs.Talk.{AreCommandsOf};
 ghost use Rattle.card_terminal.specs.TerminalSide.{OperationOf, is_going};
-ghost use Rattle.card_terminal.specs.TerminalSteps.{IsBeginning, IsTerminalTurn, IsTerminalTaking, IsTerminalAnswering, IsTerminalAnswer, is_tpdu_due};
+ghost use Rattle.card_terminal.specs.TerminalSteps.{IsBeginning, IsTerminalTurn, IsTerminalTaking, IsTerminalAnswering, IsTerminalAnswer, is_tpdu_due, terminal_data};
 ghost use Rattle.t0_core.specs.HostAnswer.{may_come};
 
 mod begin_fault;
@@ -113,6 +113,7 @@ impl<A: Allocator + Copy> Terminal<A> {
     /// What the terminal does now, as `Exchange::next`; `None` where no operation has begun. A
     /// character to send is handed out; nothing else changes anything. It is `Done` with the status
     /// of the last command once the operation is over, and `Failed` after a line fault.
+    #[inline(always)]
     pub fn next(&mut self) -> Option<HostTurn>
         ensures { IsTerminalTurn self.old result self.new }
     {
@@ -122,12 +123,29 @@ impl<A: Allocator + Copy> Terminal<A> {
         }
     }
 
+    /// Hands out a character of the operation's data, if one is due, as `next` does; else nothing
+    /// changes. A loop over it behind each `take` passes what a procedure byte has asked for, and
+    /// asks before none of it whose turn it is.
+    #[inline(always)]
+    pub fn next_data(&mut self) -> Option<u8>
+        ensures due { result ≡ terminal_data self.old }
+        ensures turn { (byte : ℕ) → result ≡ Some byte
+            → IsTerminalTurn self.old (Some (HostTurn.Sends byte)) self.new }
+        ensures stays { result ≡ None → self.new ≡ self.old }
+    {
+        match &mut self.operation {
+            None => None,
+            Some(operation) => operation.next_data(),
+        }
+    }
+
     /// Takes a character of the card, as `Exchange::take`. With the status `9000` of a piece of a
     /// put the next is begun, if one follows.
     ///
     /// The faults are those of `Exchange::take`. `BadProcedure`, `TooLong` and `Stalled` end the
     /// operation. `AfterEnd` comes where it is over or has failed, or none has begun, and
     /// `NotListening` where it has characters to send: these change nothing.
+    #[inline(always)]
     pub fn take(&mut self, byte: u8) -> Result<(), LineFault>
         ensures { IsTerminalTaking self.old byte result self.new }
     {

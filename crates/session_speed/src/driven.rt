@@ -10,6 +10,9 @@ use t0_core::{CardEnd, HostTurn, Plans, Turn};
 /// More characters than any operation here has.
 const CHARACTERS: usize = 20_000;
 
+/// The most data that a TPDU sends.
+const DATA: usize = 255;
+
 /// A terminal, and the card's end of its line.
 #[derive(Drop)]
 pub struct Driven {
@@ -52,21 +55,39 @@ impl Driven {
         let mut plans = Plans::<Global>::over(&[]);
         for _ in 0..CHARACTERS {
             match self.terminal.next() {
-                Some(HostTurn::Sends(byte)) => {
-                    self.end
-                        .take(byte)
-                        .ok()
-                        .context("the card does not listen")?;
-                }
+                Some(HostTurn::Sends(byte)) => self.hand_on(byte)?,
                 Some(HostTurn::Listens) => {
                     let Turn::Sends(byte) = self.end.turn(&mut plans) else {
                         anyhow::bail!("both ends wait");
                     };
                     self.terminal.take(byte)?;
+                    self.pass_data()?;
                 }
                 _ => break,
             }
         }
+        Ok(())
+    }
+
+    /// Passes the data that the terminal has to send now.
+    #[inline(always)]
+    fn pass_data(&mut self) -> anyhow::Result<()> {
+        for _ in 0..DATA {
+            let Some(byte) = self.terminal.next_data() else {
+                break;
+            };
+            self.hand_on(byte)?;
+        }
+        Ok(())
+    }
+
+    /// Hands a character of the terminal to the card.
+    #[inline(always)]
+    fn hand_on(&mut self, byte: u8) -> anyhow::Result<()> {
+        self.end
+            .take(byte)
+            .ok()
+            .context("the card does not listen")?;
         Ok(())
     }
 

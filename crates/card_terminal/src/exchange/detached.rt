@@ -1,8 +1,9 @@
 //! An exchange without its command's data, which each call is given.
-ghost use Rattle.std.specs.Prelude.{◌≡◌, ℕ, List, [], None, IfOk, IfSome, is_some};
+ghost use Rattle.std.specs.Prelude.{◌≡◌, ℕ, List, [], None, Some, IfOk, IfSome, is_some};
 ghost use Rattle.std.specs.Option.{option_map};
 ghost use Rattle.apdu_core.specs.StatusWord.{StatusWord};
 ghost use Rattle.t0_core.specs.Front.{fresh};
+ghost use Rattle.t0_core.specs.HostSide.{data_due};
 ghost use Rattle.t0_core.specs.HostMark.{HasOnly};
 ghost use Rattle.t0_core.specs.HostAnswer.{is_due, may_come};
 ghost use Rattle.card_terminal.specs.ExchangeSide.{UnderWay, exchange_turn, response_limit};
@@ -12,6 +13,7 @@ ghost use Rattle.card_terminal.specs.OwnedExchange.{exchange_of, over_data, IsSo
 
 use crate::exchange::Exchange;
 use crate::exchange::kept::Kept;
+use crate::exchange::taking::taken_by;
 use apdu_core::{Command, Status};
 use std::alloc::{AllocError, Allocator, Global};
 use std::marker::Model;
@@ -81,6 +83,7 @@ impl<A: Allocator + Copy> Detached<A> {
     }
 
     /// What the terminal does now, as `Exchange::next`.
+    #[inline(always)]
     pub fn next(&mut self, content: &[u8]) -> HostTurn
         requires { IsSound (over_data self.old content.now) }
         ensures turn { IsTurn (over_data self.old content.now) result
@@ -90,28 +93,55 @@ impl<A: Allocator + Copy> Detached<A> {
             → over_data self.new content.now ≡ over_data self.old content.now }
         ensures sound { IsSound (over_data self.new content.now) }
     {
-        let gather = mem::replace(&mut self.gather, Gather::without_room(self.alloc));
-        let mut exchange = resumed(self.kept, gather, content);
-        let turn = exchange.next();
-        let (kept, gather) = aside(exchange);
-        self.kept = kept;
-        self.gather = gather;
+        if self.kept.stalled {
+            return HostTurn::Failed;
+        }
+        let mut end = HostEnd::at(self.kept.mark, content);
+        let turn = end.next();
+        self.kept.mark = end.mark();
         turn
     }
 
+    /// Hands out a character of the command's data, if one is due, as `next` does; else nothing
+    /// changes.
+    #[inline(always)]
+    pub fn next_data(&mut self, content: &[u8]) -> Option<u8>
+        requires { IsSound (over_data self.old content.now) }
+        ensures due { result ≡ data_due (over_data self.old content.now).host }
+        ensures turn { (byte : ℕ) → result ≡ Some byte → IsTurn (over_data self.old content.now)
+            (HostTurn.Sends byte) (over_data self.new content.now) }
+        ensures over { (status : StatusWord)
+            → exchange_turn (over_data self.new content.now) ≡ HostTurn.Done status
+            → over_data self.new content.now ≡ over_data self.old content.now }
+        ensures stays { result ≡ None → self.new ≡ self.old }
+        ensures sound { IsSound (over_data self.new content.now) }
+    {
+        let mut end = HostEnd::at(self.kept.mark, content);
+        let Some(byte) = end.next_data() else {
+            return None;
+        };
+        self.kept.mark = end.mark();
+        Some(byte)
+    }
+
     /// Takes a character of the card, as `Exchange::take`.
+    #[inline(always)]
     pub fn take(&mut self, byte: u8, content: &[u8]) -> Result<(), LineFault>
         requires { IsSound (over_data self.old content.now) }
         ensures taking { IsTaking (over_data self.old content.now) byte result
             (over_data self.new content.now) }
         ensures sound { IsSound (over_data self.new content.now) }
     {
-        let gather = mem::replace(&mut self.gather, Gather::without_room(self.alloc));
-        let mut exchange = resumed(self.kept, gather, content);
-        let taken = exchange.take(byte);
-        let (kept, gather) = aside(exchange);
-        self.kept = kept;
-        self.gather = gather;
+        let mut end = HostEnd::at(self.kept.mark, content);
+        let taken = taken_by(
+            &mut end,
+            &mut self.gather,
+            &mut self.kept.attempt,
+            self.kept.wanted,
+            &mut self.kept.stalled,
+            byte,
+        );
+        self.kept.mark = end.mark();
         taken
     }
 

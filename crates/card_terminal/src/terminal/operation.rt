@@ -5,6 +5,7 @@ ghost use Rattle.apdu_core.specs.CommandBytes as spec;
 ghost use Rattle.object_card.specs.OneStep.{Put};
 ghost use Rattle.card_terminal.specs.Talk.{AreCommandsOf};
 ghost use Rattle.card_terminal.specs.ExchangeSide.{ExchangeOf, IsBounded, exchange_turn};
+ghost use Rattle.t0_core.specs.HostSide.{data_due};
 ghost use Rattle.t0_core.specs.HostAnswer.{is_due, may_come};
 ghost use Rattle.apdu_core.specs.StatusWord.{ok};
 ghost use Rattle.card_terminal.specs.ExchangeSteps.{IsTurn, IsTaking, IsAnswering, IsAnswer};
@@ -105,6 +106,7 @@ impl<A: Allocator + Copy> Operation<A> {
     }
 
     /// What the terminal does now, as `Exchange::next`.
+    #[inline(always)]
     pub fn next(&mut self) -> HostTurn
         ensures turn { IsTurn self.old.exchange result self.new.exchange }
         ensures rest { self.new ≡ with_exchange self.old self.new.exchange }
@@ -114,8 +116,23 @@ impl<A: Allocator + Copy> Operation<A> {
         self.exchange.next(&self.content[self.from..self.until])
     }
 
+    /// Hands out a character of the data, if one is due, as `next` does; else nothing changes.
+    #[inline(always)]
+    pub fn next_data(&mut self) -> Option<u8>
+        ensures due { result ≡ data_due self.old.exchange.host }
+        ensures turn { (byte : ℕ) → result ≡ Some byte
+            → IsTurn self.old.exchange (HostTurn.Sends byte) self.new.exchange }
+        ensures rest { self.new ≡ with_exchange self.old self.new.exchange }
+        ensures settled { IsSettled self.old → IsSettled self.new }
+        ensures stays { result ≡ None → self.new ≡ self.old }
+    {
+        self.exchange
+            .next_data(&self.content[self.from..self.until])
+    }
+
     /// Takes a character of the card, as `Exchange::take`. With a status `9000` the next piece of a
     /// put is begun, if one follows.
+    #[inline(always)]
     pub fn take(&mut self, byte: u8) -> Result<(), LineFault>
         ensures { (ex : ExchangeOf) × IsTaking self.old.exchange byte result ex
             × GoesOver (with_exchange self.old ex) self.new }
@@ -154,6 +171,7 @@ impl<A: Allocator + Copy> Operation<A> {
 
     /// Begins the exchange of the next piece of a put, where the last was answered `9000` and one
     /// follows.
+    #[inline(always)]
     fn go_on(&mut self)
         ensures { GoesOver self.old self.new }
     {

@@ -1,217 +1,34 @@
-use Rattle.std.proofs.Common.{inl, inr, ℕ, arith, length-append, refl, ap, ◌∙◌, length, sym, Some}
-use Rattle.std.specs.List.{flat_map}
-use Rattle.t0_core.specs.declared.end.End.TheVariants.{Card}
-use Rattle.t0_core.specs.Meaning.{received}
-use Rattle.t0_core.specs.Room.{Room}
-use Rattle.t0_core.specs.HostSide.{Hosting, fault_of}
-use Rattle.t0_core.specs.HostLaws.{going, too_long}
-use Rattle.card_terminal.specs.ExchangeSide.{ExchangeOf, so_far}
-use Rattle.card_terminal.proofs.EndLemmas.{at_end, follows_as, asks_next, ends_over, ends_stalled, same_status}
-use Rattle.card_terminal.proofs.ExchangeLemmas.{goes_further, seen_under_way}
-use Rattle.std.proofs.lemmas.Result.{err_from_is_err_and}
-use Rattle.t0_core.specs.declared.line_fault.LineFault.TheVariants.{AfterEnd}
-use Rattle.card_terminal.proofs.ComesToLemmas.{take_leads, stall_leads, fault_leads, at_end_fault, none_is_no_fault, final_is_no_end, some_fault, failed_turn, broken, full_room}
+use Rattle.std.proofs.Common.{◌≡◌, ◌++◌, [], ◌∷◌, length, OnErr, sym, subst}
+use Rattle.t0_core.specs.Front.{brought}
+use Rattle.card_terminal.specs.ExchangeSide.{ExchangeOf, response_limit}
+use Rattle.card_terminal.specs.ExchangeHistory.{ComesTo}
+use Rattle.card_terminal.proofs.ExchangeLemmas.{seen_under_way}
 use Rattle.card_terminal.proofs.exchange.Exchange.take.Goals as goal
 
-pub returns-in_default-clause-goes_on : goal.returns-in_default-clause-goes_on
-returns-in_default-clause-goes_on g c = λ command units first front new seen goes.
-    let under = seen_under_way command _ _ units first front c.self.view_is seen in
-    let stands = c.in_ok-take.ensures.goes_on front new under.stands goes in
-    let taken = c.in_ok-take.ensures.taken in
-    goes_further command _ c.take.new.self c.take.new.gather units first front new
-    (Card, c.args.byte)
-    (record {
-      header = ap (λ (h : Hosting). h.header) taken.0;
-      p3 = ap (λ (h : Hosting). h.p3) taken.0;
-      direction = ap (λ (h : Hosting). h.direction) taken.0;
-      content = ap (λ (h : Hosting). h.content) taken.0;
-    }) c.in_ok-take.ensures.keeps (ap (λ (r : Room). r.limit) taken.1) under goes stands
-    (c.in_ok-take.ensures.gathers front new (flat_map received (so_far units first)) under.stands
-    goes under.gathered)
+pub returns-clause-goes_on : goal.returns-clause-goes_on
+returns-clause-goes_on g c = λ command units first front new seen goes.
+    c.taken_by.ensures.goes_on command units first front new
+    (seen_under_way command _ _ units first front c.self.view_is seen) goes
 
-pub returns-in_default-clause-ends : goal.returns-in_default-clause-ends
-returns-in_default-clause-ends g c = λ command units first front d seen ends.
-    let under = seen_under_way command _ _ units first front c.self.view_is seen in
-    absurd (c.in_default.not-Some d.status
-    ((c.status.ensures d.status).1 (c.in_ok-take.ensures.done front d under.stands ends).0))
+pub returns-clause-full : goal.returns-clause-full
+returns-clause-full g c = λ command units first front new seen goes.
+    let P : ExchangeOf → Type 0 = λ ex. OnErr c.taken_by.result
+    ((length ex.gather.bytes ≡ response_limit) × (brought new ≡ brought front ++ c.args.byte ∷ []))
+    in
+    subst P c.self.view_is (c.taken_by.ensures.full command units first front new
+    (seen_under_way command _ _ units first front c.self.view_is seen) goes)
 
-pub invariant_of-self-in-Stalls : goal.invariant_of-self-in-Stalls
-invariant_of-self-in-Stalls g c =
-    let taken = c.in_ok-take.ensures.taken in
-    let bytes = ap (λ (r : Room). length r.bytes) taken.1 in
-    let limit = ap (λ (r : Room). r.limit) taken.1 in
-    record {
-      counted = record {
-        valid = c.self.invariant.counted.valid;
-        begun = omega (arith, bytes, length-append {A = ℕ}, c.self.invariant.counted.begun);
-        number = c.self.invariant.counted.number;
-      };
-      room = limit ∙ c.self.invariant.room;
-      fits = omega (
-        arith,
-        c.bytes-gathered.ensures.fits,
-        ap length c.bytes-gathered.ensures.value,
-        limit,
-        c.self.invariant.room,
-      );
-      stalled_at_end = λ _. (c.in-Some.status, (c.in-Some.ensures c.in-Some.status).0 refl);
-    }
+pub returns-clause-came : goal.returns-clause-came
+returns-clause-came g c = λ command units first front seen.
+    c.taken_by.ensures.came command units first front
+    (seen_under_way command _ _ units first front c.self.view_is seen)
 
-pub returns-in-Asks-clause-goes_on : goal.returns-in-Asks-clause-goes_on
-returns-in-Asks-clause-goes_on g c = λ command units first front new seen goes.
-    let under = seen_under_way command _ _ units first front c.self.view_is seen in
-    let stands = c.in_ok-take.ensures.goes_on front new under.stands goes in
-    absurd (going c.take.new.self new c.in-Some.status stands
-    ((c.in-Some.ensures c.in-Some.status).0 refl))
+pub returns-clause-ends : goal.returns-clause-ends
+returns-clause-ends g c = λ command units first front d seen ends.
+    c.taken_by.ensures.ends command units first front d
+    (seen_under_way command _ _ units first front c.self.view_is seen) ends
 
-pub returns-in-Asks-clause-ends : goal.returns-in-Asks-clause-ends
-returns-in-Asks-clause-ends g c = λ command units first front d seen ends.
-    let under = seen_under_way command _ _ units first front c.self.view_is seen in
-    let done = c.in_ok-take.ensures.done front d under.stands ends in
-    let end = at_end command _ units first front c.args.byte d under ends in
-    let status = same_status c.in-Some.status d.status ((c.in-Some.ensures d.status).1 done.0) in
-    let room = ap (λ (r : Room). length r.bytes) done.1 in
-    let number = ap length c.bytes-gathered.ensures.value ∙ room in
-    let follows = follows_as command _ units first front d under end _ _ c.in-Some.status _
-    c.in-Asks.ensures.value number c.less.ensures status in
-    asks_next command _ units first front d under end c.asking-self-inside.result
-    c.take.new.gather c.in-Asks.attempt c.in-Asks.count done.1 follows
-    (record {
-      header_is = c.asking-self-inside.ensures.header;
-      from_card = c.asking-self-inside.ensures.data.0;
-      counts = c.asking-self-inside.ensures.p3.0;
-      is_byte = c.asking-self-inside.ensures.p3.1;
-    }) c.asking-self-inside.ensures.stands c.asking-self-inside.ensures.keeps
-
-pub returns-in-Stalls-clause-goes_on : goal.returns-in-Stalls-clause-goes_on
-returns-in-Stalls-clause-goes_on g c = λ command units first front new seen goes.
-    let under = seen_under_way command _ _ units first front c.self.view_is seen in
-    let stands = c.in_ok-take.ensures.goes_on front new under.stands goes in
-    absurd (going c.take.new.self new c.in-Some.status stands
-    ((c.in-Some.ensures c.in-Some.status).0 refl))
-
-pub returns-in-Stalls-clause-ends : goal.returns-in-Stalls-clause-ends
-returns-in-Stalls-clause-ends g c = λ command units first front d seen ends.
-    let under = seen_under_way command _ _ units first front c.self.view_is seen in
-    let done = c.in_ok-take.ensures.done front d under.stands ends in
-    let end = at_end command _ units first front c.args.byte d under ends in
-    let status = same_status c.in-Some.status d.status ((c.in-Some.ensures d.status).1 done.0) in
-    let room = ap (λ (r : Room). length r.bytes) done.1 in
-    let number = ap length c.bytes-gathered.ensures.value ∙ room in
-    let follows = follows_as command _ units first front d under end _ _ c.in-Some.status _
-    c.in-Stalls.ensures.value number c.less.ensures status in
-    (refl, ends_stalled command _ units first front d under end follows)
-
-pub returns-in-Ends-clause-goes_on : goal.returns-in-Ends-clause-goes_on
-returns-in-Ends-clause-goes_on g c = λ command units first front new seen goes.
-    let under = seen_under_way command _ _ units first front c.self.view_is seen in
-    let stands = c.in_ok-take.ensures.goes_on front new under.stands goes in
-    absurd (going c.take.new.self new c.in-Some.status stands
-    ((c.in-Some.ensures c.in-Some.status).0 refl))
-
-pub returns-in-Ends-clause-ends : goal.returns-in-Ends-clause-ends
-returns-in-Ends-clause-ends g c = λ command units first front d seen ends.
-    let under = seen_under_way command _ _ units first front c.self.view_is seen in
-    let done = c.in_ok-take.ensures.done front d under.stands ends in
-    let end = at_end command _ units first front c.args.byte d under ends in
-    let status = same_status c.in-Some.status d.status ((c.in-Some.ensures d.status).1 done.0) in
-    let room = ap (λ (r : Room). length r.bytes) done.1 in
-    let number = ap length c.bytes-gathered.ensures.value ∙ room in
-    let follows = follows_as command _ units first front d under end _ _ c.in-Some.status _
-    c.in-Ends.ensures.value number c.less.ensures status in
-    ends_over command _ units first front d under end c.take.new.self c.take.new.gather done.1
-    follows done.0
-
-pub returns-in_default-clause-came : goal.returns-in_default-clause-came
-returns-in_default-clause-came g c = λ command units first front seen.
-    let under = seen_under_way command _ _ units first front c.self.view_is seen in
-    elim (c.in_ok-take.ensures.came front under.stands)
-    [ inl goes ↦ inl (goes.0, goes.1) | inr ends ↦ inr (ends.0, ends.1) ]
-
-pub returns-in-Asks-clause-came : goal.returns-in-Asks-clause-came
-returns-in-Asks-clause-came g c = λ command units first front seen.
-    let under = seen_under_way command _ _ units first front c.self.view_is seen in
-    elim (c.in_ok-take.ensures.came front under.stands)
-    [ inl goes ↦ inl (goes.0, goes.1) | inr ends ↦ inr (ends.0, ends.1) ]
-
-pub returns-in-Ends-clause-came : goal.returns-in-Ends-clause-came
-returns-in-Ends-clause-came g c = λ command units first front seen.
-    let under = seen_under_way command _ _ units first front c.self.view_is seen in
-    elim (c.in_ok-take.ensures.came front under.stands)
-    [ inl goes ↦ inl (goes.0, goes.1) | inr ends ↦ inr (ends.0, ends.1) ]
-
-pub returns-in_default-clause-led : goal.returns-in_default-clause-led
-returns-in_default-clause-led g c = λ command came leads.
-    take_leads command came c.args.self.now _ c.args.byte
-    (λ end. none_is_no_fault AfterEnd
-    (c.in_ok-take.ensures.fault
-    ∙ at_end_fault _ _ c.self.inside.gather c.args.byte c.self.view_is c.self.invariant end))
-    (returns-in_default-clause-goes_on g c command) (returns-in_default-clause-ends g c command)
-    (returns-in_default-clause-came g c command) leads
-
-pub returns-in-Asks-clause-led : goal.returns-in-Asks-clause-led
-returns-in-Asks-clause-led g c = λ command came leads.
-    take_leads command came c.args.self.now _ c.args.byte
-    (λ end. none_is_no_fault AfterEnd
-    (c.in_ok-take.ensures.fault
-    ∙ at_end_fault _ _ c.self.inside.gather c.args.byte c.self.view_is c.self.invariant end))
-    (returns-in-Asks-clause-goes_on g c command) (returns-in-Asks-clause-ends g c command)
-    (returns-in-Asks-clause-came g c command) leads
-
-pub returns-in-Ends-clause-led : goal.returns-in-Ends-clause-led
-returns-in-Ends-clause-led g c = λ command came leads.
-    take_leads command came c.args.self.now _ c.args.byte
-    (λ end. none_is_no_fault AfterEnd
-    (c.in_ok-take.ensures.fault
-    ∙ at_end_fault _ _ c.self.inside.gather c.args.byte c.self.view_is c.self.invariant end))
-    (returns-in-Ends-clause-goes_on g c command) (returns-in-Ends-clause-ends g c command)
-    (returns-in-Ends-clause-came g c command) leads
-
-pub returns-in-Stalls-clause-led : goal.returns-in-Stalls-clause-led
-returns-in-Stalls-clause-led g c = λ command came leads final.
-    stall_leads command came c.args.self.now _ c.args.byte
-    (λ end. none_is_no_fault AfterEnd
-    (c.in_ok-take.ensures.fault
-    ∙ at_end_fault _ _ c.self.inside.gather c.args.byte c.self.view_is c.self.invariant end))
-    refl
-    (λ units first front new seen goes.
-    let under = seen_under_way command _ _ units first front c.self.view_is seen in
-    going c.take.new.self new c.in-Some.status
-    (c.in_ok-take.ensures.goes_on front new under.stands goes)
-    ((c.in-Some.ensures c.in-Some.status).0 refl))
-    (λ units first front d seen ends.
-    (returns-in-Stalls-clause-ends g c command units first front d seen ends).1)
-    (λ units first front seen.
-    let under = seen_under_way command _ _ units first front c.self.view_is seen in
-    elim (c.in_ok-take.ensures.came front under.stands)
-    [ inl goes ↦ inl (goes.0, goes.1) | inr ends ↦ inr (ends.0, ends.1) ])
-    leads
-
-pub returns-in_err-take-clause-led : goal.returns-in_err-take-clause-led
-returns-in_err-take-clause-led g c = λ command came leads.
-    let p = err_from_is_err_and c.from_residual.result c.from_residual.ensures.1 in
-    rw (p.1, p.2) (λ final.
-    fault_leads command came c.args.self.now _ c.args.byte _
-    (λ end. final_is_no_end _ final
-    (some_fault _ AfterEnd (c.in_err-take.ensures.fault
-    ∙ at_end_fault _ _ c.self.inside.gather c.args.byte c.self.view_is c.self.invariant end)))
-    (ap (λ (e : ExchangeOf). fault_of e.host e.gather c.args.byte) (sym c.self.view_is)
-    ∙ sym c.in_err-take.ensures.fault) final
-    (failed_turn c.self.inside.stalled c.take.new.self
-    (broken c.self.inside.end c.take.new.self _ c.in_err-take.ensures.refused.0 final)) leads)
-
-pub returns-in-Stalls-clause-full : goal.returns-in-Stalls-clause-full
-returns-in-Stalls-clause-full g c = λ command units first front new seen goes.
-    let under = seen_under_way command _ _ units first front c.self.view_is seen in
-    let stands = c.in_ok-take.ensures.goes_on front new under.stands goes in
-    absurd (going c.take.new.self new c.in-Some.status stands
-    ((c.in-Some.ensures c.in-Some.status).0 refl))
-
-pub returns-in_err-take-clause-full : goal.returns-in_err-take-clause-full
-returns-in_err-take-clause-full g c = λ command units first front new seen goes.
-    let under = seen_under_way command _ _ units first front c.self.view_is seen in
-    let long = c.in_err-take.ensures.goes_on front new under.stands goes in
-    let full = too_long c.self.inside.end c.self.inside.gather c.args.byte front new under.stands
-    (sym c.in_err-take.ensures.fault ∙ ap Some long) goes in
-    let p = err_from_is_err_and c.from_residual.result c.from_residual.ensures.1 in
-    rw p.1 (full_room _ _ c.self.view_is c.self.invariant full.0, full.1)
+pub returns-clause-led : goal.returns-clause-led
+returns-clause-led g c = λ command came leads.
+    let P : ExchangeOf → Type 0 = λ ex. ComesTo command came ex in
+    c.taken_by.ensures.led command came (subst P (sym c.self.view_is) leads)

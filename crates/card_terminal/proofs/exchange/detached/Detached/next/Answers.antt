@@ -1,32 +1,28 @@
-use Rattle.std.proofs.Common.{refl, sym, subst, ap}
+use Rattle.std.proofs.Common.{sym, subst, ap}
+use Rattle.t0_core.specs.HostSide.{Hosting}
+use Rattle.t0_core.specs.HostMark.{HasOnly}
 use Rattle.card_terminal.specs.ExchangeSide.{ExchangeOf}
 use Rattle.card_terminal.specs.ExchangeSteps.{IsTurn}
-use Rattle.card_terminal.specs.OwnedExchange.{DetachedOf, over_data, IsSound}
-use Rattle.card_terminal.proofs.OwnedLemmas.{made_again, has_only}
+use Rattle.card_terminal.specs.OwnedExchange.{DetachedOf, over_data, of_parts, IsSound}
+use Rattle.card_terminal.proofs.OwnedLemmas.{same_parts, end_has_only, turned}
 use Rattle.card_terminal.proofs.exchange.detached.Detached.next.Goals as goal
-
-pub returns-clause-sound : goal.returns-clause-sound
-returns-clause-sound g c =
-    let only = c.next-turn.ensures.data c.args.content.now
-    (has_only _ _ _ _ _ c.resumed-exchange.ensures refl) in
-    subst IsSound (sym (c.aside-kept.ensures.again _ only)) c.aside-kept.ensures.sound
 
 pub returns-clause-turn : goal.returns-clause-turn
 returns-clause-turn g c =
-    let begun = made_again _ _ _ _ _ _ _ c.resumed-exchange.ensures c.replace-gather.ensures.value
-    refl (ap (λ (d : DetachedOf). over_data d c.args.content.now) c.self.view_is) in
-    let only = c.next-turn.ensures.data c.args.content.now
-    (has_only _ _ _ _ _ c.resumed-exchange.ensures refl) in
+    let content = c.args.content.now in
+    let kept = c.self.inside.kept in
+    let gather = c.self.inside.gather in
+    let begun = same_parts kept gather content c.at-end.result _ c.at-end.ensures
+    (ap (λ (d : DetachedOf). over_data d content) c.self.view_is) in
+    let sound = subst IsSound (sym begun) c.requires in
     let turn = c.next-turn.result in
-    let Q : ExchangeOf → Type 0 = λ ex. IsTurn ex turn (c.next-turn.new.self) in
-    let step : IsTurn c.resumed-exchange.result turn c.next-turn.new.self = record {
-      turn_is = c.next-turn.ensures.turn;
-      stays = c.next-turn.ensures.stays;
-      bounds = c.next-turn.ensures.bounds;
-      goes_on = c.next-turn.ensures.goes_on;
-      led = c.next-turn.ensures.led;
-    } in
-    let R : ExchangeOf → Type 0 =
-    λ ex. IsTurn (over_data c.args.self.now c.args.content.now) turn ex
-    in
-    subst R (sym (c.aside-kept.ensures.again _ only)) (subst Q begun step)
+    let step = turned _ turn c.next-turn.new.self sound.1 c.if-self.false c.next-turn.ensures.turn
+    c.next-turn.ensures.after c.next-turn.ensures.keeps c.next-turn.ensures.stays
+    c.next-turn.ensures.goes_on in
+    let only = subst (λ (h : Hosting). HasOnly content h) (sym c.next-turn.ensures.after)
+    (end_has_only _ _ _ c.at-end.ensures) in
+    let P : Hosting → Type 0 = λ h. IsTurn (over_data c.args.self.now content) turn
+    (of_parts h gather kept.attempt kept.wanted kept.stalled) in
+    let Q : ExchangeOf → Type 0 = λ ex. IsTurn ex turn
+    (of_parts c.next-turn.new.self gather kept.attempt kept.wanted kept.stalled) in
+    subst P (sym (c.mark-self-inside.ensures.again content only)) (subst Q begun step)

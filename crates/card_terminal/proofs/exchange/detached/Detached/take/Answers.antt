@@ -1,36 +1,45 @@
-use Rattle.std.proofs.Common.{refl, sym, subst, ap}
+use Rattle.std.proofs.Common.{sym, subst, ap}
+use Rattle.t0_core.specs.HostSide.{Hosting}
 use Rattle.card_terminal.specs.ExchangeSide.{ExchangeOf}
 use Rattle.card_terminal.specs.ExchangeSteps.{IsTaking}
-use Rattle.card_terminal.specs.OwnedExchange.{DetachedOf, over_data, IsSound}
-use Rattle.card_terminal.proofs.OwnedLemmas.{made_again, has_only}
+use Rattle.card_terminal.specs.OwnedExchange.{DetachedOf, over_data, of_parts, IsSound}
+use Rattle.card_terminal.proofs.OwnedLemmas.{same_parts, end_has_only}
 use Rattle.card_terminal.proofs.exchange.detached.Detached.take.Goals as goal
 
 pub returns-clause-sound : goal.returns-clause-sound
 returns-clause-sound g c =
-    let only = c.take-taken.ensures.data c.args.content.now
-    (has_only _ _ _ _ _ c.resumed-exchange.ensures refl) in
-    subst IsSound (sym (c.aside-kept.ensures.again _ only)) c.aside-kept.ensures.sound
+    let content = c.args.content.now in
+    let made = c.taken_by-taken in
+    let only = made.ensures.data content (end_has_only _ _ _ c.at-end.ensures) in
+    let P : Hosting → Type 0 = λ h. IsSound
+    (of_parts h made.new.gather made.new.attempt c.self.inside.kept.wanted made.new.stalled) in
+    subst P (sym (c.mark-self-inside.ensures.again content only))
+    (c.mark-self-inside.ensures.range, made.ensures.kept)
 
 pub returns-clause-taking : goal.returns-clause-taking
 returns-clause-taking g c =
-    let begun = made_again _ _ _ _ _ _ _ c.resumed-exchange.ensures c.replace-gather.ensures.value
-    refl (ap (λ (d : DetachedOf). over_data d c.args.content.now) c.self.view_is) in
-    let only = c.take-taken.ensures.data c.args.content.now
-    (has_only _ _ _ _ _ c.resumed-exchange.ensures refl) in
-    let taken = c.take-taken.result in
-    let step : IsTaking c.resumed-exchange.result c.args.byte taken c.take-taken.new.self = record {
-      fault = c.take-taken.ensures.fault;
-      bounds = c.take-taken.ensures.bounds;
-      after_end = c.take-taken.ensures.after_end;
-      unchanged = c.take-taken.ensures.unchanged;
-      failed = c.take-taken.ensures.failed;
-      goes_on = c.take-taken.ensures.goes_on;
-      full = c.take-taken.ensures.full;
-      came = c.take-taken.ensures.came;
-      ends = c.take-taken.ensures.ends;
-      led = c.take-taken.ensures.led;
+    let content = c.args.content.now in
+    let kept = c.self.inside.kept in
+    let made = c.taken_by-taken in
+    let begun = same_parts kept c.self.inside.gather content c.at-end.result _ c.at-end.ensures
+    (ap (λ (d : DetachedOf). over_data d content) c.self.view_is) in
+    let only = made.ensures.data content (end_has_only _ _ _ c.at-end.ensures) in
+    let old = of_parts c.at-end.result c.self.inside.gather kept.attempt kept.wanted kept.stalled in
+    let new = of_parts made.new.end made.new.gather made.new.attempt kept.wanted made.new.stalled in
+    let step : IsTaking old c.args.byte made.result new = record {
+      fault = made.ensures.fault;
+      bounds = made.ensures.bounds;
+      after_end = made.ensures.after_end;
+      unchanged = made.ensures.unchanged;
+      failed = made.ensures.failed;
+      goes_on = made.ensures.goes_on;
+      full = made.ensures.full;
+      came = made.ensures.came;
+      ends = made.ensures.ends;
+      led = made.ensures.led;
     } in
-    let Q : ExchangeOf → Type 0 = λ ex. IsTaking ex c.args.byte taken c.take-taken.new.self in
-    let R : ExchangeOf → Type 0 =
-    λ ex. IsTaking (over_data c.args.self.now c.args.content.now) c.args.byte taken ex in
-    subst R (sym (c.aside-kept.ensures.again _ only)) (subst Q begun step)
+    let P : Hosting → Type 0 =
+    λ h. IsTaking (over_data c.args.self.now content) c.args.byte made.result
+    (of_parts h made.new.gather made.new.attempt kept.wanted made.new.stalled) in
+    let Q : ExchangeOf → Type 0 = λ ex. IsTaking ex c.args.byte made.result new in
+    subst P (sym (c.mark-self-inside.ensures.again content only)) (subst Q begun step)

@@ -1,5 +1,6 @@
-//! Links the proved archive of the target, which is in `lib`; or `libgalliumtoad.a` of the folder
-//! that `GALLIUMTOAD_LIB_DIR` names, which has the functions for memory in it.
+//! Links the proved archive of the target, which is in `lib` of a package, and in `../lib` of the
+//! repository; or `libgalliumtoad.a` of the folder that `GALLIUMTOAD_LIB_DIR` names, which has the
+//! functions for memory in it.
 
 use std::env;
 use std::path::{Path, PathBuf};
@@ -24,8 +25,11 @@ fn main() {
         exit(1);
     };
     // asked for now: a package's copy of this program may have been compiled in another folder
-    let here = env::var_os("CARGO_MANIFEST_DIR").unwrap_or_default();
-    link(&Path::new(&here).join("lib").join(folder), "card_c");
+    let here = PathBuf::from(env::var_os("CARGO_MANIFEST_DIR").unwrap_or_default());
+    // a package has the archives in it; in the repository they stand beside the crate
+    let inside = here.join("lib");
+    let archives = if inside.is_dir() { inside } else { here.join("../lib") };
+    link(&archives.join(folder), "card_c");
     if env::var_os("CARGO_FEATURE_HEAP").is_some() {
         println!("cargo:rustc-cfg=heap_in_rust");
     }

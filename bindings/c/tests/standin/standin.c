@@ -214,7 +214,7 @@ LONG SCardConnect(SCARDCONTEXT context, LPCSTR reader, DWORD share, DWORD protoc
     gt_card_reset(&card);
     is_connected = 1;
     *handle = THE_CARD;
-    *protocol = word != NULL && strcmp(word, "T1") == 0 ? SCARD_PROTOCOL_T1 : SCARD_PROTOCOL_T0;
+    *protocol = word != NULL && strcmp(word, "block") == 0 ? SCARD_PROTOCOL_T1 : SCARD_PROTOCOL_T0;
     return SCARD_S_SUCCESS;
 }
 

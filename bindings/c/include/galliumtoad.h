@@ -1,4 +1,5 @@
-/* galliumtoad.h: data objects of smart cards, and both ends of a T=0 dialogue, for C99 and C++.
+/* galliumtoad.h: data objects of smart cards, answers to reset, and both ends of a T=0 dialogue,
+ * for C99 and C++.
  *
  * The functions are those of a proved library: what a comment below says of answers and of the
  * state after them is its contract, proved of the machine's library, under what is the caller's:
@@ -21,14 +22,14 @@
  * What a function gets it copies: nothing is kept of any buffer after a call. No function
  * blocks, prints, aborts or calls back.
  *
- * Every function but gt_text and the .._free ones answers a code of the list below: 0 or above
- * where it went well, below 0 a fault: compare with < 0, not with != 0. The numbers are fixed. A
- * function's comment names all faults that it may answer, but for two: GT_NULL (above), and
- * GT_EMPTY, which each function with a handle answers where that holds nothing, unless its comment
- * says otherwise. Where more than one holds it is the first of GT_NULL, GT_EMPTY, GT_STATE, and
- * then of the comment's, in its order; in gt_session_start and gt_session_end, which have two
- * handles, GT_STATE comes before GT_EMPTY. After a fault nothing has changed, neither the handle
- * nor what the other pointers point to, but for what the comment says.
+ * Every function but gt_text, those of the version and the .._free ones answers a code of the list
+ * below: 0 or above where it went well, below 0 a fault: compare with < 0, not with != 0. The
+ * numbers are fixed. A function's comment names all faults that it may answer, but for two: GT_NULL
+ * (above), and GT_EMPTY, which each function with a handle answers where that holds nothing, unless
+ * its comment says otherwise. Where more than one holds it is the first of GT_NULL, GT_EMPTY,
+ * GT_STATE, and then of the comment's, in its order; in gt_session_start and gt_session_end, which
+ * have two handles, GT_STATE comes before GT_EMPTY. After a fault nothing has changed, neither the
+ * handle nor what the other pointers point to, but for what the comment says.
  *
  * A code is about the call, a status about the card: GT_OK with status 6982 is a call that went
  * well, and a value that is not stored. Look at both; the statuses are listed above "A session".
@@ -47,6 +48,9 @@
 #define GT_VERSION_MAJOR 0
 #define GT_VERSION_MINOR 1
 #define GT_VERSION_PATCH 0
+
+/* The same as one number: 0x000100 is 0.1.0. */
+#define GT_VERSION (GT_VERSION_MAJOR * 0x10000u + GT_VERSION_MINOR * 0x100u + GT_VERSION_PATCH)
 
 #include <stddef.h>
 #include <stdint.h>
@@ -116,7 +120,24 @@ enum {
     GT_TOO_MANY = -63,      /* more data came back than the TPDU asks for */
     GT_NO_TPDU = -64,       /* the bytes are no whole TPDU */
     GT_WANTS_DATA = -65,    /* the card takes data, and the TPDU has none: both ends would wait */
-    GT_SENDS_DATA = -66     /* the card sends data, and the TPDU asks for none */
+    GT_SENDS_DATA = -66,    /* the card sends data, and the TPDU asks for none */
+
+    /* of an answer to reset */
+    GT_ATR_NO_TS = -70,     /* the first byte is neither 3B nor 3F */
+    GT_ATR_CUT = -71,       /* the bytes end before a character that is announced */
+    GT_ATR_TOO_LONG = -72,  /* more than 32 characters after TS are announced: this is the 33rd */
+    GT_ATR_ORDER = -73,     /* the T that this TD names is below the one before it, or 15 in TD1 */
+    GT_ATR_SURPLUS = -74,   /* characters stand behind the end */
+    GT_ATR_CHECK_MISSING = -75, /* TCK is due, as a T other than 0 is named, and the bytes end */
+    GT_ATR_CHECK_NOT_DUE = -76, /* one byte stands behind the end, and TCK is not due */
+    GT_ATR_CHECK_WRONG = -77, /* TCK doesn't make the exclusive-or of all characters after TS 00 */
+
+    /* of a PPS response */
+    GT_PPS_NO_PPSS = -80,   /* the first byte is not FF */
+    GT_PPS_CUT = -81,       /* the bytes end before a character that is due */
+    GT_PPS_RESERVED = -82,  /* bit 8 of PPS0 is 1, which is reserved */
+    GT_PPS_SURPLUS = -83,   /* characters stand behind PCK */
+    GT_PPS_CHECK_WRONG = -84 /* PCK doesn't make the exclusive-or of all characters 00 */
 };
 
 /* What a code says, in a few words: a string that stays. Of a number that is no code: "unknown
@@ -162,6 +183,19 @@ static inline const char *gt_text(int32_t code) {
     case GT_NO_TPDU: return "no whole TPDU";
     case GT_WANTS_DATA: return "card takes data not given";
     case GT_SENDS_DATA: return "card sends data not asked for";
+    case GT_ATR_NO_TS: return "no TS";
+    case GT_ATR_CUT: return "answer to reset cut";
+    case GT_ATR_TOO_LONG: return "answer to reset too long";
+    case GT_ATR_ORDER: return "T out of order";
+    case GT_ATR_SURPLUS: return "characters behind the answer to reset";
+    case GT_ATR_CHECK_MISSING: return "check byte missing";
+    case GT_ATR_CHECK_NOT_DUE: return "check byte not due";
+    case GT_ATR_CHECK_WRONG: return "wrong check byte";
+    case GT_PPS_NO_PPSS: return "no PPSS";
+    case GT_PPS_CUT: return "PPS cut";
+    case GT_PPS_RESERVED: return "PPS0 reserved";
+    case GT_PPS_SURPLUS: return "characters behind PCK";
+    case GT_PPS_CHECK_WRONG: return "wrong PCK";
     default: return "unknown code";
     }
 }
@@ -178,7 +212,10 @@ enum {
     GT_ENTRIES_LIMIT = 64,      /* the most data objects of an application */
     GT_LEVELS_LIMIT = 16,       /* the deepest level of a list of objects */
     GT_TPDU_LIMIT = 260,        /* the most bytes of a whole TPDU: header, P3 and 255 of data */
-    GT_ANSWER_LIMIT = 258       /* of the answer to one: 256 of data, and the status */
+    GT_ANSWER_LIMIT = 258,      /* of the answer to one: 256 of data, and the status */
+    GT_ATR_LIMIT = 33,          /* of an answer to reset */
+    GT_PROTOCOLS_LIMIT = 15,    /* the most protocols that it offers: T=0 to T=14 */
+    GT_PPS_LIMIT = 6            /* the most bytes of a PPS request or response */
 };
 
 /* One object of a list. A tag is the number that its one to three bytes are: 0x50, 0x5F20,
@@ -199,6 +236,50 @@ typedef struct {
     uint8_t from;           /* GT_TERMINAL or GT_CARD */
     uint8_t byte;
 } gt_character;
+
+enum { GT_DIRECT = 0, GT_INVERSE = 1 };
+enum { GT_STOP_NONE = 0, GT_STOP_LOW = 1, GT_STOP_HIGH = 2, GT_STOP_EITHER = 3 };
+enum { GT_CLASS_A = 1, GT_CLASS_B = 2, GT_CLASS_C = 4 };
+
+/* The form of historical bytes, by the first of them (ISO/IEC 7816-4, 12.1.1). */
+enum {
+    GT_HISTORY_NONE = 0,        /* there are none */
+    GT_HISTORY_STATUS = 1,      /* 00: objects in COMPACT-TLV, and a status of three bytes */
+    GT_HISTORY_DIR = 2,         /* 10: the byte behind it refers to a record of EF.DIR */
+    GT_HISTORY_OBJECTS = 3,     /* 80: objects in COMPACT-TLV, of which the last may be a status */
+    GT_HISTORY_RESERVED = 4,    /* 81 to 8F */
+    GT_HISTORY_OWN = 5          /* any other: the maker's own form */
+};
+
+/* What an answer to reset says, by its characters or, where they are not there, by the standard's
+ * defaults (ISO/IEC 7816-3, 8.2 and 8.3). Of what is said by a code that is reserved, it is 0. */
+typedef struct {
+    size_t length;              /* its bytes, TS and TCK among them: 2 to GT_ATR_LIMIT */
+    size_t historical;          /* the place of the first historical byte, from 0 for TS */
+    size_t historical_count;    /* how many they are, 0 to 15 */
+    uint8_t category;           /* their form: GT_HISTORY_NONE .. GT_HISTORY_OWN */
+    uint8_t convention;         /* GT_DIRECT or GT_INVERSE */
+    uint8_t protocol_count;     /* how many protocols are offered, 1 to GT_PROTOCOLS_LIMIT */
+    uint8_t protocols[GT_PROTOCOLS_LIMIT]; /* T of each, in the order offered, and 0 behind these */
+    uint8_t names_15;           /* 1 where T=15 is named, which is no protocol, else 0 */
+    uint8_t rate_code;          /* TA1, or 0x11: the codes of Fi and of Di, as PPS1 has them */
+    uint8_t di;                 /* Di; 0: reserved */
+    uint8_t extra_guard_time;   /* N: TC1, or 0 */
+    uint8_t waiting_integer;    /* WI of T=0: TC2, or 10; 0: reserved */
+    uint8_t specific;           /* 1 in specific mode; else 0, and the next three are 0 */
+    uint8_t specific_t;         /* the protocol with which the card goes on at once */
+    uint8_t can_change;         /* 1 where the card can change to negotiable mode, else 0 */
+    uint8_t implicit;           /* 1 where Fi and Di are implicit, and not those of TA1, else 0 */
+    uint8_t clock_stop;         /* GT_STOP_NONE .. GT_STOP_EITHER: where the clock may stop */
+    uint8_t classes;            /* the sum of those that the card takes: GT_CLASS_A (5 V),
+                                 * GT_CLASS_B (3 V) and GT_CLASS_C (1.8 V); 0: reserved */
+    uint16_t fi;                /* Fi; 0: reserved */
+    uint16_t max_khz;           /* the highest clock frequency in kHz; 0 with Fi */
+    uint16_t guard_etu;         /* the guard time to the card in any protocol but T=1, in etu .. */
+    uint16_t guard_etu_t1;      /* .. and in T=1 .. */
+    uint16_t guard_indicated;   /* .. and in each as many times Fi/Di clock cycles, by TA1, more */
+    uint32_t waiting_time;      /* of T=0 in clock cycles, WI * 960 * Fi; 0 with WI or Fi */
+} gt_atr;
 
 /* Handles: 16 bytes each, which the caller owns; what they hold stands on the heap. The most bytes
  * that are asked of the heap at once, without what the heap itself needs for each block:
@@ -227,6 +308,12 @@ int32_t galliumtoad_objects(const uint8_t *bytes, size_t n, gt_object *objects, 
 int32_t galliumtoad_find(const uint8_t *bytes, size_t n, const uint32_t *path, size_t steps,
                          gt_object *object, size_t *place);
 int32_t galliumtoad_head(uint32_t tag, uint16_t length, uint8_t *head, size_t room, size_t *len);
+int32_t galliumtoad_atr_read(const uint8_t *bytes, size_t n, gt_atr *atr, size_t *place);
+int32_t galliumtoad_pps_request(uint8_t t, uint16_t pps1, uint16_t pps2, uint16_t pps3,
+                                uint8_t *request, size_t room, size_t *n);
+int32_t galliumtoad_pps_agreed(const uint8_t *request, size_t n, const uint8_t *response,
+                               size_t m);
+uint32_t galliumtoad_version(void);
 int32_t galliumtoad_exchange_start(gt_exchange *e, const uint8_t *command, size_t n);
 int32_t galliumtoad_exchange_next(gt_exchange *e, uint8_t *byte);
 int32_t galliumtoad_exchange_take(gt_exchange *e, uint8_t byte);
@@ -338,6 +425,62 @@ static inline int32_t gt_find(const uint8_t *bytes, size_t n, const uint32_t *pa
 static inline int32_t gt_head(uint32_t tag, uint16_t length, uint8_t head[6], size_t *len) {
     if (!head || !len) return GT_NULL;
     return galliumtoad_head(tag, length, head, 6, len);
+}
+
+/* ---- Answers to reset, and PPS (ISO/IEC 7816-3, clauses 8 and 9) -----------------------------
+ *
+ * These functions take no memory. */
+
+/* What an answer to reset says, from its bytes, all of them and no more. Of the inverse convention
+ * they are as they are meant: TS is 3F.
+ *
+ * GT_OK. GT_ATR_NO_TS to GT_ATR_CHECK_WRONG: the bytes are no answer to reset; this is their first
+ * fault from the left, with a wrong check byte as the last, and `place` gets the place of the first
+ * byte at fault, from 0 for TS, or how many bytes there are where one is wanting. `atr` changes
+ * with GT_OK alone, `place` with a fault of the bytes alone. */
+static inline int32_t gt_atr_read(const uint8_t *bytes, size_t n, gt_atr *atr, size_t *place) {
+    if ((!bytes && n) || !atr || !place) return GT_NULL;
+    return galliumtoad_atr_read(gt_bytes_(bytes), n, atr, place);
+}
+
+/* Of PPS1 to PPS3: it is not there. */
+#define GT_ABSENT ((uint16_t)256)
+
+/* A terminal's PPS request for protocol `t`, 0 to 15, with the bytes of PPS1 (the codes of Fi and
+ * Di, as TA1 has them), PPS2 and PPS3, or GT_ABSENT for each: its bytes stand at the front of
+ * `request`, and `n` gets how many they are, 3 to 6. Whether the card offers what is asked for is
+ * the caller's to know: one that doesn't may stay silent.
+ *
+ * GT_OK. GT_ARGUMENT: `t` is above 15, or one of the others above 256. */
+static inline int32_t gt_pps_request(uint8_t t, uint16_t pps1, uint16_t pps2, uint16_t pps3,
+                                     uint8_t request[GT_PPS_LIMIT], size_t *n) {
+    if (!request || !n) return GT_NULL;
+    return galliumtoad_pps_request(t, pps1, pps2, pps3, request, GT_PPS_LIMIT, n);
+}
+
+/* Whether a card's response accepts a request (9.3): 1 where it names the same protocol, and each
+ * of PPS1 to PPS3 is as it was asked for or is not there, which accepts all but that one: without
+ * PPS1 Fi is 372 and Di 1. Else 0, and then the card is to be reset or given up. Compare with == 1.
+ *
+ * GT_ARGUMENT: `request` is no PPS request. GT_PPS_NO_PPSS to GT_PPS_CHECK_WRONG: `response` is no
+ * response; this is its first fault from the left, with a wrong PCK as the last. */
+static inline int32_t gt_pps_agreed(const uint8_t *request, size_t n, const uint8_t *response,
+                                    size_t m) {
+    if ((!request && n) || (!response && m)) return GT_NULL;
+    return galliumtoad_pps_agreed(gt_bytes_(request), n, gt_bytes_(response), m);
+}
+
+/* ---- The version ----------------------------------------------------------------------------- */
+
+/* The version of the header that the library was built for, as GT_VERSION has that of this one. */
+static inline uint32_t gt_version(void) {
+    return galliumtoad_version();
+}
+
+/* Whether the library is one for this header: 1 where both have the same major and the same minor
+ * number, else 0. */
+static inline int gt_version_fits(void) {
+    return gt_version() / 0x100 == GT_VERSION / 0x100;
 }
 
 /* ---- A terminal's exchange of one command (ISO/IEC 7816-3, clause 12) ------------------------ */

@@ -1,3 +1,4 @@
+pub mod AtrLemmas
 pub mod CardHeldValues
 pub mod CardTpduLemmas
 pub mod FindLemmas

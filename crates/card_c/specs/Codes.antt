@@ -1,5 +1,7 @@
 -- The numbers of the codes that exports answer.
 use Rattle.std.specs.Prelude.{ℤ, pos, negsuc}
+use Rattle.atr_core.specs.declared.fault.Reason as atr
+use Rattle.atr_core.specs.declared.pps.PpsFault as pps
 use Rattle.object_card.specs.declared.builder_fault.BuilderFault as builder
 use Rattle.t0_core.specs.declared.line_fault.LineFault as line
 use Rattle.tlv_core.specs.declared.fault.Reason as reason
@@ -92,3 +94,20 @@ tpdu_code tpdu.TheVariants.NoTpdu = gt_no_tpdu
 tpdu_code tpdu.TheVariants.WantsData = negsuc 64
 tpdu_code tpdu.TheVariants.SendsData = negsuc 65
 tpdu_code tpdu.TheVariants.TooLong = negsuc 31
+
+abbrev pub atr_code : atr.Reason → ℤ
+atr_code atr.TheVariants.NoTs = negsuc 69
+atr_code atr.TheVariants.Cut = negsuc 70
+atr_code atr.TheVariants.TooLong = negsuc 71
+atr_code atr.TheVariants.OutOfOrder = negsuc 72
+atr_code atr.TheVariants.Surplus = negsuc 73
+atr_code atr.TheVariants.CheckMissing = negsuc 74
+atr_code atr.TheVariants.CheckNotDue = negsuc 75
+atr_code atr.TheVariants.CheckWrong = negsuc 76
+
+abbrev pub pps_code : pps.PpsFault → ℤ
+pps_code pps.TheVariants.NoPpss = negsuc 79
+pps_code pps.TheVariants.Cut = negsuc 80
+pps_code pps.TheVariants.Reserved = negsuc 81
+pps_code pps.TheVariants.Surplus = negsuc 82
+pps_code pps.TheVariants.CheckWrong = negsuc 83

@@ -1,3 +1,4 @@
+pub mod AtrCalls
 pub mod CardCalls
 pub mod CardHandle
 pub mod CardTpduCalls
@@ -11,6 +12,7 @@ pub mod HeldExchangeOwned
 pub mod HeldTerminalOwned
 pub mod PlanCalls
 pub mod PlanLetters
+pub mod PpsCalls
 pub mod Reading
 pub mod SendCalls
 pub mod SessionCalls
@@ -19,3 +21,4 @@ pub mod TagNumbers
 pub mod TerminalCalls
 pub mod TerminalHandle
 pub mod TpduCalls
+pub mod Version

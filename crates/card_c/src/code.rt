@@ -1,8 +1,9 @@
 //! The codes that exports answer: one list, whose numbers are fixed. The header has it too.
 ghost use Rattle.std.specs.Prelude.{◌≡◌};
-ghost use Rattle.card_c.specs.Codes.{answer_code, builder_code, command_code, line_code, reason_code, tpdu_code};
+ghost use Rattle.card_c.specs.Codes.{answer_code, atr_code, builder_code, command_code, line_code, pps_code, reason_code, tpdu_code};
 
 use apdu_core::ApduFault;
+use atr_core::{PpsFault, Reason as AtrReason};
 use object_card::BuilderFault;
 use t0_core::{AnswerFault, LineFault, TpduFault};
 use tlv_core::Reason;
@@ -127,5 +128,34 @@ pub fn of_tpdu(fault: TpduFault) -> i32
         TpduFault::WantsData => -65,
         TpduFault::SendsData => -66,
         TpduFault::TooLong => -32,
+    }
+}
+
+/// Why bytes are no answer to reset.
+pub fn of_atr(reason: AtrReason) -> i32
+    ensures { result ≡ atr_code reason }
+{
+    match reason {
+        AtrReason::NoTs => -70,
+        AtrReason::Cut => -71,
+        AtrReason::TooLong => -72,
+        AtrReason::OutOfOrder => -73,
+        AtrReason::Surplus => -74,
+        AtrReason::CheckMissing => -75,
+        AtrReason::CheckNotDue => -76,
+        AtrReason::CheckWrong => -77,
+    }
+}
+
+/// Why bytes are no PPS response.
+pub fn of_pps(fault: PpsFault) -> i32
+    ensures { result ≡ pps_code fault }
+{
+    match fault {
+        PpsFault::NoPpss => -80,
+        PpsFault::Cut => -81,
+        PpsFault::Reserved => -82,
+        PpsFault::Surplus => -83,
+        PpsFault::CheckWrong => -84,
     }
 }

@@ -1,10 +1,13 @@
-//! The library for C: the object reader, a terminal's exchange, a card and a session with it.
+//! The library for C: the object reader, answers to reset, a terminal's exchange, a card and a
+//! session with it.
 //! `bindings/c/include/galliumtoad.h` declares it.
 //!
 //! Each export is named `galliumtoad_..`; the header's function `gt_..` of the same name tests for
 //! NULL, which nothing here can, and then calls it.
 #![tactic(auto)]
 
+mod atr;
+mod atr_record;
 mod card;
 mod card_held;
 mod card_side;
@@ -26,6 +29,7 @@ mod operating_side;
 mod plan_letters;
 mod plan_queue;
 mod plans;
+mod pps;
 mod reader;
 mod send;
 mod session;
@@ -36,4 +40,5 @@ mod terminal;
 mod terminal_handle;
 mod terminal_side;
 mod threads;
+mod version;
 mod whole_tpdu;

@@ -1,0 +1,67 @@
+//! PPS for C: a terminal's request, and whether a response agrees.
+ghost use Rattle.card_c.specs.PpsCalls.{AgreesPps, AnswersPps, AsksPps, given};
+ghost use Rattle.std.specs.Prelude.{◌≡◌};
+
+use crate::code;
+use crate::copied::copied;
+use atr_core::{Pps, agreed};
+
+/// What stands for a character that is not there.
+const ABSENT: u16 = 256;
+
+/// The request for this protocol and these of PPS1 to PPS3, of which 256 is none.
+#[unsafe(no_mangle)]
+pub extern "C" fn galliumtoad_pps_request(
+    t: u8,
+    pps1: u16,
+    pps2: u16,
+    pps3: u16,
+    out: &mut [u8],
+    len: &mut usize,
+) -> i32
+    ensures { AsksPps t pps1 pps2 pps3 out.old len.old result out.new len.new }
+{
+    if t > 15 || pps1 > ABSENT || pps2 > ABSENT || pps3 > ABSENT {
+        return code::ARGUMENT;
+    }
+    let request = Pps {
+        t,
+        pps1: given(pps1),
+        pps2: given(pps2),
+        pps3: given(pps3),
+    };
+    copied(&request.write(), out, len)
+}
+
+/// The character with this number, if it is there.
+fn given(number: u16) -> Option<u8>
+    ensures { result ≡ given number }
+{
+    if number < ABSENT {
+        Some(number as u8)
+    } else {
+        None
+    }
+}
+
+/// 1 where the response accepts what the request asks for, or all but what it leaves out, else 0;
+/// or why it is no response. A request that is none is a bad argument.
+#[unsafe(no_mangle)]
+pub extern "C" fn galliumtoad_pps_agreed(request: &[u8], response: &[u8]) -> i32
+    ensures { AgreesPps request.now response.now result }
+{
+    match Pps::read(request) {
+        Ok(request) => answered(&request, response),
+        Err(_) => code::ARGUMENT,
+    }
+}
+
+/// The same of a request that has been read.
+fn answered(request: &Pps, response: &[u8]) -> i32
+    ensures { AnswersPps request.now response.now result }
+{
+    match Pps::read(response) {
+        Ok(response) => i32::from(agreed(request, &response)),
+        Err(fault) => code::of_pps(fault),
+    }
+}

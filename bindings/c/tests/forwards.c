@@ -44,6 +44,21 @@ int32_t galliumtoad_find(const uint8_t *bytes, size_t n, const uint32_t *path, s
 int32_t galliumtoad_head(uint32_t tag, uint16_t length, uint8_t *head, size_t room, size_t *len) {
     NOTE(tag, length, P(head), room, P(len));
 }
+int32_t galliumtoad_atr_read(const uint8_t *bytes, size_t n, gt_atr *atr, size_t *place) {
+    NOTE(P(bytes), n, P(atr), P(place));
+}
+int32_t galliumtoad_pps_request(uint8_t t, uint16_t pps1, uint16_t pps2, uint16_t pps3,
+                                uint8_t *request, size_t room, size_t *n) {
+    NOTE(t, pps1, pps2, pps3, P(request), room, P(n));
+}
+int32_t galliumtoad_pps_agreed(const uint8_t *request, size_t n, const uint8_t *response,
+                               size_t m) {
+    NOTE(P(request), n, P(response), m);
+}
+static uint32_t library;
+uint32_t galliumtoad_version(void) {
+    return library;
+}
 int32_t galliumtoad_exchange_start(gt_exchange *e, const uint8_t *command, size_t n) {
     NOTE(P(e), P(command), n);
 }
@@ -294,6 +309,44 @@ static void of_objects(void) {
           P(&count));
     REFUSES(gt_head(0x50, 1, NULL, &count));
     REFUSES(gt_head(0x50, 1, bytes, NULL));
+}
+
+static void of_answers_to_reset(void) {
+    gt_atr atr;
+    HANDS(gt_atr_read(bytes, 5, &atr, &place), "atr_read", P(bytes), 5, P(&atr), P(&place));
+    HANDS(gt_atr_read(bytes, 0, &atr, &place), "atr_read", P(bytes), 0, P(&atr), P(&place));
+    HANDS(gt_atr_read(NULL, 0, &atr, &place), "atr_read", ANY, 0, P(&atr), P(&place));
+    REFUSES(gt_atr_read(NULL, 1, &atr, &place));
+    REFUSES(gt_atr_read(bytes, 5, NULL, &place));
+    REFUSES(gt_atr_read(bytes, 5, &atr, NULL));
+}
+
+static void of_pps(void) {
+    HANDS(gt_pps_request(14, 0x18, 256, 65535, bytes, &count), "pps_request", 14, 0x18, 256, 65535,
+          P(bytes), 6, P(&count));
+    REFUSES(gt_pps_request(0, 1, 2, 3, NULL, &count));
+    REFUSES(gt_pps_request(0, 1, 2, 3, bytes, NULL));
+    HANDS(gt_pps_agreed(bytes, 6, aid, 4), "pps_agreed", P(bytes), 6, P(aid), 4);
+    HANDS(gt_pps_agreed(bytes, 0, aid, 0), "pps_agreed", P(bytes), 0, P(aid), 0);
+    HANDS(gt_pps_agreed(NULL, 0, NULL, 0), "pps_agreed", ANY, 0, ANY, 0);
+    REFUSES(gt_pps_agreed(NULL, 1, aid, 4));
+    REFUSES(gt_pps_agreed(bytes, 6, NULL, 1));
+}
+
+/* Major and minor number have to be the header's, and the patch number may be any. */
+static void of_versions(void) {
+    const uint32_t others[] = { 0, 0xFF, 0x000200, 0x000000, 0x010100, 0x010000, 0x010001,
+                                0xFF0100, 0x00FF00, 0x1000100, UINT32_MAX };
+    size_t i;
+    for (library = 0x000100; library < 0x000200; library++) {
+        CHECK(gt_version(), library);
+        CHECK(gt_version_fits(), 1);
+    }
+    for (i = 0; i < sizeof others / sizeof *others; i++) {
+        library = others[i];
+        CHECK(gt_version(), others[i]);
+        CHECK(gt_version_fits(), 0);
+    }
 }
 
 static void of_an_exchange(void) {
@@ -633,6 +686,9 @@ static void nothing_was_written(void) {
 
 int main(void) {
     of_objects();
+    of_answers_to_reset();
+    of_pps();
+    of_versions();
     of_an_exchange();
     of_whole_tpdus();
     of_a_terminal();

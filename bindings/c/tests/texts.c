@@ -47,7 +47,20 @@ static const code CODES[] = {
     { GT_TOO_MANY, -63, "more data than asked for" },
     { GT_NO_TPDU, -64, "no whole TPDU" },
     { GT_WANTS_DATA, -65, "card takes data not given" },
-    { GT_SENDS_DATA, -66, "card sends data not asked for" }
+    { GT_SENDS_DATA, -66, "card sends data not asked for" },
+    { GT_ATR_NO_TS, -70, "no TS" },
+    { GT_ATR_CUT, -71, "answer to reset cut" },
+    { GT_ATR_TOO_LONG, -72, "answer to reset too long" },
+    { GT_ATR_ORDER, -73, "T out of order" },
+    { GT_ATR_SURPLUS, -74, "characters behind the answer to reset" },
+    { GT_ATR_CHECK_MISSING, -75, "check byte missing" },
+    { GT_ATR_CHECK_NOT_DUE, -76, "check byte not due" },
+    { GT_ATR_CHECK_WRONG, -77, "wrong check byte" },
+    { GT_PPS_NO_PPSS, -80, "no PPSS" },
+    { GT_PPS_CUT, -81, "PPS cut" },
+    { GT_PPS_RESERVED, -82, "PPS0 reserved" },
+    { GT_PPS_SURPLUS, -83, "characters behind PCK" },
+    { GT_PPS_CHECK_WRONG, -84, "wrong PCK" }
 };
 
 enum { COUNT = sizeof CODES / sizeof *CODES };
@@ -80,8 +93,32 @@ static void limits(void) {
     CHECK(GT_LEVELS_LIMIT, 16);
     CHECK(GT_TPDU_LIMIT, 260);
     CHECK(GT_ANSWER_LIMIT, 258);
+    CHECK(GT_ATR_LIMIT, 33);
+    CHECK(GT_PROTOCOLS_LIMIT, 15);
+    CHECK(GT_PPS_LIMIT, 6);
     CHECK(GT_TERMINAL, 0);
     CHECK(GT_CARD, 1);
+}
+
+/* What the fields of an answer to reset have for numbers, and the version. */
+static void numbers(void) {
+    CHECK(GT_DIRECT, 0);
+    CHECK(GT_INVERSE, 1);
+    CHECK(GT_STOP_NONE, 0);
+    CHECK(GT_STOP_LOW, 1);
+    CHECK(GT_STOP_HIGH, 2);
+    CHECK(GT_STOP_EITHER, 3);
+    CHECK(GT_CLASS_A, 1);
+    CHECK(GT_CLASS_B, 2);
+    CHECK(GT_CLASS_C, 4);
+    CHECK(GT_HISTORY_NONE, 0);
+    CHECK(GT_HISTORY_STATUS, 1);
+    CHECK(GT_HISTORY_DIR, 2);
+    CHECK(GT_HISTORY_OBJECTS, 3);
+    CHECK(GT_HISTORY_RESERVED, 4);
+    CHECK(GT_HISTORY_OWN, 5);
+    CHECK(GT_ABSENT, 256);
+    CHECK(GT_VERSION, 0x000100);
 }
 
 /* Where each field stands, which the archive relies on. */
@@ -119,9 +156,40 @@ static void layouts(void) {
     CHECK(s.live || s.held, 0);
 }
 
+/* The same of an answer to reset. */
+static void layout_of_an_answer(void) {
+    CHECK(sizeof(gt_atr), 72);
+    CHECK(offsetof(gt_atr, length), 0);
+    CHECK(offsetof(gt_atr, historical), 8);
+    CHECK(offsetof(gt_atr, historical_count), 16);
+    CHECK(offsetof(gt_atr, category), 24);
+    CHECK(offsetof(gt_atr, convention), 25);
+    CHECK(offsetof(gt_atr, protocol_count), 26);
+    CHECK(offsetof(gt_atr, protocols), 27);
+    CHECK(offsetof(gt_atr, names_15), 42);
+    CHECK(offsetof(gt_atr, rate_code), 43);
+    CHECK(offsetof(gt_atr, di), 44);
+    CHECK(offsetof(gt_atr, extra_guard_time), 45);
+    CHECK(offsetof(gt_atr, waiting_integer), 46);
+    CHECK(offsetof(gt_atr, specific), 47);
+    CHECK(offsetof(gt_atr, specific_t), 48);
+    CHECK(offsetof(gt_atr, can_change), 49);
+    CHECK(offsetof(gt_atr, implicit), 50);
+    CHECK(offsetof(gt_atr, clock_stop), 51);
+    CHECK(offsetof(gt_atr, classes), 52);
+    CHECK(offsetof(gt_atr, fi), 54);
+    CHECK(offsetof(gt_atr, max_khz), 56);
+    CHECK(offsetof(gt_atr, guard_etu), 58);
+    CHECK(offsetof(gt_atr, guard_etu_t1), 60);
+    CHECK(offsetof(gt_atr, guard_indicated), 62);
+    CHECK(offsetof(gt_atr, waiting_time), 64);
+}
+
 int main(void) {
     codes();
     limits();
+    numbers();
     layouts();
+    layout_of_an_answer();
     return check_result("texts");
 }

@@ -59,6 +59,35 @@ pub struct Object {
 
 #[repr(C)]
 #[derive(Clone, Copy, Debug, Default)]
+pub struct Atr {
+    pub length: usize,
+    pub historical: usize,
+    pub historical_count: usize,
+    pub category: u8,
+    pub convention: u8,
+    pub protocol_count: u8,
+    pub protocols: [u8; 15],
+    pub names_15: u8,
+    pub rate_code: u8,
+    pub di: u8,
+    pub extra_guard_time: u8,
+    pub waiting_integer: u8,
+    pub specific: u8,
+    pub specific_t: u8,
+    pub can_change: u8,
+    pub implicit: u8,
+    pub clock_stop: u8,
+    pub classes: u8,
+    pub fi: u16,
+    pub max_khz: u16,
+    pub guard_etu: u16,
+    pub guard_etu_t1: u16,
+    pub guard_indicated: u16,
+    pub waiting_time: u32,
+}
+
+#[repr(C)]
+#[derive(Clone, Copy, Debug, Default)]
 pub struct Character {
     pub from: u8,
     pub byte: u8,
@@ -91,6 +120,12 @@ declared! {
         place: *mut usize
     );
     fn galliumtoad_head(tag: u32, length: u16, head: *mut u8, room: usize, len: *mut usize);
+
+    fn galliumtoad_atr_read(bytes: *const u8, n: usize, atr: *mut Atr, place: *mut usize);
+    fn galliumtoad_pps_request(
+        t: u8, pps1: u16, pps2: u16, pps3: u16, request: *mut u8, room: usize, n: *mut usize
+    );
+    fn galliumtoad_pps_agreed(request: *const u8, n: usize, response: *const u8, m: usize);
 
     fn galliumtoad_exchange_start(e: *mut Held, command: *const u8, n: usize);
     fn galliumtoad_exchange_next(e: *mut Held, byte: *mut u8);
@@ -168,6 +203,7 @@ declared! {
 }
 
 extern "C" {
+    pub fn galliumtoad_version() -> u32;
     pub fn galliumtoad_exchange_free(e: *mut Held);
     pub fn galliumtoad_terminal_free(t: *mut Held);
     pub fn galliumtoad_card_free(c: *mut Held);

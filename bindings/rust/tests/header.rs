@@ -1,8 +1,10 @@
 //! The numbers of the C header are those of this crate.
 
+use galliumtoad::{AtrError, AtrReason, PpsError, ATR_LIMIT, PPS_LIMIT, PROTOCOLS_LIMIT};
 use galliumtoad::{Error, Reason, AID_LEAST, AID_LIMIT, APPS_LIMIT, ENTRIES_LIMIT};
 use galliumtoad::{ObjectsError, TPDU_LIMIT, VALUE_LIMIT};
 use galliumtoad::{ANSWER_LIMIT, LEVELS_LIMIT, OBJECT_LIMIT, RESPONSE_LIMIT};
+use std::collections::HashSet;
 
 /// The faults of the header's list, with what this crate calls them.
 const FAULTS: [(&str, Error); 27] = [
@@ -44,6 +46,26 @@ const REASONS: [(&str, Reason); 6] = [
     ("GT_TOO_DEEP", Reason::TooDeep),
 ];
 
+const ATR_REASONS: [(&str, AtrReason); 8] = [
+    ("GT_ATR_NO_TS", AtrReason::NoTs),
+    ("GT_ATR_CUT", AtrReason::Cut),
+    ("GT_ATR_TOO_LONG", AtrReason::TooLong),
+    ("GT_ATR_ORDER", AtrReason::OutOfOrder),
+    ("GT_ATR_SURPLUS", AtrReason::Surplus),
+    ("GT_ATR_CHECK_MISSING", AtrReason::CheckMissing),
+    ("GT_ATR_CHECK_NOT_DUE", AtrReason::CheckNotDue),
+    ("GT_ATR_CHECK_WRONG", AtrReason::CheckWrong),
+];
+
+const PPS_FAULTS: [(&str, PpsError); 6] = [
+    ("GT_ARGUMENT", PpsError::Argument),
+    ("GT_PPS_NO_PPSS", PpsError::NoPpss),
+    ("GT_PPS_CUT", PpsError::Cut),
+    ("GT_PPS_RESERVED", PpsError::Reserved),
+    ("GT_PPS_SURPLUS", PpsError::Surplus),
+    ("GT_PPS_CHECK_WRONG", PpsError::CheckWrong),
+];
+
 /// Faults that can't come up here.
 const NEVER: [&str; 3] = ["GT_NULL", "GT_EMPTY", "GT_BUFFER"];
 
@@ -82,6 +104,19 @@ fn faults_have_the_numbers_and_texts_of_the_header() {
         let fault = ObjectsError { place: 7, reason };
         assert_eq!(Some(fault.to_string()), wanted, "{name}");
     }
+    for (name, reason) in ATR_REASONS {
+        let wanted = Some(i64::from(reason.code()));
+        assert_eq!(number(&header, name), wanted, "{name}");
+        let wanted = text(&header, name).map(|text| format!("{text} at 7"));
+        let fault = AtrError { place: 7, reason };
+        assert_eq!(Some(fault.to_string()), wanted, "{name}");
+    }
+    for (name, fault) in PPS_FAULTS {
+        let wanted = Some(i64::from(fault.code()));
+        assert_eq!(number(&header, name), wanted, "{name}");
+        let wanted = fault.to_string();
+        assert_eq!(text(&header, name), Some(wanted.as_str()), "{name}");
+    }
     let unknown = Error::Unknown(-99);
     assert_eq!(unknown.code(), -99);
     assert_eq!(unknown.to_string(), "unknown code -99");
@@ -97,11 +132,17 @@ fn every_fault_of_the_header_is_known() {
         .filter_map(|line| line.trim().split_once(" = -"))
         .map(|(name, _)| name)
         .collect();
-    assert_eq!(names.len(), FAULTS.len() + REASONS.len() + NEVER.len());
+    let known: HashSet<&str> = FAULTS
+        .map(|(name, _)| name)
+        .into_iter()
+        .chain(REASONS.map(|(name, _)| name))
+        .chain(ATR_REASONS.map(|(name, _)| name))
+        .chain(PPS_FAULTS.map(|(name, _)| name))
+        .chain(NEVER)
+        .collect();
+    assert_eq!(names.len(), known.len());
     for name in names {
-        let known = FAULTS.iter().any(|(it, _)| *it == name)
-            || REASONS.iter().any(|(it, _)| *it == name)
-            || NEVER.contains(&name);
+        let known = known.contains(name);
         assert!(known, "{name}");
     }
 }
@@ -136,6 +177,9 @@ fn limits_are_those_of_the_header() {
         ("GT_LEVELS_LIMIT", usize::from(LEVELS_LIMIT)),
         ("GT_TPDU_LIMIT", TPDU_LIMIT),
         ("GT_ANSWER_LIMIT", ANSWER_LIMIT),
+        ("GT_ATR_LIMIT", ATR_LIMIT),
+        ("GT_PROTOCOLS_LIMIT", PROTOCOLS_LIMIT),
+        ("GT_PPS_LIMIT", PPS_LIMIT),
     ];
     let header = header();
     for (name, limit) in limits {

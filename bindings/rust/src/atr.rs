@@ -1,0 +1,321 @@
+//! Answers to reset (ISO/IEC 7816-3, clause 8).
+
+use crate::raw;
+use std::error;
+use std::fmt;
+
+/// The most bytes of an answer to reset.
+pub const ATR_LIMIT: usize = 33;
+
+/// The most protocols that an answer offers: T=0 to T=14.
+pub const PROTOCOLS_LIMIT: usize = 15;
+
+/// Why bytes are no answer to reset: the first fault, from the left, with a wrong check byte as the
+/// last.
+#[derive(Clone, Copy, Debug, PartialEq, Eq, Hash)]
+pub struct AtrError {
+    /// The place of the first byte at fault, from 0 for TS, or how many bytes there are where one
+    /// is wanting.
+    pub place: usize,
+    /// What is wrong there.
+    pub reason: AtrReason,
+}
+
+/// What is wrong with bytes that are no answer to reset.
+#[derive(Clone, Copy, Debug, PartialEq, Eq, Hash)]
+pub enum AtrReason {
+    /// The first byte is neither `3B` nor `3F`.
+    NoTs,
+    /// The bytes end before a character that is announced.
+    Cut,
+    /// More than 32 characters after TS are announced, and this is the 33rd.
+    TooLong,
+    /// The T that this TD names is below the one before it, or is 15 in TD1.
+    OutOfOrder,
+    /// Characters stand behind the end.
+    Surplus,
+    /// TCK is due, as a T other than 0 is named, and the bytes end.
+    CheckMissing,
+    /// One byte stands behind the end, and TCK is not due.
+    CheckNotDue,
+    /// TCK does not make the exclusive-or of all characters after TS `00`.
+    CheckWrong,
+}
+
+/// Each reason with its number and its text.
+const REASONS: [(AtrReason, i32, &str); 8] = [
+    (AtrReason::NoTs, -70, "no TS"),
+    (AtrReason::Cut, -71, "answer to reset cut"),
+    (AtrReason::TooLong, -72, "answer to reset too long"),
+    (AtrReason::OutOfOrder, -73, "T out of order"),
+    (
+        AtrReason::Surplus,
+        -74,
+        "characters behind the answer to reset",
+    ),
+    (AtrReason::CheckMissing, -75, "check byte missing"),
+    (AtrReason::CheckNotDue, -76, "check byte not due"),
+    (AtrReason::CheckWrong, -77, "wrong check byte"),
+];
+
+impl AtrReason {
+    /// The number that the library's header gives it.
+    pub fn code(self) -> i32 {
+        REASONS
+            .iter()
+            .find(|(reason, ..)| *reason == self)
+            .map_or(0, |(_, code, _)| *code)
+    }
+
+    fn of(code: i32) -> AtrReason {
+        REASONS
+            .iter()
+            .find(|(_, number, _)| *number == code)
+            .map_or(AtrReason::Cut, |(reason, ..)| *reason)
+    }
+}
+
+impl fmt::Display for AtrError {
+    fn fmt(&self, f: &mut fmt::Formatter<'_>) -> fmt::Result {
+        let text = REASONS
+            .iter()
+            .find(|(reason, ..)| *reason == self.reason)
+            .map_or("", |(_, _, text)| text);
+        write!(f, "{text} at {}", self.place)
+    }
+}
+
+impl error::Error for AtrError {}
+
+/// How the bits of a character stand on the line (8.1).
+#[derive(Clone, Copy, Debug, PartialEq, Eq)]
+pub enum Convention {
+    /// TS is `3B`: a high state is 1, and the lowest bit comes first.
+    Direct,
+    /// TS is `3F`: a low state is 1, and the highest bit comes first.
+    Inverse,
+}
+
+/// In which mode a card is after its answer (6.3.1, and TA2 in 8.3).
+#[derive(Clone, Copy, Debug, PartialEq, Eq)]
+pub enum Mode {
+    /// The terminal may ask for other values by PPS.
+    Negotiable,
+    /// The card goes on at once.
+    Specific {
+        /// With this protocol.
+        t: u8,
+        /// Whether it can change to negotiable mode.
+        can_change: bool,
+        /// Whether Fi and Di are implicit, and not those of TA1.
+        is_implicit: bool,
+    },
+}
+
+/// Whether the clock may stop, and at which level (8.3).
+#[derive(Clone, Copy, Debug, PartialEq, Eq)]
+pub enum ClockStop {
+    /// It may not.
+    NotSupported,
+    /// At the low level.
+    AtLow,
+    /// At the high level.
+    AtHigh,
+    /// At either.
+    AtEither,
+}
+
+/// Which classes of voltage a card takes (8.3).
+#[derive(Clone, Copy, Debug, PartialEq, Eq)]
+pub struct Classes {
+    /// 5 V.
+    pub a: bool,
+    /// 3 V.
+    pub b: bool,
+    /// 1.8 V.
+    pub c: bool,
+}
+
+/// The form of historical bytes, by the first of them (ISO/IEC 7816-4, 12.1.1).
+#[derive(Clone, Copy, Debug, PartialEq, Eq)]
+pub enum Category {
+    /// There are none.
+    Absent,
+    /// `00`: objects in COMPACT-TLV, and behind them a status of three bytes.
+    StatusBehind,
+    /// `10`: the byte behind it refers to a record of EF.DIR.
+    DirReference,
+    /// `80`: objects in COMPACT-TLV, of which the last may be a status.
+    Objects,
+    /// `81` to `8F`, which are reserved.
+    Reserved,
+    /// Any other: the form is the maker's own.
+    Proprietary,
+}
+
+/// The least time between the beginnings of two characters to the card (8.3).
+#[derive(Clone, Copy, Debug, PartialEq, Eq)]
+pub struct GuardTime {
+    /// So many elementary time units, as they are in use.
+    pub etu: u16,
+    /// And so many times Fi/Di clock cycles, by Fi and Di of TA1.
+    pub indicated: u16,
+}
+
+/// What an answer to reset says, by its characters or, where they are not there, by the standard's
+/// defaults (8.2 and 8.3). What a reserved code says is `None`.
+///
+/// ```
+/// use galliumtoad::{Atr, AtrReason};
+///
+/// let atr = Atr::read(b"\x3B\x65\x00\x00\x20\x63\xCB\x68\x00")?;
+/// assert_eq!(atr.protocols(), [0]);
+/// assert_eq!((atr.fi, atr.di), (Some(372), Some(1)));
+/// assert_eq!(atr.historical, b"\x20\x63\xCB\x68\x00");
+///
+/// let fault = Atr::read(b"\x3B\x65\x00").unwrap_err();
+/// assert_eq!((fault.reason, fault.place), (AtrReason::Cut, 3));
+/// # Ok::<(), galliumtoad::AtrError>(())
+/// ```
+#[derive(Clone, Copy, Debug, PartialEq, Eq)]
+pub struct Atr<'a> {
+    /// How the bits of a character stand on the line.
+    pub convention: Convention,
+    /// Whether T=15 is named, which is no protocol: what follows it holds for all of them.
+    pub names_15: bool,
+    /// TA1, or `11`: the codes of Fi and of Di, as PPS1 has them.
+    pub rate_code: u8,
+    /// Fi, the clock rate conversion integer.
+    pub fi: Option<u16>,
+    /// The highest clock frequency, in kHz.
+    pub max_khz: Option<u16>,
+    /// Di, the baud rate adjustment integer.
+    pub di: Option<u8>,
+    /// N: TC1, or 0.
+    pub extra_guard_time: u8,
+    /// WI of T=0: TC2, or 10.
+    pub waiting_integer: Option<u8>,
+    /// The waiting time of T=0 in clock cycles: WI * 960 * Fi.
+    pub waiting_time: Option<u32>,
+    /// The mode that TA2 says.
+    pub mode: Mode,
+    /// Whether the clock may stop; not, where nothing is said behind T=15.
+    pub clock_stop: ClockStop,
+    /// The classes of voltage; A alone, where nothing is said behind T=15.
+    pub classes: Option<Classes>,
+    /// The historical bytes, at most 15.
+    pub historical: &'a [u8],
+    /// Their form.
+    pub category: Category,
+    protocols: [u8; PROTOCOLS_LIMIT],
+    protocol_count: usize,
+    guard: [u16; 3],
+}
+
+impl<'a> Atr<'a> {
+    /// The answer that these bytes are, all of them; or their first fault.
+    pub fn read(bytes: &'a [u8]) -> Result<Atr<'a>, AtrError> {
+        let (mut told, mut place) = (raw::Atr::default(), 0);
+        // SAFETY: a slice with its length, which is only read; `told` and `place` are apart from it
+        // and from one another.
+        let code = unsafe {
+            raw::galliumtoad_atr_read(bytes.as_ptr(), bytes.len(), &mut told, &mut place)
+        };
+        if code == raw::OK {
+            Ok(Atr::of(&told, bytes))
+        } else {
+            Err(AtrError {
+                place,
+                reason: AtrReason::of(code),
+            })
+        }
+    }
+
+    /// What the library has told of these bytes.
+    fn of(told: &raw::Atr, bytes: &'a [u8]) -> Atr<'a> {
+        Atr {
+            convention: match told.convention {
+                0 => Convention::Direct,
+                _ => Convention::Inverse,
+            },
+            names_15: told.names_15 != 0,
+            rate_code: told.rate_code,
+            fi: Some(told.fi).filter(|&fi| fi != 0),
+            max_khz: Some(told.max_khz).filter(|&khz| khz != 0),
+            di: Some(told.di).filter(|&di| di != 0),
+            extra_guard_time: told.extra_guard_time,
+            waiting_integer: Some(told.waiting_integer).filter(|&wi| wi != 0),
+            waiting_time: Some(told.waiting_time).filter(|&cycles| cycles != 0),
+            mode: Mode::of(told),
+            clock_stop: ClockStop::of(told.clock_stop),
+            classes: Classes::of(told.classes),
+            historical: &bytes[told.historical..told.historical + told.historical_count],
+            category: Category::of(told.category),
+            protocols: told.protocols,
+            protocol_count: usize::from(told.protocol_count),
+            guard: [told.guard_etu, told.guard_etu_t1, told.guard_indicated],
+        }
+    }
+
+    /// T of each protocol in the order offered, each once: T=0 alone where the answer names none.
+    pub fn protocols(&self) -> &[u8] {
+        &self.protocols[..self.protocol_count]
+    }
+
+    /// The guard time of this protocol. N = 255 is the least that it has, which is 11 etu in T=1
+    /// and 12 in any other.
+    pub fn guard_time(&self, protocol: u8) -> GuardTime {
+        let [etu, etu_t1, indicated] = self.guard;
+        GuardTime {
+            etu: if protocol == 1 { etu_t1 } else { etu },
+            indicated,
+        }
+    }
+}
+
+impl Mode {
+    fn of(told: &raw::Atr) -> Mode {
+        match told.specific {
+            0 => Mode::Negotiable,
+            _ => Mode::Specific {
+                t: told.specific_t,
+                can_change: told.can_change != 0,
+                is_implicit: told.implicit != 0,
+            },
+        }
+    }
+}
+
+impl ClockStop {
+    fn of(number: u8) -> ClockStop {
+        match number {
+            0 => ClockStop::NotSupported,
+            1 => ClockStop::AtLow,
+            2 => ClockStop::AtHigh,
+            _ => ClockStop::AtEither,
+        }
+    }
+}
+
+impl Classes {
+    fn of(bits: u8) -> Option<Classes> {
+        (bits != 0).then_some(Classes {
+            a: bits & 1 != 0,
+            b: bits & 2 != 0,
+            c: bits & 4 != 0,
+        })
+    }
+}
+
+impl Category {
+    fn of(number: u8) -> Category {
+        match number {
+            0 => Category::Absent,
+            1 => Category::StatusBehind,
+            2 => Category::DirReference,
+            3 => Category::Objects,
+            4 => Category::Reserved,
+            _ => Category::Proprietary,
+        }
+    }
+}

@@ -1,0 +1,139 @@
+//! PPS: a terminal's request for other values, and whether a card's response agrees (ISO/IEC
+//! 7816-3, clause 9).
+
+use crate::raw;
+use std::error;
+use std::fmt;
+
+/// The most bytes of a PPS request or response.
+pub const PPS_LIMIT: usize = 6;
+
+/// What stands for a character that is not there.
+const ABSENT: u16 = 256;
+
+/// What a terminal asks for by PPS: a protocol, and PPS1 to PPS3, those that are there.
+///
+/// ```
+/// use galliumtoad::Pps;
+///
+/// let asked = Pps { t: 0, pps1: Some(0x96), ..Pps::default() };
+/// let request = asked.request().expect("T is not above 15");
+/// assert_eq!(request, b"\xFF\x10\x96\x79");
+/// assert!(asked.agreed(b"\xFF\x10\x96\x79")?);
+/// assert!(!asked.agreed(b"\xFF\x10\x11\xFE")?);
+/// # Ok::<(), galliumtoad::PpsError>(())
+/// ```
+#[derive(Clone, Copy, Debug, Default, PartialEq, Eq)]
+pub struct Pps {
+    /// T, 0 to 15.
+    pub t: u8,
+    /// The codes of Fi and Di, as TA1 has them.
+    pub pps1: Option<u8>,
+    /// PPS2.
+    pub pps2: Option<u8>,
+    /// PPS3.
+    pub pps3: Option<u8>,
+}
+
+/// Why a response can't be judged: of the response the first fault, from the left, with a wrong PCK
+/// as the last.
+#[derive(Clone, Copy, Debug, PartialEq, Eq, Hash)]
+pub enum PpsError {
+    /// What is asked for is no request: T is above 15.
+    Argument,
+    /// The first byte is not `FF`.
+    NoPpss,
+    /// The bytes end before a character that is due.
+    Cut,
+    /// Bit 8 of PPS0 is 1, which is reserved.
+    Reserved,
+    /// Characters stand behind PCK.
+    Surplus,
+    /// PCK does not make the exclusive-or of all characters `00`.
+    CheckWrong,
+}
+
+/// Each fault with its number and its text.
+const FAULTS: [(PpsError, i32, &str); 6] = [
+    (PpsError::Argument, -5, "bad argument"),
+    (PpsError::NoPpss, -80, "no PPSS"),
+    (PpsError::Cut, -81, "PPS cut"),
+    (PpsError::Reserved, -82, "PPS0 reserved"),
+    (PpsError::Surplus, -83, "characters behind PCK"),
+    (PpsError::CheckWrong, -84, "wrong PCK"),
+];
+
+impl PpsError {
+    /// The number that the library's header gives the fault.
+    pub fn code(self) -> i32 {
+        FAULTS
+            .iter()
+            .find(|(fault, ..)| *fault == self)
+            .map_or(0, |(_, code, _)| *code)
+    }
+
+    fn of(code: i32) -> PpsError {
+        FAULTS
+            .iter()
+            .find(|(_, number, _)| *number == code)
+            .map_or(PpsError::Argument, |(fault, ..)| *fault)
+    }
+}
+
+impl fmt::Display for PpsError {
+    fn fmt(&self, f: &mut fmt::Formatter<'_>) -> fmt::Result {
+        let text = FAULTS
+            .iter()
+            .find(|(fault, ..)| fault == self)
+            .map_or("", |(_, _, text)| text);
+        f.write_str(text)
+    }
+}
+
+impl error::Error for PpsError {}
+
+impl Pps {
+    /// The request's bytes, 3 to 6. `None` where T is above 15.
+    pub fn request(&self) -> Option<Vec<u8>> {
+        let number = |byte: Option<u8>| byte.map_or(ABSENT, u16::from);
+        let (mut bytes, mut n) = ([0; PPS_LIMIT], 0);
+        // SAFETY: an array with its length; `n` is apart from it.
+        let code = unsafe {
+            raw::galliumtoad_pps_request(
+                self.t,
+                number(self.pps1),
+                number(self.pps2),
+                number(self.pps3),
+                bytes.as_mut_ptr(),
+                bytes.len(),
+                &mut n,
+            )
+        };
+        (code == raw::OK).then(|| bytes[..n].to_vec())
+    }
+
+    /// Whether a card's response accepts this request (9.3): it names the same protocol, and each
+    /// of PPS1 to PPS3 is as it was asked for or is not there, which accepts all but that one.
+    /// Where it doesn't, the card is to be reset or given up.
+    ///
+    /// # Errors
+    ///
+    /// [`PpsError::Argument`]: T is above 15. Any other: the bytes are no response.
+    pub fn agreed(&self, response: &[u8]) -> Result<bool, PpsError> {
+        let request = self.request().ok_or(PpsError::Argument)?;
+        // SAFETY: slices with their lengths, which are only read.
+        let code = unsafe {
+            raw::galliumtoad_pps_agreed(
+                request.as_ptr(),
+                request.len(),
+                response.as_ptr(),
+                response.len(),
+            )
+        };
+        if code < 0 {
+            Err(PpsError::of(code))
+        } else {
+            Ok(code != 0)
+        }
+    }
+}

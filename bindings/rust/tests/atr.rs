@@ -1,0 +1,281 @@
+//! Answers to reset, PPS and the version, by ISO/IEC 7816-3, clauses 8 and 9, and EMV Book 1,
+//! worked out by hand.
+
+use galliumtoad::{version, version_fits, Pps, PpsError, PPS_LIMIT};
+use galliumtoad::{Atr, AtrError, AtrReason, Category, Classes, ClockStop, Convention, Mode};
+use galliumtoad::{ATR_LIMIT, PROTOCOLS_LIMIT};
+
+const A: Classes = Classes {
+    a: true,
+    b: false,
+    c: false,
+};
+
+fn atr(bytes: &[u8]) -> Atr<'_> {
+    Atr::read(bytes).expect("an answer to reset")
+}
+
+/// The guard times of T=0 and of T=1: etu, and times Fi/Di cycles.
+fn guards(bytes: &[u8]) -> [(u16, u16); 2] {
+    [0, 1].map(|t| {
+        let guard = atr(bytes).guard_time(t);
+        (guard.etu, guard.indicated)
+    })
+}
+
+#[test]
+fn the_basic_answer_of_t_0() {
+    let bytes = b"\x3B\x65\x00\x00\x20\x63\xCB\x68\x00";
+    let atr = atr(bytes);
+    assert_eq!(atr.convention, Convention::Direct);
+    assert_eq!(atr.protocols(), [0]);
+    assert!(!atr.names_15);
+    assert_eq!((atr.rate_code, atr.fi, atr.di), (0x11, Some(372), Some(1)));
+    assert_eq!(atr.max_khz, Some(5_000));
+    assert_eq!(atr.extra_guard_time, 0);
+    assert_eq!(atr.waiting_integer, Some(10));
+    assert_eq!(atr.waiting_time, Some(10 * 960 * 372));
+    assert_eq!(atr.mode, Mode::Negotiable);
+    assert_eq!(atr.clock_stop, ClockStop::NotSupported);
+    assert_eq!(atr.classes, Some(A));
+    assert_eq!(atr.historical, &bytes[4..]);
+    assert_eq!(atr.category, Category::Proprietary);
+    assert_eq!(guards(bytes), [(12, 0), (12, 0)]);
+}
+
+#[test]
+fn the_basic_answer_of_t_1() {
+    let bytes = b"\x3B\xE0\x00\xFF\x81\x31\xFE\x45\x14";
+    let read = atr(bytes);
+    assert_eq!(read.protocols(), [1]);
+    assert_eq!(read.historical, b"");
+    assert_eq!(read.category, Category::Absent);
+    assert_eq!(read.extra_guard_time, 255);
+    assert_eq!(guards(bytes), [(12, 0), (11, 0)]);
+    assert_eq!(atr(b"\x3F\x00").convention, Convention::Inverse);
+}
+
+#[test]
+fn guard_times_go_by_t_15() {
+    assert_eq!(guards(b"\x3B\x40\x05"), [(17, 0), (17, 0)]);
+    assert_eq!(guards(b"\x3B\xC0\x05\x80\x1F\x03\x59"), [(12, 5), (12, 5)]);
+    assert_eq!(guards(b"\x3B\xC0\xFF\x80\x1F\x03\xA3"), [(12, 0), (11, 0)]);
+    assert_eq!(atr(b"\x3B\x40\x05").guard_time(14).etu, 17);
+    assert_eq!(atr(b"\x3B\x40\xFF").guard_time(2).etu, 12);
+}
+
+#[test]
+fn an_answer_of_a_phone() {
+    let bytes = b"\x3B\x9F\x96\x80\x1F\xC7\x80\x31\xA0\x73\xBE\x21\x13\x67\x43\x20\x07\x18\x00\x00\
+        \x01\xA5";
+    let atr = atr(bytes);
+    assert_eq!(atr.protocols(), [0]);
+    assert!(atr.names_15);
+    assert_eq!((atr.rate_code, atr.fi, atr.di), (0x96, Some(512), Some(32)));
+    assert_eq!(atr.waiting_time, Some(10 * 960 * 512));
+    assert_eq!(atr.clock_stop, ClockStop::AtEither);
+    let all = Classes {
+        a: true,
+        b: true,
+        c: true,
+    };
+    assert_eq!(atr.classes, Some(all));
+    assert_eq!(atr.historical, &bytes[6..21]);
+    assert_eq!(atr.category, Category::Objects);
+}
+
+#[test]
+fn protocols_are_told_in_order() {
+    assert_eq!(atr(b"\x3B\x80\x80\x01\x01").protocols(), [0, 1]);
+    assert_eq!(atr(b"\x3B\x80\x8E\x0F\x01").protocols(), [14]);
+    let all =
+        b"\x3B\x80\x80\x81\x82\x83\x84\x85\x86\x87\x88\x89\x8A\x8B\x8C\x8D\x0E\x8F".as_slice();
+    let protocols: Vec<u8> = (0..15).collect();
+    assert_eq!(atr(all).protocols(), protocols);
+    assert_eq!(atr(all).protocols().len(), PROTOCOLS_LIMIT);
+}
+
+#[test]
+fn what_a_reserved_code_says_is_none() {
+    let read = atr(b"\x3B\x10\x71");
+    assert_eq!((read.fi, read.max_khz), (None, None));
+    assert_eq!((read.di, read.waiting_time), (Some(1), None));
+    assert_eq!(atr(b"\x3B\x10\x9A").di, None);
+    assert_eq!(atr(b"\x3B\x10\x9A").max_khz, Some(5_000));
+    let read = atr(b"\x3B\x80\x40\x00");
+    assert_eq!((read.waiting_integer, read.waiting_time), (None, None));
+    assert_eq!(atr(b"\x3B\x80\x80\x1F\x05\x1A").classes, None);
+}
+
+#[test]
+fn modes_clock_stops_and_classes() {
+    let specific = |t, can_change, is_implicit| Mode::Specific {
+        t,
+        can_change,
+        is_implicit,
+    };
+    let mode = |bytes| atr(bytes).mode;
+    assert_eq!(mode(b"\x3B\x90\x11\x10\x00"), specific(0, true, false));
+    assert_eq!(mode(b"\x3B\x90\x11\x10\x80"), specific(0, false, false));
+    assert_eq!(mode(b"\x3B\x90\x11\x11\x11\x81"), specific(1, true, true));
+    let stop = |bytes| atr(bytes).clock_stop;
+    assert_eq!(stop(b"\x3B\x80\x80\x1F\x41\x5E"), ClockStop::AtLow);
+    assert_eq!(stop(b"\x3B\x80\x80\x1F\x81\x9E"), ClockStop::AtHigh);
+    assert_eq!(stop(b"\x3B\x80\x80\x1F\xC1\xDE"), ClockStop::AtEither);
+    let classes = |bytes| atr(bytes).classes.map(|it| (it.a, it.b, it.c));
+    assert_eq!(
+        classes(b"\x3B\x80\x80\x1F\x01\x1E"),
+        Some((true, false, false))
+    );
+    assert_eq!(
+        classes(b"\x3B\x80\x80\x1F\x02\x1D"),
+        Some((false, true, false))
+    );
+    assert_eq!(
+        classes(b"\x3B\x80\x80\x1F\x04\x1B"),
+        Some((false, false, true))
+    );
+}
+
+#[test]
+fn categories_go_by_the_first_byte() {
+    let category = |first| atr(&[0x3B, 0x01, first]).category;
+    assert_eq!(category(0x00), Category::StatusBehind);
+    assert_eq!(category(0x10), Category::DirReference);
+    assert_eq!(category(0x80), Category::Objects);
+    assert_eq!(category(0x81), Category::Reserved);
+    assert_eq!(category(0x8F), Category::Reserved);
+    assert_eq!(category(0x90), Category::Proprietary);
+}
+
+/// The longest answer, of which a later byte may be asked for too.
+const LONGEST: [u8; ATR_LIMIT] = *b"\x3B\xFF\x11\x00\x00\xF0\x00\x00\x0A\xF0\x00\x00\x00\xF0\x00\
+    \x00\x00\x00123456789ABCDEF";
+
+#[test]
+fn the_longest_answer() {
+    assert_eq!(atr(&LONGEST).historical, b"123456789ABCDEF");
+    let mut longer = LONGEST.to_vec();
+    longer[17] = 0x10;
+    let fault = |reason| Err(AtrError { place: 33, reason });
+    assert_eq!(Atr::read(&longer), fault(AtrReason::Cut));
+    longer.push(0x47);
+    assert_eq!(Atr::read(&longer), fault(AtrReason::TooLong));
+}
+
+#[test]
+fn each_fault_has_its_place() {
+    let rows: [(&[u8], AtrReason, usize, &str); 8] = [
+        (b"\x3A", AtrReason::NoTs, 0, "no TS at 0"),
+        (
+            b"\x3B\x65\x00",
+            AtrReason::Cut,
+            3,
+            "answer to reset cut at 3",
+        ),
+        (
+            b"\x3B\x80\x81\x00",
+            AtrReason::OutOfOrder,
+            3,
+            "T out of order at 3",
+        ),
+        (
+            b"\x3B\x00\x00\x00",
+            AtrReason::Surplus,
+            2,
+            "characters behind the answer to reset at 2",
+        ),
+        (
+            b"\x3B\x80\x01",
+            AtrReason::CheckMissing,
+            3,
+            "check byte missing at 3",
+        ),
+        (
+            b"\x3B\x00\x00",
+            AtrReason::CheckNotDue,
+            2,
+            "check byte not due at 2",
+        ),
+        (
+            b"\x3B\x80\x01\x80",
+            AtrReason::CheckWrong,
+            3,
+            "wrong check byte at 3",
+        ),
+        (b"", AtrReason::Cut, 0, "answer to reset cut at 0"),
+    ];
+    for (bytes, reason, place, text) in rows {
+        let fault = Atr::read(bytes).expect_err(text);
+        assert_eq!(fault, AtrError { place, reason });
+        assert_eq!(fault.to_string(), text);
+    }
+}
+
+#[test]
+fn requests_have_what_is_asked_for() {
+    let all = Pps {
+        t: 1,
+        pps1: Some(0x18),
+        pps2: Some(0x01),
+        pps3: Some(0x02),
+    };
+    let bytes = b"\xFF\x71\x18\x01\x02\x95".to_vec();
+    assert_eq!(bytes.len(), PPS_LIMIT);
+    assert_eq!(all.request(), Some(bytes));
+    let request = |pps: Pps| pps.request().expect("a request");
+    assert_eq!(request(Pps::default()), b"\xFF\x00\xFF");
+    let second = Pps {
+        pps2: Some(0x00),
+        ..Pps::default()
+    };
+    assert_eq!(request(second), b"\xFF\x20\x00\xDF");
+    let third = Pps {
+        t: 15,
+        pps3: Some(0xFF),
+        ..Pps::default()
+    };
+    assert_eq!(request(third), b"\xFF\x4F\xFF\x4F");
+    let none = Pps {
+        t: 16,
+        ..Pps::default()
+    };
+    assert_eq!(none.request(), None);
+    assert_eq!(none.agreed(b"\xFF\x00\xFF"), Err(PpsError::Argument));
+}
+
+#[test]
+fn responses_agree_or_not() {
+    let asked = Pps {
+        pps1: Some(0x96),
+        ..Pps::default()
+    };
+    assert_eq!(asked.agreed(b"\xFF\x10\x96\x79"), Ok(true));
+    assert_eq!(asked.agreed(b"\xFF\x00\xFF"), Ok(true));
+    assert_eq!(asked.agreed(b"\xFF\x10\x11\xFE"), Ok(false));
+    assert_eq!(asked.agreed(b"\xFF\x11\x96\x78"), Ok(false));
+    assert_eq!(asked.agreed(b"\xFF\x30\x96\x00\x59"), Ok(false));
+    let rows: [(&[u8], PpsError, &str); 6] = [
+        (b"", PpsError::Cut, "PPS cut"),
+        (b"\xFE", PpsError::NoPpss, "no PPSS"),
+        (b"\xFF\x10\x96", PpsError::Cut, "PPS cut"),
+        (b"\xFF\x80\x7F", PpsError::Reserved, "PPS0 reserved"),
+        (
+            b"\xFF\x00\xFF\x00",
+            PpsError::Surplus,
+            "characters behind PCK",
+        ),
+        (b"\xFF\x10\x96\x78", PpsError::CheckWrong, "wrong PCK"),
+    ];
+    for (bytes, fault, text) in rows {
+        assert_eq!(asked.agreed(bytes), Err(fault));
+        assert_eq!(fault.to_string(), text);
+    }
+    assert_eq!(PpsError::Argument.to_string(), "bad argument");
+}
+
+#[test]
+fn the_library_is_of_this_version() {
+    assert_eq!(version(), (0, 1, 0));
+    assert!(version_fits());
+}

@@ -2,6 +2,7 @@
 //! and iterators to their end.
 
 use galliumtoad::{head, CardBuilder, Entry, Error, Exchange, Objects, Session, Turn};
+use galliumtoad::{Operation, Terminal, ANSWER_LIMIT, TPDU_LIMIT};
 use galliumtoad::{AID_LEAST, AID_LIMIT, APPS_LIMIT, ENTRIES_LIMIT, LEVELS_LIMIT};
 use galliumtoad::{OBJECT_LIMIT, RESPONSE_LIMIT, VALUE_LIMIT};
 
@@ -186,6 +187,44 @@ fn the_longest_command_is_sent() {
     assert_eq!(exchange.next(), Ok(Turn::Listens));
     let refused = Exchange::start(&[&command[..], &[0x00, 0x00]].concat());
     assert_eq!(refused.err(), Some(Error::BadLength));
+}
+
+/// 255 bytes of data in a TPDU, and 64 TPDUs that bring 256 each.
+#[test]
+fn the_longest_tpdus_go_through_a_terminal() {
+    let command = [&[0x00, 0xDA, 0xDF, 0x01, 0xFF], &bytes(255, 3)[..]].concat();
+    assert_eq!(command.len(), TPDU_LIMIT);
+    let exchange = Exchange::start(&command).expect("an exchange");
+    let due = exchange.tpdu().expect("a TPDU");
+    assert_eq!((due.bytes, due.most), (command.clone(), 0));
+    let mut terminal = Terminal::new().expect("memory");
+    terminal.begin(Operation::Send(&command)).expect("begun");
+    let due = terminal.tpdu().expect("a TPDU");
+    assert_eq!((due.bytes, due.most), (command, 0));
+    terminal.answered(&[0x90, 0x00]).expect("a status");
+    terminal.begin(Operation::Get(0xDF01)).expect("begun");
+    for tpdu in 0..64 {
+        assert_eq!(terminal.tpdu().expect("a TPDU").most, 256);
+        let status = [if tpdu < 63 { 0x61 } else { 0x90 }, 0x00];
+        let answer = [&bytes(256, 256 * tpdu)[..], &status].concat();
+        assert_eq!(answer.len(), ANSWER_LIMIT);
+        terminal.answered(&answer).expect("data and a status");
+    }
+    let answer = terminal.answer().expect("an answer");
+    assert_eq!(answer.status, 0x9000);
+    assert_eq!(answer.data, bytes(RESPONSE_LIMIT, 0));
+}
+
+#[test]
+fn the_longest_tpdu_of_a_card_is_told() {
+    let mut card = full_card().finish().expect("a card");
+    let select = [&[0x00, 0xA4, 0x04, 0x00, 0x10], &aid(7, 16)[..]].concat();
+    assert_eq!(card.tpdu(&select), Ok(vec![0x61, 0x14]));
+    let answer = card.tpdu(&[0x00, 0xCA, 0xDF, 0x01, 0x00]).expect("data");
+    assert_eq!(answer.len(), ANSWER_LIMIT);
+    assert_eq!(answer[..5], [0xDF, 0x01, 0x82, 0x20, 0x00]);
+    assert_eq!(answer[5..256], bytes(251, 0));
+    assert_eq!(answer[256..], [0x61, 0x00]);
 }
 
 /// Nine letters, and 300: each is a NULL before the card goes on.

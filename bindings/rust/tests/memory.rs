@@ -2,7 +2,7 @@
 //! of the library's own. It is run without the feature `heap`, which brings those.
 #![cfg(not(feature = "heap"))]
 
-use galliumtoad::{CardBuilder, Error, Exchange, Session, Turn, APPS_LIMIT};
+use galliumtoad::{CardBuilder, Error, Exchange, Operation, Session, Terminal, Turn, APPS_LIMIT};
 use std::alloc::{alloc, dealloc, Layout};
 use std::sync::atomic::{AtomicUsize, Ordering::SeqCst};
 use std::sync::{Mutex, MutexGuard};
@@ -134,6 +134,22 @@ fn a_session_gives_back_what_it_took() {
     session.plan("nona", 256).expect("a plan");
     session.select(&AID).expect("an answer");
     drop(session);
+    assert_eq!(taken(), 0);
+}
+
+#[test]
+fn a_terminal_gives_back_what_it_took() {
+    let _heap = heap();
+    let mut terminal = Terminal::new().expect("a terminal");
+    let at_rest = taken();
+    assert!(at_rest > 0);
+    let get = Operation::Get(0x5F20);
+    terminal.begin(get).expect("begun");
+    assert!(taken() > 16_384);
+    terminal.reset().expect("a reset");
+    assert_eq!(taken(), at_rest);
+    terminal.begin(get).expect("begun");
+    drop(terminal);
     assert_eq!(taken(), 0);
 }
 

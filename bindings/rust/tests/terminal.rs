@@ -1,6 +1,7 @@
 //! A terminal with a card behind a transport of whole TPDUs.
 
 use galliumtoad::{Card, CardBuilder, Error, Operation, RunError, Terminal, Transport, Turn};
+use std::error::Error as _;
 use std::io;
 
 const AID: [u8; 7] = [0xA0, 0x00, 0x00, 0x00, 0x03, 0x10, 0x10];
@@ -160,6 +161,8 @@ fn a_transport_that_fails_is_told_and_nothing_is_sent_again() {
         .run(&mut reader, Operation::Select(&AID))
         .expect_err("a fault");
     assert_eq!(found.to_string(), "the card was taken out");
+    let source = found.source().expect("a source").to_string();
+    assert_eq!(source, "the card was taken out");
     assert!(matches!(found, RunError::Transport(it) if it.kind() == io::ErrorKind::BrokenPipe));
     assert_eq!(times, 1);
     assert!(terminal.answer().is_none());
@@ -191,6 +194,9 @@ fn what_is_no_operation_is_not_begun() {
         ),
     ] {
         let found = terminal.run(&mut reader, operation).expect_err("a fault");
+        assert_eq!(found.to_string(), wanted.to_string());
+        let source = found.source().expect("a source").to_string();
+        assert_eq!(source, wanted.to_string());
         assert!(
             matches!(found, RunError::Terminal(it) if it == wanted),
             "{operation:?}"

@@ -104,11 +104,13 @@ atr_recorded a =
       waiting_time = value_or_0 (waiting_time a);
     }
 
--- The bytes are an answer, and what it says is told; or this is their first fault, whose place is
--- told, and nothing else.
+-- The bytes are an answer, and what it says is told: its historical bytes stand at the place that is
+-- told, and behind them nothing but TCK. Or this is their first fault, whose place is told, and
+-- nothing else.
 abbrev pub ReadsAtr : List ℕ → AtrRecord → ℕ → ℤ → AtrRecord → ℕ → Type 0
 ReadsAtr bytes atr place code atr' place' =
     ((a : Answer) × IsAnswer a × (bytes ≡ characters a) × (code ≡ gt_ok)
-    × (atr' ≡ atr_recorded a) × (place' ≡ place))
+    × (atr' ≡ atr_recorded a) × (drop atr'.historical bytes ≡ a.historical ++ check_field a)
+    × (place' ≡ place))
     ⊎ ((fault : AtrFault) × (first_fault bytes ≡ Some fault) × (code ≡ atr_code fault.reason)
     × (place' ≡ fault.place) × (atr' ≡ atr))

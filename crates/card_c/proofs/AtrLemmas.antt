@@ -1,6 +1,5 @@
 -- How many protocols an answer offers, and that its historical bytes and TCK stand at its end.
-use Rattle.std.proofs.Common.{◌≡◌, ℕ, suc, ◌+◌, ◌*◌, ◌-◌, ◌<◌, ◌≤◌, ◌==◌, Bool, true, false, not, ◌&&◌, List, [], ◌∷◌, ◌++◌, length, drop, Option, Some, None, refl, sym, subst, ap, ◌∙◌, arith, rules, tests}
-use Rattle.std.specs.Prelude.{if◌then◌else◌}
+use Rattle.std.proofs.Common.{◌≡◌, ℕ, ◌+◌, ◌*◌, ◌-◌, ◌≤◌, Bool, true, false, List, [], ◌∷◌, ◌++◌, length, drop, Option, Some, None, refl, ap, ◌∙◌, arith, tests}
 use Rattle.std.proofs.lemmas.List.{drop_at, length-append}
 use Rattle.atr_core.specs.Answer.{Answer, AreInOrder, IsAnswer, before, announcing, characters, check_field, from_indicator, group_before, ts}
 use Rattle.atr_core.specs.Values.{is_offer, offered, protocols_of}
@@ -45,8 +44,8 @@ group_is g near rest =
     let tc : List ℕ = before g.tc near in
     let tb : List ℕ = before g.tb tc in
     ap (λ (xs : List ℕ). before g.ta (before g.tb xs)) (before_is g.tc near rest)
-        ∙ ap (before g.ta) (before_is g.tb tc rest)
-        ∙ before_is g.ta tb rest
+    ∙ ap (before g.ta) (before_is g.tb tc rest)
+    ∙ before_is g.ta tb rest
 
 indicator_is : (low : ℕ) (g : Group) (ns : List TypedGroup) (rest : List ℕ)
     → from_indicator low g ns rest ≡ from_indicator low g ns [] ++ rest

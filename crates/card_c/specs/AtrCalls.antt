@@ -104,8 +104,8 @@ atr_recorded a =
       waiting_time = value_or_0 (waiting_time a);
     }
 
--- The bytes are an answer, and what it says is told: its historical bytes stand at the place that is
--- told, and behind them nothing but TCK. Or this is their first fault, whose place is told, and
+-- The bytes are an answer, and what it says is told: its historical bytes stand at the place that
+-- is told, and behind them nothing but TCK. Or this is their first fault, whose place is told, and
 -- nothing else.
 abbrev pub ReadsAtr : List ℕ → AtrRecord → ℕ → ℤ → AtrRecord → ℕ → Type 0
 ReadsAtr bytes atr place code atr' place' =

@@ -1,5 +1,5 @@
 -- What the calls on a terminal's handle do to what it holds. A refusal leaves it as it was.
-use Rattle.std.specs.Prelude.{◌≡◌, ◌⊎◌, ℕ, ℤ, List, [], ◌∷◌, true, Option, Some, None, Result, Ok, Err, MatchOption, if◌then◌else◌}
+use Rattle.std.specs.Prelude.{◌≡◌, ◌⊎◌, ℕ, ℤ, List, [], ◌∷◌, Option, Some, None, Result, Ok, Err, MatchOption, if◌then◌else◌}
 use Rattle.apdu_core.specs.declared.command.ApduFault.{ApduFault}
 use Rattle.apdu_core.specs.CommandBytes.{Command, IsCommand, command_bytes}
 use Rattle.apdu_core.specs.StatusWord.{StatusWord}
@@ -8,7 +8,7 @@ use Rattle.t0_core.specs.declared.line_fault.LineFault.{LineFault}
 use Rattle.t0_core.specs.declared.answer_fault.AnswerFault.{AnswerFault}
 use Rattle.t0_core.specs.TpduBytes.{Asked}
 use Rattle.object_card.specs.Tables.{IsAid}
-use Rattle.object_card.specs.OneStep.{Operation, Select, Get, Put}
+use Rattle.object_card.specs.OneStep.{Select, Get, Put}
 use Rattle.card_terminal.specs.declared.terminal.begin_fault.BeginFault.{BeginFault}
 use Rattle.card_terminal.specs.declared.terminal.begin_fault.BeginFault.TheVariants.{OutOfMemory, UnderWay}
 use Rattle.card_terminal.specs.Talk.{AreCommandsOf}
@@ -18,7 +18,7 @@ use Rattle.card_c.specs.declared.operating_side.OperatingSide.{OperatingSide}
 use Rattle.card_c.specs.Codes.{gt_ok, gt_empty, gt_state, gt_memory, gt_argument, gt_no_status, command_code}
 use Rattle.card_c.specs.ExchangeCalls.{AreNone, turn_code, turn_byte, taking_code, TellsEnd}
 use Rattle.card_c.specs.TagNumbers.{IsNumbered}
-use Rattle.card_c.specs.TpduCalls.{AreAnswer, TellsTpdu, answered_code, due_of}
+use Rattle.card_c.specs.TpduCalls.{AreAnswer, answered_code, due_of}
 
 -- A call on a handle: one that holds nothing says so, and stays so; what another holds is as this
 -- says, and it stays live.

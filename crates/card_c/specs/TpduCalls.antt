@@ -1,5 +1,5 @@
 -- What the exports on whole TPDUs answer.
-use Rattle.std.specs.Prelude.{◌≡◌, ◌⊎◌, ℕ, ℤ, ◌<◌, ◌≤◌, List, [], ◌∷◌, ◌++◌, drop, length, true, false, Option, Some, None, IsSome, Result, Ok, Err, if◌then◌else◌}
+use Rattle.std.specs.Prelude.{◌≡◌, ◌⊎◌, ℕ, ℤ, ◌<◌, List, [], ◌∷◌, ◌++◌, drop, length, Option, Some, None, Result, Ok, Err, if◌then◌else◌}
 use Rattle.apdu_core.specs.StatusWord.{StatusWord, IsStatusWord}
 use Rattle.t0_core.specs.declared.answer_fault.AnswerFault.{AnswerFault}
 use Rattle.t0_core.specs.HostAnswer.{is_due}

@@ -1,5 +1,5 @@
 -- The historical bytes and TCK are not more than the whole.
-use Rattle.std.proofs.Common.{arith, ap, List, ℕ, length}
+use Rattle.std.proofs.Common.{arith, ap, length}
 use Rattle.card_c.proofs.AtrLemmas.{end_has}
 use Rattle.card_c.proofs.atr.historical_place.Goals as goal
 

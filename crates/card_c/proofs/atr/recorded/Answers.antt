@@ -1,5 +1,4 @@
 -- There is room for the protocols.
-use Rattle.std.proofs.Common.{◌≤◌, ℕ, List, length, sym, subst, ap}
 use Rattle.card_c.proofs.AtrLemmas.{few_protocols}
 use Rattle.card_c.proofs.atr.recorded.Goals as goal
 

@@ -1,5 +1,5 @@
 -- A response is read, or its fault goes out.
-use Rattle.std.proofs.Common.{ℤ, refl, sym, subst, inl, inr}
+use Rattle.std.proofs.Common.{ℤ, refl, sym, subst, inl}
 use Rattle.card_c.specs.PpsCalls.{AnswersPps}
 use Rattle.card_c.proofs.SessionLemmas.{as_it_is}
 use Rattle.card_c.proofs.pps.answered.Goals as goal

@@ -11,12 +11,15 @@ ghost use Rattle.t0_core.specs.HostAnswer.{is_due, may_come, answer_fault, fails
 ghost use Rattle.card_terminal.specs.ExchangeSide.{HostOpensBy, asks_card};
 
 mod detached;
+mod handing;
 mod kept;
 mod owned;
 mod taking;
 
 use crate::answer::Answer;
 use crate::attempt::Attempt;
+use crate::handed_out::HandedOut;
+use crate::taken::Taken;
 use crate::wanted::Wanted;
 use apdu_core::{Command, Header, Status};
 pub(crate) use detached::Detached;
@@ -24,7 +27,8 @@ pub use owned::OwnedExchange;
 use std::alloc::{AllocError, Allocator, Global};
 use std::marker::Model;
 use t0_core::{AnswerFault, Gather, HostEnd, HostTurn, LineFault, WholeTpdu};
-use taking::taken_by;
+use handing::{failed_before, handed_by};
+use taking::{all_taken_by, taken_by};
 
 /// The most bytes of a response that a terminal gathers (this project's profile).
 pub const RESPONSE_LIMIT: usize = 16_384;
@@ -231,6 +235,27 @@ impl<'a, A: Allocator> Exchange<'a, A> {
             self.wanted,
             &mut self.stalled,
             byte,
+        )
+    }
+
+    /// Hands out characters into a buffer, as `next` one at a time, until the buffer is full or it does
+    /// not send.
+    pub fn next_bytes(&mut self, bytes: &mut [u8]) -> HandedOut {
+        if self.stalled {
+            return failed_before(bytes.len());
+        }
+        handed_by(&mut self.end, bytes)
+    }
+
+    /// Takes characters of the card, as `take` one at a time, up to the first that is a fault.
+    pub fn take_bytes(&mut self, bytes: &[u8]) -> Taken {
+        all_taken_by(
+            &mut self.end,
+            &mut self.gather,
+            &mut self.attempt,
+            self.wanted,
+            &mut self.stalled,
+            bytes,
         )
     }
 

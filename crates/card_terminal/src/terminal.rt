@@ -12,6 +12,8 @@ mod begin_fault;
 mod operation;
 
 use crate::commands::{get_command, select_command};
+use crate::handed_out::HandedOut;
+use crate::taken::Taken;
 use apdu_core::{Command, Status};
 pub use begin_fault::BeginFault;
 use object_card::Aid;
@@ -152,6 +154,20 @@ impl<A: Allocator + Copy> Terminal<A> {
         match &mut self.operation {
             None => Err(LineFault::AfterEnd),
             Some(operation) => operation.take(byte),
+        }
+    }
+
+    pub fn next_bytes(&mut self, bytes: &mut [u8]) -> Option<HandedOut> {
+        match &mut self.operation {
+            None => None,
+            Some(operation) => Some(operation.next_bytes(bytes)),
+        }
+    }
+
+    pub fn take_bytes(&mut self, bytes: &[u8]) -> Taken {
+        match &mut self.operation {
+            None => Taken { count: 0, outcome: if bytes.is_empty() { Ok(()) } else { Err(LineFault::AfterEnd) } },
+            Some(operation) => operation.take_bytes(bytes),
         }
     }
 

@@ -10,8 +10,8 @@ use t0_core::{CardEnd, HostTurn, Plans, Turn};
 /// More characters than any operation here has.
 const CHARACTERS: usize = 20_000;
 
-/// The most data that a TPDU sends.
-const DATA: usize = 255;
+/// As many characters as a buffer between the ends has room for.
+const BUFFER: usize = 512;
 
 /// A terminal, and the card's end of its line.
 #[derive(Drop)]
@@ -50,45 +50,47 @@ impl Driven {
         Ok(())
     }
 
-    /// Passes characters until the operation is over.
+    /// Passes characters until the operation is over, in buffers from either end.
     fn pass(&mut self) -> anyhow::Result<()> {
         let mut plans = Plans::<Global>::over(&[]);
+        let mut buffer = [0; BUFFER];
         for _ in 0..CHARACTERS {
-            match self.terminal.next() {
-                Some(HostTurn::Sends(byte)) => self.hand_on(byte)?,
+            let Some(handed) = self.terminal.next_bytes(&mut buffer) else {
+                break;
+            };
+            self.hand_on(&buffer[..handed.count])?;
+            match handed.stop {
+                None => {}
                 Some(HostTurn::Listens) => {
-                    let Turn::Sends(byte) = self.end.turn(&mut plans) else {
-                        anyhow::bail!("both ends wait");
-                    };
-                    self.terminal.take(byte)?;
-                    self.pass_data()?;
+                    let count = self.card_bytes(&mut plans, &mut buffer);
+                    self.terminal.take_bytes(&buffer[..count]).outcome?;
                 }
-                _ => break,
+                Some(_) => break,
             }
         }
         Ok(())
     }
 
-    /// Passes the data that the terminal has to send now.
-    #[inline(always)]
-    fn pass_data(&mut self) -> anyhow::Result<()> {
-        for _ in 0..DATA {
-            let Some(byte) = self.terminal.next_data() else {
-                break;
-            };
-            self.hand_on(byte)?;
+    /// Hands characters of the terminal to the card.
+    fn hand_on(&mut self, bytes: &[u8]) -> anyhow::Result<()> {
+        for byte in bytes {
+            self.end
+                .take(*byte)
+                .ok()
+                .context("the card does not listen")?;
         }
         Ok(())
     }
 
-    /// Hands a character of the terminal to the card.
-    #[inline(always)]
-    fn hand_on(&mut self, byte: u8) -> anyhow::Result<()> {
-        self.end
-            .take(byte)
-            .ok()
-            .context("the card does not listen")?;
-        Ok(())
+    /// What the card hands out now, as much as there is room for.
+    fn card_bytes(&mut self, plans: &mut Plans<'_, Global>, buffer: &mut [u8]) -> usize {
+        for at in 0..buffer.len() {
+            let Turn::Sends(byte) = self.end.turn(plans) else {
+                return at;
+            };
+            buffer[at] = byte;
+        }
+        buffer.len()
     }
 
     /// The operation is over, and the card answered with `9000`.

@@ -13,7 +13,10 @@ ghost use Rattle.card_terminal.specs.OwnedExchange.{exchange_of, over_data, IsSo
 
 use crate::exchange::Exchange;
 use crate::exchange::kept::Kept;
-use crate::exchange::taking::taken_by;
+use crate::exchange::handing::{failed_before, handed_by};
+use crate::exchange::taking::{all_taken_by, taken_by};
+use crate::handed_out::HandedOut;
+use crate::taken::Taken;
 use apdu_core::{Command, Status};
 use std::alloc::{AllocError, Allocator, Global};
 use std::marker::Model;
@@ -140,6 +143,36 @@ impl<A: Allocator + Copy> Detached<A> {
             self.kept.wanted,
             &mut self.kept.stalled,
             byte,
+        );
+        self.kept.mark = end.mark();
+        taken
+    }
+
+    /// Hands out characters into a buffer, as `Exchange::next_bytes`.
+    pub fn next_bytes(&mut self, bytes: &mut [u8], content: &[u8]) -> HandedOut
+        requires { IsSound (over_data self.old content.now) }
+    {
+        if self.kept.stalled {
+            return failed_before(bytes.len());
+        }
+        let mut end = HostEnd::at(self.kept.mark, content);
+        let handed = handed_by(&mut end, bytes);
+        self.kept.mark = end.mark();
+        handed
+    }
+
+    /// Takes characters of the card, as `Exchange::take_bytes`.
+    pub fn take_bytes(&mut self, bytes: &[u8], content: &[u8]) -> Taken
+        requires { IsSound (over_data self.old content.now) }
+    {
+        let mut end = HostEnd::at(self.kept.mark, content);
+        let taken = all_taken_by(
+            &mut end,
+            &mut self.gather,
+            &mut self.kept.attempt,
+            self.kept.wanted,
+            &mut self.kept.stalled,
+            bytes,
         );
         self.kept.mark = end.mark();
         taken

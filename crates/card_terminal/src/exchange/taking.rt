@@ -14,6 +14,7 @@ ghost use Rattle.card_terminal.specs.ExchangeSide.{UnderWay, IsKept, IsBounded, 
 ghost use Rattle.card_terminal.specs.OwnedExchange.{of_parts};
 
 use crate::attempt::{Attempt, Next};
+use crate::taken::Taken;
 use crate::wanted::Wanted;
 use std::alloc::Allocator;
 use t0_core::{Gather, HostEnd, LineFault};
@@ -97,5 +98,31 @@ pub(crate) fn taken_by<A: Allocator>(
             Err(LineFault::Stalled)
         }
         Next::Ends => Ok(()),
+    }
+}
+
+/// Takes characters of the card, as `Exchange::take_bytes`.
+#[inline(always)]
+pub(crate) fn all_taken_by<A: Allocator>(
+    end: &mut HostEnd<'_>,
+    gather: &mut Gather<A>,
+    attempt: &mut Attempt,
+    wanted: Wanted,
+    stalled: &mut bool,
+    bytes: &[u8],
+) -> Taken
+    requires { IsKept (of_parts end.old gather.old attempt.old wanted stalled.old) }
+{
+    for at in 0..bytes.len() {
+        if let Err(fault) = taken_by(end, gather, attempt, wanted, stalled, bytes[at]) {
+            return Taken {
+                count: at,
+                outcome: Err(fault),
+            };
+        }
+    }
+    Taken {
+        count: bytes.len(),
+        outcome: Ok(()),
     }
 }

@@ -13,6 +13,8 @@ ghost use Rattle.card_terminal.specs.TerminalSide.{OperationOf, LeadsThrough, Go
 
 use crate::commands::put_header;
 use crate::exchange::Detached;
+use crate::handed_out::HandedOut;
+use crate::taken::Taken;
 use apdu_core::{Command, Status, pieces};
 use std::alloc::{AllocError, Allocator, Global};
 use std::marker::Model;
@@ -140,6 +142,21 @@ impl<A: Allocator + Copy> Operation<A> {
         let taken = self
             .exchange
             .take(byte, &self.content[self.from..self.until]);
+        self.go_on();
+        taken
+    }
+
+    /// Hands out characters into a buffer, as `Exchange::next_bytes`.
+    pub fn next_bytes(&mut self, bytes: &mut [u8]) -> HandedOut {
+        self.exchange
+            .next_bytes(bytes, &self.content[self.from..self.until])
+    }
+
+    /// Takes characters of the card, as `Exchange::take_bytes`.
+    pub fn take_bytes(&mut self, bytes: &[u8]) -> Taken {
+        let taken = self
+            .exchange
+            .take_bytes(bytes, &self.content[self.from..self.until]);
         self.go_on();
         taken
     }

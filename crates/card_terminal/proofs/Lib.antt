@@ -1,5 +1,6 @@
 pub mod UnitLemmas
 pub mod OwnedLemmas
+mod HandingLemmas
 pub mod ExchangeLemmas
 pub mod EndLemmas
 mod GoneLemmas

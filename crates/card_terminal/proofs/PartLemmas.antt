@@ -8,10 +8,9 @@ use Rattle.apdu_core.specs.StatusWord.{ok}
 use Rattle.apdu_core.specs.CommandBytes.{Command}
 use Rattle.apdu_core.specs.Chaining.{IsPieces, link, with_more, chain_commands}
 use Rattle.tlv_core.specs.Address.{NamesTag}
-use Rattle.t0_core.specs.declared.host_end.HostTurn.TheVariants.{Done, Failed}
+use Rattle.t0_core.specs.declared.host_end.HostTurn.TheVariants.{Sends, Done, Failed}
 use Rattle.t0_core.specs.Front.{fresh}
 use Rattle.t0_core.specs.HostSide.{turn_of}
-use Rattle.t0_core.specs.HostLaws.{going}
 use Rattle.object_card.specs.CarryingOut.{put_header}
 use Rattle.object_card.specs.OneStep.{Put}
 use Rattle.card_terminal.specs.Attempts.{most_begun, one_more}
@@ -22,6 +21,7 @@ use Rattle.card_terminal.specs.OwnedExchange.{DetachedOf, over_data, IsSound}
 use Rattle.card_terminal.specs.OperationRoom.{IsPart}
 use Rattle.card_terminal.specs.TerminalSide.{OperationOf, AreLeft, LeadsThrough, GoesToNext}
 use Rattle.card_terminal.proofs.PieceLemmas.{left_is, left_after}
+use Rattle.card_terminal.proofs.TurnLemmas.{opening_turn}
 use Rattle.card_terminal.proofs.TerminalLemmas.{one_begins, first_begins}
 
 bounded_by : (fetches repeats : Bool) (before gathered number : ℕ) → before ≤ gathered
@@ -178,10 +178,10 @@ next_front items seen until size header pieces list others c same_items are same
     front_of items until (until + size) c.content more few
     (sym (rest_seen items seen until same_items) ∙ whole) (ap (λ n. until + n) is)
 
-never_done : (c : Command) (ex : ExchangeOf) → UnderWay c ex [] None fresh
-    → exchange_turn ex ≡ Done ok → ⊥
-never_done c ex under done = going ex.host fresh ok under.stands
-    (ap (λ v. if v then Failed else turn_of ex.host) (sym under.going) ∙ done)
+begins_by_sending : (c : Command) (ex : ExchangeOf) → UnderWay c ex [] None fresh
+    → (byte : ℕ) × (exchange_turn ex ≡ Sends byte)
+begins_by_sending c ex under = let (byte, is) = opening_turn ex.host under.stands in
+    (byte, ap (λ v. if v then Failed else turn_of ex.host) under.going ∙ is)
 
 pub next_begins : (old : OperationOf) (ex : ExchangeOf) (new : DetachedOf)
     (items seen : List ℕ) (until p1 p2 size : ℕ) (header : Header) (pieces : List (List ℕ))
@@ -224,8 +224,8 @@ next_begins old ex new items seen until p1 p2 size header pieces list others c v
       );
       bounds = subst (λ (bs : List ℕ). IsBounded (over_data new bs)) (sym front.slice)
           (bounded (over_data new c.content) sound.1);
-      settled = λ turn. absurd (never_done c (over_data new c.content) under
-          (ap (λ (bs : List ℕ). exchange_turn (over_data new bs)) (sym front.slice) ∙ turn));
+      sends = let (byte, turn) = begins_by_sending c (over_data new c.content) under in
+          (byte, ap (λ (bs : List ℕ). exchange_turn (over_data new bs)) front.slice ∙ turn);
     }
 
 -- ---- whether there is one

@@ -64,7 +64,8 @@ stays o new ex settled (inr next) is =
 -- either way it is settled
 settles : (o new : OperationOf) → GoesOver o new → IsSettled new
 settles o new (inl same) = subst (λ x. IsSettled x) (sym same.1) same.0
-settles o new (inr next) = next.settled
+settles o new (inr next) = λ done. let e : Sends next.sends.0 ≡ Done ok = sym next.sends.1 ∙ done in
+    absurd (cc)
 
 -- an exchange that has failed is not followed by another
 fails : (o new : OperationOf) (ex : ExchangeOf) → GoesOver (with_exchange o ex) new

@@ -6,7 +6,7 @@ use Rattle.apdu_core.specs.StatusWord.{ok}
 use Rattle.apdu_core.specs.CommandBytes.{Command}
 use Rattle.apdu_core.specs.Chaining.{IsPieces, chain_commands}
 use Rattle.t0_core.specs.declared.host_end.HostTurn.{HostTurn}
-use Rattle.t0_core.specs.declared.host_end.HostTurn.TheVariants.{Done}
+use Rattle.t0_core.specs.declared.host_end.HostTurn.TheVariants.{Sends, Done}
 use Rattle.t0_core.specs.Character.{Character}
 use Rattle.t0_core.specs.Dialogue.{IsDialogue}
 use Rattle.object_card.specs.CarryingOut.{put_header}
@@ -83,15 +83,15 @@ is_going (Some o) = not (is_done (exchange_turn o.exchange))
 abbrev pub with_exchange : OperationOf → ExchangeOf → OperationOf
 with_exchange o ex = record { exchange = ex; p1 = o.p1; p2 = o.p2; rest = o.rest }
 
--- the exchange of the next command has begun
+-- the exchange of the next command has begun, and it is the terminal's turn to send
 pub record GoesToNext (old new : OperationOf) : Type 0 where
   pub done : exchange_turn old.exchange ≡ Done ok
   pub more : old.rest ≡ [] → ⊥
   pub next : (left : List Command) → AreLeft old.p1 old.p2 old.rest left
       → (c : Command) × (after : List Command) × (left ≡ c ∷ after) × ComesTo c [] new.exchange
       × AreLeft new.p1 new.p2 new.rest after
+  pub sends : (byte : ℕ) × (exchange_turn new.exchange ≡ Sends byte)
   pub bounds : IsBounded new.exchange
-  pub settled : IsSettled new
 
 -- after a command's exchange that is over the next begins, if one follows; else nothing changes
 abbrev pub GoesOver : OperationOf → OperationOf → Type 0

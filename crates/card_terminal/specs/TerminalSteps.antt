@@ -1,5 +1,5 @@
 -- What each call does to a terminal that is driven from outside.
-use Rattle.std.specs.Prelude.{◌≡◌, ℕ, List, [], ◌∷◌, ◌++◌, Option, Some, None, Bool, true, false, ◌⊎◌, Result, MatchResult, IfErr, IsErrOf, IfSome}
+use Rattle.std.specs.Prelude.{◌≡◌, ℕ, List, [], ◌∷◌, ◌++◌, Option, Some, None, Bool, true, false, ◌⊎◌, Result, MatchResult, IfErr, IsErrOf, IfSome, is_some}
 use Rattle.apdu_core.specs.StatusWord.{StatusWord}
 use Rattle.apdu_core.specs.CommandBytes.{Command}
 use Rattle.t0_core.specs.declared.end.End.TheVariants.{Terminal, Card}
@@ -13,8 +13,10 @@ use Rattle.t0_core.specs.Character.{Character}
 use Rattle.t0_core.specs.Dialogue.{Dialogue, characters}
 use Rattle.t0_core.specs.HostSide.{fault_of, data_due}
 use Rattle.t0_core.specs.HostAnswer.{is_due, answer_fault, fails_with, Gives}
+use Rattle.card_terminal.specs.declared.handed_out.HandedOut.{HandedOut}
 use Rattle.card_terminal.specs.declared.terminal.begin_fault.BeginFault.{BeginFault}
 use Rattle.card_terminal.specs.declared.terminal.begin_fault.BeginFault.TheVariants.{OutOfMemory, UnderWay}
+use Rattle.card_terminal.specs.Buffers.{IsHandingOut}
 use Rattle.card_terminal.specs.Gathered.{UnitOf}
 use Rattle.card_terminal.specs.Talk.{AreExchangesOf, talk_characters}
 use Rattle.card_terminal.specs.ExchangeSide.{IsBounded, is_final}
@@ -45,6 +47,14 @@ pub record IsTerminalTurn (old : Option OperationOf) (turn : Option HostTurn)
   pub led : (commands : List Command) (came : List Character) (byte : ℕ)
       → LeadsTo commands came old → turn ≡ Some (Sends byte)
       → LeadsTo commands (came ++ (Terminal, byte) ∷ []) new
+
+-- Characters are handed out into a buffer as by turns; where no operation has begun, nothing is.
+abbrev pub IsTerminalHandingOut : Option OperationOf → List ℕ → List ℕ → Option HandedOut
+    → Option OperationOf → Type 0
+IsTerminalHandingOut old before after None new =
+    (old ≡ None) × (after ≡ before) × (new ≡ None)
+IsTerminalHandingOut old before after (Some handed) new = (is_some old ≡ true)
+    × IsHandingOut (λ s turn t. IsTerminalTurn s (Some turn) t) old before after handed new
 
 -- the data character that the terminal sends now, if one is due
 abbrev pub terminal_data : Option OperationOf → Option ℕ

@@ -27,7 +27,7 @@ pub use owned::OwnedExchange;
 use std::alloc::{AllocError, Allocator, Global};
 use std::marker::Model;
 use t0_core::{AnswerFault, Gather, HostEnd, HostTurn, LineFault, WholeTpdu};
-use handing::{failed_before, handed_by};
+use handing::handed_by;
 use taking::{all_taken_by, taken_by};
 
 /// The most bytes of a response that a terminal gathers (this project's profile).
@@ -75,6 +75,8 @@ impl<'a, A: Allocator> Exchange<'a, A> {
     ghost use Rattle.t0_core.specs.Dialogue.{Dialogue, characters};
     ghost use Rattle.t0_core.specs.Front.{Front, GoesOn, Ends, brought};
     ghost use Rattle.t0_core.specs.HostSide.{fault_of, data_due};
+    ghost use Rattle.card_terminal.specs.Buffers.{IsHandingOut, IsTakingAll};
+    ghost use Rattle.card_terminal.specs.ExchangeSteps.{IsTurn, IsTaking};
     ghost use Rattle.card_terminal.specs.Gathered.{UnitOf, Gathers};
     ghost use Rattle.card_terminal.specs.ExchangeHistory.{ComesTo, ComesTooFar, unit_characters};
     ghost use Rattle.t0_core.specs.Character.{Character};
@@ -238,17 +240,23 @@ impl<'a, A: Allocator> Exchange<'a, A> {
         )
     }
 
-    /// Hands out characters into a buffer, as `next` one at a time, until the buffer is full or it does
-    /// not send.
-    pub fn next_bytes(&mut self, bytes: &mut [u8]) -> HandedOut {
-        if self.stalled {
-            return failed_before(bytes.len());
-        }
-        handed_by(&mut self.end, bytes)
+    /// Hands out characters into a buffer, as `next` one at a time, until the buffer is full or the
+    /// terminal does not send. So an empty buffer is full at once.
+    pub fn next_bytes(&mut self, bytes: &mut [u8]) -> HandedOut
+        ensures handed { IsHandingOut IsTurn self.old bytes.old bytes.new result self.new }
+        ensures data { (content : List ℕ) → HasOnly content self.old.host
+            → HasOnly content self.new.host }
+    {
+        handed_by(&mut self.end, self.stalled, bytes)
     }
 
-    /// Takes characters of the card, as `take` one at a time, up to the first that is a fault.
-    pub fn take_bytes(&mut self, bytes: &[u8]) -> Taken {
+    /// Takes the characters of a buffer, as `take` one at a time, up to the first that is a fault,
+    /// with which it stops. That fault does what it does at `take`.
+    pub fn take_bytes(&mut self, bytes: &[u8]) -> Taken
+        ensures taking { IsTakingAll IsTaking self.old bytes.now result self.new }
+        ensures data { (content : List ℕ) → HasOnly content self.old.host
+            → HasOnly content self.new.host }
+    {
         all_taken_by(
             &mut self.end,
             &mut self.gather,

@@ -5,7 +5,8 @@ ghost use Rattle.apdu_core.specs.CommandBytes as spec;
 ghost use Rattle.object_card.specs.OneStep.{Select, Get, Put};
 ghost use Rattle.card_terminal.specs.Talk.{AreCommandsOf};
 ghost use Rattle.card_terminal.specs.TerminalSide.{OperationOf, is_going};
-ghost use Rattle.card_terminal.specs.TerminalSteps.{IsBeginning, IsTerminalTurn, IsTerminalTaking, IsTerminalAnswering, IsTerminalAnswer, is_tpdu_due, terminal_data};
+ghost use Rattle.card_terminal.specs.Buffers.{IsTakingAll};
+ghost use Rattle.card_terminal.specs.TerminalSteps.{IsBeginning, IsTerminalTurn, IsTerminalHandingOut, IsTerminalTaking, IsTerminalAnswering, IsTerminalAnswer, is_tpdu_due, terminal_data};
 ghost use Rattle.t0_core.specs.HostAnswer.{may_come};
 
 mod begin_fault;
@@ -157,16 +158,24 @@ impl<A: Allocator + Copy> Terminal<A> {
         }
     }
 
-    pub fn next_bytes(&mut self, bytes: &mut [u8]) -> Option<HandedOut> {
+    /// Hands out characters into a buffer, as `next` one at a time, until the buffer is full or the
+    /// terminal does not send; `None` where no operation has begun.
+    pub fn next_bytes(&mut self, bytes: &mut [u8]) -> Option<HandedOut>
+        ensures { IsTerminalHandingOut self.old bytes.old bytes.new result self.new }
+    {
         match &mut self.operation {
             None => None,
             Some(operation) => Some(operation.next_bytes(bytes)),
         }
     }
 
-    pub fn take_bytes(&mut self, bytes: &[u8]) -> Taken {
+    /// Takes the characters of a buffer, as `take` one at a time, up to the first that is a fault,
+    /// with which it stops. That fault does what it does at `take`.
+    pub fn take_bytes(&mut self, bytes: &[u8]) -> Taken
+        ensures { IsTakingAll IsTerminalTaking self.old bytes.now result self.new }
+    {
         match &mut self.operation {
-            None => Taken { count: 0, outcome: if bytes.is_empty() { Ok(()) } else { Err(LineFault::AfterEnd) } },
+            None => none_taken(bytes),
             Some(operation) => operation.take_bytes(bytes),
         }
     }
@@ -219,4 +228,16 @@ impl<A: Allocator + Copy> Terminal<A> {
     {
         self.operation = None;
     }
+}
+
+/// What is taken of a buffer where no operation has begun.
+fn none_taken(bytes: &[u8]) -> Taken
+    ensures { IsTakingAll IsTerminalTaking None bytes.now result None }
+{
+    let outcome = if bytes.is_empty() {
+        Ok(())
+    } else {
+        Err(LineFault::AfterEnd)
+    };
+    Taken { count: 0, outcome }
 }

@@ -8,12 +8,13 @@ ghost use Rattle.t0_core.specs.HostMark.{HasOnly};
 ghost use Rattle.t0_core.specs.HostAnswer.{is_due, may_come};
 ghost use Rattle.card_terminal.specs.ExchangeSide.{UnderWay, exchange_turn, response_limit};
 ghost use Rattle.card_terminal.specs.ExchangeHistory.{ComesTo};
+ghost use Rattle.card_terminal.specs.Buffers.{IsHandingOut, IsTakingAll};
 ghost use Rattle.card_terminal.specs.ExchangeSteps.{IsTurn, IsTaking, IsAnswering, IsAnswer};
 ghost use Rattle.card_terminal.specs.OwnedExchange.{exchange_of, over_data, IsSound};
 
 use crate::exchange::Exchange;
 use crate::exchange::kept::Kept;
-use crate::exchange::handing::{failed_before, handed_by};
+use crate::exchange::handing::handed_by;
 use crate::exchange::taking::{all_taken_by, taken_by};
 use crate::handed_out::HandedOut;
 use crate::taken::Taken;
@@ -151,19 +152,25 @@ impl<A: Allocator + Copy> Detached<A> {
     /// Hands out characters into a buffer, as `Exchange::next_bytes`.
     pub fn next_bytes(&mut self, bytes: &mut [u8], content: &[u8]) -> HandedOut
         requires { IsSound (over_data self.old content.now) }
+        ensures handed { IsHandingOut IsTurn (over_data self.old content.now) bytes.old bytes.new
+            result (over_data self.new content.now) }
+        ensures over { (status : StatusWord)
+            → exchange_turn (over_data self.new content.now) ≡ HostTurn.Done status
+            → over_data self.new content.now ≡ over_data self.old content.now }
+        ensures sound { IsSound (over_data self.new content.now) }
     {
-        if self.kept.stalled {
-            return failed_before(bytes.len());
-        }
         let mut end = HostEnd::at(self.kept.mark, content);
-        let handed = handed_by(&mut end, bytes);
+        let handed = handed_by(&mut end, self.kept.stalled, bytes);
         self.kept.mark = end.mark();
         handed
     }
 
-    /// Takes characters of the card, as `Exchange::take_bytes`.
+    /// Takes the characters of a buffer, as `Exchange::take_bytes`.
     pub fn take_bytes(&mut self, bytes: &[u8], content: &[u8]) -> Taken
         requires { IsSound (over_data self.old content.now) }
+        ensures taking { IsTakingAll IsTaking (over_data self.old content.now) bytes.now result
+            (over_data self.new content.now) }
+        ensures sound { IsSound (over_data self.new content.now) }
     {
         let mut end = HostEnd::at(self.kept.mark, content);
         let taken = all_taken_by(

@@ -1,13 +1,37 @@
 //! Characters that a terminal's end hands out into a buffer.
+ghost use Rattle.std.specs.Prelude.{◌≡◌, ℕ, List, None, Some, length, ◌==◌, if◌then◌else◌};
+ghost use Rattle.apdu_core.specs.StatusWord.{StatusWord};
+ghost use Rattle.t0_core.specs.Room.{Room};
+ghost use Rattle.t0_core.specs.HostMark.{HasOnly};
+ghost use Rattle.card_terminal.specs.declared.attempt.Attempt.{Attempt};
+ghost use Rattle.card_terminal.specs.declared.wanted.Wanted.{Wanted};
+ghost use Rattle.card_terminal.specs.Buffers.{IsHandingOut};
+ghost use Rattle.card_terminal.specs.ExchangeSide.{IsKept, exchange_turn};
+ghost use Rattle.card_terminal.specs.ExchangeSteps.{IsTurn};
+ghost use Rattle.card_terminal.specs.OwnedExchange.{of_parts};
+
 use crate::handed_out::HandedOut;
 use t0_core::{HostEnd, HostTurn};
 
-/// Hands out characters into a buffer, until it is full or the end does not send.
+/// Hands out characters into a buffer, as `Exchange::next_bytes`, which has its promises: the end is
+/// that of an exchange, whatever else this has.
 #[inline(always)]
-pub(crate) fn handed_by(end: &mut HostEnd<'_>, bytes: &mut [u8]) -> HandedOut {
-    for at in 0..bytes.len() {
+pub(crate) fn handed_by(end: &mut HostEnd<'_>, stalled: bool, bytes: &mut [u8]) -> HandedOut
+    ensures handed { (gather : Room) (attempt : Attempt) (wanted : Wanted)
+        → IsKept (of_parts end.old gather attempt wanted stalled)
+        → IsHandingOut IsTurn (of_parts end.old gather attempt wanted stalled) bytes.old bytes.new
+        result (of_parts end.new gather attempt wanted stalled) }
+    ensures over { (gather : Room) (attempt : Attempt) (wanted : Wanted) (status : StatusWord)
+        → exchange_turn (of_parts end.new gather attempt wanted stalled) ≡ HostTurn.Done status
+        → end.new ≡ end.old }
+    ensures data { (content : List ℕ) → HasOnly content end.old → HasOnly content end.new }
+{
+    if stalled {
+        return none_by_failed(bytes.len());
+    }
+    for (at, place) in bytes.iter_mut().enumerate() {
         match end.next() {
-            HostTurn::Sends(byte) => bytes[at] = byte,
+            HostTurn::Sends(byte) => *place = byte,
             turn => {
                 return HandedOut {
                     count: at,
@@ -22,10 +46,14 @@ pub(crate) fn handed_by(end: &mut HostEnd<'_>, bytes: &mut [u8]) -> HandedOut {
     }
 }
 
-/// Nothing is handed out by an end that has failed.
-pub(crate) fn failed_before(room: usize) -> HandedOut {
-    HandedOut {
-        count: 0,
-        stop: if room == 0 { None } else { Some(HostTurn::Failed) },
-    }
+/// What an end that has failed hands out into so much room: nothing.
+fn none_by_failed(room: usize) -> HandedOut
+    ensures count { result.count ≡ 0 }
+    ensures stop { result.stop ≡ (if room == 0 then None else Some HostTurn.Failed) }
+{
+    let stop = match room {
+        0 => None,
+        _ => Some(HostTurn::Failed),
+    };
+    HandedOut { count: 0, stop }
 }

@@ -5,9 +5,12 @@ ghost use Rattle.t0_core.specs.Front.{fresh};
 ghost use Rattle.t0_core.specs.HostAnswer.{is_due, may_come};
 ghost use Rattle.card_terminal.specs.ExchangeSide.{UnderWay};
 ghost use Rattle.card_terminal.specs.ExchangeHistory.{ComesTo};
+ghost use Rattle.card_terminal.specs.Buffers.{IsHandingOut, IsTakingAll};
 ghost use Rattle.card_terminal.specs.ExchangeSteps.{IsTurn, IsTaking, IsAnswering, IsAnswer};
 
 use crate::exchange::detached::Detached;
+use crate::handed_out::HandedOut;
+use crate::taken::Taken;
 use apdu_core::{Command, Status};
 use std::alloc::{AllocError, Allocator, Global};
 use std::marker::Model;
@@ -60,6 +63,20 @@ impl OwnedExchange {
         ensures { IsTaking self.old byte result self.new }
     {
         self.exchange.take(byte, self.content.as_slice())
+    }
+
+    /// Hands out characters into a buffer, as `Exchange::next_bytes`.
+    pub fn next_bytes(&mut self, bytes: &mut [u8]) -> HandedOut
+        ensures { IsHandingOut IsTurn self.old bytes.old bytes.new result self.new }
+    {
+        self.exchange.next_bytes(bytes, self.content.as_slice())
+    }
+
+    /// Takes the characters of a buffer, as `Exchange::take_bytes`.
+    pub fn take_bytes(&mut self, bytes: &[u8]) -> Taken
+        ensures { IsTakingAll IsTaking self.old bytes.now result self.new }
+    {
+        self.exchange.take_bytes(bytes, self.content.as_slice())
     }
 
     /// The whole TPDU that is due, as `Exchange::tpdu`.

@@ -11,6 +11,8 @@ ghost use Rattle.t0_core.specs.HostMark.{HasOnly};
 ghost use Rattle.card_terminal.specs.Gathered.{UnitOf};
 ghost use Rattle.card_terminal.specs.ExchangeHistory.{ComesTo};
 ghost use Rattle.card_terminal.specs.ExchangeSide.{UnderWay, IsKept, IsBounded, IsAtEnd, Continues, Stall, exchange_turn, ended_with, is_final, response_limit};
+ghost use Rattle.card_terminal.specs.ExchangeSteps.{IsTaking};
+ghost use Rattle.card_terminal.specs.Buffers.{IsTakingAll};
 ghost use Rattle.card_terminal.specs.OwnedExchange.{of_parts};
 
 use crate::attempt::{Attempt, Next};
@@ -101,7 +103,7 @@ pub(crate) fn taken_by<A: Allocator>(
     }
 }
 
-/// Takes characters of the card, as `Exchange::take_bytes`.
+/// Takes the characters of a buffer, as `Exchange::take_bytes`, which has its promises.
 #[inline(always)]
 pub(crate) fn all_taken_by<A: Allocator>(
     end: &mut HostEnd<'_>,
@@ -112,9 +114,14 @@ pub(crate) fn all_taken_by<A: Allocator>(
     bytes: &[u8],
 ) -> Taken
     requires { IsKept (of_parts end.old gather.old attempt.old wanted stalled.old) }
+    ensures kept { IsKept (of_parts end.new gather.new attempt.new wanted stalled.new) }
+    ensures taking { IsTakingAll IsTaking
+        (of_parts end.old gather.old attempt.old wanted stalled.old) bytes.now result
+        (of_parts end.new gather.new attempt.new wanted stalled.new) }
+    ensures data { (content : List ℕ) → HasOnly content end.old → HasOnly content end.new }
 {
-    for at in 0..bytes.len() {
-        if let Err(fault) = taken_by(end, gather, attempt, wanted, stalled, bytes[at]) {
+    for (at, byte) in bytes.iter().enumerate() {
+        if let Err(fault) = taken_by(end, gather, attempt, wanted, stalled, *byte) {
             return Taken {
                 count: at,
                 outcome: Err(fault),

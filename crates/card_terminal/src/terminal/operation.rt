@@ -8,6 +8,8 @@ ghost use Rattle.card_terminal.specs.ExchangeSide.{ExchangeOf, IsBounded, exchan
 ghost use Rattle.t0_core.specs.HostSide.{data_due};
 ghost use Rattle.t0_core.specs.HostAnswer.{is_due, may_come};
 ghost use Rattle.apdu_core.specs.StatusWord.{ok};
+ghost use Rattle.card_terminal.specs.Buffers.{IsHandingOut, IsTakingAll};
+ghost use Rattle.card_terminal.specs.TerminalSteps.{IsTerminalTaking};
 ghost use Rattle.card_terminal.specs.ExchangeSteps.{IsTurn, IsTaking, IsAnswering, IsAnswer};
 ghost use Rattle.card_terminal.specs.TerminalSide.{OperationOf, LeadsThrough, GoesOver, GoesToNext, IsSettled, with_exchange};
 
@@ -147,18 +149,34 @@ impl<A: Allocator + Copy> Operation<A> {
     }
 
     /// Hands out characters into a buffer, as `Exchange::next_bytes`.
-    pub fn next_bytes(&mut self, bytes: &mut [u8]) -> HandedOut {
+    pub fn next_bytes(&mut self, bytes: &mut [u8]) -> HandedOut
+        ensures handed { IsHandingOut IsTurn self.old.exchange bytes.old bytes.new result
+            self.new.exchange }
+        ensures rest { self.new ≡ with_exchange self.old self.new.exchange }
+        ensures settled { IsSettled self.old → IsSettled self.new }
+    {
         self.exchange
             .next_bytes(bytes, &self.content[self.from..self.until])
     }
 
-    /// Takes characters of the card, as `Exchange::take_bytes`.
-    pub fn take_bytes(&mut self, bytes: &[u8]) -> Taken {
+    /// Takes the characters of a buffer, as `Exchange::take_bytes`. With a status `9000` the next
+    /// piece of a put is begun, if one follows.
+    pub fn take_bytes(&mut self, bytes: &[u8]) -> Taken
+        ensures { IsSettled self.old → IsTakingAll IsTerminalTaking (Some self.old) bytes.now
+            result (Some self.new) }
+    {
         let taken = self
             .exchange
             .take_bytes(bytes, &self.content[self.from..self.until]);
-        self.go_on();
-        taken
+        let begins = self.go_on();
+        match taken.outcome {
+            // The piece was over, and now the next is to be sent.
+            Err(_) if begins => Taken {
+                count: taken.count,
+                outcome: Err(LineFault::NotListening),
+            },
+            _ => taken,
+        }
     }
 
     /// The whole TPDU that is due, as `Exchange::tpdu`.
@@ -187,18 +205,23 @@ impl<A: Allocator + Copy> Operation<A> {
     }
 
     /// Begins the exchange of the next piece of a put, where the last was answered `9000` and one
-    /// follows.
+    /// follows. Says whether it has.
     #[inline(always)]
-    fn go_on(&mut self)
-        ensures { GoesOver self.old self.new }
+    fn go_on(&mut self) -> bool
+        ensures over { GoesOver self.old self.new }
+        ensures begins { result ≡ true → GoesToNext self.old self.new }
+        ensures stays { result ≡ false → IsSettled self.old × (self.new ≡ self.old) }
     {
         let is_last = self.until == self.content.as_slice().len();
         if is_last {
-            return;
+            return false;
         }
         match self.turn() {
-            HostTurn::Done(status) if status.is_ok() => self.begin_next(),
-            _ => {}
+            HostTurn::Done(status) if status.is_ok() => {
+                self.begin_next();
+                true
+            }
+            _ => false,
         }
     }
 

@@ -1,0 +1,150 @@
+-- Characters that a terminal's end hands out into a buffer, one turn for each.
+use Rattle.std.proofs.Common.{◌≡◌, ℕ, ◌+◌, ◌<◌, ◌≤◌, List, length, drop, take, set, refl, sym, subst, ap, ◌∙◌, arith, Some, None, Bool, true, false}
+use Rattle.apdu_core.specs.StatusWord.{StatusWord}
+use Rattle.t0_core.specs.declared.end.End.TheVariants.{Terminal}
+use Rattle.t0_core.specs.declared.host_end.HostTurn.{HostTurn}
+use Rattle.t0_core.specs.declared.host_end.HostTurn.TheVariants.{Sends, Done}
+use Rattle.t0_core.specs.Front.{Front, GoesOn}
+use Rattle.t0_core.specs.Room.{Room}
+use Rattle.t0_core.specs.HostSide.{Hosting, HostStandsAt, IsRequest, at_stage, turn_of, after_turn}
+use Rattle.t0_core.specs.HostMark.{HasOnly}
+use Rattle.card_terminal.specs.declared.attempt.Attempt.{Attempt}
+use Rattle.card_terminal.specs.declared.wanted.Wanted.{Wanted}
+use Rattle.card_terminal.specs.Buffers.{HandsOut, IsHandingOut}
+use Rattle.card_terminal.specs.BufferLaws.{none_handed, one_handed}
+use Rattle.card_terminal.specs.ExchangeSide.{ExchangeOf, IsKept, exchange_turn}
+use Rattle.card_terminal.specs.ExchangeSteps.{IsTurn}
+use Rattle.card_terminal.specs.OwnedExchange.{of_parts}
+use Rattle.card_terminal.proofs.OwnedLemmas.{turned}
+use Rattle.card_terminal.proofs.TurnLemmas.{over_by_turn}
+
+-- a turn at which a character is handed out
+abbrev pub SendsOne : ExchangeOf → ℕ → ExchangeOf → Type 0
+SendsOne s b t = IsTurn s (Sends b) t
+
+-- From where it began, an end has handed so many characters into the buffer, whatever else the
+-- exchange has of which it is the end.
+pub record HasHanded (begun : Hosting) (stalled : Bool) (before after : List ℕ) (at : ℕ)
+    (end : Hosting) : Type 0 where
+  pub out : (gather : Room) (attempt : Attempt) (wanted : Wanted)
+      → IsKept (of_parts begun gather attempt wanted stalled)
+      → HandsOut SendsOne (of_parts begun gather attempt wanted stalled) before after at
+      (of_parts end gather attempt wanted stalled)
+  pub kept : (gather : Room) (attempt : Attempt) (wanted : Wanted)
+      → IsKept (of_parts begun gather attempt wanted stalled)
+      → IsKept (of_parts end gather attempt wanted stalled)
+  pub over : (gather : Room) (attempt : Attempt) (wanted : Wanted) (status : StatusWord)
+      → exchange_turn (of_parts end gather attempt wanted stalled) ≡ Done status → end ≡ begun
+  pub only : (content : List ℕ) → HasOnly content begun → HasOnly content end
+
+pub none_yet : (begun : Hosting) (stalled : Bool) (bytes : List ℕ)
+    → HasHanded begun stalled bytes bytes 0 begun
+none_yet begun stalled bytes = record {
+  out = λ gather attempt wanted kept.
+      none_handed SendsOne (of_parts begun gather attempt wanted stalled) bytes;
+  kept = λ gather attempt wanted kept. kept;
+  over = λ gather attempt wanted status done. refl;
+  only = λ content only. only;
+}
+
+-- what holds of every exchange still does at another stage of its end, where it has not stalled
+still_kept : (end next : Hosting) (stalled : Bool) (gather : Room) (attempt : Attempt)
+    (wanted : Wanted) → stalled ≡ false → IsKept (of_parts end gather attempt wanted stalled)
+    → IsKept (of_parts next gather attempt wanted stalled)
+still_kept end next stalled gather attempt wanted going kept = record {
+  counted = kept.counted;
+  room = kept.room;
+  fits = kept.fits;
+  stalled_at_end = λ is. let no : true ≡ false = sym is ∙ going in absurd (cc);
+}
+
+module _ (begun end next : Hosting) (stalled : Bool) (before after : List ℕ) (at : ℕ)
+    (turn : HostTurn) (going : stalled ≡ false) (below : at < length after)
+    (same : length after ≡ length before) (handed : HasHanded begun stalled before after at end)
+    (is : turn ≡ turn_of end) (went : next ≡ at_stage end (after_turn end))
+    (request : IsRequest next) (stays : ((byte : ℕ) → turn ≡ Sends byte → ⊥) → next ≡ end)
+    (goes_on : (front : Front) (byte : ℕ) → HostStandsAt end front → turn ≡ Sends byte
+    → (new : Front) × GoesOn front (Terminal, byte) new × HostStandsAt next new) where
+  one_turn : (gather : Room) (attempt : Attempt) (wanted : Wanted)
+      → IsKept (of_parts begun gather attempt wanted stalled)
+      → IsTurn (of_parts end gather attempt wanted stalled) turn
+      (of_parts next gather attempt wanted stalled)
+  one_turn gather attempt wanted kept = turned (of_parts end gather attempt wanted stalled) turn
+      next (handed.kept gather attempt wanted kept) going is went request stays goes_on
+
+  -- one more is handed out
+  pub handed_on : (byte : ℕ) → turn ≡ Sends byte
+      → HasHanded begun stalled before (set after at byte) (at + 1) next
+  handed_on byte sends = record {
+    out = λ gather attempt wanted kept.
+        one_handed SendsOne (of_parts begun gather attempt wanted stalled)
+        (of_parts end gather attempt wanted stalled) (of_parts next gather attempt wanted stalled)
+        before after at byte below same (handed.out gather attempt wanted kept)
+        (subst (λ t. IsTurn (of_parts end gather attempt wanted stalled) t
+        (of_parts next gather attempt wanted stalled)) sends
+        (one_turn gather attempt wanted kept));
+    kept = λ gather attempt wanted kept. still_kept end next stalled gather attempt wanted going
+        (handed.kept gather attempt wanted kept);
+    over = λ gather attempt wanted status done.
+        let ex = of_parts end gather attempt wanted stalled in
+        let back : next ≡ end = ap (λ (e : ExchangeOf). e.host)
+        (over_by_turn ex ex next status refl going went done) in
+        back ∙ handed.over gather attempt wanted status
+        (ap (λ (h : Hosting). exchange_turn (of_parts h gather attempt wanted stalled)) (sym back)
+        ∙ done);
+    only = λ content only. subst (λ (h : Hosting). HasOnly content h) (sym went)
+        (handed.only content only);
+  }
+
+  -- or none, and that is told
+  pub handed_up_to : (kept_as : List ℕ) → kept_as ≡ after
+      → ((byte : ℕ) → turn ≡ Sends byte → ⊥) → (gather : Room) (attempt : Attempt)
+      (wanted : Wanted) → IsKept (of_parts begun gather attempt wanted stalled)
+      → IsHandingOut IsTurn (of_parts begun gather attempt wanted stalled) before kept_as
+      (record { count = at; stop = Some turn }) (of_parts next gather attempt wanted stalled)
+  handed_up_to kept_as equal none gather attempt wanted kept =
+      let back = stays none in
+      let step = one_turn gather attempt wanted kept in
+      let S : Hosting → Type 0 = λ h. HandsOut SendsOne
+      (of_parts begun gather attempt wanted stalled) before kept_as at
+      (of_parts h gather attempt wanted stalled) in
+      let P : List ℕ → Type 0 = λ bs. HandsOut SendsOne
+      (of_parts begun gather attempt wanted stalled) before bs at
+      (of_parts end gather attempt wanted stalled) in
+      let Q : Hosting → Type 0 = λ h. IsTurn (of_parts h gather attempt wanted stalled) turn
+      (of_parts next gather attempt wanted stalled) in
+      record {
+        sent = subst S (sym back) (subst P (sym equal) (handed.out gather attempt wanted kept));
+        stop = (omega (arith, below, same), subst Q (sym back) step, none);
+      }
+
+  -- the end has come no further
+  pub over_still : ((byte : ℕ) → turn ≡ Sends byte → ⊥) → (gather : Room) (attempt : Attempt)
+      (wanted : Wanted) (status : StatusWord)
+      → exchange_turn (of_parts next gather attempt wanted stalled) ≡ Done status → next ≡ begun
+  over_still none gather attempt wanted status done =
+      let back = stays none in
+      back ∙ handed.over gather attempt wanted status
+      (ap (λ (h : Hosting). exchange_turn (of_parts h gather attempt wanted stalled)) (sym back)
+      ∙ done)
+
+  pub only_still : (content : List ℕ) → HasOnly content begun → HasOnly content next
+  only_still content only = subst (λ (h : Hosting). HasOnly content h) (sym went)
+      (handed.only content only)
+
+-- the buffer is full
+pub handed_all : (begun end : Hosting) (stalled : Bool) (before after : List ℕ) (at : ℕ)
+    → length after ≤ at → at ≤ length after → length after ≡ length before
+    → HasHanded begun stalled before after at end
+    → (gather : Room) (attempt : Attempt) (wanted : Wanted)
+    → IsKept (of_parts begun gather attempt wanted stalled)
+    → IsHandingOut IsTurn (of_parts begun gather attempt wanted stalled) before after
+    (record { count = length after; stop = None }) (of_parts end gather attempt wanted stalled)
+handed_all begun end stalled before after at beyond within same handed gather attempt wanted kept =
+    let e : at ≡ length after = omega (arith, beyond, within) in
+    record {
+      sent = subst (λ n. HandsOut SendsOne (of_parts begun gather attempt wanted stalled) before
+          after n (of_parts end gather attempt wanted stalled)) e
+          (handed.out gather attempt wanted kept);
+      stop = same;
+    }

@@ -1,0 +1,57 @@
+-- Laws of characters that pass by a buffer: one step more, and what all of them lead to.
+use Rattle.std.proofs.Common.{◌≡◌, ◌<◌, ◌≤◌, ◌+◌, ◌++◌, ℕ, List, [], ◌∷◌, length, take, drop, set, get_or, refl, sym, subst, ap, ◌∙◌, arith, append-nil, append_assoc}
+use Rattle.std.proofs.lemmas.List.{take_more, take_more_set, drop-set-lt, drop-drop}
+use Rattle.t0_core.specs.declared.end.End.{End}
+use Rattle.t0_core.specs.Character.{Character, sent_by}
+use Rattle.card_terminal.specs.Buffers.{Steps, HandsOut}
+
+module _ {State : Type 0} (Step : State → ℕ → State → Type 0) where
+  -- one step more
+  pub one_more : (bs : List ℕ) (s last next : State) (b : ℕ) → Steps Step s bs last
+      → Step last b next → Steps Step s (bs ++ b ∷ []) next
+  one_more [] s last next b same step = (next, subst (λ x. Step x b next) same step, refl)
+  one_more (c ∷ bs) s last next b steps step =
+      (steps.0, steps.1, one_more bs steps.0 last next b steps.2 step)
+
+  -- none is handed out
+  pub none_handed : (s : State) (bytes : List ℕ) → HandsOut Step s bytes bytes 0 s
+  none_handed s bytes = record { fits = omega arith; steps = refl; behind = refl }
+
+  -- what stands behind a place stays where a byte is written there
+  pub rest_stays : (before after : List ℕ) (at b : ℕ) → drop at after ≡ drop at before
+      → drop (at + 1) (set after at b) ≡ drop (at + 1) before
+  rest_stays before after at b behind =
+      drop-set-lt (at + 1) after at b (omega arith)
+      ∙ sym (drop-drop 1 at after) ∙ ap (λ bs. drop 1 bs) behind ∙ drop-drop 1 at before
+
+  -- one more is handed out
+  pub one_handed : (old s next : State) (before after : List ℕ) (at b : ℕ) → at < length after
+      → length after ≡ length before → HandsOut Step old before after at s → Step s b next
+      → HandsOut Step old before (set after at b) (at + 1) next
+  one_handed old s next before after at b below same handed step = record {
+    fits = omega (arith, below, same);
+    steps = subst (λ bs. Steps Step old bs next) (sym (take_more_set after at b below))
+        (one_more (take at after) old s next b handed.steps step);
+    behind = rest_stays before after at b handed.behind;
+  }
+
+  -- one more is taken
+  pub one_taken : (old s next : State) (bytes : List ℕ) (at : ℕ) → at < length bytes
+      → Steps Step old (take at bytes) s → Step s (get_or bytes at 0) next
+      → Steps Step old (take (at + 1) bytes) next
+  one_taken old s next bytes at below steps step =
+      subst (λ bs. Steps Step old bs next) (sym (take_more bytes at 0 below))
+      (one_more (take at bytes) old s next (get_or bytes at 0) steps step)
+
+  -- What each step leads on, all of them lead on.
+  pub all_lead : (from : End) (Led : List Character → State → Type 0)
+      → ((s next : State) (b : ℕ) (came : List Character) → Step s b next → Led came s
+      → Led (came ++ (from, b) ∷ []) next)
+      → (bs : List ℕ) (s last : State) (came : List Character) → Steps Step s bs last
+      → Led came s → Led (came ++ sent_by from bs) last
+  all_lead from Led one [] s last came same led = subst (λ x. Led (came ++ []) x) (sym same)
+      (subst (λ cs. Led cs s) (sym (append-nil came)) led)
+  all_lead from Led one (b ∷ bs) s last came steps led =
+      subst (λ cs. Led cs last) (append_assoc came ((from, b) ∷ []) (sent_by from bs))
+      (all_lead from Led one bs steps.0 last (came ++ (from, b) ∷ []) steps.2
+      (one s steps.0 b came steps.1 led))

@@ -1,0 +1,42 @@
+-- Characters that pass by a buffer: what it does is so many steps of one character each.
+use Rattle.std.specs.Prelude.{◌≡◌, ◌<◌, ◌≤◌, ℕ, List, [], ◌∷◌, length, take, drop, slice_index, Result, Ok, Err, MatchResult, MatchOption}
+use Rattle.t0_core.specs.declared.host_end.HostTurn.{HostTurn}
+use Rattle.t0_core.specs.declared.host_end.HostTurn.TheVariants.{Sends}
+use Rattle.t0_core.specs.declared.line_fault.LineFault.{LineFault}
+use Rattle.card_terminal.specs.declared.handed_out.HandedOut.{HandedOut}
+use Rattle.card_terminal.specs.declared.taken.Taken.{Taken}
+
+-- These bytes lead from a state to the last, by one step for each.
+abbrev pub Steps : {State : Type 0} → (State → ℕ → State → Type 0) → State → List ℕ → State
+    → Type 0
+Steps Step s [] last = last ≡ s
+Steps Step s (b ∷ bs) last = (next : _) × Step s b next × Steps Step next bs last
+
+-- So many bytes were handed out into a buffer, by one step for each: they stand at its front, and
+-- what stands behind them stays as it was.
+pub record HandsOut {State : Type 0} (Step : State → ℕ → State → Type 0) (old : State)
+    (before after : List ℕ) (count : ℕ) (new : State) : Type 0 where
+  pub fits : count ≤ length before
+  pub steps : Steps Step old (take count after) new
+  pub behind : drop count after ≡ drop count before
+
+-- An end that takes turns hands out each character that it sends, until the buffer is full, or what
+-- it does next is not to send: then that is told.
+pub record IsHandingOut {State : Type 0} (Turn : State → HostTurn → State → Type 0) (old : State)
+    (before after : List ℕ) (handed : HandedOut) (new : State) : Type 0 where
+  pub sent : HandsOut (λ s b t. Turn s (Sends b) t) old before after handed.count new
+  pub stop : MatchOption handed.stop (handed.count ≡ length before)
+      (λ turn. (handed.count < length before) × Turn new turn new
+      × ((byte : ℕ) → turn ≡ Sends byte → ⊥))
+
+-- It takes the characters of a buffer one after another, all of them, or up to the first that is a
+-- fault: then those before it are taken, and the fault does what it does.
+pub record IsTakingAll {State : Type 0}
+    (Taking : State → ℕ → Result (Unit {0}) LineFault → State → Type 0) (old : State)
+    (bytes : List ℕ) (taken : Taken) (new : State) : Type 0 where
+  pub last : State
+  pub steps : Steps (λ s b t. Taking s b (Ok tt) t) old (take taken.count bytes) last
+  pub outcome : MatchResult taken.outcome
+      (λ _. (taken.count ≡ length bytes) × (new ≡ last))
+      (λ fault. (taken.count < length bytes)
+      × Taking last (slice_index bytes taken.count) (Err fault) new)

@@ -1,6 +1,7 @@
 pub mod UnitLemmas
 pub mod OwnedLemmas
 mod HandingLemmas
+mod TakingLemmas
 pub mod ExchangeLemmas
 pub mod EndLemmas
 mod GoneLemmas

@@ -1,0 +1,59 @@
+-- Characters of a buffer that an exchange takes one after another.
+use Rattle.std.proofs.Common.{◌≡◌, ℕ, ◌+◌, ◌<◌, ◌≤◌, List, length, take, get_or, refl, sym, subst, ap, ◌∙◌, arith}
+use Rattle.std.specs.Prelude.{Result, Ok, Err}
+use Rattle.t0_core.specs.declared.line_fault.LineFault.{LineFault}
+use Rattle.t0_core.specs.HostMark.{HasOnly}
+use Rattle.card_terminal.specs.Buffers.{Steps, IsTakingAll}
+use Rattle.card_terminal.specs.BufferLaws.{one_taken}
+use Rattle.card_terminal.specs.ExchangeSide.{ExchangeOf, IsKept}
+use Rattle.card_terminal.specs.ExchangeSteps.{IsTaking}
+
+-- a character that is taken without a fault
+abbrev pub TakesOne : ExchangeOf → ℕ → ExchangeOf → Type 0
+TakesOne s b t = IsTaking s b (Ok tt) t
+
+-- from where it began, an exchange has taken so many characters of the buffer
+pub record HasTaken (old now : ExchangeOf) (bytes : List ℕ) (at : ℕ) : Type 0 where
+  pub kept : IsKept now
+  pub steps : Steps TakesOne old (take at bytes) now
+  pub only : (content : List ℕ) → HasOnly content old.host → HasOnly content now.host
+
+pub none_yet : (old : ExchangeOf) (bytes : List ℕ) → IsKept old → HasTaken old old bytes 0
+none_yet old bytes kept = record { kept = kept; steps = refl; only = λ content only. only }
+
+-- one more
+pub taken_on : (old now next : ExchangeOf) (bytes : List ℕ) (at : ℕ)
+    (result : Result (Unit {0}) LineFault) → at < length bytes → HasTaken old now bytes at
+    → IsTaking now (get_or bytes at 0) result next → result ≡ Ok tt → IsKept next
+    → ((content : List ℕ) → HasOnly content now.host → HasOnly content next.host)
+    → HasTaken old next bytes (at + 1)
+taken_on old now next bytes at result below taken step is kept only = record {
+  kept = kept;
+  steps = one_taken TakesOne old now next bytes at below taken.steps
+      (subst (λ r. IsTaking now (get_or bytes at 0) r next) is step);
+  only = λ content has. only content (taken.only content has);
+}
+
+-- one that is a fault
+pub taken_up_to : (old now next : ExchangeOf) (bytes : List ℕ) (at : ℕ)
+    (result : Result (Unit {0}) LineFault) (fault : LineFault) → at < length bytes
+    → HasTaken old now bytes at → IsTaking now (get_or bytes at 0) result next
+    → result ≡ Err fault
+    → IsTakingAll IsTaking old bytes (record { count = at; outcome = Err fault }) next
+taken_up_to old now next bytes at result fault below taken step is = record {
+  last = now;
+  steps = taken.steps;
+  outcome = (below, subst (λ r. IsTaking now (get_or bytes at 0) r next) is step);
+}
+
+-- or all
+pub taken_all : (old now : ExchangeOf) (bytes : List ℕ) (at : ℕ) → length bytes ≤ at
+    → at ≤ length bytes → HasTaken old now bytes at
+    → IsTakingAll IsTaking old bytes (record { count = length bytes; outcome = Ok tt }) now
+taken_all old now bytes at beyond within taken =
+    let e : at ≡ length bytes = omega (arith, beyond, within) in
+    record {
+      last = now;
+      steps = subst (λ n. Steps TakesOne old (take n bytes) now) e taken.steps;
+      outcome = (refl, refl);
+    }

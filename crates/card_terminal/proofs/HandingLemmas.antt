@@ -128,6 +128,12 @@ module _ (begun end next : Hosting) (stalled : Bool) (before after : List ℕ) (
       (ap (λ (h : Hosting). exchange_turn (of_parts h gather attempt wanted stalled)) (sym back)
       ∙ done)
 
+  pub kept_still : (gather : Room) (attempt : Attempt) (wanted : Wanted)
+      → IsKept (of_parts begun gather attempt wanted stalled)
+      → IsKept (of_parts next gather attempt wanted stalled)
+  kept_still gather attempt wanted kept = still_kept end next stalled gather attempt wanted going
+      (handed.kept gather attempt wanted kept)
+
   pub only_still : (content : List ℕ) → HasOnly content begun → HasOnly content next
   only_still content only = subst (λ (h : Hosting). HasOnly content h) (sym went)
       (handed.only content only)

@@ -21,6 +21,9 @@ pub(crate) fn handed_by(end: &mut HostEnd<'_>, stalled: bool, bytes: &mut [u8]) 
         → IsKept (of_parts end.old gather attempt wanted stalled)
         → IsHandingOut IsTurn (of_parts end.old gather attempt wanted stalled) bytes.old bytes.new
         result (of_parts end.new gather attempt wanted stalled) }
+    ensures kept { (gather : Room) (attempt : Attempt) (wanted : Wanted)
+        → IsKept (of_parts end.old gather attempt wanted stalled)
+        → IsKept (of_parts end.new gather attempt wanted stalled) }
     ensures over { (gather : Room) (attempt : Attempt) (wanted : Wanted) (status : StatusWord)
         → exchange_turn (of_parts end.new gather attempt wanted stalled) ≡ HostTurn.Done status
         → end.new ≡ end.old }

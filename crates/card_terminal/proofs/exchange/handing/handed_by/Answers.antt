@@ -1,6 +1,6 @@
 use Rattle.std.proofs.Common.{◌<◌, ◌≤◌, length, arith}
 use Rattle.std.proofs.lemmas.List.{set-get_or}
-use Rattle.card_terminal.proofs.HandingLemmas.{none_yet, handed_on, handed_up_to, over_still, only_still, handed_all}
+use Rattle.card_terminal.proofs.HandingLemmas.{none_yet, handed_on, handed_up_to, over_still, kept_still, only_still, handed_all}
 use Rattle.card_terminal.proofs.exchange.handing.handed_by.Goals as goal
 
 pub loop-at-init : goal.loop-at-init
@@ -25,6 +25,10 @@ returns-in_default c =
           c.loop-at.auto.bytes c.loop-at.invariant c.next.ensures.turn c.next.ensures.after
           c.next.ensures.keeps c.next.ensures.stays c.next.ensures.goes_on _
           (set-get_or c.loop-at.bytes c.loop-at.at 0) c.in_default.not-Sends;
+      kept = kept_still c.args.end.now c.loop-at.end c.next.new.self c.args.stalled
+          c.args.bytes.now c.loop-at.bytes c.loop-at.at c.next.result c.if-stalled.false below
+          c.loop-at.auto.bytes c.loop-at.invariant c.next.ensures.turn c.next.ensures.after
+          c.next.ensures.keeps c.next.ensures.stays c.next.ensures.goes_on;
       over = over_still c.args.end.now c.loop-at.end c.next.new.self c.args.stalled
           c.args.bytes.now c.loop-at.bytes c.loop-at.at c.next.result c.if-stalled.false below
           c.loop-at.auto.bytes c.loop-at.invariant c.next.ensures.turn c.next.ensures.after
@@ -41,6 +45,9 @@ returns-clause-handed c =
     omega (arith, c.loop-at.auto.at-end, c.loop-at.auto.bytes) in
     handed_all c.args.end.now c.loop-at.end c.args.stalled c.args.bytes.now c.loop-at.bytes
     c.loop-at.at (omega (arith, c.loop-at-test.false, c.loop-at.auto.bytes)) within c.loop-at.auto.bytes c.loop-at.invariant
+
+pub returns-clause-kept : goal.returns-clause-kept
+returns-clause-kept c = c.loop-at.invariant.kept
 
 pub returns-clause-over : goal.returns-clause-over
 returns-clause-over c = c.loop-at.invariant.over

@@ -2,6 +2,7 @@ pub mod UnitLemmas
 pub mod OwnedLemmas
 mod HandingLemmas
 mod TakingLemmas
+mod TerminalBufferLemmas
 pub mod ExchangeLemmas
 pub mod EndLemmas
 mod GoneLemmas

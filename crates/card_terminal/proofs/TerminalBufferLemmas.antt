@@ -1,0 +1,202 @@
+-- What an exchange does with a buffer is what the terminal that holds it does.
+use Rattle.std.proofs.Common.{◌≡◌, ◌<◌, ℕ, List, [], ◌∷◌, length, take, get_or, inl, inr, refl, sym, subst, ◌∙◌, ap, true, false, Bool, Option, Some, None}
+use Rattle.std.specs.Prelude.{Result, Ok, Err, MatchOption, IfErr, not}
+use Rattle.apdu_core.specs.StatusWord.{ok}
+use Rattle.t0_core.specs.declared.host_end.HostTurn.{HostTurn}
+use Rattle.t0_core.specs.declared.host_end.HostTurn.TheVariants.{Sends, Done, Failed}
+use Rattle.t0_core.specs.declared.line_fault.LineFault.{LineFault}
+use Rattle.t0_core.specs.declared.line_fault.LineFault.TheVariants.{AfterEnd, NotListening}
+use Rattle.card_terminal.specs.declared.handed_out.HandedOut.{HandedOut}
+use Rattle.card_terminal.specs.declared.taken.Taken.{Taken}
+use Rattle.card_terminal.specs.Buffers.{Steps, HandsOut, IsHandingOut, IsTakingAll}
+use Rattle.card_terminal.specs.Conversing.{is_done}
+use Rattle.card_terminal.specs.ExchangeSide.{ExchangeOf, IsBounded, exchange_turn, is_final}
+use Rattle.card_terminal.specs.ExchangeSteps.{IsTurn, IsTaking}
+use Rattle.card_terminal.specs.TerminalSide.{OperationOf, IsSettled, GoesOver, GoesToNext, with_exchange}
+use Rattle.card_terminal.specs.TerminalSteps.{IsTerminalTurn, IsTerminalTaking}
+use Rattle.card_terminal.proofs.HandingLemmas.{SendsOne}
+use Rattle.card_terminal.proofs.TakingLemmas.{TakesOne}
+use Rattle.card_terminal.proofs.TurnLemmas.{not_listening}
+use Rattle.card_terminal.proofs.TerminalStepLemmas.{turns, takes, stays}
+
+-- a turn of a terminal that holds an operation
+abbrev pub TurnsOf : Option OperationOf → HostTurn → Option OperationOf → Type 0
+TurnsOf s turn t = IsTerminalTurn s (Some turn) t
+
+-- ---- handed out
+
+-- where it sends, nothing is over
+sends_settled : (o : OperationOf) (ex next : ExchangeOf) (byte : ℕ) → SendsOne ex byte next
+    → IsSettled (with_exchange o ex)
+sends_settled o ex next byte step = λ done.
+    let no : Sends byte ≡ Done ok = step.turn_is ∙ done in absurd (cc)
+
+all_sent : (o : OperationOf) (bs : List ℕ) (ex last : ExchangeOf)
+    → IsSettled (with_exchange o ex) → Steps SendsOne ex bs last → IsSettled (with_exchange o last)
+    → Steps (λ s b t. TurnsOf s (Sends b) t) (Some (with_exchange o ex)) bs
+    (Some (with_exchange o last))
+all_sent o [] ex last settled same at_last = ap (λ x. Some (with_exchange o x)) same
+all_sent o (b ∷ bs) ex last settled (next, step, rest) at_last =
+    let then_settled = after bs rest in (
+      Some (with_exchange o next),
+      turns (with_exchange o ex) (with_exchange o next) (Sends b) step refl step.bounds
+          then_settled,
+      all_sent o bs next last then_settled rest at_last,
+    )
+  where
+    after : (cs : List ℕ) → Steps SendsOne next cs last → IsSettled (with_exchange o next)
+    after [] same = subst (λ x. IsSettled (with_exchange o x)) same at_last
+    after (c ∷ cs) (then_next, then_step, then_rest) = sends_settled o next then_next c then_step
+
+pub hands_out : (o new : OperationOf) (before after : List ℕ) (handed : HandedOut) → IsSettled o
+    → IsHandingOut IsTurn o.exchange before after handed new.exchange
+    → new ≡ with_exchange o new.exchange → IsSettled new
+    → IsHandingOut TurnsOf (Some o) before after handed (Some new)
+hands_out o new before after handed settled handing same now_settled = record {
+  sent = record {
+    fits = handing.sent.fits;
+    steps = subst (λ x. Steps (λ s b t. TurnsOf s (Sends b) t) (Some o) (take handed.count after)
+        (Some x)) (sym same)
+        (all_sent o (take handed.count after) o.exchange new.exchange settled handing.sent.steps
+        (subst (λ x. IsSettled x) same now_settled));
+    behind = handing.sent.behind;
+  };
+  stop = stopped handed.stop handing.stop;
+}
+  where
+    stopped : (stop : Option HostTurn) → MatchOption stop (handed.count ≡ length before)
+        (λ turn. (handed.count < length before) × IsTurn new.exchange turn new.exchange
+        × ((byte : ℕ) → turn ≡ Sends byte → ⊥))
+        → MatchOption stop (handed.count ≡ length before)
+        (λ turn. (handed.count < length before) × TurnsOf (Some new) turn (Some new)
+        × ((byte : ℕ) → turn ≡ Sends byte → ⊥))
+    stopped None full = full
+    stopped (Some turn) (less, step, none) =
+        (less, turns new new turn step refl step.bounds now_settled, none)
+
+-- ---- taken
+
+-- what takes a character is not over
+takes_settled : (o : OperationOf) (ex next : ExchangeOf) (byte : ℕ) → TakesOne ex byte next
+    → IsSettled (with_exchange o ex)
+takes_settled o ex next byte step = λ done. absurd (step.after_end (inr (ok, done)))
+
+-- the last of them may be followed by the next command
+all_taken : (o new : OperationOf) (bs : List ℕ) (ex last : ExchangeOf)
+    → IsSettled (with_exchange o ex) → Steps TakesOne ex bs last
+    → GoesOver (with_exchange o last) new
+    → Steps (λ s b t. IsTerminalTaking s b (Ok tt) t) (Some (with_exchange o ex)) bs (Some new)
+all_taken o new [] ex last settled same over =
+    ap (λ x. Some x) (stays (with_exchange o ex) new last settled over same)
+all_taken o new (b ∷ []) ex last settled (next, step, same) over = (
+  Some new,
+  takes (with_exchange o ex) new b (Ok tt) next settled step
+      (subst (λ x. GoesOver (with_exchange o x) new) same over),
+  refl,
+)
+all_taken o new (b ∷ c ∷ cs) ex last settled (next, step, rest) over =
+    let then_settled = takes_settled o next rest.0 c rest.1 in (
+      Some (with_exchange o next),
+      takes (with_exchange o ex) (with_exchange o next) b (Ok tt) next settled step
+          (inl (then_settled, refl)),
+      all_taken o new (c ∷ cs) next last then_settled rest over,
+    )
+
+-- a character that comes where the terminal sends
+out_of_turn : (o : OperationOf) (sent byte : ℕ) → exchange_turn o.exchange ≡ Sends sent
+    → IsBounded o.exchange → IsTerminalTaking (Some o) byte (Err NotListening) (Some o)
+out_of_turn o sent byte sends bounds = record {
+  fault = inl (not_listening o.exchange sent byte sends);
+  after_end = λ none. let no : true ≡ false =
+      sym (ap (λ t. not (is_done t)) sends) ∙ none in absurd (cc);
+  bounds = bounds;
+  unchanged = λ _. refl;
+  failed = λ final. absurd (cc);
+  led = λ commands came l final. absurd (cc);
+}
+
+-- a fault where the next command has begun: its turn is to send
+pub refused_next : (o new : OperationOf) (bytes : List ℕ) (count : ℕ) (fault : LineFault)
+    (ex : ExchangeOf) → IsSettled o
+    → IsTakingAll IsTaking o.exchange bytes (record { count = count; outcome = Err fault }) ex
+    → GoesToNext (with_exchange o ex) new
+    → IsTakingAll IsTerminalTaking (Some o) bytes
+    (record { count = count; outcome = Err NotListening }) (Some new)
+refused_next o new bytes count fault ex settled taking next =
+    let step = taking.outcome.1 in
+    let back : ex ≡ taking.last = step.unchanged (not_final (is_final fault) refl step.failed) in
+    record {
+      last = Some new;
+      steps = all_taken o new (take count bytes) o.exchange taking.last settled taking.steps
+          (inr (subst (λ x. GoesToNext (with_exchange o x) new) back next));
+      outcome = (
+        taking.outcome.0,
+        out_of_turn new next.sends.0 (get_or bytes count 0) next.sends.1 next.bounds,
+      );
+    }
+  where
+    not_final : (v : Bool) → is_final fault ≡ v
+        → (is_final fault ≡ true → exchange_turn ex ≡ Failed) → is_final fault ≡ false
+    not_final true is failed =
+        let no : Done ok ≡ Failed = sym next.done ∙ failed is in absurd (cc)
+    not_final false is failed = is
+
+-- what is a fault has not brought the exchange to its end
+last_settled : (o : OperationOf) (last ex : ExchangeOf) (byte : ℕ) (fault : LineFault)
+    → IsTaking last byte (Err fault) ex → IsSettled (with_exchange o ex)
+    → IsSettled (with_exchange o last)
+last_settled o last ex byte fault step settled = by (is_final fault) refl
+  where
+    by : (v : Bool) → is_final fault ≡ v → IsSettled (with_exchange o last)
+    by true is = λ done.
+        let e : fault ≡ AfterEnd = step.after_end (inr (ok, done)) in
+        let no : true ≡ false = sym is ∙ ap is_final e in absurd (cc)
+    by false is = subst (λ x. IsSettled (with_exchange o x)) (step.unchanged is) settled
+
+-- all are taken, or one is a fault and nothing follows
+pub takes_all : (o new : OperationOf) (bytes : List ℕ) (count : ℕ)
+    (result : Result (Unit {0}) LineFault) (ex : ExchangeOf) → IsSettled o
+    → IsTakingAll IsTaking o.exchange bytes (record { count = count; outcome = result }) ex
+    → GoesOver (with_exchange o ex) new
+    → IfErr result (λ _. IsSettled (with_exchange o ex) × (new ≡ with_exchange o ex))
+    → IsTakingAll IsTerminalTaking (Some o) bytes (record { count = count; outcome = result })
+    (Some new)
+takes_all o new bytes count (Ok u) ex settled taking over none = record {
+  last = Some new;
+  steps = all_taken o new (take count bytes) o.exchange taking.last settled taking.steps
+      (subst (λ x. GoesOver (with_exchange o x) new) taking.outcome.1 over);
+  outcome = (taking.outcome.0, refl);
+}
+takes_all o new bytes count (Err fault) ex settled taking over none =
+    let step = taking.outcome.1 in
+    let before = last_settled o taking.last ex (get_or bytes count 0) fault step none.0 in
+    record {
+      last = Some (with_exchange o taking.last);
+      steps = all_taken o (with_exchange o taking.last) (take count bytes) o.exchange taking.last
+          settled taking.steps (inl (before, refl));
+      outcome = (
+        taking.outcome.0,
+        takes (with_exchange o taking.last) new (get_or bytes count 0) (Err fault) ex before step
+            (inl none),
+      );
+    }
+
+-- ---- the same of what is seen
+
+pub handing_as : (old seen : Option OperationOf) (before after : List ℕ) (handed told : HandedOut)
+    (new later : Option OperationOf) → old ≡ seen → told ≡ handed → later ≡ new
+    → IsHandingOut TurnsOf old before after handed new
+    → IsHandingOut TurnsOf seen before after told later
+handing_as old seen before after handed told new later is same then_is handing =
+    subst (λ x. IsHandingOut TurnsOf x before after told later) is
+    (subst (λ h. IsHandingOut TurnsOf old before after h later) (sym same)
+    (subst (λ x. IsHandingOut TurnsOf old before after handed x) (sym then_is) handing))
+
+pub taking_all_as : (old seen : Option OperationOf) (bytes : List ℕ) (taken told : Taken)
+    (new later : Option OperationOf) → old ≡ seen → told ≡ taken → later ≡ new
+    → IsTakingAll IsTerminalTaking old bytes taken new
+    → IsTakingAll IsTerminalTaking seen bytes told later
+taking_all_as old seen bytes taken told new later is same then_is taking =
+    subst (λ x. IsTakingAll IsTerminalTaking x bytes told later) is
+    (subst (λ t. IsTakingAll IsTerminalTaking old bytes t later) (sym same)
+    (subst (λ x. IsTakingAll IsTerminalTaking old bytes taken x) (sym then_is) taking))

@@ -1,6 +1,6 @@
 -- What an exchange does with a buffer is what the terminal that holds it does.
 use Rattle.std.proofs.Common.{◌≡◌, ◌<◌, ℕ, List, [], ◌∷◌, length, take, get_or, inl, inr, refl, sym, subst, ◌∙◌, ap, true, false, Bool, Option, Some, None}
-use Rattle.std.specs.Prelude.{Result, Ok, Err, MatchOption, IfErr, not}
+use Rattle.std.specs.Prelude.{Result, Ok, Err, MatchResult, MatchOption, IfErr, not}
 use Rattle.apdu_core.specs.StatusWord.{ok}
 use Rattle.t0_core.specs.declared.host_end.HostTurn.{HostTurn}
 use Rattle.t0_core.specs.declared.host_end.HostTurn.TheVariants.{Sends, Done, Failed}
@@ -79,7 +79,8 @@ hands_out o new before after handed settled handing same now_settled = record {
 -- what takes a character is not over
 takes_settled : (o : OperationOf) (ex next : ExchangeOf) (byte : ℕ) → TakesOne ex byte next
     → IsSettled (with_exchange o ex)
-takes_settled o ex next byte step = λ done. absurd (step.after_end (inr (ok, done)))
+takes_settled o ex next byte step = λ done.
+    let no : Ok tt ≡ Err AfterEnd = step.after_end (inr (ok, done)) in absurd (cc)
 
 -- the last of them may be followed by the next command
 all_taken : (o new : OperationOf) (bs : List ℕ) (ex last : ExchangeOf)
@@ -116,7 +117,7 @@ out_of_turn o sent byte sends bounds = record {
 }
 
 -- a fault where the next command has begun: its turn is to send
-pub refused_next : (o new : OperationOf) (bytes : List ℕ) (count : ℕ) (fault : LineFault)
+refused_next : (o new : OperationOf) (bytes : List ℕ) (count : ℕ) (fault : LineFault)
     (ex : ExchangeOf) → IsSettled o
     → IsTakingAll IsTaking o.exchange bytes (record { count = count; outcome = Err fault }) ex
     → GoesToNext (with_exchange o ex) new
@@ -141,6 +142,9 @@ refused_next o new bytes count fault ex settled taking next =
         let no : Done ok ≡ Failed = sym next.done ∙ failed is in absurd (cc)
     not_final false is failed = is
 
+same_fault : (a b : LineFault) → ◌≡◌ {A = Result (Unit {0}) LineFault} (Err a) (Err b) → a ≡ b
+same_fault a b e = cc
+
 -- what is a fault has not brought the exchange to its end
 last_settled : (o : OperationOf) (last ex : ExchangeOf) (byte : ℕ) (fault : LineFault)
     → IsTaking last byte (Err fault) ex → IsSettled (with_exchange o ex)
@@ -149,12 +153,12 @@ last_settled o last ex byte fault step settled = by (is_final fault) refl
   where
     by : (v : Bool) → is_final fault ≡ v → IsSettled (with_exchange o last)
     by true is = λ done.
-        let e : fault ≡ AfterEnd = step.after_end (inr (ok, done)) in
+        let e : fault ≡ AfterEnd = same_fault fault AfterEnd (step.after_end (inr (ok, done))) in
         let no : true ≡ false = sym is ∙ ap is_final e in absurd (cc)
     by false is = subst (λ x. IsSettled (with_exchange o x)) (step.unchanged is) settled
 
 -- all are taken, or one is a fault and nothing follows
-pub takes_all : (o new : OperationOf) (bytes : List ℕ) (count : ℕ)
+takes_all : (o new : OperationOf) (bytes : List ℕ) (count : ℕ)
     (result : Result (Unit {0}) LineFault) (ex : ExchangeOf) → IsSettled o
     → IsTakingAll IsTaking o.exchange bytes (record { count = count; outcome = result }) ex
     → GoesOver (with_exchange o ex) new
@@ -180,6 +184,35 @@ takes_all o new bytes count (Err fault) ex settled taking over none =
             (inl none),
       );
     }
+
+pub takes_and_stays : (o new : OperationOf) (bytes : List ℕ) (count : ℕ)
+    (result : Result (Unit {0}) LineFault) (ex : ExchangeOf) → IsSettled o
+    → IsTakingAll IsTaking o.exchange bytes (record { count = count; outcome = result }) ex
+    → IsSettled (with_exchange o ex) × (new ≡ with_exchange o ex)
+    → IsTakingAll IsTerminalTaking (Some o) bytes (record { count = count; outcome = result })
+    (Some new)
+takes_and_stays o new bytes count result ex settled taking both =
+    takes_all o new bytes count result ex settled taking (inl both) (either result)
+  where
+    either : (r : Result (Unit {0}) LineFault)
+        → IfErr r (λ _. IsSettled (with_exchange o ex) × (new ≡ with_exchange o ex))
+    either (Ok u) = tt
+    either (Err fault) = both
+
+-- the next command has begun, and a character that was a fault is out of turn
+pub takes_to_next : (o new : OperationOf) (bytes : List ℕ) (count : ℕ)
+    (result : Result (Unit {0}) LineFault) (told : Taken) (ex : ExchangeOf) → IsSettled o
+    → IsTakingAll IsTaking o.exchange bytes (record { count = count; outcome = result }) ex
+    → GoesToNext (with_exchange o ex) new
+    → MatchResult result (λ _. told ≡ record { count = count; outcome = result })
+    (λ _. told ≡ record { count = count; outcome = Err NotListening })
+    → IsTakingAll IsTerminalTaking (Some o) bytes told (Some new)
+takes_to_next o new bytes count (Ok u) told ex settled taking next is =
+    subst (λ t. IsTakingAll IsTerminalTaking (Some o) bytes t (Some new)) (sym is)
+    (takes_all o new bytes count (Ok u) ex settled taking (inr next) tt)
+takes_to_next o new bytes count (Err fault) told ex settled taking next is =
+    subst (λ t. IsTakingAll IsTerminalTaking (Some o) bytes t (Some new)) (sym is)
+    (refused_next o new bytes count fault ex settled taking next)
 
 -- ---- the same of what is seen
 

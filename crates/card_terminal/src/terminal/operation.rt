@@ -1,5 +1,5 @@
 //! An operation that has begun: the exchange of one of its commands, and what is still to be put.
-ghost use Rattle.std.specs.Prelude.{◌≡◌, ◌⊎◌, ℕ, ◌≤◌, List, [], ◌∷◌, ◌++◌, length, drop, None, Some, IfOk, MatchResult, OnOk, OnErr, true, false, IfSome, is_some};
+ghost use Rattle.std.specs.Prelude.{◌≡◌, ◌⊎◌, ℕ, ◌≤◌, List, [], ◌∷◌, ◌++◌, length, drop, None, Some, Err, IfOk, MatchResult, OnOk, OnErr, true, false, IfSome, is_some};
 ghost use Rattle.std.specs.Option.{option_map};
 ghost use Rattle.apdu_core.specs.CommandBytes as spec;
 ghost use Rattle.object_card.specs.OneStep.{Put};
@@ -165,18 +165,23 @@ impl<A: Allocator + Copy> Operation<A> {
         ensures { IsSettled self.old → IsTakingAll IsTerminalTaking (Some self.old) bytes.now
             result (Some self.new) }
     {
+        let (taken, begins) = self.take_and_go_on(bytes);
+        if begins { out_of_turn(taken) } else { taken }
+    }
+
+    /// Takes the characters of a buffer up to a fault, and then goes on. Says whether the next piece
+    /// has begun.
+    fn take_and_go_on(&mut self, bytes: &[u8]) -> (Taken, bool)
+        ensures { (ex : ExchangeOf) × IsTakingAll IsTaking self.old.exchange bytes.now result.0 ex
+            × (result.1 ≡ true → GoesToNext (with_exchange self.old ex) self.new)
+            × (result.1 ≡ false → IsSettled (with_exchange self.old ex)
+            × (self.new ≡ with_exchange self.old ex)) }
+    {
         let taken = self
             .exchange
             .take_bytes(bytes, &self.content[self.from..self.until]);
         let begins = self.go_on();
-        match taken.outcome {
-            // The piece was over, and now the next is to be sent.
-            Err(_) if begins => Taken {
-                count: taken.count,
-                outcome: Err(LineFault::NotListening),
-            },
-            _ => taken,
-        }
+        (taken, begins)
     }
 
     /// The whole TPDU that is due, as `Exchange::tpdu`.
@@ -245,5 +250,22 @@ impl<A: Allocator + Copy> Operation<A> {
         ensures { IsAnswer self.now.exchange (option_map (λ a. (a.0, a.1.now)) result) }
     {
         self.exchange.answer(&self.content[self.from..self.until])
+    }
+}
+
+/// What is told of characters with which the next piece has begun: after them it is the terminal
+/// that sends.
+fn out_of_turn(taken: Taken) -> Taken
+    ensures { MatchResult taken.outcome (λ _. result ≡ taken) (λ _. result ≡ record {
+      count = taken.count;
+      outcome = Err LineFault.NotListening;
+    }) }
+{
+    match taken.outcome {
+        Ok(()) => taken,
+        Err(_) => Taken {
+            count: taken.count,
+            outcome: Err(LineFault::NotListening),
+        },
     }
 }

@@ -1,6 +1,6 @@
 -- What an exchange does with a buffer is what the terminal that holds it does.
 use Rattle.std.proofs.Common.{◌≡◌, ◌<◌, ℕ, List, [], ◌∷◌, length, take, get_or, inl, inr, refl, sym, subst, ◌∙◌, ap, true, false, Bool, Option, Some, None}
-use Rattle.std.specs.Prelude.{Result, Ok, Err, MatchResult, MatchOption, IfErr, not}
+use Rattle.std.specs.Prelude.{Result, Ok, Err, MatchResult, MatchOption, IfErr, not, is_some}
 use Rattle.apdu_core.specs.StatusWord.{ok}
 use Rattle.t0_core.specs.declared.host_end.HostTurn.{HostTurn}
 use Rattle.t0_core.specs.declared.host_end.HostTurn.TheVariants.{Sends, Done, Failed}
@@ -13,7 +13,7 @@ use Rattle.card_terminal.specs.Conversing.{is_done}
 use Rattle.card_terminal.specs.ExchangeSide.{ExchangeOf, IsBounded, exchange_turn, is_final}
 use Rattle.card_terminal.specs.ExchangeSteps.{IsTurn, IsTaking}
 use Rattle.card_terminal.specs.TerminalSide.{OperationOf, IsSettled, GoesOver, GoesToNext, with_exchange}
-use Rattle.card_terminal.specs.TerminalSteps.{IsTerminalTurn, IsTerminalTaking}
+use Rattle.card_terminal.specs.TerminalSteps.{IsTerminalTurn, IsTerminalHandingOut, IsTerminalTaking}
 use Rattle.card_terminal.proofs.HandingLemmas.{SendsOne}
 use Rattle.card_terminal.proofs.TakingLemmas.{TakesOne}
 use Rattle.card_terminal.proofs.TurnLemmas.{not_listening}
@@ -216,14 +216,27 @@ takes_to_next o new bytes count (Err fault) told ex settled taking next is =
 
 -- ---- the same of what is seen
 
-pub handing_as : (old seen : Option OperationOf) (before after : List ℕ) (handed told : HandedOut)
-    (new later : Option OperationOf) → old ≡ seen → told ≡ handed → later ≡ new
-    → IsHandingOut TurnsOf old before after handed new
-    → IsHandingOut TurnsOf seen before after told later
-handing_as old seen before after handed told new later is same then_is handing =
-    subst (λ x. IsHandingOut TurnsOf x before after told later) is
-    (subst (λ h. IsHandingOut TurnsOf old before after h later) (sym same)
-    (subst (λ x. IsHandingOut TurnsOf old before after handed x) (sym then_is) handing))
+pub none_handed_out : (old seen : Option OperationOf) (before after : List ℕ)
+    (told : Option HandedOut) (later : Option OperationOf) → old ≡ seen → old ≡ None → told ≡ None
+    → after ≡ before → later ≡ None → IsTerminalHandingOut seen before after told later
+none_handed_out old seen before after told later is none same bytes then_none =
+    subst (λ t. IsTerminalHandingOut seen before after t later) (sym same)
+    (sym is ∙ none, bytes, then_none)
+
+pub handed_out : (old seen : Option OperationOf) (o new : OperationOf)
+    (before after given : List ℕ) (handed : HandedOut) (told : Option HandedOut)
+    (later : Option OperationOf) → old ≡ seen → old ≡ Some o → told ≡ Some handed → after ≡ given
+    → later ≡ Some new → IsHandingOut TurnsOf (Some o) before given handed (Some new)
+    → IsTerminalHandingOut seen before after told later
+handed_out old seen o new before after given handed told later is some same bytes then_some
+    handing =
+    let now : seen ≡ Some o = sym is ∙ some in
+    let P : Option OperationOf → Type 0 = λ x. IsHandingOut TurnsOf x before given handed
+    (Some new) in
+    let Q : List ℕ → Type 0 = λ bs. IsHandingOut TurnsOf seen before bs handed (Some new) in
+    let R : Option OperationOf → Type 0 = λ x. IsHandingOut TurnsOf seen before after handed x in
+    subst (λ t. IsTerminalHandingOut seen before after t later) (sym same)
+    (ap is_some now, subst R (sym then_some) (subst Q (sym bytes) (subst P (sym now) handing)))
 
 pub taking_all_as : (old seen : Option OperationOf) (bytes : List ℕ) (taken told : Taken)
     (new later : Option OperationOf) → old ≡ seen → told ≡ taken → later ≡ new

@@ -62,7 +62,7 @@ stays o new ex settled (inr next) is =
     absurd (next.more (settled (ap exchange_turn (sym is) ∙ next.done)))
 
 -- either way it is settled
-settles : (o new : OperationOf) → GoesOver o new → IsSettled new
+pub settles : (o new : OperationOf) → GoesOver o new → IsSettled new
 settles o new (inl same) = subst (λ x. IsSettled x) (sym same.1) same.0
 settles o new (inr next) = λ done. let e : Sends next.sends.0 ≡ Done ok = sym next.sends.1 ∙ done in
     absurd (cc)

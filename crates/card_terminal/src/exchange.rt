@@ -23,11 +23,11 @@ use crate::taken::Taken;
 use crate::wanted::Wanted;
 use apdu_core::{Command, Header, Status};
 pub(crate) use detached::Detached;
+use handing::handed_by;
 pub use owned::OwnedExchange;
 use std::alloc::{AllocError, Allocator, Global};
 use std::marker::Model;
 use t0_core::{AnswerFault, Gather, HostEnd, HostTurn, LineFault, WholeTpdu};
-use handing::handed_by;
 use taking::{all_taken_by, taken_by};
 
 /// The most bytes of a response that a terminal gathers (this project's profile).

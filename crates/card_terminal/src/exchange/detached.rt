@@ -13,8 +13,8 @@ ghost use Rattle.card_terminal.specs.ExchangeSteps.{IsTurn, IsTaking, IsAnswerin
 ghost use Rattle.card_terminal.specs.OwnedExchange.{exchange_of, over_data, IsSound};
 
 use crate::exchange::Exchange;
-use crate::exchange::kept::Kept;
 use crate::exchange::handing::handed_by;
+use crate::exchange::kept::Kept;
 use crate::exchange::taking::{all_taken_by, taken_by};
 use crate::handed_out::HandedOut;
 use crate::taken::Taken;

@@ -162,8 +162,9 @@ impl<A: Allocator + Copy> Operation<A> {
     /// Takes the characters of a buffer, as `Exchange::take_bytes`. With a status `9000` the next
     /// piece of a put is begun, if one follows.
     pub fn take_bytes(&mut self, bytes: &[u8]) -> Taken
-        ensures { IsSettled self.old → IsTakingAll IsTerminalTaking (Some self.old) bytes.now
-            result (Some self.new) }
+        ensures taking { IsSettled self.old → IsTakingAll IsTerminalTaking (Some self.old)
+            bytes.now result (Some self.new) }
+        ensures settled { IsSettled self.new }
     {
         let (taken, begins) = self.take_and_go_on(bytes);
         if begins { out_of_turn(taken) } else { taken }

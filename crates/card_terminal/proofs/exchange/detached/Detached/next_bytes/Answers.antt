@@ -51,5 +51,7 @@ returns-clause-sound g c =
     let only = made.ensures.data content (end_has_only _ _ _ c.at-end.ensures) in
     let P : Hosting → Type 0 = λ h. IsSound
     (of_parts h gather kept.attempt kept.wanted kept.stalled) in
-    subst P (sym (c.mark-self-inside.ensures.again content only)) (c.mark-self-inside.ensures.range,
-    made.ensures.kept gather kept.attempt kept.wanted sound.1)
+    subst P (sym (c.mark-self-inside.ensures.again content only)) (
+      c.mark-self-inside.ensures.range,
+      made.ensures.kept gather kept.attempt kept.wanted sound.1,
+    )

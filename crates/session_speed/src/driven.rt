@@ -1,4 +1,6 @@
-//! The same operations by a terminal that is driven against the card's end, a character at a time.
+//! The same operations by a terminal that is driven against the card's end, by buffers.
+
+ghost use Rattle.std.specs.Prelude.{◌≤◌, length};
 
 use crate::session::{card, selection};
 use anyhow::Context;
@@ -83,12 +85,14 @@ impl Driven {
     }
 
     /// What the card hands out now, as much as there is room for.
-    fn card_bytes(&mut self, plans: &mut Plans<'_, Global>, buffer: &mut [u8]) -> usize {
-        for at in 0..buffer.len() {
+    fn card_bytes(&mut self, plans: &mut Plans<'_, Global>, buffer: &mut [u8]) -> usize
+        ensures { result ≤ length buffer.new }
+    {
+        for (at, place) in buffer.iter_mut().enumerate() {
             let Turn::Sends(byte) = self.end.turn(plans) else {
                 return at;
             };
-            buffer[at] = byte;
+            *place = byte;
         }
         buffer.len()
     }

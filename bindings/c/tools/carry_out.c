@@ -1,18 +1,8 @@
 #include "carry_out.h"
+#include "print.h"
 
 /* the bytes of a TPDU before its data */
 #define HEADER_SIZE 5
-
-/* Prints a mark, the bytes, and the end of a line, at once. */
-static const char *print_bytes(FILE *out, const char *mark, const uint8_t *bytes, size_t n)
-{
-    size_t i;
-    fputs(mark, out);
-    for (i = 0; i < n; i++)
-        fprintf(out, "%02X", bytes[i]);
-    fputc('\n', out);
-    return fflush(out) == 0 && !ferror(out) ? NULL : "write fault";
-}
 
 /* What an answer says of its reader that no terminal takes; of other faults the library's text. */
 static const char *fault_text(int32_t code)
@@ -73,23 +63,10 @@ static const char *pass_all(struct carrier *carrier, const struct operation *ope
     return fault;
 }
 
-static const char *print_answer(struct carrier *carrier, uint16_t *status)
-{
-    static uint8_t data[GT_RESPONSE_LIMIT];
-    char mark[sizeof "= 9000 "];
-    size_t n = 0;
-    const int32_t code =
-        gt_terminal_answer(&carrier->terminal, status, data, sizeof data, &n);
-    if (code != GT_OK)
-        return gt_text(code);
-    snprintf(mark, sizeof mark, "= %04X%s", (unsigned)*status, n > 0 ? " " : "");
-    return print_bytes(carrier->out, mark, data, n);
-}
-
 const char *carry_out(struct carrier *carrier, const struct operation *operation,
                       uint16_t *status)
 {
     const int32_t code = operation_begin(operation, &carrier->terminal);
     const char *fault = code == GT_OK ? pass_all(carrier, operation) : gt_text(code);
-    return fault == NULL ? print_answer(carrier, status) : fault;
+    return fault == NULL ? print_answer(carrier->out, &carrier->terminal, status) : fault;
 }

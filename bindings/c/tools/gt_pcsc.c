@@ -80,27 +80,6 @@ static int list_readers(void)
     return fault == NULL ? end_output() : tell(fault);
 }
 
-/* Reads the operations, from wherever they stand. */
-static bool read_script(struct script *script, const struct options *options,
-                        struct script_refusal *refusal)
-{
-    FILE *file;
-    bool is_well;
-    if (options->file == NULL)
-        return script_of_words(script, options->words, options->count, refusal);
-    if (strcmp(options->file, "-") == 0)
-        return script_of_file(script, stdin, refusal);
-    file = fopen(options->file, "rb");
-    if (file == NULL) {
-        memset(refusal, 0, sizeof *refusal);
-        refusal->text = "read fault";
-        return false;
-    }
-    is_well = script_of_file(script, file, refusal);
-    fclose(file);
-    return is_well;
-}
-
 static int refuse_script(const struct options *options, const struct script_refusal *refusal)
 {
     char text[64];
@@ -167,7 +146,7 @@ static int run_options(const struct options *options)
     }
     if (options->lists)
         return list_readers();
-    if (!read_script(&script, options, &refusal))
+    if (!script_read(&script, options->file, options->words, options->count, &refusal))
         return refuse_script(options, &refusal);
     result = run(&script, options);
     script_free(&script);

@@ -139,6 +139,23 @@ bool script_of_file(struct script *script, FILE *file, struct script_refusal *re
     return is_well;
 }
 
+bool script_read(struct script *script, const char *name, char *const *words, size_t count,
+                 struct script_refusal *refusal)
+{
+    FILE *file;
+    bool is_well;
+    if (name == NULL)
+        return script_of_words(script, words, count, refusal);
+    if (strcmp(name, "-") == 0)
+        return script_of_file(script, stdin, refusal);
+    file = fopen(name, "rb");
+    if (file == NULL)
+        return refuse(refusal, 0, "read fault");
+    is_well = script_of_file(script, file, refusal);
+    fclose(file);
+    return is_well;
+}
+
 void script_free(struct script *script)
 {
     size_t i;

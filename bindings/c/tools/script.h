@@ -34,6 +34,10 @@ bool script_of_words(struct script *script, char *const *words, size_t count,
                      struct script_refusal *refusal);
 bool script_of_file(struct script *script, FILE *file, struct script_refusal *refusal);
 
+/* The same of the file with this name (`-`: standard input), or of the words where it is NULL. */
+bool script_read(struct script *script, const char *file, char *const *words, size_t count,
+                 struct script_refusal *refusal);
+
 /* Gives the memory back. */
 void script_free(struct script *script);
 

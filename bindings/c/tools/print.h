@@ -1,0 +1,17 @@
+/* How bytes and answers are printed, as card_trace does. */
+#ifndef PRINT_H
+#define PRINT_H
+
+#include <galliumtoad.h>
+
+#include <stdio.h>
+
+/* Each of these answers NULL where it went well, or a few words that say why it did not. */
+
+/* Prints a mark, the bytes, and the end of a line, at once. */
+const char *print_bytes(FILE *out, const char *mark, const uint8_t *bytes, size_t n);
+
+/* Prints the answer of a terminal's operation that is over. `status` gets the status word. */
+const char *print_answer(FILE *out, const gt_terminal *terminal, uint16_t *status);
+
+#endif

@@ -1,0 +1,408 @@
+/* serial_card: a card at the other end of a terminal's line, which is a tty or a pseudo terminal
+ * that this program makes.
+ *
+ * The card is the library's, and proved; this program waits for a reset, sends the answer to it,
+ * and passes characters both ways until the next one. `serial_card --help` says what it does. */
+#include "serial_options.h"
+#include "table.h"
+
+#include <string.h>
+
+enum { ALL_WELL = 0, FAULT = 1, BAD_WORDS = 2 };
+
+#define NUMBER(number) #number
+#define DOTTED(major, minor, patch) NUMBER(major) "." NUMBER(minor) "." NUMBER(patch)
+
+/* how often the line of a reset is looked at, in microseconds */
+enum { LOOKS_EVERY = 1000 };
+
+/* what a PPS request begins with, the bit of its PPS0 for PPS1 (ISO/IEC 7816-3, 9.2), and what
+ * stands for a character that is not there */
+enum { PPSS = 0xFF, HAS_PPS1 = 0x10, NO_CHARACTER = 256 };
+
+/* no limit of what a status 61XX announces */
+enum { PLAN_CUT = 256 };
+
+/* the clock cycles of an etu before PPS says otherwise, and the code of that rate */
+enum { RESET_CYCLES = 372, RATE_OF_RESET = 0x11 };
+
+static const char USAGE[] =
+    "Usage: serial_card [OPTIONS] TTY TABLE\n"
+    "       serial_card [OPTIONS] --pty TABLE";
+
+static const char HELP[] =
+    "TABLE is a file with lines `app`, `object`, `locked` and `atr`, as the virtual\n"
+    "reader has them.\n"
+    "\n"
+    "Options:\n"
+    "  -v              Shows each character: `> ` to the card, `< ` from it\n"
+    "  --pty           Makes a pseudo terminal, and prints its name for a terminal\n"
+    "  --baud N        The line's rate at a reset, a 372nd of the clock: 9600 where it\n"
+    "                  has 3.5712 MHz, which is taken where nothing is said\n"
+    "  --reset LINE    What tells of a reset: none (taken where nothing is said), where\n"
+    "                  the card is reset once, as it begins, or cts, dsr or dcd\n"
+    "  --held-by STATE The state of that line in which it holds the card in reset: on\n"
+    "                  (taken where nothing is said) or off\n"
+    "  --no-echo       What is sent does not come back; of --pty: the terminal gets no\n"
+    "                  echo of what it sends\n"
+    "  --plan STEPS    How the card answers one TPDU: n is a NULL, o one data byte and a\n"
+    "                  all of them, in order. The first is for the first TPDU\n"
+    "  --slack MS      How much longer than the line's rules have it each wait for an\n"
+    "                  echo lasts (200)\n"
+    "  -h, --help      Prints help\n"
+    "  -V, --version   Prints the version\n"
+    "\n"
+    "With --pty the card is reset where the pseudo terminal is opened, and goes on with\n"
+    "the next terminal where one has closed it; it ends by a signal. Else it also ends\n"
+    "where the line is gone. A fault is told on standard error. The exit status is 1\n"
+    "after one, and 2 where the words of the command line are refused.\n"
+    "\n"
+    "Example:\n"
+    "\n"
+    "  serial_card --pty demo.table\n";
+
+static const char *const NAMES[] = {
+    "-v", "--pty", "--baud", "--reset", "--held-by", "--no-echo", "--plan", "--slack", "-h",
+    "--help", "-V", "--version", NULL
+};
+
+static const enum port_signal SIGNALS[] = { PORT_NONE, PORT_CTS, PORT_DSR, PORT_DCD };
+
+/* Answered where the card has been reset: this very pointer. */
+static const char IS_RESET[] = "the card was reset";
+
+/* A card at its line. */
+struct socket {
+    struct line *line;
+    struct table *table;
+    const gt_atr *says;         /* what its answer to reset says */
+    enum port_signal reset;
+    bool is_held_by_on;
+    unsigned long baud;         /* at a reset */
+};
+
+static int tell(const char *fault)
+{
+    fprintf(stderr, "%s\n", fault);
+    return FAULT;
+}
+
+static int refuse_words(const char *fault)
+{
+    fprintf(stderr, "error: %s\n\n%s\n\nFor more information, try '--help'.\n", fault, USAGE);
+    return BAD_WORDS;
+}
+
+/* Flushes what was printed. */
+static int end_output(void)
+{
+    return fflush(stdout) == 0 && !ferror(stdout) ? ALL_WELL : tell("write fault");
+}
+
+/* NULL, IS_RESET where the line of a reset is in that state, or a fault. */
+static const char *look(const struct socket *socket, bool is_held)
+{
+    bool is_on = false;
+    const char *fault = NULL;
+    if (socket->reset == PORT_NONE)
+        return NULL;
+    fault = port_look(socket->line->port, socket->reset, &is_on);
+    if (fault != NULL)
+        return fault;
+    return (is_on == socket->is_held_by_on) == is_held ? IS_RESET : NULL;
+}
+
+/* Waits for a state of that line. */
+static const char *await_state(const struct socket *socket, bool is_held)
+{
+    const char *what;
+    while ((what = look(socket, is_held)) == NULL)
+        port_sleep_until(port_now() + LOOKS_EVERY);
+    return what == IS_RESET ? NULL : what;
+}
+
+/* Waits for the first reset, or for the next one after what ended the talk before. Where there can
+ * be none, that is the answer; else the card was mute from a fault on, which is told. */
+static const char *await_reset(const struct socket *socket, const char *before)
+{
+    const struct port *port = socket->line->port;
+    const bool is_mute = before != NULL && before != IS_RESET && before != LINE_IS_GONE;
+    const char *fault = NULL;
+    if (!port->is_made && (before == LINE_IS_GONE || socket->reset == PORT_NONE))
+        return before;
+    if (is_mute)
+        tell(before);
+    if (port->is_made) {
+        if (is_mute)
+            port_await_closing(port);
+        return port_await_opening(port);
+    }
+    if (before != IS_RESET)
+        fault = await_state(socket, true);
+    return fault == NULL ? await_state(socket, false) : fault;
+}
+
+/* Receives a character, for which a card waits as long as it takes, or up to a reset. */
+static const char *receive(const struct socket *socket, uint8_t *byte)
+{
+    const char *what;
+    do
+        what = line_receive(socket->line, byte, LOOKS_EVERY);
+    while (what == LINE_IS_SILENT && (what = look(socket, true)) == NULL);
+    return what;
+}
+
+static const char *send_all(const struct socket *socket, const uint8_t *bytes, size_t n)
+{
+    const char *what = NULL;
+    size_t i;
+    for (i = 0; i < n && what == NULL; i++) {
+        what = look(socket, true);
+        if (what == NULL)
+            what = line_send(socket->line, bytes[i]);
+    }
+    return what;
+}
+
+/* Goes on at the rate of the card, or at that of a reset. */
+static const char *set_rate(const struct socket *socket, bool is_of_card)
+{
+    const unsigned long clock = socket->baud * RESET_CYCLES;
+    return line_set(socket->line,
+                    is_of_card ? clock * socket->says->di / socket->says->fi : socket->baud);
+}
+
+/* The bytes of a request, behind the first: as many as its PPS0 announces. */
+static const char *receive_request(const struct socket *socket, uint8_t request[LINE_PPS_LIMIT],
+                                   size_t *n)
+{
+    size_t wanted = 2;
+    const char *what = NULL;
+    request[0] = PPSS;
+    for (*n = 1; *n < wanted && what == NULL; ++*n) {
+        what = receive(socket, &request[*n]);
+        if (what == NULL && *n == 1)
+            wanted = 3U + (request[1] >> 4 & 1U) + (request[1] >> 5 & 1U) + (request[1] >> 6 & 1U);
+    }
+    if (what != NULL)
+        --*n;
+    return what;
+}
+
+/* The response to a request: T=0, and its PPS1 where that is the card's own rate or that of a
+ * reset. `is_of_card` says whether the card's own is then in use. */
+static bool respond(const struct socket *socket, const uint8_t *request, size_t n,
+                    uint8_t response[LINE_PPS_LIMIT], size_t *count, bool *is_of_card)
+{
+    const bool has_pps1 = (request[1] & HAS_PPS1) != 0;
+    const bool has_rate = socket->says->fi > 0 && socket->says->di > 0;
+    uint16_t pps1 = NO_CHARACTER;
+    *is_of_card = has_pps1 && has_rate && request[2] == socket->says->rate_code;
+    if (has_pps1 && (*is_of_card || request[2] == RATE_OF_RESET))
+        pps1 = request[2];
+    return gt_pps_request(0, pps1, NO_CHARACTER, NO_CHARACTER, response, LINE_PPS_LIMIT, count)
+            == GT_OK
+        && gt_pps_agreed(request, n, response, *count) == 1;
+}
+
+/* Takes a request whose first byte has come, and answers it. To one that is none, or that asks for
+ * another protocol, a card says nothing (ISO/IEC 7816-3, 9.1). */
+static const char *answer_pps(const struct socket *socket, FILE *trace)
+{
+    struct line *line = socket->line;
+    uint8_t request[LINE_PPS_LIMIT], response[LINE_PPS_LIMIT];
+    size_t n, count = 0;
+    bool is_of_card = false;
+    const char *what = receive_request(socket, request, &n);
+    if (what == NULL && !respond(socket, request, n, response, &count, &is_of_card))
+        what = "a PPS request has come that the card does not answer";
+    if (what == NULL)
+        what = send_all(socket, response, count);
+    line->trace = trace;
+    line_note_pps(line, LINE_TERMINAL, request, n);
+    line_note_pps(line, LINE_CARD, response, count);
+    line->trace = NULL;
+    return what == NULL && is_of_card ? set_rate(socket, true) : what;
+}
+
+/* Receives the first character behind an answer to reset. It may begin PPS: then what follows that
+ * is the first. */
+static const char *receive_first(const struct socket *socket, uint8_t *byte)
+{
+    struct line *line = socket->line;
+    FILE *trace = line->trace;
+    const char *what;
+    line_note_text(line, NULL);
+    line->trace = NULL;
+    what = receive(socket, byte);
+    if (what == NULL && *byte == PPSS && !socket->says->is_specific) {
+        what = answer_pps(socket, trace);
+        if (what == NULL)
+            what = receive(socket, byte);
+    }
+    line->trace = trace;
+    if (what == NULL)
+        line_note(line, LINE_TERMINAL, *byte);
+    return what;
+}
+
+/* The card's characters, until it listens. */
+static const char *send_turns(const struct socket *socket)
+{
+    gt_card *card = &socket->table->card;
+    const char *what = NULL;
+    uint8_t byte;
+    while (what == NULL && (what = look(socket, true)) == NULL) {
+        const int32_t code = gt_card_turn(card, &byte);
+        if (code == GT_OK)
+            return NULL;
+        what = code == GT_SENDS ? line_send(socket->line, byte) : gt_text(code);
+    }
+    return what;
+}
+
+/* From a reset on, until something ends the talk. */
+static const char *talk(const struct socket *socket)
+{
+    const struct table *table = socket->table;
+    const char *what;
+    uint8_t byte;
+    int32_t code = gt_card_reset(&socket->table->card);
+    if (code != GT_OK)
+        return gt_text(code);
+    line_note_text(socket->line, "reset");
+    what = set_rate(socket, false);
+    if (what == NULL)
+        what = send_all(socket, table->atr, table->atr_size);
+    if (what == NULL && socket->says->is_specific)
+        what = set_rate(socket, true);
+    if (what == NULL)
+        what = receive_first(socket, &byte);
+    while (what == NULL) {
+        code = gt_card_take(&socket->table->card, byte);
+        what = code == GT_OK ? send_turns(socket) : gt_text(code);
+        if (what == NULL)
+            what = receive(socket, &byte);
+    }
+    return what;
+}
+
+/* One talk after another, until no reset can come. */
+static int serve(struct port *port, struct table *table, const gt_atr *says,
+                 const struct serial_options *options)
+{
+    struct line line = serial_options_line(options, port, LINE_CARD);
+    struct socket socket = { NULL, NULL, NULL, PORT_NONE, false, 0 };
+    const char *what = NULL, *fault;
+    if (port->is_made && options->has_echo)
+        line.echo = LINE_GIVES_ECHO;
+    line.is_inverse = says->convention != 0;
+    socket.line = &line;
+    socket.table = table;
+    socket.says = says;
+    socket.reset = options->reset;
+    socket.is_held_by_on = options->is_held_by_on;
+    socket.baud = options->baud;
+    while ((fault = await_reset(&socket, what)) == NULL) {
+        what = talk(&socket);
+        line_note_text(&line, NULL);
+    }
+    return tell(fault);
+}
+
+static int open_and_serve(struct table *table, const gt_atr *says,
+                          const struct serial_options *options)
+{
+    struct port port;
+    int result;
+    const char *fault = options->makes_line
+        ? port_make(&port)
+        : port_open(&port, options->words[0], options->baud);
+    if (fault != NULL)
+        return tell(fault);
+    if (options->makes_line)
+        printf("%s\n", port.name);
+    result = end_output();
+    if (result == ALL_WELL)
+        result = serve(&port, table, says, options);
+    port_close(&port);
+    return result;
+}
+
+/* Reads what the table's answer to reset says; the card has to talk T=0 by it. */
+static const char *read_answer(const struct table *table, gt_atr *says)
+{
+    static char text[96];
+    size_t place = 0;
+    const int32_t code = gt_atr_read(table->atr, table->atr_size, says, &place);
+    if (code != GT_OK) {
+        snprintf(text, sizeof text, "the table's answer to reset is none: %s, at byte %lu",
+                 gt_text(code), (unsigned long)place + 1);
+        return text;
+    }
+    if (says->is_specific
+            ? says->specific_t != 0 || says->is_implicit || says->fi == 0 || says->di == 0
+            : memchr(says->protocols, 0, says->protocol_count) == NULL)
+        return "the table's answer to reset does not offer T=0 at a rate that it tells";
+    return NULL;
+}
+
+/* Adds the plans; a word of another letter is refused. */
+static int add_plans(gt_card *card, const struct serial_options *options)
+{
+    size_t i;
+    for (i = 0; i < options->plan_count; i++) {
+        const int32_t code = gt_card_plan(card, options->plans[i], PLAN_CUT);
+        if (code == GT_ARGUMENT)
+            return refuse_words("a plan has the letters n, o and a");
+        if (code != GT_OK)
+            return tell(gt_text(code));
+    }
+    return ALL_WELL;
+}
+
+static int run(const struct serial_options *options)
+{
+    struct table table = TABLE_INIT;
+    gt_atr says;
+    FILE *file = fopen(options->words[options->count - 1], "r");
+    const char *fault;
+    int32_t code;
+    int result;
+    if (file == NULL)
+        return tell("the table can not be read");
+    code = table_read(file, &table);
+    fclose(file);
+    if (code != GT_OK)
+        return FAULT;
+    fault = read_answer(&table, &says);
+    result = fault == NULL ? add_plans(&table.card, options) : tell(fault);
+    if (result == ALL_WELL)
+        result = open_and_serve(&table, &says, options);
+    gt_card_free(&table.card);
+    return result;
+}
+
+static int run_options(const struct serial_options *options)
+{
+    const size_t wanted = options->makes_line ? 1 : 2;
+    if (options->helps) {
+        printf("A card at the other end of a terminal's line\n\n%s\n\n%s", USAGE, HELP);
+        return end_output();
+    }
+    if (options->tells_version) {
+        printf("serial_card %s\n", DOTTED(GT_VERSION_MAJOR, GT_VERSION_MINOR, GT_VERSION_PATCH));
+        return end_output();
+    }
+    if (options->count != wanted)
+        return refuse_words(options->count > wanted ? "there are too many words"
+                                                    : "no tty or no table was provided");
+    return run(options);
+}
+
+int main(int argc, char **argv)
+{
+    struct serial_options options;
+    const char *fault = serial_options_read(&options, NAMES, SIGNALS, argc, argv);
+    return fault != NULL ? refuse_words(fault) : run_options(&options);
+}

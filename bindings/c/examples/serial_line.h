@@ -1,0 +1,82 @@
+/* The characters of a T=0 line at one of its ends, over a port: conventions, the echo, guard times
+ * and waiting times, and a trace. */
+#ifndef SERIAL_LINE_H
+#define SERIAL_LINE_H
+
+#include "serial_port.h"
+
+#include <stdio.h>
+
+/* the elementary time units of a character with its least guard time */
+#define LINE_CHARACTER_ETU 12
+
+/* The etu from one end's character to one of the other end, at least (EMV 4.3, Book 1, 9.2.2.1);
+ * and those of them that are left where the first of the two has come. */
+#define LINE_TURN_ETU 16
+#define LINE_REST_ETU 6
+
+/* the most bytes of PPS (ISO/IEC 7816-3, 9.2) */
+#define LINE_PPS_LIMIT 6
+
+/* the most etu between two characters of an answer to reset and of PPS (ISO/IEC 7816-3, 8.1 and
+ * 9.2) */
+#define LINE_ANSWER_ETU 9600
+
+/* What becomes of a character where both directions share one wire: each end hears what it sends
+ * itself. A card that makes its own line may give the terminal its echo, as a reader does. */
+enum line_echo { LINE_HAS_NO_ECHO, LINE_TAKES_ECHO, LINE_GIVES_ECHO };
+
+/* The ends, by the signs that a trace has for them. */
+enum line_end { LINE_TERMINAL = '>', LINE_CARD = '<' };
+
+struct line {
+    struct port *port;
+    enum line_end own;
+    enum line_echo echo;
+    bool is_inverse;            /* the convention */
+    bool has_parity_of_direct;  /* it is inverse, and the port's parity is not yet */
+    unsigned long baud;
+    int64_t guard;              /* more guard time than each character has */
+    int64_t slack;              /* what a wait may last longer than the line's rules have it */
+    int64_t sent_until;         /* when the last character that was handed out has gone */
+    int64_t turns_at;           /* the earliest that a character follows one that has come */
+    FILE *trace;                /* or NULL */
+    char last_sign;             /* of the line of the trace that is not ended, or NUL */
+};
+
+/* What the functions below answer where the time is over, and where the other end is gone: these
+ * very pointers. NULL is for what went well, and any other text for what did not. */
+extern const char LINE_IS_SILENT[];
+extern const char LINE_IS_GONE[];
+
+/* How long so many etu are at the line's rate. */
+int64_t line_etu(const struct line *line, unsigned long count);
+
+/* Sends a character of the own end, in the line's convention, and takes its echo back. */
+const char *line_send(struct line *line, uint8_t byte);
+
+/* Receives a character of the other end, for which the line waits so long from the last character
+ * on. */
+const char *line_receive(struct line *line, uint8_t *byte, int64_t wait);
+
+/* The same of the first character of an answer, as the direct convention reads it: not yet in the
+ * trace, and with another parity where the convention is the inverse one. */
+const char *line_receive_first(struct line *line, uint8_t *byte, bool *has_other_parity,
+                               int64_t wait);
+
+/* A byte as it stands on the line of the inverse convention, read by the direct one, and back. */
+uint8_t line_turned(uint8_t byte);
+
+/* Sets rate and parity, after the last character has gone. */
+const char *line_set(struct line *line, unsigned long baud);
+
+/* Notes a character in the trace, behind those of its end. */
+void line_note(struct line *line, enum line_end end, uint8_t byte);
+
+/* Notes the bytes of PPS, which is no T=0: in a line that is a note for who reads the trace. */
+void line_note_pps(struct line *line, enum line_end end, const uint8_t *bytes, size_t n);
+
+/* Ends the line of the trace that is not ended, and writes one behind it, unless it is NULL. */
+void line_note_text(struct line *line, const char *text);
+
+#endif

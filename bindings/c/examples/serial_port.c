@@ -1,0 +1,346 @@
+#define _XOPEN_SOURCE 700
+#define _DEFAULT_SOURCE
+
+#include "serial_port.h"
+
+#include <asm/termbits.h>
+#include <errno.h>
+#include <fcntl.h>
+#include <poll.h>
+#include <signal.h>
+#include <stdio.h>
+#include <stdlib.h>
+#include <string.h>
+#include <sys/ioctl.h>
+#include <sys/stat.h>
+#include <sys/sysmacros.h>
+#include <time.h>
+#include <unistd.h>
+
+#define MILLISECOND 1000
+#define SECOND 1000000
+
+/* how often a far end looks whether the near one is open */
+#define LOOKS_EVERY (10 * MILLISECOND)
+
+/* the numbers of Linux for the near ends of pseudo terminals */
+enum { FIRST_PSEUDO = 136, LAST_PSEUDO = 143 };
+
+/* what is set of how characters stand on the line, and what a pseudo terminal drops of it */
+static const tcflag_t FORM = CSIZE | CSTOPB | PARENB | PARODD;
+static const tcflag_t DROPPED = PARENB | PARODD;
+
+/* Of a tty that is open, what it was set to before; it has no fd where none is. */
+static struct termios2 before;
+static volatile sig_atomic_t before_fd = -1;
+
+/* what is told of a rate or of an error of the system */
+static char told[128];
+
+int64_t port_now(void)
+{
+    struct timespec now;
+    clock_gettime(CLOCK_MONOTONIC, &now);
+    return (int64_t)now.tv_sec * SECOND + now.tv_nsec / 1000;
+}
+
+void port_sleep_until(int64_t then)
+{
+    int64_t left;
+    while ((left = then - port_now()) > 0) {
+        struct timespec pause;
+        pause.tv_sec = left / SECOND;
+        pause.tv_nsec = left % SECOND * 1000;
+        nanosleep(&pause, NULL);
+    }
+}
+
+/* An ioctl is a system call alone, so a handler of signals may have one. */
+static void put_back(void)
+{
+    if (before_fd >= 0)
+        ioctl(before_fd, TCSETS2, &before);
+    before_fd = -1;
+}
+
+static void put_back_and_end(int number)
+{
+    put_back();
+    raise(number);
+}
+
+/* Each of these signals ends the program, after the tty is what it was, but for those that whoever
+ * started it has it pass over. */
+static void catch_signals(void)
+{
+    static const int NUMBERS[] = { SIGHUP, SIGINT, SIGQUIT, SIGTERM, SIGPIPE };
+    size_t i;
+    for (i = 0; i < sizeof NUMBERS / sizeof NUMBERS[0]; i++) {
+        struct sigaction action, old;
+        memset(&action, 0, sizeof action);
+        action.sa_handler = put_back_and_end;
+        action.sa_flags = (int)(SA_RESETHAND | SA_NODEFER);
+        if (sigaction(NUMBERS[i], &action, &old) == 0 && old.sa_handler == SIG_IGN)
+            sigaction(NUMBERS[i], &old, NULL);
+    }
+}
+
+static const char *tell_error(const char *what)
+{
+    snprintf(told, sizeof told, "%s: %s", what, strerror(errno));
+    return told;
+}
+
+static bool is_pseudo(int fd)
+{
+    struct stat found;
+    unsigned number;
+    if (fstat(fd, &found) != 0 || !S_ISCHR(found.st_mode))
+        return false;
+    number = major(found.st_rdev);
+    return number >= FIRST_PSEUDO && number <= LAST_PSEUDO;
+}
+
+/* Characters as they are, one by one. A tty with parity marks those that have another (FF 00
+ * before them), and then FF itself is FF FF. */
+static void make_settings(struct termios2 *settings, bool has_parity, unsigned long baud,
+                          bool is_odd)
+{
+    memset(settings, 0, sizeof *settings);
+    settings->c_iflag = has_parity ? INPCK | PARMRK : 0;
+    settings->c_cflag = BOTHER | CS8 | CSTOPB | PARENB | CREAD | CLOCAL | (is_odd ? PARODD : 0);
+    settings->c_cc[VMIN] = 1;
+    settings->c_ispeed = (speed_t)baud;
+    settings->c_ospeed = (speed_t)baud;
+}
+
+/* A UART divides a clock, so it may be a little off: here by one in fifty. */
+static bool is_near(speed_t found, unsigned long wanted)
+{
+    const unsigned long more = found > wanted ? found - wanted : wanted - found;
+    return more <= wanted / 50;
+}
+
+const char *port_set(struct port *port, unsigned long baud, bool is_odd)
+{
+    const tcflag_t looked_at = port->is_pseudo ? FORM & ~DROPPED : FORM;
+    struct termios2 wanted, found;
+    if (port->is_made)
+        return NULL;
+    make_settings(&wanted, !port->is_pseudo, baud, is_odd);
+    if (ioctl(port->fd, TCSETS2, &wanted) != 0 || ioctl(port->fd, TCGETS2, &found) != 0)
+        return tell_error("the tty refuses its settings");
+    if (((found.c_cflag ^ wanted.c_cflag) & looked_at) != 0) {
+        snprintf(told, sizeof told, "the tty does not take 8 bits, %s parity and 2 stop bits",
+                 is_odd ? "odd" : "even");
+        return told;
+    }
+    if (is_near(found.c_ispeed, baud) && is_near(found.c_ospeed, baud))
+        return NULL;
+    snprintf(told, sizeof told, "the tty does not run at %lu baud", baud);
+    return told;
+}
+
+const char *port_open(struct port *port, const char *name, unsigned long baud)
+{
+    const char *fault;
+    memset(port, 0, sizeof *port);
+    port->fd = open(name, O_RDWR | O_NOCTTY | O_NONBLOCK);
+    if (port->fd < 0)
+        return tell_error("the tty can not be opened");
+    port->is_pseudo = is_pseudo(port->fd);
+    if (ioctl(port->fd, TCGETS2, &before) != 0) {
+        fault = errno == ENOTTY ? "it is no tty" : tell_error("the tty does not tell its settings");
+    } else {
+        before_fd = port->fd;
+        catch_signals();
+        fault = port_set(port, baud, false);
+    }
+    if (fault != NULL)
+        port_close(port);
+    return fault;
+}
+
+/* Sets the near end to pass all characters on as they are, and drops those on the way. */
+static const char *clear_near_end(const struct port *port)
+{
+    struct termios2 settings;
+    const int near = open(port->name, O_RDWR | O_NOCTTY | O_NONBLOCK);
+    bool is_well;
+    if (near < 0)
+        return tell_error("no pseudo terminal");
+    make_settings(&settings, false, 9600, false);
+    is_well = ioctl(near, TCSETS2, &settings) == 0 && ioctl(near, TCFLSH, TCIOFLUSH) == 0;
+    close(near);
+    port_drop(port);
+    return is_well ? NULL : tell_error("no pseudo terminal");
+}
+
+const char *port_make(struct port *port)
+{
+    const char *name = NULL, *fault = NULL;
+    memset(port, 0, sizeof *port);
+    port->is_pseudo = port->is_made = true;
+    port->fd = posix_openpt(O_RDWR | O_NOCTTY | O_NONBLOCK);
+    if (port->fd < 0)
+        return tell_error("no pseudo terminal");
+    if (grantpt(port->fd) == 0 && unlockpt(port->fd) == 0)
+        name = ptsname(port->fd);
+    if (name == NULL)
+        fault = tell_error("no pseudo terminal");
+    else if (strlen(name) >= sizeof port->name)
+        fault = "no pseudo terminal: its name is too long";
+    else
+        strcpy(port->name, name);
+    if (fault == NULL)
+        fault = clear_near_end(port);
+    if (fault != NULL)
+        port_close(port);
+    return fault;
+}
+
+/* Whether the near end is closed. */
+static bool is_hung_up(const struct port *port)
+{
+    struct pollfd wait = { 0, POLLIN, 0 };
+    wait.fd = port->fd;
+    return poll(&wait, 1, 0) > 0 && (wait.revents & POLLHUP) != 0;
+}
+
+void port_await_closing(const struct port *port)
+{
+    while (!is_hung_up(port))
+        port_sleep_until(port_now() + LOOKS_EVERY);
+}
+
+const char *port_await_opening(const struct port *port)
+{
+    const char *fault = clear_near_end(port);
+    while (fault == NULL && is_hung_up(port))
+        port_sleep_until(port_now() + LOOKS_EVERY);
+    return fault;
+}
+
+/* The names of the lines, and the bits by which the system knows them. */
+static const struct {
+    const char *name;
+    int bit;
+} SIGNALS[] = {
+    { "", 0 },
+    { "RTS", TIOCM_RTS },
+    { "DTR", TIOCM_DTR },
+    { "CTS", TIOCM_CTS },
+    { "DSR", TIOCM_DSR },
+    { "DCD", TIOCM_CAR },
+};
+
+const char *port_look(const struct port *port, enum port_signal signal, bool *is_on)
+{
+    int bits = 0;
+    if (ioctl(port->fd, TIOCMGET, &bits) != 0) {
+        snprintf(told, sizeof told, "the tty does not tell its %s: %s", SIGNALS[signal].name,
+                 strerror(errno));
+        return told;
+    }
+    *is_on = (bits & SIGNALS[signal].bit) != 0;
+    return NULL;
+}
+
+const char *port_drive(const struct port *port, enum port_signal signal, bool is_on)
+{
+    int bit = SIGNALS[signal].bit;
+    bool found = !is_on;
+    const char *fault = NULL;
+    if (ioctl(port->fd, is_on ? TIOCMBIS : TIOCMBIC, &bit) != 0) {
+        snprintf(told, sizeof told, "the tty does not set its %s: %s", SIGNALS[signal].name,
+                 strerror(errno));
+        return told;
+    }
+    fault = port_look(port, signal, &found);
+    if (fault != NULL || found == is_on)
+        return fault;
+    snprintf(told, sizeof told, "the tty does not set its %s", SIGNALS[signal].name);
+    return told;
+}
+
+void port_drop(const struct port *port)
+{
+    ioctl(port->fd, TCFLSH, TCIFLUSH);
+}
+
+/* Waits for one of these events until then; at most a second at a time, so that the number of
+ * milliseconds fits. */
+static enum port_result await(const struct port *port, short events, int64_t then)
+{
+    for (;;) {
+        const int64_t left = then - port_now();
+        const int64_t most = left < SECOND ? left : SECOND;
+        struct pollfd wait = { 0, 0, 0 };
+        int ready;
+        wait.fd = port->fd;
+        wait.events = events;
+        ready = poll(&wait, 1, most > 0 ? (int)((most + MILLISECOND - 1) / MILLISECOND) : 0);
+        if (ready > 0)
+            return (wait.revents & events) != 0 ? PORT_IS_WELL : PORT_IS_GONE;
+        if (ready < 0 && errno != EINTR)
+            return PORT_IS_GONE;
+        if (left <= 0)
+            return PORT_IS_SILENT;
+    }
+}
+
+/* What a read or a write of one byte came to, where it moved so many. */
+static enum port_result result_of(ssize_t n)
+{
+    if (n < 0 && (errno == EINTR || errno == EAGAIN))
+        return PORT_IS_SILENT;
+    return n == 1 ? PORT_IS_WELL : PORT_IS_GONE;
+}
+
+static enum port_result read_byte(const struct port *port, uint8_t *byte, int64_t then)
+{
+    enum port_result result;
+    do {
+        result = await(port, POLLIN, then);
+        if (result == PORT_IS_WELL)
+            result = result_of(read(port->fd, byte, 1));
+    } while (result == PORT_IS_SILENT && port_now() < then);
+    return result;
+}
+
+enum port_result port_read(const struct port *port, uint8_t *byte, bool *has_other_parity,
+                           int64_t then)
+{
+    enum port_result result = read_byte(port, byte, then);
+    *has_other_parity = false;
+    if (result != PORT_IS_WELL || port->is_pseudo || *byte != 0xFF)
+        return result;
+    result = read_byte(port, byte, then);
+    if (result != PORT_IS_WELL || *byte == 0xFF)
+        return result;
+    *has_other_parity = true;
+    return read_byte(port, byte, then);
+}
+
+enum port_result port_write(const struct port *port, uint8_t byte, int64_t then)
+{
+    enum port_result result;
+    do {
+        result = await(port, POLLOUT, then);
+        if (result == PORT_IS_WELL)
+            result = result_of(write(port->fd, &byte, 1));
+    } while (result == PORT_IS_SILENT && port_now() < then);
+    return result;
+}
+
+/* What a tty has not sent is dropped, since closing it would wait for that. */
+void port_close(struct port *port)
+{
+    if (port->fd < 0)
+        return;
+    if (!port->is_pseudo)
+        ioctl(port->fd, TCFLSH, TCOFLUSH);
+    put_back();
+    close(port->fd);
+    port->fd = -1;
+}

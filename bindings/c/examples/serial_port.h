@@ -1,0 +1,74 @@
+/* A tty as the line of a smart card has it: 8 bits, a parity, 2 stop bits, and nothing changed of any
+ * character. Each wait has an end. One port is open at a time: what its tty was set to is put back
+ * by `port_close`, and where a signal ends the program. */
+#ifndef SERIAL_PORT_H
+#define SERIAL_PORT_H
+
+#include <stdbool.h>
+#include <stddef.h>
+#include <stdint.h>
+
+/* the most bytes of a pseudo terminal's name, its NUL among them */
+#define PORT_NAME_ROOM 64
+
+/* The lines of a tty beside the two that carry characters. The first two are the tty's own to
+ * drive, the others are looked at. */
+enum port_signal { PORT_NONE, PORT_RTS, PORT_DTR, PORT_CTS, PORT_DSR, PORT_DCD };
+
+struct port {
+    int fd;
+    bool is_pseudo;             /* it drops parity, and has no other lines */
+    bool is_made;               /* it is the far end of a pseudo terminal: `name` is the near one */
+    char name[PORT_NAME_ROOM];
+};
+
+enum port_result { PORT_IS_WELL, PORT_IS_SILENT, PORT_IS_GONE };
+
+/* Now, by a clock that nobody sets, in microseconds. All times here are in these. */
+int64_t port_now(void);
+
+/* Sleeps until then. */
+void port_sleep_until(int64_t then);
+
+/* The functions that answer text answer NULL where all went well, or a few words that say why it
+ * did not. They stand until the next call. */
+
+/* Opens a tty, and sets it to this rate and even parity. What it was set to before is kept for
+ * `port_close`. A port that is not opened well is closed again. */
+const char *port_open(struct port *port, const char *name, unsigned long baud);
+
+/* Makes a pseudo terminal, and is its far end. */
+const char *port_make(struct port *port);
+
+/* Waits until the near end of one that was made is closed. */
+void port_await_closing(const struct port *port);
+
+/* Clears what was left on the way, and waits until the near end is open: that is the reset of a
+ * card at the far one. */
+const char *port_await_opening(const struct port *port);
+
+/* Sets rate and parity. A tty that refuses, or takes another setting than the one that was asked
+ * for, is at fault; of a pseudo terminal parity is not looked at. */
+const char *port_set(struct port *port, unsigned long baud, bool is_odd);
+
+/* Switches RTS or DTR, and looks whether it is so then. */
+const char *port_drive(const struct port *port, enum port_signal signal, bool is_on);
+
+/* Whether a line is on. */
+const char *port_look(const struct port *port, enum port_signal signal, bool *is_on);
+
+/* Drops the characters that have come and were not read. */
+void port_drop(const struct port *port);
+
+/* Waits for a character until then, at the latest. `has_other_parity` says whether it came with
+ * another parity than the one that is set, or as none that is a character. */
+enum port_result port_read(const struct port *port, uint8_t *byte, bool *has_other_parity,
+                           int64_t then);
+
+/* Hands a character out, waiting until then for its place. */
+enum port_result port_write(const struct port *port, uint8_t byte, int64_t then);
+
+/* Puts back what the tty was set to, and closes it. */
+void port_close(struct port *port);
+
+#endif

@@ -1,0 +1,250 @@
+/* serial_terminal: a terminal for the card in a Phoenix or Smartmouse reader at a tty.
+ *
+ * The terminal is the library's, and proved; this program resets the card, reads its answer, and
+ * passes characters both ways, each within the line's times. `serial_terminal --help` says what it
+ * does. */
+#include "print.h"
+#include "script.h"
+#include "serial_answer.h"
+#include "serial_options.h"
+
+#include <string.h>
+
+enum { ALL_WELL = 0, FAULT = 1, BAD_WORDS = 2 };
+
+#define NUMBER(number) #number
+#define DOTTED(major, minor, patch) NUMBER(major) "." NUMBER(minor) "." NUMBER(patch)
+
+/* a card's character for "go on waiting" (ISO/IEC 7816-3, 10.3.3) */
+#define NULL_BYTE 0x60
+
+static const char USAGE[] = "Usage: serial_terminal [OPTIONS] TTY OPERATION..";
+
+static const char HELP[] =
+    "Options:\n"
+    "  -v              Shows each character: `> ` to the card, `< ` from it\n"
+    "  -k              Goes on after a status other than 9000\n"
+    "  -f FILE         Operations from a file, a line each (`-`: standard input)\n"
+    "  --baud N        The line's rate at a reset, a 372nd of the clock: 9600 where it\n"
+    "                  has 3.5712 MHz, which is taken where nothing is said\n"
+    "  --reset LINE    What resets the card: rts (taken where nothing is said), dtr, or\n"
+    "                  none, where somebody does it by hand\n"
+    "  --held-by STATE The state of that line in which it holds the card in reset: on\n"
+    "                  (taken where nothing is said) or off\n"
+    "  --no-echo       What is sent does not come back\n"
+    "  --pps           Asks the card to talk at its own rate, where it has another, and\n"
+    "                  to talk T=0, where it begins with another protocol\n"
+    "  --slack MS      How much longer than the line's rules have it each wait lasts\n"
+    "                  (200), since this system has no exact times\n"
+    "  --patience S    How many seconds a card may send nothing but NULLs, or somebody\n"
+    "                  take for a reset by hand (300)\n"
+    "  -h, --help      Prints help\n"
+    "  -V, --version   Prints the version\n"
+    "\n"
+    "Operations, which are carried out in order:\n"
+    "\n"
+    "  select AID     selects the application with this identifier\n"
+    "  get TAG        reads a data object\n"
+    "  put TAG VALUE  stores a data object\n"
+    "  send HEX       sends one command, and fetches its answer\n"
+    "\n"
+    "They are those of gt_pcsc, whose help says more of them.\n"
+    "\n"
+    "On a pseudo terminal opening it is the reset. A fault is told on standard error,\n"
+    "and ends the program. The exit status is 0 where each operation was answered\n"
+    "9000, 1 after another status or a fault, and 2 where the words of the command\n"
+    "line are refused.\n"
+    "\n"
+    "Example:\n"
+    "\n"
+    "  serial_terminal --reset dtr /dev/ttyUSB0 select A0000000031010 get 5F20\n";
+
+static const char *const NAMES[] = {
+    "-v", "-k", "-f", "--baud", "--reset", "--held-by", "--no-echo", "--pps", "--slack",
+    "--patience", "-h", "--help", "-V", "--version", NULL
+};
+
+static const enum port_signal SIGNALS[] = { PORT_RTS, PORT_DTR, PORT_NONE };
+
+/* A card behind a line, and the terminal that talks to it. */
+struct session {
+    struct line *line;
+    gt_terminal terminal;
+    int64_t waiting_time;
+    int64_t patience;
+    int64_t nulls_since;        /* the time of the first of the NULLs that came last, or 0 */
+};
+
+static int tell(const char *fault)
+{
+    fprintf(stderr, "%s\n", fault);
+    return FAULT;
+}
+
+static int refuse_words(const char *fault)
+{
+    fprintf(stderr, "error: %s\n\n%s\n\nFor more information, try '--help'.\n", fault, USAGE);
+    return BAD_WORDS;
+}
+
+/* Flushes what was printed. */
+static int end_output(void)
+{
+    return fflush(stdout) == 0 && !ferror(stdout) ? ALL_WELL : tell("write fault");
+}
+
+/* Whether the card has sent nothing but NULLs for too long. */
+static bool is_put_off(struct session *session, uint8_t byte)
+{
+    if (byte != NULL_BYTE)
+        session->nulls_since = 0;
+    else if (session->nulls_since == 0)
+        session->nulls_since = port_now();
+    return byte == NULL_BYTE && port_now() - session->nulls_since > session->patience;
+}
+
+/* Receives one character of the card, and hands it to the terminal. */
+static const char *take(struct session *session)
+{
+    uint8_t byte;
+    int32_t code;
+    const char *fault = line_receive(session->line, &byte, session->waiting_time);
+    if (fault == LINE_IS_SILENT)
+        return "the card is silent";
+    if (fault != NULL)
+        return fault;
+    if (is_put_off(session, byte))
+        return "the card sends nothing but NULLs";
+    code = gt_terminal_take(&session->terminal, byte);
+    return code == GT_OK ? NULL : gt_text(code);
+}
+
+/* Passes the characters of the operation that has begun, until it is over. */
+static const char *pass_all(struct session *session)
+{
+    const char *fault = NULL;
+    uint8_t byte;
+    session->nulls_since = 0;
+    while (fault == NULL) {
+        const int32_t code = gt_terminal_next(&session->terminal, &byte);
+        if (code == GT_DONE)
+            return NULL;
+        else if (code == GT_SENDS)
+            fault = line_send(session->line, byte);
+        else if (code == GT_OK)
+            fault = take(session);
+        else
+            fault = gt_text(code);
+    }
+    return fault;
+}
+
+static const char *carry_out(struct session *session, const struct operation *operation,
+                             uint16_t *status)
+{
+    const int32_t code = operation_begin(operation, &session->terminal);
+    const char *fault = code == GT_OK ? pass_all(session) : gt_text(code);
+    line_note_text(session->line, NULL);
+    return fault == NULL ? print_answer(stdout, &session->terminal, status) : fault;
+}
+
+/* Carries out the steps, up to the first fault, or without -k the first status that is not 9000. */
+static int carry_out_steps(struct session *session, const struct script *script, bool goes_on)
+{
+    int result = ALL_WELL;
+    size_t i;
+    for (i = 0; i < script->count && (result == ALL_WELL || goes_on); i++) {
+        const struct step *step = &script->steps[i];
+        uint16_t status = 0;
+        const char *fault = carry_out(session, &step->operation, &status);
+        if (fault != NULL) {
+            fprintf(stderr, "%s %lu: %s\n", script->unit, (unsigned long)step->number, fault);
+            return FAULT;
+        }
+        if (status != 0x9000)
+            result = FAULT;
+    }
+    return result;
+}
+
+/* Resets the card, and carries out the steps with it. */
+static int run_over(struct port *port, const struct script *script,
+                    const struct serial_options *options)
+{
+    struct line line = serial_options_line(options, port, LINE_TERMINAL);
+    struct session session = { NULL, GT_INIT, 0, 0, 0 };
+    struct answer_wishes wishes;
+    const char *fault;
+    int result;
+    const int32_t code = gt_terminal_new(&session.terminal);
+    if (code != GT_OK)
+        return tell(gt_text(code));
+    session.line = &line;
+    session.patience = (int64_t)options->patience * 1000000;
+    wishes.reset = options->reset;
+    wishes.is_held_by_on = options->is_held_by_on;
+    wishes.asks_pps = options->asks_pps;
+    wishes.patience = session.patience;
+    fault = answer_take(&line, &wishes, &session.waiting_time);
+    result = fault != NULL ? tell(fault) : carry_out_steps(&session, script, options->goes_on);
+    gt_terminal_free(&session.terminal);
+    return result;
+}
+
+static int run(const struct script *script, const struct serial_options *options)
+{
+    struct port port;
+    const char *fault = port_open(&port, options->words[0], options->baud);
+    int result;
+    if (fault != NULL)
+        return tell(fault);
+    result = run_over(&port, script, options);
+    port_close(&port);
+    return result;
+}
+
+static int refuse_script(const struct serial_options *options,
+                         const struct script_refusal *refusal)
+{
+    char text[64];
+    const char *unit = options->file != NULL ? "line" : "operation";
+    if (refusal->number == 0)
+        return tell(refusal->text);
+    snprintf(text, sizeof text, "%s %lu: %s", unit, (unsigned long)refusal->number, refusal->text);
+    return options->file == NULL && refusal->is_of_words ? refuse_words(text) : tell(text);
+}
+
+static int run_options(const struct serial_options *options)
+{
+    struct script script;
+    struct script_refusal refusal;
+    int result;
+    if (options->helps) {
+        printf("Reads and writes the data objects of a card in a reader at a tty\n\n%s\n\n%s",
+               USAGE, HELP);
+        return end_output();
+    }
+    if (options->tells_version) {
+        printf("serial_terminal %s\n",
+               DOTTED(GT_VERSION_MAJOR, GT_VERSION_MINOR, GT_VERSION_PATCH));
+        return end_output();
+    }
+    if (options->count == 0)
+        return refuse_words("no tty was provided");
+    if (options->file != NULL && options->count > 1)
+        return refuse_words("operations stand either in words or in FILE");
+    if (options->file == NULL && options->count == 1)
+        return refuse_words("no operation was provided");
+    if (!script_read(&script, options->file, options->words + 1, options->count - 1, &refusal))
+        return refuse_script(options, &refusal);
+    result = run(&script, options);
+    script_free(&script);
+    return result;
+}
+
+int main(int argc, char **argv)
+{
+    struct serial_options options;
+    const char *fault = serial_options_read(&options, NAMES, SIGNALS, argc, argv);
+    return fault != NULL ? refuse_words(fault) : run_options(&options);
+}

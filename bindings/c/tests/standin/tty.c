@@ -1,0 +1,197 @@
+/* A stand-in for the tty of a serial port, over a pseudo terminal: the calls of serial_port.c that
+ * set it and its lines end here, by the linker's --wrap. Without STANDIN_TTY it is not there. The
+ * environment says what it is like:
+ *
+ * STANDIN_TTY      the file in which each of these calls is noted, a line each
+ * STANDIN_REFUSES  words, each of which is one of
+ *                    get, set      the settings are not told, or not set: an error
+ *                    set_again     not set a second time
+ *                    bits, stop, parity, odd  that setting is dropped without an error
+ *                    baud          it runs at 1,200 baud
+ *                    fast          it runs at most at 9,600 baud
+ *                    lines         there are no other lines: an error
+ *                    on, off       a line is not switched so: an error
+ *                    stuck         a line stays as it is without an error
+ *                    write         no character is ever taken
+ * STANDIN_INPUTS   a file with the words cts, dsr, dcd: the lines of the other end that are on
+ *
+ * Parity can't be told over a pseudo terminal, so the mark of a character with another parity is
+ * what the other end writes: FF 00 before it, and FF FF for FF. */
+#define _GNU_SOURCE
+
+#include <asm/termbits.h>
+#include <errno.h>
+#include <stdarg.h>
+#include <stdbool.h>
+#include <stdio.h>
+#include <stdlib.h>
+#include <string.h>
+#include <sys/ioctl.h>
+#include <sys/stat.h>
+#include <sys/sysmacros.h>
+#include <unistd.h>
+
+/* the number of Linux for serial ports, and the first of these */
+enum { SERIAL_PORTS = 4, FIRST_PORT = 64 };
+
+int __real_ioctl(int fd, unsigned long request, ...);
+int __real_fstat(int fd, struct stat *found);
+ssize_t __real_write(int fd, const void *bytes, size_t n);
+
+/* what was set last, where something was, and how often */
+static struct termios2 settings;
+static unsigned long times;
+
+/* RTS and DTR are on while a tty is open */
+static int driven = TIOCM_RTS | TIOCM_DTR;
+
+static bool has_word(const char *words, const char *word)
+{
+    const size_t n = strlen(word);
+    while (words != NULL && *words != '\0') {
+        const size_t size = strcspn(words, " \n");
+        if (size == n && strncmp(words, word, n) == 0)
+            return true;
+        words += size + strspn(words + size, " \n");
+    }
+    return false;
+}
+
+static bool refuses(const char *what)
+{
+    return has_word(getenv("STANDIN_REFUSES"), what);
+}
+
+static void note(const char *text)
+{
+    FILE *log = fopen(getenv("STANDIN_TTY"), "a");
+    if (log == NULL)
+        abort();
+    fprintf(log, "%s\n", text);
+    fclose(log);
+}
+
+static int fail(int number)
+{
+    errno = number;
+    return -1;
+}
+
+static void note_settings(const struct termios2 *wanted)
+{
+    const tcflag_t flags = wanted->c_cflag;
+    char text[80];
+    snprintf(text, sizeof text, "set %u baud, %s bits, %s parity%s, %s",
+             (unsigned)wanted->c_ospeed, (flags & CSIZE) == CS8 ? "8" : "other",
+             (flags & PARENB) == 0 ? "no" : (flags & PARODD) != 0 ? "odd" : "even",
+             (wanted->c_iflag & INPCK) != 0 && (wanted->c_iflag & PARMRK) != 0 ? " with marks" : "",
+             (flags & CSTOPB) != 0 ? "2 stop bits" : "1 stop bit");
+    note(text);
+}
+
+/* What it makes of settings. */
+static void take_settings(const struct termios2 *wanted)
+{
+    settings = *wanted;
+    if (refuses("bits"))
+        settings.c_cflag = (settings.c_cflag & ~(tcflag_t)CSIZE) | CS7;
+    if (refuses("stop"))
+        settings.c_cflag &= ~(tcflag_t)CSTOPB;
+    if (refuses("parity"))
+        settings.c_cflag &= ~(tcflag_t)PARENB;
+    if (refuses("odd"))
+        settings.c_cflag &= ~(tcflag_t)PARODD;
+    if (refuses("baud"))
+        settings.c_ispeed = settings.c_ospeed = 1200;
+    if (refuses("fast") && settings.c_ospeed > 9600)
+        settings.c_ispeed = settings.c_ospeed = 9600;
+}
+
+/* The pseudo terminal itself marks nothing. */
+static int set(int fd, const struct termios2 *wanted)
+{
+    struct termios2 passed = *wanted;
+    passed.c_iflag &= ~(tcflag_t)(INPCK | PARMRK);
+    note_settings(wanted);
+    if (refuses("set") || (refuses("set_again") && times > 0))
+        return fail(EINVAL);
+    times++;
+    take_settings(wanted);
+    return __real_ioctl(fd, TCSETS2, &passed);
+}
+
+static int get(int fd, struct termios2 *found)
+{
+    if (refuses("get"))
+        return fail(EIO);
+    if (times == 0)
+        return __real_ioctl(fd, TCGETS2, found);
+    *found = settings;
+    return 0;
+}
+
+static int drive(int bits, bool is_on)
+{
+    char text[40];
+    snprintf(text, sizeof text, "%s%s %s", (bits & TIOCM_RTS) != 0 ? "rts" : "",
+             (bits & TIOCM_DTR) != 0 ? "dtr" : "", is_on ? "on" : "off");
+    note(text);
+    if (refuses("lines") || refuses(is_on ? "on" : "off"))
+        return fail(EIO);
+    if (!refuses("stuck"))
+        driven = is_on ? driven | bits : driven & ~bits;
+    return 0;
+}
+
+static int look(int *bits)
+{
+    char words[80] = "";
+    const char *name = getenv("STANDIN_INPUTS");
+    FILE *file = name != NULL ? fopen(name, "r") : NULL;
+    if (refuses("lines"))
+        return fail(ENOTTY);
+    if (file != NULL) {
+        const size_t n = fread(words, 1, sizeof words - 1, file);
+        words[n] = '\0';
+        fclose(file);
+    }
+    *bits = driven | (has_word(words, "cts") ? TIOCM_CTS : 0)
+        | (has_word(words, "dsr") ? TIOCM_DSR : 0) | (has_word(words, "dcd") ? TIOCM_CAR : 0);
+    return 0;
+}
+
+int __wrap_ioctl(int fd, unsigned long request, ...)
+{
+    va_list more;
+    void *argument;
+    va_start(more, request);
+    argument = va_arg(more, void *);
+    va_end(more);
+    if (getenv("STANDIN_TTY") == NULL)
+        return __real_ioctl(fd, request, argument);
+    switch (request) {
+    case TCGETS2: return get(fd, argument);
+    case TCSETS2: return set(fd, argument);
+    case TIOCMGET: return look(argument);
+    case TIOCMBIS: return drive(*(int *)argument, true);
+    case TIOCMBIC: return drive(*(int *)argument, false);
+    case TCFLSH: note((long)argument == TCIFLUSH ? "drop what has come" : "drop what has not gone");
+        /* fall through */
+    default: return __real_ioctl(fd, request, argument);
+    }
+}
+
+int __wrap_fstat(int fd, struct stat *found)
+{
+    const int result = __real_fstat(fd, found);
+    if (result == 0 && getenv("STANDIN_TTY") != NULL && S_ISCHR(found->st_mode))
+        found->st_rdev = makedev(SERIAL_PORTS, FIRST_PORT);
+    return result;
+}
+
+ssize_t __wrap_write(int fd, const void *bytes, size_t n)
+{
+    if (fd > 2 && getenv("STANDIN_TTY") != NULL && refuses("write"))
+        return fail(EAGAIN);
+    return __real_write(fd, bytes, n);
+}

@@ -1,0 +1,51 @@
+"""The two programs, as their tests run them."""
+
+import os
+import subprocess
+import time
+from pathlib import Path
+
+TOP = Path(__file__).resolve().parent.parent.parent
+BUILD = Path(os.environ.get("SERIAL_BUILD", TOP / "bindings/c/build/standin"))
+TABLE = TOP / "bindings/c/examples/demo.table"
+SECONDS = 30
+
+
+class Program:
+    """A program that runs, over the stand-in for a tty."""
+
+    def __init__(self, name, words, environment=(), given=b""):
+        names = {**os.environ, "LC_ALL": "C", **dict(environment)}
+        self.began = time.monotonic()
+        self.process = subprocess.Popen(
+            [BUILD / name, *map(str, words)],
+            stdin=subprocess.PIPE,
+            stdout=subprocess.PIPE,
+            stderr=subprocess.PIPE,
+            env=names,
+        )
+        if given:
+            self.process.stdin.write(given)
+        self.process.stdin.close()
+        self.process.stdin = None
+        self.output = self.faults = ""
+        self.seconds = 0.0
+
+    def first_line(self):
+        """The first line that it prints, once it does."""
+        return self.process.stdout.readline().decode().rstrip("\n")
+
+    def end(self):
+        """Its status, once it has ended; `output`, `faults` and `seconds` are of all of it."""
+        try:
+            output, faults = self.process.communicate(timeout=SECONDS)
+        except subprocess.TimeoutExpired:
+            self.process.kill()
+            output, faults = self.process.communicate()
+            faults += b"it hangs\n"
+        self.seconds = time.monotonic() - self.began
+        self.output, self.faults = output.decode(), faults.decode()
+        return self.process.returncode
+
+    def kill(self, number):
+        self.process.send_signal(number)

@@ -4,15 +4,12 @@
 
 #include <string.h>
 
-/* the most bytes of an answer to reset (ISO/IEC 7816-3, 8.2.1) */
-enum { ANSWER_LIMIT = 33 };
-
 /* the latest that an answer begins, in clock cycles (ISO/IEC 7816-3, 6.2.2), and how long the line
  * is held for a reset: 400 cycles are asked for, and slow readers take longer to pass them on */
 enum { BEGINS_BEFORE = 40000, IS_HELD_FOR = 50000 };
 
-/* what a code says where it is the standard's, in PPS1 and in an answer, and what stands for none */
-enum { RATE_OF_RESET = 0x11, NO_CHARACTER = 256 };
+/* the code of the rate that holds from a reset on (ISO/IEC 7816-3, 8.3) */
+#define RATE_OF_RESET 0x11
 
 #define TS_OF_INVERSE 0x3F
 
@@ -22,7 +19,7 @@ static char told[160];
 struct answer {
     struct line *line;
     unsigned long clock;        /* cycles in a second */
-    uint8_t bytes[ANSWER_LIMIT];
+    uint8_t bytes[GT_ATR_LIMIT];
     size_t n;
     gt_atr says;
 };
@@ -93,11 +90,6 @@ static const char *take_others(struct answer *answer)
     return told;
 }
 
-static bool offers_t0(const gt_atr *says)
-{
-    return memchr(says->protocols, 0, says->protocol_count) != NULL;
-}
-
 /* Goes on at another rate: of Fi and Di, or of those that hold from the reset on. */
 static const char *set_rate(struct answer *answer, bool is_of_card)
 {
@@ -112,7 +104,7 @@ static const char *set_rate(struct answer *answer, bool is_of_card)
 }
 
 /* The bytes of a response, as many as its PPS0 announces. */
-static const char *take_response(struct line *line, uint8_t response[LINE_PPS_LIMIT], size_t *n)
+static const char *take_response(struct line *line, uint8_t response[GT_PPS_LIMIT], size_t *n)
 {
     const int64_t wait = line_etu(line, LINE_ANSWER_ETU) + line->slack;
     size_t wanted = 2;
@@ -128,14 +120,14 @@ static const char *take_response(struct line *line, uint8_t response[LINE_PPS_LI
     return fault == LINE_IS_SILENT ? "the card does not answer to PPS" : fault;
 }
 
-/* Asks for T=0, and for this PPS1; `is_taken` says whether the card goes on by that. */
-static const char *ask(struct line *line, uint16_t pps1, bool *is_taken)
+/* Asks for T=0 at the rate of this PPS1; `is_taken` says whether the card goes on by that. */
+static const char *ask(struct line *line, uint8_t pps1, bool *is_taken)
 {
-    uint8_t request[LINE_PPS_LIMIT], response[LINE_PPS_LIMIT];
+    uint8_t request[GT_PPS_LIMIT], response[GT_PPS_LIMIT];
     size_t n = 0, count = 0, i;
     FILE *trace = line->trace;
     const char *fault = NULL;
-    int32_t code = gt_pps_request(0, pps1, NO_CHARACTER, NO_CHARACTER, request, sizeof request, &n);
+    int32_t code = gt_pps_request(0, pps1, GT_ABSENT, GT_ABSENT, request, &n);
     if (code != GT_OK)
         return gt_text(code);
     line_note_text(line, NULL);
@@ -160,29 +152,26 @@ static const char *go_on_specific(struct answer *answer)
     const gt_atr *says = &answer->says;
     if (says->specific_t != 0)
         return "the card does not talk T=0";
-    if (says->is_implicit)
+    if (says->implicit)
         return "the card goes on at a rate that it does not tell";
     if (says->fi == 0 || says->di == 0)
         return "the card goes on at a rate that is reserved";
     return set_rate(answer, true);
 }
 
-/* Else it goes on as before, or as PPS has it. */
+/* Else it goes on as before, or as PPS has it. T=0 is the first protocol where it is one of them. */
 static const char *go_on_negotiable(struct answer *answer, bool asks_pps)
 {
     const gt_atr *says = &answer->says;
-    const bool is_first = says->protocols[0] == 0;
     const bool has_rate = says->rate_code != RATE_OF_RESET && says->fi > 0 && says->di > 0;
     bool is_taken = false;
     const char *fault;
-    if (!offers_t0(says))
+    if (says->protocols[0] != 0)
         return "the card does not talk T=0";
-    if (!is_first && !asks_pps)
-        return "the card begins with another protocol than T=0; --pps asks for that";
     fault = set_rate(answer, false);
-    if (fault != NULL || !asks_pps || (is_first && !has_rate))
+    if (fault != NULL || !asks_pps || !has_rate)
         return fault;
-    fault = ask(answer->line, has_rate ? says->rate_code : NO_CHARACTER, &is_taken);
+    fault = ask(answer->line, says->rate_code, &is_taken);
     return fault == NULL && is_taken ? set_rate(answer, true) : fault;
 }
 
@@ -204,7 +193,7 @@ const char *answer_take(struct line *line, const struct answer_wishes *wishes,
     if (fault == NULL && answer.says.waiting_time == 0)
         fault = "the card's waiting time is reserved";
     if (fault == NULL)
-        fault = answer.says.is_specific ? go_on_specific(&answer)
+        fault = answer.says.specific ? go_on_specific(&answer)
                                         : go_on_negotiable(&answer, wishes->asks_pps);
     line_note_text(line, NULL);
     *waiting_time = cycles(&answer, answer.says.waiting_time) + line->slack;

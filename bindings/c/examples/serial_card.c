@@ -6,8 +6,6 @@
 #include "serial_options.h"
 #include "table.h"
 
-#include <string.h>
-
 enum { ALL_WELL = 0, FAULT = 1, BAD_WORDS = 2 };
 
 #define NUMBER(number) #number
@@ -16,9 +14,8 @@ enum { ALL_WELL = 0, FAULT = 1, BAD_WORDS = 2 };
 /* how often the line of a reset is looked at, in microseconds */
 enum { LOOKS_EVERY = 1000 };
 
-/* what a PPS request begins with, the bit of its PPS0 for PPS1 (ISO/IEC 7816-3, 9.2), and what
- * stands for a character that is not there */
-enum { PPSS = 0xFF, HAS_PPS1 = 0x10, NO_CHARACTER = 256 };
+/* what a PPS request begins with, and the bit of its PPS0 for PPS1 (ISO/IEC 7816-3, 9.2) */
+enum { PPSS = 0xFF, HAS_PPS1 = 0x10 };
 
 /* no limit of what a status 61XX announces */
 enum { PLAN_CUT = 256 };
@@ -173,7 +170,7 @@ static const char *set_rate(const struct socket *socket, bool is_of_card)
 }
 
 /* The bytes of a request, behind the first: as many as its PPS0 announces. */
-static const char *receive_request(const struct socket *socket, uint8_t request[LINE_PPS_LIMIT],
+static const char *receive_request(const struct socket *socket, uint8_t request[GT_PPS_LIMIT],
                                    size_t *n)
 {
     size_t wanted = 2;
@@ -192,15 +189,15 @@ static const char *receive_request(const struct socket *socket, uint8_t request[
 /* The response to a request: T=0, and its PPS1 where that is the card's own rate or that of a
  * reset. `is_of_card` says whether the card's own is then in use. */
 static bool respond(const struct socket *socket, const uint8_t *request, size_t n,
-                    uint8_t response[LINE_PPS_LIMIT], size_t *count, bool *is_of_card)
+                    uint8_t response[GT_PPS_LIMIT], size_t *count, bool *is_of_card)
 {
     const bool has_pps1 = (request[1] & HAS_PPS1) != 0;
     const bool has_rate = socket->says->fi > 0 && socket->says->di > 0;
-    uint16_t pps1 = NO_CHARACTER;
+    uint16_t pps1 = GT_ABSENT;
     *is_of_card = has_pps1 && has_rate && request[2] == socket->says->rate_code;
     if (has_pps1 && (*is_of_card || request[2] == RATE_OF_RESET))
         pps1 = request[2];
-    return gt_pps_request(0, pps1, NO_CHARACTER, NO_CHARACTER, response, LINE_PPS_LIMIT, count)
+    return gt_pps_request(0, pps1, GT_ABSENT, GT_ABSENT, response, count)
             == GT_OK
         && gt_pps_agreed(request, n, response, *count) == 1;
 }
@@ -210,7 +207,7 @@ static bool respond(const struct socket *socket, const uint8_t *request, size_t 
 static const char *answer_pps(const struct socket *socket, FILE *trace)
 {
     struct line *line = socket->line;
-    uint8_t request[LINE_PPS_LIMIT], response[LINE_PPS_LIMIT];
+    uint8_t request[GT_PPS_LIMIT], response[GT_PPS_LIMIT];
     size_t n, count = 0;
     bool is_of_card = false;
     const char *what = receive_request(socket, request, &n);
@@ -235,7 +232,7 @@ static const char *receive_first(const struct socket *socket, uint8_t *byte)
     line_note_text(line, NULL);
     line->trace = NULL;
     what = receive(socket, byte);
-    if (what == NULL && *byte == PPSS && !socket->says->is_specific) {
+    if (what == NULL && *byte == PPSS && !socket->says->specific) {
         what = answer_pps(socket, trace);
         if (what == NULL)
             what = receive(socket, byte);
@@ -274,7 +271,7 @@ static const char *talk(const struct socket *socket)
     what = set_rate(socket, false);
     if (what == NULL)
         what = send_all(socket, table->atr, table->atr_size);
-    if (what == NULL && socket->says->is_specific)
+    if (what == NULL && socket->says->specific)
         what = set_rate(socket, true);
     if (what == NULL)
         what = receive_first(socket, &byte);
@@ -296,7 +293,7 @@ static int serve(struct port *port, struct table *table, const gt_atr *says,
     const char *what = NULL, *fault;
     if (port->is_made && options->has_echo)
         line.echo = LINE_GIVES_ECHO;
-    line.is_inverse = says->convention != 0;
+    line.is_inverse = says->convention == GT_INVERSE;
     socket.line = &line;
     socket.table = table;
     socket.says = says;
@@ -340,9 +337,9 @@ static const char *read_answer(const struct table *table, gt_atr *says)
                  gt_text(code), (unsigned long)place + 1);
         return text;
     }
-    if (says->is_specific
-            ? says->specific_t != 0 || says->is_implicit || says->fi == 0 || says->di == 0
-            : memchr(says->protocols, 0, says->protocol_count) == NULL)
+    if (says->specific
+            ? says->specific_t != 0 || says->implicit || says->fi == 0 || says->di == 0
+            : says->protocols[0] != 0)
         return "the table's answer to reset does not offer T=0 at a rate that it tells";
     return NULL;
 }

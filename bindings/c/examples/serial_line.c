@@ -31,10 +31,10 @@ void line_note(struct line *line, enum line_end end, uint8_t byte)
 
 void line_note_pps(struct line *line, enum line_end end, const uint8_t *bytes, size_t n)
 {
-    char text[sizeof "pps > " + 2 * LINE_PPS_LIMIT];
+    char text[sizeof "pps > " + 2 * GT_PPS_LIMIT];
     int length = snprintf(text, sizeof text, "pps %c ", (char)end);
     size_t i;
-    for (i = 0; i < n && i < LINE_PPS_LIMIT; i++)
+    for (i = 0; i < n && i < GT_PPS_LIMIT; i++)
         length += snprintf(text + length, sizeof text - (size_t)length, "%02X",
                            (unsigned)bytes[i]);
     if (n > 0)

@@ -5,6 +5,8 @@
 
 #include "serial_port.h"
 
+#include <galliumtoad.h>
+
 #include <stdio.h>
 
 /* the elementary time units of a character with its least guard time */
@@ -14,9 +16,6 @@
  * and those of them that are left where the first of the two has come. */
 #define LINE_TURN_ETU 16
 #define LINE_REST_ETU 6
-
-/* the most bytes of PPS (ISO/IEC 7816-3, 9.2) */
-#define LINE_PPS_LIMIT 6
 
 /* the most etu between two characters of an answer to reset and of PPS (ISO/IEC 7816-3, 8.1 and
  * 9.2) */

@@ -120,3 +120,30 @@ class Other:
         found = self.line.read(1, seconds)
         if found:
             raise AssertionError(f"{found.hex()} has come, and nothing is due")
+
+
+def play(other, dialogue, card):
+    """Plays one end of a dialogue: words are `<` and the card's bytes, `>` and the terminal's, and
+    `~` and seconds of nothing. `card` says whose part it is."""
+    words = dialogue.split()
+    for sign, word in zip(words[::2], words[1::2]):
+        if sign == "~":
+            time.sleep(float(word))
+        elif (sign == "<") == card:
+            other.send(word)
+        else:
+            other.take(word)
+
+
+def trace_of(dialogue):
+    """The trace of a dialogue: what one end sends, up to the other's turn, is a line."""
+    words = dialogue.split()
+    lines = ["reset"]
+    for sign, word in zip(words[::2], words[1::2]):
+        if sign == "~":
+            continue
+        if lines[-1].startswith(sign):
+            lines[-1] += word
+        else:
+            lines.append(f"{sign} {word}")
+    return "".join(f"{line}\n" for line in lines)

@@ -12,15 +12,18 @@ SECONDS = 30
 
 
 class Program:
-    """A program that runs, over the stand-in for a tty."""
+    """A program that runs, over the stand-in for a tty. `passed_over` is a signal that whoever
+    starts it has it pass over."""
 
-    def __init__(self, name, words, environment=(), given=b""):
+    def __init__(self, name, words, environment=(), given=b"", stdout=subprocess.PIPE,
+                 passed_over=None):
         names = {**os.environ, "LC_ALL": "C", **dict(environment)}
+        before = ["sh", "-c", f'trap "" {passed_over}; exec "$@"', "sh"] if passed_over else []
         self.began = time.monotonic()
         self.process = subprocess.Popen(
-            [BUILD / name, *map(str, words)],
+            [*before, BUILD / name, *map(str, words)],
             stdin=subprocess.PIPE,
-            stdout=subprocess.PIPE,
+            stdout=stdout,
             stderr=subprocess.PIPE,
             env=names,
         )
@@ -44,7 +47,7 @@ class Program:
             output, faults = self.process.communicate()
             faults += b"it hangs\n"
         self.seconds = time.monotonic() - self.began
-        self.output, self.faults = output.decode(), faults.decode()
+        self.output, self.faults = (output or b"").decode(), faults.decode()
         return self.process.returncode
 
     def kill(self, number):

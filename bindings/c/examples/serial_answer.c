@@ -45,7 +45,15 @@ static const char *reset(const struct answer *answer, const struct answer_wishes
     return fault;
 }
 
-/* TS shows the convention; its parity is that of the other one where it is inverse. */
+static const char *tell_none(int32_t code, size_t place)
+{
+    snprintf(told, sizeof told, "the answer to reset is none: %s, at byte %lu", gt_text(code),
+             (unsigned long)place + 1);
+    return told;
+}
+
+/* TS shows the convention: 3B, or 3F of the inverse one, which the direct one reads as 03. Its
+ * parity is that of the other convention where it is inverse. */
 static const char *take_first(struct answer *answer, int64_t wait)
 {
     struct line *line = answer->line;
@@ -54,6 +62,8 @@ static const char *take_first(struct answer *answer, int64_t wait)
     const char *fault = line_receive_first(line, &raw, &has_other_parity, wait);
     if (fault != NULL)
         return fault == LINE_IS_SILENT ? "the card does not answer to reset" : fault;
+    if (raw == TS_OF_INVERSE)
+        return tell_none(GT_ATR_NO_TS, 0);
     line->is_inverse = line_turned(raw) == TS_OF_INVERSE;
     line->has_parity_of_direct = line->is_inverse;
     answer->bytes[answer->n++] = line->is_inverse ? TS_OF_INVERSE : raw;
@@ -83,11 +93,7 @@ static const char *take_others(struct answer *answer)
             return fault;
         answer->n++;
     }
-    if (code == GT_OK)
-        return NULL;
-    snprintf(told, sizeof told, "the answer to reset is none: %s, at byte %lu", gt_text(code),
-             (unsigned long)place + 1);
-    return told;
+    return code == GT_OK ? NULL : tell_none(code, place);
 }
 
 /* Goes on at another rate: of Fi and Di, or of those that hold from the reset on. */

@@ -1,6 +1,7 @@
 """The two programs, as their tests run them."""
 
 import os
+import select
 import subprocess
 import time
 from pathlib import Path
@@ -37,6 +38,11 @@ class Program:
     def first_line(self):
         """The first line that it prints, once it does."""
         return self.process.stdout.readline().decode().rstrip("\n")
+
+    def first_fault(self, seconds):
+        """The first line that it tells on standard error within this time, or nothing."""
+        ready, _, _ = select.select([self.process.stderr], [], [], seconds)
+        return self.process.stderr.readline().decode() if ready else ""
 
     def end(self):
         """Its status, once it has ended; `output`, `faults` and `seconds` are of all of it."""

@@ -53,11 +53,9 @@ void line_note_text(struct line *line, const char *text)
     fflush(line->trace);
 }
 
-/* The later of now and the end of the last character that was handed out. */
-static int64_t free_from(const struct line *line)
+static int64_t later(int64_t one, int64_t other)
 {
-    const int64_t now = port_now();
-    return now > line->sent_until ? now : line->sent_until;
+    return one > other ? one : other;
 }
 
 static const char *text_of(enum port_result result)
@@ -69,14 +67,15 @@ static const char *text_of(enum port_result result)
     }
 }
 
-/* Hands a byte out as it stands on the line. */
+/* Hands a byte out as it stands on the line, once it may go. */
 static const char *hand_out(struct line *line, uint8_t raw)
 {
     const int64_t length = line_etu(line, LINE_CHARACTER_ETU);
-    const int64_t from = free_from(line);
-    const enum port_result result =
-        port_write(line->port, raw, from + length + line->slack);
-    line->sent_until = from + length;
+    enum port_result result;
+    port_sleep_until(line->free_from);
+    result = port_write(line->port, raw, port_now() + length + line->slack);
+    line->sent_until = port_now() + length;
+    line->free_from = line->sent_until + line->guard;
     return result == PORT_IS_SILENT ? "the tty takes no more characters" : text_of(result);
 }
 
@@ -93,32 +92,32 @@ static const char *take_echo(struct line *line, uint8_t raw)
         return text_of(result);
     if (found != raw || has_other_parity)
         return "another echo has come back than what was sent";
+    line->free_from =
+        later(line->free_from, port_now() + line_etu(line, LINE_REST_ETU) + line->guard);
     return NULL;
 }
 
-/* The echo comes before the stop bits are over, so their time is added to what is more than the
- * least guard time. */
 const char *line_send(struct line *line, uint8_t byte)
 {
     const uint8_t raw = line->is_inverse ? line_turned(byte) : byte;
-    const char *fault;
-    port_sleep_until(line->turns_at);
-    fault = hand_out(line, raw);
+    const char *fault = hand_out(line, raw);
     line_note(line, line->own, byte);
-    if (fault == NULL && line->echo == LINE_TAKES_ECHO)
-        fault = take_echo(line, raw);
-    if (fault == NULL && line->guard > 0)
-        port_sleep_until(free_from(line) + line_etu(line, 2) + line->guard);
-    return fault;
+    return fault == NULL && line->echo == LINE_TAKES_ECHO ? take_echo(line, raw) : fault;
 }
 
 const char *line_receive_first(struct line *line, uint8_t *byte, bool *has_other_parity,
                                int64_t wait)
 {
-    const enum port_result result =
-        port_read(line->port, byte, has_other_parity, free_from(line) + wait);
-    line->turns_at = port_now() + line_etu(line, LINE_REST_ETU);
+    const enum port_result result = port_read(line->port, byte, has_other_parity,
+                                              later(port_now(), line->sent_until) + wait);
+    line->free_from = later(line->free_from, port_now() + line_etu(line, LINE_TURN_ETU));
     return text_of(result);
+}
+
+/* An echo is no character of its own: it goes at once. */
+static const char *give_echo(const struct line *line, uint8_t raw)
+{
+    return text_of(port_write(line->port, raw, port_now() + line->slack));
 }
 
 const char *line_receive(struct line *line, uint8_t *byte, int64_t wait)
@@ -133,7 +132,7 @@ const char *line_receive(struct line *line, uint8_t *byte, int64_t wait)
     line_note(line, other, *byte);
     if (!line->port->is_pseudo && has_other_parity != line->has_parity_of_direct)
         return "a character has come with a wrong parity";
-    return line->echo == LINE_GIVES_ECHO ? hand_out(line, raw) : NULL;
+    return line->echo == LINE_GIVES_ECHO ? give_echo(line, raw) : NULL;
 }
 
 const char *line_set(struct line *line, unsigned long baud)

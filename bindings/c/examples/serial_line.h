@@ -12,10 +12,10 @@
 /* the elementary time units of a character with its least guard time */
 #define LINE_CHARACTER_ETU 12
 
-/* The etu from one end's character to one of the other end, at least (EMV 4.3, Book 1, 9.2.2.1);
- * and those of them that are left where the first of the two has come. */
-#define LINE_TURN_ETU 16
-#define LINE_REST_ETU 6
+/* What is left, where a character has come and its echo: of the 12 etu to the next one of that end,
+ * and of the 16 to one of the other end (EMV 4.3, Book 1, 9.2.2.1). It has come in its eleventh. */
+#define LINE_REST_ETU 2
+#define LINE_TURN_ETU 6
 
 /* the most etu between two characters of an answer to reset and of PPS (ISO/IEC 7816-3, 8.1 and
  * 9.2) */
@@ -38,7 +38,7 @@ struct line {
     int64_t guard;              /* more guard time than each character has */
     int64_t slack;              /* what a wait may last longer than the line's rules have it */
     int64_t sent_until;         /* when the last character that was handed out has gone */
-    int64_t turns_at;           /* the earliest that a character follows one that has come */
+    int64_t free_from;          /* the earliest that the next one may go */
     FILE *trace;                /* or NULL */
     char last_sign;             /* of the line of the trace that is not ended, or NUL */
 };

@@ -199,24 +199,24 @@ const char *port_make(struct port *port)
     return fault;
 }
 
-/* Whether the near end is closed. */
-static bool is_hung_up(const struct port *port)
+/* Whether the near end is closed, or gets closed within so many milliseconds. */
+static bool is_hung_up(const struct port *port, int milliseconds)
 {
-    struct pollfd wait = { 0, POLLIN, 0 };
+    struct pollfd wait = { 0, 0, 0 };
     wait.fd = port->fd;
-    return poll(&wait, 1, 0) > 0 && (wait.revents & POLLHUP) != 0;
+    return poll(&wait, 1, milliseconds) > 0 && (wait.revents & POLLHUP) != 0;
 }
 
 void port_await_closing(const struct port *port)
 {
-    while (!is_hung_up(port))
-        port_sleep_until(port_now() + LOOKS_EVERY);
+    while (!is_hung_up(port, 1000))
+        continue;
 }
 
 const char *port_await_opening(const struct port *port)
 {
     const char *fault = clear_near_end(port);
-    while (fault == NULL && is_hung_up(port))
+    while (fault == NULL && is_hung_up(port, 0))
         port_sleep_until(port_now() + LOOKS_EVERY);
     return fault;
 }

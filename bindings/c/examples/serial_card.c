@@ -58,12 +58,14 @@ static const char HELP[] =
     "\n"
     "  serial_card --pty demo.table\n";
 
-static const char *const NAMES[] = {
+static const char *const OPTIONS[] = {
     "-v", "--pty", "--baud", "--reset", "--held-by", "--no-echo", "--plan", "--slack", "-h",
     "--help", "-V", "--version", NULL
 };
 
-static const enum port_signal SIGNALS[] = { PORT_NONE, PORT_CTS, PORT_DSR, PORT_DCD };
+static const enum port_signal SIGNALS[] = { PORT_CTS, PORT_DSR, PORT_DCD, PORT_NONE };
+
+static const struct serial_names NAMES = { OPTIONS, SIGNALS, PORT_NONE };
 
 /* Answered where the card has been reset: this very pointer. */
 static const char IS_RESET[] = "the card was reset";
@@ -136,7 +138,10 @@ static const char *await_reset(const struct socket *socket, const char *before)
     }
     if (before != IS_RESET)
         fault = await_state(socket, true);
-    return fault == NULL ? await_state(socket, false) : fault;
+    if (fault == NULL)
+        fault = await_state(socket, false);
+    port_drop(port);
+    return fault;
 }
 
 /* Receives a character, for which a card waits as long as it takes, or up to a reset. */
@@ -400,6 +405,6 @@ static int run_options(const struct serial_options *options)
 int main(int argc, char **argv)
 {
     struct serial_options options;
-    const char *fault = serial_options_read(&options, NAMES, SIGNALS, argc, argv);
+    const char *fault = serial_options_read(&options, &NAMES, argc, argv);
     return fault != NULL ? refuse_words(fault) : run_options(&options);
 }

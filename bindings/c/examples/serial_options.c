@@ -126,8 +126,8 @@ static bool is_among(const char *word, const char *const *names)
     return *names != NULL;
 }
 
-const char *serial_options_read(struct serial_options *options, const char *const *names,
-                                const enum port_signal *signals, int argc, char *const *argv)
+const char *serial_options_read(struct serial_options *options, const struct serial_names *names,
+                                int argc, char *const *argv)
 {
     struct words words = { 0, 1, NULL };
     const char *fault = NULL;
@@ -135,16 +135,16 @@ const char *serial_options_read(struct serial_options *options, const char *cons
     words.argv = argv;
     memset(options, 0, sizeof *options);
     options->has_echo = options->is_held_by_on = true;
-    options->reset = signals[0];
+    options->reset = names->reset;
     options->baud = 9600;
     options->slack = 200;
     options->patience = 300;
     for (; words.at < argc && argv[words.at][0] == '-' && fault == NULL; words.at++) {
         const char *option = argv[words.at];
-        if (!is_among(option, names))
+        if (!is_among(option, names->options))
             fault = refuse(option, "is no option");
         else if (!read_alone(options, option))
-            fault = read_with_word(options, signals, option, next_word(&words));
+            fault = read_with_word(options, names->signals, option, next_word(&words));
     }
     options->words = argv + words.at;
     options->count = (size_t)(argc - words.at);

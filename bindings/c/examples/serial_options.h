@@ -30,12 +30,17 @@ struct serial_options {
     size_t count;
 };
 
-/* Reads the words behind the program's name, up to the first that is no option. `names` are the
- * options that the program has, with a NULL behind them, and `signals` those of its lines that
- * --reset may name, the first of them where that is not given. NULL, or a few words that say why
- * the words are refused; these stand until the next call. */
-const char *serial_options_read(struct serial_options *options, const char *const *names,
-                                const enum port_signal *signals, int argc, char *const *argv);
+/* What a program has of all that. */
+struct serial_names {
+    const char *const *options;         /* its options, with a NULL behind them */
+    const enum port_signal *signals;    /* what --reset may name, PORT_NONE as the last */
+    enum port_signal reset;             /* what it is where nothing is said */
+};
+
+/* Reads the words behind the program's name; the first that is no option ends the options. NULL, or
+ * a few words that say why the words are refused; these stand until the next call. */
+const char *serial_options_read(struct serial_options *options, const struct serial_names *names,
+                                int argc, char *const *argv);
 
 /* The line of one end that they ask for, over this port. */
 struct line serial_options_line(const struct serial_options *options, struct port *port,

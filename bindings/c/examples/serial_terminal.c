@@ -58,12 +58,14 @@ static const char HELP[] =
     "\n"
     "  serial_terminal --reset dtr /dev/ttyUSB0 select A0000000031010 get 5F20\n";
 
-static const char *const NAMES[] = {
+static const char *const OPTIONS[] = {
     "-v", "-k", "-f", "--baud", "--reset", "--held-by", "--no-echo", "--pps", "--slack",
     "--patience", "-h", "--help", "-V", "--version", NULL
 };
 
 static const enum port_signal SIGNALS[] = { PORT_RTS, PORT_DTR, PORT_NONE };
+
+static const struct serial_names NAMES = { OPTIONS, SIGNALS, PORT_RTS };
 
 /* A card behind a line, and the terminal that talks to it. */
 struct session {
@@ -244,6 +246,6 @@ static int run_options(const struct serial_options *options)
 int main(int argc, char **argv)
 {
     struct serial_options options;
-    const char *fault = serial_options_read(&options, NAMES, SIGNALS, argc, argv);
+    const char *fault = serial_options_read(&options, &NAMES, argc, argv);
     return fault != NULL ? refuse_words(fault) : run_options(&options);
 }

@@ -5,7 +5,7 @@
  * STANDIN_TTY      the file in which each of these calls is noted, a line each
  * STANDIN_REFUSES  words, each of which is one of
  *                    get, set      the settings are not told, or not set: an error
- *                    set_again     not set a second time
+ *                    set_again     it refuses the second of its settings
  *                    bits, stop, parity, odd  that setting is dropped without an error
  *                    baud          it runs at 1,200 baud
  *                    fast          it runs at most at 9,600 baud
@@ -38,9 +38,10 @@ int __real_ioctl(int fd, unsigned long request, ...);
 int __real_fstat(int fd, struct stat *found);
 ssize_t __real_write(int fd, const void *bytes, size_t n);
 
-/* what was set last, where something was, and how often */
+/* what was set last, where something was, and how often that was tried */
 static struct termios2 settings;
-static unsigned long times;
+static bool is_set;
+static unsigned long tries;
 
 /* RTS and DTR are on while a tty is open */
 static int driven = TIOCM_RTS | TIOCM_DTR;
@@ -113,9 +114,10 @@ static int set(int fd, const struct termios2 *wanted)
     struct termios2 passed = *wanted;
     passed.c_iflag &= ~(tcflag_t)(INPCK | PARMRK);
     note_settings(wanted);
-    if (refuses("set") || (refuses("set_again") && times > 0))
+    tries++;
+    if (refuses("set") || (refuses("set_again") && tries == 2))
         return fail(EINVAL);
-    times++;
+    is_set = true;
     take_settings(wanted);
     return __real_ioctl(fd, TCSETS2, &passed);
 }
@@ -124,7 +126,7 @@ static int get(int fd, struct termios2 *found)
 {
     if (refuses("get"))
         return fail(EIO);
-    if (times == 0)
+    if (!is_set)
         return __real_ioctl(fd, TCGETS2, found);
     *found = settings;
     return 0;

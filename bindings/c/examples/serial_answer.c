@@ -41,7 +41,8 @@ static const char *reset(const struct answer *answer, const struct answer_wishes
             fault = port_drive(port, wishes->reset, !wishes->is_held_by_on);
         }
     }
-    line_note_text(answer->line, "reset");
+    if (fault == NULL)
+        line_note_text(answer->line, "reset");
     return fault;
 }
 
@@ -200,7 +201,7 @@ const char *answer_take(struct line *line, const struct answer_wishes *wishes,
         fault = "the card's waiting time is reserved";
     if (fault == NULL)
         fault = answer.says.specific ? go_on_specific(&answer)
-                                        : go_on_negotiable(&answer, wishes->asks_pps);
+                                     : go_on_negotiable(&answer, wishes->asks_pps);
     line_note_text(line, NULL);
     *waiting_time = cycles(&answer, answer.says.waiting_time) + line->slack;
     return fault;

@@ -11,8 +11,8 @@ enum { ALL_WELL = 0, FAULT = 1, BAD_WORDS = 2 };
 #define NUMBER(number) #number
 #define DOTTED(major, minor, patch) NUMBER(major) "." NUMBER(minor) "." NUMBER(patch)
 
-/* how often the line of a reset is looked at, in microseconds */
-enum { LOOKS_EVERY = 1000 };
+/* how often the line of a reset is looked at, in microseconds, and how long a wait is without one */
+enum { LOOKS_EVERY = 1000, WAITS_FOR = 1000000 };
 
 /* what a PPS request begins with, and the bit of its PPS0 for PPS1 (ISO/IEC 7816-3, 9.2) */
 enum { PPSS = 0xFF, HAS_PPS1 = 0x10 };
@@ -147,9 +147,10 @@ static const char *await_reset(const struct socket *socket, const char *before)
 /* Receives a character, for which a card waits as long as it takes, or up to a reset. */
 static const char *receive(const struct socket *socket, uint8_t *byte)
 {
+    const int64_t wait = socket->reset == PORT_NONE ? WAITS_FOR : LOOKS_EVERY;
     const char *what;
     do
-        what = line_receive(socket->line, byte, LOOKS_EVERY);
+        what = line_receive(socket->line, byte, wait);
     while (what == LINE_IS_SILENT && (what = look(socket, true)) == NULL);
     return what;
 }
@@ -202,8 +203,7 @@ static bool respond(const struct socket *socket, const uint8_t *request, size_t 
     *is_of_card = has_pps1 && has_rate && request[2] == socket->says->rate_code;
     if (has_pps1 && (*is_of_card || request[2] == RATE_OF_RESET))
         pps1 = request[2];
-    return gt_pps_request(0, pps1, GT_ABSENT, GT_ABSENT, response, count)
-            == GT_OK
+    return gt_pps_request(0, pps1, GT_ABSENT, GT_ABSENT, response, count) == GT_OK
         && gt_pps_agreed(request, n, response, *count) == 1;
 }
 
@@ -268,7 +268,7 @@ static const char *talk(const struct socket *socket)
 {
     const struct table *table = socket->table;
     const char *what;
-    uint8_t byte;
+    uint8_t byte = 0;
     int32_t code = gt_card_reset(&socket->table->card);
     if (code != GT_OK)
         return gt_text(code);
@@ -302,7 +302,7 @@ static int serve(struct port *port, struct table *table, const gt_atr *says,
     socket.line = &line;
     socket.table = table;
     socket.says = says;
-    socket.reset = options->reset;
+    socket.reset = port->is_pseudo ? PORT_NONE : options->reset;
     socket.is_held_by_on = options->is_held_by_on;
     socket.baud = options->baud;
     while ((fault = await_reset(&socket, what)) == NULL) {

@@ -121,6 +121,24 @@ def comes_back():
     far.end()
 
 
+def comes_back_at_once():
+    """A terminal that is killed while the card sends, and comes back at once, gets an answer to
+    reset, and nothing of what was left."""
+    with tempfile.TemporaryDirectory() as folder:
+        path = table(folder, f"{APP}object 50 {'41' * 8000}\n")
+        far = Far("--no-echo", "--plan", "", "--plan", "", "--plan", "n" * 5000, path)
+        words = [*SLACK, "--no-echo", far.name, "select", "A0000000031010", "get"]
+        for long in ("5F20", "50"):
+            killed = Program("serial_terminal", [*words, long])
+            time.sleep(1.0)
+            killed.kill(signal.SIGKILL)
+            killed.end()
+            back = Program("serial_terminal", [*words, "5F20"])
+            look(back, back.end(), "= 9000 6F098407A0000000031010\n= 9000 5F20034A4F45\n", "", 0)
+            time.sleep(0.1)
+        far.end()
+
+
 def keeps_values():
     """What one terminal has stored the next one finds, over the line that a card makes."""
     far = Far(TABLE)
@@ -145,5 +163,5 @@ def tests():
         for echo in (True, False):
             yield (f"the card's own line, inverse {inverse}, echo {echo}",
                    lambda of=(inverse, echo): own_line(*of))
-    for test in (comes_back, keeps_values):
+    for test in (comes_back, comes_back_at_once, keeps_values):
         yield (test.__doc__.split(".")[0], test)

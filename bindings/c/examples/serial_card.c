@@ -98,14 +98,18 @@ static int end_output(void)
     return fflush(stdout) == 0 && !ferror(stdout) ? ALL_WELL : tell("write fault");
 }
 
-/* NULL, IS_RESET where the line of a reset is in that state, or a fault. */
+/* NULL, IS_RESET where the line of a reset is in that state, LINE_IS_GONE where the terminal has
+ * closed its end, or a fault. */
 static const char *look(const struct socket *socket, bool is_held)
 {
+    const struct port *port = socket->line->port;
     bool is_on = false;
     const char *fault = NULL;
+    if (port->is_made)
+        return port_is_closed(port) ? LINE_IS_GONE : NULL;
     if (socket->reset == PORT_NONE)
         return NULL;
-    fault = port_look(socket->line->port, socket->reset, &is_on);
+    fault = port_look(port, socket->reset, &is_on);
     if (fault != NULL)
         return fault;
     return (is_on == socket->is_held_by_on) == is_held ? IS_RESET : NULL;

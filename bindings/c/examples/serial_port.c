@@ -207,6 +207,11 @@ static bool is_hung_up(const struct port *port, int milliseconds)
     return poll(&wait, 1, milliseconds) > 0 && (wait.revents & POLLHUP) != 0;
 }
 
+bool port_is_closed(const struct port *port)
+{
+    return is_hung_up(port, 0);
+}
+
 void port_await_closing(const struct port *port)
 {
     while (!is_hung_up(port, 1000))
@@ -216,7 +221,7 @@ void port_await_closing(const struct port *port)
 const char *port_await_opening(const struct port *port)
 {
     const char *fault = clear_near_end(port);
-    while (fault == NULL && is_hung_up(port, 0))
+    while (fault == NULL && port_is_closed(port))
         port_sleep_until(port_now() + LOOKS_EVERY);
     return fault;
 }

@@ -40,7 +40,8 @@ const char *port_open(struct port *port, const char *name, unsigned long baud);
 /* Makes a pseudo terminal, and is its far end. */
 const char *port_make(struct port *port);
 
-/* Waits until the near end of one that was made is closed. */
+/* Whether the near end of one that was made is closed; and waits until it is. */
+bool port_is_closed(const struct port *port);
 void port_await_closing(const struct port *port);
 
 /* Clears what was left on the way, and waits until the near end is open: that is the reset of a

@@ -146,7 +146,7 @@ def wrong_echo():
     ):
         line = Line()
         try:
-            program = Program("serial_card", [line.name, TABLE])
+            program = Program("serial_card", ["--slack", "1000", line.name, TABLE])
             other = Other(line, echo=False)
             other.take("3B")
             if echo:
@@ -172,7 +172,7 @@ def puts_back():
     """A signal ends a card, and its tty is as it was."""
     line = Line()
     try:
-        program = Program("serial_card", [line.name, TABLE])
+        program = Program("serial_card", ["--slack", "5000", line.name, TABLE])
         play(Other(line), "< 3B00 > 00CA5F", card=False)
         assert not line.is_put_back(), "the tty was not set"
         program.kill(signal.SIGTERM)

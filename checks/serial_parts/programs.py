@@ -11,12 +11,15 @@ BUILD = Path(os.environ.get("SERIAL_BUILD", TOP / "bindings/c/build/standin"))
 TABLE = TOP / "bindings/c/examples/demo.table"
 SECONDS = 30
 
+# those that run
+RUNNING = set()
+
 
 class Program:
     """A program that runs, over the stand-in for a tty. `passed_over` is a signal that whoever
     starts it has it pass over."""
 
-    def __init__(self, name, words, environment=(), given=b"", stdout=subprocess.PIPE,
+    def __init__(self, name, words, given=b"", environment=(), stdout=subprocess.PIPE,
                  passed_over=None):
         names = {**os.environ, "LC_ALL": "C", **dict(environment)}
         before = ["sh", "-c", f'trap "" {passed_over}; exec "$@"', "sh"] if passed_over else []
@@ -28,6 +31,7 @@ class Program:
             stderr=subprocess.PIPE,
             env=names,
         )
+        RUNNING.add(self.process)
         if given:
             self.process.stdin.write(given)
         self.process.stdin.close()
@@ -52,9 +56,17 @@ class Program:
             self.process.kill()
             output, faults = self.process.communicate()
             faults += b"it hangs\n"
+        RUNNING.discard(self.process)
         self.seconds = time.monotonic() - self.began
         self.output, self.faults = (output or b"").decode(), faults.decode()
         return self.process.returncode
 
     def kill(self, number):
         self.process.send_signal(number)
+
+
+def end_all():
+    """Ends the programs that tests which went wrong have left."""
+    for process in list(RUNNING):
+        process.kill()
+        process.wait()

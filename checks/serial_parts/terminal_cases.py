@@ -46,13 +46,14 @@ class Case:
     fault: str = ""
     status: int = 0
     options: list = field(default_factory=list)
-    environment: dict = field(default_factory=dict)
     given: bytes = b""
     echo: bool = True
     inverse: bool = False
     heaps: bool = False
-    # the least time from the last character on, after which the program ends
-    waits: float = 0.0
+    # in milliseconds; None is what the program takes by itself, 200
+    slack: int = 600
+    # the least time without slack from the last character on, after which the program ends
+    waits: float = None
     # the rate of the tty before the last of the dialogue
     baud: int = None
     # the least time before each of the terminal's characters
@@ -68,15 +69,18 @@ def run(case):
     """Plays a case; what is wrong with it is an error."""
     line = Line()
     try:
-        options = case.options if case.echo else ["--no-echo", *case.options]
-        words = [*options, line.name, *case.words]
-        program = Program("serial_terminal", words, case.environment, case.given)
+        options = [] if case.slack is None else ["--slack", case.slack]
+        options += case.options if case.echo else ["--no-echo", *case.options]
         other = Other(line, case.echo, case.inverse, case.heaps)
-        other.sent_at = program.began
-        played, baud = "", None
         *most, sign, last_word = ["", "", *case.dialogue.split()]
+        played, baud = "", None
+        # what the card says of itself is there when the line is opened, which is its reset
+        first = most[:4] if most[2:3] == ["<"] and len(most) > 4 else []
+        play(other, " ".join(first), card=True)
+        program = Program("serial_terminal", [*options, line.name, *case.words], case.given)
+        other.sent_at = program.began
         try:
-            play(other, " ".join(most), card=True)
+            play(other, " ".join(most[len(first):]), card=True)
             baud = rate_of(line)
             play(other, f"{sign} {last_word}", card=True)
         except AssertionError as why:
@@ -85,7 +89,8 @@ def run(case):
         status = program.end()
         look(program, status, case.output, case.fault, case.status, played)
         waited = program.began + program.seconds - last
-        assert case.waits <= waited < case.waits + LATE, f"it ends after {waited:.2f} s"
+        least = 0 if case.waits is None else case.waits + (case.slack or 200) / 1000
+        assert least <= waited < least + LATE, f"it ends after {waited:.2f} s"
         assert line.is_put_back(), "the tty is not set as it was before"
         assert case.baud in (None, baud), f"the tty runs at {baud} baud"
         assert not other.gaps or min(other.gaps) >= case.gap, f"{min(other.gaps)} s between two"
@@ -121,7 +126,8 @@ def sessions():
                     echo=echo,
                     inverse=inverse,
                     heaps=heaps,
-                    options=["--slack", "5000", "-v"],
+                    slack=5000,
+                    options=["-v"],
                     baud=9600,
                 )
 
@@ -143,7 +149,7 @@ def statuses():
                options=["-f", "-"])
     yield Case("a fault in a file is told by its line", "< 3B00 " + SELECT_WORDS + "> 00CA5F2000 ",
                [], SELECTED, "line 3: the card is silent\n", 1,
-               given=b"# a name\nselect A0000000031010\nget 5F20\n", options=["-f", "-"], waits=1.2)
+               given=b"# a name\nselect A0000000031010\nget 5F20\n", options=["-f", "-"], waits=1.0)
     yield Case("a command of one's own", "< 3B00 > 0020000102 < 20 > 1234 < 63C2 ",
                ["send", "00200001021234"], "= 63C2\n", status=1)
     yield Case("values of FF", "< 3B00 > 00DA5F2003 < DA > FFFF00 < 9000 > 00CA5F2000 "
@@ -156,24 +162,24 @@ def answers():
     """Answers to reset that are none, or that say what this terminal does not do."""
     none = "the answer to reset is none: "
     for title, answer, fault, waits in (
-        ("silent from the reset on", "", "the card does not answer to reset", 0.21),
-        ("an answer of TS alone", "< 3B", "the answer to reset stops after byte 1", 1.2),
-        ("an answer that is cut", "< 3B6500", "the answer to reset stops after byte 3", 1.2),
-        ("no check byte comes", "< 3B8001", "the answer to reset stops after byte 3", 1.2),
-        ("a wrong check byte", "< 3B80018F", none + "wrong check byte, at byte 4", 0),
-        ("a wrong check byte behind T=0", "< 3B80800102", none + "wrong check byte, at byte 5", 0),
-        ("noise for an answer", "< 55", none + "no TS, at byte 1", 0),
-        ("TS of the other convention, turned", "< 3F", none + "no TS, at byte 1", 0),
-        ("T out of order", "< 3B8081801F", none + "T out of order, at byte 4", 0),
+        ("silent from the reset on", "", "the card does not answer to reset", 0.011),
+        ("an answer of TS alone", "< 3B", "the answer to reset stops after byte 1", 1.0),
+        ("an answer that is cut", "< 3B6500", "the answer to reset stops after byte 3", 1.0),
+        ("no check byte comes", "< 3B8001", "the answer to reset stops after byte 3", 1.0),
+        ("a wrong check byte", "< 3B80018F", none + "wrong check byte, at byte 4", None),
+        ("a wrong check byte behind T=0", "< 3B80800102", none + "wrong check byte, at byte 5", None),
+        ("noise for an answer", "< 55", none + "no TS, at byte 1", None),
+        ("TS of the other convention, turned", "< 3F", none + "no TS, at byte 1", None),
+        ("T out of order", "< 3B8081801F", none + "T out of order, at byte 4", None),
         ("an answer too long", "< 3B" + "F0" + "000000F0" * 7 + "00000080" + "10",
-         none + "answer to reset too long, at byte 34", 0),
-        ("T=1 alone", "< 3B800181", "the card does not talk T=0", 0),
-        ("specific mode with T=1", "< 3B90951001", "the card does not talk T=0", 0),
+         none + "answer to reset too long, at byte 34", None),
+        ("T=1 alone", "< 3B800181", "the card does not talk T=0", None),
+        ("specific mode with T=1", "< 3B90951001", "the card does not talk T=0", None),
         ("specific mode with implicit values", "< 3B90951010",
-         "the card goes on at a rate that it does not tell", 0),
+         "the card goes on at a rate that it does not tell", None),
         ("specific mode at a reserved rate", "< 3B909F1000",
-         "the card goes on at a rate that is reserved", 0),
-        ("a reserved waiting time", "< 3B804000", "the card's waiting time is reserved", 0),
+         "the card goes on at a rate that is reserved", None),
+        ("a reserved waiting time", "< 3B804000", "the card's waiting time is reserved", None),
     ):
         yield Case(title, answer, SHORT, fault=f"{fault}\n", status=1, waits=waits)
     for inverse in (False, True):
@@ -188,29 +194,31 @@ def waiting():
     # 2 * 960 * 372 cycles at 3.5712 MHz are 0.2 s, and with Fi = 512 0.275 s
     quick, slow = "< 3B804002 ", "< 3B90954002 "
     for title, dialogue, waits in (
-        ("silent after a header", quick + SHORT_WORDS, 0.4),
-        ("silent after a header, with Fi 512", slow + SHORT_WORDS, 0.475),
-        ("silent after a header, with WI 10", "< 3B00 " + SHORT_WORDS, 1.2),
-        ("silent after SW1", quick + SHORT_WORDS + "< 90 ", 0.4),
-        ("silent after a NULL", quick + SHORT_WORDS + "< 60 ", 0.4),
+        ("silent after a header", quick + SHORT_WORDS, 0.2),
+        ("silent after a header, with Fi 512", slow + SHORT_WORDS, 0.275),
+        ("silent after a header, with WI 10", "< 3B00 " + SHORT_WORDS, 1.0),
+        ("silent after SW1", quick + SHORT_WORDS + "< 90 ", 0.2),
+        ("silent after a NULL", quick + SHORT_WORDS + "< 60 ", 0.2),
     ):
         yield Case(title, dialogue, SHORT, fault=fault, status=1, waits=waits)
     yield Case("silent within data", quick + "> 00CA5F2003 < CA5F20", ["send", "00CA5F2003"],
-               fault=fault, status=1, waits=0.4)
+               fault=fault, status=1, waits=0.2)
     yield Case("silent after a header, at 4,800 baud", quick + SHORT_WORDS, SHORT, fault=fault,
-               status=1, options=["--baud", "4800"], waits=0.6)
-    yield Case("a longer slack", quick + SHORT_WORDS, SHORT, fault=fault, status=1,
-               options=["--slack", "900"], waits=1.1)
+               status=1, options=["--baud", "4800"], waits=0.4)
+    yield Case("a longer slack", quick + SHORT_WORDS, SHORT, fault=fault, status=1, slack=1200,
+               waits=0.2)
+    yield Case("the slack where nothing is said", "< 3B00 ", SHORT, echo=True, slack=None, status=1,
+               fault="operation 1: no echo has come back\n", waits=0.0)
     yield Case("a card that takes its slack", quick + SHORT_WORDS + "~ 0.5 " + DONE, SHORT,
-               "= 9000\n", options=["--slack", "1500"])
+               "= 9000\n", slack=1500)
     yield Case("an answer that takes its time", "~ 0.2 < 3B ~ 1.2 < 80 ~ 0.5 < 4002 " + SHORT_WORDS
-               + DONE, SHORT, "= 9000\n", options=["--slack", "1500"])
+               + DONE, SHORT, "= 9000\n", slack=1500)
     yield Case("NULLs for ten waiting times", quick + SHORT_WORDS + "~ 0.25 < 60 " * 10 + DONE,
-               SHORT, "= 9000\n", options=["--slack", "1000"])
+               SHORT, "= 9000\n", slack=1000)
     yield Case("NULLs before data", quick + "> 00CA5F2006 < 6060CA5F20034A4F4560 ~ 0.1 < 609000 ",
                ["send", "00CA5F2006"], "= 9000 5F20034A4F45\n")
     yield Case("a trace that a fault cuts", quick + SHORT_WORDS + "< 60 ", SHORT,
-               "reset\n< 3B804002\n> 0020000000\n< 60\n", fault, 1, options=["-v"], waits=0.4)
+               "reset\n< 3B804002\n> 0020000000\n< 60\n", fault, 1, options=["-v"], waits=0.2)
 
 
 def noise():
@@ -220,7 +228,7 @@ def noise():
     yield Case("more data than asked for", "< 3B00 > 00CA5F2001 < CA5F2055 ", ["send", "00CA5F2001"],
                fault="operation 1: bad procedure byte\n", status=1)
     yield Case("no echo", "< 3B00 ", SHORT, fault="operation 1: no echo has come back\n",
-               status=1, waits=0.2)
+               status=1, waits=0.0)
     yield Case("another echo", "< 3B0055 ", SHORT, status=1,
                fault="operation 1: another echo has come back than what was sent\n")
     yield Case("GET RESPONSE that brings nothing", "< 3B00 > 00CA5F2000 < 6105 > 00C0000005 < 6105 ",
@@ -260,10 +268,10 @@ def pps():
                    fault=refused, status=1, options=own)
     mute = "the card does not answer to PPS\n"
     yield Case("PPS that is not answered", answer + request, SHORT, fault=mute, status=1,
-               options=own, waits=1.2)
+               options=own, waits=1.0)
     yield Case("PPS that is answered by half", answer + request + "< FF1095 ", SHORT,
                "reset\n< 3B1095\npps > FF10957A\npps < FF1095\n", mute, 1, options=["-v", "--pps"],
-               waits=1.2)
+               waits=1.0)
     yield Case("specific mode", "< 3B90951000 " + rest, SHORT, "= 9000\n", options=own, baud=111600)
     yield Case("specific mode at the rate of a reset", "< 3B801000 " + rest, SHORT, "= 9000\n",
                baud=9600)
@@ -274,11 +282,11 @@ def pps():
 def gaps():
     """The least time between characters: 12 + N etu from one of the terminal's to the next, and 16
     from one of the card's. At 1,200 baud an etu is 0.83 ms."""
-    slow = ["--baud", "1200", "--slack", "5000"]
+    slow = ["--baud", "1200"]
     yield Case("extra guard time", "< 3B4014 " + SHORT_WORDS + DONE, SHORT, "= 9000\n",
-               options=slow, gap=0.005)
+               options=slow, slack=5000, gap=0.005)
     yield Case("no extra guard time", "< 3B40FF " + SHORT_WORDS + DONE, SHORT, "= 9000\n",
-               options=slow)
+               options=slow, slack=5000)
 
 
 def all_cases():
@@ -357,7 +365,7 @@ def nulls_for_ever():
     """A card that sends nothing but NULLs is given up after the time of --patience."""
     line = Line()
     try:
-        program = Program("serial_terminal", ["--patience", "1", line.name, *SHORT])
+        program = Program("serial_terminal", ["--patience", "1", "--slack", "2000", line.name, *SHORT])
         other = Other(line)
         play(other, "< 3B00 " + SHORT_WORDS, card=True)
         began = time.monotonic()
@@ -394,7 +402,7 @@ def full_device():
         line = Line()
         try:
             with open("/dev/full", "wb") as full:
-                program = Program("serial_terminal", [*options, line.name, *SHORT], stdout=full)
+                program = Program("serial_terminal", ["--slack", "2000", *options, line.name, *SHORT], stdout=full)
             play(Other(line), "< 3B00 " + SHORT_WORDS + DONE, card=True)
             look(program, program.end(), "", "operation 1: write fault\n", 1)
             assert line.is_put_back(), "the tty is not set as it was before"

@@ -91,8 +91,8 @@ def terminal(dialogue, noted, fault="", refuses="", options=(), output="= 9000\n
     with tempfile.TemporaryDirectory() as folder:
         tty = Tty(folder, refuses)
         try:
-            words = ["--slack", "700", *options, tty.line.name, *SHORT]
-            program = Program("serial_terminal", words, tty.environment)
+            words = ["--slack", "1200", *options, tty.line.name, *SHORT]
+            program = Program("serial_terminal", words, environment=tty.environment)
             other = Marking(tty.line, inverse=inverse)
             if reset:
                 tty.await_note(reset)
@@ -128,7 +128,7 @@ def resets():
         options=["--reset", "none", "--patience", "1"], waits=0.9))
     yield ("silent after a reset", lambda: terminal(
         "", [EVEN, "rts on", "drop what has come", "rts off", *END],
-        "the card does not answer to reset\n", output="", waits=0.7))
+        "the card does not answer to reset\n", output="", waits=1.2))
 
 
 def is_held():
@@ -136,7 +136,8 @@ def is_held():
     with tempfile.TemporaryDirectory() as folder:
         tty = Tty(folder)
         try:
-            program = Program("serial_terminal", [tty.line.name, *SHORT], tty.environment)
+            program = Program("serial_terminal", ["--slack", "5000", tty.line.name, *SHORT],
+                              environment=tty.environment)
             tty.line.write(b"\x55\x55")
             began = tty.await_note("rts on")
             held = tty.await_note("rts off") - began
@@ -192,7 +193,7 @@ def refusals():
         "set_again", output=""))
     yield ("a tty that takes no characters", lambda: terminal(
         "< 3B00", [*reset, EVEN, *END], "operation 1: the tty takes no more characters\n", "write",
-        output="", waits=0.7))
+        output="", waits=1.2))
     yield ("a tty without lines, where none is needed", lambda: terminal(
         f"< 3B00 {SHORT_WORDS}{DONE}", [EVEN, EVEN, *END], refuses="lines",
         options=["--reset", "none"], reset=EVEN))
@@ -253,7 +254,7 @@ def ff_is_no_mark():
         tty = Tty(folder)
         try:
             words = ["--slack", "5000", tty.line.name, "send", "00CA5F2002", "put", "51", "FF00FFFF"]
-            program = Program("serial_terminal", words, tty.environment)
+            program = Program("serial_terminal", words, environment=tty.environment)
             other = Marking(tty.line)
             tty.await_note("rts off")
             play(other, "< 3B41FFFF > 00CA5F2002 < CAFFFF9000 > 00DA005104 < DA > FF00FFFF < 9000",
@@ -270,7 +271,7 @@ def card(play_it, options=(), answer="3B00", refuses="", fault=GONE, inverse=Fal
         path = table(folder, f"atr {answer}\n{APP}")
         words = ["--slack", "5000", *options, tty.line.name, path]
         try:
-            program = Program("serial_card", words, tty.environment)
+            program = Program("serial_card", words, environment=tty.environment)
             play_it(tty, Marking(tty.line, inverse=inverse))
         finally:
             tty.line.close()

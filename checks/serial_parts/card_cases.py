@@ -214,7 +214,7 @@ def opening_is_the_reset():
         near, other = far.opened()
         play(other, dialogue, card=False)
         near.close()
-        time.sleep(0.05)
+        time.sleep(0.3)
     far.end()
 
 
@@ -235,7 +235,7 @@ def is_not_read():
     play(other, "< 3B00 > 00CA5F2000", card=False)
     told = far.program.first_fault(15)
     near.close()
-    time.sleep(0.05)
+    time.sleep(0.3)
     near, other = far.opened()
     play(other, "< 3B00 " + ASK_WORDS, card=False)
     near.close()
@@ -251,7 +251,7 @@ def mute_until_reset():
     other.send("00CA5F2000")
     other.take_nothing(0.3)
     near.close()
-    time.sleep(0.05)
+    time.sleep(0.3)
     near, other = far.opened()
     play(other, "< 3B00 " + ASK_WORDS, card=False)
     near.close()

@@ -90,7 +90,7 @@ def own_line(inverse, echo):
                 "serial_terminal", [*SLACK, *no_echo, "-v", far.name, *WORDS[:4]]
             )
             look(terminal, terminal.end(), wanted, "", 0)
-            time.sleep(0.1)
+            time.sleep(0.3)
         far.end(2 * trace)
     explains(wanted)
 
@@ -114,16 +114,17 @@ def comes_back():
         time.sleep(1.0)
         killed.kill(number)
         look(killed, killed.end(), "= 9000 6F098407A0000000031010\n", "", -number)
+        time.sleep(0.2)
         back = Program("serial_terminal", [*words, "get", "5F20", "get", "50"])
         look(back, back.end(), "= 9000 6F098407A0000000031010\n= 9000 5F20034A4F45\n"
              "= 9000 500456495341\n", "", 0)
-        time.sleep(0.1)
+        time.sleep(0.3)
     far.end()
 
 
-def comes_back_at_once():
-    """A terminal that is killed while the card sends, and comes back at once, gets an answer to
-    reset, and nothing of what was left."""
+def comes_back_soon():
+    """A terminal that is killed while the card sends, and comes back before that has ended, gets an
+    answer to reset, and nothing of what was left."""
     with tempfile.TemporaryDirectory() as folder:
         path = table(folder, f"{APP}object 50 {'41' * 8000}\n")
         far = Far("--no-echo", "--plan", "", "--plan", "", "--plan", "n" * 5000, path)
@@ -133,9 +134,10 @@ def comes_back_at_once():
             time.sleep(1.0)
             killed.kill(signal.SIGKILL)
             killed.end()
+            time.sleep(0.2)
             back = Program("serial_terminal", [*words, "5F20"])
             look(back, back.end(), "= 9000 6F098407A0000000031010\n= 9000 5F20034A4F45\n", "", 0)
-            time.sleep(0.1)
+            time.sleep(0.3)
         far.end()
 
 
@@ -150,7 +152,7 @@ def keeps_values():
     ):
         terminal = Program("serial_terminal", [*SLACK, far.name, *select, *words])
         look(terminal, terminal.end(), answer + output, "", 0)
-        time.sleep(0.1)
+        time.sleep(0.3)
     far.end()
 
 
@@ -163,5 +165,5 @@ def tests():
         for echo in (True, False):
             yield (f"the card's own line, inverse {inverse}, echo {echo}",
                    lambda of=(inverse, echo): own_line(*of))
-    for test in (comes_back, comes_back_at_once, keeps_values):
+    for test in (comes_back, comes_back_soon, keeps_values):
         yield (test.__doc__.split(".")[0], test)

@@ -281,7 +281,7 @@ def card(play_it, options=(), answer="3B00", refuses="", fault=GONE, inverse=Fal
 
 def pulse(tty, held, released=""):
     tty.switch(held)
-    time.sleep(0.1)
+    time.sleep(0.4)
     tty.switch(released)
 
 
@@ -296,10 +296,10 @@ def card_resets():
             pulse(tty, held, released)
             play(other, f"< 3B00 {ask} > 00CA", card=False)
             tty.switch(others)
-            time.sleep(0.1)
+            time.sleep(0.3)
             play(other, "> 5F2000 < 6985 > 00CA5F", card=False)
             tty.switch(held)
-            other.take_nothing(0.2)
+            other.take_nothing(0.4)
             tty.switch(released)
             play(other, f"< 3B00 {ask}", card=False)
         return session
@@ -328,7 +328,7 @@ def held_first(held, released, others, ask):
         tty.switch(released)
         play(other, f"< 3B00 {ask} > 00CA", card=False)
         tty.switch(others)
-        time.sleep(0.1)
+        time.sleep(0.3)
         play(other, "> 5F2000 < 6985 > 00CA5F", card=False)
         pulse(tty, held, released)
         play(other, f"< 3B00 {ask}", card=False)

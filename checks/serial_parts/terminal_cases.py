@@ -7,12 +7,11 @@ import fcntl
 import os
 import signal
 import struct
-import threading
 import time
 from dataclasses import dataclass, field
 
 from .lines import Line, Other, play, trace_of
-from .programs import TABLE, Program
+from .programs import Program
 
 USAGE = (
     "\nUsage: serial_terminal [OPTIONS] TTY OPERATION..\n"
@@ -171,8 +170,8 @@ def answers():
         ("noise for an answer", "< 55", none + "no TS, at byte 1", None),
         ("TS of the other convention, turned", "< 3F", none + "no TS, at byte 1", None),
         ("T out of order", "< 3B8081801F", none + "T out of order, at byte 4", None),
-        ("an answer too long", "< 3B" + "F0" + "000000F0" * 7 + "00000080" + "10",
-         none + "answer to reset too long, at byte 34", None),
+        ("an answer of more than 33 bytes", "< 3BF0" + "000000F0" * 7 + "000000",
+         "the answer to reset is too long", None),
         ("T=1 alone", "< 3B800181", "the card does not talk T=0", None),
         ("specific mode with T=1", "< 3B90951001", "the card does not talk T=0", None),
         ("specific mode with implicit values", "< 3B90951010",
@@ -410,6 +409,22 @@ def full_device():
             line.close()
 
 
+def nobody_reads():
+    """Where nobody reads what it prints, a signal ends it, and the tty is put back."""
+    line = Line()
+    try:
+        reads, writes = os.pipe()
+        os.close(reads)
+        line.write(b"\x3b\x00")
+        program = Program("serial_terminal", ["-v", "--slack", "2000", line.name, *SHORT],
+                          stdout=writes)
+        os.close(writes)
+        look(program, program.end(), "", "", -signal.SIGPIPE)
+        assert line.is_put_back(), "the tty is not set as it was before"
+    finally:
+        line.close()
+
+
 def words():
     """Words that are refused before anything is opened, and those that ask for nothing of a card."""
     for given, why in (
@@ -464,5 +479,5 @@ def tests():
         for number in (signal.SIGTERM, signal.SIGINT, signal.SIGHUP, signal.SIGQUIT)
     )
     for test in (guard_time, passes_over_a_signal, line_gone, nulls_for_ever, settings, full_device,
-                 words, helps):
+                 nobody_reads, words, helps):
         yield (test.__doc__.split(".")[0], test)

@@ -244,7 +244,7 @@ def is_not_read():
 
 
 def mute_until_reset():
-    """A card that does not answer a PPS request says nothing until the next reset, and tells why."""
+    """A card that does not answer a PPS request is mute until the next reset, and tells why."""
     far = Far("--no-echo", TABLE)
     near, other = far.opened()
     play(other, "< 3B00 > FF11FE00", card=False)
@@ -320,4 +320,4 @@ def tests():
     yield from ((case.title, lambda case=case: run(case)) for case in all_cases())
     for test in (wrong_echo, is_slow, puts_back, opening_is_the_reset, gives_the_echo, is_not_read,
                  mute_until_reset, tables, words, helps):
-        yield (test.__doc__.split(".")[0], test)
+        yield (f"card: {test.__name__}", test)

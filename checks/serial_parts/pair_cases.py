@@ -31,8 +31,8 @@ RATES = (
 
 
 def both(answer, echo, heaps, options):
-    """The two programs over a wire, to the end of both: the terminal, its status and its tty's rate,
-    and the card."""
+    """The two programs over a wire, to the end of both: the terminal, its status, and the rate of
+    the card's tty."""
     ends = Line(), Line()
     wire = Wire(*ends, echo=echo, heaps=heaps)
     wire.start()
@@ -166,4 +166,4 @@ def tests():
             yield (f"the card's own line, inverse {inverse}, echo {echo}",
                    lambda of=(inverse, echo): own_line(*of))
     for test in (comes_back, comes_back_soon, keeps_values):
-        yield (test.__doc__.split(".")[0], test)
+        yield (f"both: {test.__name__}", test)

@@ -166,7 +166,8 @@ def answers():
         ("an answer that is cut", "< 3B6500", "the answer to reset stops after byte 3", 1.0),
         ("no check byte comes", "< 3B8001", "the answer to reset stops after byte 3", 1.0),
         ("a wrong check byte", "< 3B80018F", none + "wrong check byte, at byte 4", None),
-        ("a wrong check byte behind T=0", "< 3B80800102", none + "wrong check byte, at byte 5", None),
+        ("a wrong check byte, T=0 first", "< 3B80800102", none + "wrong check byte, at byte 5",
+         None),
         ("noise for an answer", "< 55", none + "no TS, at byte 1", None),
         ("TS of the other convention, turned", "< 3F", none + "no TS, at byte 1", None),
         ("T out of order", "< 3B8081801F", none + "T out of order, at byte 4", None),
@@ -224,14 +225,15 @@ def noise():
     """What is no dialogue."""
     yield Case("noise for a procedure byte", "< 3B00 " + SHORT_WORDS + "< 55 ", SHORT,
                fault="operation 1: bad procedure byte\n", status=1)
-    yield Case("more data than asked for", "< 3B00 > 00CA5F2001 < CA5F2055 ", ["send", "00CA5F2001"],
-               fault="operation 1: bad procedure byte\n", status=1)
+    yield Case("more data than asked for", "< 3B00 > 00CA5F2001 < CA5F2055 ",
+               ["send", "00CA5F2001"], fault="operation 1: bad procedure byte\n", status=1)
     yield Case("no echo", "< 3B00 ", SHORT, fault="operation 1: no echo has come back\n",
                status=1, waits=0.0)
     yield Case("another echo", "< 3B0055 ", SHORT, status=1,
                fault="operation 1: another echo has come back than what was sent\n")
-    yield Case("GET RESPONSE that brings nothing", "< 3B00 > 00CA5F2000 < 6105 > 00C0000005 < 6105 ",
-               GET, fault="operation 1: stalled\n", status=1)
+    yield Case("GET RESPONSE that brings nothing",
+               "< 3B00 > 00CA5F2000 < 6105 > 00C0000005 < 6105 ", GET,
+               fault="operation 1: stalled\n", status=1)
 
 
 def pps():
@@ -241,8 +243,8 @@ def pps():
     own = ["--pps"]
     yield Case("PPS", answer + request + "< FF10957A " + rest, SHORT, "= 9000\n", options=own,
                baud=111600)
-    yield Case("PPS, in the inverse convention", "< 3F1095 " + request + "< FF10957A " + rest, SHORT,
-               "= 9000\n", options=own, baud=111600, inverse=True, heaps=True)
+    yield Case("PPS, in the inverse convention", "< 3F1095 " + request + "< FF10957A " + rest,
+               SHORT, "= 9000\n", options=own, baud=111600, inverse=True, heaps=True)
     yield Case("PPS, without echo", answer + request + "< FF10957A " + rest, SHORT, "= 9000\n",
                options=own, baud=111600, echo=False)
     yield Case("no PPS where it is not asked for", answer + rest, SHORT, "= 9000\n", baud=9600)
@@ -364,7 +366,8 @@ def nulls_for_ever():
     """A card that sends nothing but NULLs is given up after the time of --patience."""
     line = Line()
     try:
-        program = Program("serial_terminal", ["--patience", "1", "--slack", "2000", line.name, *SHORT])
+        words = ["--patience", "1", "--slack", "2000", line.name, *SHORT]
+        program = Program("serial_terminal", words)
         other = Other(line)
         play(other, "< 3B00 " + SHORT_WORDS, card=True)
         began = time.monotonic()
@@ -379,8 +382,8 @@ def nulls_for_ever():
 
 
 def settings():
-    """What the tty is set to while the terminal talks: raw, 8 bits, 2 stop bits. Parity is none of a
-    pseudo terminal."""
+    """What the tty is set to while the terminal talks: raw, 8 bits, 2 stop bits. A pseudo terminal
+    has no parity."""
     line = Line()
     try:
         program = Program("serial_terminal", ["--slack", "5000", line.name, *SHORT])
@@ -401,7 +404,8 @@ def full_device():
         line = Line()
         try:
             with open("/dev/full", "wb") as full:
-                program = Program("serial_terminal", ["--slack", "2000", *options, line.name, *SHORT], stdout=full)
+                words = ["--slack", "2000", *options, line.name, *SHORT]
+                program = Program("serial_terminal", words, stdout=full)
             play(Other(line), "< 3B00 " + SHORT_WORDS + DONE, card=True)
             look(program, program.end(), "", "operation 1: write fault\n", 1)
             assert line.is_put_back(), "the tty is not set as it was before"
@@ -426,7 +430,7 @@ def nobody_reads():
 
 
 def words():
-    """Words that are refused before anything is opened, and those that ask for nothing of a card."""
+    """Words that are refused before anything is opened, and ttys that can't be opened."""
     for given, why in (
         ([], "no tty was provided"),
         (["x"], "no operation was provided"),
@@ -480,4 +484,4 @@ def tests():
     )
     for test in (guard_time, passes_over_a_signal, line_gone, nulls_for_ever, settings, full_device,
                  nobody_reads, words, helps):
-        yield (test.__doc__.split(".")[0], test)
+        yield (f"terminal: {test.__name__}", test)

@@ -253,7 +253,8 @@ def ff_is_no_mark():
     with tempfile.TemporaryDirectory() as folder:
         tty = Tty(folder)
         try:
-            words = ["--slack", "5000", tty.line.name, "send", "00CA5F2002", "put", "51", "FF00FFFF"]
+            words = ["send", "00CA5F2002", "put", "51", "FF00FFFF"]
+            words = ["--slack", "5000", tty.line.name, *words]
             program = Program("serial_terminal", words, environment=tty.environment)
             other = Marking(tty.line)
             tty.await_note("rts off")
@@ -371,4 +372,4 @@ def tests():
     for part in (resets, rates, refusals, parities, card_resets, card_settings):
         yield from part()
     for test in (is_held, inverse_odd):
-        yield (test.__doc__.split(".")[0], test)
+        yield (f"tty: {test.__name__}", test)

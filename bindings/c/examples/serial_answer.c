@@ -166,7 +166,7 @@ static const char *go_on_specific(struct answer *answer)
     return set_rate(answer, true);
 }
 
-/* Else it goes on as before, or as PPS has it. T=0 is the first protocol where it is one of them. */
+/* Else it goes on as before, or as PPS has it. T=0 is the first protocol where it is offered. */
 static const char *go_on_negotiable(struct answer *answer, bool asks_pps)
 {
     const gt_atr *says = &answer->says;

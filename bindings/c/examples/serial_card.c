@@ -11,7 +11,8 @@ enum { ALL_WELL = 0, FAULT = 1, BAD_WORDS = 2 };
 #define NUMBER(number) #number
 #define DOTTED(major, minor, patch) NUMBER(major) "." NUMBER(minor) "." NUMBER(patch)
 
-/* how often the line of a reset is looked at, in microseconds, and how long a wait is without one */
+/* how often the line of a reset is looked at, and how long a wait without such a line is, in
+ * microseconds */
 enum { LOOKS_EVERY = 1000, WAITS_FOR = 1000000 };
 
 /* what a PPS request begins with, and the bit of its PPS0 for PPS1 (ISO/IEC 7816-3, 9.2) */

@@ -1,6 +1,6 @@
-/* A tty as the line of a smart card has it: 8 bits, a parity, 2 stop bits, and nothing changed of any
- * character. Each wait has an end. One port is open at a time: what its tty was set to is put back
- * by `port_close`, and where a signal ends the program. */
+/* A tty as the line of a smart card has it: 8 bits, a parity, 2 stop bits, and nothing changed of
+ * any character. One port is open at a time: what its tty was set to is put back by `port_close`,
+ * and where a signal ends the program. */
 #ifndef SERIAL_PORT_H
 #define SERIAL_PORT_H
 

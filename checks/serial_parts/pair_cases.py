@@ -8,7 +8,7 @@ import time
 
 from .card_cases import APP, GONE, Far, table
 from .lines import Line, Wire, trace_of
-from .programs import TABLE, TOP, Program
+from .programs import TABLE, TOP, Program, Skipped
 from .terminal_cases import GET_WORDS, SELECT_WORDS, look, rate_of
 
 EXPLAIN = TOP / "crates/trace_explain/out/trace_explain"
@@ -92,17 +92,29 @@ def own_line(inverse, echo):
             look(terminal, terminal.end(), wanted, "", 0)
             time.sleep(0.3)
         far.end(2 * trace)
-    explains(wanted)
 
 
-def explains(trace):
-    """trace_explain reads the trace, where it is built, and finds nothing wrong."""
+def is_explained():
+    """trace_explain reads the trace of a terminal, PPS with it, and finds nothing wrong."""
     if not EXPLAIN.exists():
-        return
-    found = subprocess.run([EXPLAIN], input=trace.encode(), capture_output=True, check=False)
+        raise Skipped("a trace of a serial line, since trace_explain is not built")
+    with tempfile.TemporaryDirectory() as folder:
+        far = Far(table(folder, f"atr 3B1095\n{APP}"))
+        words = [*SLACK, "-v", "--pps", far.name, *WORDS[:4]]
+        terminal = Program("serial_terminal", words)
+        assert terminal.end() == 0 and not terminal.faults, terminal.faults
+        far.end()
+    found = subprocess.run(
+        [EXPLAIN], input=terminal.output.encode(), capture_output=True, check=False
+    )
     assert found.returncode == 0 and not found.stderr, found.stderr
-    titles = [line for line in found.stdout.decode().splitlines() if line.startswith("#")]
-    assert len(titles) == 4 and titles[0].startswith("#1 SELECT A0000000031010"), titles
+    titles = [line.split("  ")[0] for line in found.stdout.decode().splitlines() if line[0] == "#"]
+    assert titles == [
+        "#1 SELECT A0000000031010",
+        "#2 GET RESPONSE, fetches 11",
+        "#3 GET DATA of 5F20",
+        "#4 GET DATA of 5F20, asked again for 6 bytes",
+    ], titles
 
 
 def comes_back():
@@ -165,5 +177,5 @@ def tests():
         for echo in (True, False):
             yield (f"the card's own line, inverse {inverse}, echo {echo}",
                    lambda of=(inverse, echo): own_line(*of))
-    for test in (comes_back, comes_back_soon, keeps_values):
+    for test in (is_explained, comes_back, comes_back_soon, keeps_values):
         yield (f"both: {test.__name__}", test)

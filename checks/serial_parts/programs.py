@@ -15,6 +15,10 @@ SECONDS = 30
 RUNNING = set()
 
 
+class Skipped(Exception):
+    """What could not be tried, and why: `WHAT, since REASON`."""
+
+
 class Program:
     """A program that runs, over the stand-in for a tty. `passed_over` is a signal that whoever
     starts it has it pass over."""

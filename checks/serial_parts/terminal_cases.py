@@ -297,10 +297,11 @@ def all_cases():
 
 
 def guard_time():
-    """Guard times: each character comes 12 + N etu after the one before, with N = 100 93.3 ms. With
-    N = 255, which is the least guard time, nothing near 12 + 255 etu passes."""
+    """Each character comes 12 + N etu after the one before, with N = 100 93.3 ms; and as long after
+    where the answer names T=15, as Fi/Di cycles are an etu here. With N = 255, which is the least
+    guard time, nothing near 12 + 255 etu passes."""
     found = {}
-    for answer in ("3B4064", "3B40FF"):
+    for answer in ("3B4064", "3BC064801F0338", "3B40FF"):
         line = Line()
         try:
             words = ["--baud", "1200", "--slack", "5000", line.name, *SHORT]
@@ -312,7 +313,8 @@ def guard_time():
         finally:
             line.close()
     # four times, less what this program is late in seeing the first
-    assert 4 * 0.0933 - 0.02 <= sum(found["3B4064"][1:]), f"N = 100: {found['3B4064']}"
+    for answer in ("3B4064", "3BC064801F0338"):
+        assert 4 * 0.0933 - 0.02 <= sum(found[answer][1:]), f"{answer}: {found[answer]}"
     assert sum(found["3B40FF"][1:]) < 0.5, f"N = 255: {found['3B40FF']}"
 
 

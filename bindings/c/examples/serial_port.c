@@ -274,7 +274,7 @@ void port_drop(const struct port *port)
 }
 
 /* Waits for one of these events until then; at most a second at a time, so that the number of
- * milliseconds fits. */
+ * milliseconds fits. Of a line that is gone the call that follows tells. */
 static enum port_result await(const struct port *port, short events, int64_t then)
 {
     for (;;) {
@@ -286,7 +286,7 @@ static enum port_result await(const struct port *port, short events, int64_t the
         wait.events = events;
         ready = poll(&wait, 1, most > 0 ? (int)((most + MILLISECOND - 1) / MILLISECOND) : 0);
         if (ready > 0)
-            return (wait.revents & events) != 0 ? PORT_IS_WELL : PORT_IS_GONE;
+            return PORT_IS_WELL;
         if (ready < 0 && errno != EINTR)
             return PORT_IS_GONE;
         if (left <= 0)

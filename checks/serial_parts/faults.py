@@ -61,7 +61,7 @@ def run(words, **how):
 
 def refusal(copy):
     """What refuses the copy as it is: a case, or None; an error where it is not built."""
-    said, is_well = run(["make", "-s", "-C", copy, *QUICK, *sys_archive(), "serial_tests"])
+    said, is_well = run(["make", "-s", "-j2", "-C", copy, *QUICK, *sys_archive(), "serial_tests"])
     if not is_well:
         raise ValueError(f"it does not compile: {said[-500:]}")
     said, is_well = run(

@@ -236,6 +236,13 @@ def parities():
                terminal("", [*reset, *of[3], *END], of[4], output="", inverse=of[2],
                         play_it=then_marked(of[0], of[1])))
 
+    def unmarked_t0(other):
+        other.sends_marked("3F")
+        other.send("00")
+
+    yield ("a wrong parity of T0, inverse", lambda: terminal(
+        "", [*reset, *END], PARITY, output="", inverse=True, play_it=unmarked_t0))
+
     def marked_echo(other):
         play(other, "< 3B00", card=True)
         other.echo = False

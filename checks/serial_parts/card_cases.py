@@ -98,6 +98,7 @@ def pps():
         ("no rate", "FF00FF", "FF00FF", 9600),
         ("its own rate, and PPS2", "FF3095015B", "FF10957A", own),
         ("PPS2 and PPS3 alone", "FF6000009F", "FF00FF", 9600),
+        ("a PPS2 that is as TA1", "FF20954A", "FF00FF", 9600),
     ):
         yield Case(f"PPS for {title}", f"< {offers} > {request} < {response} {ASK_WORDS}", offers,
                    baud=baud)
@@ -114,6 +115,8 @@ def pps():
     ):
         yield Case(f"PPS with {title}", f"< {offers} > {request} ", offers, mute=True,
                    fault=fault)
+    yield Case("a card's line of a reset, at a pseudo terminal", f"< {offers} {ASK_WORDS}", offers,
+               ["--reset", "cts"])
     yield Case("FF that is no PPS", f"< {offers} {ASK_WORDS} > FFCA5F2000 < 6E00 {ASK_WORDS}",
                offers)
     yield Case("a card in specific mode", f"< 3B90951000 > FFCA5F2000 < 6E00 {ASK_WORDS}",

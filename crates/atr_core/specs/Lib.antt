@@ -6,4 +6,5 @@ pub mod HistoricalBytes
 pub mod PpsBytes
 pub mod Reading
 pub mod Values
+pub mod ValueTexts
 pub mod Written

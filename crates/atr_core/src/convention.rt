@@ -4,6 +4,8 @@ ghost use Rattle.std.specs.Prelude.{◌≡◌};
 ghost use Rattle.atr_core.specs.Answer.{ts};
 ghost use Rattle.atr_core.specs.Conventions.{convention_of, convention_shown, as_sent};
 
+use std::fmt;
+
 /// How the bits of a character stand on the line (ISO/IEC 7816-3, 8.1).
 #[derive(Clone, Copy, Debug, PartialEq, Eq)]
 pub enum Convention {
@@ -56,5 +58,19 @@ impl Convention {
             Convention::Direct => byte,
             Convention::Inverse => !byte.reverse_bits(),
         }
+    }
+}
+
+impl fmt::Display for Convention {
+    ghost use Rattle.std.specs.Prelude.{Some};
+    ghost use Rattle.atr_core.specs.ValueTexts.{convention_text};
+
+    ghost output = { λ convention. Some (convention_text convention) };
+
+    fn fmt<W: fmt::Write>(&self, f: &mut fmt::Formatter<W>) -> fmt::Result {
+        f.write_str(match self {
+            Convention::Direct => "direct",
+            Convention::Inverse => "inverse",
+        })
     }
 }

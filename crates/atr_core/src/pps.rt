@@ -74,6 +74,14 @@ impl Pps {
         }
     }
 
+    /// How many characters a request or response with this PPS0 has, PPSS and PCK among them: 3 to
+    /// 6. Bit 8, which is reserved, is not looked at.
+    pub fn size(pps0: u8) -> usize
+        ensures { result ≡ pps_end pps0 + 1 }
+    {
+        pps_end(pps0) + 1
+    }
+
     /// The bytes of the request or response.
     pub fn write(&self) -> ArrayVec<u8, LONGEST>
         requires { self.now.t < 16 }

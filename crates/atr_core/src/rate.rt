@@ -53,6 +53,17 @@ impl Fi {
     }
 }
 
+impl fmt::Display for Fi {
+    ghost use Rattle.std.specs.Prelude.{Some};
+    ghost use Rattle.atr_core.specs.ValueTexts.{fi_text};
+
+    ghost output = { λ fi. Some (fi_text fi) };
+
+    fn fmt<W: fmt::Write>(&self, f: &mut fmt::Formatter<W>) -> fmt::Result {
+        write!(f, "{}, up to {} kHz", self.value, self.max_khz)
+    }
+}
+
 /// The baud rate adjustment integer: what bits 4 to 1 of TA1 or PPS1 say (ISO/IEC 7816-3, 8.3).
 pub fn di(code: u8) -> Result<u8, Rfu>
     ensures { result ≡ di_of code }

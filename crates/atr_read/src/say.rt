@@ -1,6 +1,6 @@
 //! What is said of one answer.
 
-use atr_core::{Atr, Classes, ClockStop, Convention, Group, Mode};
+use atr_core::{Atr, Classes, ClockStop, Group, Mode};
 use std::alloc::Global;
 use std::io;
 use std::io::Write;
@@ -31,11 +31,7 @@ pub fn say<W: Write>(alloc: Global, text: &str, output: &mut W) -> io::Result<bo
 
 /// The convention, the characters by their names, and the historical bytes.
 fn say_groups<W: Write>(answer: &Atr, output: &mut W) -> io::Result<()> {
-    let convention = match answer.convention() {
-        Convention::Direct => "direct",
-        Convention::Inverse => "inverse",
-    };
-    writeln!(output, "  convention    {convention}")?;
+    writeln!(output, "  convention    {}", answer.convention())?;
     say_group(1, answer.first(), output)?;
     let mut number = 1u32;
     for named in answer.others() {
@@ -71,11 +67,7 @@ fn say_values<W: Write>(answer: &Atr, output: &mut W) -> io::Result<()> {
     }
     writeln!(output)?;
     match answer.fi() {
-        Ok(fi) => writeln!(
-            output,
-            "  Fi            {}, up to {} kHz",
-            fi.value, fi.max_khz
-        )?,
+        Ok(fi) => writeln!(output, "  Fi            {fi}")?,
         Err(rfu) => writeln!(output, "  Fi            {rfu}")?,
     }
     match answer.di() {
@@ -84,11 +76,7 @@ fn say_values<W: Write>(answer: &Atr, output: &mut W) -> io::Result<()> {
     }
     for t in &answer.protocols() {
         let guard = answer.guard_time(*t);
-        writeln!(
-            output,
-            "  guard time    T={t}: {} etu and {} Fi/Di cycles",
-            guard.etu, guard.indicated
-        )?;
+        writeln!(output, "  guard time    T={t}: {guard}")?;
     }
     match answer.waiting_time() {
         Ok(cycles) => writeln!(output, "  waiting time  {cycles} cycles")?,

@@ -1,0 +1,21 @@
+-- The texts of what interface bytes say.
+use Rattle.std.specs.Prelude.{ℕ, List, ◌++◌, ◌==◌, codes, decimal, if◌then◌else◌}
+use Rattle.atr_core.specs.declared.convention.Convention.{Convention}
+use Rattle.atr_core.specs.declared.convention.Convention.TheVariants.{Direct, Inverse}
+use Rattle.atr_core.specs.declared.rate.Fi.{Fi}
+use Rattle.atr_core.specs.declared.timing.GuardTime.{GuardTime}
+
+abbrev pub convention_text : Convention → List ℕ
+convention_text Direct = codes "direct"
+convention_text Inverse = codes "inverse"
+
+-- Fi, and the highest clock frequency
+abbrev pub fi_text : Fi → List ℕ
+fi_text fi = decimal fi.value ++ codes ", up to " ++ decimal fi.max_khz ++ codes " kHz"
+
+-- so many etu, and so many times Fi/Di clock cycles, where there are some
+abbrev pub guard_time_text : GuardTime → List ℕ
+guard_time_text time =
+    if time.indicated == 0 then decimal time.etu ++ codes " etu"
+    else decimal time.etu
+    ++ (codes " etu and " ++ (decimal time.indicated ++ codes " Fi/Di cycles"))

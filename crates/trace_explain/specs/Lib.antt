@@ -1,5 +1,6 @@
 pub mod Told
 pub mod Noted
+pub mod Openings
 pub mod Lines
 pub mod Explained
 pub mod Trace

@@ -7,10 +7,9 @@ use Rattle.trace_explain.specs.declared.complaint.Complaint.{Complaint}
 use Rattle.trace_explain.specs.declared.explain_fault.ExplainFault.{ExplainFault}
 use Rattle.trace_explain.specs.declared.explain_fault.ExplainFault.TheVariants as fault
 use Rattle.trace_explain.specs.declared.listener.Listener.{Listener}
-use Rattle.trace_explain.specs.declared.standing.Standing.{Standing}
 use Rattle.trace_explain.specs.declared.trace_line.TraceLine.{TraceLine}
 use Rattle.trace_explain.specs.Explained.{IsRight}
-use Rattle.trace_explain.specs.Lines.{SpellsCharacters, Says, SaysNothing, events_in, first_of_all, standing_after}
+use Rattle.trace_explain.specs.Lines.{SpellsCharacters, Says, SaysNothing, Standing, TakesLine, first_of_all}
 use Rattle.trace_explain.specs.Noted.{HasNoted}
 use Rattle.trace_explain.specs.Told.{Told}
 
@@ -26,19 +25,23 @@ lines_from line (b ∷ bytes) =
 abbrev pub lines_of : List ℕ → List (List ℕ)
 lines_of bytes = lines_from [] bytes
 
--- Lines say these events, one after another, and lead from where the trace stands before them to
--- where it stands behind them.
-abbrev pub SayInTurn : Standing → List (List ℕ) → List Event → Standing → Type 0
-SayInTurn at [] events after = (events ≡ []) × (after ≡ at)
-SayInTurn at (line ∷ others) events after = (said : TraceLine) × (rest : List Event)
-    × Says line said × (events ≡ events_in at said ++ rest)
-    × SayInTurn (standing_after at said) others rest after
+-- Behind these events lines say others, one after another, and lead from where the trace stands
+-- before them to where it stands behind them.
+abbrev pub SayInTurn : List Event → Standing → List (List ℕ) → List Event → Standing → Type 0
+SayInTurn so_far at [] events after = (events ≡ []) × (after ≡ at)
+SayInTurn so_far at (line ∷ others) events after = (said : TraceLine) × Says line said
+    × (first rest : List Event) × (next : Standing) × TakesLine so_far at said first next
+    × (events ≡ first ++ rest) × SayInTurn (so_far ++ first) next others rest after
+
+-- and these are all lines so far
+abbrev pub SayAll : List (List ℕ) → List Event → Standing → Type 0
+SayAll lines events after = SayInTurn [] first_of_all lines events after
 
 -- All events of these lines have been heard, and each whole dialogue in them was told, in turn;
 -- behind them the trace stands here.
 pub record IsExplained (all : List (List ℕ)) (at : Standing) : Type 0 where
   pub events : List Event
-  pub says : SayInTurn first_of_all all events at
+  pub says : SayAll all events at
   pub told : List Told
   pub listener : Listener
   pub noted : HasNoted events told listener
@@ -50,7 +53,7 @@ IsWhole all = (at : Standing) × IsExplained all at × (at.came ≡ true)
 -- no line of these has a character of either end
 abbrev pub SayNoCharacters : List (List ℕ) → Type 0
 SayNoCharacters all = (events : List Event) × (at : Standing)
-    × SayInTurn first_of_all all events at × (at.came ≡ false)
+    × SayAll all events at × (at.came ≡ false)
 
 -- the number of the line behind these, from 1 up to the largest that is counted to
 abbrev pub number_behind : List (List ℕ) → ℕ
@@ -66,7 +69,7 @@ pub record IsReached (all : List (List ℕ)) (number : ℕ) : Type 0 where
   pub number_is : number ≡ number_behind before
   pub events : List Event
   pub at : Standing
-  pub says : SayInTurn first_of_all before events at
+  pub says : SayAll before events at
   pub told : List Told
   pub listener : Listener
   pub noted : HasNoted events told listener
@@ -78,7 +81,7 @@ pub record IsRightIn (all : List (List ℕ)) (c : Complaint) : Type 0 where
   pub from : End
   pub bytes : List ℕ
   pub spells : SpellsCharacters reached.line from bytes
-  pub is_right : IsRight c from bytes reached.events reached.told
+  pub is_right : IsRight c reached.at from bytes reached.events reached.told
 
 -- Of a fault that stops it at a line: a complaint is right; the line with bad digits says nothing;
 -- and the line that is too long has, without the CR right before its LF, as many bytes as a line

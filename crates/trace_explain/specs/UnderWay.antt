@@ -1,13 +1,14 @@
 -- What is kept from one byte of a trace to the next: for proofs alone, no part of a promise.
-use Rattle.std.specs.Prelude.{◌≡◌, ℕ, List, ◌++◌}
+use Rattle.std.specs.Prelude.{◌≡◌, ◌≤◌, ℕ, ◌+◌, List, ◌++◌, length, take, drop, true}
+use Rattle.t0_core.specs.declared.end.End.{End}
 use Rattle.t0_core.specs.History.{Event}
 use Rattle.trace_explain.specs.declared.explain_fault.ExplainFault.{ExplainFault}
 use Rattle.trace_explain.specs.declared.explain_fault.ExplainFault.TheVariants as fault
 use Rattle.trace_explain.specs.declared.explainer.Explainer.{Explainer}
-use Rattle.trace_explain.specs.Explained.{HasExplained, next_line}
-use Rattle.trace_explain.specs.Lines.{first_of_all}
+use Rattle.trace_explain.specs.Explained.{HasExplained, next_line, standing_of}
+use Rattle.trace_explain.specs.Openings.{Opening, dialogue_in, has_begun, opened}
 use Rattle.trace_explain.specs.Told.{Told}
-use Rattle.trace_explain.specs.Trace.{SayInTurn, lines_from, number_behind}
+use Rattle.trace_explain.specs.Trace.{SayAll, lines_from, number_behind}
 
 -- Of all lines those so far are explained; of the next this much has come, and these bytes are
 -- left.
@@ -16,7 +17,7 @@ pub record HasCome (all : List (List ℕ)) (line left : List ℕ) (e : Explainer
   pub is_cut : all ≡ before ++ lines_from line left
   pub number_is : next_line e ≡ number_behind before
   pub events : List Event
-  pub says : SayInTurn first_of_all before events e.standing
+  pub says : SayAll before events (standing_of e)
   pub told : List Told
   pub explained : HasExplained events told e
 
@@ -27,3 +28,16 @@ IsOfLines fault.Write = ⊥
 IsOfLines fault.InputTooLong = ⊥
 IsOfLines fault.NoCharacters = ⊥
 IsOfLines other = Unit {0}
+
+-- These characters of one end are all of an opening, whatever follows them.
+pub record Passes (o : Opening) (from : End) (bytes : List ℕ) (after : Opening) : Type 0 where
+  pub dialogue : (rest : List ℕ) → dialogue_in o from (bytes ++ rest) ≡ dialogue_in after from rest
+  pub opens : (rest : List ℕ) → opened o from (bytes ++ rest) ≡ opened after from rest
+
+-- So many characters are of an opening, and all behind them are the dialogue's.
+pub record OpensUpTo (start : ℕ) (o : Opening) (from : End) (bytes : List ℕ) (after : Opening)
+    : Type 0 where
+  pub within : start ≤ length bytes
+  pub dialogue : (n : ℕ) → dialogue_in o from (take (start + n) bytes) ≡ take n (drop start bytes)
+  pub after_is : after ≡ opened o from bytes
+  pub begun : has_begun o.stage ≡ true → start ≡ 0

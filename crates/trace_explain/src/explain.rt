@@ -1,7 +1,7 @@
 //! A whole trace.
 ghost use Rattle.std.specs.Prelude.{◌≡◌, ◌++◌, ◌∷◌, List, [], ℕ, false, IfErr, IfSome, OnOk};
 ghost use Rattle.std.specs.Str.Lines.{strip_carriage_return};
-ghost use Rattle.trace_explain.specs.Explained.{HasExplained};
+ghost use Rattle.trace_explain.specs.Explained.{HasExplained, standing_of};
 ghost use Rattle.trace_explain.specs.Lines.{first_of_all};
 ghost use Rattle.trace_explain.specs.Trace.{IsExplained, IsWhole, KeepsLimit, StopsIn, lines_of};
 ghost use Rattle.trace_explain.specs.UnderWay.{HasCome, IsOfLines};
@@ -53,11 +53,11 @@ fn explain_chunks<R: Read, W: Write>(
     writer: &mut W,
     text: &mut String,
 ) -> Result<(), ExplainFault>
-    ensures explained { HasExplained [] [] explainer.old → explainer.old.standing ≡ first_of_all →
+    ensures explained { HasExplained [] [] explainer.old → standing_of explainer.old ≡ first_of_all →
         explainer.old.line ≡ 0 →
         OnOk result (IfSome (R.remaining reader.old) (λ bytes.
-        IsExplained (lines_of bytes) explainer.new.standing)) }
-    ensures stops { HasExplained [] [] explainer.old → explainer.old.standing ≡ first_of_all →
+        IsExplained (lines_of bytes) (standing_of explainer.new))) }
+    ensures stops { HasExplained [] [] explainer.old → standing_of explainer.old ≡ first_of_all →
         explainer.old.line ≡ 0 →
         IfErr result (λ fault.
         IfSome (R.remaining reader.old) (λ bytes. StopsIn (lines_of bytes) fault)) }
@@ -124,7 +124,7 @@ fn explain_last(
     text: &mut String,
 ) -> Result<(), ExplainFault>
     ensures explained { (all : List (List ℕ)) → HasCome all line.now [] explainer.old →
-        OnOk result (IsExplained all explainer.new.standing) }
+        OnOk result (IsExplained all (standing_of explainer.new)) }
     ensures stops { (all : List (List ℕ)) → HasCome all line.now [] explainer.old →
         IfErr result (StopsIn all) }
     ensures of_lines { IfErr result IsOfLines }

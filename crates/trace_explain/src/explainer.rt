@@ -1,24 +1,29 @@
 //! Explains a trace line by line: hears its characters, and tells of each TPDU once it has ended.
 
-ghost use Rattle.std.specs.Prelude.{◌≡◌, ◌<◌, ◌∷◌, ◌++◌, ◌&&◌, List, [], true, false, get_or, OnOk, IfErr};
+ghost use Rattle.std.specs.Prelude.{◌≡◌, ◌<◌, ◌∷◌, ◌++◌, ◌==◌, ◌&&◌, List, [], true, false, get_or, length, OnOk, IfErr, IfOk, IfSome};
+ghost use Rattle.t0_core.specs.declared.end.End.TheVariants.{Card};
 ghost use Rattle.t0_core.specs.Character.{sent_by};
 ghost use Rattle.t0_core.specs.History.{Event, Reset, passed};
 ghost use Rattle.t0_core.specs.TapSide.{due_at};
-ghost use Rattle.trace_explain.specs.Explained.{HasExplained, ExplainsMore, ExplainsLine, StopsRightly, StopsAtLine, Stopped, KeepsAll, next_line};
+ghost use Rattle.trace_explain.specs.Explained.{HasExplained, ExplainsCharacters, ExplainsMore, ExplainsLine, HearsUpTo, StopsRightly, StopsAtLine, KeepsAll, KeepsHeard, next_line, standing_of};
 ghost use Rattle.trace_explain.specs.Trace.{IsOfEnd};
-ghost use Rattle.trace_explain.specs.UnderWay.{IsOfLines};
-ghost use Rattle.trace_explain.specs.Lines.{heard_in, after_characters, first_of_all, is_card};
+ghost use Rattle.trace_explain.specs.UnderWay.{IsOfLines, OpensUpTo};
+ghost use Rattle.trace_explain.specs.Lines.{came_after, first_of_all};
+ghost use Rattle.trace_explain.specs.Openings.{begins_answer, opened, opening_of, unopened};
 ghost use Rattle.trace_explain.specs.Told.{Told};
 
+use crate::answer::tell_answer;
 use crate::complaint::{Complaint, due_text, end_text};
 use crate::explain_fault::ExplainFault;
 use crate::layout::{Kind, Layout, Side};
 use crate::links::{Link, Links, Whole};
-use crate::listener::{Listener, Stop};
+use crate::listener::Listener;
 use crate::meaning::push_meaning;
+use crate::opening::{Role, Stage, begins_answer};
 use crate::phrases;
+use crate::pps::tell_exchange;
+use crate::preface::Preface;
 use crate::refusal::Refusal;
-use crate::standing::Standing;
 use crate::story::{Story, brought, header_of, sent, status_of};
 use crate::tpdu::Tpdu;
 use crate::trace_line::{BadLine, TraceLine, read_line};
@@ -39,7 +44,8 @@ pub struct Explainer {
     layout: Layout,
     resumes: bool,
     passes_over: bool,
-    standing: Standing,
+    preface: Preface,
+    came: bool,
     line: u64,
     began: u64,
     listener: Listener,
@@ -65,7 +71,7 @@ impl Explainer {
     /// does.
     pub fn new(alloc: Global, layout: Layout, resumes: bool) -> Explainer
         ensures explained { resumes ≡ false → HasExplained [] [] result }
-        ensures standing { result.standing ≡ first_of_all }
+        ensures standing { standing_of result ≡ first_of_all }
         ensures line { result.line ≡ 0 }
     {
         Explainer {
@@ -73,7 +79,8 @@ impl Explainer {
             layout,
             resumes,
             passes_over: false,
-            standing: Standing::FIRST,
+            preface: Preface::new(alloc),
+            came: false,
             line: 0,
             began: 0,
             listener: Listener::new(alloc),
@@ -131,25 +138,116 @@ impl Explainer {
     fn characters(&mut self, from: End, bytes: &[u8], out: &mut String) -> Result<(), ExplainFault>
         ensures explained { (events : List Event) (before : List Told) →
             HasExplained events before self.old →
-            OnOk result (ExplainsMore (heard_in self.old.standing.begins from bytes.now)
-            (after_characters self.old.standing from bytes.now) events before self.new) }
+            OnOk result (ExplainsCharacters from bytes.now events before self.old self.new) }
         ensures stops { (events : List Event) (before : List Told) →
             HasExplained events before self.old →
-            IfErr result (λ fault.
-            StopsRightly fault self.old.line from bytes.now events before) }
+            IfErr result (λ fault. StopsRightly fault self.old.line (standing_of self.old) from
+            bytes.now events before) }
         ensures counts { OnOk result (self.new.line ≡ self.old.line) }
         ensures of_lines { IfErr result IsOfLines }
     {
         if self.is_passed_over(from, bytes) {
             return Ok(());
         }
-        let is_before = is_before_header(self.standing.begins, from);
-        self.standing = self.standing.after(from, bytes);
-        if is_before {
-            self.before_header(bytes, out)?;
-            return Ok(());
+        self.came = came_after(self.came, bytes);
+        let begun = self.preface.stage().has_begun();
+        let start = self.open(from, bytes, out)?;
+        match self.hear(from, &bytes[start..], out)? {
+            None => Ok(()),
+            Some(place) if begun && self.answers_again(from, bytes[start + place]) => {
+                self.answer_again(&bytes[start + place..], out)?;
+                Ok(())
+            }
+            Some(place) => self.stop(from, bytes, start + place, out),
         }
-        self.hear(from, bytes, out)
+    }
+
+    /// Takes the characters of an opening, and tells of its parts that end; it answers how many
+    /// characters come before the first of the dialogue.
+    fn open(&mut self, from: End, bytes: &[u8], out: &mut String) -> Result<usize, AllocError>
+        ensures opens { IfOk result (λ start. OpensUpTo start (opening_of self.old.preface) from bytes.now
+            (opening_of self.new.preface)) }
+        ensures keeps { OnOk result (KeepsHeard self.old self.new) }
+    {
+        for place in 0..bytes.len() {
+            let role = self.preface.role_of(from, bytes[place]);
+            self.tell_before(role, place, &bytes[place..], out)?;
+            self.preface.take(role, bytes[place], self.line)?;
+            if role == Role::Dialogue {
+                return Ok(place);
+            }
+            self.tell_after(role, out)?;
+        }
+        Ok(bytes.len())
+    }
+
+    /// Tells what ends before a character that is this, at this place of a line: a part that goes
+    /// on no more; and of the first of those that are the card's and of no part.
+    fn tell_before(
+        &self,
+        role: Role,
+        place: usize,
+        bytes: &[u8],
+        out: &mut String,
+    ) -> Result<(), AllocError> {
+        let stage = self.preface.stage();
+        if !role.goes_on() {
+            self.tell_part(stage, out)?;
+        }
+        if role == Role::Stray && (place == 0 || stage != Stage::Astray) {
+            self.before_header(bytes, out)?;
+        }
+        Ok(())
+    }
+
+    /// Tells the part that is over with a character that was this.
+    fn tell_after(&self, role: Role, out: &mut String) -> Result<(), AllocError> {
+        match (role, self.preface.stage()) {
+            (Role::Answer, Stage::Ready | Stage::Astray) => self.tell_part(Stage::Answer, out),
+            (Role::Response, Stage::Ready) => self.tell_part(Stage::Response, out),
+            _ => Ok(()),
+        }
+    }
+
+    /// Tells the part that is under way in this stage, if one is.
+    fn tell_part(&self, stage: Stage, out: &mut String) -> Result<(), AllocError> {
+        match stage {
+            Stage::Answer => tell_answer(self.alloc, self.layout, &self.preface, out),
+            Stage::Request | Stage::Asked | Stage::Response => {
+                tell_exchange(self.alloc, self.layout, &self.preface, out)
+            }
+            Stage::Ready | Stage::Astray | Stage::Begun => Ok(()),
+        }
+    }
+
+    /// Whether the card answers again with this character, with which no dialogue goes on.
+    fn answers_again(&self, from: End, byte: u8) -> bool
+        ensures { result ≡ (begins_answer from byte
+            && (length self.now.listener.under_way.header.items == 0)) }
+    {
+        begins_answer(from, byte) && self.listener.under_way().is_empty()
+    }
+
+    /// Takes these characters of the card as those behind a reset of which no line says.
+    fn answer_again(&mut self, bytes: &[u8], out: &mut String) -> Result<(), AllocError>
+        ensures explained { (events : List Event) (before : List Told) →
+            HasExplained events before self.old →
+            OnOk result (HasExplained (events ++ Reset ∷ []) before self.new) }
+        ensures opened { OnOk result
+            (opening_of self.new.preface ≡ opened unopened Card bytes.now) }
+        ensures keeps { OnOk result ((self.new.came ≡ self.old.came)
+            × (self.new.line ≡ self.old.line)) }
+    {
+        self.listener.reset();
+        let note = if self.story.reset() {
+            "reset, though no line says so, as the card answers: the chain is dropped\n"
+        } else {
+            "reset, though no line says so, as the card answers\n"
+        };
+        self.layout.note(out, note)?;
+        self.preface.reset();
+        self.open(End::Card, bytes, out)?;
+        Ok(())
     }
 
     /// Whether such a line is passed over; a header ends that.
@@ -168,18 +266,23 @@ impl Explainer {
         self.passes_over
     }
 
-    /// Hears the characters of a line, and tells of them.
-    fn hear(&mut self, from: End, bytes: &[u8], out: &mut String) -> Result<(), ExplainFault>
+    /// Hears characters of the dialogue, and tells of the TPDUs that end; it answers the place of
+    /// the first with which none goes on, counted from 0.
+    fn hear(
+        &mut self,
+        from: End,
+        bytes: &[u8],
+        out: &mut String,
+    ) -> Result<Option<usize>, ExplainFault>
         ensures explained { (events : List Event) (before : List Told) →
             HasExplained events before self.old →
-            OnOk result (ExplainsMore (passed (sent_by from bytes.now)) self.old.standing events
-            before self.new) }
-        ensures stops { (events : List Event) (before : List Told) →
-            HasExplained events before self.old →
-            IfErr result (λ fault.
-            StopsRightly fault self.old.line from bytes.now events before) }
-        ensures counts { OnOk result (self.new.line ≡ self.old.line) }
-        ensures of_lines { IfErr result IsOfLines }
+            IfOk result (λ stop. HearsUpTo stop from bytes.now events before self.new) }
+        ensures keeps { OnOk result ((self.new.resumes ≡ self.old.resumes)
+            × (self.new.passes_over ≡ self.old.passes_over)
+            × (self.new.preface ≡ self.old.preface) × (self.new.came ≡ self.old.came)
+            × (self.new.line ≡ self.old.line)) }
+        ensures within { IfOk result (λ stop. IfSome stop (λ place. place < length bytes.now)) }
+        ensures wants { IfErr result (λ fault. fault ≡ ExplainFault.OutOfMemory) }
     {
         self.tell_passed(out)?;
         self.note_beginning();
@@ -187,8 +290,11 @@ impl Explainer {
         let heard = self.listener.hear_all(from, bytes, &mut told);
         self.tell_all(told.as_slice(), out)?;
         match heard {
-            Ok(()) => Ok(()),
-            Err(stop) => self.stop(from, bytes, stop, out),
+            Ok(()) => Ok(None),
+            Err(stop) => match stop.refusal {
+                Refusal::NoDialogue(_) => Ok(Some(stop.place)),
+                Refusal::OutOfMemory => Err(ExplainFault::OutOfMemory),
+            },
         }
     }
 
@@ -214,45 +320,40 @@ impl Explainer {
         Ok(())
     }
 
-    /// Tells characters of the card that come before the first of the terminal, since the trace
-    /// began or the card was reset: an answer to reset, or the end of what was not heard.
+    /// Tells characters of the card that come before the dialogue, and are of no answer or
+    /// response: the end of what was not heard, or what stands behind an answer's first fault.
     fn before_header(&self, bytes: &[u8], out: &mut String) -> Result<(), AllocError> {
-        if bytes.is_empty() {
-            return Ok(());
-        }
         let mut lines = String::new(self.alloc);
         lines.push_str("before a header, from the card:\n")?;
         lines.push_str(hex_lines(self.alloc, bytes)?.as_str())?;
         self.layout.note(out, lines.as_str())
     }
 
-    /// Tells of a character that is not taken, and stops or passes over what follows.
+    /// Tells of a character at this place of a line with which no dialogue goes on, and stops or
+    /// passes over what follows.
     fn stop(
         &mut self,
         from: End,
         bytes: &[u8],
-        stop: Stop,
+        place: usize,
         out: &mut String,
     ) -> Result<(), ExplainFault>
-        ensures stopped { self.old.resumes ≡ false → Stopped result stop.refusal (record {
+        ensures stopped { self.old.resumes ≡ false → Stopped result (record {
           line = self.old.line;
-          place = stop.place;
+          place = place;
           due = due_at self.old.listener.tap;
           from = from;
-          byte = get_or bytes.now stop.place 0;
+          byte = get_or bytes.now place 0;
         }) }
         ensures counts { OnOk result (self.new.line ≡ self.old.line) }
         ensures of_lines { IfErr result IsOfLines }
     {
-        if let Refusal::OutOfMemory = stop.refusal {
-            return Err(ExplainFault::OutOfMemory);
-        }
         let complaint = Complaint {
             line: self.line,
-            place: stop.place,
+            place,
             due: self.listener.due(),
             from,
-            byte: bytes.get(stop.place).copied().unwrap_or(0),
+            byte: bytes.get(place).copied().unwrap_or(0),
         };
         self.cut_off(out)?;
         self.story.lose_some();
@@ -262,7 +363,7 @@ impl Explainer {
         }
         self.complaints = self.complaints.saturating_add(1);
         self.first = Some(self.first.unwrap_or(complaint));
-        self.resume(from, bytes, stop.place)
+        self.resume(from, bytes, place)
     }
 
     /// Goes on after a character at this place of a line: with that line, where it is a header, and
@@ -340,15 +441,16 @@ impl Explainer {
         ensures explained { (events : List Event) (before : List Told) →
             HasExplained events before self.old →
             OnOk result (ExplainsMore (Reset ∷ []) (record {
-              begins = true;
-              came = self.old.standing.came;
+              opening = unopened;
+              came = self.old.came;
             }) events before self.new) }
         ensures counts { OnOk result (self.new.line ≡ self.old.line) }
     {
         self.tell_passed(out)?;
         self.passed = None;
         self.passes_over = false;
-        self.standing = self.standing.after_reset();
+        self.tell_part(self.preface.stage(), out)?;
+        self.preface.reset();
         self.cut_off(out)?;
         let drops = self.story.reset();
         let note = if drops {
@@ -365,7 +467,8 @@ impl Explainer {
         ensures cut_off { (events : List Event) (before : List Told) →
             HasExplained events before self.old →
             OnOk result (HasExplained (events ++ Reset ∷ []) before self.new) }
-        ensures keeps { OnOk result ((self.new.standing ≡ self.old.standing)
+        ensures keeps { OnOk result ((self.new.preface ≡ self.old.preface)
+            × (self.new.came ≡ self.old.came)
             × (self.new.resumes ≡ self.old.resumes)
             × (self.new.line ≡ self.old.line)) }
     {
@@ -392,11 +495,11 @@ impl Explainer {
 
     /// Whether all of it was a dialogue, in which some character came.
     pub fn outcome(&self) -> Result<(), ExplainFault>
-        ensures came { OnOk result (self.now.standing.came ≡ true) }
-        ensures ended { IfErr result (λ fault. IsOfEnd fault self.now.standing.came) }
+        ensures came { OnOk result (self.now.came ≡ true) }
+        ensures ended { IfErr result (λ fault. IsOfEnd fault self.now.came) }
     {
         match self.first {
-            None if self.standing.came => Ok(()),
+            None if self.came => Ok(()),
             None => Err(ExplainFault::NoCharacters),
             Some(complaint) => Err(ExplainFault::Resumed {
                 complaints: self.complaints,
@@ -407,9 +510,10 @@ impl Explainer {
 
     /// Explains what is under way where the trace ends.
     pub fn end(&mut self, out: &mut String) -> Result<(), AllocError>
-        ensures { OnOk result (self.new.standing ≡ self.old.standing) }
+        ensures { OnOk result (standing_of self.new ≡ standing_of self.old) }
     {
         self.tell_passed(out)?;
+        self.tell_part(self.preface.stage(), out)?;
         self.cut_off(out)?;
         self.layout.end(out)
     }
@@ -519,14 +623,11 @@ fn may_be_objects(tpdu: &Tpdu, links: Links) -> bool {
     }
 }
 
-/// Whether characters of this end come before the first of the terminal.
-fn is_before_header(begins: bool, from: End) -> bool
-    ensures { result ≡ (begins && is_card from) }
+/// Whether a character has come by then.
+fn came_after(came: bool, bytes: &[u8]) -> bool
+    ensures { result ≡ came_after came bytes.now }
 {
-    match from {
-        End::Terminal => false,
-        End::Card => begins,
-    }
+    came || !bytes.is_empty()
 }
 
 /// Whether these can be the five characters of a header, alone in a line.

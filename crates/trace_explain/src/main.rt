@@ -1,6 +1,7 @@
 //! A trace of both ends of a line, explained.
 #![tactic(auto)]
 
+mod answer;
 mod ascii;
 mod chain;
 mod command_line;
@@ -17,11 +18,13 @@ mod links;
 mod listener;
 mod main_status;
 mod meaning;
+mod opening;
 mod parts;
 mod phrases;
+mod pps;
+mod preface;
 mod refusal;
 mod response;
-mod standing;
 mod statuses;
 mod story;
 mod tally;

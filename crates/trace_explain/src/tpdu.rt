@@ -1,6 +1,6 @@
 //! What was heard of one TPDU.
 
-ghost use Rattle.std.specs.Prelude.{◌≡◌, OnOk};
+ghost use Rattle.std.specs.Prelude.{◌≡◌, ◌==◌, length, OnOk};
 ghost use Rattle.trace_explain.specs.Told.{told_by, untold, noted};
 
 use crate::tally::Tally;
@@ -57,7 +57,9 @@ impl Tpdu {
     }
 
     /// Whether nothing of it has come.
-    pub fn is_empty(&self) -> bool {
+    pub fn is_empty(&self) -> bool
+        ensures { result ≡ (length self.now.header.items == 0) }
+    {
         self.header.is_empty()
     }
 }

@@ -1,0 +1,185 @@
+-- What comes before a dialogue: the card's answer to reset, and PPS exchanges (ISO/IEC 7816-3,
+-- clauses 8 and 9).
+use Rattle.std.specs.Prelude.{◌≡◌, ℕ, ◌+◌, List, [], ◌∷◌, ◌++◌, length, slice_index, Option, Some, None, Bool, true, false, not, ◌==◌, ◌&&◌, ◌||◌, is_some, if◌then◌else◌}
+use Rattle.atr_core.specs.Conventions.{convention_of, as_sent}
+use Rattle.atr_core.specs.FirstFault.{first_fault}
+use Rattle.atr_core.specs.PpsBytes.{pps_end}
+use Rattle.atr_core.specs.declared.convention.Convention.{Convention}
+use Rattle.atr_core.specs.declared.convention.Convention.TheVariants.{Direct, Inverse}
+use Rattle.atr_core.specs.declared.fault.AtrFault.{AtrFault}
+use Rattle.atr_core.specs.declared.fault.Reason.{Reason}
+use Rattle.atr_core.specs.declared.fault.Reason.TheVariants.{NoTs, Cut, TooLong, OutOfOrder, Surplus, CheckMissing, CheckNotDue, CheckWrong}
+use Rattle.t0_core.specs.declared.end.End.{End}
+use Rattle.t0_core.specs.declared.end.End.TheVariants.{Terminal, Card}
+use Rattle.trace_explain.specs.declared.opening.Stage.{Stage}
+use Rattle.trace_explain.specs.declared.opening.Stage.TheVariants as stage
+use Rattle.trace_explain.specs.declared.opening.Role.{Role}
+use Rattle.trace_explain.specs.declared.opening.Role.TheVariants as role
+use Rattle.trace_explain.specs.declared.preface.Preface.{Preface}
+
+-- What has come since the trace began or the card was reset: how far it is; how the characters of
+-- the answer are turned; the answer; the last PPS request and the response to it.
+pub record Opening : Type 0 where
+  pub stage : Stage
+  pub turned : Convention
+  pub answer : List ℕ
+  pub request : List ℕ
+  pub response : List ℕ
+
+abbrev pub opening_of : Preface → Opening
+opening_of p = record {
+  stage = p.stage;
+  turned = p.turned;
+  answer = p.answer.items;
+  request = p.request.items;
+  response = p.response.items;
+}
+
+-- nothing has come; and the dialogue has begun
+abbrev pub standing_in : Stage → Opening
+standing_in stage =
+    record { stage = stage; turned = Direct; answer = []; request = []; response = [] }
+
+abbrev pub unopened : Opening
+unopened = standing_in stage.Ready
+
+abbrev pub begun : Opening
+begun = standing_in stage.Begun
+
+abbrev pub has_begun : Stage → Bool
+has_begun stage.Ready = false
+has_begun stage.Answer = false
+has_begun stage.Astray = false
+has_begun stage.Request = false
+has_begun stage.Asked = false
+has_begun stage.Response = false
+has_begun stage.Begun = true
+
+-- How an answer is turned that begins with this character in the trace: `3B` and `3F` are TS as it
+-- is meant, `03` is TS of the inverse convention, read by the direct one (8.1).
+abbrev pub turned_by : ℕ → Option Convention
+turned_by b = if b == 0x03 then Some Inverse
+    else if is_some (convention_of b) then Some Direct else None
+
+-- a character of the card where an answer may begin
+abbrev pub as_ts : Option Convention → Role
+as_ts (Some turned) = role.Ts turned
+as_ts None = role.Stray
+
+-- and where a response may begin, too
+abbrev pub as_ppss : ℕ → Role
+as_ppss b = if b == 0xFF then role.ResponsePpss else as_ts (turned_by b)
+
+abbrev pub card_role : Stage → ℕ → Role
+card_role stage.Ready b = as_ts (turned_by b)
+card_role stage.Answer b = role.Answer
+card_role stage.Astray b = role.Stray
+card_role stage.Request b = as_ppss b
+card_role stage.Asked b = as_ppss b
+card_role stage.Response b = role.Response
+card_role stage.Begun b = role.Dialogue
+
+-- a character of the terminal that may be the first of a request, or of the dialogue
+abbrev pub asks : Bool → ℕ → Role
+asks may_ask b = if may_ask && (b == 0xFF) then role.RequestPpss else role.Dialogue
+
+abbrev pub terminal_role : Stage → Bool → ℕ → Role
+terminal_role stage.Ready may_ask b = asks may_ask b
+terminal_role stage.Answer may_ask b = asks may_ask b
+terminal_role stage.Astray may_ask b = asks may_ask b
+terminal_role stage.Request may_ask b = role.Request
+terminal_role stage.Asked may_ask b = asks may_ask b
+terminal_role stage.Response may_ask b = asks may_ask b
+terminal_role stage.Begun may_ask b = role.Dialogue
+
+abbrev pub role_at : Stage → Bool → End → ℕ → Role
+role_at at may_ask Terminal b = terminal_role at may_ask b
+role_at at may_ask Card b = card_role at b
+
+abbrev pub is_direct : Convention → Bool
+is_direct Direct = true
+is_direct Inverse = false
+
+-- a terminal may ask by PPS behind an answer whose characters are read as they are meant
+abbrev pub may_ask : Opening → Bool
+may_ask o = is_direct o.turned && not (length o.answer == 0)
+
+-- what a character is
+abbrev pub role_of : Opening → End → ℕ → Role
+role_of o from b = role_at o.stage (may_ask o) from b
+
+-- an answer so far wants nothing but more characters
+abbrev pub is_short : Reason → Bool
+is_short NoTs = false
+is_short Cut = true
+is_short TooLong = false
+is_short OutOfOrder = false
+is_short Surplus = false
+is_short CheckMissing = true
+is_short CheckNotDue = false
+is_short CheckWrong = false
+
+-- an answer ends where it is whole, or has its first fault
+abbrev pub after_answer : Option AtrFault → Stage
+after_answer None = stage.Ready
+after_answer (Some fault) = if is_short fault.reason then stage.Answer else stage.Astray
+
+-- a request or response ends with as many characters as its PPS0, the second of them, says
+abbrev pub is_full : List ℕ → Bool
+is_full bytes = length bytes == pps_end (slice_index bytes 1) + 1
+
+-- an opening with one character more, which is this
+abbrev pub opens : Opening → Role → ℕ → Opening
+opens o (role.Ts turned) b = record {
+  stage = stage.Answer;
+  turned = turned;
+  answer = as_sent turned b ∷ [];
+  request = [];
+  response = [];
+}
+opens o role.Answer b = record {
+  stage = after_answer (first_fault (o.answer ++ as_sent o.turned b ∷ []));
+  turned = o.turned;
+  answer = o.answer ++ as_sent o.turned b ∷ [];
+  request = o.request;
+  response = o.response;
+}
+opens o role.RequestPpss b = record o { stage = stage.Request; request = b ∷ []; response = [] }
+opens o role.Request b = record o {
+  stage = if is_full (o.request ++ b ∷ []) then stage.Asked else stage.Request;
+  request = o.request ++ b ∷ [];
+}
+opens o role.ResponsePpss b = record o { stage = stage.Response; response = b ∷ [] }
+opens o role.Response b = record o {
+  stage = if is_full (o.response ++ b ∷ []) then stage.Ready else stage.Response;
+  response = o.response ++ b ∷ [];
+}
+opens o role.Stray b = record o { stage = stage.Astray }
+opens o role.Dialogue b = begun
+
+-- and with all these characters of one end
+abbrev pub opened : Opening → End → List ℕ → Opening
+opened o from [] = o
+opened o from (b ∷ bytes) = opened (opens o (role_of o from b) b) from bytes
+
+abbrev pub is_dialogue : Role → Bool
+is_dialogue (role.Ts turned) = false
+is_dialogue role.Answer = false
+is_dialogue role.RequestPpss = false
+is_dialogue role.Request = false
+is_dialogue role.ResponsePpss = false
+is_dialogue role.Response = false
+is_dialogue role.Stray = false
+is_dialogue role.Dialogue = true
+
+-- where the dialogue begins in characters of one end: with the first of these that is part of it
+abbrev pub dialogue_in : Opening → End → List ℕ → List ℕ
+dialogue_in o from [] = []
+dialogue_in o from (b ∷ bytes) =
+    if is_dialogue (role_of o from b) then b ∷ bytes
+    else dialogue_in (opens o (role_of o from b) b) from bytes
+
+-- the card may begin an answer with this character
+abbrev pub begins_answer : End → ℕ → Bool
+begins_answer Terminal b = false
+begins_answer Card b = is_some (turned_by b)

@@ -1,23 +1,30 @@
 -- What an explainer has explained, one line further.
-use Rattle.std.proofs.Common.{◌≡◌, ℕ, List, [], ◌++◌, sym, subst, ◌∙◌, Bool, true, ◌&&◌, refl, append-nil, map, get_or, Result, Ok, Err, IfErr, OnOk}
+use Rattle.std.proofs.Common.{◌≡◌, ℕ, ◌+◌, ◌<◌, List, [], ◌∷◌, ◌++◌, length, take, drop, sym, subst, ◌∙◌, ap, Bool, true, false, ◌==◌, ◌&&◌, refl, append-nil, append_assoc, map, get_or, Option, Some, None, Result, Ok, Err, IfErr, OnOk, arith}
+use Rattle.std.specs.List.{flat_map}
+use Rattle.std.proofs.lemmas.Bool.{eqb-true}
+use Rattle.std.proofs.lemmas.List.{drop_more, get_or-drop, length-drop, length-take, nil_from_length, take-append-drop, length-append}
+use Rattle.apdu_core.specs.HeaderBytes.{header_bytes}
 use Rattle.t0_core.specs.declared.end.End.{End}
-use Rattle.t0_core.specs.History.{Event}
+use Rattle.t0_core.specs.declared.end.End.TheVariants.{Terminal, Card}
+use Rattle.t0_core.specs.Character.{sent_by}
+use Rattle.t0_core.specs.Front.{Front, In_header, In_body, After_first, front_characters}
+use Rattle.t0_core.specs.History.{Event, Reset, events_of, passed}
 use Rattle.t0_core.specs.TapSide.{due_at}
 use Rattle.t0_core.specs.declared.heard.Due.{Due}
 use Rattle.trace_explain.specs.declared.complaint.Complaint.{Complaint}
 use Rattle.trace_explain.specs.declared.explain_fault.ExplainFault.{ExplainFault}
 use Rattle.trace_explain.specs.declared.explain_fault.ExplainFault.TheVariants as fault
-use Rattle.trace_explain.specs.declared.refusal.Refusal.{Refusal}
-use Rattle.trace_explain.specs.declared.refusal.Refusal.TheVariants.{NoDialogue, OutOfMemory}
 use Rattle.trace_explain.specs.declared.explainer.Explainer.{Explainer}
 use Rattle.trace_explain.specs.declared.listener.Listener.{Listener}
-use Rattle.trace_explain.specs.declared.standing.Standing.{Standing}
 use Rattle.trace_explain.specs.declared.trace_line.TraceLine.{TraceLine}
 use Rattle.trace_explain.specs.declared.tpdu.Tpdu.{Tpdu}
-use Rattle.trace_explain.specs.Told.{Told, told_by}
-use Rattle.trace_explain.specs.Lines.{is_card, heard_in, after_characters, SpellsCharacters, Says, events_in, standing_after}
-use Rattle.trace_explain.specs.Noted.{HasNoted, StopsWith}
-use Rattle.trace_explain.specs.Explained.{HasExplained, ExplainsMore, ExplainsLine, IsRight, StopsRightly, StopsAtLine, IsStop, Stopped, next_line}
+use Rattle.trace_explain.specs.Told.{Told, told_by, TellsFront}
+use Rattle.trace_explain.specs.Openings.{Opening, begins_answer, dialogue_in, has_begun, opened, opening_of, unopened}
+use Rattle.trace_explain.specs.Lines.{AreOver, Standing, after_characters, came_after, heard_in, SpellsCharacters, Says, TakesCharacters, TakesLine}
+use Rattle.trace_explain.specs.Noted.{HasNoted, NoneGoesOn}
+use Rattle.trace_explain.specs.Explained.{HasExplained, ExplainsMore, ExplainsCharacters, ExplainsLine, HearsUpTo, IsRight, StopsRightly, StopsAtLine, IsStop, Stopped, answers_again, next_line, standing_of}
+use Rattle.trace_explain.specs.UnderWay.{OpensUpTo}
+use Rattle.trace_explain.proofs.OpeningLemmas.{dialogue_is}
 
 -- what is told before a line stays told
 pub noted_none : (events : List Event) (before : List Told) (none : List Tpdu) (l m : Listener)
@@ -29,7 +36,7 @@ noted_none events before none l m is same h =
     subst R (sym same) (subst Q (sym is) (subst P (sym (append-nil before)) h))
 
 pub explains_events : (more events : List Event) (before : List Told) (at : Standing)
-    (e : Explainer) → HasExplained (events ++ more) before e → e.standing ≡ at
+    (e : Explainer) → HasExplained (events ++ more) before e → standing_of e ≡ at
     → ExplainsMore more at events before e
 explains_events more events before at e h is =
     let P : List Told → Type 0 = λ t. HasExplained (events ++ more) t e in
@@ -40,128 +47,244 @@ explains_events more events before at e h is =
     }
 
 pub explains_nothing : (events : List Event) (before : List Told) (at : Standing) (e : Explainer)
-    → HasExplained events before e → e.standing ≡ at → ExplainsMore [] at events before e
+    → HasExplained events before e → standing_of e ≡ at → ExplainsMore [] at events before e
 explains_nothing events before at e h is =
     let P : List Event → Type 0 = λ es. HasExplained es before e in
     explains_events [] events before at e (subst P (sym (append-nil events)) h) is
 
--- the characters of a line have been heard, and what ended with them is told
-pub explains_line : (events more : List Event) (before told : List Told) (l : Listener)
-    (old new : Explainer) → HasExplained events before old
-    → HasNoted (events ++ more) (before ++ told) l → new.listener ≡ l → new.resumes ≡ old.resumes
-    → new.passes_over ≡ old.passes_over → new.standing ≡ old.standing
-    → ExplainsMore more old.standing events before new
-explains_line events more before told l old new h noted listener resumes passes_over standing =
-    let P : Listener → Type 0 = λ x. HasNoted (events ++ more) (before ++ told) x in
-    record {
-      told = told;
-      explained = record {
-        noted = subst P (sym listener) noted;
-        resumes = resumes ∙ h.resumes;
-        passes_over = passes_over ∙ h.passes_over;
-      };
-      standing_is = standing;
-    }
+same_standing : (o p : Opening) (c d : Bool) → o ≡ p → c ≡ d
+    → ◌≡◌ {A = Standing} (record { opening = o; came = c }) (record { opening = p; came = d })
+same_standing o p c d o_is c_is =
+    let at : Opening → Standing = λ x. record { opening = x; came = c } in
+    let by : Bool → Standing = λ x. record { opening = p; came = x } in
+    ap at o_is ∙ ap by c_is
 
--- the complaint for a character with which no dialogue goes on
-stops_for : (why : Refusal) (given : Complaint) (n line place : ℕ) (due : Due) (l : Listener)
-    (events : List Event) (from : End) (bytes : List ℕ) (before told : List Told)
-    → IsStop (fault.NoDialogue given) why (record {
-      line = n;
-      place = place;
-      due = due;
-      from = from;
-      byte = get_or bytes place 0;
-    })
-    → StopsWith why place events from bytes (before ++ told) l → n ≡ line → due ≡ due_at l.tap
-    → StopsRightly (fault.NoDialogue given) line from bytes events before
-stops_for OutOfMemory given n line place due l events from bytes before told is stops n_is due_is =
-    absurd is
-stops_for (NoDialogue unheard) given n line place due l events from bytes before told is stops n_is
-    due_is =
-    let P : Complaint → Type 0 = λ c. StopsRightly (fault.NoDialogue c) line from bytes events
-    before in
-    subst P (sym is) (
-      n_is,
+-- the characters of a line that are of the dialogue have been heard
+pub explains_heard : (start : ℕ) (after : Opening) (from : End) (bytes heard : List ℕ)
+    (events : List Event) (before : List Told) (old new : Explainer)
+    → OpensUpTo start (opening_of old.preface) from bytes after → heard ≡ drop start bytes
+    → HearsUpTo None from heard events before new → opening_of new.preface ≡ after
+    → new.came ≡ came_after old.came bytes
+    → ExplainsCharacters from bytes events before old new
+explains_heard start after from bytes heard events before old new opens heard_is (told, explained)
+    opening_is came_is =
+    let o : Opening = opening_of old.preface in
+    let P : List ℕ → Type 0 = λ hs. HasExplained (events ++ passed (sent_by from hs))
+    (before ++ told) new in (
+      heard_in o from bytes,
+      after_characters (standing_of old) from bytes,
+      inl (refl, refl),
       record {
         told = told;
-        listener = l;
-        within = stops.0;
-        noted = stops.1;
-        none = stops.2;
-        due_is = due_is;
-        from_is = refl;
-        byte_is = refl;
+        explained = subst P (heard_is ∙ sym (dialogue_is start o after from bytes opens)) explained;
+        standing_is = same_standing (opening_of new.preface) (opened o from bytes) new.came
+            (came_after old.came bytes) (opening_is ∙ opens.after_is) came_is;
       },
     )
 
-pub stops_rightly : {T : Type 0} (result : Result T ExplainFault) (why : Refusal)
-    (n line place : ℕ) (due : Due) (l : Listener) (events : List Event) (from : End)
-    (bytes : List ℕ) (before told : List Told)
-    → Stopped result why (record {
+-- no dialogue is under way of which no character of a header is told
+front_of_none : (t : Told) (front : Front) → TellsFront t front → length t.header ≡ 0
+    → passed (front_characters front) ≡ []
+front_of_none t (In_header bytes) tells none =
+    ap (λ bs. passed (front_characters (In_header bs)))
+    (nil_from_length bytes (ap length (sym tells.0.header_is) ∙ none))
+front_of_none t (In_body b) tells none =
+    absurd (omega (arith, none, ap length tells.0.header_is,
+    length-append (header_bytes b.header) (b.p3 ∷ [])))
+front_of_none t (After_first b sw1) tells none =
+    absurd (omega (arith, none, ap length tells.0.header_is,
+    length-append (header_bytes b.header) (b.p3 ∷ [])))
+
+over_behind : (events : List Event) (told : List Told) (l : Listener) → HasNoted events told l
+    → (length (told_by l.under_way).header == 0) ≡ true → AreOver events
+over_behind events told l noted none = record {
+  items = noted.heard.items;
+  events_are = noted.heard.events_are
+      ∙ ap (λ es. flat_map events_of noted.heard.items ++ es)
+      (front_of_none (told_by l.under_way) noted.heard.front noted.under_way
+      (eqb-true (length (told_by l.under_way).header) 0 none))
+      ∙ append-nil (flat_map events_of noted.heard.items);
+  are_overheard = noted.heard.are_overheard;
+}
+
+-- the card answers again
+card_answers : (from : End) (b : ℕ) → begins_answer from b ≡ true → from ≡ Card
+card_answers Terminal b e = absurd e
+card_answers Card b e = refl
+
+came_with : (came : Bool) (front : List ℕ) (b : ℕ) (rest : List ℕ)
+    → came_after came (front ++ b ∷ rest) ≡ true
+came_with came [] b rest = refl
+came_with came (c ∷ front) b rest = refl
+
+pub explains_again : (start place : ℕ) (mid : Opening) (from : End) (bytes heard again : List ℕ)
+    (events : List Event) (before : List Told) (old at new : Explainer)
+    → OpensUpTo start (opening_of old.preface) from bytes mid → heard ≡ drop start bytes
+    → has_begun old.preface.stage ≡ true → HearsUpTo (Some place) from heard events before at
+    → begins_answer from (get_or bytes (start + place) 0) ≡ true
+    → (length (told_by at.listener.under_way).header == 0) ≡ true
+    → ((es : List Event) (ts : List Told) → HasExplained es ts at
+    → HasExplained (es ++ Reset ∷ []) ts new)
+    → again ≡ drop (start + place) bytes
+    → opening_of new.preface ≡ opened unopened Card again
+    → new.came ≡ came_after old.came bytes
+    → ExplainsCharacters from bytes events before old new
+explains_again start place mid from bytes heard again events before old at new opens heard_is begun
+    (told, explained, within, none) begins nothing resets again_is opening_is came_is =
+    let first : start ≡ 0 = opens.begun begun in
+    let all : heard ≡ bytes = heard_is ∙ ap (λ n. drop n bytes) first in
+    let inside : place < length bytes = omega (arith, within, ap length all) in
+    let ts : ℕ = get_or bytes place 0 in
+    let behind : List ℕ = drop (place + 1) bytes in
+    let from_here : drop place bytes ≡ ts ∷ behind = drop_more bytes place 0 inside in
+    let cut : bytes ≡ take place bytes ++ ts ∷ behind =
+    sym (take-append-drop place bytes) ∙ ap (λ bs. take place bytes ++ bs) from_here in
+    let so_far : List Event = passed (sent_by from (take place bytes)) in
+    let P : List ℕ → Type 0 = λ bs. HasExplained (events ++ passed (sent_by from (take place bs)))
+    (before ++ told) at in
+    let Q : List Event → Type 0 = λ es. HasExplained es (before ++ told) new in
+    let R : ℕ → Type 0 = λ n. begins_answer from (get_or bytes (n + place) 0) ≡ true in
+    let is : begins_answer from ts ≡ true = subst R first begins in
+    let heard_so : HasExplained (events ++ so_far) (before ++ told) at = subst P all explained in
+    let opened_so : opening_of new.preface ≡ opened unopened from (ts ∷ behind) =
+    opening_is
+    ∙ ap (λ bs. opened unopened Card bs)
+    (again_is ∙ ap (λ n. drop (n + place) bytes) first ∙ from_here)
+    ∙ ap (λ x. opened unopened x (ts ∷ behind)) (sym (card_answers from ts is)) in (
+      so_far ++ Reset ∷ [],
+      record { opening = opened unopened from (ts ∷ behind); came = true },
+      inr (record {
+        front = take place bytes;
+        ts = ts;
+        behind = behind;
+        is_cut = cut;
+        has_begun = begun;
+        begins = is;
+        are_over = over_behind (events ++ so_far) (before ++ told) at.listener heard_so.noted
+            nothing;
+        events_are = refl;
+        after_is = refl;
+      }),
+      record {
+        told = told;
+        explained = subst Q (append_assoc events so_far (Reset ∷ []))
+            (resets (events ++ so_far) (before ++ told) heard_so);
+        standing_is = same_standing (opening_of new.preface) (opened unopened from (ts ∷ behind))
+            new.came true opened_so (came_is ∙ ap (came_after old.came) cut
+            ∙ came_with old.came (take place bytes) ts behind);
+      },
+    )
+
+-- the complaint for a character with which no dialogue goes on
+heard_there : (start place : ℕ) (o mid : Opening) (from : End) (bytes : List ℕ)
+    → OpensUpTo start o from bytes mid → place < length (drop start bytes)
+    → 0 < length (dialogue_in o from (take (start + place + 1) bytes))
+heard_there start place o mid from bytes opens within =
+    let same : start + place + 1 ≡ start + (place + 1) = omega arith in
+    let is : dialogue_in o from (take (start + place + 1) bytes)
+    ≡ take (place + 1) (drop start bytes) =
+    ap (λ n. dialogue_in o from (take n bytes)) same ∙ opens.dialogue (place + 1) in
+    omega (arith, within, ap length is, length-take (place + 1) (drop start bytes))
+
+pub complains_rightly : (c : Complaint) (start place n : ℕ) (mid : Opening) (from : End)
+    (bytes heard : List ℕ) (events : List Event) (before : List Told) (old at : Explainer)
+    → c ≡ record {
       line = n;
-      place = place;
-      due = due;
+      place = start + place;
+      due = due_at at.listener.tap;
       from = from;
-      byte = get_or bytes place 0;
+      byte = get_or bytes (start + place) 0;
+    }
+    → OpensUpTo start (opening_of old.preface) from bytes mid → heard ≡ drop start bytes
+    → HearsUpTo (Some place) from heard events before at
+    → answers_again (standing_of old) at.listener from (get_or bytes (start + place) 0) ≡ false
+    → IsRight c (standing_of old) from bytes events before
+complains_rightly c start place n mid from bytes heard events before old at is opens heard_is
+    (told, explained, within, none) not_again =
+    let o : Opening = opening_of old.preface in
+    let P : Complaint → Type 0 = λ x. IsRight x (standing_of old) from bytes events before in
+    let inside : place < length (drop start bytes) = omega (arith, within, ap length heard_is) in
+    let Q : List ℕ → Type 0 = λ hs. HasNoted (events ++ passed (sent_by from hs)) (before ++ told)
+    at.listener in
+    let R : ℕ → Type 0 = λ b. NoneGoesOn at.listener (from, b) in
+    subst P (sym is) (record {
+      told = told;
+      listener = at.listener;
+      within = omega (arith, inside, length-drop start bytes);
+      is_heard = heard_there start place o mid from bytes opens inside;
+      noted = subst Q (ap (take place) heard_is ∙ sym (opens.dialogue place)) explained.noted;
+      none = subst R (ap (λ hs. get_or hs place 0) heard_is ∙ get_or-drop start bytes place 0) none;
+      not_again = not_again;
+      due_is = refl;
+      from_is = refl;
+      byte_is = refl;
     })
-    → StopsWith why place events from bytes (before ++ told) l → n ≡ line → due ≡ due_at l.tap
-    → IfErr result (λ f. StopsRightly f line from bytes events before)
-stops_rightly (Ok x) why n line place due l events from bytes before told is stops n_is due_is = tt
-stops_rightly (Err (fault.BadHex m)) why n line place due l events from bytes before told is stops
-    n_is due_is = absurd is
-stops_rightly (Err (fault.LineTooLong m)) why n line place due l events from bytes before told is
-    stops n_is due_is = absurd is
-stops_rightly (Err fault.NoCharacters) why n line place due l events from bytes before told is
-    stops n_is due_is = absurd is
-stops_rightly (Err (fault.Resumed m first)) why n line place due l events from bytes before told is
-    stops n_is due_is = tt
-stops_rightly (Err fault.Read) why n line place due l events from bytes before told is stops n_is
-    due_is = tt
-stops_rightly (Err fault.Write) why n line place due l events from bytes before told is stops n_is
-    due_is = tt
-stops_rightly (Err fault.InputTooLong) why n line place due l events from bytes before told is stops
-    n_is due_is = tt
-stops_rightly (Err fault.OutOfMemory) why n line place due l events from bytes before told is stops
-    n_is due_is = tt
-stops_rightly (Err (fault.NoDialogue given)) why n line place due l events from bytes before told is
-    stops n_is due_is =
-    stops_for why given n line place due l events from bytes before told is stops n_is due_is
 
--- whether characters are heard
-heard_before : (begins : Bool) (from : End) (bytes : List ℕ) → (begins && is_card from) ≡ true
-    → heard_in begins from bytes ≡ []
-heard_before begins from bytes e = rw e refl
-
--- characters of the card that come before a header
-pub explains_before : (at : Standing) (from : End) (bytes : List ℕ) (events : List Event)
-    (before : List Told) (e : Explainer) → (at.begins && is_card from) ≡ true
-    → HasExplained events before e → e.standing ≡ after_characters at from bytes
-    → ExplainsMore (heard_in at.begins from bytes) (after_characters at from bytes) events before e
-explains_before at from bytes events before e is h standing_is =
-    let P : List Event → Type 0 = λ more.
-    ExplainsMore more (after_characters at from bytes) events before e in
-    subst P (sym (heard_before at.begins from bytes is))
-    (explains_nothing events before (after_characters at from bytes) e h standing_is)
+pub stops_rightly : {T : Type 0} (result : Result T ExplainFault) (start place n line : ℕ)
+    (mid : Opening) (from : End) (bytes heard : List ℕ) (events : List Event)
+    (before : List Told) (old at : Explainer)
+    → Stopped result (record {
+      line = n;
+      place = start + place;
+      due = due_at at.listener.tap;
+      from = from;
+      byte = get_or bytes (start + place) 0;
+    })
+    → n ≡ line → OpensUpTo start (opening_of old.preface) from bytes mid
+    → heard ≡ drop start bytes → HearsUpTo (Some place) from heard events before at
+    → answers_again (standing_of old) at.listener from (get_or bytes (start + place) 0) ≡ false
+    → IfErr result (λ f. StopsRightly f line (standing_of old) from bytes events before)
+stops_rightly (Ok x) start place n line mid from bytes heard events before old at is n_is opens
+    heard_is hears not_again =
+    tt
+stops_rightly (Err (fault.BadHex m)) start place n line mid from bytes heard events before old at is
+    n_is opens heard_is hears not_again =
+    absurd is
+stops_rightly (Err (fault.LineTooLong m)) start place n line mid from bytes heard events before old
+    at is n_is opens heard_is hears not_again =
+    absurd is
+stops_rightly (Err fault.NoCharacters) start place n line mid from bytes heard events before old at
+    is n_is opens heard_is hears not_again =
+    absurd is
+stops_rightly (Err (fault.Resumed m first)) start place n line mid from bytes heard events before
+    old at is n_is opens heard_is hears not_again =
+    tt
+stops_rightly (Err fault.Read) start place n line mid from bytes heard events before old at is n_is
+    opens heard_is hears not_again =
+    tt
+stops_rightly (Err fault.Write) start place n line mid from bytes heard events before old at is n_is
+    opens heard_is hears not_again =
+    tt
+stops_rightly (Err fault.InputTooLong) start place n line mid from bytes heard events before old at
+    is n_is opens heard_is hears not_again =
+    tt
+stops_rightly (Err fault.OutOfMemory) start place n line mid from bytes heard events before old at
+    is n_is opens heard_is hears not_again =
+    tt
+stops_rightly (Err (fault.NoDialogue c)) start place n line mid from bytes heard events before old
+    at is n_is opens heard_is hears not_again = (
+      ap (λ (x : Complaint). x.line) is ∙ n_is,
+      complains_rightly c start place n mid from bytes heard events before old at is opens heard_is
+          hears not_again,
+    )
 
 -- what a line says
 pub as_line : {T : Type 0} (result : Result T ExplainFault) (line : List ℕ) (said : TraceLine)
-    (more : List Event) (at : Standing) (events : List Event) (before : List Told)
-    (old new : Explainer) → Says line said → more ≡ events_in old.standing said
-    → at ≡ standing_after old.standing said → OnOk result
-    (ExplainsMore more at events before new)
+    (from : End) (given : List ℕ) (events : List Event) (before : List Told) (old new : Explainer)
+    → Says line said
+    → ((more : List Event) (at : Standing)
+    → TakesCharacters events (standing_of old) from given more at
+    → TakesLine events (standing_of old) said more at)
+    → OnOk result (ExplainsCharacters from given events before old new)
     → OnOk result (ExplainsLine line events before old new)
-as_line (Err e) line said more at events before old new says more_is at_is h = tt
-as_line (Ok x) line said more at events before old new says more_is at_is h =
-    let P : List Event → Type 0 = λ es. ExplainsMore es at events before new in
-    let Q : Standing → Type 0 = λ s. ExplainsMore (events_in old.standing said) s events before
-    new in
-    (said, says, subst Q at_is (subst P more_is h))
+as_line (Err e) line said from given events before old new says is h = tt
+as_line (Ok x) line said from given events before old new says is (more, at, takes, explains) =
+    (said, says, more, at, is more at takes, explains)
 
 pub line_stops : {T : Type 0} (result : Result T ExplainFault) (line : List ℕ) (n : ℕ) (from : End)
     (bytes given : List ℕ) (events : List Event) (before : List Told) (old : Explainer)
     → given ≡ bytes → SpellsCharacters line from bytes → n ≡ next_line old
-    → IfErr result (λ f. StopsRightly f n from given events before)
+    → IfErr result (λ f. StopsRightly f n (standing_of old) from given events before)
     → IfErr result (λ f. StopsAtLine f line old events before)
 line_stops (Ok x) line n from bytes given events before old same spells n_is h = tt
 line_stops (Err (fault.BadHex m)) line n from bytes given events before old same spells n_is h =
@@ -179,5 +302,5 @@ line_stops (Err fault.InputTooLong) line n from bytes given events before old sa
     tt
 line_stops (Err fault.OutOfMemory) line n from bytes given events before old same spells n_is h = tt
 line_stops (Err (fault.NoDialogue c)) line n from bytes given events before old same spells n_is h =
-    let P : List ℕ → Type 0 = λ bs. IsRight c from bs events before in
+    let P : List ℕ → Type 0 = λ bs. IsRight c (standing_of old) from bs events before in
     (from, bytes, spells, h.0 ∙ n_is, subst P same h.1)

@@ -1,3 +1,4 @@
 pub mod NotedLemmas
+pub mod OpeningLemmas
 pub mod ExplainedLemmas
 pub mod TraceLemmas

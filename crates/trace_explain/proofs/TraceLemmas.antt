@@ -9,34 +9,44 @@ use Rattle.t0_core.specs.History.{Event}
 use Rattle.trace_explain.specs.declared.explain_fault.ExplainFault.{ExplainFault}
 use Rattle.trace_explain.specs.declared.explain_fault.ExplainFault.TheVariants as fault
 use Rattle.trace_explain.specs.declared.explainer.Explainer.{Explainer}
-use Rattle.trace_explain.specs.declared.standing.Standing.{Standing}
 use Rattle.trace_explain.specs.declared.trace_line.TraceLine.{TraceLine}
 use Rattle.trace_explain.specs.Told.{Told}
-use Rattle.trace_explain.specs.Lines.{Says, events_in, first_of_all, standing_after}
-use Rattle.trace_explain.specs.Explained.{HasExplained, ExplainsLine, StopsAtLine, next_line}
-use Rattle.trace_explain.specs.Trace.{lines_from, lines_of, IsReached, IsOfEnd, SayInTurn, IsExplained, IsWhole, IsOver, KeepsLimit, StopsIn}
+use Rattle.trace_explain.specs.Lines.{Says, Standing, TakesLine, first_of_all}
+use Rattle.trace_explain.specs.Explained.{HasExplained, ExplainsLine, StopsAtLine, next_line, standing_of}
+use Rattle.trace_explain.specs.Trace.{lines_from, lines_of, IsReached, IsOfEnd, SayInTurn, SayAll, IsExplained, IsWhole, IsOver, KeepsLimit, StopsIn}
 use Rattle.trace_explain.specs.UnderWay.{HasCome, IsOfLines}
 
 -- one line more says its events behind the others
-say_more : (at mid after : Standing) (before : List (List ℕ)) (line : List ℕ) (said : TraceLine)
-    (events : List Event) → SayInTurn at before events mid → Says line said
-    → after ≡ standing_after mid said
-    → SayInTurn at (before ++ line ∷ []) (events ++ events_in mid said) after
-say_more at mid after [] line said events (none, same) says is =
-    let P : List Event → Type 0 = λ es.
-    SayInTurn at (line ∷ []) (es ++ events_in mid said) after in
-    let Q : Standing → Type 0 = λ s. SayInTurn at (line ∷ []) (events_in s said) after in
-    let ends : after ≡ standing_after at said = is ∙ ap (λ s. standing_after s said) same in
-    subst P (sym none) (subst Q (sym same)
-    (said, [], says, sym (append-nil (events_in at said)), (refl, ends)))
-say_more at mid after (first ∷ before) line said events (one, rest, first_says, cut, others)
-    says is = (
-      one,
-      rest ++ events_in mid said,
+say_more : (so_far : List Event) (at mid after : Standing) (before : List (List ℕ))
+    (line : List ℕ) (said : TraceLine) (events more : List Event)
+    → SayInTurn so_far at before events mid → Says line said
+    → TakesLine (so_far ++ events) mid said more after
+    → SayInTurn so_far at (before ++ line ∷ []) (events ++ more) after
+say_more so_far at mid after [] line said events more (none, same) says takes =
+    let P : List Event → Type 0 = λ es. TakesLine (so_far ++ es) mid said more after in
+    let Q : List Event → Type 0 = λ es. TakesLine es mid said more after in
+    let R : Standing → Type 0 = λ s. TakesLine so_far s said more after in (
+      said,
+      says,
+      more,
+      [],
+      after,
+      subst R same (subst Q (append-nil so_far) (subst P none takes)),
+      ap (λ es. es ++ more) none ∙ sym (append-nil more),
+      (refl, refl),
+    )
+say_more so_far at mid after (one ∷ before) line said events more
+    (first, first_says, heard, rest, next, first_takes, cut, others) says takes =
+    let P : List Event → Type 0 = λ es. TakesLine es mid said more after in (
+      first,
       first_says,
-      ap (λ es. es ++ events_in mid said) cut
-          ∙ append_assoc (events_in at one) rest (events_in mid said),
-      say_more (standing_after at one) mid after before line said rest others says is,
+      heard,
+      rest ++ more,
+      next,
+      first_takes,
+      ap (λ es. es ++ more) cut ∙ append_assoc heard rest more,
+      say_more (so_far ++ heard) next mid after before line said rest more others says
+          (subst P (ap (λ es. so_far ++ es) cut ∙ sym (append_assoc so_far heard rest)) takes),
     )
 
 fed : (line given left bytes : List ℕ) (b : ℕ) → bytes ≡ b ∷ left → b ≡ 10
@@ -70,7 +80,8 @@ pub line_more : (all : List (List ℕ)) (line given next bytes left : List ℕ)
     → ExplainsLine given events before old new)
     → HasCome all next left new
 line_more all line given next bytes left others old new come counts ends rest explains =
-    let (said, says, more) = explains come.events come.told come.explained in
+    let (said, says, more, at, takes, told) = explains come.events come.told come.explained in
+    let P : Standing → Type 0 = λ s. TakesLine come.events (standing_of old) said more s in
     record {
       before = come.before ++ given ∷ [];
       is_cut = come.is_cut ∙ ap (λ ls. come.before ++ ls) (ends ∙ ap (λ ls. given ∷ ls) rest)
@@ -78,11 +89,11 @@ line_more all line given next bytes left others old new come counts ends rest ex
       number_is = counted_on new.line (length come.before)
           (length (come.before ++ given ∷ [])) (counts ∙ come.number_is)
           (length-append come.before (given ∷ []));
-      events = come.events ++ events_in old.standing said;
-      says = say_more first_of_all old.standing new.standing come.before given said come.events
-          come.says says more.standing_is;
-      told = come.told ++ more.told;
-      explained = more.explained;
+      events = come.events ++ more;
+      says = say_more [] first_of_all (standing_of old) (standing_of new) come.before given said
+          come.events more come.says says (subst P (sym told.standing_is) takes);
+      told = come.told ++ told.told;
+      explained = told.explained;
     }
 
 -- and it ended with LF
@@ -123,11 +134,11 @@ next_byte chunk left i within =
 
 -- at the end all lines are explained
 all_explained : (all : List (List ℕ)) (line : List ℕ) (e : Explainer) → HasCome all line [] e
-    → lines_from line [] ≡ [] → IsExplained all e.standing
+    → lines_from line [] ≡ [] → IsExplained all (standing_of e)
 all_explained all line e come none =
     let whole : all ≡ come.before =
     come.is_cut ∙ ap (λ ls. come.before ++ ls) none ∙ append-nil come.before in
-    let P : List (List ℕ) → Type 0 = λ ls. SayInTurn first_of_all ls come.events e.standing in
+    let P : List (List ℕ) → Type 0 = λ ls. SayAll ls come.events (standing_of e) in
     record {
       events = come.events;
       says = subst P (sym whole) come.says;
@@ -138,7 +149,7 @@ all_explained all line e come none =
 
 pub none_is_left : (all : List (List ℕ)) (line : List ℕ) (e : Explainer)
     → (length line == 0) ≡ true → HasCome all line [] e
-    → IsExplained all e.standing
+    → IsExplained all (standing_of e)
 none_is_left all line e none come = all_explained all line e come (rw none refl)
 
 last_line : (line : List ℕ) → (length line == 0) ≡ false → lines_from line [] ≡ line ∷ []
@@ -149,7 +160,7 @@ pub last_explained : {T : Type 0} (result : Result T ExplainFault) (all : List (
     → OnOk result (new.line ≡ next_line old)
     → ((events : List Event) (before : List Told) → HasExplained events before old
     → OnOk result (ExplainsLine line events before old new))
-    → OnOk result (IsExplained all new.standing)
+    → OnOk result (IsExplained all (standing_of new))
 last_explained (Err f) all line old new some come counts explains = tt
 last_explained (Ok x) all line old new some come counts explains =
     all_explained all [] new
@@ -167,7 +178,7 @@ reached n all line given left others old come ends number = record {
   is_cut = come.is_cut ∙ ap (λ ls. come.before ++ ls) ends;
   number_is = number ∙ come.number_is;
   events = come.events;
-  at = old.standing;
+  at = standing_of old;
   says = come.says;
   told = come.told;
   listener = old.listener;
@@ -292,7 +303,7 @@ StillComes (Some bytes) None line e = ⊥
 StillComes (Some bytes) (Some left) line e = HasCome (lines_of bytes) line left e
 
 pub all_comes : (a : Option (List ℕ)) (line : List ℕ) (e : Explainer) → line ≡ []
-    → HasExplained [] [] e → e.standing ≡ first_of_all → e.line ≡ 0 → StillComes a a line e
+    → HasExplained [] [] e → standing_of e ≡ first_of_all → e.line ≡ 0 → StillComes a a line e
 all_comes None line e none h at first = tt
 all_comes (Some bytes) line e none h at first = record {
   before = [];

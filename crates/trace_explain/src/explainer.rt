@@ -5,7 +5,7 @@ ghost use Rattle.t0_core.specs.declared.end.End.TheVariants.{Card};
 ghost use Rattle.t0_core.specs.Character.{sent_by};
 ghost use Rattle.t0_core.specs.History.{Event, Reset, passed};
 ghost use Rattle.t0_core.specs.TapSide.{due_at};
-ghost use Rattle.trace_explain.specs.Explained.{HasExplained, ExplainsCharacters, ExplainsMore, ExplainsLine, HearsUpTo, StopsRightly, StopsAtLine, KeepsAll, KeepsHeard, next_line, standing_of};
+ghost use Rattle.trace_explain.specs.Explained.{HasExplained, ExplainsCharacters, ExplainsMore, ExplainsLine, HearsUpTo, StopsRightly, StopsAtLine, Stopped, KeepsAll, KeepsHeard, next_line, standing_of};
 ghost use Rattle.trace_explain.specs.Trace.{IsOfEnd};
 ghost use Rattle.trace_explain.specs.UnderWay.{IsOfLines, OpensUpTo};
 ghost use Rattle.trace_explain.specs.Lines.{came_after, first_of_all};

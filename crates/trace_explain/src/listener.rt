@@ -94,6 +94,7 @@ impl Listener {
         ensures refused { IfErr result (λ stop. (events : List Event) (before : List Told) →
             HasNoted events (before ++ map told_by told.old.items) self.old →
             StopsAt stop events from bytes.now (before ++ map told_by told.new.items) self.new) }
+        ensures within { IfErr result (λ stop. stop.place < length bytes.now) }
     {
         for place in 0..bytes.len() {
             match self.hear(from, bytes[place], told) {

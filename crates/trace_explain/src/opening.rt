@@ -4,7 +4,7 @@ ghost use Rattle.std.specs.Prelude.{◌≡◌};
 ghost use Rattle.atr_core.specs.FirstFault.{first_fault};
 ghost use Rattle.trace_explain.specs.Openings.{after_answer, as_ppss, as_ts, asks, begins_answer, card_role, has_begun, is_direct, is_full, is_short, role_at, terminal_role, turned_by};
 
-use atr_core::{Atr, Convention, Pps, Reason};
+use atr_core::{Atr, AtrFault, Convention, Pps, Reason};
 use t0_core::End;
 
 /// PPSS, the first character of a PPS request and of a response (ISO/IEC 7816-3, 9.2).
@@ -180,10 +180,22 @@ pub fn is_direct(turned: Convention) -> bool
 pub fn after_answer(bytes: &[u8]) -> Stage
     ensures { result ≡ after_answer (first_fault bytes.now) }
 {
-    match Atr::read(bytes) {
-        Ok(_) => Stage::Ready,
-        Err(fault) if is_short(fault.reason) => Stage::Answer,
-        Err(_) => Stage::Astray,
+    after_reading(Atr::read(bytes).err())
+}
+
+/// How far it is where an answer so far has this fault, or none.
+fn after_reading(fault: Option<AtrFault>) -> Stage
+    ensures { result ≡ after_answer fault }
+{
+    match fault {
+        None => Stage::Ready,
+        Some(fault) => {
+            if is_short(fault.reason) {
+                Stage::Answer
+            } else {
+                Stage::Astray
+            }
+        }
     }
 }
 

@@ -1,4 +1,5 @@
 use Rattle.std.proofs.Common.{◌≡◌, ◌<◌, arith, length, length-take}
+use Rattle.trace_explain.specs.Explained.{standing_of}
 use Rattle.trace_explain.proofs.TraceLemmas.{all_comes, chunk_comes, chunk_stops, none_comes, none_has_come, more_has_come, limit_kept, limit_passed, known_explained, known_stops}
 use Rattle.trace_explain.proofs.explain.explain_chunks.Goals as goal
 
@@ -23,7 +24,7 @@ returns-in-Ok-eq0-clause-explained g c = λ fresh begins first.
     let room : 0 < length c.read.new.buf = omega (arith, c.read.auto.buf) in
     let zero_is : c.in-Ok-eq0.field-0 ≡ 0 = c.in-Ok-eq0.field-0-test in
     known_explained c.explain_last.result (g.R.Read.remaining c.args.reader.now)
-    c.as_slice.result.now c.reading.explainer c.explain_last.new.explainer.standing
+    c.as_slice.result.now c.reading.explainer (standing_of c.explain_last.new.explainer)
     (none_comes _ _ _ c.in-Ok-eq0.field-0 c.read.new.buf c.reading.line.items c.as_slice.result.now
     c.reading.explainer zero_is c.as_slice.ensures.value
     (c.reading.invariant.0 fresh begins first) c.in-Ok-eq0.ensures.bytes room)

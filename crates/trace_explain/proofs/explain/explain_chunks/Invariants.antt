@@ -1,13 +1,13 @@
 use Rattle.std.proofs.Common.{◌≡◌, ◌+◌, ◌-◌, []}
 use Rattle.trace_explain.specs.Lines.{first_of_all}
-use Rattle.trace_explain.specs.Explained.{HasExplained}
+use Rattle.trace_explain.specs.Explained.{HasExplained, standing_of}
 use Rattle.trace_explain.proofs.TraceLemmas.{StillComes, HaveComeOf}
 use Rattle.trace_explain.proofs.explain.explain_chunks.Given as goal
 
 -- the bytes that are known of the reader are explained, or still to come, and so many have come
 abbrev pub invariant-reading : goal.invariant-reading
 invariant-reading g l = (HasExplained [] [] l.initial.explainer
-    → l.initial.explainer.standing ≡ first_of_all → l.initial.explainer.line ≡ 0
+    → standing_of l.initial.explainer ≡ first_of_all → l.initial.explainer.line ≡ 0
     → StillComes (g.R.Read.remaining l.initial.reader) (g.R.Read.remaining l.reader) l.line.items
     l.explainer)
     × HaveComeOf (g.R.Read.remaining l.initial.reader) (g.R.Read.remaining l.reader) l.size

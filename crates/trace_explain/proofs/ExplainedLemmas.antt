@@ -1,5 +1,5 @@
 -- What an explainer has explained, one line further.
-use Rattle.std.proofs.Common.{◌≡◌, ℕ, ◌+◌, ◌<◌, List, [], ◌∷◌, ◌++◌, length, take, drop, sym, subst, ◌∙◌, ap, Bool, true, false, ◌==◌, ◌&&◌, refl, append-nil, append_assoc, map, get_or, Option, Some, None, Result, Ok, Err, IfErr, OnOk, arith}
+use Rattle.std.proofs.Common.{◌≡◌, ℕ, ◌+◌, ◌<◌, List, [], ◌∷◌, ◌++◌, length, take, drop, sym, subst, ◌∙◌, ap, Bool, true, false, ◌==◌, ◌&&◌, refl, append-nil, append_assoc, map, get_or, Option, Some, None, Result, Ok, Err, IfErr, OnOk, inl, inr, arith}
 use Rattle.std.specs.List.{flat_map}
 use Rattle.std.proofs.lemmas.Bool.{eqb-true}
 use Rattle.std.proofs.lemmas.List.{drop_more, get_or-drop, length-drop, length-take, nil_from_length, take-append-drop, length-append}
@@ -89,11 +89,19 @@ front_of_none t (In_header bytes) tells none =
     ap (λ bs. passed (front_characters (In_header bs)))
     (nil_from_length bytes (ap length (sym tells.0.header_is) ∙ none))
 front_of_none t (In_body b) tells none =
-    absurd (omega (arith, none, ap length tells.0.header_is,
-    length-append (header_bytes b.header) (b.p3 ∷ [])))
+    absurd (omega (
+      arith,
+      none,
+      ap length tells.0.header_is,
+      length-append (header_bytes b.header) (b.p3 ∷ []),
+    ))
 front_of_none t (After_first b sw1) tells none =
-    absurd (omega (arith, none, ap length tells.0.header_is,
-    length-append (header_bytes b.header) (b.p3 ∷ [])))
+    absurd (omega (
+      arith,
+      none,
+      ap length tells.0.header_is,
+      length-append (header_bytes b.header) (b.p3 ∷ []),
+    ))
 
 over_behind : (events : List Event) (told : List Told) (l : Listener) → HasNoted events told l
     → (length (told_by l.under_way).header == 0) ≡ true → AreOver events
@@ -109,7 +117,7 @@ over_behind events told l noted none = record {
 
 -- the card answers again
 card_answers : (from : End) (b : ℕ) → begins_answer from b ≡ true → from ≡ Card
-card_answers Terminal b e = absurd e
+card_answers Terminal b e = absurd (let no : false ≡ true = e in cc)
 card_answers Card b e = refl
 
 came_with : (came : Bool) (front : List ℕ) (b : ℕ) (rest : List ℕ)

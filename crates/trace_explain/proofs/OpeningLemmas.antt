@@ -1,5 +1,5 @@
 -- What comes before a dialogue, one character further, and where the dialogue begins.
-use Rattle.std.proofs.Common.{◌≡◌, ◌↔◌, ℕ, ◌+◌, ◌<◌, ◌≤◌, zero, suc, List, [], ◌∷◌, ◌++◌, length, take, drop, get_or, Option, Some, None, Result, Ok, Err, Bool, true, false, refl, sym, ap, subst, ◌∙◌, append_assoc, append-nil, arith}
+use Rattle.std.proofs.Common.{◌≡◌, ◌↔◌, ℕ, ◌+◌, ◌<◌, ◌≤◌, zero, suc, List, [], ◌∷◌, ◌++◌, length, take, drop, get_or, Option, Some, None, is_some, Result, Ok, Err, Bool, true, false, refl, sym, ap, subst, ◌∙◌, append_assoc, append-nil, arith}
 use Rattle.std.proofs.Math.Seq.{take-add, take-nil}
 use Rattle.std.proofs.lemmas.List.{drop_all, drop_more, length-drop, length-take-le, take-append-drop, take_all, take_more}
 use Rattle.std.specs.Result.{result_err}
@@ -17,18 +17,25 @@ use Rattle.trace_explain.specs.UnderWay.{OpensUpTo, Passes}
 pub fault_of : {T : Type 0} (r : Result T AtrFault) (f : Option AtrFault)
     → ((e : AtrFault) → (r ≡ Err e) ↔ (f ≡ Some e)) → result_err r ≡ f
 fault_of (Ok x) None reads = refl
-fault_of (Ok x) (Some e) reads = absurd ((reads e).1 refl)
+fault_of (Ok x) (Some e) reads =
+    let no : false ≡ true = ap (λ r. is_some (result_err r)) ((reads e).1 refl) in absurd (cc)
 fault_of (Err e) f reads = sym ((reads e).0 refl)
 
 -- where the dialogue has begun each character is part of it
 begun_role : (s : Stage) (may_ask : Bool) (from : End) (b : ℕ) → has_begun s ≡ true
     → is_dialogue (role_at s may_ask from b) ≡ true
-begun_role stage.Ready may_ask from b e = absurd e
-begun_role stage.Answer may_ask from b e = absurd e
-begun_role stage.Astray may_ask from b e = absurd e
-begun_role stage.Request may_ask from b e = absurd e
-begun_role stage.Asked may_ask from b e = absurd e
-begun_role stage.Response may_ask from b e = absurd e
+begun_role stage.Ready may_ask from b e =
+    absurd (let no : false ≡ true = e in cc)
+begun_role stage.Answer may_ask from b e =
+    absurd (let no : false ≡ true = e in cc)
+begun_role stage.Astray may_ask from b e =
+    absurd (let no : false ≡ true = e in cc)
+begun_role stage.Request may_ask from b e =
+    absurd (let no : false ≡ true = e in cc)
+begun_role stage.Asked may_ask from b e =
+    absurd (let no : false ≡ true = e in cc)
+begun_role stage.Response may_ask from b e =
+    absurd (let no : false ≡ true = e in cc)
 begun_role stage.Begun may_ask Terminal b e = refl
 begun_role stage.Begun may_ask Card b e = refl
 
@@ -102,21 +109,32 @@ dialogue_front : (o : Opening) (from : End) (b : ℕ) (bytes : List ℕ) (n : �
 dialogue_front o from b bytes zero e = refl
 dialogue_front o from b bytes (suc n) e = dialogue_whole o from b (take n bytes) e
 
+-- a character of the dialogue begins it
+begins_so : (o : Opening) (r : Role) (b : ℕ) → is_dialogue r ≡ true → opens o r b ≡ begun
+begins_so o (role.Ts turned) b e = absurd (let no : false ≡ true = e in cc)
+begins_so o role.Answer b e = absurd (let no : false ≡ true = e in cc)
+begins_so o role.RequestPpss b e = absurd (let no : false ≡ true = e in cc)
+begins_so o role.Request b e = absurd (let no : false ≡ true = e in cc)
+begins_so o role.ResponsePpss b e = absurd (let no : false ≡ true = e in cc)
+begins_so o role.Response b e = absurd (let no : false ≡ true = e in cc)
+begins_so o role.Stray b e = absurd (let no : false ≡ true = e in cc)
+begins_so o role.Dialogue b e = refl
+
 -- the dialogue begins at this place
 pub opens_up_to : (o mid after : Opening) (from : End) (bytes : List ℕ) (place : ℕ) (r : Role)
     → place < length bytes → Passes o from (take place bytes) mid
-    → r ≡ role_of mid from (get_or bytes place 0) → r ≡ role.Dialogue
+    → r ≡ role_of mid from (get_or bytes place 0) → is_dialogue r ≡ true
     → after ≡ opens mid r (get_or bytes place 0)
     → OpensUpTo place o from bytes after
 opens_up_to o mid after from bytes place r within passes r_is dialogue after_is =
     let b : ℕ = get_or bytes place 0 in
     let rest : List ℕ = drop (place + 1) bytes in
     let cut : drop place bytes ≡ b ∷ rest = drop_more bytes place 0 within in
-    let is : is_dialogue (role_of mid from b) ≡ true = ap is_dialogue (sym r_is ∙ dialogue) in
+    let is : is_dialogue (role_of mid from b) ≡ true = ap is_dialogue (sym r_is) ∙ dialogue in
     let split : take place bytes ++ drop place bytes ≡ bytes = take-append-drop place bytes in
     let goes : opens mid (role_of mid from b) b ≡ begun =
-    ap (λ x. opens mid x b) (sym r_is ∙ dialogue) in
-    let ends : after ≡ begun = after_is ∙ ap (λ x. opens mid x b) dialogue in
+    begins_so mid (role_of mid from b) b is in
+    let ends : after ≡ begun = after_is ∙ begins_so mid r b dialogue in
     record {
       within = omega (arith, within);
       dialogue = λ n. ap (dialogue_in o from) (take-add place n bytes)

@@ -173,7 +173,7 @@ impl Explainer {
             let role = self.preface.role_of(from, bytes[place]);
             self.tell_before(role, place, &bytes[place..], out)?;
             self.preface.take(role, bytes[place], self.line)?;
-            if role == Role::Dialogue {
+            if role.is_dialogue() {
                 return Ok(place);
             }
             self.tell_after(role, out)?;

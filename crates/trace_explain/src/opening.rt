@@ -2,7 +2,7 @@
 //! of neither.
 ghost use Rattle.std.specs.Prelude.{◌≡◌};
 ghost use Rattle.atr_core.specs.FirstFault.{first_fault};
-ghost use Rattle.trace_explain.specs.Openings.{after_answer, as_ppss, as_ts, asks, begins_answer, card_role, has_begun, is_direct, is_full, is_short, role_at, terminal_role, turned_by};
+ghost use Rattle.trace_explain.specs.Openings.{after_answer, as_ppss, as_ts, asks, begins_answer, card_role, has_begun, is_dialogue, is_direct, is_full, is_short, role_at, terminal_role, turned_by};
 
 use atr_core::{Atr, AtrFault, Convention, Pps, Reason};
 use t0_core::End;
@@ -61,6 +61,16 @@ impl Role {
             self,
             Role::Answer | Role::Request | Role::ResponsePpss | Role::Response
         )
+    }
+
+    /// Whether it is part of the dialogue.
+    pub fn is_dialogue(self) -> bool
+        ensures { result ≡ is_dialogue self }
+    {
+        match self {
+            Role::Dialogue => true,
+            _ => false,
+        }
     }
 }
 

@@ -52,7 +52,22 @@ explains_nothing events before at e h is =
     let P : List Event → Type 0 = λ es. HasExplained es before e in
     explains_events [] events before at e (subst P (sym (append-nil events)) h) is
 
-same_standing : (o p : Opening) (c d : Bool) → o ≡ p → c ≡ d
+-- an explainer that has heard and told what it had before
+pub explained_on : (events : List Event) (before : List Told) (old mid new : Explainer)
+    → HasExplained events before old → mid ≡ old → new.listener ≡ mid.listener
+    → new.resumes ≡ mid.resumes → new.passes_over ≡ mid.passes_over
+    → HasExplained events before new
+explained_on events before old mid new h same listener resumes passes_over =
+    let P : Explainer → Type 0 = λ e. HasExplained events before e in
+    let Q : Listener → Type 0 = λ l. HasNoted events before l in
+    let still : HasExplained events before mid = subst P (sym same) h in
+    record {
+      noted = subst Q (sym listener) still.noted;
+      resumes = resumes ∙ still.resumes;
+      passes_over = passes_over ∙ still.passes_over;
+    }
+
+pub same_standing : (o p : Opening) (c d : Bool) → o ≡ p → c ≡ d
     → ◌≡◌ {A = Standing} (record { opening = o; came = c }) (record { opening = p; came = d })
 same_standing o p c d o_is c_is =
     let at : Opening → Standing = λ x. record { opening = x; came = c } in
@@ -125,6 +140,17 @@ came_with : (came : Bool) (front : List ℕ) (b : ℕ) (rest : List ℕ)
 came_with came [] b rest = refl
 came_with came (c ∷ front) b rest = refl
 
+pub both_hold : (a b : Bool) → (a && b) ≡ true → (a ≡ true) × (b ≡ true)
+both_hold true b e = (refl, e)
+both_hold false b e = absurd (let no : false ≡ true = e in cc)
+
+pub first_fails : (a b c : Bool) → a ≡ false → (a && b && c) ≡ false
+first_fails a b c e = rw e refl
+
+pub others_fail : (a b c : Bool) → (b && c) ≡ false → (a && b && c) ≡ false
+others_fail false b c e = refl
+others_fail true b c e = e
+
 pub explains_again : (start place : ℕ) (mid : Opening) (from : End) (bytes heard again : List ℕ)
     (events : List Event) (before : List Told) (old at new : Explainer)
     → OpensUpTo start (opening_of old.preface) from bytes mid → heard ≡ drop start bytes
@@ -151,13 +177,14 @@ explains_again start place mid from bytes heard again events before old at new o
     let P : List ℕ → Type 0 = λ bs. HasExplained (events ++ passed (sent_by from (take place bs)))
     (before ++ told) at in
     let Q : List Event → Type 0 = λ es. HasExplained es (before ++ told) new in
-    let R : ℕ → Type 0 = λ n. begins_answer from (get_or bytes (n + place) 0) ≡ true in
-    let is : begins_answer from ts ≡ true = subst R first begins in
+    let here : start + place ≡ place = omega (arith, first) in
+    let R : ℕ → Type 0 = λ n. begins_answer from (get_or bytes n 0) ≡ true in
+    let is : begins_answer from ts ≡ true = subst R here begins in
     let heard_so : HasExplained (events ++ so_far) (before ++ told) at = subst P all explained in
     let opened_so : opening_of new.preface ≡ opened unopened from (ts ∷ behind) =
     opening_is
     ∙ ap (λ bs. opened unopened Card bs)
-    (again_is ∙ ap (λ n. drop (n + place) bytes) first ∙ from_here)
+    (again_is ∙ ap (λ n. drop n bytes) here ∙ from_here)
     ∙ ap (λ x. opened unopened x (ts ∷ behind)) (sym (card_answers from ts is)) in (
       so_far ++ Reset ∷ [],
       record { opening = opened unopened from (ts ∷ behind); came = true },

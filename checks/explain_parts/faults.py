@@ -21,7 +21,7 @@ sys.path.insert(0, str(HERE))
 from cases import all_cases  # noqa: E402
 
 TOP = HERE.parent.parent
-BELOW = ("apdu_core", "tlv_core", "t0_core")
+BELOW = ("apdu_core", "tlv_core", "t0_core", "atr_core")
 SOURCE = TOP / "crates" / "trace_explain" / "src"
 # what takes words and streams, which the program below does in its place
 LEFT_OUT = ("main", "main_status", "command_line", "help")
@@ -70,8 +70,8 @@ def write_program(folder, faults):
         for part in ("src", "specs", "proofs"):
             (crates / name / part).symlink_to(TOP / "crates" / name / part)
     (folder / "crates.txt").write_text(
-        "apdu_core:\ntlv_core:\nt0_core: apdu_core\n"
-        f"trace_explain: {' '.join(BELOW)} hex thiserror\n",
+        "apdu_core:\ntlv_core:\nt0_core: apdu_core\natr_core: arrayvec\n"
+        f"trace_explain: {' '.join(BELOW)} arrayvec hex thiserror\n",
         encoding="utf-8",
     )
     crate = crates / "trace_explain"

@@ -169,9 +169,10 @@ impl Explainer {
             (opening_of self.new.preface)) }
         ensures keeps { OnOk result (KeepsHeard self.old self.new) }
     {
+        let mut tells_strays = true;
         for place in 0..bytes.len() {
             let role = self.preface.role_of(from, bytes[place]);
-            self.tell_before(role, place, &bytes[place..], out)?;
+            tells_strays = self.tell_before(role, tells_strays, &bytes[place..], out)?;
             self.preface.take(role, bytes[place], self.line)?;
             if role.is_dialogue() {
                 return Ok(place);
@@ -181,23 +182,25 @@ impl Explainer {
         Ok(bytes.len())
     }
 
-    /// Tells what ends before a character that is this, at this place of a line: a part that goes
-    /// on no more; and of the first of those that are the card's and of no part.
+    /// Tells what comes before a character that is this: a part that goes on no more; and, with the
+    /// first in a line that is the card's and of no part, all of those that follow in the line,
+    /// which are too. It answers whether those are still to be told.
     fn tell_before(
         &self,
         role: Role,
-        place: usize,
+        tells_strays: bool,
         bytes: &[u8],
         out: &mut String,
-    ) -> Result<(), AllocError> {
+    ) -> Result<bool, AllocError> {
         let stage = self.preface.stage();
         if !role.goes_on() {
             self.tell_part(stage, out)?;
         }
-        if role == Role::Stray && (place == 0 || stage != Stage::Astray) {
-            self.before_header(bytes, out)?;
+        if role != Role::Stray || !tells_strays {
+            return Ok(tells_strays);
         }
-        Ok(())
+        self.before_header(bytes, out)?;
+        Ok(false)
     }
 
     /// Tells the part that is over with a character that was this.

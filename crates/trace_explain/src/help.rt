@@ -22,9 +22,13 @@ The trace stands on standard input, in lines as `card_trace play` prints them:
   reset    the card was reset
 
 Every other line is a note, and is told behind `| `; one within a TPDU stands before it. An empty
-line is passed over. Characters of the card that come before the first of the terminal, since the
-trace began or the card was reset, are told as such: an answer to reset, or the end of what was not
-heard. A trace has at most 2^40 bytes, and a line at most 4,194,304.
+line is passed over. A trace has at most 2^40 bytes, and a line at most 4,194,304.
+
+Where the trace begins or the card was reset, a first character `3B`, `3F` or `03` of the card
+begins an answer to reset, and `FF` of the terminal behind an answer begins a PPS request. They are
+told with what they say, or with what is wrong and where. Other characters of the card that come
+before the dialogue are told as such. An answer that begins where no TPDU is under way is told, too:
+the card was reset there, though no line says so.
 
 Where no dialogue that it reads goes on with a character, the line and the character are told,
 counted from 1, with what was due and what came. Then the program stops. With `--resume` it passes

@@ -3,6 +3,7 @@
 import os
 import select
 import subprocess
+import threading
 import time
 from pathlib import Path
 
@@ -11,8 +12,9 @@ BUILD = Path(os.environ.get("SERIAL_BUILD", TOP / "bindings/c/build/standin"))
 TABLE = TOP / "bindings/c/examples/demo.table"
 SECONDS = 30
 
-# those that run
+# those that run, and whether no more may begin
 RUNNING = set()
+IS_OVER = threading.Event()
 
 
 class Skipped(Exception):
@@ -36,6 +38,8 @@ class Program:
             env=names,
         )
         RUNNING.add(self.process)
+        if IS_OVER.is_set():
+            self.process.kill()
         if given:
             self.process.stdin.write(given)
         self.process.stdin.close()
@@ -70,7 +74,8 @@ class Program:
 
 
 def end_all():
-    """Ends the programs that tests which went wrong have left."""
+    """Ends the programs that tests which went wrong have left, and those that begin after that."""
+    IS_OVER.set()
     for process in list(RUNNING):
         process.kill()
         process.wait()

@@ -11,7 +11,7 @@ use Rattle.t0_core.specs.HostMark.{HasOnly}
 use Rattle.card_terminal.specs.declared.attempt.Attempt.{Attempt}
 use Rattle.card_terminal.specs.declared.wanted.Wanted.{Wanted}
 use Rattle.card_terminal.specs.Buffers.{HandsOut, IsHandingOut}
-use Rattle.card_terminal.specs.BufferLaws.{none_handed, one_handed}
+use Rattle.card_terminal.proofs.BufferLemmas.{none_handed, one_handed}
 use Rattle.card_terminal.specs.ExchangeSide.{ExchangeOf, IsKept, exchange_turn}
 use Rattle.card_terminal.specs.ExchangeSteps.{IsTurn}
 use Rattle.card_terminal.specs.OwnedExchange.{of_parts}

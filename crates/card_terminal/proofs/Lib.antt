@@ -1,3 +1,4 @@
+pub mod BufferLemmas
 pub mod UnitLemmas
 pub mod OwnedLemmas
 mod HandingLemmas

@@ -55,7 +55,8 @@ turns o new turn step same bounds settled = record {
     same_turn a b e = cc
 
 -- where the exchange of an operation stays, so does the operation
-pub stays : (o new : OperationOf) (ex : ExchangeOf) → IsSettled o → GoesOver (with_exchange o ex) new
+pub stays : (o new : OperationOf) (ex : ExchangeOf) → IsSettled o
+    → GoesOver (with_exchange o ex) new
     → ex ≡ o.exchange → new ≡ o
 stays o new ex settled (inl same) is = same.1 ∙ ap (λ x. with_exchange o x) is
 stays o new ex settled (inr next) is =

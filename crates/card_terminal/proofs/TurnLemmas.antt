@@ -1,5 +1,5 @@
--- Turns of the terminal: no character that it sends brings an exchange to its end, and where it sends
--- it does not listen.
+-- Turns of the terminal: no character that it sends brings an exchange to its end, and where it
+-- sends it does not listen.
 use Rattle.std.proofs.Common.{◌≡◌, ◌+◌, ℕ, List, refl, sym, ◌∙◌, ap, Some, true, false, Bool, nat_lt, if◌then◌else◌}
 use Rattle.apdu_core.specs.StatusWord.{StatusWord}
 use Rattle.t0_core.specs.declared.direction.Direction.{Direction}

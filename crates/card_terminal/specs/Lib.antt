@@ -1,7 +1,6 @@
 pub mod Gathered
 pub mod Attempts
 pub mod Buffers
-pub mod BufferLaws
 pub mod ExchangeSide
 pub mod Conversing
 pub mod ExchangeHistory

@@ -54,9 +54,6 @@ opened_begun Terminal (b ∷ bytes) = opened_begun Terminal bytes
 opened_begun Card (b ∷ bytes) = opened_begun Card bytes
 
 -- what passes before the dialogue, one character further
-pub passes_none : (o : Opening) (from : End) (bytes : List ℕ) → Passes o from (take 0 bytes) o
-passes_none o from bytes = record { dialogue = λ rest. refl; opens = λ rest. refl }
-
 pub passes_more : (o mid after : Opening) (from : End) (bytes : List ℕ) (place : ℕ) (r : Role)
     → place < length bytes → Passes o from (take place bytes) mid
     → r ≡ role_of mid from (get_or bytes place 0) → is_dialogue r ≡ false

@@ -53,8 +53,8 @@ fn explain_chunks<R: Read, W: Write>(
     writer: &mut W,
     text: &mut String,
 ) -> Result<(), ExplainFault>
-    ensures explained { HasExplained [] [] explainer.old → standing_of explainer.old ≡ first_of_all →
-        explainer.old.line ≡ 0 →
+    ensures explained { HasExplained [] [] explainer.old →
+        standing_of explainer.old ≡ first_of_all → explainer.old.line ≡ 0 →
         OnOk result (IfSome (R.remaining reader.old) (λ bytes.
         IsExplained (lines_of bytes) (standing_of explainer.new))) }
     ensures stops { HasExplained [] [] explainer.old → standing_of explainer.old ≡ first_of_all →

@@ -165,8 +165,8 @@ impl Explainer {
     /// Takes the characters of an opening, and tells of its parts that end; it answers how many
     /// characters come before the first of the dialogue.
     fn open(&mut self, from: End, bytes: &[u8], out: &mut String) -> Result<usize, AllocError>
-        ensures opens { IfOk result (λ start. OpensUpTo start (opening_of self.old.preface) from bytes.now
-            (opening_of self.new.preface)) }
+        ensures opens { IfOk result (λ start. OpensUpTo start (opening_of self.old.preface) from
+            bytes.now (opening_of self.new.preface)) }
         ensures keeps { OnOk result (KeepsHeard self.old self.new) }
     {
         let mut tells_strays = true;

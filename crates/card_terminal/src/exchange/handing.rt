@@ -13,8 +13,8 @@ ghost use Rattle.card_terminal.specs.OwnedExchange.{of_parts};
 use crate::handed_out::HandedOut;
 use t0_core::{HostEnd, HostTurn};
 
-/// Hands out characters into a buffer, as `Exchange::next_bytes`, which has its promises: the end is
-/// that of an exchange, whatever else this has.
+/// Hands out characters into a buffer, as `Exchange::next_bytes`, which has its promises: the end
+/// is that of an exchange, whatever else this has.
 #[inline(always)]
 pub(crate) fn handed_by(end: &mut HostEnd<'_>, stalled: bool, bytes: &mut [u8]) -> HandedOut
     ensures handed { (gather : Room) (attempt : Attempt) (wanted : Wanted)

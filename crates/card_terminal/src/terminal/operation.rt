@@ -170,8 +170,8 @@ impl<A: Allocator + Copy> Operation<A> {
         if begins { out_of_turn(taken) } else { taken }
     }
 
-    /// Takes the characters of a buffer up to a fault, and then goes on. Says whether the next piece
-    /// has begun.
+    /// Takes the characters of a buffer up to a fault, and then goes on. Says whether the next
+    /// piece has begun.
     fn take_and_go_on(&mut self, bytes: &[u8]) -> (Taken, bool)
         ensures { (ex : ExchangeOf) × IsTakingAll IsTaking self.old.exchange bytes.now result.0 ex
             × (result.1 ≡ true → GoesToNext (with_exchange self.old ex) self.new)

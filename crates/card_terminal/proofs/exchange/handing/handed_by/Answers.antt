@@ -44,7 +44,8 @@ returns-clause-handed c =
     let within : c.loop-at.at ≤ length c.loop-at.bytes =
     omega (arith, c.loop-at.auto.at-end, c.loop-at.auto.bytes) in
     handed_all c.args.end.now c.loop-at.end c.args.stalled c.args.bytes.now c.loop-at.bytes
-    c.loop-at.at (omega (arith, c.loop-at-test.false, c.loop-at.auto.bytes)) within c.loop-at.auto.bytes c.loop-at.invariant
+    c.loop-at.at (omega (arith, c.loop-at-test.false, c.loop-at.auto.bytes)) within
+    c.loop-at.auto.bytes c.loop-at.invariant
 
 pub returns-clause-kept : goal.returns-clause-kept
 returns-clause-kept c = c.loop-at.invariant.kept

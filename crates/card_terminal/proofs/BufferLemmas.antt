@@ -1,8 +1,6 @@
--- Laws of characters that pass by a buffer: one step more, and what all of them lead to.
-use Rattle.std.proofs.Common.{◌≡◌, ◌<◌, ◌≤◌, ◌+◌, ◌++◌, ℕ, List, [], ◌∷◌, length, take, drop, set, get_or, refl, sym, subst, ap, ◌∙◌, arith, append-nil, append_assoc}
+-- Characters that pass by a buffer: one step more.
+use Rattle.std.proofs.Common.{◌≡◌, ◌<◌, ◌≤◌, ◌+◌, ◌++◌, ℕ, List, [], ◌∷◌, length, take, drop, set, get_or, refl, sym, subst, ap, ◌∙◌, arith}
 use Rattle.std.proofs.lemmas.List.{take_more, take_more_set, drop-set-lt, drop-drop}
-use Rattle.t0_core.specs.declared.end.End.{End}
-use Rattle.t0_core.specs.Character.{Character, sent_by}
 use Rattle.card_terminal.specs.Buffers.{Steps, HandsOut}
 
 module _ {State : Type 0} (Step : State → ℕ → State → Type 0) where
@@ -42,16 +40,3 @@ module _ {State : Type 0} (Step : State → ℕ → State → Type 0) where
   one_taken old s next bytes at below steps step =
       subst (λ bs. Steps Step old bs next) (sym (take_more bytes at 0 below))
       (one_more (take at bytes) old s next (get_or bytes at 0) steps step)
-
-  -- What each step leads on, all of them lead on.
-  pub all_lead : (from : End) (Led : List Character → State → Type 0)
-      → ((s next : State) (b : ℕ) (came : List Character) → Step s b next → Led came s
-      → Led (came ++ (from, b) ∷ []) next)
-      → (bs : List ℕ) (s last : State) (came : List Character) → Steps Step s bs last
-      → Led came s → Led (came ++ sent_by from bs) last
-  all_lead from Led one [] s last came same led = subst (λ x. Led (came ++ []) x) (sym same)
-      (subst (λ cs. Led cs s) (sym (append-nil came)) led)
-  all_lead from Led one (b ∷ bs) s last came steps led =
-      subst (λ cs. Led cs last) (append_assoc came ((from, b) ∷ []) (sent_by from bs))
-      (all_lead from Led one bs steps.0 last (came ++ (from, b) ∷ []) steps.2
-      (one s steps.0 b came steps.1 led))

@@ -156,33 +156,38 @@ static void layouts(void) {
     CHECK(s.live || s.held, 0);
 }
 
-/* The same of an answer to reset. */
+#define FIELD(name, at, size) do { \
+        CHECK(offsetof(gt_atr, name), at); \
+        CHECK(sizeof ((gt_atr *)0)->name, size); \
+    } while (0)
+
+/* The same of an answer to reset, with the size of each field. */
 static void layout_of_an_answer(void) {
     CHECK(sizeof(gt_atr), 72);
-    CHECK(offsetof(gt_atr, length), 0);
-    CHECK(offsetof(gt_atr, historical), 8);
-    CHECK(offsetof(gt_atr, historical_count), 16);
-    CHECK(offsetof(gt_atr, category), 24);
-    CHECK(offsetof(gt_atr, convention), 25);
-    CHECK(offsetof(gt_atr, protocol_count), 26);
-    CHECK(offsetof(gt_atr, protocols), 27);
-    CHECK(offsetof(gt_atr, names_15), 42);
-    CHECK(offsetof(gt_atr, rate_code), 43);
-    CHECK(offsetof(gt_atr, di), 44);
-    CHECK(offsetof(gt_atr, extra_guard_time), 45);
-    CHECK(offsetof(gt_atr, waiting_integer), 46);
-    CHECK(offsetof(gt_atr, specific), 47);
-    CHECK(offsetof(gt_atr, specific_t), 48);
-    CHECK(offsetof(gt_atr, can_change), 49);
-    CHECK(offsetof(gt_atr, implicit), 50);
-    CHECK(offsetof(gt_atr, clock_stop), 51);
-    CHECK(offsetof(gt_atr, classes), 52);
-    CHECK(offsetof(gt_atr, fi), 54);
-    CHECK(offsetof(gt_atr, max_khz), 56);
-    CHECK(offsetof(gt_atr, guard_etu), 58);
-    CHECK(offsetof(gt_atr, guard_etu_t1), 60);
-    CHECK(offsetof(gt_atr, guard_indicated), 62);
-    CHECK(offsetof(gt_atr, waiting_time), 64);
+    FIELD(length, 0, 8);
+    FIELD(historical, 8, 8);
+    FIELD(historical_count, 16, 8);
+    FIELD(category, 24, 1);
+    FIELD(convention, 25, 1);
+    FIELD(protocol_count, 26, 1);
+    FIELD(protocols, 27, 15);
+    FIELD(names_15, 42, 1);
+    FIELD(rate_code, 43, 1);
+    FIELD(di, 44, 1);
+    FIELD(extra_guard_time, 45, 1);
+    FIELD(waiting_integer, 46, 1);
+    FIELD(specific, 47, 1);
+    FIELD(specific_t, 48, 1);
+    FIELD(can_change, 49, 1);
+    FIELD(implicit, 50, 1);
+    FIELD(clock_stop, 51, 1);
+    FIELD(classes, 52, 1);
+    FIELD(fi, 54, 2);
+    FIELD(max_khz, 56, 2);
+    FIELD(guard_etu, 58, 2);
+    FIELD(guard_etu_t1, 60, 2);
+    FIELD(guard_indicated, 62, 2);
+    FIELD(waiting_time, 64, 4);
 }
 
 int main(void) {

@@ -1,9 +1,10 @@
-//! What the library has held is wiped before it is given back: an allocator in the program's place
-//! looks for a secret in each block that comes back to it.
+//! What the library has held is given back, all of it, and is wiped before that: an allocator in
+//! the program's place counts bytes, and looks for a secret in each block that comes back to it.
 #![cfg(feature = "heap")]
 
 use galliumtoad::{Card, CardBuilder, Exchange, Session};
 use std::alloc::{GlobalAlloc, Layout, System};
+use std::cell::Cell;
 use std::sync::atomic::{AtomicUsize, Ordering::SeqCst};
 use std::sync::Mutex;
 
@@ -12,10 +13,16 @@ const SECRET: [u8; 16] = *b"\xC3\x5A\x96\x0F\xE1\x3C\xA5\x78\x1E\xB4\x2D\xD2\x4B
 /// How many blocks have come back with the secret in them.
 static FOUND: AtomicUsize = AtomicUsize::new(0);
 
+thread_local! {
+    /// How many bytes this thread has taken, without those that it has given back.
+    static TAKEN: Cell<isize> = const { Cell::new(0) };
+}
+
 struct Looking;
 
 unsafe impl GlobalAlloc for Looking {
     unsafe fn alloc(&self, layout: Layout) -> *mut u8 {
+        TAKEN.with(|it| it.set(it.get() + layout.size() as isize));
         System.alloc_zeroed(layout)
     }
 
@@ -24,6 +31,7 @@ unsafe impl GlobalAlloc for Looking {
         if bytes.windows(SECRET.len()).any(|it| it == SECRET) {
             FOUND.fetch_add(1, SeqCst);
         }
+        TAKEN.with(|it| it.set(it.get() - layout.size() as isize));
         System.dealloc(block, layout);
     }
 }
@@ -34,10 +42,11 @@ static LOOKING: Looking = Looking;
 /// One test at a time.
 static ONE: Mutex<()> = Mutex::new(());
 
-/// How many blocks with the secret come back while this runs.
+/// How many blocks with the secret come back while this runs; what it takes it gives back.
 fn found(run: impl FnOnce()) -> usize {
-    let before = FOUND.load(SeqCst);
+    let (before, taken) = (FOUND.load(SeqCst), TAKEN.with(Cell::get));
     run();
+    assert_eq!(TAKEN.with(Cell::get), taken);
     FOUND.load(SeqCst) - before
 }
 
@@ -54,6 +63,16 @@ fn card() -> Card {
 fn the_allocator_sees_what_is_not_wiped() {
     let _one = ONE.lock();
     assert_eq!(found(|| drop(SECRET.to_vec())), 1);
+}
+
+#[test]
+fn the_allocator_sees_what_is_not_given_back() {
+    let _one = ONE.lock();
+    let before = TAKEN.with(Cell::get);
+    let held = SECRET.to_vec();
+    assert_eq!(TAKEN.with(Cell::get), before + SECRET.len() as isize);
+    drop(held);
+    assert_eq!(TAKEN.with(Cell::get), before);
 }
 
 #[test]

@@ -3,8 +3,6 @@
 #![tactic(auto)]
 
 #[cfg(test)]
-mod buffer_tests;
-#[cfg(test)]
 mod command_tests;
 #[cfg(test)]
 mod data_objects;

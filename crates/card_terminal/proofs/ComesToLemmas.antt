@@ -1,5 +1,5 @@
 -- What led to an exchange leads to it with one more character.
-use Rattle.std.proofs.Common.{◌≡◌, ℕ, List, [], ◌∷◌, ◌++◌, length, refl, sym, subst, ◌∙◌, ap, inl, inr, ◌⊎◌, true, false, Bool, Option, Some, None, append-nil, append_assoc, if◌then◌else◌}
+use Rattle.std.proofs.Common.{◌≡◌, ℕ, List, [], ◌∷◌, ◌++◌, refl, sym, subst, ◌∙◌, ap, inl, inr, ◌⊎◌, true, false, Bool, Option, Some, None, append-nil, append_assoc, if◌then◌else◌}
 use Rattle.std.specs.List.{AllByRecursion, flat_map}
 use Rattle.apdu_core.specs.StatusWord.{StatusWord}
 use Rattle.apdu_core.specs.CommandBytes.{Command}
@@ -17,7 +17,7 @@ use Rattle.t0_core.specs.Room.{Room}
 use Rattle.t0_core.specs.HostSide.{Hosting, turn_of, fault_of, at_stage, after_fault}
 use Rattle.t0_core.specs.HostLaws.{after_done, after_failure, going}
 use Rattle.card_terminal.specs.Gathered.{UnitOf, Gathers, dialogues_of}
-use Rattle.card_terminal.specs.ExchangeSide.{ExchangeOf, UnderWay, IsOver, IsKept, IsAtEnd, Stall, Continues, so_far, ended_with, exchange_turn, is_final, response_limit}
+use Rattle.card_terminal.specs.ExchangeSide.{ExchangeOf, UnderWay, IsOver, IsKept, IsAtEnd, Stall, Continues, so_far, ended_with, exchange_turn, is_final}
 use Rattle.card_terminal.specs.ExchangeHistory.{unit_characters, characters_to, ComesTo, to_front, to_end, to_stall, to_fault}
 use Rattle.card_terminal.proofs.UnitLemmas.{unit_ends, unit_goes_on, unit_dialogues}
 use Rattle.card_terminal.proofs.EndLemmas.{ended_at}
@@ -79,7 +79,7 @@ next_leads c came ex new byte sends goes_on (to_end units status over is) =
 next_leads c came ex new byte sends goes_on (to_stall units stall are failed is) =
     absurd (failed_sends_nothing byte (exchange_turn ex) failed sends)
 next_leads c came ex new byte sends goes_on
-    (to_fault units first front before b fault under why final failed is) =
+    (to_fault units first front before b fault under why final failed same is) =
     absurd (failed_sends_nothing byte (exchange_turn ex) failed sends)
 
 -- ---- a character of the card
@@ -109,7 +109,7 @@ end_of c came ex (to_front units first front under is) = inl (units, first, fron
 end_of c came ex (to_end units status over is) =
     inr (inr (status, over_turn c ex units status over))
 end_of c came ex (to_stall units stall are failed is) = inr (inl failed)
-end_of c came ex (to_fault units first front before b fault under why final failed is) = inr
+end_of c came ex (to_fault units first front before b fault under why final failed same is) = inr
     (inl failed)
 
 continues_leads : (c : Command) (came : List Character) (new : ExchangeOf) (units : List UnitOf)
@@ -183,14 +183,16 @@ stall_leads c came ex new byte going failed goes_on ends takes leads =
 
 pub fault_leads : (c : Command) (came : List Character) (ex new : ExchangeOf) (byte : ℕ)
     (fault : LineFault) → (IsAtEnd ex → ⊥) → fault_of ex.host ex.gather byte ≡ Some fault
-    → is_final fault ≡ true → exchange_turn new ≡ Failed → ComesTo c came ex
+    → is_final fault ≡ true → exchange_turn new ≡ Failed → ex.gather.limit ≡ new.gather.limit
+    → ComesTo c came ex
     → ComesTo c (came ++ (Card, byte) ∷ []) new
-fault_leads c came ex new byte fault going why final failed leads = elim (end_of c came ex leads) [
-  | inl (units, first, front, under, is) ↦
-      to_fault units first front ex byte fault under why final failed
-      (ap (λ cs. cs ++ (Card, byte) ∷ []) is)
-  | inr end ↦ absurd (going end)
-]
+fault_leads c came ex new byte fault going why final failed same leads =
+    elim (end_of c came ex leads) [
+      | inl (units, first, front, under, is) ↦
+          to_fault units first front ex byte fault under why final failed same
+          (ap (λ cs. cs ++ (Card, byte) ∷ []) is)
+      | inr end ↦ absurd (going end)
+    ]
 
 -- a fault that ends it is not that of an end
 pub final_is_no_end : (fault : LineFault) → is_final fault ≡ true → fault ≡ AfterEnd → ⊥
@@ -237,11 +239,5 @@ end_leads c came ex status done (to_end units other over is) =
 end_leads c came ex status done (to_stall units stall are failed is) =
     let e : Failed ≡ Done status = sym failed ∙ done in absurd (cc)
 end_leads c came ex status done
-    (to_fault units first front before b fault under why final failed is) =
+    (to_fault units first front before b fault under why final failed same is) =
     let e : Failed ≡ Done status = sym failed ∙ done in absurd (cc)
-
--- a room that is full has the most bytes of a response
-pub full_room : (ex seen : ExchangeOf) → ex ≡ seen → IsKept ex
-    → length ex.gather.bytes ≡ ex.gather.limit → length seen.gather.bytes ≡ response_limit
-full_room ex seen is kept full =
-    ap (λ (e : ExchangeOf). length e.gather.bytes) (sym is) ∙ full ∙ kept.room

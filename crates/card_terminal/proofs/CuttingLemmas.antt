@@ -25,7 +25,7 @@ use Rattle.t0_core.specs.CuttingLaws.{same_dialogue, next_of, at_next, Suits}
 use Rattle.card_terminal.specs.declared.wanted.Wanted.{Wanted}
 use Rattle.object_card.specs.CarryingOut.{get_response}
 use Rattle.card_terminal.specs.Gathered.{Asks, SendsFrom, BeginsWith, wanted_by, repeated_with, after_unit, fetched_after, Opening, By_command, By_fetch, OpensWith, UnitOf, Single, Repeated, first_of, last_of, dialogues_of, unit_data, IsUnit, BringsSome, AreFollowed, IsOpenExchange, Gathers}
-use Rattle.card_terminal.specs.ExchangeSide.{ExchangeOf, HostAsks, HostSends, HostOpens, HostOpensBy, IsOpenedAs, UnderWay, IsOver, Stall, begun_with, exchange_turn, response_limit}
+use Rattle.card_terminal.specs.ExchangeSide.{ExchangeOf, HostAsks, HostSends, HostOpens, HostOpensBy, IsOpenedAs, UnderWay, IsOver, Stall, begun_with, exchange_turn}
 use Rattle.card_terminal.specs.ExchangeHistory.{unit_characters, characters_to, Expects, BeginsExchange, ComesTo, to_front, to_end, to_stall, to_fault}
 use Rattle.object_card.specs.OperationLaws.{count_of_some}
 use Rattle.card_terminal.proofs.UnitLemmas.{gathered_parts}
@@ -399,20 +399,19 @@ record IsNext (ex : ExchangeOf) (front : Front) (rest : List Character) (n : ℕ
   after : List Character
   rest_is : rest ≡ next ∷ after
   suits : Suits ex.host front due next after
-  room : n ≤ response_limit → HasRoom ex.gather front due
+  room : n ≤ ex.gather.limit → HasRoom ex.gather front due
 
 room_of : (c : Command) (ex : ExchangeOf) (gone : List UnitOf) (first : Option Dialogue)
     (front : Front) (units us : List UnitOf) (u : UnitOf) (due : Dialogue)
     → UnderWay c ex gone first front → units ≡ gone ++ u ∷ us
     → length (flat_map received (begun_with first)) + length (received due) ≤ length (unit_data u)
-    → length (flat_map unit_data units) ≤ response_limit → HasRoom ex.gather front due
+    → length (flat_map unit_data units) ≤ ex.gather.limit → HasRoom ex.gather front due
 room_of c ex gone first front units us u due under units_are brings fits still e =
     omega (
       arith,
       fits,
       brings,
       e,
-      under.room,
       ap length (under.gathered ∙ gathered_parts gone first (brought front)),
       length-append (flat_map unit_data gone)
           (flat_map received (begun_with first) ++ brought front),
@@ -579,7 +578,7 @@ abbrev pub Comes : ExchangeOf → List Character → List ℕ → StatusWord →
 Comes ex rest gathered status =
     ((rest ≡ []) × (exchange_turn ex ≡ Done status) × (ex.gather.bytes ≡ gathered))
     ⊎ ((ch : Character) × (after : List Character) × (rest ≡ ch ∷ after)
-    × (length gathered ≤ response_limit → Expects ex ch))
+    × (length gathered ≤ ex.gather.limit → Expects ex ch))
 
 comes_over : (c : Command) (ex : ExchangeOf) (units gone : List UnitOf) (gathered : List ℕ)
     (status other : StatusWord) (rest : List Character) → IsValid (By_command c)
@@ -636,8 +635,8 @@ comes_next c ex units gone first front gathered status rest valid under whole ar
           (next.room (fitting fits)) next.suits,
     )
   where
-    fitting : length gathered ≤ response_limit
-        → length (flat_map unit_data units) ≤ response_limit
+    fitting : length gathered ≤ ex.gather.limit
+        → length (flat_map unit_data units) ≤ ex.gather.limit
     fitting fits = omega (arith, fits, ap length whole.gathered_is)
 
 faults_not : (c : Command) (ex : ExchangeOf) (units gone : List UnitOf) (first : Option Dialogue)
@@ -645,7 +644,7 @@ faults_not : (c : Command) (ex : ExchangeOf) (units gone : List UnitOf) (first :
     (rest : List Character) → IsValid (By_command c) → UnderWay c ex gone first front
     → fault_of ex.host ex.gather byte ≡ Some fault → Gathers c units gathered status
     → AreAll (flat_map dialogues_of units)
-    → (rest ≡ []) ⊎ (length gathered ≤ response_limit)
+    → (rest ≡ []) ⊎ (length gathered ≤ ex.gather.limit)
     → unit_characters units ≡ characters_to gone first front ++ (Card, byte) ∷ rest → ⊥
 faults_not c ex units gone first front byte fault gathered status rest valid under why whole are
     fits e =
@@ -662,7 +661,7 @@ faults_not c ex units gone first front byte fault gathered status rest valid und
 pub comes : (c : Command) (came : List Character) (ex : ExchangeOf) (units : List UnitOf)
     (gathered : List ℕ) (status : StatusWord) (rest : List Character) → IsValid (By_command c)
     → ComesTo c came ex → Gathers c units gathered status → AreAll (flat_map dialogues_of units)
-    → (rest ≡ []) ⊎ (length gathered ≤ response_limit) → unit_characters units ≡ came ++ rest
+    → (rest ≡ []) ⊎ (length gathered ≤ ex.gather.limit) → unit_characters units ≡ came ++ rest
     → Comes ex rest gathered status
 comes c came ex units gathered status rest valid (to_front gone first front under is) whole are
     fits e =
@@ -675,9 +674,10 @@ comes c came ex units gathered status rest valid (to_stall gone stall gone_are f
     fits e = absurd (stalls_not c units gone gathered status rest valid stall gone_are whole are
     (e ∙ ap (λ cs. cs ++ rest) is))
 comes c came ex units gathered status rest valid
-    (to_fault gone first front prior byte fault under why final failed is) whole are fits e =
+    (to_fault gone first front prior byte fault under why final failed same is) whole are fits e =
+    let At : ℕ → Type 0 = λ n. (rest ≡ []) ⊎ (length gathered ≤ n) in
     absurd (faults_not c prior units gone first front byte fault gathered status rest valid under
-    why whole are fits (e ∙ ap (λ cs. cs ++ rest) is
+    why whole are (subst At (sym same) fits) (e ∙ ap (λ cs. cs ++ rest) is
     ∙ append_assoc (characters_to gone first front) ((Card, byte) ∷ []) rest))
 
 pub done : (c : Command) (came : List Character) (ex : ExchangeOf) (units : List UnitOf)
@@ -696,7 +696,7 @@ pub next_character : (c : Command) (came : List Character) (ex : ExchangeOf)
     (units : List UnitOf) (gathered : List ℕ) (status : StatusWord) (ch : Character)
     (rest : List Character) → ins_is_valid c.header.ins ≡ true → c.header.ins < 256
     → ComesTo c came ex → Gathers c units gathered status
-    → AllByRecursion IsDialogue (flat_map dialogues_of units) → length gathered ≤ response_limit
+    → AllByRecursion IsDialogue (flat_map dialogues_of units) → length gathered ≤ ex.gather.limit
     → unit_characters units ≡ came ++ ch ∷ rest → Expects ex ch
 next_character c came ex units gathered status ch rest valid small leads whole are fits e =
     elim (comes c came ex units gathered status (ch ∷ rest) (valid, small) leads whole are
@@ -723,7 +723,7 @@ pub unfailing : (c : Command) (came : List Character) (ex : ExchangeOf) (units :
     (gathered : List ℕ) (status : StatusWord) (rest : List Character)
     → ins_is_valid c.header.ins ≡ true → c.header.ins < 256 → ComesTo c came ex
     → Gathers c units gathered status → AllByRecursion IsDialogue (flat_map dialogues_of units)
-    → length gathered ≤ response_limit → unit_characters units ≡ came ++ rest
+    → length gathered ≤ ex.gather.limit → unit_characters units ≡ came ++ rest
     → exchange_turn ex ≡ Failed → ⊥
 unfailing c came ex units gathered status rest valid small leads whole are fits e failed =
     elim (comes c came ex units gathered status rest (valid, small) leads whole are (inr fits) e) [

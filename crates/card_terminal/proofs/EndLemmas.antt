@@ -317,7 +317,6 @@ repeats_first c ex host units front d n under end corrected asks stands request 
       is_front = lit< tt;
       gathered = end.gathered ∙ ap (flat_map received) (sym more)
           ∙ sym (append-nil (flat_map received (so_far units (Some d))));
-      room = under.room;
       wanted_is = under.wanted_is;
       going = under.going;
     }
@@ -398,7 +397,6 @@ fetches c ex host units first front d n under end none fetched not_stalled asks 
       is_front = lit< tt;
       gathered = end.gathered ∙ ap (flat_map received) (sym more)
           ∙ sym (append-nil (flat_map received (so_far (units ++ u ∷ []) None)));
-      room = under.room;
       wanted_is = under.wanted_is;
       going = under.going;
     }

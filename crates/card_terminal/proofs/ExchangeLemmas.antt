@@ -125,11 +125,11 @@ with_host ex host gather =
 -- a character takes the dialogue under way on
 pub goes_further : (c : Command) (ex : ExchangeOf) (host : Hosting) (gather : Room)
     (units : List UnitOf) (first : Option Dialogue) (front new : Front) (ch : End × ℕ)
-    → IsSameRequest ex.host host → IsRequest host → gather.limit ≡ ex.gather.limit
+    → IsSameRequest ex.host host → IsRequest host
     → UnderWay c ex units first front → GoesOn front ch new → HostStandsAt host new
     → gather.bytes ≡ flat_map received (so_far units first) ++ brought new
     → UnderWay c (with_host ex host gather) units first new
-goes_further c ex host gather units first front new ch same request limit under goes stands
+goes_further c ex host gather units first front new ch same request under goes stands
     gathered = record {
       opening = under.opening;
       left = under.left;
@@ -141,7 +141,6 @@ goes_further c ex host gather units first front new ch same request limit under 
       request = request;
       is_front = (goes_on front new ch under.is_front goes).0;
       gathered = gathered;
-      room = limit ∙ under.room;
       wanted_is = under.wanted_is;
       going = under.going;
     }
@@ -182,7 +181,7 @@ sends_further c ex host units first front byte under after request (new, goes, s
         p3 = ap (λ (h : Hosting). h.p3) after;
         direction = ap (λ (h : Hosting). h.direction) after;
         content = ap (λ (h : Hosting). h.content) after;
-      }) request refl under goes stands
+      }) request under goes stands
       (under.gathered ∙ ap (λ ds. flat_map received (so_far units first) ++ ds)
       (sym (terminal_brings_nothing front new byte goes))),
 )

@@ -1,5 +1,5 @@
 -- Characters that a terminal's end hands out into a buffer, one turn for each.
-use Rattle.std.proofs.Common.{◌≡◌, ℕ, ◌+◌, ◌<◌, ◌≤◌, List, length, drop, take, set, refl, sym, subst, ap, ◌∙◌, arith, Some, None, Bool, true, false}
+use Rattle.std.proofs.Common.{◌≡◌, ℕ, ◌+◌, ◌<◌, ◌≤◌, List, length, set, refl, sym, subst, ap, ◌∙◌, arith, Some, None, Bool, true, false}
 use Rattle.apdu_core.specs.StatusWord.{StatusWord}
 use Rattle.t0_core.specs.declared.end.End.TheVariants.{Terminal}
 use Rattle.t0_core.specs.declared.host_end.HostTurn.{HostTurn}

@@ -89,10 +89,12 @@ turned ex turn host kept going is after request stays goes_on =
       turn_is = does;
       stays = λ none. ap (λ (h : Hosting). with_host ex h ex.gather) (stays none);
       bounds = record {
+        room = kept.room;
         fits = kept.fits;
         tpdus = begun_within ex.attempt.fetches ex.attempt.repeats ex.attempt.before
             ex.attempt.number _ kept.counted.begun kept.counted.number;
       };
+      limit = refl;
       goes_on = λ c units first front byte under sends.
           sends_further c ex host units first front byte under after request
           (goes_on front byte under.stands sends);

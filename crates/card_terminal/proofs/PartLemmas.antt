@@ -33,6 +33,7 @@ bounded_by true true before gathered number begun few = omega (arith, begun, few
 
 pub bounded : (ex : ExchangeOf) → IsKept ex → IsBounded ex
 bounded ex kept = record {
+  room = kept.room;
   fits = kept.fits;
   tpdus = bounded_by ex.attempt.fetches ex.attempt.repeats ex.attempt.before
       (length ex.gather.bytes) ex.attempt.number kept.counted.begun kept.counted.number;
@@ -192,14 +193,14 @@ pub next_begins : (old : OperationOf) (ex : ExchangeOf) (new : DetachedOf)
     → list ≡ chain_commands header pieces → list ≡ c ∷ others → until ≤ length items
     → size ≡ length c.content → UnderWay c (over_data new c.content) [] None fresh
     → ComesTo c [] (over_data new c.content) → IsSound (over_data new c.content)
-    → GoesToNext old (record {
+    → new.gather.limit ≡ ex.gather.limit → GoesToNext old (record {
       exchange = over_data new (slice_range items until (until + size));
       p1 = p1;
       p2 = p2;
       rest = drop (until + size) items;
     })
 next_begins old ex new items seen until p1 p2 size header pieces list others c view done more
-    same_items header_is are same steps few is under led sound =
+    same_items header_is are same steps few is under led sound kept =
     let rest_is = rest_seen items seen until same_items in
     let are_now : IsPieces (drop until items) pieces =
     subst (λ z. IsPieces z pieces) rest_is are in
@@ -224,6 +225,7 @@ next_begins old ex new items seen until p1 p2 size header pieces list others c v
       );
       bounds = subst (λ (bs : List ℕ). IsBounded (over_data new bs)) (sym front.slice)
           (bounded (over_data new c.content) sound.1);
+      limit = kept ∙ ap (λ (o : OperationOf). o.exchange.gather.limit) view;
       sends = let (byte, turn) = begins_by_sending c (over_data new c.content) under in
           (byte, ap (λ (bs : List ℕ). exchange_turn (over_data new bs)) front.slice ∙ turn);
     }

@@ -170,7 +170,7 @@ led_begins c came ex (to_end units status over is) =
     inl (as_came c _ came is (whole_begins c units over.gathers.is_open over.are_dialogues))
 led_begins c came ex (to_stall units stall are failed is) =
     inl (as_came c _ came is (whole_begins c units stall.is_open are))
-led_begins c came ex (to_fault units first front prior byte fault under why final failed is) =
+led_begins c came ex (to_fault units first front prior byte fault under why final failed same is) =
     inr (record {
       before = characters_to units first front;
       byte = byte;
@@ -181,5 +181,6 @@ led_begins c came ex (to_fault units first front prior byte fault under why fina
       fault = fault;
       is_fault = why;
       is_final = final;
+      limit = same;
       failed = failed;
     })

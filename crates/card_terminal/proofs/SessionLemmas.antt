@@ -388,10 +388,11 @@ plan_stays stage new before cursor byte listening is at_plan =
 pub passed : {C : Type 0} (card : Ghosts C) (s : Start card.State) (l new : Line C)
     (ch : Character) (front : Front) (under : IsGoing card s l) → GoesOn under.front ch front
     → UnderWay s.command new.exchange under.units under.tried front
+    → new.exchange.gather.limit ≡ l.exchange.gather.limit
     → StandsUnder card under.before front new
     → card.standing new.end.card ≡ card.standing l.end.card
     → Hears l.hearing (ch ∷ []) new.hearing → IsGoing card s new
-passed card s l new ch front under goes terminal stands same hears =
+passed card s l new ch front under goes terminal kept stands same hears =
     let Gone : card.State → Type 0 = λ x. HaveGone card.Does s.from
     (so_far under.units under.tried) (point x under.before.rest under.between) in
     record {
@@ -400,6 +401,7 @@ passed card s l new ch front under goes terminal stands same hears =
       tried = under.tried;
       front = front;
       terminal = terminal;
+      room = kept ∙ under.room;
       before = under.before;
       between = under.between;
       gone = subst Gone (sym same) under.gone;
@@ -438,9 +440,9 @@ HasGone card s l ds = HaveGone card.Does s.from ds (point_of card l)
 begins_next : {C : Type 0} (card : Ghosts C) (s : Start card.State) (l : Line C)
     (units : List UnitOf) (tried : Option Dialogue) (ds : List Dialogue)
     → IsAgreed card.MayReceive card.MaySend s.command → l.end.stage ≡ Taking_header []
-    → UnderWay s.command l.exchange units tried fresh → ds ≡ so_far units tried
-    → HasGone card s l ds → IsGoing card s l
-begins_next card s l units tried ds agreed rests terminal is gone =
+    → UnderWay s.command l.exchange units tried fresh → l.exchange.gather.limit ≡ response_limit
+    → ds ≡ so_far units tried → HasGone card s l ds → IsGoing card s l
+begins_next card s l units tried ds agreed rests terminal room is gone =
     let At : Stage → Type 0 = λ x. StandsAt card.Does (card.standing l.end.card)
     (card.prepared l.end.card) x (next_plan l.cursor.rest).cut fresh
     × IsOnPlan x (next_plan l.cursor.rest) fresh × IsAtPlan x l.cursor l.cursor in
@@ -450,6 +452,7 @@ begins_next card s l units tried ds agreed rests terminal is gone =
       tried = tried;
       front = fresh;
       terminal = terminal;
+      room = room;
       before = l.cursor;
       between = l.hearing;
       gone = subst (HasGone card s l) is gone;
@@ -460,26 +463,27 @@ begins_next card s l units tried ds agreed rests terminal is gone =
 pub begins : {C : Type 0} (card : Ghosts C) (command : Command) (l : Line C)
     → l.end.stage ≡ Taking_header [] → Begins card command l
     → IsGoing card (on_line.begun card command l) l
-begins card command l rests (agreed, terminal) =
-    begins_next card (on_line.begun card command l) l [] None [] agreed rests terminal refl
+begins card command l rests (agreed, terminal, room) =
+    begins_next card (on_line.begun card command l) l [] None [] agreed rests terminal room refl
     (none_gone card.Does (point_of card l))
 
 -- after a dialogue the exchange goes on, or is over
 pub continues : {C : Type 0} (card : Ghosts C) (s : Start card.State) (l : Line C)
     (units : List UnitOf) (tried : Option Dialogue) (d : Dialogue)
     → IsAgreed card.MayReceive card.MaySend s.command → l.end.stage ≡ Taking_header []
-    → HasGone card s l (so_far units tried ++ d ∷ [])
+    → l.exchange.gather.limit ≡ response_limit → HasGone card s l (so_far units tried ++ d ∷ [])
     → Continues s.command l.exchange units tried d → IsOneOf card s l
-continues card s l units tried d agreed rests gone (inl (none, terminal)) =
-    inl (begins_next card s l units (Some d) _ agreed rests terminal
+continues card s l units tried d agreed rests room gone (inl (none, terminal)) =
+    inl (begins_next card s l units (Some d) _ agreed rests terminal room
     (ap (λ t. so_far units t ++ d ∷ []) none ∙ sym (unit_goes_on units d)) gone)
-continues card s l units tried d agreed rests gone (inr (inl terminal)) =
-    inl (begins_next card s l (units ++ ended_with tried d ∷ []) None _ agreed rests terminal
+continues card s l units tried d agreed rests room gone (inr (inl terminal)) =
+    inl (begins_next card s l (units ++ ended_with tried d ∷ []) None _ agreed rests terminal room
     (sym (unit_ends units tried d)) gone)
-continues card s l units tried d agreed rests gone (inr (inr terminal)) = inr (record {
+continues card s l units tried d agreed rests room gone (inr (inr terminal)) = inr (record {
   units = units ++ ended_with tried d ∷ [];
   status = d.status;
   terminal = terminal;
+  room = room;
   gone = subst (HasGone card s l) (sym (unit_dialogues units tried d)) gone;
   at_rest = rests;
 })
@@ -606,6 +610,7 @@ next_falls c l new units more tried again before front d under later is bounded 
       later.place.number_is,
       ap length is,
       length-append (so_far units tried) (d ∷ []),
+      bounded.room,
       bounded.fits,
       bounded.tpdus,
       has.falls,
@@ -640,7 +645,7 @@ SendsOn c ex new byte = (units : List UnitOf) (tried : Option Dialogue) (front :
 
 pub terminal_passed : {C : Type 0} (card : Ghosts C) (s : Start card.State) (l new : Line C)
     (byte : ℕ) → IsGoing card s l → SendsOn s.command l.exchange new.exchange byte
-    → new.cursor ≡ l.cursor
+    → new.exchange.gather.limit ≡ l.exchange.gather.limit → new.cursor ≡ l.cursor
     → new.end ≡ record l.end { stage = with_character l.end.stage byte }
     → ((plan : Course) → still_to_go new.end.stage plan < still_to_go l.end.stage plan)
     → ((cut : ℕ) (front later : Front) → StandsAt card.Does (card.standing l.end.card)
@@ -650,7 +655,7 @@ pub terminal_passed : {C : Type 0} (card : Ghosts C) (s : Start card.State) (l n
     × ((plan : Course) → IsOnPlan l.end.stage plan front → IsOnPlan new.end.stage plan later))
     → Hears l.hearing ((Terminal, byte) ∷ []) new.hearing
     → (left new < left l) × IsGoing card s new
-terminal_passed {C = C} card s l new byte under sends same end_is falls on hears =
+terminal_passed {C = C} card s l new byte under sends kept same end_is falls on hears =
     let goes = sends under.units under.tried under.front under.terminal in
     let plan = next_plan under.before.rest in
     let taken = on plan.cut under.front goes.0 under.stands.0 goes.1 in
@@ -658,7 +663,7 @@ terminal_passed {C = C} card s l new byte under sends same end_is falls on hears
     let At : Cursor → Type 0 = λ k. IsAtPlan new.end.stage under.before k in (
       terminal_falls s.command l new under.units under.tried under.front goes.0 byte
           under.terminal goes.2 same stage falls,
-      passed card s l new (Terminal, byte) goes.0 under goes.1 goes.2 (
+      passed card s l new (Terminal, byte) goes.0 under goes.1 goes.2 kept (
         taken.1,
         taken.2 plan under.stands.1,
         subst At (sym same)
@@ -742,9 +747,10 @@ has_overflown card s l new front byte fault under goes stands same is faults hea
       taken = taken_at new.end.stage under.before new.cursor
           (begun card.Does (card.standing new.end.card) (card.prepared new.end.card)
           new.end.stage plan.cut byte plan under.front front goes stands.0) stands.2;
+      room = under.room;
       too_many = too_many ex.gather response_limit
           (flat_map received (so_far under.units under.tried)) (brought under.front)
-          (brought front) byte under.terminal.gathered under.terminal.room full.0 full.1;
+          (brought front) byte under.terminal.gathered under.room full.0 full.1;
       hears = hears_on under.between l.hearing new.hearing _ _ (Card, byte) under.hears hears
           (goes_on under.front front (Card, byte) under.terminal.is_front goes).1;
     }

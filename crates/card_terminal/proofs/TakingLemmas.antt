@@ -1,5 +1,5 @@
 -- Characters of a buffer that an exchange takes one after another.
-use Rattle.std.proofs.Common.{◌≡◌, ℕ, ◌+◌, ◌<◌, ◌≤◌, List, length, take, get_or, refl, sym, subst, ap, ◌∙◌, arith}
+use Rattle.std.proofs.Common.{◌≡◌, ℕ, ◌+◌, ◌<◌, ◌≤◌, List, length, take, get_or, refl, subst, ◌∙◌, arith}
 use Rattle.std.specs.Prelude.{Result, Ok, Err}
 use Rattle.t0_core.specs.declared.line_fault.LineFault.{LineFault}
 use Rattle.t0_core.specs.HostMark.{HasOnly}
@@ -15,11 +15,17 @@ TakesOne s b t = IsTaking s b (Ok tt) t
 -- from where it began, an exchange has taken so many characters of the buffer
 pub record HasTaken (old now : ExchangeOf) (bytes : List ℕ) (at : ℕ) : Type 0 where
   pub kept : IsKept now
+  pub limit : now.gather.limit ≡ old.gather.limit
   pub steps : Steps TakesOne old (take at bytes) now
   pub only : (content : List ℕ) → HasOnly content old.host → HasOnly content now.host
 
 pub none_yet : (old : ExchangeOf) (bytes : List ℕ) → IsKept old → HasTaken old old bytes 0
-none_yet old bytes kept = record { kept = kept; steps = refl; only = λ content only. only }
+none_yet old bytes kept = record {
+  kept = kept;
+  limit = refl;
+  steps = refl;
+  only = λ content only. only;
+}
 
 -- one more
 pub taken_on : (old now next : ExchangeOf) (bytes : List ℕ) (at : ℕ)
@@ -29,6 +35,7 @@ pub taken_on : (old now next : ExchangeOf) (bytes : List ℕ) (at : ℕ)
     → HasTaken old next bytes (at + 1)
 taken_on old now next bytes at result below taken step is kept only = record {
   kept = kept;
+  limit = step.limit ∙ taken.limit;
   steps = one_taken TakesOne old now next bytes at below taken.steps
       (subst (λ r. IsTaking now (get_or bytes at 0) r next) is step);
   only = λ content has. only content (taken.only content has);

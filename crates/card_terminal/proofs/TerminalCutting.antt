@@ -13,7 +13,7 @@ use Rattle.t0_core.specs.Dialogue.{Dialogue, IsDialogue, characters}
 use Rattle.object_card.specs.OneStep.{Reply}
 use Rattle.card_terminal.specs.Gathered.{UnitOf, Gathers, dialogues_of, unit_data, tpdus}
 use Rattle.card_terminal.specs.Talk.{AreTakenUpTo, AreExchangesOf, talk_dialogues, talk_characters}
-use Rattle.card_terminal.specs.ExchangeSide.{ExchangeOf, exchange_turn, response_limit}
+use Rattle.card_terminal.specs.ExchangeSide.{ExchangeOf, exchange_turn}
 use Rattle.card_terminal.specs.ExchangeHistory.{ComesTo, Expects, BeginsExchange, FaultCameLast, unit_characters}
 use Rattle.card_terminal.specs.TerminalSide.{OperationOf, AreLeft, HasCome, LeadsTo, IsSettled}
 use Rattle.card_terminal.specs.TerminalHistory.{HaveValidIns, HaveRoom, brought_by}
@@ -39,7 +39,7 @@ GoesTo ex rest exchanges answer =
     ((rest ≡ []) × (exchange_turn ex ≡ Done answer.status)
     × (ex.gather.bytes ≡ answer.content))
     ⊎ ((ch : Character) × (after : List Character) × (rest ≡ ch ∷ after)
-    × (HaveRoom exchanges → Expects ex ch))
+    × (HaveRoom ex.gather.limit exchanges → Expects ex ch))
 
 none_before : (a b : List Character) → a ++ b ≡ [] → a ≡ []
 none_before [] b is = refl
@@ -48,10 +48,10 @@ none_before (x ∷ a) b is = absurd (cc)
 no_character : (ch : Character) (after : List Character) → [] ≡ ch ∷ after → ⊥
 no_character ch after e = absurd (cc)
 
-fits : (units : List UnitOf) (gathered : List ℕ) → gathered ≡ flat_map unit_data units
-    → length (flat_map unit_data units) ≤ response_limit → length gathered ≤ response_limit
-fits units gathered is few =
-    subst (λ (bs : List ℕ). length bs ≤ response_limit) (sym is) few
+fits : (units : List UnitOf) (gathered : List ℕ) (limit : ℕ) → gathered ≡ flat_map unit_data units
+    → length (flat_map unit_data units) ≤ limit → length gathered ≤ limit
+fits units gathered limit is few =
+    subst (λ (bs : List ℕ). length bs ≤ limit) (sym is) few
 
 -- a command has no more after it where its exchange is done with 9000
 abbrev pub Ends : ExchangeOf → List Command → Type 0
@@ -69,7 +69,7 @@ first_of_more : (c : Command) (left : List Command) (here : List Character) (ex 
     → ComesTo c here ex → Ends ex left → Gathers c units brought ok
     → AreExchangesOf left (next ∷ others) answer
     → AllByRecursion IsDialogue (flat_map dialogues_of units)
-    → (rest ≡ []) ⊎ HaveRoom (units ∷ next ∷ others)
+    → (rest ≡ []) ⊎ HaveRoom ex.gather.limit (units ∷ next ∷ others)
     → unit_characters units ++ talk_characters (next ∷ others) ≡ here ++ rest
     → GoesTo ex rest (units ∷ next ∷ others) answer
 first_of_more c left here ex units next others answer brought rest valid small leads ends whole
@@ -92,10 +92,10 @@ first_of_more c left here ex units next others answer brought rest valid small l
     over (inr due) = absurd (no_character due.0 due.1 due.2)
 
     few : (t : List Character) → t ++ talk_characters (next ∷ others) ≡ rest
-        → (t ≡ []) ⊎ (length brought ≤ response_limit)
+        → (t ≡ []) ⊎ (length brought ≤ ex.gather.limit)
     few t is = elim room [
       | inl none ↦ inl (none_before t (talk_characters (next ∷ others)) (is ∙ none))
-      | inr has ↦ inr (fits units brought whole.gathered_is has.0)
+      | inr has ↦ inr (fits units brought ex.gather.limit whole.gathered_is has.0)
     ]
 
     on : (t : List Character) → unit_characters units ≡ here ++ t
@@ -108,7 +108,7 @@ first_of_more c left here ex units next others answer brought rest valid small l
             due.0,
             due.1 ++ talk_characters (next ∷ others),
             sym rest_is ∙ ap (λ z. z ++ talk_characters (next ∷ others)) due.2,
-            λ has. due.3 (fits units brought whole.gathered_is has.0),
+            λ has. due.3 (fits units brought ex.gather.limit whole.gathered_is has.0),
           )
         ]
 
@@ -118,7 +118,7 @@ here_comes : (c : Command) (left : List Command) (here : List Character) (ex : E
     → ins_is_valid c.header.ins ≡ true → c.header.ins < 256 → ComesTo c here ex → Ends ex left
     → AreExchangesOf (c ∷ left) exchanges answer
     → AllByRecursion IsDialogue (talk_dialogues exchanges)
-    → (rest ≡ []) ⊎ HaveRoom exchanges → talk_characters exchanges ≡ here ++ rest
+    → (rest ≡ []) ⊎ HaveRoom ex.gather.limit exchanges → talk_characters exchanges ≡ here ++ rest
     → GoesTo ex rest exchanges answer
 here_comes c left here ex [] answer rest valid small leads ends whole are room e = absurd whole
 here_comes c left here ex (units ∷ []) answer rest valid small leads ends whole are room e =
@@ -130,14 +130,14 @@ here_comes c left here ex (units ∷ []) answer rest valid small leads ends whol
         due.0,
         due.1,
         due.2,
-        λ has. due.3 (fits units answer.content whole.0.gathered_is has.0),
+        λ has. due.3 (fits units answer.content ex.gather.limit whole.0.gathered_is has.0),
       )
     ]
   where
-    few : (rest ≡ []) ⊎ (length answer.content ≤ response_limit)
+    few : (rest ≡ []) ⊎ (length answer.content ≤ ex.gather.limit)
     few = elim room [
       | inl none ↦ inl none
-      | inr has ↦ inr (fits units answer.content whole.0.gathered_is has.0)
+      | inr has ↦ inr (fits units answer.content ex.gather.limit whole.0.gathered_is has.0)
     ]
 here_comes c left here ex (units ∷ next ∷ others) answer rest valid small leads ends whole are
     room e =
@@ -167,7 +167,7 @@ pub operation_comes : (commands : List Command) (gone : List (List UnitOf)) (cur
     → AllByRecursion IsDialogue (talk_dialogues gone) → ComesTo current here ex → Ends ex left
     → AreExchangesOf commands exchanges answer
     → AllByRecursion IsDialogue (talk_dialogues exchanges)
-    → (rest ≡ []) ⊎ HaveRoom exchanges
+    → (rest ≡ []) ⊎ HaveRoom ex.gather.limit exchanges
     → talk_characters exchanges ≡ (talk_characters gone ++ here) ++ rest
     → GoesTo ex rest exchanges answer
 operation_comes [] [] current left here ex exchanges answer rest valid taken gone_are leads ends
@@ -221,7 +221,8 @@ led_comes : (commands : List Command) (came : List Character) (o : OperationOf)
     → HaveValidIns commands → LeadsTo commands came (Some o)
     → AreExchangesOf commands exchanges answer
     → AllByRecursion IsDialogue (talk_dialogues exchanges)
-    → (rest ≡ []) ⊎ HaveRoom exchanges → talk_characters exchanges ≡ came ++ rest
+    → (rest ≡ []) ⊎ HaveRoom o.exchange.gather.limit exchanges
+    → talk_characters exchanges ≡ came ++ rest
     → GoesTo o.exchange rest exchanges answer
 led_comes commands came o exchanges answer rest valid (l, settled) whole are room e =
     operation_comes commands l.gone l.current l.left l.here o.exchange exchanges answer rest valid
@@ -246,7 +247,8 @@ pub operation_next : (commands : List Command) (came : List Character) (o : Oper
     → HaveValidIns commands → LeadsTo commands came (Some o)
     → AreExchangesOf commands exchanges answer
     → AllByRecursion IsDialogue (talk_dialogues exchanges)
-    → HaveRoom exchanges → talk_characters exchanges ≡ came ++ ch ∷ rest → Expects o.exchange ch
+    → HaveRoom o.exchange.gather.limit exchanges
+    → talk_characters exchanges ≡ came ++ ch ∷ rest → Expects o.exchange ch
 operation_next commands came o exchanges answer ch rest valid leads whole are room e =
     elim (led_comes commands came o exchanges answer (ch ∷ rest) valid leads whole are (inr room)
     e) [
@@ -261,7 +263,7 @@ pub operation_unfailing : (commands : List Command) (came : List Character) (o :
     → HaveValidIns commands → LeadsTo commands came (Some o)
     → AreExchangesOf commands exchanges answer
     → AllByRecursion IsDialogue (talk_dialogues exchanges)
-    → HaveRoom exchanges → talk_characters exchanges ≡ came ++ rest
+    → HaveRoom o.exchange.gather.limit exchanges → talk_characters exchanges ≡ came ++ rest
     → exchange_turn o.exchange ≡ Failed → ⊥
 operation_unfailing commands came o exchanges answer rest valid leads whole are room e failed =
     elim (led_comes commands came o exchanges answer rest valid leads whole are (inr room) e) [

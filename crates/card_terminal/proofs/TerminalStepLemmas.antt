@@ -19,7 +19,7 @@ use Rattle.card_terminal.specs.ExchangeHistory.{ComesTo, ComesTooFar}
 use Rattle.card_terminal.specs.ExchangeSteps.{IsTurn, IsTaking, IsAnswering, IsAnswer}
 use Rattle.card_terminal.specs.Gathered.{UnitOf}
 use Rattle.card_terminal.specs.Talk.{AreExchangesOf, talk_characters}
-use Rattle.card_terminal.specs.TerminalSide.{OperationOf, LeadsThrough, LeadsThroughTooFar, LeadsTo, IsSettled, GoesOver, with_exchange}
+use Rattle.card_terminal.specs.TerminalSide.{OperationOf, TerminalOf, LeadsThrough, LeadsThroughTooFar, LeadsTo, IsSettled, GoesOver, with_exchange}
 use Rattle.card_terminal.specs.TerminalSteps.{IsTerminalTurn, IsTerminalTaking, IsTerminalAnswering, IsTerminalAnswer}
 use Rattle.card_terminal.proofs.TerminalLemmas.{come_on, come_as, goes_over, answer_led}
 
@@ -269,6 +269,9 @@ idle_answered bytes status = record {
 }
 
 -- ---- the same of what is seen
+
+pub held : {a b : TerminalOf} → a ≡ b → a.operation ≡ b.operation
+held is = ap (λ (t : TerminalOf). t.operation) is
 
 pub settled_at : (t : Option OperationOf) (o : OperationOf) → IfSome t (λ x. IsSettled x)
     → t ≡ Some o → IsSettled o

@@ -23,7 +23,7 @@ use Rattle.t0_core.specs.HostAnswer.{is_due, excess, answer_fault, after_answer_
 use Rattle.t0_core.specs.WholeLaws.{whole_front}
 use Rattle.t0_core.specs.AnswerLaws.{due_is_fresh, fresh_is_due, due_sends, dialogue_overflows}
 use Rattle.card_terminal.specs.Gathered.{UnitOf}
-use Rattle.card_terminal.specs.ExchangeSide.{ExchangeOf, UnderWay, IsKept, so_far, exchange_turn, response_limit}
+use Rattle.card_terminal.specs.ExchangeSide.{ExchangeOf, UnderWay, IsKept, so_far, exchange_turn}
 use Rattle.card_terminal.specs.ExchangeHistory.{ComesTo, ComesTooFar, to_front, to_end, to_stall, to_fault, characters_to}
 use Rattle.card_terminal.proofs.UnitLemmas.{received_of}
 use Rattle.card_terminal.proofs.ExchangeLemmas.{IsSameRequest, opened_too, place_too, with_host, sending_is_going, seen_under_way}
@@ -48,7 +48,6 @@ stands_at c ex host units first front bytes under same request front_is stands i
   gathered = ap (λ ds. ds ++ bytes) (under.gathered
       ∙ append-nil (flat_map received (so_far units first)))
       ∙ ap (λ ds. flat_map received (so_far units first) ++ ds) is;
-  room = under.room;
   wanted_is = under.wanted_is;
   going = under.going;
 }
@@ -96,17 +95,18 @@ due_front c came ex kept due leads = by leads
         (over_turn c ex units status over) sends.1)
     by (to_stall units stall are failed is) =
         absurd (failed_sends_nothing sends.0 (exchange_turn ex) failed sends.1)
-    by (to_fault units first front before b fault under why final failed is) =
+    by (to_fault units first front before b fault under why final failed same is) =
         absurd (failed_sends_nothing sends.0 (exchange_turn ex) failed sends.1)
 
 -- where the room is too small, the first character that is too much is the fault
 pub leads_too_long : (c : Command) (came : List Character) (ex new : ExchangeOf) (d : Dialogue)
     → IsKept ex → is_due ex.host ≡ true → ComesTo c came ex → IsOpenedBy ex.host d.body
-    → IsDialogue d → response_limit < length ex.gather.bytes + length (received d)
-    → exchange_turn new ≡ Failed → ComesTooFar c came (characters d) new
-leads_too_long c came ex new d kept due leads opened is over failed =
+    → IsDialogue d → ex.gather.limit < length ex.gather.bytes + length (received d)
+    → exchange_turn new ≡ Failed → ex.gather.limit ≡ new.gather.limit
+    → ComesTooFar c came (characters d) new
+leads_too_long c came ex new d kept due leads opened is over failed same =
     let at = due_front c came ex kept due leads in
-    let left : ℕ = response_limit - length ex.gather.bytes in
+    let left : ℕ = ex.gather.limit - length ex.gather.bytes in
     let o = dialogue_overflows left d is (omega (arith, over, kept.fits)) in
     let asks : ex.host.direction ≡ FromCard = sym opened.2 ∙ sym o.opened.2 ∙ o.way in
     let Own : Direction → Type 0 = λ direction. AreOwn direction ex.host.content o.body.moved in
@@ -125,7 +125,7 @@ leads_too_long c came ex new d kept due leads opened is over failed =
     (by, refl, o.more, refl) moved in
     let full : (length (ex.gather.bytes ++ o.body.moved) == ex.gather.limit) ≡ true =
     eq-eqb (length (ex.gather.bytes ++ o.body.moved)) ex.gather.limit
-    (omega (arith, length-append ex.gather.bytes o.body.moved, o.so_many, kept.fits, kept.room)) in
+    (omega (arith, length-append ex.gather.bytes o.body.moved, o.so_many, kept.fits)) in
     let why : fault_of before.host before.gather o.byte ≡ Some TooLong =
     ap (λ way. data_fault way before.gather) asks
     ∙ ap (λ b. if b then Some TooLong else None) full in
@@ -140,7 +140,8 @@ leads_too_long c came ex new d kept due leads opened is over failed =
       prior = before;
       led = to_front at.0 at.1 (In_body o.body) under came_is;
       is_fault = why;
-      led_to = to_fault at.0 at.1 (In_body o.body) before o.byte TooLong under why refl failed
+      limit = same;
+      led_to = to_fault at.0 at.1 (In_body o.body) before o.byte TooLong under why refl failed same
           (ap (λ cs. cs ++ (Card, o.byte) ∷ []) came_is);
     }
 
@@ -280,22 +281,22 @@ leads_all c came new host d bytes sw byte is gives leads =
 
 -- ---- where the end refuses it
 
-over_room : (ex seen : ExchangeOf) (bytes : List ℕ) → ex ≡ seen → IsKept ex
+over_room : (ex seen : ExchangeOf) (bytes : List ℕ) → ex ≡ seen
     → answer_fault ex.host ex.gather bytes ≡ Some AnswerTooLong
-    → response_limit < length seen.gather.bytes + length bytes
-over_room ex seen bytes is kept e =
-    let P : ExchangeOf → Type 0 = λ x. response_limit < length x.gather.bytes + length bytes in
+    → seen.gather.limit < length seen.gather.bytes + length bytes
+over_room ex seen bytes is e =
+    let P : ExchangeOf → Type 0 = λ x. x.gather.limit < length x.gather.bytes + length bytes in
     let over = leb-false (length ex.gather.bytes + length bytes) ex.gather.limit
     (long_where _ _ _ ex.host.direction e).1 in
-    subst P is (omega (arith, over, kept.room))
+    subst P is (omega (arith, over))
 
 -- a TPDU that is due is refused for want of room
 pub refused_ends : (c : Command) (ex seen : ExchangeOf) (units : List UnitOf)
-    (first : Option Dialogue) (bytes : List ℕ) (fault : AnswerFault) → ex ≡ seen → IsKept ex
+    (first : Option Dialogue) (bytes : List ℕ) (fault : AnswerFault) → ex ≡ seen
     → UnderWay c seen units first fresh → (fault ≡ NotDue) ⊎ (fault ≡ AnswerTooLong)
     → Some fault ≡ answer_fault ex.host ex.gather bytes
-    → (fault ≡ AnswerTooLong) × (response_limit < length seen.gather.bytes + length bytes)
-refused_ends c ex seen units first bytes fault is kept under (inl none) e =
+    → (fault ≡ AnswerTooLong) × (seen.gather.limit < length seen.gather.bytes + length bytes)
+refused_ends c ex seen units first bytes fault is under (inl none) e =
     absurd (due_is (is_due ex.host) _ _ ex.host.direction (fresh_is_due ex.host
     (seen_under_way c ex seen units first fresh is under).stands) (sym e ∙ ap Some none))
   where
@@ -307,22 +308,24 @@ refused_ends c ex seen units first bytes fault is kept under (inl none) e =
     due_is true true fits FromCard due e = absurd (cc)
     due_is true false true direction due e = absurd (cc)
     due_is true false false direction due e = absurd (cc)
-refused_ends c ex seen units first bytes fault is kept under (inr long) e =
-    (long, over_room ex seen bytes is kept (sym e ∙ ap Some long))
+refused_ends c ex seen units first bytes fault is under (inr long) e =
+    (long, over_room ex seen bytes is (sym e ∙ ap Some long))
 
 pub refused_leads : (c : Command) (came : List Character) (ex seen : ExchangeOf) (host : Hosting)
     (bytes : List ℕ) (sw : StatusWord) (d : Dialogue) (fault : AnswerFault) → ex ≡ seen
     → IsKept ex → ComesTo c came seen → Gives seen.host d bytes sw
     → host ≡ at_stage ex.host (after_answer_fault ex.host.stage fault)
     → (fault ≡ NotDue) ⊎ (fault ≡ AnswerTooLong)
-    → Some fault ≡ answer_fault ex.host ex.gather bytes → (room : Room)
+    → Some fault ≡ answer_fault ex.host ex.gather bytes → (room : Room) → room ≡ ex.gather
     → ((fault ≡ AnswerTooLong) × ComesTooFar c came (characters d) (with_host ex host room))
     ⊎ (fault ≡ NotDue)
-refused_leads c came ex seen host bytes sw d fault is kept leads gives host_is (inl none) e room =
+refused_leads c came ex seen host bytes sw d fault is kept leads gives host_is (inl none) e room
+    room_is =
     inr none
-refused_leads c came ex seen host bytes sw d fault is kept leads gives host_is (inr long) e room =
+refused_leads c came ex seen host bytes sw d fault is kept leads gives host_is (inr long) e room
+    room_is =
     let long_fault = sym e ∙ ap Some long in
-    let over = over_room ex ex bytes refl kept long_fault in
+    let over = over_room ex ex bytes refl long_fault in
     let failed : turn_of host ≡ Failed =
     ap turn_of host_is ∙ ap (λ f. turn_of (at_stage ex.host (after_answer_fault ex.host.stage f)))
     long in
@@ -331,7 +334,8 @@ refused_leads c came ex seen host bytes sw d fault is kept leads gives host_is (
       leads_too_long c came ex (with_host ex host room) d kept
           (long_where _ _ _ ex.host.direction long_fault).0 (leads_inside c came ex seen is leads)
           (gives_inside ex seen bytes sw d is gives).opened gives.is_dialogue
-          (omega (arith, over, ap length gives.brings)) (failed_turn ex.stalled host failed),
+          (omega (arith, over, ap length gives.brings)) (failed_turn ex.stalled host failed)
+          (ap (λ (r : Room). r.limit) (sym room_is)),
     )
 
 -- ---- what is due

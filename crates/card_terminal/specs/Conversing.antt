@@ -58,6 +58,7 @@ pub record HasOverflown {State : Type 0} (Does : State → ℕ → Tpdu → Stat
   pub ex : ExchangeOf
   pub before : Front
   pub terminal : UnderWay c ex units tried before
+  pub room : ex.gather.limit ≡ response_limit
   pub front : Front
   pub goes : (byte : ℕ) × GoesOn before (Card, byte) front
   pub prepared : Prepared State

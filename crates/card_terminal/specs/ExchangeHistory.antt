@@ -27,7 +27,7 @@ characters_to units first front = flat_map characters (so_far units first) ++ fr
 -- These characters lead to the exchange as it is: to a front of a dialogue; to the end of a
 -- whole exchange; to that of
 -- one that stalls; or a character came last that was refused for good at such a front: it was no
--- procedure byte where one was due, or it was too much (`is_final`).
+-- procedure byte where one was due, or it was too much for the room (`is_final`).
 pub data ComesTo (c : Command) (came : List Character) (ex : ExchangeOf) : Type 0 where
   to_front : (units : List UnitOf) (first : Option Dialogue) (front : Front)
       → UnderWay c ex units first front
@@ -41,7 +41,7 @@ pub data ComesTo (c : Command) (came : List Character) (ex : ExchangeOf) : Type 
       (before : ExchangeOf) (byte : ℕ) (fault : LineFault)
       → UnderWay c before units first front
       → fault_of before.host before.gather byte ≡ Some fault → is_final fault ≡ true
-      → exchange_turn ex ≡ Failed
+      → exchange_turn ex ≡ Failed → before.gather.limit ≡ ex.gather.limit
       → came ≡ characters_to units first front ++ (Card, byte) ∷ [] → ComesTo c came ex
 
 -- After those that came, these characters lead to the first for which there is no room, and with it
@@ -54,6 +54,7 @@ pub record ComesTooFar (c : Command) (came cs : List Character) (ex : ExchangeOf
   pub prior : ExchangeOf
   pub led : ComesTo c (came ++ before) prior
   pub is_fault : fault_of prior.host prior.gather byte ≡ Some TooLong
+  pub limit : prior.gather.limit ≡ ex.gather.limit
   pub led_to : ComesTo c ((came ++ before) ++ (Card, byte) ∷ []) ex
 
 -- the characters are a front of those of an open exchange
@@ -84,4 +85,5 @@ pub record FaultCameLast (c : Command) (came : List Character) (ex : ExchangeOf)
   pub fault : LineFault
   pub is_fault : fault_of prior.host prior.gather byte ≡ Some fault
   pub is_final : is_final fault ≡ true
+  pub limit : prior.gather.limit ≡ ex.gather.limit
   pub failed : exchange_turn ex ≡ Failed

@@ -94,7 +94,7 @@ pub record IsPlaceOf (a : Attempt) (opening : Opening) (units : List UnitOf)
   pub before_is : a.before ≡ length (flat_map unit_data units)
   pub number_is : a.number ≡ length (so_far units first) + 1
 
--- the most bytes that an exchange gathers
+-- the most bytes that a response may have at all: no exchange has more room
 abbrev pub response_limit : ℕ
 response_limit = RESPONSE_LIMIT
 
@@ -112,7 +112,6 @@ pub record UnderWay (c : Command) (ex : ExchangeOf) (units : List UnitOf)
   pub request : IsRequest ex.host
   pub is_front : IsFront front
   pub gathered : ex.gather.bytes ≡ flat_map received (so_far units first) ++ brought front
-  pub room : ex.gather.limit ≡ response_limit
   pub wanted_is : ex.wanted ≡ wanted_by c.le
   pub going : ex.stalled ≡ false
 
@@ -141,14 +140,15 @@ exchange_turn ex = if ex.stalled then Failed else turn_of ex.host
 
 -- With so many bytes gathered, at most the room's, it has begun at most twice two more TPDUs.
 pub record IsBounded (ex : ExchangeOf) : Type 0 where
-  pub fits : length ex.gather.bytes ≤ response_limit
+  pub room : ex.gather.limit ≤ response_limit
+  pub fits : length ex.gather.bytes ≤ ex.gather.limit
   pub tpdus : ex.attempt.number ≤ 2 * (length ex.gather.bytes + 2)
 
 -- what holds of every exchange
 pub record IsKept (ex : ExchangeOf) : Type 0 where
   pub counted : IsCounted ex.attempt (length ex.gather.bytes)
-  pub room : ex.gather.limit ≡ response_limit
-  pub fits : length ex.gather.bytes ≤ response_limit
+  pub room : ex.gather.limit ≤ response_limit
+  pub fits : length ex.gather.bytes ≤ ex.gather.limit
   pub stalled_at_end : ex.stalled ≡ true → (status : StatusWord) × (turn_of ex.host ≡ Done status)
 
 -- the faults that end an exchange; the others change nothing

@@ -1,6 +1,6 @@
 -- What each call does to an exchange, said once for the exchange that holds its command's data and
 -- for what is built on it.
-use Rattle.std.specs.Prelude.{◌≡◌, ◌<◌, ◌+◌, ℕ, List, [], ◌∷◌, ◌++◌, length, Option, Some, None, true, false, ◌⊎◌, Result, MatchResult, OnOk, OnErr, IfErr, IsErrOf, IfSome}
+use Rattle.std.specs.Prelude.{◌≡◌, ◌<◌, ◌≤◌, ◌+◌, ℕ, List, [], ◌∷◌, ◌++◌, length, Option, Some, None, true, false, ◌⊎◌, Result, MatchResult, OnOk, OnErr, IfErr, IsErrOf, IfSome}
 use Rattle.apdu_core.specs.StatusWord.{StatusWord}
 use Rattle.apdu_core.specs.CommandBytes.{Command}
 use Rattle.t0_core.specs.declared.end.End.TheVariants.{Terminal, Card}
@@ -15,17 +15,28 @@ use Rattle.t0_core.specs.Dialogue.{Dialogue, characters}
 use Rattle.t0_core.specs.Front.{Front, GoesOn, Ends, brought, fresh}
 use Rattle.t0_core.specs.HostSide.{fault_of}
 use Rattle.t0_core.specs.HostAnswer.{answer_fault, fails_with, Gives}
+use Rattle.card_terminal.specs.declared.start_fault.StartFault.{StartFault}
+use Rattle.card_terminal.specs.declared.start_fault.StartFault.TheVariants.{OutOfMemory, OverLimit}
 use Rattle.card_terminal.specs.Gathered.{UnitOf, Gathers}
 use Rattle.card_terminal.specs.ExchangeSide.{ExchangeOf, UnderWay, IsBounded, IsAtEnd, Continues, Stall, exchange_turn, ended_with, is_final, response_limit}
 use Rattle.card_terminal.specs.ExchangeHistory.{ComesTo, ComesTooFar, unit_characters}
 
+-- An exchange with so much room has begun; or the limit is over the most that a response may have;
+-- or it is not, and memory was wanting.
+abbrev pub IsLimited : ℕ → Result ExchangeOf StartFault → Type 0
+IsLimited limit result = MatchResult result
+    (λ ex. (limit ≤ response_limit) × (ex.gather.limit ≡ limit))
+    (λ fault. ((fault ≡ OverLimit) × (response_limit < limit))
+    ⊎ ((fault ≡ OutOfMemory) × (limit ≤ response_limit)))
+
 -- A turn of the terminal: what it does now. With a character that it sends the dialogue under way
 -- goes on, and whatever led to the exchange leads to it with this character; nothing else changes
--- anything.
+-- anything, and the room for the response never does.
 pub record IsTurn (old : ExchangeOf) (turn : HostTurn) (new : ExchangeOf) : Type 0 where
   pub turn_is : turn ≡ exchange_turn old
   pub stays : ((byte : ℕ) → turn ≡ Sends byte → ⊥) → new ≡ old
   pub bounds : IsBounded new
+  pub limit : new.gather.limit ≡ old.gather.limit
   pub goes_on : (c : Command) (units : List UnitOf) (first : Option Dialogue) (front : Front)
       (byte : ℕ) → UnderWay c old units first front → turn ≡ Sends byte
       → (next : Front) × GoesOn front (Terminal, byte) next × UnderWay c new units first next
@@ -40,6 +51,7 @@ pub record IsTaking (old : ExchangeOf) (byte : ℕ) (result : Result (Unit {0}) 
       (λ fault. (fault_of old.host old.gather byte ≡ Some fault)
       ⊎ ((fault ≡ Stalled) × (fault_of old.host old.gather byte ≡ None)))
   pub bounds : IsBounded new
+  pub limit : new.gather.limit ≡ old.gather.limit
   pub after_end : IsAtEnd old → IsErrOf result AfterEnd
   pub unchanged : IfErr result (λ fault. is_final fault ≡ false → new ≡ old)
   pub failed : IfErr result (λ fault. is_final fault ≡ true → exchange_turn new ≡ Failed)
@@ -48,7 +60,7 @@ pub record IsTaking (old : ExchangeOf) (byte : ℕ) (result : Result (Unit {0}) 
       → MatchResult result (λ _. UnderWay c new units first next) (λ fault. fault ≡ TooLong)
   pub full : (c : Command) (units : List UnitOf) (first : Option Dialogue) (front next : Front)
       → UnderWay c old units first front → GoesOn front (Card, byte) next
-      → OnErr result ((length old.gather.bytes ≡ response_limit)
+      → OnErr result ((length old.gather.bytes ≡ old.gather.limit)
       × (brought next ≡ brought front ++ byte ∷ []))
   pub came : (c : Command) (units : List UnitOf) (first : Option Dialogue) (front : Front)
       → UnderWay c old units first front
@@ -70,6 +82,7 @@ pub record IsAnswering (old : ExchangeOf) (bytes : List ℕ) (status : StatusWor
       (λ fault. (answer_fault old.host old.gather bytes ≡ Some fault)
       ⊎ ((fault ≡ answer.Stalled) × (answer_fault old.host old.gather bytes ≡ None)))
   pub bounds : IsBounded new
+  pub limit : new.gather.limit ≡ old.gather.limit
   pub unchanged : IfErr result (λ fault. fails_with fault ≡ false → new ≡ old)
   pub failed : IfErr result (λ fault. fails_with fault ≡ true → exchange_turn new ≡ Failed)
   pub ends : (c : Command) (units : List UnitOf) (first : Option Dialogue) (d : Dialogue)
@@ -77,7 +90,7 @@ pub record IsAnswering (old : ExchangeOf) (bytes : List ℕ) (status : StatusWor
       → MatchResult result (λ _. Continues c new units first d)
       (λ fault. ((fault ≡ answer.Stalled) × Stall c (units ++ ended_with first d ∷ []))
       ⊎ ((fault ≡ answer.TooLong)
-      × (response_limit < length old.gather.bytes + length bytes)))
+      × (old.gather.limit < length old.gather.bytes + length bytes)))
   pub led : (c : Command) (came : List Character) (d : Dialogue) → ComesTo c came old
       → Gives old.host d bytes status
       → MatchResult result (λ _. ComesTo c (came ++ characters d) new)

@@ -1,10 +1,12 @@
--- The texts of the faults of a session and of a terminal.
+-- The texts of the faults of a session, of a terminal and of a limit.
 use Rattle.std.specs.Prelude.{ℕ, List, codes}
 use Rattle.t0_core.specs.FaultText.{fault_text}
 use Rattle.card_terminal.specs.declared.session_fault.SessionFault.{SessionFault}
 use Rattle.card_terminal.specs.declared.session_fault.SessionFault.TheVariants.{OutOfMemory, Line}
 use Rattle.card_terminal.specs.declared.terminal.begin_fault.BeginFault.{BeginFault}
 use Rattle.card_terminal.specs.declared.terminal.begin_fault.BeginFault.TheVariants as begin
+use Rattle.card_terminal.specs.declared.start_fault.StartFault.{StartFault}
+use Rattle.card_terminal.specs.declared.start_fault.StartFault.TheVariants as start
 
 -- why a command was not answered
 abbrev pub session_text : SessionFault → List ℕ
@@ -15,3 +17,8 @@ session_text (Line fault) = fault_text fault
 abbrev pub begin_text : BeginFault → List ℕ
 begin_text begin.OutOfMemory = codes "out of memory"
 begin_text begin.UnderWay = codes "an operation is under way"
+
+-- why no exchange or terminal with a limit was made
+abbrev pub start_text : StartFault → List ℕ
+start_text start.OutOfMemory = codes "out of memory"
+start_text start.OverLimit = codes "the limit is over 16384 bytes"

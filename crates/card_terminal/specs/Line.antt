@@ -11,7 +11,7 @@ use Rattle.t0_core.specs.Dialogue.{Dialogue}
 use Rattle.t0_core.specs.Front.{Front, front_characters, fresh}
 use Rattle.t0_core.specs.Plan.{Cursor, IsCut, advanced}
 use Rattle.t0_core.specs.Watch.{Hearing, Hears}
-use Rattle.card_terminal.specs.ExchangeSide.{ExchangeOf, UnderWay, IsOver, so_far}
+use Rattle.card_terminal.specs.ExchangeSide.{ExchangeOf, UnderWay, IsOver, so_far, response_limit}
 use Rattle.card_terminal.specs.Gathered.{UnitOf, dialogues_of}
 use Rattle.object_card.specs.Agreed.{IsAgreed}
 use Rattle.card_terminal.specs.Conversing.{Point, point, next_plan, HaveGone, IsCaused, characters_left}
@@ -42,7 +42,7 @@ begun card command l = record { command = command; from = point_of card l }
 
 abbrev pub Begins : {C : Type 0} (card : Ghosts C) → Command → Line C → Type 0
 Begins card command l = IsAgreed card.MayReceive card.MaySend command
-    × UnderWay command l.exchange [] None fresh
+    × UnderWay command l.exchange [] None fresh × (l.exchange.gather.limit ≡ response_limit)
 
 -- The TPDU has its plan, the next of those that were left when it began; or it is to take it.
 abbrev pub IsAtPlan : Stage → Cursor → Cursor → Type 0
@@ -65,6 +65,7 @@ pub record IsGoing {C : Type 0} (card : Ghosts C) (s : Start card.State) (l : Li
   pub tried : Option Dialogue
   pub front : Front
   pub terminal : UnderWay s.command l.exchange units tried front
+  pub room : l.exchange.gather.limit ≡ response_limit
   pub before : Cursor  -- as it was when the TPDU began
   pub between : Hearing
   pub gone : HaveGone card.Does s.from (so_far units tried)
@@ -77,6 +78,7 @@ pub record IsDone {C : Type 0} (card : Ghosts C) (s : Start card.State) (l : Lin
   pub units : List UnitOf
   pub status : StatusWord
   pub terminal : IsOver s.command l.exchange units status
+  pub room : l.exchange.gather.limit ≡ response_limit
   pub gone : HaveGone card.Does s.from (flat_map dialogues_of units) (point_of card l)
   pub at_rest : l.end.stage ≡ Taking_header []
 

@@ -4,17 +4,16 @@ use Rattle.std.specs.List.{AllByRecursion, flat_map}
 use Rattle.apdu_core.specs.HeaderBytes.{ins_is_valid}
 use Rattle.apdu_core.specs.CommandBytes.{Command}
 use Rattle.card_terminal.specs.Gathered.{UnitOf, unit_data}
-use Rattle.card_terminal.specs.ExchangeSide.{response_limit}
 
 -- the INS of each command is a valid byte
 abbrev pub HaveValidIns : List Command → Type 0
 HaveValidIns commands =
     AllByRecursion (λ c. (ins_is_valid c.header.ins ≡ true) × (c.header.ins < 256)) commands
 
--- there is room for the data of each exchange
-abbrev pub HaveRoom : List (List UnitOf) → Type 0
-HaveRoom exchanges =
-    AllByRecursion (λ units. length (flat_map unit_data units) ≤ response_limit) exchanges
+-- the data of each exchange are no more than so many bytes
+abbrev pub HaveRoom : ℕ → List (List UnitOf) → Type 0
+HaveRoom limit exchanges =
+    AllByRecursion (λ units. length (flat_map unit_data units) ≤ limit) exchanges
 
 -- how many bytes the exchanges bring
 abbrev pub brought_by : List (List UnitOf) → ℕ

@@ -1,6 +1,6 @@
 -- An operation at a terminal that is driven from outside: what is kept of it, and which characters
 -- led there.
-use Rattle.std.specs.Prelude.{◌≡◌, ◌⊎◌, ℕ, List, [], ◌∷◌, ◌++◌, Option, Some, None, Bool, false, not}
+use Rattle.std.specs.Prelude.{◌≡◌, ◌≤◌, ◌⊎◌, ℕ, List, [], ◌∷◌, ◌++◌, Option, Some, None, IfSome, Bool, false, not}
 use Rattle.std.specs.List.{AllByRecursion}
 use Rattle.apdu_core.specs.StatusWord.{ok}
 use Rattle.apdu_core.specs.CommandBytes.{Command}
@@ -12,7 +12,7 @@ use Rattle.t0_core.specs.Dialogue.{IsDialogue}
 use Rattle.object_card.specs.CarryingOut.{put_header}
 use Rattle.card_terminal.specs.Gathered.{UnitOf}
 use Rattle.card_terminal.specs.Talk.{AreTakenUpTo, talk_dialogues, talk_characters}
-use Rattle.card_terminal.specs.ExchangeSide.{ExchangeOf, IsBounded, exchange_turn}
+use Rattle.card_terminal.specs.ExchangeSide.{ExchangeOf, IsBounded, exchange_turn, response_limit}
 use Rattle.card_terminal.specs.ExchangeHistory.{ComesTo, ComesTooFar}
 use Rattle.card_terminal.specs.Conversing.{is_done}
 
@@ -23,6 +23,25 @@ pub record OperationOf : Type 0 where
   pub p1 : ℕ
   pub p2 : ℕ
   pub rest : List ℕ
+
+-- A terminal: the most bytes that a response may have, and the operation that it has begun last, if
+-- any.
+pub record TerminalOf : Type 0 where
+  pub limit : ℕ
+  pub operation : Option OperationOf
+
+-- one that has begun none
+abbrev pub at_rest : ℕ → TerminalOf
+at_rest limit = record { limit = limit; operation = None }
+
+-- so many bytes are the room of the operation's exchange
+abbrev pub HasRoomFor : ℕ → Option OperationOf → Type 0
+HasRoomFor limit operation = IfSome operation (λ o. o.exchange.gather.limit ≡ limit)
+
+-- The limit of a terminal stays as it was, and is that of the exchange under way.
+pub record KeepsLimit (old new : TerminalOf) : Type 0 where
+  pub stays : new.limit ≡ old.limit
+  pub is_room : HasRoomFor new.limit new.operation
 
 -- the commands that are still to come: none, or those that carry the rest of the value
 abbrev pub AreLeft : ℕ → ℕ → List ℕ → List Command → Type 0
@@ -59,6 +78,12 @@ LeadsThroughTooFar commands came cs o =
 abbrev pub IsSettled : OperationOf → Type 0
 IsSettled o = exchange_turn o.exchange ≡ Done ok → o.rest ≡ []
 
+-- what holds of every terminal
+pub record IsSet (limit : ℕ) (operation : Option OperationOf) : Type 0 where
+  pub few : limit ≤ response_limit
+  pub is_room : HasRoomFor limit operation
+  pub settled : IfSome operation (λ o. IsSettled o)
+
 -- So it is of a terminal, which has begun an operation, or has none. After a command that is
 -- answered 9000 the next has begun, if one follows.
 abbrev pub LeadsTo : List Command → List Character → Option OperationOf → Type 0
@@ -92,6 +117,7 @@ pub record GoesToNext (old new : OperationOf) : Type 0 where
       × AreLeft new.p1 new.p2 new.rest after
   pub sends : (byte : ℕ) × (exchange_turn new.exchange ≡ Sends byte)
   pub bounds : IsBounded new.exchange
+  pub limit : new.exchange.gather.limit ≡ old.exchange.gather.limit
 
 -- after a command's exchange that is over the next begins, if one follows; else nothing changes
 abbrev pub GoesOver : OperationOf → OperationOf → Type 0

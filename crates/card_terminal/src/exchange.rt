@@ -8,7 +8,7 @@ ghost use Rattle.t0_core.specs.Front.{fresh};
 ghost use Rattle.t0_core.specs.HostSide.{HostStandsAt, IsRequest, turn_of};
 ghost use Rattle.t0_core.specs.HostMark.{HasOnly};
 ghost use Rattle.t0_core.specs.HostAnswer.{is_due, may_come, answer_fault, fails_with, Gives};
-ghost use Rattle.card_terminal.specs.ExchangeSide.{HostOpensBy, asks_card};
+ghost use Rattle.card_terminal.specs.ExchangeSide.{HostOpensBy, asks_card, response_limit};
 
 mod detached;
 mod handing;
@@ -19,6 +19,7 @@ mod taking;
 use crate::answer::Answer;
 use crate::attempt::Attempt;
 use crate::handed_out::HandedOut;
+use crate::start_fault::StartFault;
 use crate::taken::Taken;
 use crate::wanted::Wanted;
 use apdu_core::{Command, Header, Status};
@@ -30,7 +31,8 @@ use std::marker::Model;
 use t0_core::{AnswerFault, Gather, HostEnd, HostTurn, LineFault, WholeTpdu};
 use taking::{all_taken_by, taken_by};
 
-/// The most bytes of a response that a terminal gathers (this project's profile).
+/// The most bytes of a response that a terminal gathers, whatever its limit (this project's
+/// profile).
 pub const RESPONSE_LIMIT: usize = 16_384;
 
 /// The terminal's side of a command: its TPDU, a repetition of it after `6CXX`, and a GET RESPONSE
@@ -76,20 +78,55 @@ impl<'a, A: Allocator> Exchange<'a, A> {
     ghost use Rattle.t0_core.specs.Front.{Front, GoesOn, Ends, brought};
     ghost use Rattle.t0_core.specs.HostSide.{fault_of, data_due};
     ghost use Rattle.card_terminal.specs.Buffers.{IsHandingOut, IsTakingAll};
-    ghost use Rattle.card_terminal.specs.ExchangeSteps.{IsTurn, IsTaking};
+    ghost use Rattle.card_terminal.specs.ExchangeSteps.{IsTurn, IsTaking, IsLimited};
     ghost use Rattle.card_terminal.specs.Gathered.{UnitOf, Gathers};
     ghost use Rattle.card_terminal.specs.ExchangeHistory.{ComesTo, ComesTooFar, unit_characters};
     ghost use Rattle.t0_core.specs.Character.{Character};
     ghost use Rattle.card_terminal.specs.ExchangeSide.{UnderWay, IsKept, IsBounded, IsAtEnd, Continues, Stall, exchange_turn, ended_with, is_final};
 
-    /// Begins the exchange of a command. The room for the response is taken here; the error is want
-    /// of memory.
+    /// Begins the exchange of a command. The room for the response, `RESPONSE_LIMIT` bytes, is
+    /// taken here; the error is want of memory.
     pub fn start(alloc: A, command: Command<'a>) -> Result<Exchange<'a, A>, AllocError>
         ensures begins { IfOk result (λ ex. UnderWay command.entry ex [] None fresh) }
         ensures led { IfOk result (λ ex. ComesTo command.entry [] ex) }
         ensures data { IfOk result (λ ex. HasOnly command.entry.content ex.host) }
+        ensures limit { IfOk result (λ ex. ex.gather.limit ≡ RESPONSE_LIMIT) }
     {
-        let gather = Gather::with_room(alloc, RESPONSE_LIMIT)?;
+        Exchange::in_room(alloc, command, RESPONSE_LIMIT)
+    }
+
+    /// Begins the exchange of a command whose response may have so many bytes, 0 to
+    /// `RESPONSE_LIMIT`; data beyond them are `TooLong` where they come. So much room is taken
+    /// here.
+    ///
+    /// `OverLimit` comes where the limit is over `RESPONSE_LIMIT`, and then no memory is asked for;
+    /// else the fault is want of memory, `OutOfMemory`.
+    pub fn start_within(
+        alloc: A,
+        command: Command<'a>,
+        limit: usize,
+    ) -> Result<Exchange<'a, A>, StartFault>
+        ensures begins { IfOk result (λ ex. UnderWay command.entry ex [] None fresh) }
+        ensures led { IfOk result (λ ex. ComesTo command.entry [] ex) }
+        ensures data { IfOk result (λ ex. HasOnly command.entry.content ex.host) }
+        ensures limited { IsLimited limit result }
+    {
+        if limit > RESPONSE_LIMIT {
+            return Err(StartFault::OverLimit);
+        }
+        Ok(Exchange::in_room(alloc, command, limit)?)
+    }
+
+    /// Begins the exchange of a command with so much room for the response. The error is want of
+    /// memory.
+    fn in_room(alloc: A, command: Command<'a>, limit: usize) -> Result<Exchange<'a, A>, AllocError>
+        requires { limit ≤ response_limit }
+        ensures begins { IfOk result (λ ex. UnderWay command.entry ex [] None fresh) }
+        ensures led { IfOk result (λ ex. ComesTo command.entry [] ex) }
+        ensures data { IfOk result (λ ex. HasOnly command.entry.content ex.host) }
+        ensures limit { IfOk result (λ ex. ex.gather.limit ≡ limit) }
+    {
+        let gather = Gather::with_room(alloc, limit)?;
         Ok(Exchange::begin(gather, command))
     }
 
@@ -97,6 +134,7 @@ impl<'a, A: Allocator> Exchange<'a, A> {
     pub fn again<'b>(self, command: Command<'b>) -> Exchange<'b, A>
         ensures begins { UnderWay command.entry result [] None fresh }
         ensures led { ComesTo command.entry [] result }
+        ensures limit { result.gather.limit ≡ self.entry.gather.limit }
     {
         let Exchange { mut gather, .. } = self;
         gather.clear();
@@ -105,9 +143,11 @@ impl<'a, A: Allocator> Exchange<'a, A> {
 
     /// Begins the exchange of a command in an empty room.
     fn begin(gather: Gather<A>, command: Command<'a>) -> Exchange<'a, A>
-        requires { gather ≡ record { bytes = []; limit = RESPONSE_LIMIT } }
+        requires empty { gather.bytes ≡ [] }
+        requires limit { gather.limit ≤ response_limit }
         ensures begins { UnderWay command.entry result [] None fresh }
         ensures data { HasOnly command.entry.content result.host }
+        ensures room { result.gather ≡ gather }
     {
         let header = command.header();
         let le = command.le();
@@ -135,6 +175,7 @@ impl<'a, A: Allocator> Exchange<'a, A> {
         ensures turn { result ≡ exchange_turn self.old }
         ensures stays { ((byte : ℕ) → result ≡ HostTurn.Sends byte → ⊥) → self.new ≡ self.old }
         ensures bounds { IsBounded self.new }
+        ensures limit { self.new.gather.limit ≡ self.old.gather.limit }
         ensures data { (content : List ℕ) → HasOnly content self.old.host
             → HasOnly content self.new.host }
 
@@ -168,6 +209,7 @@ impl<'a, A: Allocator> Exchange<'a, A> {
         ensures sends { (byte : ℕ) → result ≡ Some byte
             → exchange_turn self.old ≡ HostTurn.Sends byte }
         ensures stays { result ≡ None → self.new ≡ self.old }
+        ensures limit { self.new.gather.limit ≡ self.old.gather.limit }
         ensures goes_on { (c : spec.Command) (units : List UnitOf) (first : Option Dialogue)
             (front : Front) (byte : ℕ) →
             UnderWay c self.old units first front → result ≡ Some byte →
@@ -192,6 +234,7 @@ impl<'a, A: Allocator> Exchange<'a, A> {
             ⊎ ((fault ≡ LineFault.Stalled)
             × (fault_of self.old.host self.old.gather byte ≡ None))) }
         ensures bounds { IsBounded self.new }
+        ensures limit { self.new.gather.limit ≡ self.old.gather.limit }
         ensures data { (content : List ℕ) → HasOnly content self.old.host
             → HasOnly content self.new.host }
         ensures after_end { IsAtEnd self.old → IsErrOf result LineFault.AfterEnd }
@@ -208,7 +251,7 @@ impl<'a, A: Allocator> Exchange<'a, A> {
         ensures full { (c : spec.Command) (units : List UnitOf) (first : Option Dialogue)
             (front new : Front) →
             UnderWay c self.old units first front → GoesOn front (Card, byte) new →
-            OnErr result ((length self.old.gather.bytes ≡ RESPONSE_LIMIT)
+            OnErr result ((length self.old.gather.bytes ≡ self.old.gather.limit)
             × (brought new ≡ brought front ++ byte ∷ [])) }
         ensures came { (c : spec.Command) (units : List UnitOf) (first : Option Dialogue)
             (front : Front) →
@@ -295,6 +338,7 @@ impl<'a, A: Allocator> Exchange<'a, A> {
             ⊎ ((fault ≡ AnswerFault.Stalled)
             × (answer_fault self.old.host self.old.gather bytes.now ≡ None))) }
         ensures bounds { IsBounded self.new }
+        ensures limit { self.new.gather.limit ≡ self.old.gather.limit }
         ensures data { (content : List ℕ) → HasOnly content self.old.host
             → HasOnly content self.new.host }
         ensures unchanged { IfErr result (λ fault. fails_with fault ≡ false → self.new ≡ self.old) }
@@ -309,7 +353,7 @@ impl<'a, A: Allocator> Exchange<'a, A> {
             MatchResult result (λ _. Continues c self.new units first d)
             (λ fault. ((fault ≡ AnswerFault.Stalled) × Stall c (units ++ ended_with first d ∷ []))
             ⊎ ((fault ≡ AnswerFault.TooLong)
-            × (RESPONSE_LIMIT < length self.old.gather.bytes + length bytes.now))) }
+            × (self.old.gather.limit < length self.old.gather.bytes + length bytes.now))) }
 
         // Whatever led to the exchange leads to it with its characters; where there is no room for
         // the data, with those up to the first that is too much.

@@ -9,7 +9,7 @@ ghost use Rattle.t0_core.specs.Dialogue.{Dialogue, IsDialogue};
 ghost use Rattle.apdu_core.specs.CommandBytes as spec;
 ghost use Rattle.t0_core.specs.Character.{Character};
 ghost use Rattle.card_terminal.specs.Gathered.{UnitOf, dialogues_of, IsOpenExchange, Gathers, unit_data, tpdus};
-ghost use Rattle.card_terminal.specs.ExchangeSide.{ExchangeOf, Continues, IsOver, Stall, ended_with, exchange_turn, response_limit};
+ghost use Rattle.card_terminal.specs.ExchangeSide.{ExchangeOf, Continues, IsOver, Stall, ended_with, exchange_turn};
 ghost use Rattle.card_terminal.specs.ExchangeHistory.{ComesTo, Expects, BeginsExchange, FaultCameLast, unit_characters};
 
 /// What led to an exchange are the first characters of an open exchange of its command, but for a
@@ -48,14 +48,14 @@ pub fn the_next_character_is_settled()
         ins_is_valid c.header.ins ≡ true → c.header.ins < 256 →
         ComesTo c came ex → Gathers c units gathered status →
         AllByRecursion IsDialogue (flat_map dialogues_of units) →
-        length gathered ≤ response_limit →
+        length gathered ≤ ex.gather.limit →
         unit_characters units ≡ came ++ ch ∷ rest → Expects ex ch }
     ensures going { (c : spec.Command) (came : List Character) (ex : ExchangeOf)
         (units : List UnitOf) (gathered : List ℕ) (status : StatusWord) (rest : List Character) →
         ins_is_valid c.header.ins ≡ true → c.header.ins < 256 →
         ComesTo c came ex → Gathers c units gathered status →
         AllByRecursion IsDialogue (flat_map dialogues_of units) →
-        length gathered ≤ response_limit →
+        length gathered ≤ ex.gather.limit →
         unit_characters units ≡ came ++ rest → exchange_turn ex ≡ HostTurn.Failed → ⊥ }
 {}
 

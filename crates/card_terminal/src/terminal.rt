@@ -1,10 +1,11 @@
 //! A terminal that a caller drives: an operation under way, over any line.
-ghost use Rattle.std.specs.Prelude.{◌≡◌, ℕ, List, [], ◌∷◌, None, Some, true, false, IfSome, is_some};
+ghost use Rattle.std.specs.Prelude.{◌≡◌, ◌≤◌, ◌<◌, ℕ, List, [], ◌∷◌, None, MatchResult, Some, true, false, IfSome, is_some};
 ghost use Rattle.std.specs.Option.{option_map};
 ghost use Rattle.apdu_core.specs.CommandBytes as spec;
 ghost use Rattle.object_card.specs.OneStep.{Select, Get, Put};
 ghost use Rattle.card_terminal.specs.Talk.{AreCommandsOf};
-ghost use Rattle.card_terminal.specs.TerminalSide.{OperationOf, is_going};
+ghost use Rattle.card_terminal.specs.ExchangeSide.{response_limit};
+ghost use Rattle.card_terminal.specs.TerminalSide.{OperationOf, KeepsLimit, at_rest, is_going};
 ghost use Rattle.card_terminal.specs.Buffers.{IsTakingAll};
 ghost use Rattle.card_terminal.specs.TerminalSteps.{IsBeginning, IsTerminalTurn, IsTerminalHandingOut, IsTerminalTaking, IsTerminalAnswering, IsTerminalAnswer, is_tpdu_due, terminal_data};
 ghost use Rattle.t0_core.specs.HostAnswer.{may_come};
@@ -13,7 +14,9 @@ mod begin_fault;
 mod operation;
 
 use crate::commands::{get_command, select_command};
+use crate::exchange::RESPONSE_LIMIT;
 use crate::handed_out::HandedOut;
+use crate::start_fault::StartFault;
 use crate::taken::Taken;
 use apdu_core::{Command, Status};
 pub use begin_fault::BeginFault;
@@ -30,49 +33,74 @@ use tlv_core::ObjectTag;
 /// `select`, `get`, `put` and `send` begin an operation, and take all its memory. `next` and `take`
 /// pass its characters, until `next` answers `Done`; then `answer` has the status and the data. The
 /// next operation may begin once it is over, has failed or was dropped by `reset`. Contracts see a
-/// terminal as what it keeps of the operation that it has begun last, if any.
+/// terminal as the most bytes that a response may have, and what it keeps of the operation that it
+/// has begun last, if any.
 #[derive(Drop)]
 pub struct Terminal<A: Allocator + Copy = Global> {
     alloc: A,
+    limit: usize,
     operation: Option<Operation<A>>,
 }
 
 impl<A: Allocator + Copy> Model for Terminal<A> {
-    ghost use Rattle.std.specs.Prelude.{Option, IfSome};
-    ghost use Rattle.card_terminal.specs.TerminalSide.{OperationOf, IsSettled};
+    ghost use Rattle.card_terminal.specs.TerminalSide.{TerminalOf, IsSet};
 
-    ghost Value = { Option OperationOf };
+    ghost Value = { TerminalOf };
 
-    ghost view = { λ t. t.operation };
+    ghost view = { λ t. record { limit = t.limit; operation = t.operation } };
 
-    ghost invariant = { λ t. IfSome t.operation (λ o. IsSettled o) };
+    ghost invariant = { λ t. IsSet t.limit t.operation };
 }
 
 impl<A: Allocator + Copy> Terminal<A> {
-    /// A terminal that has begun no operation. It takes no memory.
+    /// A terminal that has begun no operation, for responses of up to `RESPONSE_LIMIT` bytes. It
+    /// takes no memory.
     pub fn new(alloc: A) -> Terminal<A>
-        ensures { result ≡ None }
+        ensures { result ≡ at_rest response_limit }
     {
         Terminal {
             alloc,
+            limit: RESPONSE_LIMIT,
             operation: None,
         }
+    }
+
+    /// A terminal that has begun no operation, for responses of up to so many bytes, 0 to
+    /// `RESPONSE_LIMIT`; data beyond them are `TooLong` where they come. It takes no memory.
+    ///
+    /// The only fault is `OverLimit`, where the limit is over `RESPONSE_LIMIT`.
+    pub fn new_within(alloc: A, limit: usize) -> Result<Terminal<A>, StartFault>
+        ensures { MatchResult result (λ t. (limit ≤ response_limit) × (t ≡ at_rest limit))
+            (λ fault. (response_limit < limit) × (fault ≡ StartFault.OverLimit)) }
+    {
+        if limit > RESPONSE_LIMIT {
+            return Err(StartFault::OverLimit);
+        }
+        Ok(Terminal {
+            alloc,
+            limit,
+            operation: None,
+        })
     }
 
     /// Begins the selection of the application with this identifier.
     ///
     /// `UnderWay` comes where an operation is under way, `OutOfMemory` where memory is wanting for
-    /// the response (`RESPONSE_LIMIT` bytes) or the copy of the data that go to the card. Neither
-    /// changes anything. So it is with each operation.
+    /// the response (as many bytes as the terminal's limit) or the copy of the data that go to the
+    /// card. Neither changes anything. So it is with each operation.
     pub fn select(&mut self, aid: &Aid) -> Result<(), BeginFault>
-        ensures { IsBeginning (AreCommandsOf (Select aid.now)) self.old result self.new }
+        ensures begins { IsBeginning (AreCommandsOf (Select aid.now)) self.old.operation result
+            self.new.operation }
+        ensures limit { KeepsLimit self.old self.new }
     {
         self.send(select_command(aid))
     }
 
     /// Begins the reading of the data object with this tag.
     pub fn get(&mut self, tag: ObjectTag) -> Result<(), BeginFault>
-        ensures { IsBeginning (AreCommandsOf (Get tag)) self.old result self.new }
+        ensures begins { IsBeginning (AreCommandsOf (Get tag)) self.old.operation result
+            self.new.operation }
+        ensures limit { KeepsLimit self.old self.new }
     {
         self.send(get_command(tag))
     }
@@ -80,29 +108,34 @@ impl<A: Allocator + Copy> Terminal<A> {
     /// Begins the storing of this value, which is copied, under the tag. It goes in pieces, up to
     /// the first that is answered with another status than `9000`.
     pub fn put(&mut self, tag: ObjectTag, value: &[u8]) -> Result<(), BeginFault>
-        ensures { IsBeginning (AreCommandsOf (Put tag value.now)) self.old result self.new }
+        ensures begins { IsBeginning (AreCommandsOf (Put tag value.now)) self.old.operation result
+            self.new.operation }
+        ensures limit { KeepsLimit self.old self.new }
     {
         if self.is_going() {
             return Err(BeginFault::UnderWay);
         }
-        self.operation = Some(Operation::of_put(self.alloc, tag, value)?);
+        self.operation = Some(Operation::of_put(self.alloc, self.limit, tag, value)?);
         Ok(())
     }
 
     /// Begins the exchange of a command, whose data are copied.
     pub fn send(&mut self, command: Command<'_>) -> Result<(), BeginFault>
-        ensures { IsBeginning (λ commands. commands ≡ command.entry ∷ []) self.old result self.new }
+        ensures begins { IsBeginning (λ commands. commands ≡ command.entry ∷ [])
+            self.old.operation result self.new.operation }
+        ensures limit { KeepsLimit self.old self.new }
     {
         if self.is_going() {
             return Err(BeginFault::UnderWay);
         }
-        self.operation = Some(Operation::of_command(self.alloc, command)?);
+        self.operation = Some(Operation::of_command(self.alloc, self.limit, command)?);
         Ok(())
     }
 
     /// Whether an operation is under way: it is neither over nor failed, and none may begin.
     pub fn is_going(&self) -> bool
-        ensures { result ≡ is_going self.now }
+        ensures going { result ≡ is_going self.now.operation }
+        ensures limit { KeepsLimit self.now self.now }
     {
         match &self.operation {
             None => false,
@@ -118,7 +151,8 @@ impl<A: Allocator + Copy> Terminal<A> {
     /// of the last command once the operation is over, and `Failed` after a line fault.
     #[inline(always)]
     pub fn next(&mut self) -> Option<HostTurn>
-        ensures { IsTerminalTurn self.old result self.new }
+        ensures turn { IsTerminalTurn self.old.operation result self.new.operation }
+        ensures limit { KeepsLimit self.old self.new }
     {
         match &mut self.operation {
             None => None,
@@ -131,10 +165,11 @@ impl<A: Allocator + Copy> Terminal<A> {
     /// asks before none of it whose turn it is.
     #[inline(always)]
     pub fn next_data(&mut self) -> Option<u8>
-        ensures due { result ≡ terminal_data self.old }
+        ensures due { result ≡ terminal_data self.old.operation }
         ensures turn { (byte : ℕ) → result ≡ Some byte
-            → IsTerminalTurn self.old (Some (HostTurn.Sends byte)) self.new }
+            → IsTerminalTurn self.old.operation (Some (HostTurn.Sends byte)) self.new.operation }
         ensures stays { result ≡ None → self.new ≡ self.old }
+        ensures limit { KeepsLimit self.old self.new }
     {
         match &mut self.operation {
             None => None,
@@ -150,7 +185,8 @@ impl<A: Allocator + Copy> Terminal<A> {
     /// `NotListening` where it has characters to send: these change nothing.
     #[inline(always)]
     pub fn take(&mut self, byte: u8) -> Result<(), LineFault>
-        ensures { IsTerminalTaking self.old byte result self.new }
+        ensures taking { IsTerminalTaking self.old.operation byte result self.new.operation }
+        ensures limit { KeepsLimit self.old self.new }
     {
         match &mut self.operation {
             None => Err(LineFault::AfterEnd),
@@ -161,7 +197,9 @@ impl<A: Allocator + Copy> Terminal<A> {
     /// Hands out characters into a buffer, as `next` one at a time, until the buffer is full or the
     /// terminal does not send; `None` where no operation has begun.
     pub fn next_bytes(&mut self, bytes: &mut [u8]) -> Option<HandedOut>
-        ensures { IsTerminalHandingOut self.old bytes.old bytes.new result self.new }
+        ensures handed { IsTerminalHandingOut self.old.operation bytes.old bytes.new result
+            self.new.operation }
+        ensures limit { KeepsLimit self.old self.new }
     {
         match &mut self.operation {
             None => None,
@@ -172,7 +210,9 @@ impl<A: Allocator + Copy> Terminal<A> {
     /// Takes the characters of a buffer, as `take` one at a time, up to the first that is a fault,
     /// with which it stops. That fault does what it does at `take`.
     pub fn take_bytes(&mut self, bytes: &[u8]) -> Taken
-        ensures { IsTakingAll IsTerminalTaking self.old bytes.now result self.new }
+        ensures taking { IsTakingAll IsTerminalTaking self.old.operation bytes.now result
+            self.new.operation }
+        ensures limit { KeepsLimit self.old self.new }
     {
         match &mut self.operation {
             None => none_taken(bytes),
@@ -183,8 +223,8 @@ impl<A: Allocator + Copy> Terminal<A> {
     /// The whole TPDU that is due, for a transport of whole TPDUs, as `Exchange::tpdu`; `None` also
     /// where no operation has begun.
     pub fn tpdu(&self) -> Option<WholeTpdu<'_>>
-        ensures due { is_some result ≡ is_tpdu_due self.now }
-        ensures whole { IfSome result (λ t. IfSome self.now
+        ensures due { is_some result ≡ is_tpdu_due self.now.operation }
+        ensures whole { IfSome result (λ t. IfSome self.now.operation
             (λ o. (t.header ≡ o.exchange.host.header) × (t.p3 ≡ o.exchange.host.p3)
             × (t.content.now ≡ o.exchange.host.content)
             × (t.may_come ≡ may_come o.exchange.host.direction o.exchange.host.p3))) }
@@ -203,7 +243,9 @@ impl<A: Allocator + Copy> Terminal<A> {
     /// `NotDue` comes also where no operation has begun; it, `NotAsked` and `TooMany` change
     /// nothing.
     pub fn answered(&mut self, bytes: &[u8], status: Status) -> Result<(), AnswerFault>
-        ensures { IsTerminalAnswering self.old bytes.now status result self.new }
+        ensures answering { IsTerminalAnswering self.old.operation bytes.now status result
+            self.new.operation }
+        ensures limit { KeepsLimit self.old self.new }
     {
         match &mut self.operation {
             None => Err(AnswerFault::NotDue),
@@ -214,7 +256,7 @@ impl<A: Allocator + Copy> Terminal<A> {
     /// The status and the data of the last command of the operation, if it is over. They can be
     /// asked for again until the next operation begins, or a reset.
     pub fn answer(&self) -> Option<(Status, &[u8])>
-        ensures { IsTerminalAnswer self.now (option_map (λ a. (a.0, a.1.now)) result) }
+        ensures { IsTerminalAnswer self.now.operation (option_map (λ a. (a.0, a.1.now)) result) }
     {
         match &self.operation {
             None => None,
@@ -224,7 +266,7 @@ impl<A: Allocator + Copy> Terminal<A> {
 
     /// Drops the operation, wherever it is, and gives its memory back. Nothing is told to the card.
     pub fn reset(&mut self)
-        ensures { self.new ≡ None }
+        ensures { self.new ≡ at_rest self.old.limit }
     {
         self.operation = None;
     }

@@ -42,13 +42,15 @@ pub fn the_next_character_of_an_operation_is_settled()
         (exchanges : List (List UnitOf)) (answer : Reply) (ch : Character)
         (rest : List Character) → HaveValidIns commands →
         LeadsTo commands came (Some o) → AreExchangesOf commands exchanges answer →
-        AllByRecursion IsDialogue (talk_dialogues exchanges) → HaveRoom exchanges →
+        AllByRecursion IsDialogue (talk_dialogues exchanges) →
+        HaveRoom o.exchange.gather.limit exchanges →
         talk_characters exchanges ≡ came ++ ch ∷ rest → Expects o.exchange ch }
     ensures going { (commands : List Command) (came : List Character) (o : OperationOf)
         (exchanges : List (List UnitOf)) (answer : Reply) (rest : List Character) →
         HaveValidIns commands → LeadsTo commands came (Some o) →
         AreExchangesOf commands exchanges answer →
-        AllByRecursion IsDialogue (talk_dialogues exchanges) → HaveRoom exchanges →
+        AllByRecursion IsDialogue (talk_dialogues exchanges) →
+        HaveRoom o.exchange.gather.limit exchanges →
         talk_characters exchanges ≡ came ++ rest →
         exchange_turn o.exchange ≡ HostTurn.Failed → ⊥ }
 {}

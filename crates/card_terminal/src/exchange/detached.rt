@@ -1,5 +1,5 @@
 //! An exchange without its command's data, which each call is given.
-ghost use Rattle.std.specs.Prelude.{◌≡◌, ℕ, List, [], None, Some, IfOk, IfSome, is_some};
+ghost use Rattle.std.specs.Prelude.{◌≡◌, ◌≤◌, ℕ, List, [], None, Some, IfOk, IfSome, is_some};
 ghost use Rattle.std.specs.Option.{option_map};
 ghost use Rattle.apdu_core.specs.StatusWord.{StatusWord};
 ghost use Rattle.t0_core.specs.Front.{fresh};
@@ -42,16 +42,18 @@ impl<A: Allocator + Copy> Model for Detached<A> {
 }
 
 impl<A: Allocator + Copy> Detached<A> {
-    /// Begins the exchange of a command. The room for the response is taken here; the error is want
-    /// of memory.
-    pub fn start(alloc: A, command: Command<'_>) -> Result<Detached<A>, AllocError>
+    /// Begins the exchange of a command with so much room for the response, which is taken here;
+    /// the error is want of memory.
+    pub fn start(alloc: A, command: Command<'_>, limit: usize) -> Result<Detached<A>, AllocError>
+        requires { limit ≤ response_limit }
         ensures led { IfOk result
             (λ ex. ComesTo command.entry [] (over_data ex command.entry.content)) }
         ensures begins { IfOk result
             (λ ex. UnderWay command.entry (over_data ex command.entry.content) [] None fresh) }
         ensures sound { IfOk result (λ ex. IsSound (over_data ex command.entry.content)) }
+        ensures limit { IfOk result (λ ex. ex.gather.limit ≡ limit) }
     {
-        let (kept, gather) = aside(Exchange::start(alloc, command)?);
+        let (kept, gather) = aside(Exchange::in_room(alloc, command, limit)?);
         Ok(Detached {
             alloc,
             kept,
@@ -61,11 +63,12 @@ impl<A: Allocator + Copy> Detached<A> {
 
     /// Begins the exchange of another command in the same room, which is emptied.
     pub fn again(&mut self, command: Command<'_>)
-        requires { self.old.gather.limit ≡ response_limit }
+        requires { self.old.gather.limit ≤ response_limit }
         ensures led { ComesTo command.entry [] (over_data self.new command.entry.content) }
         ensures begins { UnderWay command.entry (over_data self.new command.entry.content)
             [] None fresh }
         ensures sound { IsSound (over_data self.new command.entry.content) }
+        ensures limit { self.new.gather.limit ≡ self.old.gather.limit }
     {
         let mut gather = mem::replace(&mut self.gather, Gather::without_room(self.alloc));
         gather.clear();
@@ -96,6 +99,7 @@ impl<A: Allocator + Copy> Detached<A> {
             → exchange_turn (over_data self.new content.now) ≡ HostTurn.Done status
             → over_data self.new content.now ≡ over_data self.old content.now }
         ensures sound { IsSound (over_data self.new content.now) }
+        ensures limit { self.new.gather.limit ≡ self.old.gather.limit }
     {
         if self.kept.stalled {
             return HostTurn::Failed;
@@ -119,6 +123,7 @@ impl<A: Allocator + Copy> Detached<A> {
             → over_data self.new content.now ≡ over_data self.old content.now }
         ensures stays { result ≡ None → self.new ≡ self.old }
         ensures sound { IsSound (over_data self.new content.now) }
+        ensures limit { self.new.gather.limit ≡ self.old.gather.limit }
     {
         let mut end = HostEnd::at(self.kept.mark, content);
         let Some(byte) = end.next_data() else {
@@ -135,6 +140,7 @@ impl<A: Allocator + Copy> Detached<A> {
         ensures taking { IsTaking (over_data self.old content.now) byte result
             (over_data self.new content.now) }
         ensures sound { IsSound (over_data self.new content.now) }
+        ensures limit { self.new.gather.limit ≡ self.old.gather.limit }
     {
         let mut end = HostEnd::at(self.kept.mark, content);
         let taken = taken_by(
@@ -158,6 +164,7 @@ impl<A: Allocator + Copy> Detached<A> {
             → exchange_turn (over_data self.new content.now) ≡ HostTurn.Done status
             → over_data self.new content.now ≡ over_data self.old content.now }
         ensures sound { IsSound (over_data self.new content.now) }
+        ensures limit { self.new.gather.limit ≡ self.old.gather.limit }
     {
         let mut end = HostEnd::at(self.kept.mark, content);
         let handed = handed_by(&mut end, self.kept.stalled, bytes);
@@ -171,6 +178,7 @@ impl<A: Allocator + Copy> Detached<A> {
         ensures taking { IsTakingAll IsTaking (over_data self.old content.now) bytes.now result
             (over_data self.new content.now) }
         ensures sound { IsSound (over_data self.new content.now) }
+        ensures limit { self.new.gather.limit ≡ self.old.gather.limit }
     {
         let mut end = HostEnd::at(self.kept.mark, content);
         let taken = all_taken_by(
@@ -210,6 +218,7 @@ impl<A: Allocator + Copy> Detached<A> {
         ensures answering { IsAnswering (over_data self.old content.now) bytes.now status result
             (over_data self.new content.now) }
         ensures sound { IsSound (over_data self.new content.now) }
+        ensures limit { self.new.gather.limit ≡ self.old.gather.limit }
     {
         let gather = mem::replace(&mut self.gather, Gather::without_room(self.alloc));
         let mut exchange = resumed(self.kept, gather, content);

@@ -1,15 +1,17 @@
 //! An exchange that can be kept between characters, since it borrows nothing.
-ghost use Rattle.std.specs.Prelude.{◌≡◌, ℕ, List, [], None, Some, IfOk, IfSome, IsSome, is_some, ◌↔◌, Option};
+ghost use Rattle.std.specs.Prelude.{◌≡◌, ◌≤◌, ℕ, List, [], None, Some, IfOk, IfSome, IsSome, is_some, ◌↔◌, Option};
 ghost use Rattle.std.specs.Option.{option_map};
 ghost use Rattle.t0_core.specs.Front.{fresh};
 ghost use Rattle.t0_core.specs.HostAnswer.{is_due, may_come};
-ghost use Rattle.card_terminal.specs.ExchangeSide.{UnderWay};
+ghost use Rattle.card_terminal.specs.ExchangeSide.{UnderWay, response_limit};
 ghost use Rattle.card_terminal.specs.ExchangeHistory.{ComesTo};
 ghost use Rattle.card_terminal.specs.Buffers.{IsHandingOut, IsTakingAll};
-ghost use Rattle.card_terminal.specs.ExchangeSteps.{IsTurn, IsTaking, IsAnswering, IsAnswer};
+ghost use Rattle.card_terminal.specs.ExchangeSteps.{IsTurn, IsTaking, IsAnswering, IsAnswer, IsLimited};
 
+use crate::exchange::RESPONSE_LIMIT;
 use crate::exchange::detached::Detached;
 use crate::handed_out::HandedOut;
+use crate::start_fault::StartFault;
 use crate::taken::Taken;
 use apdu_core::{Command, Status};
 use std::alloc::{AllocError, Allocator, Global};
@@ -45,9 +47,41 @@ impl OwnedExchange {
     pub fn start(alloc: Global, command: Command<'_>) -> Result<OwnedExchange, AllocError>
         ensures begins { IfOk result (λ ex. UnderWay command.entry ex [] None fresh) }
         ensures led { IfOk result (λ ex. ComesTo command.entry [] ex) }
+        ensures limit { IfOk result (λ ex. ex.gather.limit ≡ response_limit) }
+    {
+        OwnedExchange::in_room(alloc, command, RESPONSE_LIMIT)
+    }
+
+    /// Begins the exchange of a command whose response may have so many bytes, as
+    /// `Exchange::start_within`, with a copy of the command's data.
+    pub fn start_within(
+        alloc: Global,
+        command: Command<'_>,
+        limit: usize,
+    ) -> Result<OwnedExchange, StartFault>
+        ensures begins { IfOk result (λ ex. UnderWay command.entry ex [] None fresh) }
+        ensures led { IfOk result (λ ex. ComesTo command.entry [] ex) }
+        ensures limited { IsLimited limit result }
+    {
+        if limit > RESPONSE_LIMIT {
+            return Err(StartFault::OverLimit);
+        }
+        Ok(OwnedExchange::in_room(alloc, command, limit)?)
+    }
+
+    /// Begins the exchange of a command with so much room for the response.
+    fn in_room(
+        alloc: Global,
+        command: Command<'_>,
+        limit: usize,
+    ) -> Result<OwnedExchange, AllocError>
+        requires { limit ≤ response_limit }
+        ensures begins { IfOk result (λ ex. UnderWay command.entry ex [] None fresh) }
+        ensures led { IfOk result (λ ex. ComesTo command.entry [] ex) }
+        ensures limit { IfOk result (λ ex. ex.gather.limit ≡ limit) }
     {
         let content = Vec::from_slice(alloc, command.data())?;
-        let exchange = Detached::start(alloc, command)?;
+        let exchange = Detached::start(alloc, command, limit)?;
         Ok(OwnedExchange { content, exchange })
     }
 

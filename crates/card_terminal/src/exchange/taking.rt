@@ -10,7 +10,7 @@ ghost use Rattle.t0_core.specs.HostSide.{fault_of};
 ghost use Rattle.t0_core.specs.HostMark.{HasOnly};
 ghost use Rattle.card_terminal.specs.Gathered.{UnitOf};
 ghost use Rattle.card_terminal.specs.ExchangeHistory.{ComesTo};
-ghost use Rattle.card_terminal.specs.ExchangeSide.{UnderWay, IsKept, IsBounded, IsAtEnd, Continues, Stall, exchange_turn, ended_with, is_final, response_limit};
+ghost use Rattle.card_terminal.specs.ExchangeSide.{UnderWay, IsKept, IsBounded, IsAtEnd, Continues, Stall, exchange_turn, ended_with, is_final};
 ghost use Rattle.card_terminal.specs.ExchangeSteps.{IsTaking};
 ghost use Rattle.card_terminal.specs.Buffers.{IsTakingAll};
 ghost use Rattle.card_terminal.specs.OwnedExchange.{of_parts};
@@ -38,6 +38,7 @@ pub(crate) fn taken_by<A: Allocator>(
         (λ fault. (fault_of end.old gather.old byte ≡ Some fault)
         ⊎ ((fault ≡ LineFault.Stalled) × (fault_of end.old gather.old byte ≡ None))) }
     ensures bounds { IsBounded (of_parts end.new gather.new attempt.new wanted stalled.new) }
+    ensures limit { gather.new.limit ≡ gather.old.limit }
     ensures data { (content : List ℕ) → HasOnly content end.old → HasOnly content end.new }
     ensures after_end { IsAtEnd (of_parts end.old gather.old attempt.old wanted stalled.old)
         → IsErrOf result LineFault.AfterEnd }
@@ -58,7 +59,7 @@ pub(crate) fn taken_by<A: Allocator>(
         (front new : Front) →
         UnderWay c (of_parts end.old gather.old attempt.old wanted stalled.old) units first front
         → GoesOn front (Card, byte) new →
-        OnErr result ((length gather.old.bytes ≡ response_limit)
+        OnErr result ((length gather.old.bytes ≡ gather.old.limit)
         × (brought new ≡ brought front ++ byte ∷ [])) }
     ensures came { (c : spec.Command) (units : List UnitOf) (first : Option Dialogue)
         (front : Front) →
@@ -118,6 +119,7 @@ pub(crate) fn all_taken_by<A: Allocator>(
     ensures taking { IsTakingAll IsTaking
         (of_parts end.old gather.old attempt.old wanted stalled.old) bytes.now result
         (of_parts end.new gather.new attempt.new wanted stalled.new) }
+    ensures limit { gather.new.limit ≡ gather.old.limit }
     ensures data { (content : List ℕ) → HasOnly content end.old → HasOnly content end.new }
 {
     for (at, byte) in bytes.iter().enumerate() {

@@ -10,7 +10,7 @@ ghost use Rattle.object_card.specs.OneStep.{Put, AnswersAll};
 ghost use Rattle.card_terminal.specs.declared.session_fault.SessionFault.TheVariants.{OutOfMemory};
 ghost use Rattle.card_terminal.specs.Gathered.{UnitOf, Gathers, dialogues_of};
 ghost use Rattle.object_card.specs.Agreed.{IsAgreed};
-ghost use Rattle.card_terminal.specs.ExchangeSide.{UnderWay, IsOver};
+ghost use Rattle.card_terminal.specs.ExchangeSide.{UnderWay, IsOver, response_limit};
 ghost use Rattle.card_terminal.specs.Talk.{AreExchangesOf, IsTalkOf, Talk, talk_dialogues};
 ghost use Rattle.card_terminal.specs.Operations.{operation_of};
 ghost use Rattle.card_terminal.specs.Conversing.{point, HaveGone};
@@ -205,6 +205,7 @@ impl<C: DataCard> Session<C> {
         requires sound { IsCardState (C.state self.old) }
         requires begun { (c : spec.Command) × IsAgreed C.MayReceive C.MaySend c
             × UnderWay c exchange.old [] None fresh }
+        requires room { exchange.old.gather.limit ≡ response_limit }
         ensures over { (c : spec.Command) → IsAgreed C.MayReceive C.MaySend c →
             UnderWay c exchange.old [] None fresh →
             (units : List UnitOf) × IsOver c exchange.new units result
@@ -212,6 +213,7 @@ impl<C: DataCard> Session<C> {
             (flat_map dialogues_of units)
             (point (C.standing self.new) plans.new.rest (W.hearing watch.new)) }
         ensures sound { IsCardState (C.state self.new) }
+        ensures room { exchange.new.gather.limit ≡ response_limit }
     {
         converse(exchange, &mut self.end, plans, watch).unwrap();
         let HostTurn::Done(status) = exchange.next() else {

@@ -4,7 +4,7 @@ ghost use Rattle.std.specs.Option.{option_map};
 ghost use Rattle.apdu_core.specs.CommandBytes as spec;
 ghost use Rattle.object_card.specs.OneStep.{Put};
 ghost use Rattle.card_terminal.specs.Talk.{AreCommandsOf};
-ghost use Rattle.card_terminal.specs.ExchangeSide.{ExchangeOf, IsBounded, exchange_turn};
+ghost use Rattle.card_terminal.specs.ExchangeSide.{ExchangeOf, IsBounded, exchange_turn, response_limit};
 ghost use Rattle.t0_core.specs.HostSide.{data_due};
 ghost use Rattle.t0_core.specs.HostAnswer.{is_due, may_come};
 ghost use Rattle.apdu_core.specs.StatusWord.{ok};
@@ -58,16 +58,22 @@ impl<A: Allocator + Copy> Model for Operation<A> {
 }
 
 impl<A: Allocator + Copy> Operation<A> {
-    /// Begins an operation of one command. All memory is taken here: room for its response, and for
-    /// its data; the error is want of it.
-    pub fn of_command(alloc: A, command: Command<'_>) -> Result<Operation<A>, AllocError>
+    /// Begins an operation of one command. All memory is taken here: so much room for its response,
+    /// and room for its data; the error is want of it.
+    pub fn of_command(
+        alloc: A,
+        limit: usize,
+        command: Command<'_>,
+    ) -> Result<Operation<A>, AllocError>
+        requires { limit ≤ response_limit }
         ensures led { IfOk result (λ o. LeadsThrough (command.entry ∷ []) [] o) }
         ensures settled { IfOk result (λ o. IsSettled o) }
+        ensures limit { IfOk result (λ o. o.exchange.gather.limit ≡ limit) }
     {
         let data = command.data();
         let until = data.len();
         let content = Vec::from_slice(alloc, data)?;
-        let exchange = Detached::start(alloc, command)?;
+        let exchange = Detached::start(alloc, command, limit)?;
         Ok(Operation {
             exchange,
             content,
@@ -78,12 +84,19 @@ impl<A: Allocator + Copy> Operation<A> {
         })
     }
 
-    /// Begins a put. All memory is taken here: room for a response, and for the value; the error is
-    /// want of it.
-    pub fn of_put(alloc: A, tag: ObjectTag, value: &[u8]) -> Result<Operation<A>, AllocError>
+    /// Begins a put. All memory is taken here: so much room for a response, and room for the value;
+    /// the error is want of it.
+    pub fn of_put(
+        alloc: A,
+        limit: usize,
+        tag: ObjectTag,
+        value: &[u8],
+    ) -> Result<Operation<A>, AllocError>
+        requires { limit ≤ response_limit }
         ensures led { IfOk result (λ o. (commands : List spec.Command)
             × AreCommandsOf (Put tag value.now) commands × LeadsThrough commands [] o) }
         ensures settled { IfOk result (λ o. IsSettled o) }
+        ensures limit { IfOk result (λ o. o.exchange.gather.limit ≡ limit) }
     {
         let content = Vec::from_slice(alloc, value)?;
         let (p1, p2) = tag.p1p2();
@@ -91,7 +104,7 @@ impl<A: Allocator + Copy> Operation<A> {
             unreachable!()
         };
         let until = first.data().len();
-        let exchange = Detached::start(alloc, first)?;
+        let exchange = Detached::start(alloc, first, limit)?;
         Ok(Operation {
             exchange,
             content,
@@ -116,6 +129,7 @@ impl<A: Allocator + Copy> Operation<A> {
         ensures rest { self.new ≡ with_exchange self.old self.new.exchange }
         ensures settled { IsSettled self.old → IsSettled self.new }
         ensures bounds { IsBounded self.new.exchange }
+        ensures limit { self.new.exchange.gather.limit ≡ self.old.exchange.gather.limit }
     {
         self.exchange.next(&self.content[self.from..self.until])
     }
@@ -129,6 +143,7 @@ impl<A: Allocator + Copy> Operation<A> {
         ensures rest { self.new ≡ with_exchange self.old self.new.exchange }
         ensures settled { IsSettled self.old → IsSettled self.new }
         ensures stays { result ≡ None → self.new ≡ self.old }
+        ensures limit { self.new.exchange.gather.limit ≡ self.old.exchange.gather.limit }
     {
         self.exchange
             .next_data(&self.content[self.from..self.until])
@@ -138,8 +153,9 @@ impl<A: Allocator + Copy> Operation<A> {
     /// put is begun, if one follows.
     #[inline(always)]
     pub fn take(&mut self, byte: u8) -> Result<(), LineFault>
-        ensures { (ex : ExchangeOf) × IsTaking self.old.exchange byte result ex
+        ensures taking { (ex : ExchangeOf) × IsTaking self.old.exchange byte result ex
             × GoesOver (with_exchange self.old ex) self.new }
+        ensures limit { self.new.exchange.gather.limit ≡ self.old.exchange.gather.limit }
     {
         let taken = self
             .exchange
@@ -154,6 +170,7 @@ impl<A: Allocator + Copy> Operation<A> {
             self.new.exchange }
         ensures rest { self.new ≡ with_exchange self.old self.new.exchange }
         ensures settled { IsSettled self.old → IsSettled self.new }
+        ensures limit { self.new.exchange.gather.limit ≡ self.old.exchange.gather.limit }
     {
         self.exchange
             .next_bytes(bytes, &self.content[self.from..self.until])
@@ -165,6 +182,7 @@ impl<A: Allocator + Copy> Operation<A> {
         ensures taking { IsSettled self.old → IsTakingAll IsTerminalTaking (Some self.old)
             bytes.now result (Some self.new) }
         ensures settled { IsSettled self.new }
+        ensures limit { self.new.exchange.gather.limit ≡ self.old.exchange.gather.limit }
     {
         let (taken, begins) = self.take_and_go_on(bytes);
         if begins { out_of_turn(taken) } else { taken }
@@ -173,10 +191,12 @@ impl<A: Allocator + Copy> Operation<A> {
     /// Takes the characters of a buffer up to a fault, and then goes on. Says whether the next
     /// piece has begun.
     fn take_and_go_on(&mut self, bytes: &[u8]) -> (Taken, bool)
-        ensures { (ex : ExchangeOf) × IsTakingAll IsTaking self.old.exchange bytes.now result.0 ex
+        ensures taking { (ex : ExchangeOf)
+            × IsTakingAll IsTaking self.old.exchange bytes.now result.0 ex
             × (result.1 ≡ true → GoesToNext (with_exchange self.old ex) self.new)
             × (result.1 ≡ false → IsSettled (with_exchange self.old ex)
             × (self.new ≡ with_exchange self.old ex)) }
+        ensures limit { self.new.exchange.gather.limit ≡ self.old.exchange.gather.limit }
     {
         let taken = self
             .exchange
@@ -200,9 +220,10 @@ impl<A: Allocator + Copy> Operation<A> {
     /// Takes the answer to it, as `Exchange::answered`. With a status `9000` the next piece of a
     /// put is begun, if one follows.
     pub fn answered(&mut self, bytes: &[u8], status: Status) -> Result<(), AnswerFault>
-        ensures { (ex : ExchangeOf)
+        ensures answering { (ex : ExchangeOf)
             × IsAnswering self.old.exchange bytes.now status result ex
             × GoesOver (with_exchange self.old ex) self.new }
+        ensures limit { self.new.exchange.gather.limit ≡ self.old.exchange.gather.limit }
     {
         let content = &self.content[self.from..self.until];
         let taken = self.exchange.answered(bytes, status, content);
@@ -217,6 +238,7 @@ impl<A: Allocator + Copy> Operation<A> {
         ensures over { GoesOver self.old self.new }
         ensures begins { result ≡ true → GoesToNext self.old self.new }
         ensures stays { result ≡ false → IsSettled self.old × (self.new ≡ self.old) }
+        ensures limit { self.new.exchange.gather.limit ≡ self.old.exchange.gather.limit }
     {
         let is_last = self.until == self.content.as_slice().len();
         if is_last {

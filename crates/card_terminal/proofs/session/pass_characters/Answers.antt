@@ -27,7 +27,8 @@ returns-in-Sends g c = λ s began.
     (line c.next.new.self c.take.new.self plans (hearing c.seen.new.self)) byte
     (still_sending g.C.TpduCard s l byte began c.in-Sends.ensures.turn)
     (λ units tried front way. c.in-Sends.ensures.goes_on s.command units tried front byte way refl)
-    refl (on_ok c.take.result _ c.unwrap.result c.unwrap.ensures c.take.ensures.taken)
+    c.in-Sends.ensures.limit refl
+    (on_ok c.take.result _ c.unwrap.result c.unwrap.ensures c.take.ensures.taken)
     (on_ok c.take.result _ c.unwrap.result c.unwrap.ensures c.take.ensures.falls)
     (λ cut front later stands goes.
     let on = c.take.ensures.goes_on cut front later stands goes in

@@ -36,7 +36,8 @@ data-preserved g c = λ cursor s began.
     (line c.next_data.new.self c.take.new.self cursor (hearing c.seen.new.self)) byte
     (still_sending card s l byte before.1 (sym (c.in-Some.ensures.sends byte refl)))
     (λ units tried front way. c.in-Some.ensures.goes_on s.command units tried front byte way refl)
-    refl (on_ok c.take.result _ c.unwrap.result c.unwrap.ensures c.take.ensures.taken)
+    c.in-Some.ensures.limit refl
+    (on_ok c.take.result _ c.unwrap.result c.unwrap.ensures c.take.ensures.taken)
     (on_ok c.take.result _ c.unwrap.result c.unwrap.ensures c.take.ensures.falls)
     (λ cut front later stands goes.
     let on = c.take.ensures.goes_on cut front later stands goes in

@@ -1,4 +1,4 @@
-use Rattle.std.proofs.Common.{refl, inl, inr}
+use Rattle.std.proofs.Common.{refl, ◌∙◌, inl, inr}
 use Rattle.std.proofs.lemmas.Result.{err_from_is_err_and}
 use Rattle.t0_core.specs.declared.end.End.TheVariants.{Card}
 use Rattle.card_terminal.specs.Line.{line}
@@ -23,8 +23,8 @@ returns g c = λ s began.
           goes.0 under.terminal goes.1 in (
             card_falls card s.command l new under.units under.tried under.before under.front
                 goes.0 byte under.terminal taken has (turn.falls byte refl) goes.1 goes.2.0,
-            inl (passed card s l new (Card, byte) goes.0 under goes.1 taken goes.2 goes.3
-                c.seen.ensures),
+            inl (passed card s l new (Card, byte) goes.0 under goes.1 taken
+                c.in_ok-take.ensures.limit goes.2 goes.3 c.seen.ensures),
           )
       | inr ends ↦
           let taken = c.in_ok-take.ensures.ends s.command under.units under.tried under.front
@@ -33,7 +33,8 @@ returns g c = λ s began.
           c.seen.ensures in (
             end_falls s.command l new under.units under.tried under.before under.front ends.0
                 under.terminal taken c.in_ok-take.ensures.bounds has ends.5,
-            continues card s new under.units under.tried ends.0 under.agreed ends.5 gone taken,
+            continues card s new under.units under.tried ends.0 under.agreed ends.5
+                (c.in_ok-take.ensures.limit ∙ under.room) gone taken,
           )
     ]
 

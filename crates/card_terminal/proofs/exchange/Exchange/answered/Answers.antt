@@ -57,7 +57,7 @@ returns-in_err-take_up_to_sw2-clause-ends g c = λ command units first d under g
     let arm = c.in_err-take_up_to_sw2.ensures in
     let p = err_from_is_err_and c.from_residual.result c.from_residual.ensures.1 in
     rw (p.1, p.2) (inr (refused_ends command _ _ units first c.args.bytes.now _ c.self.view_is
-    c.self.invariant under
+    under
     (arm.stands d (gives_inside _ _ _ _ d c.self.view_is gives)) arm.fault))
 
 pub returns-in_err-take_up_to_sw2-clause-led : goal.returns-in_err-take_up_to_sw2-clause-led
@@ -68,4 +68,4 @@ returns-in_err-take_up_to_sw2-clause-led g c = λ command came d leads gives.
     c.args.status d _ c.self.view_is c.self.invariant leads
     gives arm.refused.0
     (arm.stands d (gives_inside _ _ _ _ d c.self.view_is gives)) arm.fault
-    c.take_up_to_sw2.new.gather))
+    c.take_up_to_sw2.new.gather arm.refused.1))

@@ -1,6 +1,6 @@
 use Rattle.std.proofs.Common.{◌≡◌, ◌++◌, [], ◌∷◌, length, OnErr, sym, subst}
 use Rattle.t0_core.specs.Front.{brought}
-use Rattle.card_terminal.specs.ExchangeSide.{ExchangeOf, response_limit}
+use Rattle.card_terminal.specs.ExchangeSide.{ExchangeOf}
 use Rattle.card_terminal.specs.ExchangeHistory.{ComesTo}
 use Rattle.card_terminal.proofs.ExchangeLemmas.{seen_under_way}
 use Rattle.card_terminal.proofs.exchange.Exchange.take.Goals as goal
@@ -13,7 +13,7 @@ returns-clause-goes_on g c = λ command units first front new seen goes.
 pub returns-clause-full : goal.returns-clause-full
 returns-clause-full g c = λ command units first front new seen goes.
     let P : ExchangeOf → Type 0 = λ ex. OnErr c.taken_by.result
-    ((length ex.gather.bytes ≡ response_limit) × (brought new ≡ brought front ++ c.args.byte ∷ []))
+    ((length ex.gather.bytes ≡ ex.gather.limit) × (brought new ≡ brought front ++ c.args.byte ∷ []))
     in
     subst P c.self.view_is (c.taken_by.ensures.full command units first front new
     (seen_under_way command _ _ units first front c.self.view_is seen) goes)

@@ -1,4 +1,4 @@
-use Rattle.std.proofs.Common.{get_or}
+use Rattle.std.proofs.Common.{get_or, ◌∙◌}
 use Rattle.card_terminal.specs.ExchangeSteps.{IsTaking}
 use Rattle.card_terminal.specs.OwnedExchange.{of_parts}
 use Rattle.card_terminal.proofs.TakingLemmas.{none_yet, taken_on, taken_up_to, taken_all}
@@ -18,6 +18,7 @@ loop-at-preserved g c =
     c.taken_by.new.stalled) = record {
       fault = c.taken_by.ensures.fault;
       bounds = c.taken_by.ensures.bounds;
+      limit = c.taken_by.ensures.limit;
       after_end = c.taken_by.ensures.after_end;
       unchanged = c.taken_by.ensures.unchanged;
       failed = c.taken_by.ensures.failed;
@@ -38,6 +39,7 @@ returns-in-Err-clause-taking g c =
     c.taken_by.new.stalled) = record {
       fault = c.taken_by.ensures.fault;
       bounds = c.taken_by.ensures.bounds;
+      limit = c.taken_by.ensures.limit;
       after_end = c.taken_by.ensures.after_end;
       unchanged = c.taken_by.ensures.unchanged;
       failed = c.taken_by.ensures.failed;
@@ -53,6 +55,12 @@ returns-in-Err-clause-taking g c =
 pub returns-in-Err-clause-data : goal.returns-in-Err-clause-data
 returns-in-Err-clause-data g c = λ content only.
     c.taken_by.ensures.data content (c.loop-at.invariant.only content only)
+
+pub returns-in-Err-clause-limit : goal.returns-in-Err-clause-limit
+returns-in-Err-clause-limit g c = c.taken_by.ensures.limit ∙ c.loop-at.invariant.limit
+
+pub returns-clause-limit : goal.returns-clause-limit
+returns-clause-limit g c = c.loop-at.invariant.limit
 
 pub returns-clause-kept : goal.returns-clause-kept
 returns-clause-kept g c = c.loop-at.invariant.kept

@@ -11,7 +11,7 @@ use Rattle.card_terminal.proofs.ExchangeLemmas.{goes_further}
 use Rattle.card_terminal.specs.OwnedExchange.{of_parts}
 use Rattle.std.proofs.lemmas.Result.{err_from_is_err_and}
 use Rattle.t0_core.specs.declared.line_fault.LineFault.TheVariants.{AfterEnd}
-use Rattle.card_terminal.proofs.ComesToLemmas.{take_leads, stall_leads, fault_leads, at_end_fault, none_is_no_fault, final_is_no_end, some_fault, failed_turn, broken, full_room}
+use Rattle.card_terminal.proofs.ComesToLemmas.{take_leads, stall_leads, fault_leads, at_end_fault, none_is_no_fault, final_is_no_end, some_fault, failed_turn, broken}
 use Rattle.card_terminal.proofs.exchange.taking.taken_by.Goals as goal
 
 pub returns-in_default-clause-goes_on : goal.returns-in_default-clause-goes_on
@@ -25,7 +25,7 @@ returns-in_default-clause-goes_on g c = λ command units first front new seen go
       p3 = ap (λ (h : Hosting). h.p3) taken.0;
       direction = ap (λ (h : Hosting). h.direction) taken.0;
       content = ap (λ (h : Hosting). h.content) taken.0;
-    }) c.in_ok-take.ensures.keeps (ap (λ (r : Room). r.limit) taken.1) seen goes stands
+    }) c.in_ok-take.ensures.keeps seen goes stands
     (c.in_ok-take.ensures.gathers front new (flat_map received (so_far units first)) seen.stands
     goes seen.gathered)
 
@@ -45,13 +45,11 @@ returns-in-Stalls-clause-kept g c =
         begun = omega (arith, bytes, length-append {A = ℕ}, c.requires.counted.begun);
         number = c.requires.counted.number;
       };
-      room = limit ∙ c.requires.room;
+      room = omega (arith, limit, c.requires.room);
       fits = omega (
         arith,
         c.bytes-gathered.ensures.fits,
         ap length c.bytes-gathered.ensures.value,
-        limit,
-        c.requires.room,
       );
       stalled_at_end = λ _. (c.in-Some.status, (c.in-Some.ensures c.in-Some.status).0 refl);
     }
@@ -195,7 +193,8 @@ returns-in_err-take-clause-led g c = λ command came leads.
     ∙ at_end_fault _ _ c.args.gather.now c.args.byte refl c.requires end)))
     (sym c.in_err-take.ensures.fault) final
     (failed_turn c.args.stalled.now c.take.new.self
-    (broken c.args.end.now c.take.new.self _ c.in_err-take.ensures.refused.0 final)) leads)
+    (broken c.args.end.now c.take.new.self _ c.in_err-take.ensures.refused.0 final))
+    (ap (λ (r : Room). r.limit) (sym c.in_err-take.ensures.refused.1)) leads)
 
 pub returns-in-Stalls-clause-full : goal.returns-in-Stalls-clause-full
 returns-in-Stalls-clause-full g c = λ command units first front new seen goes.
@@ -209,4 +208,4 @@ returns-in_err-take-clause-full g c = λ command units first front new seen goes
     let full = too_long c.args.end.now c.args.gather.now c.args.byte front new seen.stands
     (sym c.in_err-take.ensures.fault ∙ ap Some long) goes in
     let p = err_from_is_err_and c.from_residual.result c.from_residual.ensures.1 in
-    rw p.1 (full_room _ _ refl c.requires full.0, full.1)
+    rw p.1 (full.0, full.1)

@@ -20,6 +20,7 @@ pieces-init g c =
           (first_has_been card.Does from _ c.args.first c.args.others
           c.go_through-status.new.exchange done.0 c.go_through-status.result done.1 done.2);
       sound = c.go_through-status.ensures.sound;
+      room = c.go_through-status.ensures.room;
       agreed = subst (λ cs. AllByRecursion (λ x. IsAgreed card.MayReceive card.MaySend x) cs)
           (sym same) c.requires.agreed.1;
     }
@@ -42,6 +43,7 @@ pieces-preserved g c =
           steps c.pieces.invariant.been)
           (c.is_ok.ensures.0 c.if-not-is_ok.false) done.1 done.2;
       sound = c.go_through-status-in-pieces.ensures.sound;
+      room = c.go_through-status-in-pieces.ensures.room;
       agreed = agreed.1;
     }
 

@@ -1,8 +1,9 @@
-use Rattle.std.proofs.Common.{◌∷◌}
+use Rattle.std.proofs.Common.{◌≡◌, ◌∷◌}
 use Rattle.std.specs.List.{AllByRecursion}
 use Rattle.object_card.specs.State.{IsCardState}
 use Rattle.object_card.specs.Agreed.{IsAgreed}
 use Rattle.card_terminal.specs.Conversing.{point}
+use Rattle.card_terminal.specs.ExchangeSide.{response_limit}
 use Rattle.card_terminal.proofs.RunLemmas.{HaveBeen}
 use Rattle.card_terminal.proofs.session.Session.chain.Given as goal
 
@@ -17,5 +18,6 @@ invariant-pieces g l =
           (l.fn.first ∷ l.fn.others) l.command-iterator l.exchange l.status
           (point (card.standing l.self) l.plans.rest (hearing l.watch));
       sound : IsCardState (g.C.DataCard.state l.self);
+      room : l.exchange.gather.limit ≡ response_limit;
       agreed : AllByRecursion (λ c. IsAgreed card.MayReceive card.MaySend c) l.command-iterator;
     }

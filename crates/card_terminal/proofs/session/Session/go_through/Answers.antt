@@ -7,7 +7,8 @@ use Rattle.card_terminal.proofs.session.Session.go_through.Goals as goal
 
 pub converse-requires-clause-begun : goal.converse-requires-clause-begun
 converse-requires-clause-begun g c =
-    let (command, agreed, way) = c.requires.begun in (command, (agreed, way))
+    let (command, agreed, way) = c.requires.begun in
+    (command, (agreed, way, c.requires.room))
 
 pub unwrap-requires : goal.unwrap-requires
 unwrap-requires g c =
@@ -17,7 +18,7 @@ unwrap-requires g c =
     let plans = c.args.plans.now in
     let first = card.standing c.self.inside.end.card in
     let (command, agreed, way) = c.requires.begun in
-    ok_unless c.converse.result _ _ (c.converse.ensures command (agreed, way))
+    ok_unless c.converse.result _ _ (c.converse.ensures command (agreed, way, c.requires.room))
     (λ fault. never_caused card.Does card.after_reset m.0 m.2 (point first plans.rest now) _
     command fault (sound_at m.0 g.C.DataCard.state card.standing m.1 c.self.inside.end.card
     c.args.self.now c.self.view_is c.requires.sound))
@@ -26,7 +27,7 @@ pub unreachable-requires : goal.unreachable-requires
 unreachable-requires g c =
     let (command, agreed, way) = c.requires.begun in
     let over = when_ok c.converse.result c.unwrap.result _ _ c.unwrap.ensures
-    (c.converse.ensures command (agreed, way)) in
+    (c.converse.ensures command (agreed, way, c.requires.room)) in
     c.in_default.not-Done over.status (c.next.ensures.turn
     ∙ over_turn command c.converse.new.exchange over.units over.status over.terminal)
 
@@ -34,7 +35,7 @@ pub invariant_of-self : goal.invariant_of-self
 invariant_of-self g c =
     let (command, agreed, way) = c.requires.begun in
     let over = when_ok c.converse.result c.unwrap.result _ _ c.unwrap.ensures
-    (c.converse.ensures command (agreed, way)) in
+    (c.converse.ensures command (agreed, way, c.requires.room)) in
     over.at_rest
 
 pub returns-clause-over : goal.returns-clause-over
@@ -44,7 +45,7 @@ returns-clause-over g c = λ command agreed way.
     let plans = c.args.plans.now in
     let first = card.standing c.self.inside.end.card in
     let over = when_ok c.converse.result c.unwrap.result _ _ c.unwrap.ensures
-    (c.converse.ensures command (agreed, way)) in (
+    (c.converse.ensures command (agreed, way, c.requires.room)) in (
       over.units,
       over_then command c.converse.new.exchange c.next.new.self over.units over.status
           c.in-Done.status over.terminal
@@ -63,8 +64,15 @@ returns-clause-sound g c =
     let first = card.standing c.self.inside.end.card in
     let (command, agreed, way) = c.requires.begun in
     let over = when_ok c.converse.result c.unwrap.result _ _ c.unwrap.ensures
-    (c.converse.ensures command (agreed, way)) in
+    (c.converse.ensures command (agreed, way, c.requires.room)) in
     subst IsCardState (m.1 c.converse.new.end.card)
     (stays_sound card.Does card.after_reset m.0 m.2 (point first plans.rest now) _ _
     (sound_at m.0 g.C.DataCard.state card.standing m.1 c.self.inside.end.card c.args.self.now
     c.self.view_is c.requires.sound) over.gone)
+
+pub returns-clause-room : goal.returns-clause-room
+returns-clause-room g c =
+    let (command, agreed, way) = c.requires.begun in
+    let over = when_ok c.converse.result c.unwrap.result _ _ c.unwrap.ensures
+    (c.converse.ensures command (agreed, way, c.requires.room)) in
+    c.next.ensures.limit ∙ over.room

@@ -1,10 +1,10 @@
 use Rattle.std.proofs.Common.{◌∙◌, sym}
-use Rattle.card_terminal.proofs.TerminalStepLemmas.{answers_for, answer_as, settled_at}
+use Rattle.card_terminal.proofs.TerminalStepLemmas.{answers_for, answer_as, settled_at, held}
 use Rattle.card_terminal.proofs.terminal.Terminal.answer.Goals as goal
 
 pub returns-in-Some : goal.returns-in-Some
 returns-in-Some g c =
-    let settled = settled_at c.self.inside.operation c.in-Some.operation c.self.invariant
+    let settled = settled_at c.self.inside.operation c.in-Some.operation c.self.invariant.settled
     c.in-Some.is in
-    answer_as _ _ _ (sym c.in-Some.is ∙ c.self.view_is)
+    answer_as _ _ _ (sym c.in-Some.is ∙ held c.self.view_is)
     (answers_for c.in-Some.operation _ settled c.answer.ensures)

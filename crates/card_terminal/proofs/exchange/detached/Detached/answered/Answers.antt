@@ -22,6 +22,7 @@ returns-clause-answering g c =
     c.answered-taken.new.self = record {
       fault = c.answered-taken.ensures.fault;
       bounds = c.answered-taken.ensures.bounds;
+      limit = c.answered-taken.ensures.limit;
       unchanged = c.answered-taken.ensures.unchanged;
       failed = c.answered-taken.ensures.failed;
       ends = c.answered-taken.ensures.ends;

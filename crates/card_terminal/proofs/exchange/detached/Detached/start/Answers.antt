@@ -7,17 +7,17 @@ use Rattle.card_terminal.proofs.exchange.detached.Detached.start.Goals as goal
 
 pub returns-clause-led : goal.returns-clause-led
 returns-clause-led g c =
-    let again = c.aside-kept.ensures.again c.args.command.content c.in_ok-start.ensures.data in
+    let again = c.aside-kept.ensures.again c.args.command.content c.in_ok-in_room.ensures.data in
     let P : ExchangeOf → Type 0 = λ ex. ComesTo c.args.command [] ex in
-    subst P (sym again) c.in_ok-start.ensures.led
+    subst P (sym again) c.in_ok-in_room.ensures.led
 
 pub returns-clause-begins : goal.returns-clause-begins
 returns-clause-begins g c =
-    let again = c.aside-kept.ensures.again c.args.command.content c.in_ok-start.ensures.data in
+    let again = c.aside-kept.ensures.again c.args.command.content c.in_ok-in_room.ensures.data in
     let P : ExchangeOf → Type 0 = λ ex. UnderWay c.args.command ex [] None fresh in
-    subst P (sym again) c.in_ok-start.ensures.begins
+    subst P (sym again) c.in_ok-in_room.ensures.begins
 
 pub returns-clause-sound : goal.returns-clause-sound
 returns-clause-sound g c =
-    let again = c.aside-kept.ensures.again c.args.command.content c.in_ok-start.ensures.data in
+    let again = c.aside-kept.ensures.again c.args.command.content c.in_ok-in_room.ensures.data in
     subst IsSound (sym again) c.aside-kept.ensures.sound

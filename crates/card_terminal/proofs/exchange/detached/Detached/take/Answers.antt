@@ -29,6 +29,7 @@ returns-clause-taking g c =
     let step : IsTaking old c.args.byte made.result new = record {
       fault = made.ensures.fault;
       bounds = made.ensures.bounds;
+      limit = made.ensures.limit;
       after_end = made.ensures.after_end;
       unchanged = made.ensures.unchanged;
       failed = made.ensures.failed;

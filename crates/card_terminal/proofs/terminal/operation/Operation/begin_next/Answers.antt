@@ -25,4 +25,4 @@ returns g c =
     _ _ _ _ pieces _ _ c.in-Some.next c.self.view_is c.requires.done c.requires.more
     c.deref.ensures.value c.put_header.ensures are same c.in-Some.ensures.steps
     c.self.invariant.within size c.again.ensures.begins c.again.ensures.led
-    c.again.ensures.sound
+    c.again.ensures.sound c.again.ensures.limit

@@ -1,7 +1,7 @@
 use Rattle.std.proofs.Common.{ℕ, List, [], sym, subst, ◌∙◌}
 use Rattle.card_terminal.specs.ExchangeHistory.{ComesTo}
 use Rattle.card_terminal.specs.OwnedExchange.{over_data}
-use Rattle.card_terminal.proofs.exchange.owned.OwnedExchange.start.Goals as goal
+use Rattle.card_terminal.proofs.exchange.owned.OwnedExchange.in_room.Goals as goal
 
 pub returns-clause-led : goal.returns-clause-led
 returns-clause-led c =

@@ -143,13 +143,15 @@ fn main(rt: HostRuntime) -> ExitCode {{
 
 ONE = """
 fn run{number}(rt: &HostRuntime, part: &[u8]) {{
-    let layout = if part[0] == b'h' {{
-        m{number}::layout::Layout::Html
+    let medium = if part[0] == b'h' {{
+        m{number}::layout::Medium::Html
     }} else {{
-        m{number}::layout::Layout::Text
+        m{number}::layout::Medium::Text
     }};
     let resumes = part[1] == b'r';
-    let mut trace = &part[2..];
+    let is_summary = part[2] == b's';
+    let layout = m{number}::layout::Layout {{ medium, is_summary }};
+    let mut trace = &part[3..];
     let mut out = io::writer(rt);
     let outcome = m{number}::explain::explain(rt.alloc(), layout, resumes, &mut trace, &mut out);
     let _ = out.write_all(b"\\x1e");
@@ -166,8 +168,8 @@ def write_inputs(folder, cases, count):
     folder.mkdir()
     given = b""
     for case in cases:
-        words = ("h" if "--html" in case.words else "t") + (
-            "r" if "--resume" in case.words else "s"
+        words = "".join(
+            word[2] if word in case.words else "-" for word in ("--html", "--resume", "--summary")
         )
         given += MARK.encode() + words.encode() + case.given
     for number in range(count):

@@ -1,7 +1,7 @@
 //! The command line.
 
 use crate::help;
-use crate::layout::Layout;
+use crate::layout::{Layout, Medium};
 use clap::{Arg, ArgAction, Command, Error};
 use std::alloc::{AllocError, Global};
 
@@ -18,13 +18,16 @@ pub struct Request {
 /// a call for help, a mistake in the words, or want of memory.
 pub fn parsed(alloc: Global, words: &[String]) -> Result<Request, Error> {
     let matches = command(alloc)?.try_get_matches_from(words)?;
-    let layout = if matches.get_flag("html") {
-        Layout::Html
+    let medium = if matches.get_flag("html") {
+        Medium::Html
     } else {
-        Layout::Text
+        Medium::Text
     };
     Ok(Request {
-        layout,
+        layout: Layout {
+            medium,
+            is_summary: matches.get_flag("summary"),
+        },
         resumes: matches.get_flag("resume"),
     })
 }
@@ -36,7 +39,8 @@ fn command<'a>(alloc: Global) -> Result<Command<'a>, AllocError> {
         .about(help::PROGRAM)
         .after_help(help::TRACE)
         .arg(flag(alloc, "html", help::HTML))?
-        .arg(flag(alloc, "resume", help::RESUME))
+        .arg(flag(alloc, "resume", help::RESUME))?
+        .arg(flag(alloc, "summary", help::SUMMARY))
 }
 
 /// An option without a value.

@@ -14,6 +14,7 @@ ghost use Rattle.trace_explain.specs.Told.{Told};
 
 use crate::answer::tell_answer;
 use crate::complaint::{Complaint, due_text, end_text};
+use crate::counts::Counts;
 use crate::explain_fault::ExplainFault;
 use crate::layout::{Kind, Layout, Side};
 use crate::links::{Link, Links, Whole};
@@ -50,7 +51,7 @@ pub struct Explainer {
     began: u64,
     listener: Listener,
     story: Story,
-    complaints: u64,
+    counts: Counts,
     first: Option<Complaint>,
     passed: Option<Passed>,
 }
@@ -85,7 +86,7 @@ impl Explainer {
             began: 0,
             listener: Listener::new(alloc),
             story: Story::new(alloc),
-            complaints: 0,
+            counts: Counts::new(alloc),
             first: None,
             passed: None,
         }
@@ -317,6 +318,7 @@ impl Explainer {
         ensures { OnOk result (KeepsAll self.old self.new) }
     {
         for tpdu in told {
+            self.counts.take(tpdu)?;
             let links = self.story.tell(tpdu)?;
             self.tell(tpdu, links, out)?;
         }
@@ -360,11 +362,11 @@ impl Explainer {
         };
         self.cut_off(out)?;
         self.story.lose_some();
+        self.counts.complain();
         self.complain(complaint, out)?;
         if !self.resumes {
             return Err(ExplainFault::NoDialogue(complaint));
         }
-        self.complaints = self.complaints.saturating_add(1);
         self.first = Some(self.first.unwrap_or(complaint));
         self.resume(from, bytes, place)
     }
@@ -479,6 +481,7 @@ impl Explainer {
         if part.is_empty() {
             return Ok(());
         }
+        self.counts.take(&part)?;
         let links = self.story.tell(&part)?;
         self.tell(&part, links, out)
     }
@@ -505,19 +508,20 @@ impl Explainer {
             None if self.came => Ok(()),
             None => Err(ExplainFault::NoCharacters),
             Some(complaint) => Err(ExplainFault::Resumed {
-                complaints: self.complaints,
+                complaints: self.counts.complaints(),
                 first: complaint,
             }),
         }
     }
 
-    /// Explains what is under way where the trace ends.
+    /// Explains what is under way where the trace ends, and adds the last block.
     pub fn end(&mut self, out: &mut String) -> Result<(), AllocError>
         ensures { OnOk result (standing_of self.new ≡ standing_of self.old) }
     {
         self.tell_passed(out)?;
         self.tell_part(self.preface.stage(), out)?;
         self.cut_off(out)?;
+        self.counts.tell(self.alloc, self.layout, out)?;
         self.layout.end(out)
     }
 

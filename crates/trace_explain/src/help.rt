@@ -13,6 +13,9 @@ pub const HTML: &str = "Writes one page of HTML, which needs nothing else, and n
 /// Of `--resume`.
 pub const RESUME: &str = "Goes on after a character with which no dialogue that it reads goes on";
 
+/// Of `--summary`.
+pub const SUMMARY: &str = "Writes the last block, with what is counted, and nothing else";
+
 /// What a trace is, and what comes where it is no dialogue.
 pub const TRACE: &str = "\
 The trace stands on standard input, in lines as `card_trace play` prints them:
@@ -35,6 +38,9 @@ counted from 1, with what was due and what came. Then the program stops. With `-
 over what follows, up to the next line `reset`, or the next line `> HEX` of just five characters,
 which it takes for a header: that may be the character's own line. It tells which lines it passed
 over.
+
+The last block has what is counted: TPDUs, commands by name, statuses other than `9000`, and
+complaints.
 
 A TPDU that a reset or the end of the trace has cut off is told as far as it came, and is no fault.
 A trace in which no line has a character of either end, as an empty one, is a fault.

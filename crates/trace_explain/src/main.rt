@@ -7,6 +7,7 @@ mod chain;
 mod command_line;
 mod command_name;
 mod complaint;
+mod counts;
 mod explain;
 mod explain_fault;
 mod explainer;

@@ -19,16 +19,17 @@ use crate::explain_fault::ExplainFault;
 use crate::layout::{Kind, Layout, Side};
 use crate::links::{Link, Links, Whole};
 use crate::listener::Listener;
+use crate::mask::{HIDDEN, Mask, Origin};
 use crate::meaning::push_meaning;
 use crate::opening::{Role, Stage, begins_answer};
 use crate::phrases;
 use crate::pps::tell_exchange;
 use crate::preface::Preface;
 use crate::refusal::Refusal;
-use crate::story::{Story, brought, header_of, sent, status_of};
+use crate::story::{Story, header_of, status_of};
 use crate::tpdu::Tpdu;
 use crate::trace_line::{BadLine, TraceLine, read_line};
-use crate::tree::{hex_lines, push_hex, text_lines, tree_of};
+use crate::tree::{hex_lines, push_hex};
 use std::alloc::{AllocError, Global};
 use t0_core::{Direction, End};
 
@@ -43,6 +44,7 @@ const ODD_BYTES: usize = 24;
 pub struct Explainer {
     alloc: Global,
     layout: Layout,
+    mask: Mask,
     resumes: bool,
     passes_over: bool,
     preface: Preface,
@@ -70,7 +72,7 @@ struct Passed {
 impl Explainer {
     /// No line has come. Where it resumes, it goes on after a character with which no dialogue
     /// does.
-    pub fn new(alloc: Global, layout: Layout, resumes: bool) -> Explainer
+    pub fn new(alloc: Global, layout: Layout, mask: Mask, resumes: bool) -> Explainer
         ensures explained { resumes ≡ false → HasExplained [] [] result }
         ensures standing { standing_of result ≡ first_of_all }
         ensures line { result.line ≡ 0 }
@@ -78,6 +80,7 @@ impl Explainer {
         Explainer {
             alloc,
             layout,
+            mask,
             resumes,
             passes_over: false,
             preface: Preface::new(alloc),
@@ -216,9 +219,9 @@ impl Explainer {
     /// Tells the part that is under way in this stage, if one is.
     fn tell_part(&self, stage: Stage, out: &mut String) -> Result<(), AllocError> {
         match stage {
-            Stage::Answer => tell_answer(self.alloc, self.layout, &self.preface, out),
+            Stage::Answer => tell_answer(self.alloc, self.layout, &self.mask, &self.preface, out),
             Stage::Request | Stage::Asked | Stage::Response => {
-                tell_exchange(self.alloc, self.layout, &self.preface, out)
+                tell_exchange(self.alloc, self.layout, &self.mask, &self.preface, out)
             }
             Stage::Ready | Stage::Astray | Stage::Begun => Ok(()),
         }
@@ -260,7 +263,7 @@ impl Explainer {
             (result ≡ false) × (self.new ≡ self.old) }
         ensures counts { self.new.line ≡ self.old.line }
     {
-        if self.passes_over && is_header(from, bytes) {
+        if self.passes_over && self.may_begin(from, bytes) {
             self.passes_over = false;
         }
         if self.passes_over {
@@ -268,6 +271,12 @@ impl Explainer {
             self.passed = self.passed.map(|passed| Passed { last, ..passed });
         }
         self.passes_over
+    }
+
+    /// Whether it goes on with this line, as with a header: not where something is not shown, since
+    /// what is taken for a header is, and may be data.
+    fn may_begin(&self, from: End, bytes: &[u8]) -> bool {
+        is_header(from, bytes) && !self.mask.hides()
     }
 
     /// Hears characters of the dialogue, and tells of the TPDUs that end; it answers the place of
@@ -330,7 +339,10 @@ impl Explainer {
     fn before_header(&self, bytes: &[u8], out: &mut String) -> Result<(), AllocError> {
         let mut lines = String::new(self.alloc);
         lines.push_str("before a header, from the card:\n")?;
-        lines.push_str(hex_lines(self.alloc, bytes)?.as_str())?;
+        let characters = self
+            .mask
+            .or_hidden(self.alloc, hex_lines(self.alloc, bytes)?)?;
+        lines.push_str(characters.as_str())?;
         self.layout.note(out, lines.as_str())
     }
 
@@ -377,7 +389,7 @@ impl Explainer {
         ensures counts { self.new.line ≡ self.old.line }
         ensures of_lines { IfErr result IsOfLines }
     {
-        if is_header(from, bytes) {
+        if self.may_begin(from, bytes) {
             return self.hear_header(bytes);
         }
         self.passes_over = true;
@@ -436,7 +448,11 @@ impl Explainer {
         let wanted = format!(in self.alloc; "{due}\n")?;
         self.layout.row(out, Side::Told, "due", wanted.as_str())?;
         let from = end_text(from);
-        let came = format!(in self.alloc; "{byte:02X} of the {from}\n")?;
+        let came = if self.mask.hides() {
+            format!(in self.alloc; "{HIDDEN} of the {from}\n")?
+        } else {
+            format!(in self.alloc; "{byte:02X} of the {from}\n")?
+        };
         self.layout.row(out, Side::Told, "came", came.as_str())?;
         self.layout.close(out)
     }
@@ -496,6 +512,7 @@ impl Explainer {
             push_printable(&mut text, piece)?;
             text.push('\n')?;
         }
+        let text = self.mask.or_hidden(self.alloc, text)?;
         self.layout.note(out, text.as_str())
     }
 
@@ -546,7 +563,7 @@ impl Explainer {
             self.layout
                 .row(out, Side::Told, "after", "the chain is dropped\n")?;
         }
-        self.tell_whole(links.whole, out)?;
+        self.tell_whole(tpdu, links, out)?;
         self.layout.close(out)
     }
 
@@ -564,21 +581,19 @@ impl Explainer {
 
     /// Adds the row of the data: as a tree where they may be objects, and are some.
     fn tell_data(&self, tpdu: &Tpdu, links: Links, out: &mut String) -> Result<(), AllocError> {
-        match tpdu.way {
-            None => Ok(()),
-            Some(Direction::ToCard) => {
-                let lines = if may_be_objects(tpdu, links) {
-                    data_lines(self.alloc, sent(tpdu))?
-                } else {
-                    text_lines(self.alloc, sent(tpdu))?
-                };
-                self.layout.row(out, Side::Terminal, "data", lines.as_str())
-            }
-            Some(Direction::FromCard) => {
-                let lines = data_lines(self.alloc, brought(tpdu))?;
-                self.layout.row(out, Side::Card, "data", lines.as_str())
-            }
-        }
+        let Some(way) = tpdu.way else {
+            return Ok(());
+        };
+        let (side, is_tree) = match way {
+            Direction::ToCard => (Side::Terminal, may_be_objects(tpdu, links)),
+            Direction::FromCard => (Side::Card, true),
+        };
+        let Some(origin) = Origin::of(tpdu, links, way) else {
+            return Ok(());
+        };
+        let moved = tpdu.moved.as_slice();
+        let lines = self.mask.data_lines(self.alloc, origin, is_tree, moved)?;
+        self.layout.row(out, side, "data", lines.as_str())
     }
 
     /// Adds the row of the status, or that the TPDU was cut off.
@@ -596,22 +611,24 @@ impl Explainer {
     }
 
     /// Adds the row of what has come together.
-    fn tell_whole(&self, whole: Whole, out: &mut String) -> Result<(), AllocError> {
-        let bytes = self.story.whole(whole);
+    fn tell_whole(&self, tpdu: &Tpdu, links: Links, out: &mut String) -> Result<(), AllocError> {
+        let way = match links.whole {
+            Whole::None => return Ok(()),
+            Whole::Value(_) => Direction::ToCard,
+            Whole::Response(_) => Direction::FromCard,
+        };
+        let bytes = self.story.whole(links.whole);
+        let Some(origin) = Origin::of(tpdu, links, way) else {
+            return Ok(());
+        };
         if bytes.is_empty() {
             return Ok(());
         }
-        let mut lines = phrases::whole(self.alloc, whole, bytes.len())?;
-        lines.push_str(data_lines(self.alloc, bytes)?.as_str())?;
+        let origin = origin.of_all();
+        let mut lines = phrases::whole(self.alloc, links.whole, bytes.len())?;
+        let data = self.mask.data_lines(self.alloc, origin, true, bytes)?;
+        lines.push_str(data.as_str())?;
         self.layout.row(out, Side::Told, "together", lines.as_str())
-    }
-}
-
-/// The data as a tree where they are objects, else as digits, with text beside them.
-fn data_lines(alloc: Global, bytes: &[u8]) -> Result<String, AllocError> {
-    match tree_of(alloc, bytes)? {
-        Some(tree) => Ok(tree),
-        None => text_lines(alloc, bytes),
     }
 }
 

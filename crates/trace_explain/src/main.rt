@@ -18,6 +18,7 @@ mod layout;
 mod links;
 mod listener;
 mod main_status;
+mod mask;
 mod meaning;
 mod opening;
 mod parts;

@@ -4,21 +4,32 @@
 - statuses.txt: `HEADER STATUS SENTENCE`, what is said of a status after such a command.
 - titles.txt: `HEADER TITLE`, `HEADER > DATA TITLE` (data of the terminal) or `HEADER < DATA TITLE`
   (data of the card), where TITLE stands behind `| `: how a command is named.
+- secrets_told.py: traces that have a secret, which must not be told.
 - stories.cases: several TPDUs. Behind `in` stand the lines of the trace, behind `out` the lines
   that are written, without the rows of headers, procedure bytes, data and statuses; behind `err`
   what standard error tells, and behind `$` the words. `\\xHH` in a line is that byte. Of a page
   only what stands below its head is compared.
 
-In the three tables `#` begins a line that is passed over."""
+The last block of text is told nowhere but in explain_cases: it has to count what stands above it
+(`block_of`). In the three tables `#` begins a line that is passed over."""
 
 import re
+from collections import Counter
 from dataclasses import dataclass, field
+from itertools import zip_longest
 from pathlib import Path
+
+import secrets_told as secrets
 
 HERE = Path(__file__).resolve().parent
 CASES = HERE.parent / "explain_cases"
 TITLE = re.compile(r"#\d+ (.*)  \(line \d+\)$")
 STATUS = re.compile(r"  < status     ([0-9A-F]{4} .*)$")
+# a name is of words in capitals; what SELECT selects may be, too
+COMMAND = re.compile(r"#\d+ (INS [0-9A-F]{2}|SELECT|part of a header|[A-Z]+(?:[ /][A-Z]+)*)\b")
+COMPLAINT = "no dialogue that it reads  ("
+BLOCK = "summary"
+HEX = re.compile(r"\b(?:[0-9A-F]{2})+\b")
 ENDS = '<div class="ends"><span>Terminal</span><span>Card</span></div>'
 ODD = re.compile(rb"\\x([0-9A-F]{2})")
 ROW = re.compile(r"  [ <>] (header|procedure|data|status) ")
@@ -34,12 +45,23 @@ class Case:
     words: list = field(default_factory=list)
     error: str = ""
     part: str = "all"
+    secret: bytes = b""
 
     def fault(self, out, err):
         """What is wrong with what was said; empty where nothing is."""
+        if self.secret:
+            return self.leak(out, err)
         if err != self.error:
             return f"{self.name}: on standard error {err!r}, and not {self.error!r}"
-        said = PARTS[self.part](out.splitlines())
+        lines = out.splitlines()
+        if self.part != "page" and "--summary" not in self.words:
+            lines, block = without_block(lines)
+            for wanted, line in zip_longest(block_of(lines), block):
+                if wanted != line:
+                    return f"{self.name}: in the last block {line!r}, and not {wanted!r}"
+        if self.part == "all":
+            lines = out.splitlines()
+        said = PARTS[self.part](lines)
         for wanted, line in zip(self.wanted, said):
             if wanted != line:
                 return f"{self.name}: {line!r}, and not {wanted!r}"
@@ -47,6 +69,57 @@ class Case:
             return f"{self.name}: {len(said)} lines, and not {len(self.wanted)}"
         wide = [it for it in out.splitlines() if len(it) > 100 and self.part != "page"]
         return f"{self.name}: more than 100 columns: {wide[0]!r}" if wide else ""
+
+    def leak(self, out, err):
+        """Where a byte of the secret is told, as digits or as text; empty where none is."""
+        body = out.partition(ENDS)[2] if "--html" in self.words else out
+        for line in (body + err).splitlines():
+            for digits in HEX.findall(line):
+                if any(byte in self.secret for byte in bytes.fromhex(digits)):
+                    return f"{self.name} {self.words}: {line!r} tells of the secret"
+            if any(pair in line for pair in ("Qz", "zx", "xv", "vT")):
+                return f"{self.name} {self.words}: {line!r} tells of the secret"
+        if "**" in body or "--summary" in self.words:
+            return ""
+        return f"{self.name}: nothing is hidden"
+
+
+def without_block(lines):
+    """The lines above the last block, and its own."""
+    begins = len(lines) - lines[::-1].index(BLOCK) - 1 if BLOCK in lines else len(lines)
+    return lines[:begins], lines[begins:]
+
+
+def block_of(lines):
+    """The last block behind these lines: what stands in them, counted."""
+    names = [it[1] for line in lines if (it := COMMAND.match(line))]
+    commands = Counter(name.replace("RECORDS", "RECORD") for name in names)
+    came = [it[1] for line in lines if (it := STATUS.match(line))]
+    statuses = Counter(line.split()[0] for line in came if not line.startswith("9000 "))
+    cut_off = commands.total() - len(came)
+    of_them = f" (cut off: {cut_off})" if cut_off else ""
+    return [
+        BLOCK,
+        *row("TPDUs", [f"{commands.total()}{of_them}"]),
+        *row("commands", counted(commands, rank) or ["none"]),
+        *row("statuses", counted(statuses, str) or ["none other than 9000"]),
+        *row("complaints", [str(sum(line.startswith(COMPLAINT) for line in lines))]),
+    ]
+
+
+def counted(counts, order):
+    """A line for each that is counted."""
+    return [f"{it}: {counts[it]}" for it in sorted(counts, key=order)]
+
+
+def rank(command):
+    """Commands stand by their names, behind them those without one, and parts of headers last."""
+    return command.startswith("part"), command.startswith("INS "), command
+
+
+def row(label, lines):
+    """The lines of a row of the last block."""
+    return [f"    {label:<10} {lines[0]}", *(" " * 15 + line for line in lines[1:])]
 
 
 def titles_in(lines):
@@ -90,6 +163,7 @@ PARTS = {
     "statuses": statuses_in,
     "story": story_in,
     "page": page_in,
+    "shown": lambda lines: lines,
 }
 
 
@@ -140,10 +214,21 @@ def story_cases():
             found[-1].error += rest + "\n"
         elif word == "$":
             found[-1].words = rest.split()
-            found[-1].part = "page" if "--html" in rest else "story"
+            if "--html" in rest:
+                found[-1].part = "page"
+            elif "--mask" in rest:
+                found[-1].part = "shown"
         else:
             raise ValueError(f"stories.cases: {line}")
     return found
+
+
+def secret_cases(ways):
+    """Each trace with a secret, explained in each of these ways with a mask."""
+    for name, tags, lines in secrets.traces():
+        for words in ways:
+            masked = [*words, "--mask", *tags]
+            yield Case(name, lines_of(lines), [], masked, secret=secrets.BYTES)
 
 
 def whole_cases():
@@ -170,10 +255,16 @@ def lines_of(lines):
 
 
 def tables():
+    """The cases of the three tables, and those of secrets."""
+    ways = [], ["--html"], ["--resume"], ["--summary", "--resume"]
+    return [*rows_and_stories(), *secret_cases(ways)]
+
+
+def rows_and_stories():
     """The cases of the three tables."""
     return [status_case(), title_case(), *story_cases()]
 
 
 def all_cases():
-    """All cases, the small ones first."""
-    return [*tables(), *whole_cases()]
+    """All cases, the small ones first, those of secrets in one way alone."""
+    return [*rows_and_stories(), *secret_cases([["--resume"]]), *whole_cases()]

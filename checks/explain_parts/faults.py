@@ -100,7 +100,7 @@ def main_text(count):
     """The program: its input is the number of a module, and then each case with its words."""
     modules = "".join(f"mod m{number};\n" for number in range(count))
     arms = "".join(f"            {number} => run{number}(&rt, part),\n" for number in range(count))
-    return HEAD.format(modules=modules, arms=arms) + "".join(
+    return HEAD.format(modules=modules, arms=arms) + WORDS + "".join(
         ONE.format(number=number) for number in range(count)
     )
 
@@ -141,20 +141,42 @@ fn main(rt: HostRuntime) -> ExitCode {{
 }}
 """
 
+WORDS = """
+/// The words before a trace.
+fn words_of(part: &[u8]) -> &[u8] {
+    part.split(|byte| *byte == 0x1D).next().unwrap_or(&[])
+}
+"""
+
 ONE = """
 fn run{number}(rt: &HostRuntime, part: &[u8]) {{
-    let layout = if part[0] == b'h' {{
-        m{number}::layout::Layout::Html
+    let medium = if part[0] == b'h' {{
+        m{number}::layout::Medium::Html
     }} else {{
-        m{number}::layout::Layout::Text
+        m{number}::layout::Medium::Text
     }};
     let resumes = part[1] == b'r';
-    let mut trace = &part[2..];
+    let is_summary = part[2] == b's';
+    let layout = m{number}::layout::Layout {{ medium, is_summary }};
+    let words = words_of(part);
+    let mut trace = &part[words.len() + 1..];
+    let mask = if words.len() > 3 {{
+        let tags = str::from_utf8(&words[4..]).unwrap_or("");
+        m{number}::mask::Mask::of(rt.alloc(), tags).unwrap()
+    }} else {{
+        m{number}::mask::Mask::none(rt.alloc())
+    }};
+    let hides = mask.hides();
     let mut out = io::writer(rt);
-    let outcome = m{number}::explain::explain(rt.alloc(), layout, resumes, &mut trace, &mut out);
+    let outcome =
+        m{number}::explain::explain(rt.alloc(), layout, mask, resumes, &mut trace, &mut out);
     let _ = out.write_all(b"\\x1e");
     if let Err(fault) = outcome {{
-        let _ = out.writeln(&fault);
+        let _ = if hides {{
+            out.writeln(&m{number}::explain_fault::MaskedFault(&fault))
+        }} else {{
+            out.writeln(&fault)
+        }};
     }}
     let _ = out.write_all(b"\\x1e");
 }}
@@ -166,10 +188,13 @@ def write_inputs(folder, cases, count):
     folder.mkdir()
     given = b""
     for case in cases:
-        words = ("h" if "--html" in case.words else "t") + (
-            "r" if "--resume" in case.words else "s"
+        words = "".join(
+            word[2] if word in case.words else "-" for word in ("--html", "--resume", "--summary")
         )
-        given += MARK.encode() + words.encode() + case.given
+        if "--mask" in case.words:
+            tags = case.words[case.words.index("--mask") + 1 :]
+            words += "=" + "".join(tag for tag in tags[:1] if not tag.startswith("--"))
+        given += MARK.encode() + words.encode() + b"\x1d" + case.given
     for number in range(count):
         (folder / f"f{number:03}").write_bytes(str(number).encode() + given)
 

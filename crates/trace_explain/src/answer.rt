@@ -1,22 +1,28 @@
 //! What is told of an answer to reset, in plain words.
 
 use crate::layout::{Kind, Layout, Side};
+use crate::mask::Mask;
 use crate::opening::{is_direct, is_short};
 use crate::preface::Preface;
 use crate::tree::{hex_lines, text_lines};
 use atr_core::{Atr, AtrFault, Category, Fi, di};
 use std::alloc::{AllocError, Global};
 
-/// Adds the box of an answer: all of it, or how far it came.
+/// Adds the box of an answer: all of it, or how far it came. What is none may be data of which the
+/// front was not heard, and is then not shown where something is not.
 pub fn tell_answer(
     alloc: Global,
     layout: Layout,
+    mask: &Mask,
     preface: &Preface,
     out: &mut String,
 ) -> Result<(), AllocError> {
     let read = Atr::read(preface.answer());
     layout.open(out, kind_of(&read), "answer to reset", preface.line())?;
-    let characters = hex_lines(alloc, preface.answer())?;
+    let mut characters = hex_lines(alloc, preface.answer())?;
+    if read.is_err() {
+        characters = mask.or_hidden(alloc, characters)?;
+    }
     layout.row(out, Side::Card, "characters", characters.as_str())?;
     if !is_direct(preface.turned()) {
         let turned = "by the direct convention, which shows TS as 03; here all are turned\n";

@@ -1,15 +1,19 @@
 //! The command line.
 
 use crate::help;
-use crate::layout::Layout;
+use crate::layout::{Layout, Medium};
+use crate::mask::{BadTags, Mask};
+use clap::error::ErrorKind;
 use clap::{Arg, ArgAction, Command, Error};
 use std::alloc::{AllocError, Global};
 
 /// What the words ask for.
-#[derive(Clone, Copy, Debug, PartialEq, Eq)]
+#[derive(Debug, Drop)]
 pub struct Request {
     /// How the explanation is laid out.
     pub layout: Layout,
+    /// What is not shown.
+    pub mask: Mask,
     /// Whether it goes on after a character with which no dialogue does.
     pub resumes: bool,
 }
@@ -18,25 +22,56 @@ pub struct Request {
 /// a call for help, a mistake in the words, or want of memory.
 pub fn parsed(alloc: Global, words: &[String]) -> Result<Request, Error> {
     let matches = command(alloc)?.try_get_matches_from(words)?;
-    let layout = if matches.get_flag("html") {
-        Layout::Html
+    let medium = if matches.get_flag("html") {
+        Medium::Html
     } else {
-        Layout::Text
+        Medium::Text
+    };
+    let mask = match matches.get_str("mask") {
+        None => Mask::none(alloc),
+        Some(tags) => masked(alloc, tags)?,
     };
     Ok(Request {
-        layout,
+        mask,
+        layout: Layout {
+            medium,
+            is_summary: matches.get_flag("summary"),
+        },
         resumes: matches.get_flag("resume"),
     })
 }
 
+/// What is not shown where these tags are given; the error says what is wrong with them.
+fn masked(alloc: Global, tags: &str) -> Result<Mask, Error> {
+    match Mask::of(alloc, tags) {
+        Ok(mask) => Ok(mask),
+        Err(BadTags::OutOfMemory) => Err(Error::from(AllocError)),
+        Err(BadTags::Form) => {
+            let text = format!(in alloc;
+                "invalid value '{tags}' for '--mask [<TAGS>]': not tags of one to three bytes \
+                 with commas between them"
+            )?;
+            Err(command(alloc)?.error(ErrorKind::ValueValidation, text.as_str())?)
+        }
+    }
+}
+
 /// The program with its options.
 fn command<'a>(alloc: Global) -> Result<Command<'a>, AllocError> {
+    let mask = Arg::new(alloc, "mask")
+        .long("mask")
+        .value_name("TAGS")
+        .num_args(0..=1)
+        .default_missing_value("")
+        .help(help::MASK);
     Command::new(alloc, "trace_explain")
         .version(help::VERSION)
         .about(help::PROGRAM)
         .after_help(help::TRACE)
         .arg(flag(alloc, "html", help::HTML))?
-        .arg(flag(alloc, "resume", help::RESUME))
+        .arg(mask)?
+        .arg(flag(alloc, "resume", help::RESUME))?
+        .arg(flag(alloc, "summary", help::SUMMARY))
 }
 
 /// An option without a value.

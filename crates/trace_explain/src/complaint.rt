@@ -1,5 +1,6 @@
 //! What is said of a character with which no dialogue that a tap reads goes on.
 
+use crate::mask::HIDDEN;
 use std::fmt;
 use t0_core::{Direction, Due, End};
 
@@ -21,16 +22,37 @@ pub struct Complaint {
 
 impl fmt::Display for Complaint {
     fn fmt<W: fmt::Write>(&self, f: &mut fmt::Formatter<W>) -> fmt::Result {
+        self.tell(f, false)
+    }
+}
+
+/// A complaint of which is told all but the character that came.
+#[derive(Clone, Copy, Debug, PartialEq, Eq)]
+pub struct Masked(pub Complaint);
+
+impl fmt::Display for Masked {
+    fn fmt<W: fmt::Write>(&self, f: &mut fmt::Formatter<W>) -> fmt::Result {
+        self.0.tell(f, true)
+    }
+}
+
+impl Complaint {
+    /// Writes it, with the character that came or without.
+    fn tell<W: fmt::Write>(&self, f: &mut fmt::Formatter<W>, hides: bool) -> fmt::Result {
         let line = self.line;
         let character = self.place.saturating_add(1);
         let due = due_text(self.due);
-        let byte = self.byte;
-        let from = end_text(self.from);
         write!(
             f,
-            "line {line}, character {character}: no dialogue that it reads: {due} was due, and \
-             {byte:02X} of the {from} came"
-        )
+            "line {line}, character {character}: no dialogue that it reads: {due} was due, and "
+        )?;
+        if hides {
+            f.write_str(HIDDEN)?;
+        } else {
+            write!(f, "{:02X}", self.byte)?;
+        }
+        let from = end_text(self.from);
+        write!(f, " of the {from} came")
     }
 }
 

@@ -9,6 +9,7 @@ ghost use Rattle.trace_explain.specs.UnderWay.{HasCome, IsOfLines};
 use crate::explain_fault::ExplainFault;
 use crate::explainer::Explainer;
 use crate::layout::Layout;
+use crate::mask::Mask;
 use std::alloc::{AllocError, Global};
 use std::io::{Read, Write};
 
@@ -25,6 +26,7 @@ const CHUNK: usize = 16_384;
 pub fn explain<R: Read, W: Write>(
     alloc: Global,
     layout: Layout,
+    mask: Mask,
     resumes: bool,
     reader: &mut R,
     writer: &mut W,
@@ -35,7 +37,7 @@ pub fn explain<R: Read, W: Write>(
         IfSome (R.remaining reader.old) (λ bytes. StopsIn (lines_of bytes) fault)) }
     ensures limited { IfSome (R.remaining reader.old) (λ bytes. KeepsLimit bytes result) }
 {
-    let mut explainer = Explainer::new(alloc, layout, resumes);
+    let mut explainer = Explainer::new(alloc, layout, mask, resumes);
     let mut text = String::new(alloc);
     explainer.begin(&mut text)?;
     let outcome = explain_chunks(alloc, &mut explainer, reader, writer, &mut text);

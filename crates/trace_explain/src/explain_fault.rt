@@ -1,7 +1,8 @@
 //! The reasons why the program ends with status 1, with their texts.
 
-use crate::complaint::Complaint;
+use crate::complaint::{Complaint, Masked};
 use std::alloc::AllocError;
+use std::fmt;
 use thiserror::Error;
 
 /// Why the program ends with status 1.
@@ -35,6 +36,23 @@ pub enum ExplainFault {
     /// Memory was wanting.
     #[error("out of memory")]
     OutOfMemory,
+}
+
+/// A fault of which is told all but characters of the trace.
+#[derive(Debug, Drop)]
+pub struct MaskedFault<'a>(pub &'a ExplainFault);
+
+impl fmt::Display for MaskedFault<'_> {
+    fn fmt<W: fmt::Write>(&self, f: &mut fmt::Formatter<W>) -> fmt::Result {
+        match self.0 {
+            ExplainFault::NoDialogue(complaint) => Masked(*complaint).fmt(f),
+            ExplainFault::Resumed { complaints, first } => {
+                Masked(*first).fmt(f)?;
+                write!(f, " (complaints: {complaints})")
+            }
+            other => other.fmt(f),
+        }
+    }
 }
 
 impl From<AllocError> for ExplainFault {

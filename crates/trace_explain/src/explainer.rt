@@ -14,20 +14,22 @@ ghost use Rattle.trace_explain.specs.Told.{Told};
 
 use crate::answer::tell_answer;
 use crate::complaint::{Complaint, due_text, end_text};
+use crate::counts::Counts;
 use crate::explain_fault::ExplainFault;
 use crate::layout::{Kind, Layout, Side};
 use crate::links::{Link, Links, Whole};
 use crate::listener::Listener;
+use crate::mask::{HIDDEN, Mask, Origin};
 use crate::meaning::push_meaning;
 use crate::opening::{Role, Stage, begins_answer};
 use crate::phrases;
 use crate::pps::tell_exchange;
 use crate::preface::Preface;
 use crate::refusal::Refusal;
-use crate::story::{Story, brought, header_of, sent, status_of};
+use crate::story::{Story, header_of, status_of};
 use crate::tpdu::Tpdu;
 use crate::trace_line::{BadLine, TraceLine, read_line};
-use crate::tree::{hex_lines, push_hex, text_lines, tree_of};
+use crate::tree::{hex_lines, push_hex};
 use std::alloc::{AllocError, Global};
 use t0_core::{Direction, End};
 
@@ -42,6 +44,7 @@ const ODD_BYTES: usize = 24;
 pub struct Explainer {
     alloc: Global,
     layout: Layout,
+    mask: Mask,
     resumes: bool,
     passes_over: bool,
     preface: Preface,
@@ -50,7 +53,7 @@ pub struct Explainer {
     began: u64,
     listener: Listener,
     story: Story,
-    complaints: u64,
+    counts: Counts,
     first: Option<Complaint>,
     passed: Option<Passed>,
 }
@@ -69,7 +72,7 @@ struct Passed {
 impl Explainer {
     /// No line has come. Where it resumes, it goes on after a character with which no dialogue
     /// does.
-    pub fn new(alloc: Global, layout: Layout, resumes: bool) -> Explainer
+    pub fn new(alloc: Global, layout: Layout, mask: Mask, resumes: bool) -> Explainer
         ensures explained { resumes ≡ false → HasExplained [] [] result }
         ensures standing { standing_of result ≡ first_of_all }
         ensures line { result.line ≡ 0 }
@@ -77,6 +80,7 @@ impl Explainer {
         Explainer {
             alloc,
             layout,
+            mask,
             resumes,
             passes_over: false,
             preface: Preface::new(alloc),
@@ -85,7 +89,7 @@ impl Explainer {
             began: 0,
             listener: Listener::new(alloc),
             story: Story::new(alloc),
-            complaints: 0,
+            counts: Counts::new(alloc),
             first: None,
             passed: None,
         }
@@ -215,9 +219,9 @@ impl Explainer {
     /// Tells the part that is under way in this stage, if one is.
     fn tell_part(&self, stage: Stage, out: &mut String) -> Result<(), AllocError> {
         match stage {
-            Stage::Answer => tell_answer(self.alloc, self.layout, &self.preface, out),
+            Stage::Answer => tell_answer(self.alloc, self.layout, &self.mask, &self.preface, out),
             Stage::Request | Stage::Asked | Stage::Response => {
-                tell_exchange(self.alloc, self.layout, &self.preface, out)
+                tell_exchange(self.alloc, self.layout, &self.mask, &self.preface, out)
             }
             Stage::Ready | Stage::Astray | Stage::Begun => Ok(()),
         }
@@ -259,7 +263,7 @@ impl Explainer {
             (result ≡ false) × (self.new ≡ self.old) }
         ensures counts { self.new.line ≡ self.old.line }
     {
-        if self.passes_over && is_header(from, bytes) {
+        if self.passes_over && self.may_begin(from, bytes) {
             self.passes_over = false;
         }
         if self.passes_over {
@@ -267,6 +271,12 @@ impl Explainer {
             self.passed = self.passed.map(|passed| Passed { last, ..passed });
         }
         self.passes_over
+    }
+
+    /// Whether it goes on with this line, as with a header: not where something is not shown, since
+    /// what is taken for a header is, and may be data.
+    fn may_begin(&self, from: End, bytes: &[u8]) -> bool {
+        is_header(from, bytes) && !self.mask.hides()
     }
 
     /// Hears characters of the dialogue, and tells of the TPDUs that end; it answers the place of
@@ -317,6 +327,7 @@ impl Explainer {
         ensures { OnOk result (KeepsAll self.old self.new) }
     {
         for tpdu in told {
+            self.counts.take(tpdu)?;
             let links = self.story.tell(tpdu)?;
             self.tell(tpdu, links, out)?;
         }
@@ -328,7 +339,10 @@ impl Explainer {
     fn before_header(&self, bytes: &[u8], out: &mut String) -> Result<(), AllocError> {
         let mut lines = String::new(self.alloc);
         lines.push_str("before a header, from the card:\n")?;
-        lines.push_str(hex_lines(self.alloc, bytes)?.as_str())?;
+        let characters = self
+            .mask
+            .or_hidden(self.alloc, hex_lines(self.alloc, bytes)?)?;
+        lines.push_str(characters.as_str())?;
         self.layout.note(out, lines.as_str())
     }
 
@@ -360,11 +374,11 @@ impl Explainer {
         };
         self.cut_off(out)?;
         self.story.lose_some();
+        self.counts.complain();
         self.complain(complaint, out)?;
         if !self.resumes {
             return Err(ExplainFault::NoDialogue(complaint));
         }
-        self.complaints = self.complaints.saturating_add(1);
         self.first = Some(self.first.unwrap_or(complaint));
         self.resume(from, bytes, place)
     }
@@ -375,7 +389,7 @@ impl Explainer {
         ensures counts { self.new.line ≡ self.old.line }
         ensures of_lines { IfErr result IsOfLines }
     {
-        if is_header(from, bytes) {
+        if self.may_begin(from, bytes) {
             return self.hear_header(bytes);
         }
         self.passes_over = true;
@@ -434,7 +448,11 @@ impl Explainer {
         let wanted = format!(in self.alloc; "{due}\n")?;
         self.layout.row(out, Side::Told, "due", wanted.as_str())?;
         let from = end_text(from);
-        let came = format!(in self.alloc; "{byte:02X} of the {from}\n")?;
+        let came = if self.mask.hides() {
+            format!(in self.alloc; "{HIDDEN} of the {from}\n")?
+        } else {
+            format!(in self.alloc; "{byte:02X} of the {from}\n")?
+        };
         self.layout.row(out, Side::Told, "came", came.as_str())?;
         self.layout.close(out)
     }
@@ -479,6 +497,7 @@ impl Explainer {
         if part.is_empty() {
             return Ok(());
         }
+        self.counts.take(&part)?;
         let links = self.story.tell(&part)?;
         self.tell(&part, links, out)
     }
@@ -493,6 +512,7 @@ impl Explainer {
             push_printable(&mut text, piece)?;
             text.push('\n')?;
         }
+        let text = self.mask.or_hidden(self.alloc, text)?;
         self.layout.note(out, text.as_str())
     }
 
@@ -505,19 +525,20 @@ impl Explainer {
             None if self.came => Ok(()),
             None => Err(ExplainFault::NoCharacters),
             Some(complaint) => Err(ExplainFault::Resumed {
-                complaints: self.complaints,
+                complaints: self.counts.complaints(),
                 first: complaint,
             }),
         }
     }
 
-    /// Explains what is under way where the trace ends.
+    /// Explains what is under way where the trace ends, and adds the last block.
     pub fn end(&mut self, out: &mut String) -> Result<(), AllocError>
         ensures { OnOk result (standing_of self.new ≡ standing_of self.old) }
     {
         self.tell_passed(out)?;
         self.tell_part(self.preface.stage(), out)?;
         self.cut_off(out)?;
+        self.counts.tell(self.alloc, self.layout, out)?;
         self.layout.end(out)
     }
 
@@ -542,7 +563,7 @@ impl Explainer {
             self.layout
                 .row(out, Side::Told, "after", "the chain is dropped\n")?;
         }
-        self.tell_whole(links.whole, out)?;
+        self.tell_whole(tpdu, links, out)?;
         self.layout.close(out)
     }
 
@@ -560,21 +581,19 @@ impl Explainer {
 
     /// Adds the row of the data: as a tree where they may be objects, and are some.
     fn tell_data(&self, tpdu: &Tpdu, links: Links, out: &mut String) -> Result<(), AllocError> {
-        match tpdu.way {
-            None => Ok(()),
-            Some(Direction::ToCard) => {
-                let lines = if may_be_objects(tpdu, links) {
-                    data_lines(self.alloc, sent(tpdu))?
-                } else {
-                    text_lines(self.alloc, sent(tpdu))?
-                };
-                self.layout.row(out, Side::Terminal, "data", lines.as_str())
-            }
-            Some(Direction::FromCard) => {
-                let lines = data_lines(self.alloc, brought(tpdu))?;
-                self.layout.row(out, Side::Card, "data", lines.as_str())
-            }
-        }
+        let Some(way) = tpdu.way else {
+            return Ok(());
+        };
+        let (side, is_tree) = match way {
+            Direction::ToCard => (Side::Terminal, may_be_objects(tpdu, links)),
+            Direction::FromCard => (Side::Card, true),
+        };
+        let Some(origin) = Origin::of(tpdu, links, way) else {
+            return Ok(());
+        };
+        let moved = tpdu.moved.as_slice();
+        let lines = self.mask.data_lines(self.alloc, origin, is_tree, moved)?;
+        self.layout.row(out, side, "data", lines.as_str())
     }
 
     /// Adds the row of the status, or that the TPDU was cut off.
@@ -592,22 +611,24 @@ impl Explainer {
     }
 
     /// Adds the row of what has come together.
-    fn tell_whole(&self, whole: Whole, out: &mut String) -> Result<(), AllocError> {
-        let bytes = self.story.whole(whole);
+    fn tell_whole(&self, tpdu: &Tpdu, links: Links, out: &mut String) -> Result<(), AllocError> {
+        let way = match links.whole {
+            Whole::None => return Ok(()),
+            Whole::Value(_) => Direction::ToCard,
+            Whole::Response(_) => Direction::FromCard,
+        };
+        let bytes = self.story.whole(links.whole);
+        let Some(origin) = Origin::of(tpdu, links, way) else {
+            return Ok(());
+        };
         if bytes.is_empty() {
             return Ok(());
         }
-        let mut lines = phrases::whole(self.alloc, whole, bytes.len())?;
-        lines.push_str(data_lines(self.alloc, bytes)?.as_str())?;
+        let origin = origin.of_all();
+        let mut lines = phrases::whole(self.alloc, links.whole, bytes.len())?;
+        let data = self.mask.data_lines(self.alloc, origin, true, bytes)?;
+        lines.push_str(data.as_str())?;
         self.layout.row(out, Side::Told, "together", lines.as_str())
-    }
-}
-
-/// The data as a tree where they are objects, else as digits, with text beside them.
-fn data_lines(alloc: Global, bytes: &[u8]) -> Result<String, AllocError> {
-    match tree_of(alloc, bytes)? {
-        Some(tree) => Ok(tree),
-        None => text_lines(alloc, bytes),
     }
 }
 

@@ -10,8 +10,14 @@ pub const VERSION: &str = "0.1.0";
 /// Of `--html`.
 pub const HTML: &str = "Writes one page of HTML, which needs nothing else, and no text";
 
+/// Of `--mask`.
+pub const MASK: &str = "Shows `**` for reference data, and for objects with these tags, as `5A,57`";
+
 /// Of `--resume`.
 pub const RESUME: &str = "Goes on after a character with which no dialogue that it reads goes on";
+
+/// Of `--summary`.
+pub const SUMMARY: &str = "Writes the last block, with what is counted, and nothing else";
 
 /// What a trace is, and what comes where it is no dialogue.
 pub const TRACE: &str = "\
@@ -35,6 +41,16 @@ counted from 1, with what was due and what came. Then the program stops. With `-
 over what follows, up to the next line `reset`, or the next line `> HEX` of just five characters,
 which it takes for a header: that may be the character's own line. It tells which lines it passed
 over.
+
+With `--mask` reference data are told as `**`: the data of VERIFY, CHANGE REFERENCE DATA, DISABLE
+and ENABLE VERIFICATION REQUIREMENT and RESET RETRY COUNTER. So are objects with the tags that are
+given, with commas between them, and then also all data that may be a part of one: those that are no
+list of objects, and parts of a response, a chain or a file. What may be any of it is told as `**`
+always: notes, characters out of turn, and answers that are none. With `--resume` the program then
+goes on with a line `reset` alone.
+
+The last block has what is counted: TPDUs, commands by name, statuses other than `9000`, and
+complaints.
 
 A TPDU that a reset or the end of the trace has cut off is told as far as it came, and is no fault.
 A trace in which no line has a character of either end, as an empty one, is a fault.

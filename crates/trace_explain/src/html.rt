@@ -107,6 +107,16 @@ pub fn close(out: &mut String) -> Result<(), AllocError> {
     out.push_str("</details>\n")
 }
 
+/// Opens the last block, which stands first on the page.
+pub fn open_block(out: &mut String, title: &str) -> Result<(), AllocError> {
+    writeln!(out, "<section><h2>{title}</h2>")
+}
+
+/// Closes the last block.
+pub fn close_block(out: &mut String) -> Result<(), AllocError> {
+    out.push_str("</section>\n")
+}
+
 /// Adds a line that stands alone.
 pub fn note(out: &mut String, note: &str) -> Result<(), AllocError> {
     out.push_str("<pre class=\"note\">")?;

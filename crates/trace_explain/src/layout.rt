@@ -3,13 +3,22 @@
 use crate::{html, text};
 use std::alloc::AllocError;
 
-/// How an explanation is laid out.
+/// What an explanation is written as.
 #[derive(Clone, Copy, Debug, PartialEq, Eq)]
-pub enum Layout {
+pub enum Medium {
     /// Lines of text.
     Text,
     /// One page of HTML.
     Html,
+}
+
+/// How an explanation is laid out.
+#[derive(Clone, Copy, Debug, PartialEq, Eq)]
+pub struct Layout {
+    /// What it is written as.
+    pub medium: Medium,
+    /// Whether its last block is all that is written.
+    pub is_summary: bool,
 }
 
 /// Who says what a row tells.
@@ -35,19 +44,27 @@ pub enum Kind {
 }
 
 impl Layout {
+    /// That of the last block, which is written whatever else is not.
+    pub fn of_block(self) -> Layout {
+        Layout {
+            is_summary: false,
+            ..self
+        }
+    }
+
     /// Adds what comes before all else.
     pub fn begin(self, out: &mut String) -> Result<(), AllocError> {
-        match self {
-            Layout::Text => Ok(()),
-            Layout::Html => html::begin(out),
+        match self.medium {
+            Medium::Text => Ok(()),
+            Medium::Html => html::begin(out),
         }
     }
 
     /// Adds what comes after all else.
     pub fn end(self, out: &mut String) -> Result<(), AllocError> {
-        match self {
-            Layout::Text => Ok(()),
-            Layout::Html => html::end(out),
+        match self.medium {
+            Medium::Text => Ok(()),
+            Medium::Html => html::end(out),
         }
     }
 
@@ -59,9 +76,10 @@ impl Layout {
         title: &str,
         line: u64,
     ) -> Result<(), AllocError> {
-        match self {
-            Layout::Text => text::open(out, title, line),
-            Layout::Html => html::open(out, kind, title, line),
+        match self.medium {
+            _ if self.is_summary => Ok(()),
+            Medium::Text => text::open(out, title, line),
+            Medium::Html => html::open(out, kind, title, line),
         }
     }
 
@@ -73,25 +91,44 @@ impl Layout {
         label: &str,
         lines: &str,
     ) -> Result<(), AllocError> {
-        match self {
-            Layout::Text => text::row(out, side, label, lines),
-            Layout::Html => html::row(out, side, label, lines),
+        match self.medium {
+            _ if self.is_summary => Ok(()),
+            Medium::Text => text::row(out, side, label, lines),
+            Medium::Html => html::row(out, side, label, lines),
         }
     }
 
     /// Closes the box.
     pub fn close(self, out: &mut String) -> Result<(), AllocError> {
-        match self {
-            Layout::Text => Ok(()),
-            Layout::Html => html::close(out),
+        match self.medium {
+            _ if self.is_summary => Ok(()),
+            Medium::Text => Ok(()),
+            Medium::Html => html::close(out),
+        }
+    }
+
+    /// Opens the last block, which is of no line.
+    pub fn open_block(self, out: &mut String, title: &str) -> Result<(), AllocError> {
+        match self.medium {
+            Medium::Text => text::open_block(out, title),
+            Medium::Html => html::open_block(out, title),
+        }
+    }
+
+    /// Closes the last block.
+    pub fn close_block(self, out: &mut String) -> Result<(), AllocError> {
+        match self.medium {
+            Medium::Text => Ok(()),
+            Medium::Html => html::close_block(out),
         }
     }
 
     /// Adds a line that stands alone.
     pub fn note(self, out: &mut String, note: &str) -> Result<(), AllocError> {
-        match self {
-            Layout::Text => text::note(out, note),
-            Layout::Html => html::note(out, note),
+        match self.medium {
+            _ if self.is_summary => Ok(()),
+            Medium::Text => text::note(out, note),
+            Medium::Html => html::note(out, note),
         }
     }
 }

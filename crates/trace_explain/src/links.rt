@@ -1,5 +1,7 @@
 //! What a TPDU is among those before it: a piece, a part, or a command once more.
 
+use apdu_core::Header;
+
 /// How a command goes on with those before it.
 #[derive(Clone, Copy, Debug, PartialEq, Eq)]
 pub enum Link {
@@ -45,4 +47,8 @@ pub struct Links {
     pub drops_after: bool,
     /// What has come together with it.
     pub whole: Whole,
+    /// The command whose response its data are, if they are the card's.
+    pub asker: Option<Header>,
+    /// Others of its data came before, as those of a chain or of a response in parts.
+    pub goes_on: bool,
 }

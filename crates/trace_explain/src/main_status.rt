@@ -1,9 +1,9 @@
 //! The program over any reader and writers.
 ghost use Rattle.std.specs.Prelude.{◌≡◌, ◌≤◌, OnOk, OnErr};
 
-use crate::command_line::parsed;
+use crate::command_line::{Request, parsed};
 use crate::explain::explain;
-use crate::explain_fault::ExplainFault;
+use crate::explain_fault::{ExplainFault, MaskedFault};
 use crate::help;
 use clap::Error;
 use clap::error::ErrorKind;
@@ -27,8 +27,14 @@ pub fn main_status<R: Read, W: Write, F: Write>(
 {
     match parsed(alloc, words) {
         Ok(request) => {
-            let outcome = explain(alloc, request.layout, request.resumes, input, output);
-            told(&outcome, faults)
+            let hides = request.mask.hides();
+            let Request {
+                layout,
+                mask,
+                resumes,
+            } = request;
+            let outcome = explain(alloc, layout, mask, resumes, input, output);
+            told(&outcome, hides, faults)
         }
         Err(error) => answered(&error, output, faults),
     }
@@ -40,8 +46,10 @@ fn answered<W: Write, F: Write>(error: &Error, output: &mut W, faults: &mut F) -
     ensures status { result ≤ 2 }
 {
     match error.kind() {
-        ErrorKind::OutOfMemory => told(&Err(ExplainFault::OutOfMemory), faults),
-        ErrorKind::DisplayHelp | ErrorKind::DisplayVersion => told(&shown(error, output), faults),
+        ErrorKind::OutOfMemory => told(&Err(ExplainFault::OutOfMemory), false, faults),
+        ErrorKind::DisplayHelp | ErrorKind::DisplayVersion => {
+            told(&shown(error, output), false, faults)
+        }
         _ => {
             let _ = faults.write_fmt(error);
             2
@@ -54,15 +62,20 @@ fn shown<W: Write>(error: &Error, output: &mut W) -> Result<(), ExplainFault> {
     output.write_fmt(error).map_err(|_| ExplainFault::Write)
 }
 
-/// The status for an outcome: 0, or 1 for a fault, which is told on `faults` in one line.
-fn told<F: Write>(outcome: &Result<(), ExplainFault>, faults: &mut F) -> u8
+/// The status for an outcome: 0, or 1 for a fault, which is told on `faults` in one line, with
+/// characters of the trace or without.
+fn told<F: Write>(outcome: &Result<(), ExplainFault>, hides: bool, faults: &mut F) -> u8
     ensures success { OnOk outcome.now (result ≡ 0) }
     ensures fault { OnErr outcome.now (result ≡ 1) }
 {
     match outcome {
         Ok(()) => 0,
         Err(fault) => {
-            let _ = faults.writeln(fault);
+            let _ = if hides {
+                faults.writeln(&MaskedFault(fault))
+            } else {
+                faults.writeln(fault)
+            };
             1
         }
     }
@@ -74,7 +87,7 @@ pub fn status_without_words<F: Write>(error: &io::Error, faults: &mut F) -> u8
     ensures status { result ≤ 2 }
 {
     match error.kind() {
-        io::ErrorKind::OutOfMemory => told(&Err(ExplainFault::OutOfMemory), faults),
+        io::ErrorKind::OutOfMemory => told(&Err(ExplainFault::OutOfMemory), false, faults),
         _ => {
             let _ = faults.write_all(help::NO_UTF_8.as_bytes());
             2

@@ -2,6 +2,7 @@
 
 use crate::answer::push_rate;
 use crate::layout::{Kind, Layout, Side};
+use crate::mask::Mask;
 use crate::preface::Preface;
 use crate::tree::hex_lines;
 use atr_core::{Pps, PpsFault, agreed};
@@ -12,6 +13,7 @@ use std::alloc::{AllocError, Global};
 pub fn tell_exchange(
     alloc: Global,
     layout: Layout,
+    mask: &Mask,
     preface: &Preface,
     out: &mut String,
 ) -> Result<(), AllocError> {
@@ -20,18 +22,34 @@ pub fn tell_exchange(
     let is_whole = request.is_ok() && response.is_ok();
     let kind = if is_whole { Kind::Whole } else { Kind::CutOff };
     layout.open(out, kind, "PPS", preface.line())?;
-    let mut asked = hex_lines(alloc, preface.request())?;
+    let mut asked = characters(alloc, mask, preface.request(), request.is_ok())?;
     push_pps(&mut asked, &request)?;
     layout.row(out, Side::Terminal, "request", asked.as_str())?;
     if preface.response().is_empty() {
         layout.row(out, Side::Told, "response", "none\n")?;
         return layout.close(out);
     }
-    let mut answered = hex_lines(alloc, preface.response())?;
+    let mut answered = characters(alloc, mask, preface.response(), response.is_ok())?;
     push_agreed(&mut answered, &request, &response)?;
     push_pps(&mut answered, &response)?;
     layout.row(out, Side::Card, "response", answered.as_str())?;
     layout.close(out)
+}
+
+/// The characters of a request or response; those that are none may be data, and are then not shown
+/// where something is not.
+fn characters(
+    alloc: Global,
+    mask: &Mask,
+    bytes: &[u8],
+    is_one: bool,
+) -> Result<String, AllocError> {
+    let lines = hex_lines(alloc, bytes)?;
+    if is_one {
+        Ok(lines)
+    } else {
+        mask.or_hidden(alloc, lines)
+    }
 }
 
 /// Adds whether a response accepts the request, where both are whole.

@@ -22,6 +22,7 @@ enum Asked {
 #[derive(Drop)]
 pub struct ResponseHeard {
     asked: Asked,
+    asker: Option<Header>,
     parts: u64,
     bytes: Vec<u8>,
 }
@@ -31,14 +32,32 @@ impl ResponseHeard {
     pub fn new(alloc: Global) -> ResponseHeard {
         ResponseHeard {
             asked: Asked::Nothing,
+            asker: None,
             parts: 0,
             bytes: Vec::new(alloc),
         }
     }
 
+    /// Begins that of a command with this header.
+    pub fn begin(&mut self, header: Header) {
+        self.drop_all();
+        self.asker = Some(header);
+    }
+
+    /// The command that it is of.
+    pub fn asker(&self) -> Option<Header> {
+        self.asker
+    }
+
+    /// Whether some of its data have come.
+    pub fn has_come(&self) -> bool {
+        self.parts > 0
+    }
+
     /// Drops it.
     pub fn drop_all(&mut self) {
         self.asked = Asked::Nothing;
+        self.asker = None;
         self.parts = 0;
         self.bytes.clear();
     }

@@ -31,7 +31,7 @@ impl Story {
         self.number = self.number.saturating_add(1);
         match (header_of(tpdu), status_of(tpdu)) {
             (Some((header, p3)), Some(status)) => self.tell_whole(tpdu, header, p3, status),
-            (Some((header, p3)), None) => Ok(self.with(self.link_of(header, p3))),
+            (Some((header, p3)), None) => Ok(self.linked(tpdu, header, p3)),
             _ => Ok(self.with(Link::None)),
         }
     }
@@ -46,9 +46,9 @@ impl Story {
     ) -> Result<Links, AllocError> {
         let drops_before = self.chain.is_pending() && !self.chain.goes_on_with(header);
         let piece = self.chain.link_of(header);
-        let links = self.with(self.link_of(header, p3));
+        let links = self.linked(tpdu, header, p3);
         if self.response.link_of(header, p3) == Link::None {
-            self.response.drop_all();
+            self.response.begin(header);
         }
         self.chain
             .take(header, sent(tpdu), sent(tpdu).len() == usize::from(p3))?;
@@ -64,6 +64,25 @@ impl Story {
             whole: self.come_together(piece, parts),
             ..links
         })
+    }
+
+    /// How a TPDU with this header and P3 goes on with those before it, and its data with theirs.
+    fn linked(&self, tpdu: &Tpdu, header: Header, p3: u8) -> Links {
+        let is_asked = self.response.link_of(header, p3) != Link::None;
+        let asker = if is_asked {
+            self.response.asker()
+        } else {
+            Some(header)
+        };
+        let goes_on = match tpdu.way {
+            Some(Direction::FromCard) => is_asked && self.response.has_come(),
+            _ => self.chain.goes_on_with(header),
+        };
+        Links {
+            asker,
+            goes_on,
+            ..self.with(self.link_of(header, p3))
+        }
     }
 
     /// How a command with this header and P3 goes on with those before it.
@@ -120,6 +139,8 @@ impl Story {
             drops_before: false,
             drops_after: false,
             whole: Whole::None,
+            asker: None,
+            goes_on: false,
         }
     }
 }

@@ -20,6 +20,11 @@ pub fn open(out: &mut String, title: &str, line: u64) -> Result<(), AllocError> 
     }
 }
 
+/// Adds the title of the last block.
+pub fn open_block(out: &mut String, title: &str) -> Result<(), AllocError> {
+    writeln!(out, "{title}")
+}
+
 /// Adds a row: a sign for the end that says it, and the label, before the first line, and spaces
 /// before the others.
 pub fn row(out: &mut String, side: Side, label: &str, lines: &str) -> Result<(), AllocError> {

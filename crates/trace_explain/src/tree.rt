@@ -3,6 +3,7 @@ ghost use Rattle.std.specs.Prelude.{◌≡◌, ◌+◌};
 ghost use Rattle.tlv_core.specs.Object.{IsObjectList};
 
 use crate::ascii::{is_text, push_text};
+use crate::mask::{HIDDEN, Mask};
 use std::alloc::{AllocError, Global};
 use tlv_core::Objects;
 
@@ -20,11 +21,12 @@ const LINE_TEXT: usize = 25;
 const VALUE_TEXT: usize = 15;
 
 /// The bytes as objects: a line for each, two spaces further in for each level below the first, and
-/// more lines for a long value. `None` where they are no list of objects, or hold none.
-pub fn tree_of(alloc: Global, bytes: &[u8]) -> Result<Option<String>, AllocError> {
+/// more lines for a long value, but for values that are not shown. `None` where they are no list of
+/// objects, or hold none.
+pub fn tree_of(alloc: Global, bytes: &[u8], mask: &Mask) -> Result<Option<String>, AllocError> {
     let mut text = String::new(alloc);
     match Objects::over(bytes) {
-        Ok(objects) => push_objects(alloc, &mut text, objects, 0)?,
+        Ok(objects) => push_objects(alloc, &mut text, objects, 0, mask)?,
         Err(_) => return Ok(None),
     }
     Ok(if text.is_empty() { None } else { Some(text) })
@@ -36,6 +38,7 @@ fn push_objects(
     text: &mut String,
     objects: Objects<'_>,
     below: usize,
+    mask: &Mask,
 ) -> Result<(), AllocError>
     requires list { IsObjectList objects }
     requires level { objects.level ≡ below + 1 }
@@ -44,14 +47,22 @@ fn push_objects(
         push_indent(text, below)?;
         push_hex(alloc, text, object.tag().bytes())?;
         match object.children() {
+            _ if mask.has(object.tag()) => push_hidden(text)?,
             None => push_value(alloc, text, object.value(), below)?,
             Some(children) => {
                 text.push('\n')?;
-                push_objects(alloc, text, children, below + 1)?;
+                push_objects(alloc, text, children, below + 1, mask)?;
             }
         }
     }
     Ok(())
+}
+
+/// Adds what stands behind a tag in the place of a value that is not shown.
+fn push_hidden(text: &mut String) -> Result<(), AllocError> {
+    text.push(' ')?;
+    text.push_str(HIDDEN)?;
+    text.push('\n')
 }
 
 /// Adds a value behind a tag, `-` where it is empty, in as many lines as it takes.

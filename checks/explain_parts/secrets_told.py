@@ -1,0 +1,112 @@
+"""Traces that have a secret, which no explanation with a mask may tell: reference data, and an
+object `5A`, whole and cut in each place, over several TPDUs, and where no object is heard.
+
+No byte of the secret but `02` stands anywhere else in a trace, nor in what is told of it. Its
+second half reads as an object, so that it is told where the first half is forgotten."""
+
+SECRET = b"QzxvT\x02wK"
+DIGITS = SECRET.hex().upper()
+HALF = DIGITS[8:]
+BYTES = SECRET.replace(b"\x02", b"")
+# the secret in a template, with an object before it and one behind
+RECORD = f"70115F200141{'5A08' + DIGITS}500142"
+TAGS = ["5A,57"]
+
+
+def sent(header, digits, status="9000"):
+    """A command with data of the terminal."""
+    size = len(digits) // 2
+    return [f"> {header}{size:02X}", f"< {header[2:4]}", f"> {digits}", f"< {status}"]
+
+
+def brought(header, digits, status="9000"):
+    """A command with data of the card."""
+    return [f"> {header}{len(digits) // 2:02X}", f"< {header[2:4]}{digits}{status}"]
+
+
+def cuts(digits):
+    """The two parts of digits, cut behind each byte but the last."""
+    return [(digits[:i], digits[i:]) for i in range(2, len(digits), 2)]
+
+
+def of_reference_data():
+    """Data that are hidden whatever the tags are."""
+    for header in ("00200080", "A0200001", "00240001", "002C0001", "00260080", "00280080"):
+        yield f"data of {header}", sent(header, DIGITS)
+    yield "an object of them", sent("00210080", HALF)
+    singles = [it for i in range(0, 16, 2) for it in ("< DF", f"> {DIGITS[i : i + 2]}")]
+    yield "single bytes", ["> 0020008008", *singles, "< 9000"]
+    for front, rest in cuts(DIGITS):
+        yield "a chain of them", sent("10200080", front) + sent("00200080", rest)
+        yield "cut off", ["> 0020008008", "< 20", f"> {front}", "reset"]
+        wrong = len(front) // 2
+        yield "more than P3", [f"> 00200080{wrong:02X}", "< 20", f"> {front}", f"> {rest}"]
+        yield "behind a complaint", ["> 0020008008", "< 55", f"> {front}", f"> {rest}", "< 9000"]
+        yield "no procedure byte", [f"> 00200080{wrong:02X}", f"> {front}", f"> {rest}", "< 9000"]
+    yield "a note", [*brought("00CA5F20", "41"), f"the pin is {DIGITS}"]
+    yield "a note in words", [f"the pin is {SECRET[:5].decode()}", *brought("00CA5F20", "41")]
+
+
+def of_objects():
+    """Data that hold an object with a tag of the mask."""
+    yield "a record", brought("00B2010C", RECORD)
+    yield "a record that is asked for again", [
+        "> 00B2010C01",
+        f"< 6C{len(RECORD) // 2:02X}",
+        *brought("00B2010C", RECORD),
+    ]
+    yield "an object that is named", brought("00CA005A", f"5A08{DIGITS}")
+    yield "the value of one", brought("00CA005A", DIGITS) + sent("00DA005A", DIGITS)
+    yield "a response with nothing before it", brought("00C00000", HALF)
+    yield "a part of a file by its object", brought("00B10000", f"5304{HALF}")
+    yield "a part of a record", brought("00B3010C", f"5304{HALF}") + sent("00DD010C", HALF)
+    yield "a part of a command", sent("00C20000", HALF) + sent("00C30000", HALF)
+    yield "a part that is written", sent("00D10000", HALF) + sent("00D70000", HALF)
+    yield "a part behind others", sent("00D00001", HALF) + sent("00D60100", HALF)
+    yield "before a header", [f"< {DIGITS}", *brought("00CA5F20", "41")]
+    yield "no answer to reset", [f"< 3BF0{DIGITS}", *brought("00CA5F20", "41")]
+    yield "no request", ["< 3B00", f"> FF70{DIGITS[:6]}", "reset"]
+    for front, rest in cuts(RECORD):
+        size, left = len(front) // 2, len(rest) // 2
+        yield "a response in parts", brought("00B2010C", front, f"61{left:02X}") + brought(
+            "00C00000", rest
+        )
+        yield "one that is asked for again", [
+            *brought("00B2010C", front, f"61{left:02X}"),
+            "> 00C0000001",
+            f"< 6C{left:02X}",
+            *brought("00C00000", rest),
+        ]
+        yield "one that is lost in part", [
+            *brought("00B2010C", front, f"61{left:02X}"),
+            "< 41",
+            *brought("00C00000", rest),
+        ]
+        yield "a chain", sent("10DB3FFF", front) + sent("00DB3FFF", rest)
+        yield "a file", brought("00B00000", front) + brought(f"00B0{size:04X}", rest)
+        yield "a short file", brought("00B08100", front) + brought(f"00B081{size:02X}", rest)
+        yield "a file that is written", sent("00D60000", front) + sent(f"00D6{size:04X}", rest)
+        yield "parts of commands", sent("10C20000", front) + sent("00C20000", rest)
+        yield "a template that is named", brought("00CA006F", front, f"61{left:02X}") + brought(
+            "00C00000", rest
+        )
+        yield "data that are cut off", [f"> 00B2010C{size:02X}", f"< B2{front}", "reset"]
+        yield "data that end too soon", [f"> 00B2010C{size + 1:02X}", f"< B2{front}", "> 41"]
+    for front, rest in cuts(DIGITS):
+        yield "a value in pieces", sent("10DA005A", front) + sent("00DA005A", rest)
+        yield "a value in parts", brought("00CA005A", front, "6108") + brought("00C00000", rest)
+        yield "a value in parts, of which none came first", (
+            ["> 00CA005A00", "< 6108"]
+            + brought("00C00000", front, "6108")
+            + brought("00C00000", rest)
+        )
+        yield "a character too many", [*brought("00CA005A", front), f"< {rest}"]
+
+
+def traces():
+    """The name of each trace, the tags that are given, and its lines."""
+    for name, lines in of_reference_data():
+        yield name, [], lines
+        yield name, TAGS, lines
+    for name, lines in of_objects():
+        yield name, TAGS, lines

@@ -8,8 +8,9 @@
   that are written, without the rows of headers, procedure bytes, data and statuses; behind `err`
   what standard error tells, and behind `$` the words. `\\xHH` in a line is that byte. Of a page
   only what stands below its head is compared.
+- lines.cases: what lines say, in the same words; all that is written stands there.
 
-In the three tables `#` begins a line that is passed over."""
+In the four tables `#` begins a line that is passed over."""
 
 import re
 from dataclasses import dataclass, field
@@ -124,13 +125,13 @@ def title_case():
     return Case("titles", lines_of(given), wanted, part="titles")
 
 
-def story_cases():
-    """The cases of several TPDUs."""
+def story_cases(name, part):
+    """The cases of a file, of whose output this part stands there."""
     found = []
-    for line in rows("stories.cases"):
+    for line in rows(name):
         word, _, rest = line.partition(" ")
         if word == "case":
-            found.append(Case(rest, b"", [], part="story"))
+            found.append(Case(rest, b"", [], part=part))
         elif word == "in":
             given = ODD.sub(lambda it: bytes([int(it[1], 16)]), rest.encode())
             found[-1].given += given + b"\n"
@@ -140,9 +141,9 @@ def story_cases():
             found[-1].error += rest + "\n"
         elif word == "$":
             found[-1].words = rest.split()
-            found[-1].part = "page" if "--html" in rest else "story"
+            found[-1].part = "page" if "--html" in rest else part
         else:
-            raise ValueError(f"stories.cases: {line}")
+            raise ValueError(f"{name}: {line}")
     return found
 
 
@@ -170,8 +171,13 @@ def lines_of(lines):
 
 
 def tables():
-    """The cases of the three tables."""
-    return [status_case(), title_case(), *story_cases()]
+    """The cases of the four tables."""
+    return [
+        status_case(),
+        title_case(),
+        *story_cases("stories.cases", "story"),
+        *story_cases("lines.cases", "all"),
+    ]
 
 
 def all_cases():

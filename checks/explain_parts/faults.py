@@ -25,6 +25,8 @@ BELOW = ("apdu_core", "tlv_core", "t0_core", "atr_core")
 SOURCE = TOP / "crates" / "trace_explain" / "src"
 # what takes words and streams, which the program below does in its place
 LEFT_OUT = ("main", "main_status", "command_line", "help")
+# the names of the forms, in the order of FORM_NAMES
+FORMS = "angle angles arrow double TX TX: Tx: T: IFD IFD:".split()
 # stands between the cases that a program is given, and between what it says of them
 MARK = "\x1e"
 DECLARED = re.compile(r"^ *ghost use [^;]*;\n", re.M)
@@ -149,9 +151,19 @@ fn run{number}(rt: &HostRuntime, part: &[u8]) {{
         m{number}::layout::Layout::Text
     }};
     let resumes = part[1] == b'r';
-    let mut trace = &part[2..];
+    let reading = m{number}::reading::Reading {{
+        form: match part[2] {{
+            b'-' => None,
+            digit => m{number}::form::Form::of_name(
+                m{number}::form::FORM_NAMES[usize::from(digit - b'0')],
+            ),
+        }},
+        swaps: part[3] == b'w',
+    }};
+    let mut trace = &part[4..];
     let mut out = io::writer(rt);
-    let outcome = m{number}::explain::explain(rt.alloc(), layout, resumes, &mut trace, &mut out);
+    let outcome =
+        m{number}::explain::explain(rt.alloc(), layout, resumes, reading, &mut trace, &mut out);
     let _ = out.write_all(b"\\x1e");
     if let Err(fault) = outcome {{
         let _ = out.writeln(&fault);
@@ -166,12 +178,20 @@ def write_inputs(folder, cases, count):
     folder.mkdir()
     given = b""
     for case in cases:
-        words = ("h" if "--html" in case.words else "t") + (
-            "r" if "--resume" in case.words else "s"
-        )
+        words = "h" if "--html" in case.words else "t"
+        words += "r" if "--resume" in case.words else "s"
+        words += form_of(case.words)
+        words += "w" if "--swap" in case.words else "-"
         given += MARK.encode() + words.encode() + case.given
     for number in range(count):
         (folder / f"f{number:03}").write_bytes(str(number).encode() + given)
+
+
+def form_of(words):
+    """The place of the form that is said, and `-` where none is."""
+    if "--form" not in words:
+        return "-"
+    return str(FORMS.index(words[words.index("--form") + 1]))
 
 
 def run_all(crate, folder):

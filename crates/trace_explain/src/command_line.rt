@@ -1,7 +1,9 @@
 //! The command line.
 
+use crate::form::{FORM_NAMES, Form};
 use crate::help;
 use crate::layout::Layout;
+use crate::reading::Reading;
 use clap::{Arg, ArgAction, Command, Error};
 use std::alloc::{AllocError, Global};
 
@@ -12,6 +14,8 @@ pub struct Request {
     pub layout: Layout,
     /// Whether it goes on after a character with which no dialogue does.
     pub resumes: bool,
+    /// How the lines of the trace are read.
+    pub reading: Reading,
 }
 
 /// What the words, of which the first is the program's name, ask for. The error is the parser's:
@@ -26,6 +30,10 @@ pub fn parsed(alloc: Global, words: &[String]) -> Result<Request, Error> {
     Ok(Request {
         layout,
         resumes: matches.get_flag("resume"),
+        reading: Reading {
+            form: matches.get_str("form").and_then(Form::of_name),
+            swaps: matches.get_flag("swap"),
+        },
     })
 }
 
@@ -36,7 +44,19 @@ fn command<'a>(alloc: Global) -> Result<Command<'a>, AllocError> {
         .about(help::PROGRAM)
         .after_help(help::TRACE)
         .arg(flag(alloc, "html", help::HTML))?
-        .arg(flag(alloc, "resume", help::RESUME))
+        .arg(flag(alloc, "resume", help::RESUME))?
+        .arg(form(alloc))?
+        .arg(flag(alloc, "swap", help::SWAP))
+}
+
+/// The option that says the form of the lines.
+fn form<'a>(alloc: Global) -> Arg<'a> {
+    Arg::new(alloc, "form")
+        .long("form")
+        .action(ArgAction::Set)
+        .value_name("FORM")
+        .value_parser(FORM_NAMES.as_slice())
+        .help(help::FORM)
 }
 
 /// An option without a value.

@@ -27,7 +27,14 @@ pub fn main_status<R: Read, W: Write, F: Write>(
 {
     match parsed(alloc, words) {
         Ok(request) => {
-            let outcome = explain(alloc, request.layout, request.resumes, input, output);
+            let outcome = explain(
+                alloc,
+                request.layout,
+                request.resumes,
+                request.reading,
+                input,
+                output,
+            );
             told(&outcome, faults)
         }
         Err(error) => answered(&error, output, faults),

@@ -9,9 +9,11 @@
   that are written, without the rows of headers, procedure bytes, data and statuses; behind `err`
   what standard error tells, and behind `$` the words. `\\xHH` in a line is that byte. Of a page
   only what stands below its head is compared.
+- lines.cases: what lines say, in the same words; all that is written above the last block stands
+  there.
 
 The last block of text is told nowhere but in explain_cases: it has to count what stands above it
-(`block_of`). In the three tables `#` begins a line that is passed over."""
+(`block_of`). In the four tables `#` begins a line that is passed over."""
 
 import re
 from collections import Counter
@@ -198,13 +200,13 @@ def title_case():
     return Case("titles", lines_of(given), wanted, part="titles")
 
 
-def story_cases():
-    """The cases of several TPDUs."""
+def story_cases(name, part):
+    """The cases of a file, of whose output this part stands there."""
     found = []
-    for line in rows("stories.cases"):
+    for line in rows(name):
         word, _, rest = line.partition(" ")
         if word == "case":
-            found.append(Case(rest, b"", [], part="story"))
+            found.append(Case(rest, b"", [], part=part))
         elif word == "in":
             given = ODD.sub(lambda it: bytes([int(it[1], 16)]), rest.encode())
             found[-1].given += given + b"\n"
@@ -218,8 +220,10 @@ def story_cases():
                 found[-1].part = "page"
             elif "--mask" in rest:
                 found[-1].part = "shown"
+            else:
+                found[-1].part = part
         else:
-            raise ValueError(f"stories.cases: {line}")
+            raise ValueError(f"{name}: {line}")
     return found
 
 
@@ -255,14 +259,19 @@ def lines_of(lines):
 
 
 def tables():
-    """The cases of the three tables, and those of secrets."""
+    """The cases of the four tables, and those of secrets."""
     ways = [], ["--html"], ["--resume"], ["--summary", "--resume"]
     return [*rows_and_stories(), *secret_cases(ways)]
 
 
 def rows_and_stories():
-    """The cases of the three tables."""
-    return [status_case(), title_case(), *story_cases()]
+    """The cases of the four tables."""
+    return [
+        status_case(),
+        title_case(),
+        *story_cases("stories.cases", "story"),
+        *story_cases("lines.cases", "shown"),
+    ]
 
 
 def all_cases():

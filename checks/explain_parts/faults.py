@@ -25,6 +25,8 @@ BELOW = ("apdu_core", "tlv_core", "t0_core", "atr_core")
 SOURCE = TOP / "crates" / "trace_explain" / "src"
 # what takes words and streams, which the program below does in its place
 LEFT_OUT = ("main", "main_status", "command_line", "help")
+# the names of the forms, in the order of FORM_NAMES
+FORMS = "angle angles arrow double TX TX: Tx: T: IFD IFD:".split()
 # stands between the cases that a program is given, and between what it says of them
 MARK = "\x1e"
 DECLARED = re.compile(r"^ *ghost use [^;]*;\n", re.M)
@@ -158,18 +160,34 @@ fn run{number}(rt: &HostRuntime, part: &[u8]) {{
     let resumes = part[1] == b'r';
     let is_summary = part[2] == b's';
     let layout = m{number}::layout::Layout {{ medium, is_summary }};
+    let reading = m{number}::reading::Reading {{
+        form: match part[3] {{
+            b'-' => None,
+            digit => m{number}::form::Form::of_name(
+                m{number}::form::FORM_NAMES[usize::from(digit - b'0')],
+            ),
+        }},
+        swaps: part[4] == b'w',
+    }};
     let words = words_of(part);
     let mut trace = &part[words.len() + 1..];
-    let mask = if words.len() > 3 {{
-        let tags = str::from_utf8(&words[4..]).unwrap_or("");
+    let mask = if words.len() > 5 {{
+        let tags = str::from_utf8(&words[6..]).unwrap_or("");
         m{number}::mask::Mask::of(rt.alloc(), tags).unwrap()
     }} else {{
         m{number}::mask::Mask::none(rt.alloc())
     }};
     let hides = mask.hides();
     let mut out = io::writer(rt);
-    let outcome =
-        m{number}::explain::explain(rt.alloc(), layout, mask, resumes, &mut trace, &mut out);
+    let outcome = m{number}::explain::explain(
+        rt.alloc(),
+        layout,
+        mask,
+        resumes,
+        reading,
+        &mut trace,
+        &mut out,
+    );
     let _ = out.write_all(b"\\x1e");
     if let Err(fault) = outcome {{
         let _ = if hides {{
@@ -191,12 +209,21 @@ def write_inputs(folder, cases, count):
         words = "".join(
             word[2] if word in case.words else "-" for word in ("--html", "--resume", "--summary")
         )
+        words += form_of(case.words)
+        words += "w" if "--swap" in case.words else "-"
         if "--mask" in case.words:
             tags = case.words[case.words.index("--mask") + 1 :]
             words += "=" + "".join(tag for tag in tags[:1] if not tag.startswith("--"))
         given += MARK.encode() + words.encode() + b"\x1d" + case.given
     for number in range(count):
         (folder / f"f{number:03}").write_bytes(str(number).encode() + given)
+
+
+def form_of(words):
+    """The place of the form that is said, and `-` where none is."""
+    if "--form" not in words:
+        return "-"
+    return str(FORMS.index(words[words.index("--form") + 1]))
 
 
 def run_all(crate, folder):

@@ -16,11 +16,13 @@ use Rattle.trace_explain.specs.declared.explain_fault.ExplainFault.{ExplainFault
 use Rattle.trace_explain.specs.declared.explain_fault.ExplainFault.TheVariants as fault
 use Rattle.trace_explain.specs.declared.explainer.Explainer.{Explainer}
 use Rattle.trace_explain.specs.declared.listener.Listener.{Listener}
+use Rattle.trace_explain.specs.declared.form.Form.{Form}
+use Rattle.trace_explain.specs.declared.reading.Reading.{Reading}
 use Rattle.trace_explain.specs.declared.trace_line.TraceLine.{TraceLine}
 use Rattle.trace_explain.specs.declared.tpdu.Tpdu.{Tpdu}
 use Rattle.trace_explain.specs.Told.{Told, told_by, TellsFront}
 use Rattle.trace_explain.specs.Openings.{Opening, begins_answer, dialogue_in, has_begun, opened, opening_of, unopened}
-use Rattle.trace_explain.specs.Lines.{AreOver, Standing, after_characters, came_after, heard_in, SpellsCharacters, Says, TakesCharacters, TakesLine}
+use Rattle.trace_explain.specs.Lines.{AreOver, Standing, after_characters, came_after, heard_in, SpellsCharacters, Suits, Says, TakesCharacters, TakesLine, of_form, sender}
 use Rattle.trace_explain.specs.Noted.{HasNoted, NoneGoesOn}
 use Rattle.trace_explain.specs.Explained.{HasExplained, ExplainsMore, ExplainsCharacters, ExplainsLine, HearsUpTo, IsRight, StopsRightly, StopsAtLine, IsStop, Stopped, answers_again, next_line, standing_of}
 use Rattle.trace_explain.specs.UnderWay.{OpensUpTo}
@@ -67,22 +69,24 @@ explained_on events before old mid new h same listener resumes passes_over =
       passes_over = passes_over ∙ still.passes_over;
     }
 
-pub same_standing : (o p : Opening) (c d : Bool) → o ≡ p → c ≡ d
-    → ◌≡◌ {A = Standing} (record { opening = o; came = c }) (record { opening = p; came = d })
-same_standing o p c d o_is c_is =
-    let at : Opening → Standing = λ x. record { opening = x; came = c } in
-    let by : Bool → Standing = λ x. record { opening = p; came = x } in
-    ap at o_is ∙ ap by c_is
+pub same_standing : (o p : Opening) (c d : Bool) (r s : Reading) → o ≡ p → c ≡ d → r ≡ s
+    → ◌≡◌ {A = Standing} (record { opening = o; came = c; reading = r })
+    (record { opening = p; came = d; reading = s })
+same_standing o p c d r s o_is c_is r_is =
+    let at : Opening → Standing = λ x. record { opening = x; came = c; reading = r } in
+    let by : Bool → Standing = λ x. record { opening = p; came = x; reading = r } in
+    let so : Reading → Standing = λ x. record { opening = p; came = d; reading = x } in
+    ap at o_is ∙ ap by c_is ∙ ap so r_is
 
 -- the characters of a line that are of the dialogue have been heard
 pub explains_heard : (start : ℕ) (after : Opening) (from : End) (bytes heard : List ℕ)
     (events : List Event) (before : List Told) (old new : Explainer)
     → OpensUpTo start (opening_of old.preface) from bytes after → heard ≡ drop start bytes
     → HearsUpTo None from heard events before new → opening_of new.preface ≡ after
-    → new.came ≡ came_after old.came bytes
+    → new.came ≡ came_after old.came bytes → new.reading ≡ old.reading
     → ExplainsCharacters from bytes events before old new
 explains_heard start after from bytes heard events before old new opens heard_is (told, explained)
-    opening_is came_is =
+    opening_is came_is reading_is =
     let o : Opening = opening_of old.preface in
     let P : List ℕ → Type 0 = λ hs. HasExplained (events ++ passed (sent_by from hs))
     (before ++ told) new in (
@@ -93,7 +97,9 @@ explains_heard start after from bytes heard events before old new opens heard_is
         told = told;
         explained = subst P (heard_is ∙ sym (dialogue_is start o after from bytes opens)) explained;
         standing_is = same_standing (opening_of new.preface) (opened o from bytes) new.came
-            (came_after old.came bytes) (opening_is ∙ opens.after_is) came_is;
+            (came_after old.came bytes) new.reading old.reading (opening_is ∙ opens.after_is)
+            came_is
+            reading_is;
       },
     )
 
@@ -161,10 +167,10 @@ pub explains_again : (start place : ℕ) (mid : Opening) (from : End) (bytes hea
     → HasExplained (es ++ Reset ∷ []) ts new)
     → again ≡ drop (start + place) bytes
     → opening_of new.preface ≡ opened unopened Card again
-    → new.came ≡ came_after old.came bytes
+    → new.came ≡ came_after old.came bytes → new.reading ≡ old.reading
     → ExplainsCharacters from bytes events before old new
 explains_again start place mid from bytes heard again events before old at new opens heard_is begun
-    (told, explained, within, none) begins nothing resets again_is opening_is came_is =
+    (told, explained, within, none) begins nothing resets again_is opening_is came_is reading_is =
     let first : start ≡ 0 = opens.begun begun in
     let all : heard ≡ bytes = heard_is ∙ ap (λ n. drop n bytes) first in
     let inside : place < length bytes = omega (arith, within, ap length all) in
@@ -187,7 +193,11 @@ explains_again start place mid from bytes heard again events before old at new o
     (again_is ∙ ap (λ n. drop n bytes) here ∙ from_here)
     ∙ ap (λ x. opened unopened x (ts ∷ behind)) (sym (card_answers from ts is)) in (
       so_far ++ Reset ∷ [],
-      record { opening = opened unopened from (ts ∷ behind); came = true },
+      record {
+        opening = opened unopened from (ts ∷ behind);
+        came = true;
+        reading = old.reading;
+      },
       inr (record {
         front = take place bytes;
         ts = ts;
@@ -205,8 +215,9 @@ explains_again start place mid from bytes heard again events before old at new o
         explained = subst Q (append_assoc events so_far (Reset ∷ []))
             (resets (events ++ so_far) (before ++ told) heard_so);
         standing_is = same_standing (opening_of new.preface) (opened unopened from (ts ∷ behind))
-            new.came true opened_so (came_is ∙ ap (came_after old.came) cut
-            ∙ came_with old.came (take place bytes) ts behind);
+            new.came true new.reading old.reading opened_so
+            (came_is ∙ ap (came_after old.came) cut
+            ∙ came_with old.came (take place bytes) ts behind) reading_is;
       },
     )
 
@@ -232,12 +243,13 @@ pub complains_rightly : (c : Complaint) (start place n : ℕ) (mid : Opening) (f
     }
     → OpensUpTo start (opening_of old.preface) from bytes mid → heard ≡ drop start bytes
     → HearsUpTo (Some place) from heard events before at
-    → answers_again (standing_of old) at.listener from (get_or bytes (start + place) 0) ≡ false
-    → IsRight c (standing_of old) from bytes events before
+    → answers_again (opening_of old.preface) at.listener from (get_or bytes (start + place) 0)
+    ≡ false
+    → IsRight c (opening_of old.preface) from bytes events before
 complains_rightly c start place n mid from bytes heard events before old at is opens heard_is
     (told, explained, within, none) not_again =
     let o : Opening = opening_of old.preface in
-    let P : Complaint → Type 0 = λ x. IsRight x (standing_of old) from bytes events before in
+    let P : Complaint → Type 0 = λ x. IsRight x (opening_of old.preface) from bytes events before in
     let inside : place < length (drop start bytes) = omega (arith, within, ap length heard_is) in
     let Q : List ℕ → Type 0 = λ hs. HasNoted (events ++ passed (sent_by from hs)) (before ++ told)
     at.listener in
@@ -267,12 +279,19 @@ pub stops_rightly : {T : Type 0} (result : Result T ExplainFault) (start place n
     })
     → n ≡ line → OpensUpTo start (opening_of old.preface) from bytes mid
     → heard ≡ drop start bytes → HearsUpTo (Some place) from heard events before at
-    → answers_again (standing_of old) at.listener from (get_or bytes (start + place) 0) ≡ false
-    → IfErr result (λ f. StopsRightly f line (standing_of old) from bytes events before)
+    → answers_again (opening_of old.preface) at.listener from (get_or bytes (start + place) 0)
+    ≡ false
+    → IfErr result (λ f. StopsRightly f line (opening_of old.preface) from bytes events before)
 stops_rightly (Ok x) start place n line mid from bytes heard events before old at is n_is opens
     heard_is hears not_again =
     tt
 stops_rightly (Err (fault.BadHex m)) start place n line mid from bytes heard events before old at is
+    n_is opens heard_is hears not_again =
+    absurd is
+stops_rightly (Err (fault.OtherForm m known)) start place n line mid from bytes heard events before
+    old at is n_is opens heard_is hears not_again =
+    absurd is
+stops_rightly (Err (fault.NoSign m)) start place n line mid from bytes heard events before old at is
     n_is opens heard_is hears not_again =
     absurd is
 stops_rightly (Err (fault.LineTooLong m)) start place n line mid from bytes heard events before old
@@ -305,37 +324,53 @@ stops_rightly (Err (fault.NoDialogue c)) start place n line mid from bytes heard
 
 -- what a line says
 pub as_line : {T : Type 0} (result : Result T ExplainFault) (line : List ℕ) (said : TraceLine)
-    (from : End) (given : List ℕ) (events : List Event) (before : List Told) (old new : Explainer)
-    → Says line said
+    (from : End) (given : List ℕ) (events : List Event) (before : List Told)
+    (old mid new : Explainer) → Says old.reading.form line said
     → ((more : List Event) (at : Standing)
-    → TakesCharacters events (standing_of old) from given more at
+    → TakesCharacters events (standing_of mid) from given more at
     → TakesLine events (standing_of old) said more at)
-    → OnOk result (ExplainsCharacters from given events before old new)
+    → OnOk result (ExplainsCharacters from given events before mid new)
     → OnOk result (ExplainsLine line events before old new)
-as_line (Err e) line said from given events before old new says is h = tt
-as_line (Ok x) line said from given events before old new says is (more, at, takes, explains) =
+as_line (Err e) line said from given events before old mid new says is h = tt
+as_line (Ok x) line said from given events before old mid new says is (more, at, takes, explains) =
     (said, says, more, at, is more at takes, explains)
 
-pub line_stops : {T : Type 0} (result : Result T ExplainFault) (line : List ℕ) (n : ℕ) (from : End)
-    (bytes given : List ℕ) (events : List Event) (before : List Told) (old : Explainer)
-    → given ≡ bytes → SpellsCharacters line from bytes → n ≡ next_line old
-    → IfErr result (λ f. StopsRightly f n (standing_of old) from given events before)
+pub line_stops : {T : Type 0} (result : Result T ExplainFault) (line : List ℕ) (n : ℕ) (form : Form)
+    (from : End) (bytes given : List ℕ) (events : List Event) (before : List Told) (old : Explainer)
+    → given ≡ bytes → SpellsCharacters form line from bytes × Suits old.reading.form form
+    → n ≡ next_line old
+    → IfErr result (λ f. StopsRightly f n (opening_of old.preface) (sender old.reading from) given
+    events before)
     → IfErr result (λ f. StopsAtLine f line old events before)
-line_stops (Ok x) line n from bytes given events before old same spells n_is h = tt
-line_stops (Err (fault.BadHex m)) line n from bytes given events before old same spells n_is h =
-    absurd h
-line_stops (Err (fault.LineTooLong m)) line n from bytes given events before old same spells n_is
+line_stops (Ok x) line n form from bytes given events before old same spells n_is h = tt
+line_stops (Err (fault.BadHex m)) line n form from bytes given events before old same spells n_is
+    h = absurd h
+line_stops (Err (fault.OtherForm m known)) line n form from bytes given events before old same
+    spells n_is
+    h = absurd h
+line_stops (Err (fault.NoSign m)) line n form from bytes given events before old same spells n_is
+    h = absurd h
+line_stops (Err (fault.LineTooLong m)) line n form from bytes given events before old same spells
+    n_is
+    h = absurd h
+line_stops (Err fault.NoCharacters) line n form from bytes given events before old same spells n_is
     h =
     absurd h
-line_stops (Err fault.NoCharacters) line n from bytes given events before old same spells n_is h =
-    absurd h
-line_stops (Err (fault.Resumed m c)) line n from bytes given events before old same spells n_is h =
+line_stops (Err (fault.Resumed m c)) line n form from bytes given events before old same spells n_is
+    h = tt
+line_stops (Err fault.Read) line n form from bytes given events before old same spells n_is h =
     tt
-line_stops (Err fault.Read) line n from bytes given events before old same spells n_is h = tt
-line_stops (Err fault.Write) line n from bytes given events before old same spells n_is h = tt
-line_stops (Err fault.InputTooLong) line n from bytes given events before old same spells n_is h =
+line_stops (Err fault.Write) line n form from bytes given events before old same spells n_is h =
     tt
-line_stops (Err fault.OutOfMemory) line n from bytes given events before old same spells n_is h = tt
-line_stops (Err (fault.NoDialogue c)) line n from bytes given events before old same spells n_is h =
-    let P : List ℕ → Type 0 = λ bs. IsRight c (standing_of old) from bs events before in
-    (from, bytes, spells, h.0 ∙ n_is, subst P same h.1)
+line_stops (Err fault.InputTooLong) line n form from bytes given events before old same spells n_is
+    h =
+    tt
+line_stops (Err fault.OutOfMemory) line n form from bytes given events before old same spells n_is h
+    =
+    tt
+line_stops (Err (fault.NoDialogue c)) line n form from bytes given events before old same spells
+    n_is
+    h =
+    let P : List ℕ → Type 0 = λ bs.
+    IsRight c (opening_of old.preface) (sender old.reading from) bs events before in
+    (form, from, bytes, spells.0, spells.1, h.0 ∙ n_is, subst P same h.1)

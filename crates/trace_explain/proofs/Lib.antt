@@ -2,3 +2,4 @@ pub mod NotedLemmas
 pub mod OpeningLemmas
 pub mod ExplainedLemmas
 pub mod TraceLemmas
+pub mod DigitLemmas

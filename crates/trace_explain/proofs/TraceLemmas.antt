@@ -9,6 +9,7 @@ use Rattle.t0_core.specs.History.{Event}
 use Rattle.trace_explain.specs.declared.explain_fault.ExplainFault.{ExplainFault}
 use Rattle.trace_explain.specs.declared.explain_fault.ExplainFault.TheVariants as fault
 use Rattle.trace_explain.specs.declared.explainer.Explainer.{Explainer}
+use Rattle.trace_explain.specs.declared.reading.Reading.{Reading}
 use Rattle.trace_explain.specs.declared.trace_line.TraceLine.{TraceLine}
 use Rattle.trace_explain.specs.Told.{Told}
 use Rattle.trace_explain.specs.Lines.{Says, Standing, TakesLine, first_of_all}
@@ -19,15 +20,16 @@ use Rattle.trace_explain.specs.UnderWay.{HasCome, IsOfLines}
 -- one line more says its events behind the others
 say_more : (so_far : List Event) (at mid after : Standing) (before : List (List ℕ))
     (line : List ℕ) (said : TraceLine) (events more : List Event)
-    → SayInTurn so_far at before events mid → Says line said
+    → SayInTurn so_far at before events mid → Says mid.reading.form line said
     → TakesLine (so_far ++ events) mid said more after
     → SayInTurn so_far at (before ++ line ∷ []) (events ++ more) after
 say_more so_far at mid after [] line said events more (none, same) says takes =
     let P : List Event → Type 0 = λ es. TakesLine (so_far ++ es) mid said more after in
     let Q : List Event → Type 0 = λ es. TakesLine es mid said more after in
-    let R : Standing → Type 0 = λ s. TakesLine so_far s said more after in (
+    let R : Standing → Type 0 = λ s. TakesLine so_far s said more after in
+    let S : Standing → Type 0 = λ s. Says s.reading.form line said in (
       said,
-      says,
+      subst S same says,
       more,
       [],
       after,
@@ -61,7 +63,7 @@ goes_on : (line left : List ℕ) (b : ℕ) → (b == 10) ≡ false
 goes_on line left b other = rw other refl
 
 -- a fault that is passed on
-fault_passed : {T E : Type 0} (r : Result T E) (e : E) (Q : E → Type 0)
+pub fault_passed : {T E : Type 0} (r : Result T E) (e : E) (Q : E → Type 0)
     → IsErrAnd r (λ x. x ≡ e) → Q e → IfErr r Q
 fault_passed (Ok x) e Q same h = absurd same
 fault_passed (Err f) e Q same h = subst Q (sym same) h
@@ -72,14 +74,14 @@ counted_on : (n before all : ℕ) → n ≡ min (before + 1) (2 ^ 64 - 1) → al
 counted_on n before all n_is all_is = omega (arith, n_is, all_is)
 
 -- a line is over, which was this
-pub line_more : (all : List (List ℕ)) (line given next bytes left : List ℕ)
-    (others : List (List ℕ)) (old new : Explainer) → HasCome all line bytes old
+pub line_more : (reading : Reading) (all : List (List ℕ)) (line given next bytes left : List ℕ)
+    (others : List (List ℕ)) (old new : Explainer) → HasCome reading all line bytes old
     → new.line ≡ next_line old
     → lines_from line bytes ≡ given ∷ others → others ≡ lines_from next left
     → ((events : List Event) (before : List Told) → HasExplained events before old
     → ExplainsLine given events before old new)
-    → HasCome all next left new
-line_more all line given next bytes left others old new come counts ends rest explains =
+    → HasCome reading all next left new
+line_more reading all line given next bytes left others old new come counts ends rest explains =
     let (said, says, more, at, takes, told) = explains come.events come.told come.explained in
     let P : Standing → Type 0 = λ s. TakesLine come.events (standing_of old) said more s in
     record {
@@ -90,29 +92,32 @@ line_more all line given next bytes left others old new come counts ends rest ex
           (length (come.before ++ given ∷ [])) (counts ∙ come.number_is)
           (length-append come.before (given ∷ []));
       events = come.events ++ more;
-      says = say_more [] first_of_all (standing_of old) (standing_of new) come.before given said
+      says = say_more [] (first_of_all reading) (standing_of old) (standing_of new) come.before
+          given said
           come.events more come.says says (subst P (sym told.standing_is) takes);
       told = come.told ++ told.told;
       explained = told.explained;
     }
 
 -- and it ended with LF
-pub line_fed : (all : List (List ℕ)) (line given left bytes : List ℕ) (b : ℕ)
-    (old new : Explainer) → HasCome all line bytes old → new.line ≡ next_line old
+pub line_fed : (reading : Reading) (all : List (List ℕ)) (line given left bytes : List ℕ) (b : ℕ)
+    (old new : Explainer) → HasCome reading all line bytes old → new.line ≡ next_line old
     → bytes ≡ b ∷ left → b ≡ 10
     → given ≡ strip_carriage_return line
     → ((events : List Event) (before : List Told) → HasExplained events before old
     → ExplainsLine given events before old new)
-    → HasCome all [] left new
-line_fed all line given left bytes b old new come counts left_is is same explains =
-    line_more all line given [] bytes left (lines_from [] left) old new come counts
+    → HasCome reading all [] left new
+line_fed reading all line given left bytes b old new come counts left_is is same explains =
+    line_more reading all line given [] bytes left (lines_from [] left) old new come counts
     (fed line given left bytes b left_is is same) refl explains
 
 -- a byte more has come of a line
-pub byte_more : (all : List (List ℕ)) (line next left bytes : List ℕ) (b : ℕ) (e : Explainer)
-    → HasCome all line bytes e → bytes ≡ b ∷ left → (b == 10) ≡ false → next ≡ line ++ b ∷ []
-    → HasCome all next left e
-byte_more all line next left bytes b e come left_is other same =
+pub byte_more : (reading : Reading) (all : List (List ℕ)) (line next left bytes : List ℕ) (b : ℕ)
+    (e : Explainer)
+    → HasCome reading all line bytes e → bytes ≡ b ∷ left → (b == 10) ≡ false
+    → next ≡ line ++ b ∷ []
+    → HasCome reading all next left e
+byte_more reading all line next left bytes b e come left_is other same =
     record {
       before = come.before;
       is_cut = come.is_cut ∙ ap (λ ls. come.before ++ ls)
@@ -133,12 +138,13 @@ next_byte chunk left i within =
     ∙ ap (λ n. get_or chunk i 0 ∷ (drop n chunk ++ left)) (sym (add-one i))
 
 -- at the end all lines are explained
-all_explained : (all : List (List ℕ)) (line : List ℕ) (e : Explainer) → HasCome all line [] e
-    → lines_from line [] ≡ [] → IsExplained all (standing_of e)
-all_explained all line e come none =
+all_explained : (reading : Reading) (all : List (List ℕ)) (line : List ℕ) (e : Explainer)
+    → HasCome reading all line [] e
+    → lines_from line [] ≡ [] → IsExplained reading all (standing_of e)
+all_explained reading all line e come none =
     let whole : all ≡ come.before =
     come.is_cut ∙ ap (λ ls. come.before ++ ls) none ∙ append-nil come.before in
-    let P : List (List ℕ) → Type 0 = λ ls. SayAll ls come.events (standing_of e) in
+    let P : List (List ℕ) → Type 0 = λ ls. SayAll reading ls come.events (standing_of e) in
     record {
       events = come.events;
       says = subst P (sym whole) come.says;
@@ -147,31 +153,35 @@ all_explained all line e come none =
       noted = come.explained.noted;
     }
 
-pub none_is_left : (all : List (List ℕ)) (line : List ℕ) (e : Explainer)
-    → (length line == 0) ≡ true → HasCome all line [] e
-    → IsExplained all (standing_of e)
-none_is_left all line e none come = all_explained all line e come (rw none refl)
+pub none_is_left : (reading : Reading) (all : List (List ℕ)) (line : List ℕ) (e : Explainer)
+    → (length line == 0) ≡ true → HasCome reading all line [] e
+    → IsExplained reading all (standing_of e)
+none_is_left reading all line e none come = all_explained reading all line e come (rw none refl)
 
 last_line : (line : List ℕ) → (length line == 0) ≡ false → lines_from line [] ≡ line ∷ []
 last_line line some = rw some refl
 
-pub last_explained : {T : Type 0} (result : Result T ExplainFault) (all : List (List ℕ))
-    (line : List ℕ) (old new : Explainer) → (length line == 0) ≡ false → HasCome all line [] old
+pub last_explained : (reading : Reading) {T : Type 0} (result : Result T ExplainFault)
+    (all : List (List ℕ))
+    (line : List ℕ) (old new : Explainer) → (length line == 0) ≡ false
+    → HasCome reading all line [] old
     → OnOk result (new.line ≡ next_line old)
     → ((events : List Event) (before : List Told) → HasExplained events before old
     → OnOk result (ExplainsLine line events before old new))
-    → OnOk result (IsExplained all (standing_of new))
-last_explained (Err f) all line old new some come counts explains = tt
-last_explained (Ok x) all line old new some come counts explains =
-    all_explained all [] new
-    (line_more all line line [] [] [] [] old new come counts (last_line line some) refl explains)
+    → OnOk result (IsExplained reading all (standing_of new))
+last_explained reading (Err f) all line old new some come counts explains = tt
+last_explained reading (Ok x) all line old new some come counts explains =
+    all_explained reading all [] new
+    (line_more reading all line line [] [] [] [] old new come counts (last_line line some) refl
+    explains)
     refl
 
 -- the line at which an explainer stands
-unfoldable pub reached : (n : ℕ) (all : List (List ℕ)) (line given left : List ℕ)
-    (others : List (List ℕ)) (old : Explainer) → HasCome all line left old
-    → lines_from line left ≡ given ∷ others → n ≡ next_line old → IsReached all n
-reached n all line given left others old come ends number = record {
+unfoldable pub reached : (reading : Reading) (n : ℕ) (all : List (List ℕ))
+    (line given left : List ℕ)
+    (others : List (List ℕ)) (old : Explainer) → HasCome reading all line left old
+    → lines_from line left ≡ given ∷ others → n ≡ next_line old → IsReached reading all n
+reached reading n all line given left others old come ends number = record {
   before = come.before;
   line = given;
   others = others;
@@ -213,14 +223,15 @@ first_longer line (b ∷ left) n more =
     split false e (first, others, is, long) =
         (first, others, goes_on line left b e ∙ is, long)
 
-pub too_long : (all : List (List ℕ)) (line bytes left : List ℕ) (b n : ℕ) (e : Explainer)
-    → HasCome all line bytes e → bytes ≡ b ∷ left → (b == 10) ≡ false
-    → 4194304 ≤ length line → n ≡ next_line e → StopsIn all (fault.LineTooLong n)
+pub too_long : (reading : Reading) (all : List (List ℕ)) (line bytes left : List ℕ) (b n : ℕ)
+    (e : Explainer)
+    → HasCome reading all line bytes e → bytes ≡ b ∷ left → (b == 10) ≡ false
+    → 4194304 ≤ length line → n ≡ next_line e → StopsIn reading all (fault.LineTooLong n)
 unfolding reached
-too_long all line bytes left b n e come bytes_is other long number =
+too_long reading all line bytes left b n e come bytes_is other long number =
     let (first, others, is, first_long) = first_longer (line ++ b ∷ []) left 4194304
     (omega (arith, length-append line (b ∷ []), long)) in (
-      reached n all line first bytes others e come
+      reached reading n all line first bytes others e come
           (ap (lines_from line) bytes_is ∙ goes_on line left b other ∙ is) number,
       first_long,
     )
@@ -229,6 +240,8 @@ too_long all line bytes left b n e come bytes_is other long number =
 of_lines_kept : (f : ExplainFault) (bytes : List ℕ) → IsOfLines f
     → IsOver bytes f
 of_lines_kept (fault.BadHex m) bytes h = tt
+of_lines_kept (fault.OtherForm m known) bytes h = tt
+of_lines_kept (fault.NoSign m) bytes h = tt
 of_lines_kept (fault.LineTooLong m) bytes h = tt
 of_lines_kept (fault.NoDialogue c) bytes h = tt
 of_lines_kept (fault.Resumed m c) bytes h = tt
@@ -239,73 +252,88 @@ of_lines_kept fault.InputTooLong bytes h = absurd h
 of_lines_kept fault.NoCharacters bytes h = absurd h
 
 -- a line at which an explainer stops
-pub line_stops_in : (f : ExplainFault) (all : List (List ℕ)) (line given left : List ℕ)
-    (others : List (List ℕ)) (old : Explainer) → HasCome all line left old
+pub line_stops_in : (reading : Reading) (f : ExplainFault) (all : List (List ℕ))
+    (line given left : List ℕ)
+    (others : List (List ℕ)) (old : Explainer) → HasCome reading all line left old
     → lines_from line left ≡ given ∷ others
     → ((events : List Event) (before : List Told) → HasExplained events before old
     → StopsAtLine f given old events before)
-    → StopsIn all f
+    → StopsIn reading all f
 unfolding reached
-line_stops_in (fault.NoDialogue c) all line given left others old come ends stops =
-    let (from, bytes, spells, number, is_right) = stops come.events come.told come.explained in
+line_stops_in reading (fault.NoDialogue c) all line given left others old come ends stops =
+    let (form, from, bytes, spells, suits, number, is_right) =
+    stops come.events come.told come.explained in
     record {
-      reached = reached c.line all line given left others old come ends number;
+      reached = reached reading c.line all line given left others old come ends number;
+      form = form;
       from = from;
       bytes = bytes;
       spells = spells;
+      suits = suits;
       is_right = is_right;
     }
-line_stops_in (fault.BadHex n) all line given left others old come ends stops =
-    let (number, nothing) = stops come.events come.told come.explained in
-    (reached n all line given left others old come ends number, nothing)
-line_stops_in (fault.LineTooLong n) all line given left others old come ends stops =
+line_stops_in reading (fault.BadHex n) all line given left others old come ends stops =
+    let (number, is_bad) = stops come.events come.told come.explained in
+    (reached reading n all line given left others old come ends number, is_bad)
+line_stops_in reading (fault.OtherForm n known) all line given left others old come ends stops =
+    let (number, is_bad) = stops come.events come.told come.explained in
+    (reached reading n all line given left others old come ends number, is_bad)
+line_stops_in reading (fault.NoSign n) all line given left others old come ends stops =
+    let (number, is_bad) = stops come.events come.told come.explained in
+    (reached reading n all line given left others old come ends number, is_bad)
+line_stops_in reading (fault.LineTooLong n) all line given left others old come ends stops =
     absurd (stops come.events come.told come.explained)
-line_stops_in fault.NoCharacters all line given left others old come ends stops =
+line_stops_in reading fault.NoCharacters all line given left others old come ends stops =
     absurd (stops come.events come.told come.explained)
-line_stops_in (fault.Resumed m c) all line given left others old come ends stops = tt
-line_stops_in fault.Read all line given left others old come ends stops = tt
-line_stops_in fault.Write all line given left others old come ends stops = tt
-line_stops_in fault.InputTooLong all line given left others old come ends stops = tt
-line_stops_in fault.OutOfMemory all line given left others old come ends stops = tt
+line_stops_in reading (fault.Resumed m c) all line given left others old come ends stops = tt
+line_stops_in reading fault.Read all line given left others old come ends stops = tt
+line_stops_in reading fault.Write all line given left others old come ends stops = tt
+line_stops_in reading fault.InputTooLong all line given left others old come ends stops = tt
+line_stops_in reading fault.OutOfMemory all line given left others old come ends stops = tt
 
-pub fed_stops : {T : Type 0} (r : Result T ExplainFault) (f : ExplainFault)
+pub fed_stops : (reading : Reading) {T : Type 0} (r : Result T ExplainFault) (f : ExplainFault)
     (all : List (List ℕ)) (line given left bytes : List ℕ) (b : ℕ) (old : Explainer)
-    → IsErrAnd r (λ x. x ≡ f) → HasCome all line bytes old → bytes ≡ b ∷ left → b ≡ 10
+    → IsErrAnd r (λ x. x ≡ f) → HasCome reading all line bytes old → bytes ≡ b ∷ left → b ≡ 10
     → given ≡ strip_carriage_return line
     → ((events : List Event) (before : List Told) → HasExplained events before old
     → StopsAtLine f given old events before)
-    → IfErr r (StopsIn all)
-fed_stops r f all line given left bytes b old passed come left_is is same stops =
-    fault_passed r f (StopsIn all) passed
-    (line_stops_in f all line given bytes (lines_from [] left) old come
+    → IfErr r (StopsIn reading all)
+fed_stops reading r f all line given left bytes b old passed come left_is is same stops =
+    fault_passed r f (StopsIn reading all) passed
+    (line_stops_in reading f all line given bytes (lines_from [] left) old come
     (fed line given left bytes b left_is is same) stops)
 
-pub last_stops : {T : Type 0} (result : Result T ExplainFault) (all : List (List ℕ))
-    (line : List ℕ) (old : Explainer) → (length line == 0) ≡ false → HasCome all line [] old
+pub last_stops : (reading : Reading) {T : Type 0} (result : Result T ExplainFault)
+    (all : List (List ℕ))
+    (line : List ℕ) (old : Explainer) → (length line == 0) ≡ false → HasCome reading all line [] old
     → ((events : List Event) (before : List Told) → HasExplained events before old
     → IfErr result (λ f. StopsAtLine f line old events before))
-    → IfErr result (StopsIn all)
-last_stops (Ok x) all line old some come stops = tt
-last_stops (Err f) all line old some come stops =
-    line_stops_in f all line line [] [] old come (last_line line some) stops
+    → IfErr result (StopsIn reading all)
+last_stops reading (Ok x) all line old some come stops = tt
+last_stops reading (Err f) all line old some come stops =
+    line_stops_in reading f all line line [] [] old come (last_line line some) stops
 
 -- a chunk is over
-pub none_of_chunk : (all : List (List ℕ)) (line chunk left : List ℕ) (i : ℕ) (e : Explainer)
-    → length chunk ≤ i → HasCome all line (drop i chunk ++ left) e → HasCome all line left e
-none_of_chunk all line chunk left i e past come =
-    let P : List ℕ → Type 0 = λ bytes. HasCome all line (bytes ++ left) e in
+pub none_of_chunk : (reading : Reading) (all : List (List ℕ)) (line chunk left : List ℕ) (i : ℕ)
+    (e : Explainer)
+    → length chunk ≤ i → HasCome reading all line (drop i chunk ++ left) e
+    → HasCome reading all line left e
+none_of_chunk reading all line chunk left i e past come =
+    let P : List ℕ → Type 0 = λ bytes. HasCome reading all line (bytes ++ left) e in
     subst P (drop_all i chunk past) come
 
 -- of known bytes these are left, and so much has come
-abbrev pub StillComes : Option (List ℕ) → Option (List ℕ) → List ℕ → Explainer → Type 0
-StillComes None new line e = Unit {0}
-StillComes (Some bytes) None line e = ⊥
-StillComes (Some bytes) (Some left) line e = HasCome (lines_of bytes) line left e
+abbrev pub StillComes : Reading → Option (List ℕ) → Option (List ℕ) → List ℕ → Explainer → Type 0
+StillComes reading None new line e = Unit {0}
+StillComes reading (Some bytes) None line e = ⊥
+StillComes reading (Some bytes) (Some left) line e = HasCome reading (lines_of bytes) line left e
 
-pub all_comes : (a : Option (List ℕ)) (line : List ℕ) (e : Explainer) → line ≡ []
-    → HasExplained [] [] e → standing_of e ≡ first_of_all → e.line ≡ 0 → StillComes a a line e
-all_comes None line e none h at first = tt
-all_comes (Some bytes) line e none h at first = record {
+pub all_comes : (reading : Reading) (a : Option (List ℕ)) (line : List ℕ) (e : Explainer)
+    → line ≡ []
+    → HasExplained [] [] e → standing_of e ≡ first_of_all reading → e.line ≡ 0
+    → StillComes reading a a line e
+all_comes reading None line e none h at first = tt
+all_comes reading (Some bytes) line e none h at first = record {
   before = [];
   is_cut = ap (λ l. lines_from l bytes) (sym none);
   number_is = ap (λ n. min (n + 1) (2 ^ 64 - 1)) first;
@@ -316,89 +344,101 @@ all_comes (Some bytes) line e none h at first = record {
 }
 
 -- a chunk was read, and explained
-pub chunk_comes : (a b c : Option (List ℕ)) (chunk line next : List ℕ) (old new : Explainer)
-    → StillComes a b line old → Consumes b c chunk
-    → ((all : List (List ℕ)) (left : List ℕ) → HasCome all line (chunk ++ left) old
-    → HasCome all next left new)
-    → StillComes a c next new
-chunk_comes None b c chunk line next old new come reads explains = tt
-chunk_comes (Some bytes) None c chunk line next old new come reads explains = absurd come
-chunk_comes (Some bytes) (Some left) None chunk line next old new come reads explains = absurd reads
-chunk_comes (Some bytes) (Some left) (Some rest) chunk line next old new come reads explains =
-    let P : List ℕ → Type 0 = λ l. HasCome (lines_of bytes) line l old in
+pub chunk_comes : (reading : Reading) (a b c : Option (List ℕ)) (chunk line next : List ℕ)
+    (old new : Explainer)
+    → StillComes reading a b line old → Consumes b c chunk
+    → ((all : List (List ℕ)) (left : List ℕ) → HasCome reading all line (chunk ++ left) old
+    → HasCome reading all next left new)
+    → StillComes reading a c next new
+chunk_comes reading None b c chunk line next old new come reads explains = tt
+chunk_comes reading (Some bytes) None c chunk line next old new come reads explains = absurd come
+chunk_comes reading (Some bytes) (Some left) None chunk line next old new come reads explains =
+    absurd reads
+chunk_comes reading (Some bytes) (Some left) (Some rest) chunk line next old new come reads explains
+    =
+    let P : List ℕ → Type 0 = λ l. HasCome reading (lines_of bytes) line l old in
     explains (lines_of bytes) rest (subst P reads come)
 
-chunk_stops_at : (a b c : Option (List ℕ)) (chunk line : List ℕ) (old : Explainer)
-    (f : ExplainFault) → StillComes a b line old → Consumes b c chunk
-    → ((all : List (List ℕ)) (left : List ℕ) → HasCome all line (chunk ++ left) old
-    → StopsIn all f)
-    → IfSome a (λ bytes. StopsIn (lines_of bytes) f)
-chunk_stops_at None b c chunk line old f come reads stops = tt
-chunk_stops_at (Some bytes) None c chunk line old f come reads stops = absurd come
-chunk_stops_at (Some bytes) (Some left) None chunk line old f come reads stops = absurd reads
-chunk_stops_at (Some bytes) (Some left) (Some rest) chunk line old f come reads stops =
-    let P : List ℕ → Type 0 = λ l. HasCome (lines_of bytes) line l old in
+chunk_stops_at : (reading : Reading) (a b c : Option (List ℕ)) (chunk line : List ℕ)
+    (old : Explainer)
+    (f : ExplainFault) → StillComes reading a b line old → Consumes b c chunk
+    → ((all : List (List ℕ)) (left : List ℕ) → HasCome reading all line (chunk ++ left) old
+    → StopsIn reading all f)
+    → IfSome a (λ bytes. StopsIn reading (lines_of bytes) f)
+chunk_stops_at reading None b c chunk line old f come reads stops = tt
+chunk_stops_at reading (Some bytes) None c chunk line old f come reads stops = absurd come
+chunk_stops_at reading (Some bytes) (Some left) None chunk line old f come reads stops = absurd
+    reads
+chunk_stops_at reading (Some bytes) (Some left) (Some rest) chunk line old f come reads stops =
+    let P : List ℕ → Type 0 = λ l. HasCome reading (lines_of bytes) line l old in
     stops (lines_of bytes) rest (subst P reads come)
 
-pub chunk_stops : {T : Type 0} (r : Result T ExplainFault) (f : ExplainFault)
+pub chunk_stops : (reading : Reading) {T : Type 0} (r : Result T ExplainFault) (f : ExplainFault)
     (a b c : Option (List ℕ)) (chunk line : List ℕ) (old : Explainer)
-    → IsErrAnd r (λ x. x ≡ f) → StillComes a b line old → Consumes b c chunk
-    → ((all : List (List ℕ)) (left : List ℕ) → HasCome all line (chunk ++ left) old
-    → StopsIn all f)
-    → IfErr r (λ x. IfSome a (λ bytes. StopsIn (lines_of bytes) x))
-chunk_stops r f a b c chunk line old passed come reads stops =
-    fault_passed r f (λ x. IfSome a (λ bytes. StopsIn (lines_of bytes) x)) passed
-    (chunk_stops_at a b c chunk line old f come reads stops)
+    → IsErrAnd r (λ x. x ≡ f) → StillComes reading a b line old → Consumes b c chunk
+    → ((all : List (List ℕ)) (left : List ℕ) → HasCome reading all line (chunk ++ left) old
+    → StopsIn reading all f)
+    → IfErr r (λ x. IfSome a (λ bytes. StopsIn reading (lines_of bytes) x))
+chunk_stops reading r f a b c chunk line old passed come reads stops =
+    fault_passed r f (λ x. IfSome a (λ bytes. StopsIn reading (lines_of bytes) x)) passed
+    (chunk_stops_at reading a b c chunk line old f come reads stops)
 
 -- nothing was read, and nothing is left
-pub none_comes : (a b c : Option (List ℕ)) (n : ℕ) (chunk line given : List ℕ) (e : Explainer)
-    → n ≡ 0 → given ≡ line → StillComes a b line e
+pub none_comes : (reading : Reading) (a b c : Option (List ℕ)) (n : ℕ) (chunk line given : List ℕ)
+    (e : Explainer)
+    → n ≡ 0 → given ≡ line → StillComes reading a b line e
     → Consumes b c (take n chunk) × (n ≡ 0 → 0 < length chunk → IsAtEnd c) → 0 < length chunk
-    → IfSome a (λ bytes. HasCome (lines_of bytes) given [] e)
-none_comes None b c n chunk line given e zero_is same come (reads, ends) room = tt
-none_comes (Some bytes) None c n chunk line given e zero_is same come (reads, ends) room =
+    → IfSome a (λ bytes. HasCome reading (lines_of bytes) given [] e)
+none_comes reading None b c n chunk line given e zero_is same come (reads, ends) room = tt
+none_comes reading (Some bytes) None c n chunk line given e zero_is same come (reads, ends) room =
     absurd come
-none_comes (Some bytes) (Some left) None n chunk line given e zero_is same come (reads, ends) room =
+none_comes reading (Some bytes) (Some left) None n chunk line given e zero_is same come
+    (reads, ends) room =
     absurd reads
-none_comes (Some bytes) (Some left) (Some rest) n chunk line given e zero_is same come (reads, ends)
+none_comes reading (Some bytes) (Some left) (Some rest) n chunk line given e zero_is same come
+    (reads, ends)
     room =
-    let P : List ℕ → Type 0 = λ l. HasCome (lines_of bytes) line l e in
-    let Q : List ℕ → Type 0 = λ l. HasCome (lines_of bytes) l [] e in
+    let P : List ℕ → Type 0 = λ l. HasCome reading (lines_of bytes) line l e in
+    let Q : List ℕ → Type 0 = λ l. HasCome reading (lines_of bytes) l [] e in
     let none : left ≡ [] =
     reads ∙ ap (λ m. take m chunk ++ rest) zero_is ∙ ends zero_is room in
     subst Q (sym same) (subst P none come)
 
-pub known_explained : {T : Type 0} (r : Result T ExplainFault) (a : Option (List ℕ))
+pub known_explained : (reading : Reading) {T : Type 0} (r : Result T ExplainFault)
+    (a : Option (List ℕ))
     (line : List ℕ) (e : Explainer) (at : Standing)
-    → IfSome a (λ bytes. HasCome (lines_of bytes) line [] e)
-    → ((all : List (List ℕ)) → HasCome all line [] e → OnOk r (IsExplained all at))
-    → OnOk r (IfSome a (λ bytes. IsExplained (lines_of bytes) at))
-known_explained (Err f) a line e at come explains = tt
-known_explained (Ok x) None line e at come explains = tt
-known_explained (Ok x) (Some bytes) line e at come explains = explains (lines_of bytes) come
+    → IfSome a (λ bytes. HasCome reading (lines_of bytes) line [] e)
+    → ((all : List (List ℕ)) → HasCome reading all line [] e → OnOk r (IsExplained reading all at))
+    → OnOk r (IfSome a (λ bytes. IsExplained reading (lines_of bytes) at))
+known_explained reading (Err f) a line e at come explains = tt
+known_explained reading (Ok x) None line e at come explains = tt
+known_explained reading (Ok x) (Some bytes) line e at come explains = explains (lines_of bytes) come
 
-pub known_stops : {T : Type 0} (r : Result T ExplainFault) (a : Option (List ℕ))
-    (line : List ℕ) (e : Explainer) → IfSome a (λ bytes. HasCome (lines_of bytes) line [] e)
-    → ((all : List (List ℕ)) → HasCome all line [] e → IfErr r (StopsIn all))
-    → IfErr r (λ f. IfSome a (λ bytes. StopsIn (lines_of bytes) f))
-known_stops (Ok x) a line e come stops = tt
-known_stops (Err f) None line e come stops = tt
-known_stops (Err f) (Some bytes) line e come stops = stops (lines_of bytes) come
+pub known_stops : (reading : Reading) {T : Type 0} (r : Result T ExplainFault) (a : Option (List ℕ))
+    (line : List ℕ) (e : Explainer) → IfSome a (λ bytes. HasCome reading (lines_of bytes) line [] e)
+    → ((all : List (List ℕ)) → HasCome reading all line [] e → IfErr r (StopsIn reading all))
+    → IfErr r (λ f. IfSome a (λ bytes. StopsIn reading (lines_of bytes) f))
+known_stops reading (Ok x) a line e come stops = tt
+known_stops reading (Err f) None line e come stops = tt
+known_stops reading (Err f) (Some bytes) line e come stops = stops (lines_of bytes) come
 
-ended_at : (f : ExplainFault) (a : Option (List ℕ)) (at : Standing) → IsOfEnd f at.came
-    → IfSome a (λ bytes. IsExplained (lines_of bytes) at)
-    → IfSome a (λ bytes. StopsIn (lines_of bytes) f)
-ended_at f None at ended explained = tt
-ended_at fault.NoCharacters (Some bytes) at ended explained =
+ended_at : (reading : Reading) (f : ExplainFault) (a : Option (List ℕ)) (at : Standing)
+    → IsOfEnd f at.came
+    → IfSome a (λ bytes. IsExplained reading (lines_of bytes) at)
+    → IfSome a (λ bytes. StopsIn reading (lines_of bytes) f)
+ended_at reading f None at ended explained = tt
+ended_at reading fault.NoCharacters (Some bytes) at ended explained =
     (explained.events, at, explained.says, ended)
-ended_at (fault.Resumed m c) (Some bytes) at ended explained = tt
-ended_at (fault.NoDialogue c) (Some bytes) at ended explained = absurd ended
-ended_at (fault.BadHex m) (Some bytes) at ended explained = absurd ended
-ended_at (fault.LineTooLong m) (Some bytes) at ended explained = absurd ended
-ended_at fault.Read (Some bytes) at ended explained = tt
-ended_at fault.Write (Some bytes) at ended explained = tt
-ended_at fault.InputTooLong (Some bytes) at ended explained = tt
-ended_at fault.OutOfMemory (Some bytes) at ended explained = tt
+ended_at reading (fault.Resumed m c) (Some bytes) at ended explained = tt
+ended_at reading (fault.NoDialogue c) (Some bytes) at ended explained = absurd ended
+ended_at reading (fault.BadHex m) (Some bytes) at ended explained = absurd ended
+ended_at reading (fault.OtherForm m known) (Some bytes) at ended explained = absurd ended
+ended_at reading (fault.NoSign m) (Some bytes) at ended explained = absurd ended
+ended_at reading (fault.LineTooLong m) (Some bytes) at ended explained = absurd ended
+ended_at reading fault.Read (Some bytes) at ended explained = tt
+ended_at reading fault.Write (Some bytes) at ended explained = tt
+ended_at reading fault.InputTooLong (Some bytes) at ended explained = tt
+ended_at reading fault.OutOfMemory (Some bytes) at ended explained = tt
 
 -- of known bytes so many have come
 abbrev pub HaveComeOf : Option (List ℕ) → Option (List ℕ) → ℕ → Type 0
@@ -446,24 +486,26 @@ limit_passed (Err g) f (Some bytes) same h =
     of_lines_kept g bytes (subst P (sym same) h)
 
 -- what is known of the trace holds where it stands in the end
-pub kept_to_end : (a : Option (List ℕ)) (at after : Standing) → after ≡ at
-    → IfSome a (λ bytes. IsExplained (lines_of bytes) at)
-    → IfSome a (λ bytes. IsExplained (lines_of bytes) after)
-kept_to_end a at after same explained =
-    let P : Standing → Type 0 = λ s. IfSome a (λ bytes. IsExplained (lines_of bytes) s) in
+pub kept_to_end : (reading : Reading) (a : Option (List ℕ)) (at after : Standing) → after ≡ at
+    → IfSome a (λ bytes. IsExplained reading (lines_of bytes) at)
+    → IfSome a (λ bytes. IsExplained reading (lines_of bytes) after)
+kept_to_end reading a at after same explained =
+    let P : Standing → Type 0 = λ s. IfSome a (λ bytes. IsExplained reading (lines_of bytes) s) in
     subst P (sym same) explained
 
 -- what is answered at the end of a trace is no complaint
-pub ended_stops : {T : Type 0} (r : Result T ExplainFault) (a : Option (List ℕ)) (at : Standing)
-    → IfErr r (λ f. IsOfEnd f at.came) → IfSome a (λ bytes. IsExplained (lines_of bytes) at)
-    → IfErr r (λ f. IfSome a (λ bytes. StopsIn (lines_of bytes) f))
-ended_stops (Ok x) a at ended explained = tt
-ended_stops (Err f) a at ended explained = ended_at f a at ended explained
+pub ended_stops : (reading : Reading) {T : Type 0} (r : Result T ExplainFault) (a : Option (List ℕ))
+    (at : Standing)
+    → IfErr r (λ f. IsOfEnd f at.came) → IfSome a (λ bytes. IsExplained reading (lines_of bytes) at)
+    → IfErr r (λ f. IfSome a (λ bytes. StopsIn reading (lines_of bytes) f))
+ended_stops reading (Ok x) a at ended explained = tt
+ended_stops reading (Err f) a at ended explained = ended_at reading f a at ended explained
 
 -- and where all is well a character has come
-pub ended_well : {T : Type 0} (r : Result T ExplainFault) (a : Option (List ℕ)) (at : Standing)
-    → OnOk r (at.came ≡ true) → IfSome a (λ bytes. IsExplained (lines_of bytes) at)
-    → OnOk r (IfSome a (λ bytes. IsWhole (lines_of bytes)))
-ended_well (Err f) a at ended explained = tt
-ended_well (Ok x) None at ended explained = tt
-ended_well (Ok x) (Some bytes) at ended explained = (at, explained, ended)
+pub ended_well : (reading : Reading) {T : Type 0} (r : Result T ExplainFault) (a : Option (List ℕ))
+    (at : Standing)
+    → OnOk r (at.came ≡ true) → IfSome a (λ bytes. IsExplained reading (lines_of bytes) at)
+    → OnOk r (IfSome a (λ bytes. IsWhole reading (lines_of bytes)))
+ended_well reading (Err f) a at ended explained = tt
+ended_well reading (Ok x) None at ended explained = tt
+ended_well reading (Ok x) (Some bytes) at ended explained = (at, explained, ended)

@@ -9,11 +9,14 @@ use Rattle.trace_explain.specs.declared.complaint.Complaint.{Complaint}
 use Rattle.trace_explain.specs.declared.explain_fault.ExplainFault.{ExplainFault}
 use Rattle.trace_explain.specs.declared.explain_fault.ExplainFault.TheVariants as fault
 use Rattle.trace_explain.specs.declared.explainer.Explainer.{Explainer}
+use Rattle.trace_explain.specs.declared.form.Form.{Form}
 use Rattle.trace_explain.specs.declared.listener.Listener.{Listener}
+use Rattle.trace_explain.specs.declared.trace_line.BadLine.{BadLine}
+use Rattle.trace_explain.specs.declared.trace_line.BadLine.TheVariants as bad
 use Rattle.trace_explain.specs.declared.trace_line.TraceLine.{TraceLine}
-use Rattle.trace_explain.specs.Lines.{SpellsCharacters, Says, SaysNothing, Standing, TakesCharacters, TakesLine, heard_in}
+use Rattle.trace_explain.specs.Lines.{SpellsCharacters, Suits, Says, IsBadLine, Standing, TakesCharacters, TakesLine, heard_in, sender}
 use Rattle.trace_explain.specs.Noted.{HasNoted, NoneGoesOn}
-use Rattle.trace_explain.specs.Openings.{begins_answer, dialogue_in, has_begun, opening_of}
+use Rattle.trace_explain.specs.Openings.{Opening, begins_answer, dialogue_in, has_begun, opening_of}
 use Rattle.trace_explain.specs.Told.{Told, told_by}
 
 -- It has heard these events, and told these dialogues.
@@ -24,7 +27,8 @@ pub record HasExplained (events : List Event) (told : List Told) (e : Explainer)
 
 -- where it stands in the trace
 abbrev pub standing_of : Explainer → Standing
-standing_of e = record { opening = opening_of e.preface; came = e.came }
+standing_of e =
+    record { opening = opening_of e.preface; came = e.came; reading = e.reading }
 
 -- With these events more it has told so many dialogues more, and stands here.
 pub record ExplainsMore (more : List Event) (at : Standing) (events : List Event)
@@ -42,55 +46,62 @@ ExplainsCharacters from bytes events before old new = (more : List Event) × (at
 
 -- or of a line
 abbrev pub ExplainsLine : List ℕ → List Event → List Told → Explainer → Explainer → Type 0
-ExplainsLine line events before old new = (said : TraceLine) × Says line said
+ExplainsLine line events before old new = (said : TraceLine) × Says old.reading.form line said
     × (more : List Event) × (at : Standing)
     × TakesLine events (standing_of old) said more at
     × ExplainsMore more at events before new
 
 -- the card answers again with this character
-abbrev pub answers_again : Standing → Listener → End → ℕ → Bool
-answers_again at l from b = has_begun at.opening.stage && begins_answer from b
+abbrev pub answers_again : Opening → Listener → End → ℕ → Bool
+answers_again o l from b = has_begun o.stage && begins_answer from b
     && (length (told_by l.under_way).header == 0)
 
 -- The complaint is right: the characters of one end before its place have been heard and told, as
 -- far as they are of the dialogue; the one at this place is, but none goes on with it, and the card
 -- does not answer again with it.
-pub record IsRight (c : Complaint) (at : Standing) (from : End) (bytes : List ℕ)
+pub record IsRight (c : Complaint) (o : Opening) (from : End) (bytes : List ℕ)
     (events : List Event) (before : List Told) : Type 0 where
   pub told : List Told
   pub listener : Listener
   pub within : c.place < length bytes
-  pub is_heard : 0 < length (dialogue_in at.opening from (take (c.place + 1) bytes))
-  pub noted : HasNoted (events ++ heard_in at.opening from (take c.place bytes)) (before ++ told)
+  pub is_heard : 0 < length (dialogue_in o from (take (c.place + 1) bytes))
+  pub noted : HasNoted (events ++ heard_in o from (take c.place bytes)) (before ++ told)
       listener
   pub none : NoneGoesOn listener (from, get_or bytes c.place 0)
-  pub not_again : answers_again at listener from (get_or bytes c.place 0) ≡ false
+  pub not_again : answers_again o listener from (get_or bytes c.place 0) ≡ false
   pub due_is : c.due ≡ due_at listener.tap
   pub from_is : c.from ≡ from
   pub byte_is : c.byte ≡ get_or bytes c.place 0
 
 -- where characters stop it: no such fault is one of a line's form
-abbrev pub StopsRightly : ExplainFault → ℕ → Standing → End → List ℕ → List Event → List Told
+abbrev pub StopsRightly : ExplainFault → ℕ → Opening → End → List ℕ → List Event → List Told
     → Type 0
-StopsRightly (fault.NoDialogue c) line at from bytes events before =
-    (c.line ≡ line) × IsRight c at from bytes events before
-StopsRightly (fault.BadHex number) line at from bytes events before = ⊥
-StopsRightly (fault.LineTooLong number) line at from bytes events before = ⊥
-StopsRightly fault.NoCharacters line at from bytes events before = ⊥
-StopsRightly other line at from bytes events before = Unit {0}
+StopsRightly (fault.NoDialogue c) line o from bytes events before =
+    (c.line ≡ line) × IsRight c o from bytes events before
+StopsRightly (fault.BadHex number) line o from bytes events before = ⊥
+StopsRightly (fault.OtherForm number expected) line o from bytes events before = ⊥
+StopsRightly (fault.NoSign number) line o from bytes events before = ⊥
+StopsRightly (fault.LineTooLong number) line o from bytes events before = ⊥
+StopsRightly fault.NoCharacters line o from bytes events before = ⊥
+StopsRightly other line o from bytes events before = Unit {0}
 
 -- the number of the next line
 abbrev pub next_line : Explainer → ℕ
 next_line e = min (e.line + 1) (2 ^ 64 - 1)
 
 -- Where a line stops an explainer for a character, the line is one of characters, and the complaint
--- is right; where it stops it for bad digits, the line says nothing. Both tell its number.
+-- is right; where it stops it for what it is, it is such a line. Each fault tells its number.
 abbrev pub StopsAtLine : ExplainFault → List ℕ → Explainer → List Event → List Told → Type 0
-StopsAtLine (fault.NoDialogue c) line old events before = (from : End) × (bytes : List ℕ)
-    × SpellsCharacters line from bytes × (c.line ≡ next_line old)
-    × IsRight c (standing_of old) from bytes events before
+StopsAtLine (fault.NoDialogue c) line old events before = (form : Form) × (from : End)
+    × (bytes : List ℕ) × SpellsCharacters form line from bytes × Suits old.reading.form form
+    × (c.line ≡ next_line old)
+    × IsRight c (opening_of old.preface) (sender old.reading from) bytes events before
 StopsAtLine (fault.BadHex number) line old events before =
-    (number ≡ next_line old) × SaysNothing line
+    (number ≡ next_line old) × IsBadLine bad.Hex old.reading.form line
+StopsAtLine (fault.OtherForm number expected) line old events before =
+    (number ≡ next_line old) × IsBadLine (bad.OtherForm expected) old.reading.form line
+StopsAtLine (fault.NoSign number) line old events before =
+    (number ≡ next_line old) × IsBadLine bad.NoSign old.reading.form line
 StopsAtLine (fault.LineTooLong number) line old events before = ⊥
 StopsAtLine fault.NoCharacters line old events before = ⊥
 StopsAtLine other line old events before = Unit {0}
@@ -120,6 +131,7 @@ pub record KeepsAll (old new : Explainer) : Type 0 where
   pub passes_over : new.passes_over ≡ old.passes_over
   pub preface : new.preface ≡ old.preface
   pub came : new.came ≡ old.came
+  pub reading : new.reading ≡ old.reading
   pub line : new.line ≡ old.line
 
 -- but what comes before the dialogue
@@ -128,4 +140,5 @@ pub record KeepsHeard (old new : Explainer) : Type 0 where
   pub resumes : new.resumes ≡ old.resumes
   pub passes_over : new.passes_over ≡ old.passes_over
   pub came : new.came ≡ old.came
+  pub reading : new.reading ≡ old.reading
   pub line : new.line ≡ old.line

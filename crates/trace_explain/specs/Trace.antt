@@ -7,9 +7,13 @@ use Rattle.trace_explain.specs.declared.complaint.Complaint.{Complaint}
 use Rattle.trace_explain.specs.declared.explain_fault.ExplainFault.{ExplainFault}
 use Rattle.trace_explain.specs.declared.explain_fault.ExplainFault.TheVariants as fault
 use Rattle.trace_explain.specs.declared.listener.Listener.{Listener}
+use Rattle.trace_explain.specs.declared.form.Form.{Form}
+use Rattle.trace_explain.specs.declared.reading.Reading.{Reading}
+use Rattle.trace_explain.specs.declared.trace_line.BadLine.{BadLine}
+use Rattle.trace_explain.specs.declared.trace_line.BadLine.TheVariants as bad
 use Rattle.trace_explain.specs.declared.trace_line.TraceLine.{TraceLine}
 use Rattle.trace_explain.specs.Explained.{IsRight}
-use Rattle.trace_explain.specs.Lines.{SpellsCharacters, Says, SaysNothing, Standing, TakesLine, first_of_all}
+use Rattle.trace_explain.specs.Lines.{SpellsCharacters, Suits, Says, IsBadLine, Standing, TakesLine, first_of_all, sender}
 use Rattle.trace_explain.specs.Noted.{HasNoted}
 use Rattle.trace_explain.specs.Told.{Told}
 
@@ -29,31 +33,32 @@ lines_of bytes = lines_from [] bytes
 -- before them to where it stands behind them.
 abbrev pub SayInTurn : List Event → Standing → List (List ℕ) → List Event → Standing → Type 0
 SayInTurn so_far at [] events after = (events ≡ []) × (after ≡ at)
-SayInTurn so_far at (line ∷ others) events after = (said : TraceLine) × Says line said
+SayInTurn so_far at (line ∷ others) events after = (said : TraceLine)
+    × Says at.reading.form line said
     × (first rest : List Event) × (next : Standing) × TakesLine so_far at said first next
     × (events ≡ first ++ rest) × SayInTurn (so_far ++ first) next others rest after
 
--- and these are all lines so far
-abbrev pub SayAll : List (List ℕ) → List Event → Standing → Type 0
-SayAll lines events after = SayInTurn [] first_of_all lines events after
+-- and these are all lines so far, read so
+abbrev pub SayAll : Reading → List (List ℕ) → List Event → Standing → Type 0
+SayAll reading lines events after = SayInTurn [] (first_of_all reading) lines events after
 
 -- All events of these lines have been heard, and each whole dialogue in them was told, in turn;
 -- behind them the trace stands here.
-pub record IsExplained (all : List (List ℕ)) (at : Standing) : Type 0 where
+pub record IsExplained (reading : Reading) (all : List (List ℕ)) (at : Standing) : Type 0 where
   pub events : List Event
-  pub says : SayAll all events at
+  pub says : SayAll reading all events at
   pub told : List Told
   pub listener : Listener
   pub noted : HasNoted events told listener
 
 -- and at least one of them had a character
-abbrev pub IsWhole : List (List ℕ) → Type 0
-IsWhole all = (at : Standing) × IsExplained all at × (at.came ≡ true)
+abbrev pub IsWhole : Reading → List (List ℕ) → Type 0
+IsWhole reading all = (at : Standing) × IsExplained reading all at × (at.came ≡ true)
 
 -- no line of these has a character of either end
-abbrev pub SayNoCharacters : List (List ℕ) → Type 0
-SayNoCharacters all = (events : List Event) × (at : Standing)
-    × SayAll all events at × (at.came ≡ false)
+abbrev pub SayNoCharacters : Reading → List (List ℕ) → Type 0
+SayNoCharacters reading all = (events : List Event) × (at : Standing)
+    × SayAll reading all events at × (at.came ≡ false)
 
 -- the number of the line behind these, from 1 up to the largest that is counted to
 abbrev pub number_behind : List (List ℕ) → ℕ
@@ -61,7 +66,7 @@ number_behind before = min (length before + 1) (2 ^ 64 - 1)
 
 -- The line with this number: the lines before it have been heard, and each whole dialogue in them
 -- was told.
-pub record IsReached (all : List (List ℕ)) (number : ℕ) : Type 0 where
+pub record IsReached (reading : Reading) (all : List (List ℕ)) (number : ℕ) : Type 0 where
   pub before : List (List ℕ)
   pub line : List ℕ
   pub others : List (List ℕ)
@@ -69,30 +74,41 @@ pub record IsReached (all : List (List ℕ)) (number : ℕ) : Type 0 where
   pub number_is : number ≡ number_behind before
   pub events : List Event
   pub at : Standing
-  pub says : SayAll before events at
+  pub says : SayAll reading before events at
   pub told : List Told
   pub listener : Listener
   pub noted : HasNoted events told listener
 
 -- The line that the complaint names has a character with which no dialogue goes on, as it tells:
 -- the characters before it in the line, too, have been heard and told.
-pub record IsRightIn (all : List (List ℕ)) (c : Complaint) : Type 0 where
-  pub reached : IsReached all c.line
+pub record IsRightIn (reading : Reading) (all : List (List ℕ)) (c : Complaint) : Type 0 where
+  pub reached : IsReached reading all c.line
+  pub form : Form
   pub from : End
   pub bytes : List ℕ
-  pub spells : SpellsCharacters reached.line from bytes
-  pub is_right : IsRight c reached.at from bytes reached.events reached.told
+  pub spells : SpellsCharacters form reached.line from bytes
+  pub suits : Suits reached.at.reading.form form
+  pub is_right : IsRight c reached.at.opening (sender reached.at.reading from) bytes reached.events
+      reached.told
 
--- Of a fault that stops it at a line: a complaint is right; the line with bad digits says nothing;
--- and the line that is too long has, without the CR right before its LF, as many bytes as a line
--- may have, or more. Of the one that comes at the end: no line has a character.
-abbrev pub StopsIn : List (List ℕ) → ExplainFault → Type 0
-StopsIn all (fault.NoDialogue c) = IsRightIn all c
-StopsIn all (fault.BadHex number) = (at : IsReached all number) × SaysNothing at.line
-StopsIn all (fault.LineTooLong number) =
-    (at : IsReached all number) × (4194304 ≤ length at.line)
-StopsIn all fault.NoCharacters = SayNoCharacters all
-StopsIn all other = Unit {0}
+-- the line with this number is refused for what it is
+abbrev pub IsBadAt : Reading → List (List ℕ) → ℕ → BadLine → Type 0
+IsBadAt reading all number why = (reached : IsReached reading all number)
+    × IsBadLine why reached.at.reading.form reached.line
+
+-- Of a fault that stops it at a line: a complaint is right; a line that is refused is as the fault
+-- says; and the line that is too long has, without the CR right before its LF, as many bytes as a
+-- line may have, or more. Of the one that comes at the end: no line has a character.
+abbrev pub StopsIn : Reading → List (List ℕ) → ExplainFault → Type 0
+StopsIn reading all (fault.NoDialogue c) = IsRightIn reading all c
+StopsIn reading all (fault.BadHex number) = IsBadAt reading all number bad.Hex
+StopsIn reading all (fault.OtherForm number expected) =
+    IsBadAt reading all number (bad.OtherForm expected)
+StopsIn reading all (fault.NoSign number) = IsBadAt reading all number bad.NoSign
+StopsIn reading all (fault.LineTooLong number) =
+    (at : IsReached reading all number) × (4194304 ≤ length at.line)
+StopsIn reading all fault.NoCharacters = SayNoCharacters reading all
+StopsIn reading all other = Unit {0}
 
 -- of a fault: where it is one of the trace's length, the trace is longer than a trace may be
 abbrev pub IsOver : List ℕ → ExplainFault → Type 0

@@ -5,6 +5,7 @@ use Rattle.t0_core.specs.History.{Event}
 use Rattle.trace_explain.specs.declared.explain_fault.ExplainFault.{ExplainFault}
 use Rattle.trace_explain.specs.declared.explain_fault.ExplainFault.TheVariants as fault
 use Rattle.trace_explain.specs.declared.explainer.Explainer.{Explainer}
+use Rattle.trace_explain.specs.declared.reading.Reading.{Reading}
 use Rattle.trace_explain.specs.Explained.{HasExplained, next_line, standing_of}
 use Rattle.trace_explain.specs.Openings.{Opening, dialogue_in, has_begun, opened}
 use Rattle.trace_explain.specs.Told.{Told}
@@ -12,12 +13,13 @@ use Rattle.trace_explain.specs.Trace.{SayAll, lines_from, number_behind}
 
 -- Of all lines those so far are explained; of the next this much has come, and these bytes are
 -- left.
-pub record HasCome (all : List (List ℕ)) (line left : List ℕ) (e : Explainer) : Type 0 where
+pub record HasCome (reading : Reading) (all : List (List ℕ)) (line left : List ℕ) (e : Explainer)
+    : Type 0 where
   pub before : List (List ℕ)
   pub is_cut : all ≡ before ++ lines_from line left
   pub number_is : next_line e ≡ number_behind before
   pub events : List Event
-  pub says : SayAll before events (standing_of e)
+  pub says : SayAll reading before events (standing_of e)
   pub told : List Told
   pub explained : HasExplained events told e
 

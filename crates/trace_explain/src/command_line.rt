@@ -1,8 +1,10 @@
 //! The command line.
 
+use crate::form::{FORM_NAMES, Form};
 use crate::help;
 use crate::layout::{Layout, Medium};
 use crate::mask::{BadTags, Mask};
+use crate::reading::Reading;
 use clap::error::ErrorKind;
 use clap::{Arg, ArgAction, Command, Error};
 use std::alloc::{AllocError, Global};
@@ -16,6 +18,8 @@ pub struct Request {
     pub mask: Mask,
     /// Whether it goes on after a character with which no dialogue does.
     pub resumes: bool,
+    /// How the lines of the trace are read.
+    pub reading: Reading,
 }
 
 /// What the words, of which the first is the program's name, ask for. The error is the parser's:
@@ -38,6 +42,10 @@ pub fn parsed(alloc: Global, words: &[String]) -> Result<Request, Error> {
             is_summary: matches.get_flag("summary"),
         },
         resumes: matches.get_flag("resume"),
+        reading: Reading {
+            form: matches.get_str("form").and_then(Form::of_name),
+            swaps: matches.get_flag("swap"),
+        },
     })
 }
 
@@ -71,7 +79,19 @@ fn command<'a>(alloc: Global) -> Result<Command<'a>, AllocError> {
         .arg(flag(alloc, "html", help::HTML))?
         .arg(mask)?
         .arg(flag(alloc, "resume", help::RESUME))?
+        .arg(form(alloc))?
+        .arg(flag(alloc, "swap", help::SWAP))?
         .arg(flag(alloc, "summary", help::SUMMARY))
+}
+
+/// The option that says the form of the lines.
+fn form<'a>(alloc: Global) -> Arg<'a> {
+    Arg::new(alloc, "form")
+        .long("form")
+        .action(ArgAction::Set)
+        .value_name("FORM")
+        .value_parser(FORM_NAMES.as_slice())
+        .help(help::FORM)
 }
 
 /// An option without a value.

@@ -1,6 +1,7 @@
 //! A whole trace.
 ghost use Rattle.std.specs.Prelude.{◌≡◌, ◌++◌, ◌∷◌, List, [], ℕ, false, IfErr, IfSome, OnOk};
 ghost use Rattle.std.specs.Str.Lines.{strip_carriage_return};
+ghost use Rattle.trace_explain.specs.declared.reading.Reading.{Reading};
 ghost use Rattle.trace_explain.specs.Explained.{HasExplained, standing_of};
 ghost use Rattle.trace_explain.specs.Lines.{first_of_all};
 ghost use Rattle.trace_explain.specs.Trace.{IsExplained, IsWhole, KeepsLimit, StopsIn, lines_of};
@@ -10,6 +11,7 @@ use crate::explain_fault::ExplainFault;
 use crate::explainer::Explainer;
 use crate::layout::Layout;
 use crate::mask::Mask;
+use crate::reading::Reading;
 use std::alloc::{AllocError, Global};
 use std::io::{Read, Write};
 
@@ -22,22 +24,23 @@ pub const LINE_LIMIT: usize = 4_194_304;
 /// How many bytes are asked of the reader at once.
 const CHUNK: usize = 16_384;
 
-/// Explains a trace, and writes what it explains.
+/// Explains a trace, whose lines are read so, and writes what it explains.
 pub fn explain<R: Read, W: Write>(
     alloc: Global,
     layout: Layout,
     mask: Mask,
     resumes: bool,
+    reading: Reading,
     reader: &mut R,
     writer: &mut W,
 ) -> Result<(), ExplainFault>
     ensures explained { resumes ≡ false →
-        OnOk result (IfSome (R.remaining reader.old) (λ bytes. IsWhole (lines_of bytes))) }
+        OnOk result (IfSome (R.remaining reader.old) (λ bytes. IsWhole reading (lines_of bytes))) }
     ensures stops { resumes ≡ false → IfErr result (λ fault.
-        IfSome (R.remaining reader.old) (λ bytes. StopsIn (lines_of bytes) fault)) }
+        IfSome (R.remaining reader.old) (λ bytes. StopsIn reading (lines_of bytes) fault)) }
     ensures limited { IfSome (R.remaining reader.old) (λ bytes. KeepsLimit bytes result) }
 {
-    let mut explainer = Explainer::new(alloc, layout, mask, resumes);
+    let mut explainer = Explainer::new(alloc, layout, mask, resumes, reading);
     let mut text = String::new(alloc);
     explainer.begin(&mut text)?;
     let outcome = explain_chunks(alloc, &mut explainer, reader, writer, &mut text);
@@ -55,14 +58,14 @@ fn explain_chunks<R: Read, W: Write>(
     writer: &mut W,
     text: &mut String,
 ) -> Result<(), ExplainFault>
-    ensures explained { HasExplained [] [] explainer.old →
-        standing_of explainer.old ≡ first_of_all → explainer.old.line ≡ 0 →
+    ensures explained { (reading : Reading) → HasExplained [] [] explainer.old →
+        standing_of explainer.old ≡ first_of_all reading → explainer.old.line ≡ 0 →
         OnOk result (IfSome (R.remaining reader.old) (λ bytes.
-        IsExplained (lines_of bytes) (standing_of explainer.new))) }
-    ensures stops { HasExplained [] [] explainer.old → standing_of explainer.old ≡ first_of_all →
-        explainer.old.line ≡ 0 →
+        IsExplained reading (lines_of bytes) (standing_of explainer.new))) }
+    ensures stops { (reading : Reading) → HasExplained [] [] explainer.old →
+        standing_of explainer.old ≡ first_of_all reading → explainer.old.line ≡ 0 →
         IfErr result (λ fault.
-        IfSome (R.remaining reader.old) (λ bytes. StopsIn (lines_of bytes) fault)) }
+        IfSome (R.remaining reader.old) (λ bytes. StopsIn reading (lines_of bytes) fault)) }
     ensures limited { IfSome (R.remaining reader.old) (λ bytes. KeepsLimit bytes result) }
 {
     let mut chunk = [0; CHUNK];
@@ -89,12 +92,12 @@ fn explain_chunk(
     line: &mut Vec<u8>,
     text: &mut String,
 ) -> Result<(), ExplainFault>
-    ensures explained { (all : List (List ℕ)) (left : List ℕ) →
-        HasCome all line.old.items (chunk.now ++ left) explainer.old →
-        OnOk result (HasCome all line.new.items left explainer.new) }
-    ensures stops { (all : List (List ℕ)) (left : List ℕ) →
-        HasCome all line.old.items (chunk.now ++ left) explainer.old →
-        IfErr result (StopsIn all) }
+    ensures explained { (reading : Reading) (all : List (List ℕ)) (left : List ℕ) →
+        HasCome reading all line.old.items (chunk.now ++ left) explainer.old →
+        OnOk result (HasCome reading all line.new.items left explainer.new) }
+    ensures stops { (reading : Reading) (all : List (List ℕ)) (left : List ℕ) →
+        HasCome reading all line.old.items (chunk.now ++ left) explainer.old →
+        IfErr result (StopsIn reading all) }
     ensures of_lines { IfErr result IsOfLines }
 {
     for &byte in chunk {
@@ -125,10 +128,11 @@ fn explain_last(
     line: &[u8],
     text: &mut String,
 ) -> Result<(), ExplainFault>
-    ensures explained { (all : List (List ℕ)) → HasCome all line.now [] explainer.old →
-        OnOk result (IsExplained all (standing_of explainer.new)) }
-    ensures stops { (all : List (List ℕ)) → HasCome all line.now [] explainer.old →
-        IfErr result (StopsIn all) }
+    ensures explained { (reading : Reading) (all : List (List ℕ)) →
+        HasCome reading all line.now [] explainer.old →
+        OnOk result (IsExplained reading all (standing_of explainer.new)) }
+    ensures stops { (reading : Reading) (all : List (List ℕ)) →
+        HasCome reading all line.now [] explainer.old → IfErr result (StopsIn reading all) }
     ensures of_lines { IfErr result IsOfLines }
 {
     if line.is_empty() {

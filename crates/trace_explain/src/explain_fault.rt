@@ -1,6 +1,7 @@
 //! The reasons why the program ends with status 1, with their texts.
 
 use crate::complaint::{Complaint, Masked};
+use crate::form::Form;
 use std::alloc::AllocError;
 use std::fmt;
 use thiserror::Error;
@@ -12,6 +13,13 @@ pub enum ExplainFault {
     /// was explained.
     #[error("line {line}: bad hex")]
     BadHex { line: u64 },
+    /// The sign of a line, counted from 1, is of another form than this one, of which the lines
+    /// are; what the lines before it say was explained.
+    #[error("line {line}: a sign of another form than {form}")]
+    OtherForm { line: u64, form: Form },
+    /// A line, counted from 1, has digits and no sign, and no line before it has one.
+    #[error("line {line}: no sign says which end sent these digits, and no line before has one")]
+    NoSign { line: u64 },
     /// A line has more bytes than a line may have.
     #[error("line {line}: line too long")]
     LineTooLong { line: u64 },

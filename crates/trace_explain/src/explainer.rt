@@ -25,6 +25,7 @@ use crate::opening::{Role, Stage, begins_answer};
 use crate::phrases;
 use crate::pps::tell_exchange;
 use crate::preface::Preface;
+use crate::reading::Reading;
 use crate::refusal::Refusal;
 use crate::story::{Story, header_of, status_of};
 use crate::tpdu::Tpdu;
@@ -46,6 +47,7 @@ pub struct Explainer {
     layout: Layout,
     mask: Mask,
     resumes: bool,
+    reading: Reading,
     passes_over: bool,
     preface: Preface,
     came: bool,
@@ -70,11 +72,17 @@ struct Passed {
 }
 
 impl Explainer {
-    /// No line has come. Where it resumes, it goes on after a character with which no dialogue
-    /// does.
-    pub fn new(alloc: Global, layout: Layout, mask: Mask, resumes: bool) -> Explainer
+    /// No line has come, and lines are read so. Where it resumes, it goes on after a character with
+    /// which no dialogue does.
+    pub fn new(
+        alloc: Global,
+        layout: Layout,
+        mask: Mask,
+        resumes: bool,
+        reading: Reading,
+    ) -> Explainer
         ensures explained { resumes ≡ false → HasExplained [] [] result }
-        ensures standing { standing_of result ≡ first_of_all }
+        ensures standing { standing_of result ≡ first_of_all reading }
         ensures line { result.line ≡ 0 }
     {
         Explainer {
@@ -82,6 +90,7 @@ impl Explainer {
             layout,
             mask,
             resumes,
+            reading,
             passes_over: false,
             preface: Preface::new(alloc),
             came: false,
@@ -109,9 +118,10 @@ impl Explainer {
 
     /// Explains the next line.
     ///
-    /// `BadHex` is a line of characters that are not of their form, and `NoDialogue` a character
-    /// with which no dialogue goes on, where it does not resume. `OutOfMemory` may come after a
-    /// part of the line.
+    /// `BadHex` is a line of characters that are not of their form, `OtherForm` one of another form
+    /// than the lines before it, and `NoSign` one of digits alone, where no line before it has a
+    /// sign. `NoDialogue` is a character with which no dialogue goes on, where it does not resume.
+    /// `OutOfMemory` may come after a part of the line.
     pub fn line(&mut self, line: &[u8], out: &mut String) -> Result<(), ExplainFault>
         ensures explained { (events : List Event) (before : List Told) →
             HasExplained events before self.old →
@@ -123,8 +133,11 @@ impl Explainer {
         ensures of_lines { IfErr result IsOfLines }
     {
         self.line = self.line.saturating_add(1);
-        match read_line(self.alloc, line) {
-            Ok(TraceLine::Characters(from, bytes)) => self.characters(from, bytes.as_slice(), out),
+        match read_line(self.alloc, self.reading.form, line) {
+            Ok(TraceLine::Characters(form, from, bytes)) => {
+                self.reading = self.reading.of_form(form);
+                self.characters(self.reading.sender(from), bytes.as_slice(), out)
+            }
             Ok(TraceLine::Reset) => {
                 self.reset(out)?;
                 Ok(())
@@ -134,6 +147,11 @@ impl Explainer {
                 Ok(())
             }
             Err(BadLine::Hex) => Err(ExplainFault::BadHex { line: self.line }),
+            Err(BadLine::OtherForm(form)) => Err(ExplainFault::OtherForm {
+                line: self.line,
+                form,
+            }),
+            Err(BadLine::NoSign) => Err(ExplainFault::NoSign { line: self.line }),
             Err(BadLine::OutOfMemory) => Err(ExplainFault::OutOfMemory),
         }
     }
@@ -145,8 +163,8 @@ impl Explainer {
             OnOk result (ExplainsCharacters from bytes.now events before self.old self.new) }
         ensures stops { (events : List Event) (before : List Told) →
             HasExplained events before self.old →
-            IfErr result (λ fault. StopsRightly fault self.old.line (standing_of self.old) from
-            bytes.now events before) }
+            IfErr result (λ fault. StopsRightly fault self.old.line (opening_of self.old.preface)
+            from bytes.now events before) }
         ensures counts { OnOk result (self.new.line ≡ self.old.line) }
         ensures of_lines { IfErr result IsOfLines }
     {
@@ -243,7 +261,7 @@ impl Explainer {
         ensures opened { OnOk result
             (opening_of self.new.preface ≡ opened unopened Card bytes.now) }
         ensures keeps { OnOk result ((self.new.came ≡ self.old.came)
-            × (self.new.line ≡ self.old.line)) }
+            × (self.new.line ≡ self.old.line) × (self.new.reading ≡ self.old.reading)) }
     {
         self.listener.reset();
         let note = if self.story.reset() {
@@ -293,7 +311,7 @@ impl Explainer {
         ensures keeps { OnOk result ((self.new.resumes ≡ self.old.resumes)
             × (self.new.passes_over ≡ self.old.passes_over)
             × (self.new.preface ≡ self.old.preface) × (self.new.came ≡ self.old.came)
-            × (self.new.line ≡ self.old.line)) }
+            × (self.new.line ≡ self.old.line) × (self.new.reading ≡ self.old.reading)) }
         ensures within { IfOk result (λ stop. IfSome stop (λ place. place < length bytes.now)) }
         ensures wants { IfErr result (λ fault. fault ≡ ExplainFault.OutOfMemory) }
     {
@@ -461,9 +479,8 @@ impl Explainer {
     fn reset(&mut self, out: &mut String) -> Result<(), AllocError>
         ensures explained { (events : List Event) (before : List Told) →
             HasExplained events before self.old →
-            OnOk result (ExplainsMore (Reset ∷ []) (record {
+            OnOk result (ExplainsMore (Reset ∷ []) (record (standing_of self.old) {
               opening = unopened;
-              came = self.old.came;
             }) events before self.new) }
         ensures counts { OnOk result (self.new.line ≡ self.old.line) }
     {
@@ -491,7 +508,7 @@ impl Explainer {
         ensures keeps { OnOk result ((self.new.preface ≡ self.old.preface)
             × (self.new.came ≡ self.old.came)
             × (self.new.resumes ≡ self.old.resumes)
-            × (self.new.line ≡ self.old.line)) }
+            × (self.new.line ≡ self.old.line) × (self.new.reading ≡ self.old.reading)) }
     {
         let part = self.listener.reset();
         if part.is_empty() {

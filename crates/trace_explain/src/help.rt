@@ -16,6 +16,12 @@ pub const MASK: &str = "Shows `**` for reference data, and for objects with thes
 /// Of `--resume`.
 pub const RESUME: &str = "Goes on after a character with which no dialogue that it reads goes on";
 
+/// Of `--form`.
+pub const FORM: &str = "Says which signs the lines have, which else the first of them says";
+
+/// Of `--swap`.
+pub const SWAP: &str = "Takes each sign for that of the other end, as where TX is the card's";
+
 /// Of `--summary`.
 pub const SUMMARY: &str = "Writes the last block, with what is counted, and nothing else";
 
@@ -27,8 +33,16 @@ The trace stands on standard input, in lines as `card_trace play` prints them:
   < HEX    characters of the card, or `<` alone for none
   reset    the card was reset
 
-Every other line is a note, and is told behind `| `; one within a TPDU stands before it. An empty
-line is passed over. A trace has at most 2^40 bytes, and a line at most 4,194,304.
+HEX is two digits for each byte, in either case, with or without spaces between bytes. In place of
+`>` and `<` the lines may have other signs: `>>` and `<<`, `->` and `<-`, `=>` and `<=`, `TX` and
+`RX`, `TX:` and `RX:`, `Tx:` and `Rx:`, `T:` and `C:`, `IFD` and `ICC`, or `IFD:` and `ICC:`. The
+first sign of a line says which, and all later ones must be of that form. `--form` says it before,
+by the names of the first four, `angle`, `angles`, `arrow` and `double`, or the terminal's sign.
+
+Every other line is a note, and is told behind `| `; one within a TPDU stands before it. But a line
+that begins with a sign and can't be read is a fault, and so are digits alone where no line before
+them has a sign and no form is said. An empty line is passed over. A trace has at most 2^40 bytes,
+and a line at most 4,194,304.
 
 Where the trace begins or the card was reset, a first character `3B`, `3F` or `03` of the card
 begins an answer to reset, and `FF` of the terminal behind an answer begins a PPS request. They are

@@ -32,8 +32,9 @@ pub fn main_status<R: Read, W: Write, F: Write>(
                 layout,
                 mask,
                 resumes,
+                reading,
             } = request;
-            let outcome = explain(alloc, layout, mask, resumes, input, output);
+            let outcome = explain(alloc, layout, mask, resumes, reading, input, output);
             told(&outcome, hides, faults)
         }
         Err(error) => answered(&error, output, faults),

@@ -1,18 +1,17 @@
 //! The lines of a trace.
-ghost use Rattle.std.specs.Prelude.{◌≡◌, ◌∷◌, Ok, IfOk, IfErr};
-ghost use Rattle.hex.specs.Hex.{decode_of};
-ghost use Rattle.trace_explain.specs.Lines.{Says, SaysNothing, SpellsNoBytes, sign_of};
+ghost use Rattle.std.specs.Prelude.{◌≡◌, ◌≤◌, length, take, drop, IfOk, IfErr};
+ghost use Rattle.trace_explain.specs.Lines.{Says, SpellsNothing, IsBadLine, begins_with_word, ends_word, is_signed, word_len};
 
-use hex::FromHexError;
-use std::alloc::Global;
+use crate::digits::{bytes_of, is_digits};
+use crate::form::{Form, Sign};
+use std::alloc::{AllocError, Global};
 use t0_core::End;
 
 /// What a line of a trace is.
 #[derive(Debug, Drop)]
 pub enum TraceLine<'a> {
-    /// Characters of one end: `> HEX` of the terminal, `< HEX` of the card, or the sign alone for
-    /// none.
-    Characters(End, Vec<u8>),
+    /// Characters, behind the sign of an end in some form.
+    Characters(Form, End, Vec<u8>),
     /// `reset`: the card was reset.
     Reset,
     /// Any other line.
@@ -22,49 +21,103 @@ pub enum TraceLine<'a> {
 /// Why a line is refused.
 #[derive(Clone, Copy, Debug, PartialEq, Eq)]
 pub enum BadLine {
-    /// Behind the sign there is no space with an even number of hexadecimal digits.
+    /// It begins with a sign, and behind that there is no space with digits of bytes.
     Hex,
+    /// Its sign is of another form than this one, of which the lines are.
+    OtherForm(Form),
+    /// It has digits and no sign, and no line before it has one.
+    NoSign,
     /// Memory was wanting.
     OutOfMemory,
 }
 
-/// What the line is.
-pub fn read_line(alloc: Global, line: &[u8]) -> Result<TraceLine<'_>, BadLine>
-    ensures says { IfOk result (λ said. Says line.now said) }
-    ensures hex { IfErr result (λ why. why ≡ BadLine.Hex → SaysNothing line.now) }
+impl From<AllocError> for BadLine {
+    ghost use Rattle.std.specs.Prelude.{◌≡◌};
+    ghost use Rattle.trace_explain.specs.declared.trace_line.BadLine.TheVariants.{OutOfMemory};
+
+    ghost from_gives = { λ _ why. why ≡ OutOfMemory };
+
+    fn from(_error: AllocError) -> BadLine {
+        BadLine::OutOfMemory
+    }
+}
+
+/// What the line is, where lines are of this form, if that is known.
+pub fn read_line(alloc: Global, known: Option<Form>, line: &[u8]) -> Result<TraceLine<'_>, BadLine>
+    ensures says { IfOk result (λ said. Says known line.now said) }
+    ensures refused { IfErr result (λ why. IsBadLine why known line.now) }
 {
+    let (word, digits) = line.split_at(word_len(line));
+    let Some(sign) = Sign::of_word(word) else {
+        return without_sign(known, line);
+    };
+    let bytes = bytes_of(alloc, digits)?;
+    match known {
+        Some(expected) if expected != sign.form => Err(BadLine::OtherForm(expected)),
+        _ => Ok(TraceLine::Characters(sign.form, sign.from, bytes)),
+    }
+}
+
+/// What a line is whose first word is no sign.
+fn without_sign(known: Option<Form>, line: &[u8]) -> Result<TraceLine<'_>, BadLine>
+    ensures says { IfOk result (λ said. Says known line.now said) }
+    ensures refused { IfErr result (λ why.
+        SpellsNothing line.now → IsBadLine why known line.now) }
+{
+    if is_signed(line) {
+        return Err(BadLine::Hex);
+    }
     match line {
-        [b'>', rest @ ..] => characters(alloc, End::Terminal, rest),
-        [b'<', rest @ ..] => characters(alloc, End::Card, rest),
         b"reset" => Ok(TraceLine::Reset),
+        _ if known.is_none() && is_digits(line) => Err(BadLine::NoSign),
         _ => Ok(TraceLine::Note(line)),
     }
 }
 
-/// The characters of an end, from what stands behind its sign.
-fn characters<'a>(alloc: Global, from: End, rest: &[u8]) -> Result<TraceLine<'a>, BadLine>
-    ensures says { IfOk result (λ said. Says (sign_of from ∷ rest.now) said) }
-    ensures hex { IfErr result (λ why.
-        why ≡ BadLine.Hex → SaysNothing (sign_of from ∷ rest.now)) }
+/// How many bytes come before the first space.
+fn word_len(line: &[u8]) -> usize
+    ensures value { result ≡ word_len line.now }
+    ensures within { result ≤ length line.now }
 {
-    match rest {
-        [] => Ok(TraceLine::Characters(from, Vec::new(alloc))),
-        [b' ', digits @ ..] => {
-            let bytes = bytes_of(alloc, digits)?;
-            Ok(TraceLine::Characters(from, bytes))
+    for place in 0..line.len() {
+        if line[place] == b' ' {
+            return place;
         }
-        _ => Err(BadLine::Hex),
     }
+    line.len()
 }
 
-/// The bytes of hexadecimal digits.
-fn bytes_of(alloc: Global, digits: &[u8]) -> Result<Vec<u8>, BadLine>
-    ensures spells { IfOk result (λ bytes. decode_of digits.now ≡ Ok bytes.items) }
-    ensures hex { IfErr result (λ why. why ≡ BadLine.Hex → SpellsNoBytes digits.now) }
+/// Whether the line begins with a sign; one of letters alone is a word.
+fn is_signed(line: &[u8]) -> bool
+    ensures { result ≡ is_signed line.now }
 {
-    match hex::decode(alloc, digits) {
-        Ok(bytes) => Ok(bytes),
-        Err(FromHexError::OutOfMemory) => Err(BadLine::OutOfMemory),
-        Err(_) => Err(BadLine::Hex),
+    line.starts_with(b">")
+        || line.starts_with(b"<")
+        || line.starts_with(b"->")
+        || line.starts_with(b"=>")
+        || line.starts_with(b"Tx:")
+        || line.starts_with(b"Rx:")
+        || line.starts_with(b"T:")
+        || line.starts_with(b"C:")
+        || begins_with_word(line, b"TX")
+        || begins_with_word(line, b"RX")
+        || begins_with_word(line, b"IFD")
+        || begins_with_word(line, b"ICC")
+}
+
+/// Whether the line begins with this word.
+fn begins_with_word(line: &[u8], word: &[u8]) -> bool
+    ensures { result ≡ begins_with_word line.now word.now }
+{
+    line.starts_with(word) && ends_word(&line[word.len()..])
+}
+
+/// Whether a word ends before these bytes: no letter or digit is the first of them.
+fn ends_word(rest: &[u8]) -> bool
+    ensures { result ≡ ends_word rest.now }
+{
+    match rest {
+        [b'0'..=b'9' | b'A'..=b'Z' | b'a'..=b'z', ..] => false,
+        _ => true,
     }
 }

@@ -5,49 +5,52 @@ use Rattle.trace_explain.proofs.explain.explain_chunks.Goals as goal
 
 pub reading-init : goal.reading-init
 reading-init g c = (
-  λ fresh begins first. all_comes _ _ _ c.new-line.ensures.items fresh begins first,
+  λ reading fresh begins first. all_comes reading _ _ _ c.new-line.ensures.items fresh begins first,
   none_has_come _,
 )
 
 pub reading-preserved : goal.reading-preserved
 reading-preserved g c = (
-  λ fresh begins first.
-      chunk_comes _ _ _ _ c.reading.line.items c.explain_chunk.new.line.items c.reading.explainer
-      c.explain_chunk.new.explainer (c.reading.invariant.0 fresh begins first)
-      c.in-Ok.ensures.bytes.0 c.in_ok-explain_chunk-in-Ok.ensures.explained,
+  λ reading fresh begins first.
+      chunk_comes reading _ _ _ _ c.reading.line.items c.explain_chunk.new.line.items
+      c.reading.explainer
+      c.explain_chunk.new.explainer (c.reading.invariant.0 reading fresh begins first)
+      c.in-Ok.ensures.bytes.0 (c.in_ok-explain_chunk-in-Ok.ensures.explained reading),
   more_has_come _ _ _ _ _ _ c.reading.invariant.1 c.in-Ok.ensures.bytes.0
       (omega (arith, length-take c.in-Ok.count c.read.new.buf, c.in-Ok.ensures.bound)),
 )
 
 pub returns-in-Ok-eq0-clause-explained : goal.returns-in-Ok-eq0-clause-explained
-returns-in-Ok-eq0-clause-explained g c = λ fresh begins first.
+returns-in-Ok-eq0-clause-explained g c = λ reading fresh begins first.
     let room : 0 < length c.read.new.buf = omega (arith, c.read.auto.buf) in
     let zero_is : c.in-Ok-eq0.field-0 ≡ 0 = c.in-Ok-eq0.field-0-test in
-    known_explained c.explain_last.result (g.R.Read.remaining c.args.reader.now)
+    known_explained reading c.explain_last.result (g.R.Read.remaining c.args.reader.now)
     c.as_slice.result.now c.reading.explainer (standing_of c.explain_last.new.explainer)
-    (none_comes _ _ _ c.in-Ok-eq0.field-0 c.read.new.buf c.reading.line.items c.as_slice.result.now
+    (none_comes reading _ _ _ c.in-Ok-eq0.field-0 c.read.new.buf c.reading.line.items
+    c.as_slice.result.now
     c.reading.explainer zero_is c.as_slice.ensures.value
-    (c.reading.invariant.0 fresh begins first) c.in-Ok-eq0.ensures.bytes room)
-    c.explain_last.ensures.explained
+    (c.reading.invariant.0 reading fresh begins first) c.in-Ok-eq0.ensures.bytes room)
+    (c.explain_last.ensures.explained reading)
 
 pub returns-in-Ok-eq0-clause-stops : goal.returns-in-Ok-eq0-clause-stops
-returns-in-Ok-eq0-clause-stops g c = λ fresh begins first.
+returns-in-Ok-eq0-clause-stops g c = λ reading fresh begins first.
     let room : 0 < length c.read.new.buf = omega (arith, c.read.auto.buf) in
     let zero_is : c.in-Ok-eq0.field-0 ≡ 0 = c.in-Ok-eq0.field-0-test in
-    known_stops c.explain_last.result (g.R.Read.remaining c.args.reader.now)
+    known_stops reading c.explain_last.result (g.R.Read.remaining c.args.reader.now)
     c.as_slice.result.now c.reading.explainer
-    (none_comes _ _ _ c.in-Ok-eq0.field-0 c.read.new.buf c.reading.line.items c.as_slice.result.now
+    (none_comes reading _ _ _ c.in-Ok-eq0.field-0 c.read.new.buf c.reading.line.items
+    c.as_slice.result.now
     c.reading.explainer zero_is c.as_slice.ensures.value
-    (c.reading.invariant.0 fresh begins first) c.in-Ok-eq0.ensures.bytes room)
-    c.explain_last.ensures.stops
+    (c.reading.invariant.0 reading fresh begins first) c.in-Ok-eq0.ensures.bytes room)
+    (c.explain_last.ensures.stops reading)
 
 pub returns-in_err-explain_chunk-in-Ok-clause-stops :
     goal.returns-in_err-explain_chunk-in-Ok-clause-stops
-returns-in_err-explain_chunk-in-Ok-clause-stops g c = λ fresh begins first.
-    chunk_stops c.from_residual.result c.in_err-explain_chunk-in-Ok.field-0.0 _ _ _ _
+returns-in_err-explain_chunk-in-Ok-clause-stops g c = λ reading fresh begins first.
+    chunk_stops reading c.from_residual.result c.in_err-explain_chunk-in-Ok.field-0.0 _ _ _ _
     c.reading.line.items c.reading.explainer c.from_residual.ensures.1
-    (c.reading.invariant.0 fresh begins first) c.in-Ok.ensures.bytes.0
-    c.in_err-explain_chunk-in-Ok.ensures.stops
+    (c.reading.invariant.0 reading fresh begins first) c.in-Ok.ensures.bytes.0
+    (c.in_err-explain_chunk-in-Ok.ensures.stops reading)
 
 pub returns-in-Ok-eq0-clause-limited : goal.returns-in-Ok-eq0-clause-limited
 returns-in-Ok-eq0-clause-limited g c =

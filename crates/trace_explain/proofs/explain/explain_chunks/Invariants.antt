@@ -1,4 +1,5 @@
 use Rattle.std.proofs.Common.{◌≡◌, ◌+◌, ◌-◌, []}
+use Rattle.trace_explain.specs.declared.reading.Reading.{Reading}
 use Rattle.trace_explain.specs.Lines.{first_of_all}
 use Rattle.trace_explain.specs.Explained.{HasExplained, standing_of}
 use Rattle.trace_explain.proofs.TraceLemmas.{StillComes, HaveComeOf}
@@ -6,9 +7,10 @@ use Rattle.trace_explain.proofs.explain.explain_chunks.Given as goal
 
 -- the bytes that are known of the reader are explained, or still to come, and so many have come
 abbrev pub invariant-reading : goal.invariant-reading
-invariant-reading g l = (HasExplained [] [] l.initial.explainer
-    → standing_of l.initial.explainer ≡ first_of_all → l.initial.explainer.line ≡ 0
-    → StillComes (g.R.Read.remaining l.initial.reader) (g.R.Read.remaining l.reader) l.line.items
+invariant-reading g l = ((reading : Reading) → HasExplained [] [] l.initial.explainer
+    → standing_of l.initial.explainer ≡ first_of_all reading → l.initial.explainer.line ≡ 0
+    → StillComes reading (g.R.Read.remaining l.initial.reader) (g.R.Read.remaining l.reader)
+    l.line.items
     l.explainer)
     × HaveComeOf (g.R.Read.remaining l.initial.reader) (g.R.Read.remaining l.reader) l.size
 

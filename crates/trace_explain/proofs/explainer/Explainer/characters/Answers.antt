@@ -35,6 +35,7 @@ returns-in-None-clause-explained c = λ events before h.
     (ap opening_of kept.2)
     (kept.3 ∙ opened.came ∙ c.came_after-self.ensures
     ∙ ap (λ (e : Explainer). came_after e.came bytes) same)
+    (kept.5 ∙ opened.reading ∙ ap (λ (e : Explainer). e.reading) same)
 
 pub returns-in_ok-answer_again-in-Some-clause-explained :
     goal.returns-in_ok-answer_again-in-Some-clause-explained
@@ -69,6 +70,7 @@ returns-in_ok-answer_again-in-Some-clause-explained c = λ events before h.
     both.0 both.1 again.explained (take_rest bytes (start + place)) again.opened
     (again.keeps.0 ∙ kept.3 ∙ opened.came ∙ c.came_after-self.ensures
     ∙ ap (λ (e : Explainer). came_after e.came bytes) same)
+    (again.keeps.2 ∙ kept.5 ∙ opened.reading ∙ ap (λ (e : Explainer). e.reading) same)
 
 pub returns-in-Some-2-clause-stops : goal.returns-in-Some-2-clause-stops
 returns-in-Some-2-clause-stops c = λ events before h.
@@ -95,7 +97,7 @@ returns-in-Some-2-clause-stops c = λ events before h.
     let begun = has_begun c.args.self.now.preface.stage in
     let begins = begins_answer c.args.from (get_or bytes (start + place) 0) in
     let nothing = length (told_by c.hear.new.self.listener.under_way).header == 0 in
-    let not_again : answers_again (standing_of c.args.self.now) c.hear.new.self.listener
+    let not_again : answers_again (opening_of c.args.self.now.preface) c.hear.new.self.listener
     c.args.from (get_or bytes (start + place) 0) ≡ false =
     elim c.if-begun.branch [
       | then-begun+else-answers_again w ↦ others_fail begun begins nothing

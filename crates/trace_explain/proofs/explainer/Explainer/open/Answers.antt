@@ -17,6 +17,7 @@ loop-place-preserved c =
         resumes = kept.resumes;
         passes_over = kept.passes_over;
         came = kept.came;
+        reading = kept.reading;
         line = kept.line;
       },
     )
@@ -38,6 +39,7 @@ returns-then-is_dialogue-clause-keeps c =
       resumes = kept.resumes;
       passes_over = kept.passes_over;
       came = kept.came;
+      reading = kept.reading;
       line = kept.line;
     }
 

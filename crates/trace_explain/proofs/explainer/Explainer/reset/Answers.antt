@@ -12,4 +12,5 @@ returns-clause-explained c = λ events before h.
     explains_events (Reset ∷ []) events before _ _
     (record { noted = cut.noted; resumes = cut.resumes; passes_over = cut.passes_over })
     (same_standing (opening_of c.cut_off.new.self.preface) unopened c.cut_off.new.self.came
-    c.args.self.now.came (ap opening_of kept.0 ∙ c.reset.ensures) kept.1)
+    c.args.self.now.came c.cut_off.new.self.reading c.args.self.now.reading
+    (ap opening_of kept.0 ∙ c.reset.ensures) kept.1 kept.4)

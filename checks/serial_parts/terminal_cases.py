@@ -230,6 +230,22 @@ def noise():
                fault="operation 1: bad procedure byte\n", status=1)
     yield Case("more data than asked for", "< 3B00 > 00CA5F2001 < CA5F2055 ",
                ["send", "00CA5F2001"], fault="operation 1: bad procedure byte\n", status=1)
+    for heaps in (True, False):
+        # what stands behind the fault is not looked at
+        yield Case(f"noise among data, heaps {heaps}", "< 3B00 > 00CA5F2001 < CA5F2055 ",
+                   ["send", "00CA5F2001"], "reset\n< 3B00\n> 00CA5F2001\n< CA5F20\n",
+                   "operation 1: bad procedure byte\n", 1, options=["-v"], heaps=heaps)
+        yield Case(f"a character behind SW2, heaps {heaps}", "< 3B00 > 00CA5F2000 < 6C0655 ", GET,
+                   fault="operation 1: another echo has come back than what was sent\n", status=1,
+                   heaps=heaps)
+        yield Case(f"a character behind an answer, heaps {heaps}", "< 3B00 > 00CA5F2000 < 698555 ",
+                   GET, "= 6985\n", status=1, heaps=heaps)
+        yield Case(f"a character before a next operation, heaps {heaps}",
+                   "< 3B00 > 00CA5F2000 < 698555 ", [*GET, *GET], "= 6985\n",
+                   "operation 2: another echo has come back than what was sent\n", 1, ["-k"],
+                   heaps=heaps)
+    yield Case("a NULL among others", "< 3B00 " + SHORT_WORDS + "< 6060609000 ", SHORT,
+               "reset\n< 3B00\n> 0020000000\n< 6060609000\n= 9000\n", options=["-v"], heaps=True)
     yield Case("no echo", "< 3B00 ", SHORT, fault="operation 1: no echo has come back\n",
                status=1, waits=0.0)
     yield Case("another echo", "< 3B0055 ", SHORT, status=1,

@@ -236,6 +236,14 @@ def parities():
                terminal("", [*reset, *of[3], *END], of[4], output="", inverse=of[2],
                         play_it=then_marked(of[0], of[1])))
 
+    # the first character of a heap is well, and the second is not
+    def heap_with_mark(other):
+        play(other, "< 3B00 " + SHORT_WORDS, card=True)
+        other.line.write(b"\x90\xff\x00\x00")
+
+    yield ("a wrong parity within a heap", lambda: terminal(
+        "", [*reset, EVEN, *END], "operation 1: " + PARITY, output="", play_it=heap_with_mark))
+
     def unmarked_t0(other):
         other.sends_marked("3F")
         other.send("00")

@@ -1,5 +1,7 @@
 #include "serial_line.h"
 
+#include <string.h>
+
 const char LINE_IS_SILENT[] = "the other end is silent";
 const char LINE_IS_GONE[] = "the line is gone";
 
@@ -67,25 +69,37 @@ static const char *text_of(enum port_result result)
     }
 }
 
-/* Hands a byte out as it stands on the line, once it may go. */
-static const char *hand_out(struct line *line, uint8_t raw)
+/* Hands bytes out as they stand on the line, once the first of them may go. */
+static const char *hand_out(struct line *line, const uint8_t *raw, size_t n)
 {
-    const int64_t length = line_etu(line, LINE_CHARACTER_ETU);
+    const int64_t length = line_etu(line, LINE_CHARACTER_ETU * n);
     enum port_result result;
     port_sleep_until(line->free_from);
-    result = port_write(line->port, raw, port_now() + length + line->slack);
+    result = port_write(line->port, raw, n, port_now() + length + line->slack);
     line->sent_until = port_now() + length;
     line->free_from = line->sent_until + line->guard;
     return result == PORT_IS_SILENT ? "the tty takes no more characters" : text_of(result);
 }
 
-/* Takes the echo of a byte back. */
-static const char *take_echo(struct line *line, uint8_t raw)
+/* Reads a character: the first of those that were looked at, or the next one of the port. */
+static enum port_result read_raw(struct line *line, uint8_t *raw, bool *has_other_parity,
+                                 int64_t then)
+{
+    if (line->come_count == 0)
+        return port_read(line->port, raw, has_other_parity, then);
+    *raw = line->come[0].raw;
+    *has_other_parity = line->come[0].has_other_parity;
+    line->come_count--;
+    memmove(line->come, line->come + 1, line->come_count * sizeof *line->come);
+    return PORT_IS_WELL;
+}
+
+/* Takes the echo of a byte back, which has gone by then. */
+static const char *take_echo(struct line *line, uint8_t raw, int64_t then)
 {
     uint8_t found;
     bool has_other_parity;
-    const enum port_result result = port_read(line->port, &found, &has_other_parity,
-                                              line->sent_until + line->slack);
+    const enum port_result result = read_raw(line, &found, &has_other_parity, then + line->slack);
     if (result == PORT_IS_SILENT)
         return "no echo has come back";
     if (result != PORT_IS_WELL)
@@ -97,42 +111,126 @@ static const char *take_echo(struct line *line, uint8_t raw)
     return NULL;
 }
 
+/* Sends a run of characters, and takes their echoes back. */
+static const char *send_run(struct line *line, const uint8_t *bytes, size_t n)
+{
+    uint8_t raw[LINE_RUN];
+    const char *fault;
+    size_t i;
+    for (i = 0; i < n; i++)
+        raw[i] = line->is_inverse ? line_turned(bytes[i]) : bytes[i];
+    fault = hand_out(line, raw, n);
+    for (i = 0; i < n; i++)
+        line_note(line, line->own, bytes[i]);
+    for (i = 0; i < n && fault == NULL && line->echo == LINE_TAKES_ECHO; i++)
+        fault = take_echo(line, raw[i],
+                          line->sent_until - line_etu(line, LINE_CHARACTER_ETU * (n - 1 - i)));
+    return fault;
+}
+
 const char *line_send(struct line *line, uint8_t byte)
 {
-    const uint8_t raw = line->is_inverse ? line_turned(byte) : byte;
-    const char *fault = hand_out(line, raw);
-    line_note(line, line->own, byte);
-    return fault == NULL && line->echo == LINE_TAKES_ECHO ? take_echo(line, raw) : fault;
+    return send_run(line, &byte, 1);
+}
+
+const char *line_send_all(struct line *line, const uint8_t *bytes, size_t n)
+{
+    const size_t run = line->guard > 0 || n > LINE_RUN ? 1 : n;
+    const char *fault = NULL;
+    size_t gone;
+    for (gone = 0; gone < n && fault == NULL; gone += run)
+        fault = send_run(line, bytes + gone, run);
+    return fault;
+}
+
+/* How long a character of the other end is waited for. */
+static int64_t waits_until(const struct line *line, int64_t wait)
+{
+    return later(port_now(), line->sent_until) + wait;
+}
+
+/* A character of the other end has come: the next one of the own goes no earlier than this. */
+static void note_turn(struct line *line)
+{
+    line->free_from = later(line->free_from, port_now() + line_etu(line, LINE_TURN_ETU));
 }
 
 const char *line_receive_first(struct line *line, uint8_t *byte, bool *has_other_parity,
                                int64_t wait)
 {
-    const enum port_result result = port_read(line->port, byte, has_other_parity,
-                                              later(port_now(), line->sent_until) + wait);
-    line->free_from = later(line->free_from, port_now() + line_etu(line, LINE_TURN_ETU));
+    const enum port_result result = read_raw(line, byte, has_other_parity,
+                                             waits_until(line, wait));
+    note_turn(line);
     return text_of(result);
 }
 
 /* An echo is no character of its own: it goes at once. */
 static const char *give_echo(const struct line *line, uint8_t raw)
 {
-    return text_of(port_write(line->port, raw, port_now() + line->slack));
+    return text_of(port_write(line->port, &raw, 1, port_now() + line->slack));
+}
+
+static enum line_end other_of(const struct line *line)
+{
+    return line->own == LINE_CARD ? LINE_TERMINAL : LINE_CARD;
+}
+
+/* Whether a character has come as the convention has it. */
+static bool is_well(const struct line *line, bool has_other_parity)
+{
+    return line->port->is_pseudo || has_other_parity == line->has_parity_of_direct;
 }
 
 const char *line_receive(struct line *line, uint8_t *byte, int64_t wait)
 {
-    const enum line_end other = line->own == LINE_CARD ? LINE_TERMINAL : LINE_CARD;
     bool has_other_parity;
     uint8_t raw;
     const char *fault = line_receive_first(line, &raw, &has_other_parity, wait);
     if (fault != NULL)
         return fault;
     *byte = line->is_inverse ? line_turned(raw) : raw;
-    line_note(line, other, *byte);
-    if (!line->port->is_pseudo && has_other_parity != line->has_parity_of_direct)
+    line_note(line, other_of(line), *byte);
+    if (!is_well(line, has_other_parity))
         return "a character has come with a wrong parity";
     return line->echo == LINE_GIVES_ECHO ? give_echo(line, raw) : NULL;
+}
+
+/* Has those characters come in that are there; where there is none, the first that comes until
+ * then. */
+static enum port_result come_in(struct line *line, int64_t then)
+{
+    enum port_result result = PORT_IS_WELL;
+    while (line->come_count < LINE_RUN && result == PORT_IS_WELL) {
+        struct line_character *next = &line->come[line->come_count];
+        result = port_read(line->port, &next->raw, &next->has_other_parity,
+                           line->come_count == 0 ? then : 0);
+        if (result == PORT_IS_WELL)
+            line->come_count++;
+    }
+    return line->come_count > 0 ? PORT_IS_WELL : result;
+}
+
+const char *line_look(struct line *line, uint8_t bytes[LINE_RUN], size_t *n, int64_t wait)
+{
+    const enum port_result result = come_in(line, waits_until(line, wait));
+    *n = 0;
+    if (result != PORT_IS_WELL)
+        return text_of(result);
+    while (*n < line->come_count && is_well(line, line->come[*n].has_other_parity)) {
+        const uint8_t raw = line->come[*n].raw;
+        bytes[(*n)++] = line->is_inverse ? line_turned(raw) : raw;
+    }
+    return *n == 0 ? line_receive(line, bytes, wait) : NULL;
+}
+
+void line_take(struct line *line, const uint8_t *bytes, size_t n)
+{
+    size_t i;
+    for (i = 0; i < n; i++)
+        line_note(line, other_of(line), bytes[i]);
+    line->come_count -= n;
+    memmove(line->come, line->come + n, line->come_count * sizeof *line->come);
+    note_turn(line);
 }
 
 const char *line_set(struct line *line, unsigned long baud)

@@ -17,6 +17,9 @@
 #define LINE_REST_ETU 2
 #define LINE_TURN_ETU 6
 
+/* as many characters as go or come at once, at most: more than an end of T=0 sends in a row */
+#define LINE_RUN 300
+
 /* the most etu between two characters of an answer to reset and of PPS (ISO/IEC 7816-3, 8.1 and
  * 9.2) */
 #define LINE_ANSWER_ETU 9600
@@ -27,6 +30,12 @@ enum line_echo { LINE_HAS_NO_ECHO, LINE_TAKES_ECHO, LINE_GIVES_ECHO };
 
 /* The ends, by the signs that a trace has for them. */
 enum line_end { LINE_TERMINAL = '>', LINE_CARD = '<' };
+
+/* A character as it has come. */
+struct line_character {
+    uint8_t raw;
+    bool has_other_parity;
+};
 
 struct line {
     struct port *port;
@@ -39,6 +48,8 @@ struct line {
     int64_t slack;              /* what a wait may last longer than the line's rules have it */
     int64_t sent_until;         /* when the last character that was handed out has gone */
     int64_t free_from;          /* the earliest that the next one may go */
+    struct line_character come[LINE_RUN]; /* those that were looked at, and are not taken yet */
+    size_t come_count;
     FILE *trace;                /* or NULL */
     char last_sign;             /* of the line of the trace that is not ended, or NUL */
 };
@@ -54,9 +65,21 @@ int64_t line_etu(const struct line *line, unsigned long count);
 /* Sends a character of the own end, in the line's convention, and takes its echo back. */
 const char *line_send(struct line *line, uint8_t byte);
 
+/* Sends characters of the own end, at most LINE_RUN. They go to the port at once, where it keeps
+ * the time between them by itself: each lasts as long as with the least guard time. */
+const char *line_send_all(struct line *line, const uint8_t *bytes, size_t n);
+
 /* Receives a character of the other end, for which the line waits so long from the last character
  * on. */
 const char *line_receive(struct line *line, uint8_t *byte, int64_t wait);
+
+/* Looks at the characters of the other end that have come, waiting for the first of them as above:
+ * `n` gets how many stand in `bytes`. They stay on the line, in the place where the next one is
+ * read, until they are taken from there. */
+const char *line_look(struct line *line, uint8_t bytes[LINE_RUN], size_t *n, int64_t wait);
+
+/* Takes so many of those that were looked at, as if each had been received. */
+void line_take(struct line *line, const uint8_t *bytes, size_t n);
 
 /* The same of the first character of an answer, as the direct convention reads it: not yet in the
  * trace, and with another parity where the convention is the inverse one. */

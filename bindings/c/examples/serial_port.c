@@ -20,6 +20,9 @@
 #define MILLISECOND 1000
 #define SECOND 1000000
 
+/* how long the bytes behind the first of a mark may take, which come with it */
+#define MARK_LASTS (20 * MILLISECOND)
+
 /* how often a far end looks whether the near one is open */
 #define LOOKS_EVERY (10 * MILLISECOND)
 
@@ -294,12 +297,12 @@ static enum port_result await(const struct port *port, short events, int64_t the
     }
 }
 
-/* What a read or a write of one byte came to, where it moved so many. */
+/* What a read or a write came to, where it moved so many. */
 static enum port_result result_of(ssize_t n)
 {
     if (n < 0 && (errno == EINTR || errno == EAGAIN))
         return PORT_IS_SILENT;
-    return n == 1 ? PORT_IS_WELL : PORT_IS_GONE;
+    return n > 0 ? PORT_IS_WELL : PORT_IS_GONE;
 }
 
 static enum port_result read_byte(const struct port *port, uint8_t *byte, int64_t then)
@@ -320,21 +323,34 @@ enum port_result port_read(const struct port *port, uint8_t *byte, bool *has_oth
     *has_other_parity = false;
     if (result != PORT_IS_WELL || port->is_pseudo || *byte != 0xFF)
         return result;
-    result = read_byte(port, byte, then);
+    result = read_byte(port, byte, port_now() + MARK_LASTS);
     if (result != PORT_IS_WELL || *byte == 0xFF)
         return result;
     *has_other_parity = true;
-    return read_byte(port, byte, then);
+    return read_byte(port, byte, port_now() + MARK_LASTS);
 }
 
-enum port_result port_write(const struct port *port, uint8_t byte, int64_t then)
+/* Hands out as many as there is place for. */
+static enum port_result write_some(const struct port *port, const uint8_t *bytes, size_t n,
+                                   size_t *gone, int64_t then)
+{
+    enum port_result result = await(port, POLLOUT, then);
+    if (result == PORT_IS_WELL) {
+        const ssize_t moved = write(port->fd, bytes + *gone, n - *gone);
+        result = result_of(moved);
+        if (result == PORT_IS_WELL)
+            *gone += (size_t)moved;
+    }
+    return result;
+}
+
+enum port_result port_write(const struct port *port, const uint8_t *bytes, size_t n, int64_t then)
 {
     enum port_result result;
-    do {
-        result = await(port, POLLOUT, then);
-        if (result == PORT_IS_WELL)
-            result = result_of(write(port->fd, &byte, 1));
-    } while (result == PORT_IS_SILENT && port_now() < then);
+    size_t gone = 0;
+    do
+        result = write_some(port, bytes, n, &gone, then);
+    while (gone < n && (result == PORT_IS_WELL || (result == PORT_IS_SILENT && port_now() < then)));
     return result;
 }
 

@@ -66,8 +66,8 @@ void port_drop(const struct port *port);
 enum port_result port_read(const struct port *port, uint8_t *byte, bool *has_other_parity,
                            int64_t then);
 
-/* Hands a character out, waiting until then for its place. */
-enum port_result port_write(const struct port *port, uint8_t byte, int64_t then);
+/* Hands characters out, waiting until then for the place of each. */
+enum port_result port_write(const struct port *port, const uint8_t *bytes, size_t n, int64_t then);
 
 /* Puts back what the tty was set to, and closes it. */
 void port_close(struct port *port);

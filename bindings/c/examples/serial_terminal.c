@@ -104,19 +104,25 @@ static bool is_put_off(struct session *session, uint8_t byte)
     return byte == NULL_BYTE && port_now() - session->nulls_since > session->patience;
 }
 
-/* Receives one character of the card, and hands it to the terminal. */
+/* Hands the terminal the characters of the card that have come. Those that it does not listen to
+ * stay on the line, as if they came later. */
 static const char *take(struct session *session)
 {
-    uint8_t byte;
+    uint8_t bytes[LINE_RUN];
+    size_t n, taken = 0, i;
     int32_t code;
-    const char *fault = line_receive(session->line, &byte, session->waiting_time);
-    if (fault == LINE_IS_SILENT)
-        return "the card is silent";
+    const char *fault = line_look(session->line, bytes, &n, session->waiting_time);
     if (fault != NULL)
-        return fault;
-    if (is_put_off(session, byte))
-        return "the card sends nothing but NULLs";
-    code = gt_terminal_take(&session->terminal, byte);
+        return fault == LINE_IS_SILENT ? "the card is silent" : fault;
+    code = gt_terminal_receive_bytes(&session->terminal, bytes, n, &taken);
+    if (code == GT_NOT_LISTENING || code == GT_AFTER_END)
+        code = GT_OK;
+    else if (code != GT_OK)
+        taken++;
+    line_take(session->line, bytes, taken);
+    for (i = 0; i < taken; i++)
+        if (is_put_off(session, bytes[i]))
+            return "the card sends nothing but NULLs";
     return code == GT_OK ? NULL : gt_text(code);
 }
 
@@ -124,18 +130,16 @@ static const char *take(struct session *session)
 static const char *pass_all(struct session *session)
 {
     const char *fault = NULL;
-    uint8_t byte;
+    uint8_t bytes[LINE_RUN];
     session->nulls_since = 0;
     while (fault == NULL) {
-        const int32_t code = gt_terminal_next(&session->terminal, &byte);
+        size_t n = 0;
+        const int32_t code = gt_terminal_send_bytes(&session->terminal, bytes, sizeof bytes, &n);
+        fault = code < 0 ? gt_text(code) : line_send_all(session->line, bytes, n);
         if (code == GT_DONE)
-            return NULL;
-        else if (code == GT_SENDS)
-            fault = line_send(session->line, byte);
-        else if (code == GT_OK)
+            return fault;
+        if (code == GT_OK && fault == NULL)
             fault = take(session);
-        else
-            fault = gt_text(code);
     }
     return fault;
 }

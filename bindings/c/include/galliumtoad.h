@@ -71,7 +71,8 @@ extern "C" {
 
 enum {
     GT_OK = 0,              /* it went well; of a turn (.._next, .._turn): the end listens */
-    GT_SENDS = 1,           /* of a turn: a character is handed out */
+    GT_SENDS = 1,           /* of a turn: a character is handed out; of .._send_bytes: all that
+                             * there is room for */
     GT_DONE = 2,            /* of an exchange's turn: it is over, and has an answer */
 
     GT_NULL = -1,           /* a pointer is NULL */
@@ -96,7 +97,7 @@ enum {
     /* of the line */
     GT_NOT_LISTENING = -30, /* the end has characters to send */
     GT_BAD_PROCEDURE = -31, /* neither a procedure byte nor a first status byte where one is due */
-    GT_TOO_LONG = -32,      /* the response has more than 16,384 bytes */
+    GT_TOO_LONG = -32,      /* the response has more bytes than it may: 16,384, or a limit below */
     GT_STALLED = -33,       /* a GET RESPONSE has brought nothing, and the card announces more */
     GT_AFTER_END = -34,     /* the exchange is over, or has failed */
 
@@ -205,7 +206,7 @@ static inline const char *gt_text(int32_t code) {
 enum {
     GT_VALUE_LIMIT = 8192,      /* the most bytes of a value on a card */
     GT_OBJECT_LIMIT = 8197,     /* of such a value with its tag and length: the data of a get */
-    GT_RESPONSE_LIMIT = 16384,  /* of an answer's data, at a terminal */
+    GT_RESPONSE_LIMIT = 16384,  /* of an answer's data, at a terminal with no limit of its own */
     GT_AID_LEAST = 5,           /* the fewest bytes of an application's identifier */
     GT_AID_LIMIT = 16,          /* and the most */
     GT_APPS_LIMIT = 8,          /* the most applications of a card */
@@ -284,10 +285,11 @@ typedef struct {
 /* Handles: 16 bytes each, which the caller owns; what they hold stands on the heap. The most bytes
  * that are asked of the heap at once, without what the heap itself needs for each block:
  *
- *   an exchange   16,496, and the bytes of the command's data: at most 16,751
- *   a terminal    144, and with an operation 16,384 more and the bytes that it sends as data, of an
- *                 identifier, a value or a command. The last operation's are held until the next
- *                 has begun
+ *   an exchange   112 and its limit on the response, which is 16,384 where none is given, and the
+ *                 bytes of the command's data: at most 16,751
+ *   a terminal    152, and with an operation its limit on a response, which is 16,384 where none is
+ *                 given, and the bytes that it sends as data, of an identifier, a value or a
+ *                 command. The last operation's are held until the next has begun
  *   a card        9,963 with one application and one object of 3 bytes, and 26,466 with an exchange
  *                 of SELECT or GET DATA with it; 4,240,592 with all that a card can hold
  *   a session     26,667 with that small card, for a select, a put of 3 bytes and a get; 116,584
@@ -315,8 +317,13 @@ int32_t galliumtoad_pps_agreed(const uint8_t *request, size_t n, const uint8_t *
                                size_t m);
 uint32_t galliumtoad_version(void);
 int32_t galliumtoad_exchange_start(gt_exchange *e, const uint8_t *command, size_t n);
+int32_t galliumtoad_exchange_start_within(gt_exchange *e, const uint8_t *command, size_t n,
+                                          size_t limit);
 int32_t galliumtoad_exchange_next(gt_exchange *e, uint8_t *byte);
 int32_t galliumtoad_exchange_take(gt_exchange *e, uint8_t byte);
+int32_t galliumtoad_exchange_send_bytes(gt_exchange *e, uint8_t *bytes, size_t room, size_t *n);
+int32_t galliumtoad_exchange_receive_bytes(gt_exchange *e, const uint8_t *bytes, size_t n,
+                                           size_t *taken);
 int32_t galliumtoad_exchange_answer(const gt_exchange *e, uint16_t *status,
                                     uint8_t *data, size_t room, size_t *len);
 int32_t galliumtoad_exchange_tpdu(const gt_exchange *e, uint8_t *tpdu, size_t room, size_t *n,
@@ -324,6 +331,7 @@ int32_t galliumtoad_exchange_tpdu(const gt_exchange *e, uint8_t *tpdu, size_t ro
 int32_t galliumtoad_exchange_answered(gt_exchange *e, const uint8_t *answer, size_t n);
 void galliumtoad_exchange_free(gt_exchange *e);
 int32_t galliumtoad_terminal_new(gt_terminal *t);
+int32_t galliumtoad_terminal_new_within(gt_terminal *t, size_t limit);
 int32_t galliumtoad_terminal_reset(gt_terminal *t);
 int32_t galliumtoad_terminal_select(gt_terminal *t, const uint8_t *aid, size_t n);
 int32_t galliumtoad_terminal_get(gt_terminal *t, uint32_t tag);
@@ -331,6 +339,9 @@ int32_t galliumtoad_terminal_put(gt_terminal *t, uint32_t tag, const uint8_t *va
 int32_t galliumtoad_terminal_send(gt_terminal *t, const uint8_t *command, size_t n);
 int32_t galliumtoad_terminal_next(gt_terminal *t, uint8_t *byte);
 int32_t galliumtoad_terminal_take(gt_terminal *t, uint8_t byte);
+int32_t galliumtoad_terminal_send_bytes(gt_terminal *t, uint8_t *bytes, size_t room, size_t *n);
+int32_t galliumtoad_terminal_receive_bytes(gt_terminal *t, const uint8_t *bytes, size_t n,
+                                           size_t *taken);
 int32_t galliumtoad_terminal_tpdu(const gt_terminal *t, uint8_t *tpdu, size_t room, size_t *n,
                                   size_t *most);
 int32_t galliumtoad_terminal_answered(gt_terminal *t, const uint8_t *answer, size_t n);
@@ -344,6 +355,9 @@ int32_t galliumtoad_card_object(gt_card *c, uint32_t tag, const uint8_t *value, 
 int32_t galliumtoad_card_finish(gt_card *c);
 int32_t galliumtoad_card_take(gt_card *c, uint8_t byte);
 int32_t galliumtoad_card_turn(gt_card *c, uint8_t *byte);
+int32_t galliumtoad_card_send_bytes(gt_card *c, uint8_t *bytes, size_t room, size_t *n);
+int32_t galliumtoad_card_receive_bytes(gt_card *c, const uint8_t *bytes, size_t n,
+                                       size_t *taken);
 int32_t galliumtoad_card_reset(gt_card *c);
 int32_t galliumtoad_card_tpdu(gt_card *c, const uint8_t *tpdu, size_t n, uint8_t *answer,
                               size_t room, size_t *len);
@@ -509,6 +523,16 @@ static inline int32_t gt_exchange_start(gt_exchange *e, const uint8_t *command, 
     return galliumtoad_exchange_start(e, gt_bytes_(command), n);
 }
 
+/* The same, where the response may have `limit` bytes at most, 0 to GT_RESPONSE_LIMIT: no more
+ * memory is taken for it. The first byte that is over is GT_TOO_LONG.
+ *
+ * As above, with GT_ARGUMENT before GT_MEMORY: `limit` is above GT_RESPONSE_LIMIT. */
+static inline int32_t gt_exchange_start_within(gt_exchange *e, const uint8_t *command, size_t n,
+                                               size_t limit) {
+    if (!e || (!command && n)) return GT_NULL;
+    return galliumtoad_exchange_start_within(e, gt_bytes_(command), n, limit);
+}
+
 /* What the terminal does now.
  *
  * GT_SENDS: `byte` gets a character for the card, which is to be sent now. GT_OK: it waits for a
@@ -528,6 +552,38 @@ static inline int32_t gt_exchange_next(gt_exchange *e, uint8_t *byte) {
 static inline int32_t gt_exchange_take(gt_exchange *e, uint8_t byte) {
     if (!e) return GT_NULL;
     return galliumtoad_exchange_take(e, byte);
+}
+
+/* The next two pass characters by buffers, for a line that carries many at once: each is so many
+ * calls of the two above, and stops where one of them has another answer.
+ *
+ * Hands out what the terminal sends now, `room` characters at most: they stand at the front of
+ * `bytes`, and `n` gets how many. What stands behind them stays as it was.
+ *
+ * GT_SENDS: `bytes` is full, with `room` characters, and there may be more: ask again. So it is
+ * with room 0, whatever the exchange does next. The others are the answer of `gt_exchange_next`
+ * behind the last character: GT_OK: it waits for a character of the card. GT_DONE: the exchange is
+ * over. GT_FAILED: it has failed for good. With each of them `n` is told, and may be 0. */
+static inline int32_t gt_exchange_send_bytes(gt_exchange *e, uint8_t *bytes, size_t room,
+                                             size_t *n) {
+    uint8_t none = 0;
+    if (!e || (!bytes && room) || !n) return GT_NULL;
+    return galliumtoad_exchange_send_bytes(e, bytes ? bytes : &none, room, n);
+}
+
+/* Takes `n` characters of the card, one after another, up to the first that is a fault, and no
+ * further; `taken` gets how many were taken before it.
+ *
+ * GT_OK: all were taken; so it is with `n` 0. Another code is the fault of the character at the
+ * place `taken`, as `gt_exchange_take` tells it, and those behind it were not looked at. GT_OK
+ * with some taken may be the end of the exchange: `gt_exchange_send_bytes` tells. After
+ * GT_BAD_PROCEDURE, GT_TOO_LONG, GT_STALLED the exchange has failed for good. GT_NOT_LISTENING: it
+ * has characters to send now, behind those taken; GT_AFTER_END: it is over, or has failed: of
+ * these two the character has changed nothing. With each of them `taken` is told. */
+static inline int32_t gt_exchange_receive_bytes(gt_exchange *e, const uint8_t *bytes, size_t n,
+                                                size_t *taken) {
+    if (!e || (!bytes && n) || !taken) return GT_NULL;
+    return galliumtoad_exchange_receive_bytes(e, gt_bytes_(bytes), n, taken);
 }
 
 /* The answer of an exchange that is over: `status` gets the status word (0x9000), `len` the number
@@ -592,6 +648,16 @@ static inline int32_t gt_terminal_new(gt_terminal *t) {
     return galliumtoad_terminal_new(t);
 }
 
+/* The same, where the response to a command may have `limit` bytes at most, 0 to
+ * GT_RESPONSE_LIMIT: no operation takes more memory for it, and the first byte that is over is
+ * GT_TOO_LONG.
+ *
+ * As above, with GT_ARGUMENT before GT_MEMORY: `limit` is above GT_RESPONSE_LIMIT. */
+static inline int32_t gt_terminal_new_within(gt_terminal *t, size_t limit) {
+    if (!t) return GT_NULL;
+    return galliumtoad_terminal_new_within(t, limit);
+}
+
 /* Drops the operation that has begun, if any, wherever it is. The card is told nothing of it: reset
  * that, too. GT_OK. */
 static inline int32_t gt_terminal_reset(gt_terminal *t) {
@@ -645,6 +711,24 @@ static inline int32_t gt_terminal_next(gt_terminal *t, uint8_t *byte) {
 static inline int32_t gt_terminal_take(gt_terminal *t, uint8_t byte) {
     if (!t) return GT_NULL;
     return galliumtoad_terminal_take(t, byte);
+}
+
+/* Hands out what the terminal sends now, as `gt_exchange_send_bytes` of its operation: that goes
+ * from one of its commands to the next. GT_STATE: none has begun; `bytes` and `n` are as they were,
+ * also with room 0. */
+static inline int32_t gt_terminal_send_bytes(gt_terminal *t, uint8_t *bytes, size_t room,
+                                             size_t *n) {
+    uint8_t none = 0;
+    if (!t || (!bytes && room) || !n) return GT_NULL;
+    return galliumtoad_terminal_send_bytes(t, bytes ? bytes : &none, room, n);
+}
+
+/* Takes characters of the card, as `gt_exchange_receive_bytes`: GT_BAD_PROCEDURE, GT_TOO_LONG and
+ * GT_STALLED end the operation. GT_AFTER_END: it is over or has failed, or none has begun. */
+static inline int32_t gt_terminal_receive_bytes(gt_terminal *t, const uint8_t *bytes, size_t n,
+                                                size_t *taken) {
+    if (!t || (!bytes && n) || !taken) return GT_NULL;
+    return galliumtoad_terminal_receive_bytes(t, gt_bytes_(bytes), n, taken);
 }
 
 /* The whole TPDU that is due, as `gt_exchange_tpdu`. GT_NOT_DUE: also where no operation has
@@ -744,6 +828,32 @@ static inline int32_t gt_card_take(gt_card *c, uint8_t byte) {
 static inline int32_t gt_card_turn(gt_card *c, uint8_t *byte) {
     if (!c || !byte) return GT_NULL;
     return galliumtoad_card_turn(c, byte);
+}
+
+/* The next two pass characters by buffers: each is so many calls of the two above.
+ *
+ * Hands out what the card sends now, `room` characters at most: they stand at the front of `bytes`,
+ * and `n` gets how many. What stands behind them stays as it was.
+ *
+ * GT_OK: behind them the card waits for a character of the terminal; `n` may be 0. GT_SENDS:
+ * `bytes` is full, with `room` characters, and there may be more: ask again; so it is with room 0.
+ * GT_STATE: the card is not finished yet; `bytes` and `n` are as they were. */
+static inline int32_t gt_card_send_bytes(gt_card *c, uint8_t *bytes, size_t room, size_t *n) {
+    uint8_t none = 0;
+    if (!c || (!bytes && room) || !n) return GT_NULL;
+    return galliumtoad_card_send_bytes(c, bytes ? bytes : &none, room, n);
+}
+
+/* Takes `n` characters of the terminal, one after another, as many as the card waits for; `taken`
+ * gets how many.
+ *
+ * GT_OK: all were taken; so it is with `n` 0. GT_NOT_LISTENING: behind those taken the card has
+ * characters to send; `taken` is told, and the others were not looked at. GT_STATE: the card is not
+ * finished yet; `taken` is as it was. */
+static inline int32_t gt_card_receive_bytes(gt_card *c, const uint8_t *bytes, size_t n,
+                                            size_t *taken) {
+    if (!c || (!bytes && n) || !taken) return GT_NULL;
+    return galliumtoad_card_receive_bytes(c, gt_bytes_(bytes), n, taken);
 }
 
 /* Resets the card, at any time: a TPDU under way is dropped, nothing is selected or pending, and it

@@ -62,11 +62,22 @@ uint32_t galliumtoad_version(void) {
 int32_t galliumtoad_exchange_start(gt_exchange *e, const uint8_t *command, size_t n) {
     NOTE(P(e), P(command), n);
 }
+int32_t galliumtoad_exchange_start_within(gt_exchange *e, const uint8_t *command, size_t n,
+                                          size_t limit) {
+    NOTE(P(e), P(command), n, limit);
+}
 int32_t galliumtoad_exchange_next(gt_exchange *e, uint8_t *byte) {
     NOTE(P(e), P(byte));
 }
 int32_t galliumtoad_exchange_take(gt_exchange *e, uint8_t byte) {
     NOTE(P(e), byte);
+}
+int32_t galliumtoad_exchange_send_bytes(gt_exchange *e, uint8_t *bytes, size_t room, size_t *n) {
+    NOTE(P(e), P(bytes), room, P(n));
+}
+int32_t galliumtoad_exchange_receive_bytes(gt_exchange *e, const uint8_t *bytes, size_t n,
+                                           size_t *taken) {
+    NOTE(P(e), P(bytes), n, P(taken));
 }
 int32_t galliumtoad_exchange_answer(const gt_exchange *e, uint16_t *status, uint8_t *data,
                                     size_t room, size_t *len) {
@@ -84,6 +95,9 @@ void galliumtoad_exchange_free(gt_exchange *e) {
 }
 int32_t galliumtoad_terminal_new(gt_terminal *t) {
     NOTE(P(t));
+}
+int32_t galliumtoad_terminal_new_within(gt_terminal *t, size_t limit) {
+    NOTE(P(t), limit);
 }
 int32_t galliumtoad_terminal_reset(gt_terminal *t) {
     NOTE(P(t));
@@ -105,6 +119,13 @@ int32_t galliumtoad_terminal_next(gt_terminal *t, uint8_t *byte) {
 }
 int32_t galliumtoad_terminal_take(gt_terminal *t, uint8_t byte) {
     NOTE(P(t), byte);
+}
+int32_t galliumtoad_terminal_send_bytes(gt_terminal *t, uint8_t *bytes, size_t room, size_t *n) {
+    NOTE(P(t), P(bytes), room, P(n));
+}
+int32_t galliumtoad_terminal_receive_bytes(gt_terminal *t, const uint8_t *bytes, size_t n,
+                                           size_t *taken) {
+    NOTE(P(t), P(bytes), n, P(taken));
 }
 int32_t galliumtoad_terminal_tpdu(const gt_terminal *t, uint8_t *tpdu, size_t room, size_t *n,
                                   size_t *most) {
@@ -138,6 +159,13 @@ int32_t galliumtoad_card_take(gt_card *c, uint8_t byte) {
 }
 int32_t galliumtoad_card_turn(gt_card *c, uint8_t *byte) {
     NOTE(P(c), P(byte));
+}
+int32_t galliumtoad_card_send_bytes(gt_card *c, uint8_t *bytes, size_t room, size_t *n) {
+    NOTE(P(c), P(bytes), room, P(n));
+}
+int32_t galliumtoad_card_receive_bytes(gt_card *c, const uint8_t *bytes, size_t n,
+                                       size_t *taken) {
+    NOTE(P(c), P(bytes), n, P(taken));
 }
 int32_t galliumtoad_card_reset(gt_card *c) {
     NOTE(P(c));
@@ -356,6 +384,13 @@ static void of_an_exchange(void) {
     HANDS(gt_exchange_start(&e, NULL, 0), "exchange_start", P(&e), ANY, 0);
     REFUSES(gt_exchange_start(NULL, bytes, 5));
     REFUSES(gt_exchange_start(&e, NULL, 1));
+    HANDS(gt_exchange_start_within(&e, bytes, 16, 7), "exchange_start_within", P(&e), P(bytes), 16,
+          7);
+    HANDS(gt_exchange_start_within(&e, bytes, 0, SIZE_MAX), "exchange_start_within", P(&e),
+          P(bytes), 0, SIZE_MAX);
+    HANDS(gt_exchange_start_within(&e, NULL, 0, 0), "exchange_start_within", P(&e), ANY, 0, 0);
+    REFUSES(gt_exchange_start_within(NULL, bytes, 5, 7));
+    REFUSES(gt_exchange_start_within(&e, NULL, 1, 7));
     HANDS(gt_exchange_next(&e, &byte), "exchange_next", P(&e), P(&byte));
     REFUSES(gt_exchange_next(NULL, &byte));
     REFUSES(gt_exchange_next(&e, NULL));
@@ -404,6 +439,9 @@ static void of_a_terminal(void) {
     gt_terminal t = GT_INIT;
     HANDS(gt_terminal_new(&t), "terminal_new", P(&t));
     REFUSES(gt_terminal_new(NULL));
+    HANDS(gt_terminal_new_within(&t, 0), "terminal_new_within", P(&t), 0);
+    HANDS(gt_terminal_new_within(&t, SIZE_MAX), "terminal_new_within", P(&t), SIZE_MAX);
+    REFUSES(gt_terminal_new_within(NULL, 7));
     HANDS(gt_terminal_reset(&t), "terminal_reset", P(&t));
     REFUSES(gt_terminal_reset(NULL));
     HANDS(gt_terminal_select(&t, bytes, 16), "terminal_select", P(&t), P(bytes), 16);
@@ -454,6 +492,65 @@ static void of_a_terminal_s_line(void) {
     REFUSES(gt_terminal_answer(&t, NULL, bytes, 7, &count));
     REFUSES(gt_terminal_answer(&t, &status, NULL, 1, &count));
     REFUSES(gt_terminal_answer(&t, &status, bytes, 7, NULL));
+}
+
+static void of_buffers(void) {
+    gt_exchange e = GT_INIT;
+    gt_terminal t = GT_INIT;
+    gt_card c = GT_INIT;
+    HANDS(gt_exchange_send_bytes(&e, bytes, 7, &count), "exchange_send_bytes", P(&e), P(bytes), 7,
+          P(&count));
+    HANDS(gt_exchange_send_bytes(&e, bytes, 0, &count), "exchange_send_bytes", P(&e), P(bytes), 0,
+          P(&count));
+    HANDS(gt_exchange_send_bytes(&e, NULL, 0, &count), "exchange_send_bytes", P(&e), ANY, 0,
+          P(&count));
+    REFUSES(gt_exchange_send_bytes(NULL, bytes, 7, &count));
+    REFUSES(gt_exchange_send_bytes(&e, NULL, 1, &count));
+    REFUSES(gt_exchange_send_bytes(&e, bytes, 7, NULL));
+    HANDS(gt_exchange_receive_bytes(&e, bytes, 7, &count), "exchange_receive_bytes", P(&e),
+          P(bytes), 7, P(&count));
+    HANDS(gt_exchange_receive_bytes(&e, bytes, 0, &count), "exchange_receive_bytes", P(&e),
+          P(bytes), 0, P(&count));
+    HANDS(gt_exchange_receive_bytes(&e, NULL, 0, &count), "exchange_receive_bytes", P(&e), ANY, 0,
+          P(&count));
+    REFUSES(gt_exchange_receive_bytes(NULL, bytes, 7, &count));
+    REFUSES(gt_exchange_receive_bytes(&e, NULL, 1, &count));
+    REFUSES(gt_exchange_receive_bytes(&e, bytes, 7, NULL));
+    HANDS(gt_terminal_send_bytes(&t, bytes, 7, &count), "terminal_send_bytes", P(&t), P(bytes), 7,
+          P(&count));
+    HANDS(gt_terminal_send_bytes(&t, bytes, 0, &count), "terminal_send_bytes", P(&t), P(bytes), 0,
+          P(&count));
+    HANDS(gt_terminal_send_bytes(&t, NULL, 0, &count), "terminal_send_bytes", P(&t), ANY, 0,
+          P(&count));
+    REFUSES(gt_terminal_send_bytes(NULL, bytes, 7, &count));
+    REFUSES(gt_terminal_send_bytes(&t, NULL, 1, &count));
+    REFUSES(gt_terminal_send_bytes(&t, bytes, 7, NULL));
+    HANDS(gt_terminal_receive_bytes(&t, bytes, 7, &count), "terminal_receive_bytes", P(&t),
+          P(bytes), 7, P(&count));
+    HANDS(gt_terminal_receive_bytes(&t, bytes, 0, &count), "terminal_receive_bytes", P(&t),
+          P(bytes), 0, P(&count));
+    HANDS(gt_terminal_receive_bytes(&t, NULL, 0, &count), "terminal_receive_bytes", P(&t), ANY, 0,
+          P(&count));
+    REFUSES(gt_terminal_receive_bytes(NULL, bytes, 7, &count));
+    REFUSES(gt_terminal_receive_bytes(&t, NULL, 1, &count));
+    REFUSES(gt_terminal_receive_bytes(&t, bytes, 7, NULL));
+    HANDS(gt_card_send_bytes(&c, bytes, 7, &count), "card_send_bytes", P(&c), P(bytes), 7,
+          P(&count));
+    HANDS(gt_card_send_bytes(&c, bytes, 0, &count), "card_send_bytes", P(&c), P(bytes), 0,
+          P(&count));
+    HANDS(gt_card_send_bytes(&c, NULL, 0, &count), "card_send_bytes", P(&c), ANY, 0, P(&count));
+    REFUSES(gt_card_send_bytes(NULL, bytes, 7, &count));
+    REFUSES(gt_card_send_bytes(&c, NULL, 1, &count));
+    REFUSES(gt_card_send_bytes(&c, bytes, 7, NULL));
+    HANDS(gt_card_receive_bytes(&c, bytes, 7, &count), "card_receive_bytes", P(&c), P(bytes), 7,
+          P(&count));
+    HANDS(gt_card_receive_bytes(&c, bytes, 0, &count), "card_receive_bytes", P(&c), P(bytes), 0,
+          P(&count));
+    HANDS(gt_card_receive_bytes(&c, NULL, 0, &count), "card_receive_bytes", P(&c), ANY, 0,
+          P(&count));
+    REFUSES(gt_card_receive_bytes(NULL, bytes, 7, &count));
+    REFUSES(gt_card_receive_bytes(&c, NULL, 1, &count));
+    REFUSES(gt_card_receive_bytes(&c, bytes, 7, NULL));
 }
 
 static void of_a_card_under_construction(void) {
@@ -693,6 +790,7 @@ int main(void) {
     of_whole_tpdus();
     of_a_terminal();
     of_a_terminal_s_line();
+    of_buffers();
     of_a_card_under_construction();
     of_a_card();
     of_plans();

@@ -10,7 +10,32 @@ static int32_t start(gt_exchange *e) {
     return gt_exchange_start(e, command, sizeof command);
 }
 
+/* With a limit the response's room is that, and no more: each request is refused in turn, and then
+ * none. Of no bytes there is no request. */
+static void within(size_t limit) {
+    static const uint8_t command[261] = { 0x00, 0xA4, 0x04, 0x00, 255 };
+    const size_t times = limit > 0 ? 3 : 2;
+    gt_exchange e = GT_INIT;
+    uint8_t byte;
+    for (refused = 1; refused <= times; refused++) {
+        requests = 0;
+        CHECK(gt_exchange_start_within(&e, command, sizeof command, limit), GT_MEMORY);
+        CHECK(gt_exchange_next(&e, &byte), GT_EMPTY);
+        CHECK(taken, 0);
+    }
+    refused = 0;
+    requests = 0;
+    peak = 0;
+    CHECK(gt_exchange_start_within(&e, command, sizeof command, limit), GT_OK);
+    CHECK(requests, times);
+    CHECK(taken, 112 + limit + 255); /* as the header says */
+    CHECK(peak, taken);
+    gt_exchange_free(&e);
+    CHECK(taken, 0);
+}
+
 int main(void) {
+    static const size_t limits[] = { 0, 1, 255, 256, 16384 };
     gt_exchange e = GT_INIT;
     uint8_t byte;
     for (refused = 1; refused <= 3; refused++) {
@@ -28,5 +53,6 @@ int main(void) {
     gt_exchange_free(&e);
     CHECK(taken, 0);
     CHECK(requests, 3);
+    for (size_t i = 0; i < sizeof limits / sizeof *limits; i++) within(limits[i]);
     return check_result("memory");
 }

@@ -21,7 +21,35 @@ static int32_t begin(gt_terminal *t, int kind) {
 /* What goes to the card as data, of which a copy is kept. */
 static const size_t copies[] = { sizeof AID, 0, sizeof value, 255 };
 
+/* With a limit a terminal takes that for each response, and no more; its own memory is as ever. */
+static void within(size_t limit, size_t alone) {
+    gt_terminal t = GT_INIT;
+    requests = 0;
+    refused = 1;
+    CHECK(gt_terminal_new_within(&t, limit), GT_MEMORY);
+    CHECK(taken, 0);
+    refused = 0;
+    CHECK(gt_terminal_new_within(&t, limit), GT_OK);
+    CHECK(taken, alone);
+    for (int kind = 0; kind < 4; kind++) {
+        const size_t times = (size_t)(copies[kind] > 0) + (size_t)(limit > 0);
+        for (refused = 1; refused <= times; refused++) {
+            CHECK(begin(&t, kind), GT_MEMORY);
+            CHECK(taken, alone);
+        }
+        refused = 0;
+        CHECK(begin(&t, kind), GT_OK);
+        CHECK(requests, times);
+        CHECK(taken, alone + limit + copies[kind]);
+        CHECK(gt_terminal_reset(&t), GT_OK);
+        CHECK(taken, alone);
+    }
+    gt_terminal_free(&t);
+    CHECK(taken, 0);
+}
+
 int main(void) {
+    static const size_t limits[] = { 0, 1, 255, 256, 16384 };
     gt_terminal t = GT_INIT;
     uint8_t byte = 0;
     uint16_t status = 0;
@@ -35,7 +63,7 @@ int main(void) {
     CHECK(gt_terminal_new(&t), GT_OK);
     CHECK(requests, 1);
     const size_t alone = taken;
-    CHECK(alone, 144); /* as the header says */
+    CHECK(alone, 152); /* as the header says */
     for (int kind = 0; kind < 4; kind++) {
         const size_t times = copies[kind] ? 2 : 1;
         for (refused = 1; refused <= times; refused++) {
@@ -69,5 +97,6 @@ int main(void) {
     CHECK(begin(&t, 2), GT_OK);
     gt_terminal_free(&t);
     CHECK(taken, 0);
+    for (size_t i = 0; i < sizeof limits / sizeof *limits; i++) within(limits[i], alone);
     return check_result("memory_terminal");
 }

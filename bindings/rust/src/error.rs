@@ -35,7 +35,7 @@ pub enum Error {
     NotListening,
     /// Neither a procedure byte nor a first status byte where one is due.
     BadProcedure,
-    /// The response has more than 16,384 bytes.
+    /// The response has more bytes than it may: 16,384, or a limit below.
     TooLong,
     /// A GET RESPONSE has brought nothing, and the card announces more.
     Stalled,

@@ -3,7 +3,7 @@
 use crate::error::{told, Error};
 use crate::raw::{self, Handle};
 
-/// The most data bytes that an answer has.
+/// The most data bytes that an answer has, where there is no limit below.
 pub const RESPONSE_LIMIT: usize = 16_384;
 
 /// What an end does when it is asked.
@@ -75,6 +75,27 @@ impl Exchange {
         // SAFETY: a handle that holds nothing; a slice with its length.
         told(unsafe {
             raw::galliumtoad_exchange_start(exchange.0.at(), command.as_ptr(), command.len())
+        })?;
+        Ok(exchange)
+    }
+
+    /// The exchange of a command whose response may have so many bytes, 0 to [`RESPONSE_LIMIT`]:
+    /// no more memory is taken for it, and the first byte that is over is [`Error::TooLong`].
+    ///
+    /// # Errors
+    ///
+    /// Those of [`start`](Exchange::start), and [`Error::Argument`] for a limit above
+    /// [`RESPONSE_LIMIT`].
+    pub fn start_within(command: &[u8], limit: usize) -> Result<Exchange, Error> {
+        let exchange = Exchange(Handle::empty());
+        // SAFETY: a handle that holds nothing; a slice with its length.
+        told(unsafe {
+            raw::galliumtoad_exchange_start_within(
+                exchange.0.at(),
+                command.as_ptr(),
+                command.len(),
+                limit,
+            )
         })?;
         Ok(exchange)
     }

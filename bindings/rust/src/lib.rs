@@ -23,6 +23,7 @@
 //! ```
 
 mod atr;
+mod buffers;
 mod card;
 mod error;
 mod exchange;
@@ -42,6 +43,7 @@ pub use atr::{
     Atr, AtrError, AtrReason, Category, Classes, ClockStop, Convention, GuardTime, Mode,
 };
 pub use atr::{ATR_LIMIT, PROTOCOLS_LIMIT};
+pub use buffers::{ReceiveError, Sent, Stop};
 pub use card::{Card, CardBuilder, Entry};
 pub use card::{AID_LEAST, AID_LIMIT, APPS_LIMIT, ENTRIES_LIMIT, OBJECT_LIMIT, VALUE_LIMIT};
 pub use error::Error;

@@ -128,8 +128,17 @@ declared! {
     fn galliumtoad_pps_agreed(request: *const u8, n: usize, response: *const u8, m: usize);
 
     fn galliumtoad_exchange_start(e: *mut Held, command: *const u8, n: usize);
+    fn galliumtoad_exchange_start_within(
+        e: *mut Held, command: *const u8, n: usize, limit: usize
+    );
     fn galliumtoad_exchange_next(e: *mut Held, byte: *mut u8);
     fn galliumtoad_exchange_take(e: *mut Held, byte: u8);
+    fn galliumtoad_exchange_send_bytes(
+        e: *mut Held, bytes: *mut u8, room: usize, n: *mut usize
+    );
+    fn galliumtoad_exchange_receive_bytes(
+        e: *mut Held, bytes: *const u8, n: usize, taken: *mut usize
+    );
     fn galliumtoad_exchange_answer(
         e: *const Held, status: *mut u16, data: *mut u8, room: usize, len: *mut usize
     );
@@ -140,6 +149,7 @@ declared! {
     fn galliumtoad_exchange_answered(e: *mut Held, answer: *const u8, n: usize);
 
     fn galliumtoad_terminal_new(t: *mut Held);
+    fn galliumtoad_terminal_new_within(t: *mut Held, limit: usize);
     fn galliumtoad_terminal_reset(t: *mut Held);
     fn galliumtoad_terminal_select(t: *mut Held, aid: *const u8, n: usize);
     fn galliumtoad_terminal_get(t: *mut Held, tag: u32);
@@ -147,6 +157,12 @@ declared! {
     fn galliumtoad_terminal_send(t: *mut Held, command: *const u8, n: usize);
     fn galliumtoad_terminal_next(t: *mut Held, byte: *mut u8);
     fn galliumtoad_terminal_take(t: *mut Held, byte: u8);
+    fn galliumtoad_terminal_send_bytes(
+        t: *mut Held, bytes: *mut u8, room: usize, n: *mut usize
+    );
+    fn galliumtoad_terminal_receive_bytes(
+        t: *mut Held, bytes: *const u8, n: usize, taken: *mut usize
+    );
     fn galliumtoad_terminal_tpdu(
         t: *const Held, tpdu: *mut u8, room: usize, n: *mut usize, most: *mut usize
     );
@@ -163,6 +179,12 @@ declared! {
     fn galliumtoad_card_finish(c: *mut Held);
     fn galliumtoad_card_take(c: *mut Held, byte: u8);
     fn galliumtoad_card_turn(c: *mut Held, byte: *mut u8);
+    fn galliumtoad_card_send_bytes(
+        c: *mut Held, bytes: *mut u8, room: usize, n: *mut usize
+    );
+    fn galliumtoad_card_receive_bytes(
+        c: *mut Held, bytes: *const u8, n: usize, taken: *mut usize
+    );
     fn galliumtoad_card_reset(c: *mut Held);
     fn galliumtoad_card_tpdu(
         c: *mut Held, tpdu: *const u8, n: usize, answer: *mut u8, room: usize, len: *mut usize

@@ -41,7 +41,7 @@ pub enum Operation<'a> {
 /// # Ok::<(), galliumtoad::Error>(())
 /// ```
 #[derive(Debug)]
-pub struct Terminal(Handle);
+pub struct Terminal(pub(crate) Handle);
 
 impl Terminal {
     /// A terminal with nothing under way.
@@ -49,6 +49,16 @@ impl Terminal {
         let terminal = Terminal(Handle::empty());
         // SAFETY: the handle holds nothing.
         told(unsafe { raw::galliumtoad_terminal_new(terminal.0.at()) })?;
+        Ok(terminal)
+    }
+
+    /// A terminal with nothing under way, where the response to a command may have so many bytes,
+    /// 0 to [`RESPONSE_LIMIT`]: no operation takes more memory for it, and the first byte that is
+    /// over is [`Error::TooLong`]. [`Error::Argument`]: the limit is above that.
+    pub fn new_within(limit: usize) -> Result<Terminal, Error> {
+        let terminal = Terminal(Handle::empty());
+        // SAFETY: the handle holds nothing.
+        told(unsafe { raw::galliumtoad_terminal_new_within(terminal.0.at(), limit) })?;
         Ok(terminal)
     }
 

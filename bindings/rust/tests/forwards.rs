@@ -3,7 +3,7 @@
 //! nothing that a program could see, as the handles of a card and of a session hold the same thing.
 
 use galliumtoad::{find, head, version, version_fits, Atr, Card, CardBuilder, Error, Exchange};
-use galliumtoad::{Objects, Operation, Pps, Session, Terminal, Turn};
+use galliumtoad::{Objects, Operation, Pps, ReceiveError, Sent, Session, Stop, Terminal, Turn};
 use std::cell::{Cell, RefCell};
 use std::ffi::c_void;
 
@@ -47,13 +47,17 @@ stand_in! {
     );
     galliumtoad_pps_agreed(request: At, n: usize, response: At, m: usize);
     galliumtoad_exchange_start(e: At, command: At, n: usize);
+    galliumtoad_exchange_start_within(e: At, command: At, n: usize, limit: usize);
     galliumtoad_exchange_next(e: At, byte: At);
     galliumtoad_exchange_take(e: At, byte: u8);
+    galliumtoad_exchange_send_bytes(e: At, bytes: At, room: usize, n: At);
+    galliumtoad_exchange_receive_bytes(e: At, bytes: At, n: usize, taken: At);
     galliumtoad_exchange_answer(e: At, status: At, data: At, room: usize, len: At);
     galliumtoad_exchange_tpdu(e: At, tpdu: At, room: usize, n: At, most: At);
     galliumtoad_exchange_answered(e: At, answer: At, n: usize);
     galliumtoad_exchange_free(e: At);
     galliumtoad_terminal_new(t: At);
+    galliumtoad_terminal_new_within(t: At, limit: usize);
     galliumtoad_terminal_reset(t: At);
     galliumtoad_terminal_select(t: At, aid: At, n: usize);
     galliumtoad_terminal_get(t: At, tag: u32);
@@ -61,6 +65,8 @@ stand_in! {
     galliumtoad_terminal_send(t: At, command: At, n: usize);
     galliumtoad_terminal_next(t: At, byte: At);
     galliumtoad_terminal_take(t: At, byte: u8);
+    galliumtoad_terminal_send_bytes(t: At, bytes: At, room: usize, n: At);
+    galliumtoad_terminal_receive_bytes(t: At, bytes: At, n: usize, taken: At);
     galliumtoad_terminal_tpdu(t: At, tpdu: At, room: usize, n: At, most: At);
     galliumtoad_terminal_answered(t: At, answer: At, n: usize);
     galliumtoad_terminal_answer(t: At, status: At, data: At, room: usize, len: At);
@@ -71,6 +77,8 @@ stand_in! {
     galliumtoad_card_finish(c: At);
     galliumtoad_card_take(c: At, byte: u8);
     galliumtoad_card_turn(c: At, byte: At);
+    galliumtoad_card_send_bytes(c: At, bytes: At, room: usize, n: At);
+    galliumtoad_card_receive_bytes(c: At, bytes: At, n: usize, taken: At);
     galliumtoad_card_reset(c: At);
     galliumtoad_card_tpdu(c: At, tpdu: At, n: usize, answer: At, room: usize, len: At);
     galliumtoad_card_plan(c: At, steps: At, n: usize, cut: u16);
@@ -258,6 +266,81 @@ fn of_a_terminal() {
     let _ = hands(|| it.answer(), &[("terminal_answer", &wanted)]);
     let _ = hands(|| it.reset(), &[("terminal_reset", &[ANY])]);
     hands(|| drop(it), &[("terminal_free", &[ANY])]);
+}
+
+/// Limits are handed on as they are, and what the archive makes of them is told.
+#[test]
+fn of_limits() {
+    for limit in [0, 1, 16_384, 16_385, usize::MAX - 1] {
+        tell(0);
+        let wanted: [(&str, &[usize]); 1] =
+            [("exchange_start_within", &[ANY, at(&BYTES), 7, limit])];
+        let it = hands(|| Exchange::start_within(&BYTES, limit), &wanted);
+        hands(|| drop(it), &[("exchange_free", &[ANY])]);
+        let wanted: [(&str, &[usize]); 1] = [("terminal_new_within", &[ANY, limit])];
+        let it = hands(|| Terminal::new_within(limit), &wanted);
+        hands(|| drop(it), &[("terminal_free", &[ANY])]);
+        tell(-5);
+        let exchange = Exchange::start_within(&BYTES, limit);
+        assert_eq!(exchange.err(), Some(Error::Argument));
+        assert_eq!(Terminal::new_within(limit).err(), Some(Error::Argument));
+    }
+    tell(0);
+}
+
+/// Each end by buffers; a buffer without room is handed on as one.
+#[test]
+fn of_buffers() {
+    let mut exchange = Exchange::start(&BYTES).expect("started");
+    let mut terminal = Terminal::new().expect("a terminal");
+    let mut card = card();
+    let mut room = [0; 9];
+    for size in [0, 5, 9] {
+        let room = &mut room[..size];
+        let bytes = &BYTES[..size.min(7)];
+        let sends = [ANY, at(room), size, ANY];
+        let receives = [ANY, at(bytes), bytes.len(), ANY];
+        let wanted = ("exchange_send_bytes", &sends[..]);
+        let _ = hands(|| exchange.send_bytes(room), &[wanted]);
+        let wanted = ("exchange_receive_bytes", &receives[..]);
+        let _ = hands(|| exchange.receive_bytes(bytes), &[wanted]);
+        let wanted = ("terminal_send_bytes", &sends[..]);
+        let _ = hands(|| terminal.send_bytes(room), &[wanted]);
+        let wanted = ("terminal_receive_bytes", &receives[..]);
+        let _ = hands(|| terminal.receive_bytes(bytes), &[wanted]);
+        let wanted = ("card_send_bytes", &sends[..]);
+        let _ = hands(|| card.send_bytes(room), &[wanted]);
+        let wanted = ("card_receive_bytes", &receives[..]);
+        let _ = hands(|| card.receive_bytes(bytes), &[wanted]);
+    }
+}
+
+/// Why a buffer has no more, and how many of one were taken, of each end and each code.
+#[test]
+fn of_what_buffers_tell() {
+    let mut exchange = Exchange::start(&BYTES).expect("started");
+    let mut terminal = Terminal::new().expect("a terminal");
+    let mut card = card();
+    let sent = |stop| Ok(Sent { count: 0, stop });
+    for (code, stop, taking) in [
+        (0, sent(Stop::Listens), Ok(())),
+        (1, sent(Stop::Full), Ok(())),
+        (2, sent(Stop::Done), Ok(())),
+        (-3, Err(Error::State), Err(Error::State)),
+        (-9, Err(Error::Failed), Err(Error::Failed)),
+        (-30, Err(Error::NotListening), Err(Error::NotListening)),
+        (-34, Err(Error::AfterEnd), Err(Error::AfterEnd)),
+    ] {
+        tell(code);
+        let taking = taking.map_err(|error| ReceiveError { taken: 0, error });
+        assert_eq!(exchange.send_bytes(&mut []), stop);
+        assert_eq!(exchange.receive_bytes(&[]), taking);
+        assert_eq!(terminal.send_bytes(&mut []), stop);
+        assert_eq!(terminal.receive_bytes(&[]), taking);
+        assert_eq!(card.send_bytes(&mut []), stop);
+        assert_eq!(card.receive_bytes(&[]), taking);
+    }
+    tell(0);
 }
 
 #[test]

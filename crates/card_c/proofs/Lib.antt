@@ -1,4 +1,5 @@
 pub mod AtrLemmas
+pub mod BufferLemmas
 pub mod CardHeldValues
 pub mod CardTpduLemmas
 pub mod FindLemmas

@@ -83,22 +83,37 @@ abbrev pub LeadsOn : Event → EndOf CardView → EndOf CardView → Type 0
 LeadsOn event old new = (first : CardState) (events : List Event) → HaveLed first events old
     → HaveLed first (events ++ event ∷ []) new
 
+-- A card that listens takes this character of the terminal.
+abbrev pub TakesCharacter : EndOf CardView → ℕ → EndOf CardView → Type 0
+TakesCharacter end byte next = (listens end.stage ≡ true)
+    × (next ≡ record end { stage = with_character end.stage byte })
+    × LeadsOn (Passed (Terminal, byte)) end next
+    × ((first : CardState) (came : List Character) (taken : List Course)
+    → HaveLedUnder first came taken end
+    → HaveLedUnder first (came ++ (Terminal, byte) ∷ []) taken next)
+
 -- A character of the terminal is taken where the card listens.
 abbrev pub TakesOne : ℕ → CardSide → ℤ → CardSide → Type 0
 TakesOne byte (Building applications) code new = (code ≡ gt_state) × (new ≡ Building applications)
 TakesOne byte (Joined session) code new = (code ≡ gt_state) × (new ≡ Joined session)
 TakesOne byte (Standing end plans) code new =
     ((listens end.stage ≡ false) × (code ≡ line_code NotListening) × (new ≡ Standing end plans))
-    ⊎ ((next : EndOf CardView) × (listens end.stage ≡ true) × (code ≡ gt_ok)
-    × (new ≡ Standing next plans)
-    × (next ≡ record end { stage = with_character end.stage byte })
-    × LeadsOn (Passed (Terminal, byte)) end next
+    ⊎ ((next : EndOf CardView) × (code ≡ gt_ok) × (new ≡ Standing next plans)
+    × TakesCharacter end byte next)
+
+-- A card that does not listen hands out this character, under the plan kept, or the next one where
+-- it begins to answer.
+abbrev pub HandsOutCharacter : EndOf CardView → Cursor → ℕ → EndOf CardView → Cursor → Type 0
+HandsOutCharacter end plans byte next left = (listens end.stage ≡ false)
+    × (left ≡ (if takes_plan end.stage then advanced plans else plans))
+    × LeadsOn (Passed (Card, byte)) end next
     × ((first : CardState) (came : List Character) (taken : List Course)
     → HaveLedUnder first came taken end
-    → HaveLedUnder first (came ++ (Terminal, byte) ∷ []) taken next))
+    → (takes_plan end.stage ≡ false → IsTakenLast (plan_kept plans) taken)
+    → HaveLedUnder first (came ++ (Card, byte) ∷ [])
+    (if takes_plan end.stage then taken ++ plan_kept left ∷ [] else taken) next)
 
--- The card's next character, where it does not listen, under the plan kept, or the next one where
--- it begins to answer.
+-- The card's next character, where it does not listen.
 abbrev pub Turns : ℕ → ℕ → CardSide → ℤ → CardSide → Type 0
 Turns before byte (Building applications) code new =
     (code ≡ gt_state) × (new ≡ Building applications) × (byte ≡ before)
@@ -106,15 +121,8 @@ Turns before byte (Joined session) code new =
     (code ≡ gt_state) × (new ≡ Joined session) × (byte ≡ before)
 Turns before byte (Standing end plans) code new =
     ((listens end.stage ≡ true) × (code ≡ gt_ok) × (new ≡ Standing end plans) × (byte ≡ before))
-    ⊎ ((next : EndOf CardView) × (left : Cursor) × (listens end.stage ≡ false)
-    × (code ≡ gt_sends) × (new ≡ Standing next left)
-    × (left ≡ (if takes_plan end.stage then advanced plans else plans))
-    × LeadsOn (Passed (Card, byte)) end next
-    × ((first : CardState) (came : List Character) (taken : List Course)
-    → HaveLedUnder first came taken end
-    → (takes_plan end.stage ≡ false → IsTakenLast (plan_kept plans) taken)
-    → HaveLedUnder first (came ++ (Card, byte) ∷ [])
-    (if takes_plan end.stage then taken ++ plan_kept left ∷ [] else taken) next))
+    ⊎ ((next : EndOf CardView) × (left : Cursor) × (code ≡ gt_sends) × (new ≡ Standing next left)
+    × HandsOutCharacter end plans byte next left)
 
 -- The card is reset; the plans stay.
 abbrev pub Resets : CardSide → ℤ → CardSide → Type 0

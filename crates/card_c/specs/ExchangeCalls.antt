@@ -8,9 +8,9 @@ use Rattle.t0_core.specs.declared.host_end.HostTurn.{HostTurn}
 use Rattle.t0_core.specs.declared.host_end.HostTurn.TheVariants.{Sends, Listens, Done, Failed}
 use Rattle.t0_core.specs.declared.line_fault.LineFault.{LineFault}
 use Rattle.t0_core.specs.Front.{fresh}
-use Rattle.card_terminal.specs.ExchangeSide.{ExchangeOf, UnderWay}
+use Rattle.card_terminal.specs.ExchangeSide.{ExchangeOf, UnderWay, response_limit}
 use Rattle.card_terminal.specs.ExchangeHistory.{ComesTo}
-use Rattle.card_c.specs.Codes.{gt_ok, gt_sends, gt_done, gt_failed, gt_state, gt_memory, line_code, command_code}
+use Rattle.card_c.specs.Codes.{gt_ok, gt_sends, gt_done, gt_failed, gt_state, gt_memory, gt_argument, line_code, command_code}
 use Rattle.card_c.specs.Copying.{GoesOut}
 
 -- why these bytes are no command
@@ -19,15 +19,22 @@ AreNone bytes TooShort = length bytes < 4
 AreNone bytes BadLength = (4 ≤ length bytes) × (HasForm bytes → ⊥)
 AreNone bytes InvalidIns = (c : Command) × HasInvalidIns c × (bytes ≡ command_bytes c)
 
--- why no exchange of these bytes is begun: they are no command, or memory is wanting
-abbrev pub IsRefused : List ℕ → ℤ → Type 0
-IsRefused bytes code = ((fault : ApduFault) × AreNone bytes fault × (code ≡ command_code fault))
-    ⊎ ((code ≡ gt_memory) × ((c : Command) × IsCommand c × (bytes ≡ command_bytes c)))
+-- the bytes are a command
+abbrev pub AreCommand : List ℕ → Type 0
+AreCommand bytes = (c : Command) × IsCommand c × (bytes ≡ command_bytes c)
+
+-- why no exchange of these bytes, with this limit on its response, is begun: they are no command,
+-- or the limit is over the most that there may be, or memory is wanting
+abbrev pub IsRefused : List ℕ → ℕ → ℤ → Type 0
+IsRefused bytes limit code =
+    ((fault : ApduFault) × AreNone bytes fault × (code ≡ command_code fault))
+    ⊎ ((code ≡ gt_argument) × (response_limit < limit) × AreCommand bytes)
+    ⊎ ((code ≡ gt_memory) × (limit ≤ response_limit) × AreCommand bytes)
 
 -- an exchange of the command that the bytes are, before its first character
-abbrev pub IsBegun : List ℕ → ExchangeOf → Type 0
-IsBegun bytes ex = (c : Command) × IsCommand c × (bytes ≡ command_bytes c)
-    × UnderWay c ex [] None fresh × ComesTo c [] ex
+abbrev pub IsBegun : List ℕ → ℕ → ExchangeOf → Type 0
+IsBegun bytes limit ex = (c : Command) × IsCommand c × (bytes ≡ command_bytes c)
+    × (ex.gather.limit ≡ limit) × UnderWay c ex [] None fresh × ComesTo c [] ex
 
 -- what a turn of the terminal is called, and the character that it hands out
 abbrev pub turn_code : HostTurn → ℤ

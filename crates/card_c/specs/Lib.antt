@@ -1,4 +1,5 @@
 pub mod AtrCalls
+pub mod BufferCalls
 pub mod CardCalls
 pub mod CardHandle
 pub mod CardTpduCalls

@@ -1,5 +1,5 @@
 -- What the calls on a terminal's handle do to what it holds. A refusal leaves it as it was.
-use Rattle.std.specs.Prelude.{◌≡◌, ◌⊎◌, ℕ, ℤ, List, [], ◌∷◌, Option, Some, None, Result, Ok, Err, MatchOption, if◌then◌else◌}
+use Rattle.std.specs.Prelude.{◌≡◌, ◌<◌, ◌≤◌, ◌⊎◌, ℕ, ℤ, List, [], ◌∷◌, Option, Some, None, Result, Ok, Err, MatchOption, if◌then◌else◌}
 use Rattle.apdu_core.specs.declared.command.ApduFault.{ApduFault}
 use Rattle.apdu_core.specs.CommandBytes.{Command, IsCommand, command_bytes}
 use Rattle.apdu_core.specs.StatusWord.{StatusWord}
@@ -12,7 +12,8 @@ use Rattle.object_card.specs.OneStep.{Select, Get, Put}
 use Rattle.card_terminal.specs.declared.terminal.begin_fault.BeginFault.{BeginFault}
 use Rattle.card_terminal.specs.declared.terminal.begin_fault.BeginFault.TheVariants.{OutOfMemory, UnderWay}
 use Rattle.card_terminal.specs.Talk.{AreCommandsOf}
-use Rattle.card_terminal.specs.TerminalSide.{OperationOf, is_going}
+use Rattle.card_terminal.specs.ExchangeSide.{response_limit}
+use Rattle.card_terminal.specs.TerminalSide.{TerminalOf, OperationOf, KeepsLimit, at_rest, is_going}
 use Rattle.card_terminal.specs.TerminalSteps.{IsBeginning, IsTerminalTurn, IsTerminalTaking, IsTerminalAnswering, IsTerminalAnswer}
 use Rattle.card_c.specs.declared.operating_side.OperatingSide.{OperatingSide}
 use Rattle.card_c.specs.Codes.{gt_ok, gt_empty, gt_state, gt_memory, gt_argument, gt_no_status, command_code}
@@ -20,19 +21,29 @@ use Rattle.card_c.specs.ExchangeCalls.{AreNone, turn_code, turn_byte, taking_cod
 use Rattle.card_c.specs.TagNumbers.{IsNumbered}
 use Rattle.card_c.specs.TpduCalls.{AreAnswer, answered_code, due_of}
 
+-- The limit on responses stays, and is the room of the operation's exchange; or nothing changes at
+-- all.
+abbrev pub KeepsRoom : TerminalOf → TerminalOf → Type 0
+KeepsRoom old new = KeepsLimit old new ⊎ (new ≡ old)
+
 -- A call on a handle: one that holds nothing says so, and stays so; what another holds is as this
 -- says, and it stays live.
 abbrev pub OnTerminal : (Option OperationOf → ℤ → Option OperationOf → Type 0)
     → Option OperatingSide → ℤ → Option OperatingSide → Type 0
 OnTerminal Does None code new = (code ≡ gt_empty) × (new ≡ None)
 OnTerminal Does (Some old) code new =
-    MatchOption new ⊥ (λ side. Does old.terminal code side.terminal)
+    MatchOption new ⊥ (λ side. Does old.terminal.operation code side.terminal.operation
+    × KeepsRoom old.terminal side.terminal)
 
--- a terminal in a handle that held nothing, which has begun no operation
-abbrev pub HasBegun : Option OperatingSide → ℤ → Option OperatingSide → Type 0
-HasBegun (Some old) code new = (code ≡ gt_state) × (new ≡ Some old)
-HasBegun None code new = ((code ≡ gt_memory) × (new ≡ None))
-    ⊎ ((code ≡ gt_ok) × MatchOption new ⊥ (λ side. side.terminal ≡ None))
+-- a terminal in a handle that held nothing, which has begun no operation, with this limit on
+-- responses
+abbrev pub HasBegun : ℕ → Option OperatingSide → ℤ → Option OperatingSide → Type 0
+HasBegun limit (Some old) code new = (code ≡ gt_state) × (new ≡ Some old)
+HasBegun limit None code new =
+    ((response_limit < limit) × (code ≡ gt_argument) × (new ≡ None))
+    ⊎ ((limit ≤ response_limit) × (code ≡ gt_memory) × (new ≡ None))
+    ⊎ ((limit ≤ response_limit) × (code ≡ gt_ok)
+    × MatchOption new ⊥ (λ side. side.terminal ≡ at_rest limit))
 
 -- the operation under way is dropped
 abbrev pub Resets : Option OperationOf → ℤ → Option OperationOf → Type 0

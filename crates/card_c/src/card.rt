@@ -1,14 +1,15 @@
 //! A card, which C builds and then drives character by character.
-ghost use Rattle.std.specs.Prelude.{◌≡◌, ◌≢◌, ◌==◌, not, pos, None};
+ghost use Rattle.std.specs.Prelude.{◌≡◌, ◌≢◌, ◌==◌, not, pos, true, None, MatchOption};
+ghost use Rattle.t0_core.specs.CardSide.{listens};
 ghost use Rattle.card_c.specs.CardHandle.{held_by, OnHandle};
-ghost use Rattle.card_c.specs.CardCalls.{Begins, AddsApplication, AddsObject, Finishes, TakesOne, Turns, Resets};
+ghost use Rattle.card_c.specs.CardCalls.{Begins, AddsApplication, AddsObject, Finishes, TakesOne, HandsOutCharacter, Turns, Resets};
 
 use crate::card_held::GtCard;
 use crate::card_side::CardSide;
 use crate::code;
 use crate::plan_queue::PlanQueue;
 use crate::tag_number::tag_of;
-use object_card::{Aid, CardBuilder};
+use object_card::{Aid, CardBuilder, ObjectCard};
 use std::alloc::Global;
 use std::mem;
 use t0_core::{CardEnd, LineFault, Turn};
@@ -184,17 +185,28 @@ fn turn(side: &mut CardSide, byte: &mut u8) -> i32
     let CardSide::Standing(end, plans) = side else {
         return code::STATE;
     };
+    let Some(sent) = next_of(end, plans) else {
+        return code::OK;
+    };
+    *byte = sent;
+    code::SENDS
+}
+
+/// The next character of a card's end, under the plans for it; `None` where it listens.
+#[inline(always)]
+pub(crate) fn next_of(end: &mut CardEnd<ObjectCard>, plans: &mut PlanQueue) -> Option<u8>
+    ensures { MatchOption result
+        ((listens end.old.stage ≡ true) × (end.new ≡ end.old) × (plans.new ≡ plans.old))
+        (λ byte. HandsOutCharacter end.old plans.old byte end.new plans.new) }
+{
     let takes_plan = end.takes_plan();
-    match end.turn(&mut plans.cursor()) {
-        Turn::Listens => code::OK,
-        Turn::Sends(sent) => {
-            if takes_plan {
-                plans.advance();
-            }
-            *byte = sent;
-            code::SENDS
-        }
+    let Turn::Sends(byte) = end.turn(&mut plans.cursor()) else {
+        return None;
+    };
+    if takes_plan {
+        plans.advance();
     }
+    Some(byte)
 }
 
 /// Resets the card, at any time, and drops the TPDU under way.

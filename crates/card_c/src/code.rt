@@ -1,11 +1,13 @@
 //! The codes that exports answer: one list, whose numbers are fixed. The header has it too.
 ghost use Rattle.std.specs.Prelude.{◌≡◌};
 ghost use Rattle.card_c.specs.Codes.{answer_code, atr_code, builder_code, command_code, line_code, pps_code, reason_code, tpdu_code};
+ghost use Rattle.card_c.specs.ExchangeCalls.{turn_code, taking_code};
+ghost use Rattle.card_c.specs.BufferCalls.{stop_code};
 
 use apdu_core::ApduFault;
 use atr_core::{PpsFault, Reason as AtrReason};
 use object_card::BuilderFault;
-use t0_core::{AnswerFault, LineFault, TpduFault};
+use t0_core::{AnswerFault, HostTurn, LineFault, TpduFault};
 use tlv_core::Reason;
 
 /// It went well; of a turn, the end listens.
@@ -64,6 +66,38 @@ pub fn of_builder(fault: BuilderFault) -> i32
         BuilderFault::ValueTooLong => -23,
         BuilderFault::NotObjects => -24,
         BuilderFault::Full => -25,
+    }
+}
+
+/// What a terminal does that has a turn.
+pub fn of_turn(turn: HostTurn) -> i32
+    ensures { result ≡ turn_code turn }
+{
+    match turn {
+        HostTurn::Sends(_) => SENDS,
+        HostTurn::Listens => OK,
+        HostTurn::Done(_) => DONE,
+        HostTurn::Failed => FAILED,
+    }
+}
+
+/// Why a terminal hands no more into a buffer.
+pub fn of_stop(stop: Option<HostTurn>) -> i32
+    ensures { result ≡ stop_code stop }
+{
+    match stop {
+        None => SENDS,
+        Some(turn) => of_turn(turn),
+    }
+}
+
+/// How characters are taken.
+pub fn of_taking(taken: Result<(), LineFault>) -> i32
+    ensures { result ≡ taking_code taken }
+{
+    match taken {
+        Ok(()) => OK,
+        Err(fault) => of_line(fault),
     }
 }
 

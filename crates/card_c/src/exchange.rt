@@ -2,7 +2,7 @@
 ghost use Rattle.std.specs.Prelude.{◌≡◌, ℕ, List, Option, Some, None, IsSome, IfSome, IfOk, IfErr, Result};
 ghost use Rattle.apdu_core.specs.StatusWord.{StatusWord};
 ghost use Rattle.t0_core.specs.declared.line_fault.LineFault.{LineFault};
-ghost use Rattle.card_terminal.specs.ExchangeSide.{exchange_turn};
+ghost use Rattle.card_terminal.specs.ExchangeSide.{exchange_turn, response_limit};
 ghost use Rattle.card_terminal.specs.ExchangeSteps.{IsTurn, IsTaking, IsAnswer};
 ghost use Rattle.card_c.specs.Codes.{gt_ok, gt_empty, gt_state};
 ghost use Rattle.card_c.specs.declared.terminal_side.TerminalSide.{TerminalSide};
@@ -14,7 +14,7 @@ use crate::copied::copied;
 use crate::held_exchange::ExchangeHandle;
 use crate::terminal_side::TerminalSide;
 use apdu_core::Command;
-use card_terminal::OwnedExchange;
+use card_terminal::{OwnedExchange, RESPONSE_LIMIT, StartFault};
 use std::alloc::Global;
 use t0_core::HostTurn;
 
@@ -28,14 +28,43 @@ pub extern "C" fn galliumtoad_exchange_start(
     ensures held { IsSome (exchange_in exchange.old)
         → (result ≡ gt_state) × (exchange_in exchange.new ≡ exchange_in exchange.old) }
     ensures refused { exchange_in exchange.old ≡ None → exchange_in exchange.new ≡ None
-        → IsRefused command.now result }
+        → IsRefused command.now response_limit result }
     ensures begun { exchange_in exchange.old ≡ None → IfSome (exchange_in exchange.new)
-        (λ side. (result ≡ gt_ok) × IsBegun command.now side.exchange) }
+        (λ side. (result ≡ gt_ok) × IsBegun command.now response_limit side.exchange) }
+{
+    start(alloc, exchange, command, RESPONSE_LIMIT)
+}
+
+/// Begins the exchange of a command whose response may have so many bytes.
+#[unsafe(no_mangle)]
+pub extern "C" fn galliumtoad_exchange_start_within(
+    alloc: Global,
+    exchange: &mut ExchangeHandle,
+    command: &[u8],
+    limit: usize,
+) -> i32
+    ensures held { IsSome (exchange_in exchange.old)
+        → (result ≡ gt_state) × (exchange_in exchange.new ≡ exchange_in exchange.old) }
+    ensures refused { exchange_in exchange.old ≡ None → exchange_in exchange.new ≡ None
+        → IsRefused command.now limit result }
+    ensures begun { exchange_in exchange.old ≡ None → IfSome (exchange_in exchange.new)
+        (λ side. (result ≡ gt_ok) × IsBegun command.now limit side.exchange) }
+{
+    start(alloc, exchange, command, limit)
+}
+
+fn start(alloc: Global, exchange: &mut ExchangeHandle, command: &[u8], limit: usize) -> i32
+    ensures held { IsSome (exchange_in exchange.old)
+        → (result ≡ gt_state) × (exchange_in exchange.new ≡ exchange_in exchange.old) }
+    ensures refused { exchange_in exchange.old ≡ None → exchange_in exchange.new ≡ None
+        → IsRefused command.now limit result }
+    ensures begun { exchange_in exchange.old ≡ None → IfSome (exchange_in exchange.new)
+        (λ side. (result ≡ gt_ok) × IsBegun command.now limit side.exchange) }
 {
     if exchange.is_live() {
         return code::STATE;
     }
-    match begun(alloc, command) {
+    match begun(alloc, command, limit) {
         Ok(side) => {
             exchange.put(side);
             code::OK
@@ -45,20 +74,21 @@ pub extern "C" fn galliumtoad_exchange_start(
 }
 
 /// An exchange of the command that the bytes are, or the code of what refuses it.
-fn begun(alloc: Global, command: &[u8]) -> Result<Box<TerminalSide>, i32>
-    ensures begun { IfOk result (λ side. IsBegun command.now side.value.exchange) }
-    ensures refused { IfErr result (λ code. IsRefused command.now code) }
+fn begun(alloc: Global, command: &[u8], limit: usize) -> Result<Box<TerminalSide>, i32>
+    ensures begun { IfOk result (λ side. IsBegun command.now limit side.value.exchange) }
+    ensures refused { IfErr result (λ code. IsRefused command.now limit code) }
 {
     let command = match Command::read(command) {
         Ok(command) => command,
         Err(fault) => return Err(code::of_command(fault)),
     };
-    match OwnedExchange::start(alloc, command) {
+    match OwnedExchange::start_within(alloc, command, limit) {
         Ok(exchange) => match Box::new(alloc, TerminalSide { exchange }) {
             Ok(side) => Ok(side),
             Err(_) => Err(code::MEMORY),
         },
-        Err(_) => Err(code::MEMORY),
+        Err(StartFault::OverLimit) => Err(code::ARGUMENT),
+        Err(StartFault::OutOfMemory) => Err(code::MEMORY),
     }
 }
 
@@ -93,15 +123,11 @@ fn turned(side: &mut TerminalSide, byte: &mut u8) -> i32
     ensures byte { byte.new ≡ turn_byte (exchange_turn side.old.exchange) byte.old }
     ensures turn { IsTurn side.old.exchange (exchange_turn side.old.exchange) side.new.exchange }
 {
-    match side.exchange.next() {
-        HostTurn::Sends(sent) => {
-            *byte = sent;
-            code::SENDS
-        }
-        HostTurn::Listens => code::OK,
-        HostTurn::Done(_) => code::DONE,
-        HostTurn::Failed => code::FAILED,
+    let turn = side.exchange.next();
+    if let HostTurn::Sends(sent) = turn {
+        *byte = sent;
     }
+    code::of_turn(turn)
 }
 
 /// Takes a character of the card.
@@ -132,10 +158,7 @@ fn taken(side: &mut TerminalSide, byte: u8) -> i32
     ensures { (taken : Result (Unit {0}) LineFault) × (result ≡ taking_code taken)
         × IsTaking side.old.exchange byte taken side.new.exchange }
 {
-    match side.exchange.take(byte) {
-        Ok(()) => code::OK,
-        Err(fault) => code::of_line(fault),
-    }
+    code::of_taking(side.exchange.take(byte))
 }
 
 /// The status and the data of an exchange that is over. They can be asked for again.

@@ -4,10 +4,11 @@ ghost use Rattle.apdu_core.specs.declared.command.ApduFault.{ApduFault};
 ghost use Rattle.apdu_core.specs.CommandBytes.{IsCommand, command_bytes};
 ghost use Rattle.card_c.specs.Codes.{gt_empty, gt_state, command_code};
 ghost use Rattle.card_c.specs.ExchangeCalls.{AreNone};
-ghost use Rattle.card_terminal.specs.TerminalSide.{is_going};
+ghost use Rattle.card_terminal.specs.ExchangeSide.{response_limit};
+ghost use Rattle.card_terminal.specs.TerminalSide.{KeepsLimit, is_going};
 ghost use Rattle.card_c.specs.declared.operating_side.OperatingSide.{OperatingSide};
 ghost use Rattle.card_c.specs.TerminalHandle.{terminal_in};
-ghost use Rattle.card_c.specs.TerminalCalls.{HasBegun, OnTerminal, BeginsSelect, BeginsGet, BeginsPut, BeginsSend, Resets, TakesTurn, TakesCharacter, TakesAnswer, TellsAnswer, due_in, begin_code};
+ghost use Rattle.card_c.specs.TerminalCalls.{HasBegun, KeepsRoom, OnTerminal, BeginsSelect, BeginsGet, BeginsPut, BeginsSend, Resets, TakesTurn, TakesCharacter, TakesAnswer, TellsAnswer, due_in, begin_code};
 ghost use Rattle.card_c.specs.TpduCalls.{TellsTpdu};
 
 use crate::code;
@@ -17,7 +18,7 @@ use crate::operating_side::OperatingSide;
 use crate::tag_number::tag_of;
 use crate::whole_tpdu::{answer_of, told};
 use apdu_core::Command;
-use card_terminal::{BeginFault, Terminal};
+use card_terminal::{BeginFault, RESPONSE_LIMIT, Terminal};
 use object_card::Aid;
 use std::alloc::Global;
 use t0_core::HostTurn;
@@ -25,19 +26,36 @@ use t0_core::HostTurn;
 /// A terminal that has begun no operation, in a handle that holds nothing.
 #[unsafe(no_mangle)]
 pub extern "C" fn galliumtoad_terminal_new(alloc: Global, terminal: &mut TerminalHandle) -> i32
-    ensures { HasBegun (terminal_in terminal.old) result (terminal_in terminal.new) }
+    ensures { HasBegun response_limit (terminal_in terminal.old) result
+        (terminal_in terminal.new) }
 {
-    if terminal.is_live() {
+    make(alloc, terminal, RESPONSE_LIMIT)
+}
+
+/// The same of one for responses of up to so many bytes.
+#[unsafe(no_mangle)]
+pub extern "C" fn galliumtoad_terminal_new_within(
+    alloc: Global,
+    terminal: &mut TerminalHandle,
+    limit: usize,
+) -> i32
+    ensures { HasBegun limit (terminal_in terminal.old) result (terminal_in terminal.new) }
+{
+    make(alloc, terminal, limit)
+}
+
+fn make(alloc: Global, handle: &mut TerminalHandle, limit: usize) -> i32
+    ensures { HasBegun limit (terminal_in handle.old) result (terminal_in handle.new) }
+{
+    if handle.is_live() {
         return code::STATE;
     }
-    match Box::new(
-        alloc,
-        OperatingSide {
-            terminal: Terminal::new(alloc),
-        },
-    ) {
+    let Ok(terminal) = Terminal::new_within(alloc, limit) else {
+        return code::ARGUMENT;
+    };
+    match Box::new(alloc, OperatingSide { terminal }) {
         Ok(side) => {
-            terminal.put(side);
+            handle.put(side);
             code::OK
         }
         Err(_) => code::MEMORY,
@@ -84,7 +102,8 @@ pub extern "C" fn galliumtoad_terminal_select(
 }
 
 fn select(terminal: &mut Terminal, aid: &[u8]) -> i32
-    ensures { BeginsSelect aid.now terminal.old result terminal.new }
+    ensures begins { BeginsSelect aid.now terminal.old.operation result terminal.new.operation }
+    ensures room { KeepsRoom terminal.old terminal.new }
 {
     match Aid::new(aid) {
         Some(aid) => begun(terminal.select(&aid)),
@@ -111,7 +130,8 @@ pub extern "C" fn galliumtoad_terminal_get(
 }
 
 fn get(terminal: &mut Terminal, number: u32) -> i32
-    ensures { BeginsGet number terminal.old result terminal.new }
+    ensures begins { BeginsGet number terminal.old.operation result terminal.new.operation }
+    ensures room { KeepsRoom terminal.old terminal.new }
 {
     match tag_of(number) {
         Some(tag) => begun(terminal.get(tag)),
@@ -139,7 +159,9 @@ pub extern "C" fn galliumtoad_terminal_put(
 }
 
 fn put(terminal: &mut Terminal, number: u32, value: &[u8]) -> i32
-    ensures { BeginsPut number value.now terminal.old result terminal.new }
+    ensures begins { BeginsPut number value.now terminal.old.operation result
+        terminal.new.operation }
+    ensures room { KeepsRoom terminal.old terminal.new }
 {
     match tag_of(number) {
         Some(tag) => begun(terminal.put(tag, value)),
@@ -166,7 +188,8 @@ pub extern "C" fn galliumtoad_terminal_send(
 }
 
 fn send(terminal: &mut Terminal, bytes: &[u8]) -> i32
-    ensures { BeginsSend bytes.now terminal.old result terminal.new }
+    ensures begins { BeginsSend bytes.now terminal.old.operation result terminal.new.operation }
+    ensures room { KeepsRoom terminal.old terminal.new }
 {
     match command_of(bytes) {
         Ok(command) => begun(terminal.send(command)),
@@ -199,7 +222,8 @@ fn begun(begun: Result<(), BeginFault>) -> i32
 
 /// Why an operation is not begun, whose arguments are none.
 fn refused(terminal: &Terminal, fault: i32) -> i32
-    ensures { result ≡ (if is_going terminal.now then gt_state else fault) }
+    ensures code { result ≡ (if is_going terminal.now.operation then gt_state else fault) }
+    ensures limit { KeepsLimit terminal.now terminal.now }
 {
     if terminal.is_going() {
         code::STATE
@@ -228,17 +252,17 @@ pub extern "C" fn galliumtoad_terminal_next(
 }
 
 fn turned(terminal: &mut Terminal, byte: &mut u8) -> i32
-    ensures { TakesTurn byte.old byte.new terminal.old result terminal.new }
+    ensures turn { TakesTurn byte.old byte.new terminal.old.operation result
+        terminal.new.operation }
+    ensures room { KeepsRoom terminal.old terminal.new }
 {
-    match terminal.next() {
+    let turn = terminal.next();
+    if let Some(HostTurn::Sends(sent)) = turn {
+        *byte = sent;
+    }
+    match turn {
         None => code::STATE,
-        Some(HostTurn::Sends(sent)) => {
-            *byte = sent;
-            code::SENDS
-        }
-        Some(HostTurn::Listens) => code::OK,
-        Some(HostTurn::Done(_)) => code::DONE,
-        Some(HostTurn::Failed) => code::FAILED,
+        Some(turn) => code::of_turn(turn),
     }
 }
 
@@ -261,12 +285,10 @@ pub extern "C" fn galliumtoad_terminal_take(
 }
 
 fn taken(terminal: &mut Terminal, byte: u8) -> i32
-    ensures { TakesCharacter byte terminal.old result terminal.new }
+    ensures taking { TakesCharacter byte terminal.old.operation result terminal.new.operation }
+    ensures room { KeepsRoom terminal.old terminal.new }
 {
-    match terminal.take(byte) {
-        Ok(()) => code::OK,
-        Err(fault) => code::of_line(fault),
-    }
+    code::of_taking(terminal.take(byte))
 }
 
 /// The whole TPDU that is due, and how many bytes may come back.
@@ -282,7 +304,7 @@ pub extern "C" fn galliumtoad_terminal_tpdu(
     ensures empty { terminal_in terminal.old ≡ None → (result ≡ gt_empty)
         × (tpdu.new ≡ tpdu.old) × (len.new ≡ len.old) × (most.new ≡ most.old) }
     ensures told { (side : OperatingSide) → terminal_in terminal.old ≡ Some side
-        → TellsTpdu (due_in side.terminal) tpdu.old len.old most.old
+        → TellsTpdu (due_in side.terminal.operation) tpdu.old len.old most.old
         result tpdu.new len.new most.new }
 {
     let Some(side) = terminal.take_out(alloc) else {
@@ -312,7 +334,9 @@ pub extern "C" fn galliumtoad_terminal_answered(
 }
 
 fn answered(terminal: &mut Terminal, answer: &[u8]) -> i32
-    ensures { TakesAnswer answer.now terminal.old result terminal.new }
+    ensures answering { TakesAnswer answer.now terminal.old.operation result
+        terminal.new.operation }
+    ensures room { KeepsRoom terminal.old terminal.new }
 {
     let Some((bytes, status)) = answer_of(answer) else {
         return code::NO_STATUS;
@@ -336,7 +360,7 @@ pub extern "C" fn galliumtoad_terminal_answer(
     ensures empty { terminal_in terminal.old ≡ None → (result ≡ gt_empty)
         × (status.new ≡ status.old) × (content.new ≡ content.old) × (len.new ≡ len.old) }
     ensures answer { (side : OperatingSide) → terminal_in terminal.old ≡ Some side
-        → TellsAnswer side.terminal status.old content.old len.old
+        → TellsAnswer side.terminal.operation status.old content.old len.old
         result status.new content.new len.new }
 {
     let Some(side) = terminal.take_out(alloc) else {
@@ -348,7 +372,7 @@ pub extern "C" fn galliumtoad_terminal_answer(
 }
 
 fn given(terminal: &Terminal, status: &mut u16, content: &mut [u8], len: &mut usize) -> i32
-    ensures { TellsAnswer terminal.now status.old content.old len.old
+    ensures { TellsAnswer terminal.now.operation status.old content.old len.old
         result status.new content.new len.new }
 {
     let Some((word, bytes)) = terminal.answer() else {

@@ -10,4 +10,4 @@ returns-in-Ok c =
     let e = c.in-Ok.ensures in
     subst (λ (s : CardSide). TakesOne c.args.byte s gt_ok
     (Standing c.take.new.self c.in-Standing.field-1)) (sym c.in-Standing.is)
-    (inr (c.take.new.self, sym e.listening, refl, refl, e.taken, e.led, e.led_under))
+    (inr (c.take.new.self, refl, refl, (sym e.listening, e.taken, e.led, e.led_under)))

@@ -1,73 +1,12 @@
-use Rattle.std.proofs.Common.{◌≡◌, ◌∷◌, [], ◌++◌, true, false, Bool, refl, sym, ap, ◌∙◌, subst, inr}
-use Rattle.std.specs.Prelude.{if◌then◌else◌}
-use Rattle.t0_core.specs.declared.end.End.TheVariants.{Card}
-use Rattle.t0_core.specs.declared.card_end.Turn.{Turn}
-use Rattle.t0_core.specs.CardHistory.{IsTakenLast}
-use Rattle.t0_core.specs.CardSide.{takes_plan}
-use Rattle.t0_core.specs.Plan.{Cursor, advanced, plan_kept}
+use Rattle.std.proofs.Common.{refl, sym, subst, inr}
 use Rattle.card_c.specs.declared.card_side.CardSide.{CardSide}
 use Rattle.card_c.specs.declared.card_side.CardSide.TheVariants.{Standing}
 use Rattle.card_c.specs.Codes.{gt_sends}
-use Rattle.card_c.specs.CardCalls.{Turns, HaveLedUnder}
+use Rattle.card_c.specs.CardCalls.{Turns}
 use Rattle.card_c.proofs.card.turn.Goals as goal
 
-is_false : (b : Bool) → (b ≡ true → ⊥) → b ≡ false
-is_false true fails = absurd (fails refl)
-is_false false fails = refl
-
-pub returns-then-takes_plan : goal.returns-then-takes_plan
-returns-then-takes_plan c =
-    let e = c.in-Sends.ensures in let stage = c.in-Standing.end.stage in
-    let plans = c.in-Standing.plans in let left = c.advance.new.self in
-    let left_is : left ≡ (if takes_plan stage then advanced plans else plans) =
-    c.advance.ensures ∙ ap (λ (b : Bool). if b then advanced plans else plans)
-    c.if-takes_plan.ensures in
-    let same : c.turn.new.plans ≡ left = e.plan
-    ∙ ap (λ (p : Cursor). if takes_plan stage then advanced p else p) c.cursor.ensures
-    ∙ sym left_is in
-    subst (λ (s : CardSide). Turns c.args.byte.now c.in-Sends.sent s gt_sends
-    (Standing c.turn.new.self left)) (sym c.in-Standing.is)
-    (inr (
-      c.turn.new.self,
-      left,
-      is_false _ (λ h. let never : Turn.Sends c.in-Sends.sent
-          ≡ Turn.Listens = e.whose.1 h in absurd (cc)),
-      refl,
-      refl,
-      left_is,
-      (λ first events led. e.led first events c.in-Sends.sent refl led),
-      (λ first came taken led last.
-          subst (λ (p : Cursor). HaveLedUnder first (came ++ (Card, c.in-Sends.sent) ∷ [])
-          (if takes_plan stage then taken ++ plan_kept p ∷ [] else taken) c.turn.new.self) same
-          (e.led_under first came taken c.in-Sends.sent refl led
-          (λ same_plan. subst (λ (p : Cursor). IsTakenLast (plan_kept p) taken)
-          (sym c.cursor.ensures) (last same_plan)))),
-    ))
-
-pub returns-else-takes_plan : goal.returns-else-takes_plan
-returns-else-takes_plan c =
-    let e = c.in-Sends.ensures in let stage = c.in-Standing.end.stage in
-    let plans = c.in-Standing.plans in let left = c.in-Standing.plans in
-    let left_is : left ≡ (if takes_plan stage then advanced plans else plans) =
-    ap (λ (b : Bool). if b then advanced plans else plans) c.if-takes_plan.ensures in
-    let same : c.turn.new.plans ≡ left = e.plan
-    ∙ ap (λ (p : Cursor). if takes_plan stage then advanced p else p) c.cursor.ensures
-    ∙ sym left_is in
-    subst (λ (s : CardSide). Turns c.args.byte.now c.in-Sends.sent s gt_sends
-    (Standing c.turn.new.self left)) (sym c.in-Standing.is)
-    (inr (
-      c.turn.new.self,
-      left,
-      is_false _ (λ h. let never : Turn.Sends c.in-Sends.sent
-          ≡ Turn.Listens = e.whose.1 h in absurd (cc)),
-      refl,
-      refl,
-      left_is,
-      (λ first events led. e.led first events c.in-Sends.sent refl led),
-      (λ first came taken led last.
-          subst (λ (p : Cursor). HaveLedUnder first (came ++ (Card, c.in-Sends.sent) ∷ [])
-          (if takes_plan stage then taken ++ plan_kept p ∷ [] else taken) c.turn.new.self) same
-          (e.led_under first came taken c.in-Sends.sent refl led
-          (λ same_plan. subst (λ (p : Cursor). IsTakenLast (plan_kept p) taken)
-          (sym c.cursor.ensures) (last same_plan)))),
-    ))
+pub returns : goal.returns
+returns c =
+    let end = c.next_of.new.end in let plans = c.next_of.new.plans in
+    subst (λ (s : CardSide). Turns c.args.byte.now c.in-Some.sent s gt_sends (Standing end plans))
+    (sym c.in-Standing.is) (inr (end, plans, refl, refl, c.in-Some.ensures))

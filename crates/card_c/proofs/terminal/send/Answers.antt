@@ -13,14 +13,14 @@ code_as_it_is TooShort = refl
 code_as_it_is BadLength = refl
 code_as_it_is InvalidIns = refl
 
-pub returns-in-Err : goal.returns-in-Err
-returns-in-Err c =
+pub returns-in-Err-clause-begins : goal.returns-in-Err-clause-begins
+returns-in-Err-clause-begins c =
     let none = c.in-Err.ensures.refused in
-    let Sends : ℤ → Type 0 = λ z. BeginsSend c.args.bytes.now c.args.terminal.now z
-    c.args.terminal.now in
+    let before = c.args.terminal.now.operation in
+    let Sends : ℤ → Type 0 = λ z. BeginsSend c.args.bytes.now before z before in
     let Is : ℤ → Type 0 = λ z. c.refused.result
-    ≡ (if is_going c.args.terminal.now then gt_state else z) in
+    ≡ (if is_going before then gt_state else z) in
     let is : Is (command_code none.0) = subst Is (code_as_it_is none.0)
-    (subst (λ z. Is (to_z w32 (of_z w32 z))) none.2 c.refused.ensures) in
+    (subst (λ z. Is (to_z w32 (of_z w32 z))) none.2 c.refused.ensures.code) in
     subst Sends (sym (as_it_is c.refused.result c.refused.type_inv))
     (inl (none.0, none.1, (is, refl)))

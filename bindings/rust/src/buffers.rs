@@ -1,0 +1,181 @@
+//! Characters that pass by buffers, of a terminal and of a card.
+
+use crate::card::Card;
+use crate::error::{told, Error};
+use crate::exchange::Exchange;
+use crate::raw;
+use crate::terminal::Terminal;
+use std::error;
+use std::fmt;
+
+/// What an end has handed out into a buffer.
+#[derive(Clone, Copy, Debug, PartialEq, Eq)]
+pub struct Sent {
+    /// So many characters stand at the front of the buffer; what is behind them is as it was.
+    pub count: usize,
+    /// Why there are no more.
+    pub stop: Stop,
+}
+
+/// Why an end hands no more into a buffer.
+#[derive(Clone, Copy, Debug, PartialEq, Eq)]
+pub enum Stop {
+    /// The buffer is full, as one without room is at once: there may be more.
+    Full,
+    /// The end waits for a character of the other one.
+    Listens,
+    /// An exchange or an operation is over, and has its answer.
+    Done,
+}
+
+/// Which character of a buffer is not taken. Those before it were, and those behind it were not
+/// looked at.
+#[derive(Clone, Copy, Debug, PartialEq, Eq)]
+pub struct ReceiveError {
+    /// How many were taken: the place of the character that was not.
+    pub taken: usize,
+    /// What the call of that character alone would answer.
+    pub error: Error,
+}
+
+impl fmt::Display for ReceiveError {
+    fn fmt(&self, f: &mut fmt::Formatter<'_>) -> fmt::Result {
+        write!(f, "{} at {}", self.error, self.taken)
+    }
+}
+
+impl error::Error for ReceiveError {
+    fn source(&self) -> Option<&(dyn error::Error + 'static)> {
+        Some(&self.error)
+    }
+}
+
+impl Exchange {
+    /// Hands out what the terminal sends now, as [`next`](Exchange::next) one at a time, as many
+    /// characters as `room` has place for.
+    ///
+    /// # Errors
+    ///
+    /// [`Error::Failed`]: the exchange has failed for good, and nothing is handed out.
+    pub fn send_bytes(&mut self, room: &mut [u8]) -> Result<Sent, Error> {
+        let mut n = 0;
+        // SAFETY: an exchange's handle; a slice with its length, and `n`, which are apart.
+        let code = unsafe {
+            raw::galliumtoad_exchange_send_bytes(self.0.at(), room.as_mut_ptr(), room.len(), &mut n)
+        };
+        sent(code, n)
+    }
+
+    /// Takes characters of the card, as [`take`](Exchange::take) one at a time, up to the first
+    /// that is a fault. That fault does what it does there.
+    pub fn receive_bytes(&mut self, bytes: &[u8]) -> Result<(), ReceiveError> {
+        let mut n = 0;
+        // SAFETY: an exchange's handle; a slice with its length, and `n`, which are apart.
+        let code = unsafe {
+            raw::galliumtoad_exchange_receive_bytes(
+                self.0.at(),
+                bytes.as_ptr(),
+                bytes.len(),
+                &mut n,
+            )
+        };
+        received(code, n)
+    }
+}
+
+impl Terminal {
+    /// Hands out what the terminal sends now, as [`next`](Terminal::next) one at a time, as many
+    /// characters as `room` has place for. It goes from one command of the operation to the next.
+    ///
+    /// ```
+    /// use galliumtoad::{CardBuilder, Operation, Stop, Terminal};
+    ///
+    /// let aid = [0xA0, 0x00, 0x00, 0x00, 0x03, 0x10, 0x10];
+    /// let mut builder = CardBuilder::new()?;
+    /// builder.app(&aid)?;
+    /// let mut card = builder.finish()?;
+    ///
+    /// let mut terminal = Terminal::new()?;
+    /// let mut room = [0; 300]; // more than either end sends at once
+    /// terminal.begin(Operation::Select(&aid))?;
+    /// loop {
+    ///     let sent = terminal.send_bytes(&mut room)?;
+    ///     card.receive_bytes(&room[..sent.count])?;
+    ///     if sent.stop == Stop::Done {
+    ///         break;
+    ///     }
+    ///     let sent = card.send_bytes(&mut room)?;
+    ///     terminal.receive_bytes(&room[..sent.count])?;
+    /// }
+    /// assert_eq!(terminal.answer().unwrap().status, 0x9000);
+    /// # Ok::<(), Box<dyn std::error::Error>>(())
+    /// ```
+    ///
+    /// # Errors
+    ///
+    /// [`Error::State`]: no operation has begun. [`Error::Failed`]: it has failed for good. Nothing
+    /// is handed out.
+    pub fn send_bytes(&mut self, room: &mut [u8]) -> Result<Sent, Error> {
+        let mut n = 0;
+        // SAFETY: a terminal's handle; a slice with its length, and `n`, which are apart.
+        let code = unsafe {
+            raw::galliumtoad_terminal_send_bytes(self.0.at(), room.as_mut_ptr(), room.len(), &mut n)
+        };
+        sent(code, n)
+    }
+
+    /// Takes characters of the card, as [`take`](Terminal::take) one at a time, up to the first
+    /// that is a fault. That fault does what it does there.
+    pub fn receive_bytes(&mut self, bytes: &[u8]) -> Result<(), ReceiveError> {
+        let mut n = 0;
+        // SAFETY: a terminal's handle; a slice with its length, and `n`, which are apart.
+        let code = unsafe {
+            raw::galliumtoad_terminal_receive_bytes(
+                self.0.at(),
+                bytes.as_ptr(),
+                bytes.len(),
+                &mut n,
+            )
+        };
+        received(code, n)
+    }
+}
+
+impl Card {
+    /// Hands out what the card sends now, as [`turn`](Card::turn) one at a time, as many characters
+    /// as `room` has place for. [`Stop::Done`] never comes.
+    pub fn send_bytes(&mut self, room: &mut [u8]) -> Result<Sent, Error> {
+        let mut n = 0;
+        // SAFETY: a card's handle; a slice with its length, and `n`, which are apart.
+        let code = unsafe {
+            raw::galliumtoad_card_send_bytes(self.0 .0.at(), room.as_mut_ptr(), room.len(), &mut n)
+        };
+        sent(code, n)
+    }
+
+    /// Takes characters of the terminal, as many as the card listens to. The one behind them is
+    /// [`Error::NotListening`].
+    pub fn receive_bytes(&mut self, bytes: &[u8]) -> Result<(), ReceiveError> {
+        let mut n = 0;
+        // SAFETY: a card's handle; a slice with its length, and `n`, which are apart.
+        let code = unsafe {
+            raw::galliumtoad_card_receive_bytes(self.0 .0.at(), bytes.as_ptr(), bytes.len(), &mut n)
+        };
+        received(code, n)
+    }
+}
+
+fn sent(code: i32, count: usize) -> Result<Sent, Error> {
+    let stop = match told(code)? {
+        raw::SENDS => Stop::Full,
+        raw::DONE => Stop::Done,
+        _ => Stop::Listens,
+    };
+    Ok(Sent { count, stop })
+}
+
+fn received(code: i32, taken: usize) -> Result<(), ReceiveError> {
+    told(code)
+        .map(|_| ())
+        .map_err(|error| ReceiveError { taken, error })
+}

@@ -1,0 +1,137 @@
+//! Characters by buffers, against those that are written down.
+
+use galliumtoad::{Answer, Card, CardBuilder, Error, Exchange, Operation};
+use galliumtoad::{ReceiveError, Sent, Stop, Terminal};
+use std::error::Error as _;
+
+const AID: [u8; 7] = [0xA0, 0x00, 0x00, 0x00, 0x03, 0x10, 0x10];
+const GET: [u8; 5] = [0x00, 0xCA, 0x5F, 0x20, 0x00];
+
+/// What stands in a buffer before a call.
+const UNTOUCHED: u8 = 0xEE;
+
+fn card() -> Card {
+    let mut builder = CardBuilder::new().expect("memory");
+    builder.app(&AID).expect("an application");
+    builder.object(0x5F20, b"JOE").expect("an object");
+    builder.finish().expect("a card")
+}
+
+/// With so much room the call hands out these, stops for this, and leaves what stands behind them.
+fn sends(
+    send: impl FnOnce(&mut [u8]) -> Result<Sent, Error>,
+    room: usize,
+    wanted: &[u8],
+    stop: Stop,
+) {
+    let mut bytes = [UNTOUCHED; 20];
+    let count = wanted.len();
+    assert_eq!(send(&mut bytes[..room]), Ok(Sent { count, stop }));
+    assert_eq!(&bytes[..count], wanted);
+    assert!(bytes[count..].iter().all(|it| *it == UNTOUCHED));
+}
+
+fn refused(taken: usize, error: Error) -> Result<(), ReceiveError> {
+    Err(ReceiveError { taken, error })
+}
+
+fn joe() -> Answer {
+    Answer {
+        status: 0x9000,
+        data: b"\x5F\x20\x03JOE".to_vec(),
+    }
+}
+
+#[test]
+fn an_exchange_passes_buffers() {
+    let mut it = Exchange::start(&GET).expect("started");
+    sends(|room| it.send_bytes(room), 0, &[], Stop::Full);
+    sends(|room| it.send_bytes(room), 3, &GET[..3], Stop::Full);
+    assert_eq!(it.receive_bytes(&[0x60]), refused(0, Error::NotListening));
+    assert_eq!(it.receive_bytes(&[]), Ok(()));
+    sends(|room| it.send_bytes(room), 20, &GET[3..], Stop::Listens);
+    let behind = it.receive_bytes(b"\x60\x6C\x06\x90");
+    assert_eq!(behind, refused(3, Error::NotListening));
+    let again = [0x00, 0xCA, 0x5F, 0x20, 0x06];
+    sends(|room| it.send_bytes(room), 5, &again, Stop::Full);
+    sends(|room| it.send_bytes(room), 5, &[], Stop::Listens);
+    assert_eq!(it.receive_bytes(b"\xCA\x5F\x20\x03J"), Ok(()));
+    let behind = it.receive_bytes(b"OE\x90\x00\x90");
+    assert_eq!(behind, refused(4, Error::AfterEnd));
+    sends(|room| it.send_bytes(room), 20, &[], Stop::Done);
+    assert_eq!(it.answer(), Some(joe()));
+}
+
+/// A response of so many bytes is the longest, and one byte more is too much.
+#[test]
+fn responses_have_a_limit() {
+    for (limit, data) in [(3, &b"JOE"[..]), (2, b"JOE"), (0, b"J")] {
+        let fits = data.len() <= limit;
+        let mut exchange = Exchange::start_within(&GET, limit).expect("started");
+        let mut terminal = Terminal::new_within(limit).expect("a terminal");
+        terminal.begin(Operation::Get(0x5F20)).expect("begun");
+        let mut answer = data.to_vec();
+        answer.extend([0x90, 0x00]);
+        let wanted = fits.then_some(()).ok_or(Error::TooLong);
+        assert_eq!(exchange.answered(&answer), wanted);
+        assert_eq!(terminal.answered(&answer), wanted);
+        let data = fits.then(|| data.to_vec());
+        assert_eq!(exchange.answer().map(|it| it.data), data);
+        assert_eq!(terminal.answer().map(|it| it.data), data);
+    }
+    let none = Exchange::start_within(&GET, 16_385).err();
+    assert_eq!(none, Some(Error::Argument));
+    assert_eq!(Terminal::new_within(16_385).err(), Some(Error::Argument));
+    assert!(Terminal::new_within(16_384).is_ok());
+}
+
+#[test]
+fn faults_stop_a_buffer() {
+    let mut it = Exchange::start(&GET).expect("started");
+    sends(|room| it.send_bytes(room), 20, &GET, Stop::Listens);
+    let fault = it.receive_bytes(b"\x60\x60\x11\x90").expect_err("a fault");
+    assert_eq!((fault.taken, fault.error), (2, Error::BadProcedure));
+    assert_eq!(fault.to_string(), "bad procedure byte at 2");
+    assert_eq!(
+        fault.source().map(ToString::to_string),
+        Some(fault.error.to_string())
+    );
+    let mut room = [UNTOUCHED; 2];
+    assert_eq!(it.send_bytes(&mut room), Err(Error::Failed));
+    assert_eq!(room, [UNTOUCHED; 2]);
+}
+
+#[test]
+fn a_terminal_and_a_card_pass_buffers() {
+    let mut it = Terminal::new().expect("memory");
+    let mut card = card();
+    assert_eq!(it.send_bytes(&mut [0; 2]), Err(Error::State));
+    assert_eq!(it.receive_bytes(&[0x90]), refused(0, Error::AfterEnd));
+    it.begin(Operation::Select(&AID)).expect("begun");
+    let header = [0x00, 0xA4, 0x04, 0x00, 0x07];
+    sends(|room| it.send_bytes(room), 20, &header, Stop::Listens);
+    sends(|room| card.send_bytes(room), 20, &[], Stop::Listens);
+    let behind = card.receive_bytes(b"\x00\xA4\x04\x00\x07\xA0");
+    assert_eq!(behind, refused(5, Error::NotListening));
+    sends(|room| card.send_bytes(room), 1, &[0xA4], Stop::Full);
+    assert_eq!(
+        it.receive_bytes(&[0xA4, 0x61]),
+        refused(1, Error::NotListening)
+    );
+    sends(|room| it.send_bytes(room), 7, &AID, Stop::Full);
+    assert_eq!(card.receive_bytes(&AID), Ok(()));
+    sends(
+        |room| card.send_bytes(room),
+        20,
+        &[0x61, 0x0B],
+        Stop::Listens,
+    );
+    assert_eq!(it.receive_bytes(&[0x61, 0x0B]), Ok(()));
+    let fetch = [0x00, 0xC0, 0x00, 0x00, 0x0B];
+    sends(|room| it.send_bytes(room), 20, &fetch, Stop::Listens);
+    assert_eq!(card.receive_bytes(&fetch), Ok(()));
+    let found = b"\xC0\x6F\x09\x84\x07\xA0\x00\x00\x00\x03\x10\x10\x90\x00";
+    sends(|room| card.send_bytes(room), 20, found, Stop::Listens);
+    assert_eq!(it.receive_bytes(found), Ok(()));
+    sends(|room| it.send_bytes(room), 20, &[], Stop::Done);
+}

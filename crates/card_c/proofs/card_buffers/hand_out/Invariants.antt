@@ -1,0 +1,9 @@
+use Rattle.std.proofs.Common.{}
+use Rattle.card_terminal.specs.Buffers.{HandsOut}
+use Rattle.card_c.specs.BufferCalls.{HandsOutOne}
+use Rattle.card_c.proofs.card_buffers.hand_out.Given as goal
+
+-- so many characters have been handed out
+abbrev pub invariant-loop-at : goal.invariant-loop-at
+invariant-loop-at l =
+    HandsOut HandsOutOne (l.fn.end, l.fn.plans) l.fn.bytes l.bytes l.at (l.end, l.plans)

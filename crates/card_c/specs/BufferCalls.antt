@@ -1,0 +1,90 @@
+-- What the calls by buffers do to what a handle holds: so many steps of one character each.
+use Rattle.std.specs.Prelude.{◌≡◌, ◌⊎◌, ◌<◌, ℕ, ℤ, List, length, take, true, false, Option, Some, None}
+use Rattle.t0_core.specs.declared.host_end.HostTurn.{HostTurn}
+use Rattle.t0_core.specs.declared.line_fault.LineFault.TheVariants.{NotListening}
+use Rattle.t0_core.specs.CardSide.{EndOf, listens}
+use Rattle.t0_core.specs.Plan.{Cursor}
+use Rattle.object_card.specs.CardView.{CardView}
+use Rattle.card_terminal.specs.declared.handed_out.HandedOut.{HandedOut}
+use Rattle.card_terminal.specs.declared.taken.Taken.{Taken}
+use Rattle.card_terminal.specs.Buffers.{Steps, HandsOut, IsHandingOut, IsTakingAll}
+use Rattle.card_terminal.specs.ExchangeSide.{ExchangeOf}
+use Rattle.card_terminal.specs.ExchangeSteps.{IsTurn, IsTaking}
+use Rattle.card_terminal.specs.TerminalSide.{OperationOf}
+use Rattle.card_terminal.specs.TerminalSteps.{IsTerminalHandingOut, IsTerminalTaking}
+use Rattle.card_c.specs.declared.card_side.CardSide.{CardSide}
+use Rattle.card_c.specs.declared.card_side.CardSide.TheVariants.{Building, Standing, Joined}
+use Rattle.card_c.specs.Codes.{gt_ok, gt_sends, gt_state, line_code}
+use Rattle.card_c.specs.ExchangeCalls.{turn_code, taking_code}
+use Rattle.card_c.specs.CardCalls.{TakesCharacter, HandsOutCharacter}
+
+-- why no more is handed out: the array is full, or this is what the terminal does next
+abbrev pub stop_code : Option HostTurn → ℤ
+stop_code None = gt_sends
+stop_code (Some turn) = turn_code turn
+
+-- An exchange hands its characters out into an array; C is told how many, and why no more.
+abbrev pub SendsBytes : List ℕ → List ℕ → ℕ → ExchangeOf → ℤ → ExchangeOf → Type 0
+SendsBytes room room' n' old code new = (handed : HandedOut)
+    × (code ≡ stop_code handed.stop) × (n' ≡ handed.count)
+    × IsHandingOut IsTurn old room room' handed new
+
+-- An exchange takes the characters of an array; C is told how many, and the fault that stopped it.
+abbrev pub ReceivesBytes : List ℕ → ℕ → ExchangeOf → ℤ → ExchangeOf → Type 0
+ReceivesBytes bytes n' old code new = (taken : Taken)
+    × (code ≡ taking_code taken.outcome) × (n' ≡ taken.count)
+    × IsTakingAll IsTaking old bytes taken new
+
+-- the same of a terminal; where it has begun no operation, it hands out nothing
+abbrev pub TellsHanded : Option HandedOut → ℕ → ℤ → ℕ → Type 0
+TellsHanded None n code n' = (code ≡ gt_state) × (n' ≡ n)
+TellsHanded (Some handed) n code n' = (code ≡ stop_code handed.stop) × (n' ≡ handed.count)
+
+abbrev pub TerminalSends : List ℕ → ℕ → List ℕ → ℕ → Option OperationOf → ℤ → Option OperationOf
+    → Type 0
+TerminalSends room n room' n' old code new = (handed : Option HandedOut)
+    × TellsHanded handed n code n' × IsTerminalHandingOut old room room' handed new
+
+abbrev pub TerminalReceives : List ℕ → ℕ → Option OperationOf → ℤ → Option OperationOf → Type 0
+TerminalReceives bytes n' old code new = (taken : Taken)
+    × (code ≡ taking_code taken.outcome) × (n' ≡ taken.count)
+    × IsTakingAll IsTerminalTaking old bytes taken new
+
+-- a card's end, with the plans for it
+abbrev pub Driven : Type 0
+Driven = EndOf CardView × Cursor
+
+abbrev pub HandsOutOne : Driven → ℕ → Driven → Type 0
+HandsOutOne s byte t = HandsOutCharacter s.0 s.1 byte t.0 t.1
+
+-- It hands so many characters out into an array: until that is full, or the card listens.
+abbrev pub HandsOutAll : EndOf CardView → Cursor → List ℕ → List ℕ → ℕ → EndOf CardView → Cursor
+    → Type 0
+HandsOutAll end plans room room' n' next left =
+    HandsOut HandsOutOne (end, plans) room room' n' (next, left)
+    × ((n' ≡ length room) ⊎ ((n' < length room) × (listens next.stage ≡ true)))
+
+abbrev pub CardSends : List ℕ → ℕ → List ℕ → ℕ → CardSide → ℤ → CardSide → Type 0
+CardSends room n room' n' (Building applications) code new =
+    (code ≡ gt_state) × (new ≡ Building applications) × (room' ≡ room) × (n' ≡ n)
+CardSends room n room' n' (Joined session) code new =
+    (code ≡ gt_state) × (new ≡ Joined session) × (room' ≡ room) × (n' ≡ n)
+CardSends room n room' n' (Standing end plans) code new =
+    (next : EndOf CardView) × (left : Cursor) × (new ≡ Standing next left)
+    × HandsOutAll end plans room room' n' next left
+    × (n' ≡ length room → code ≡ gt_sends) × (n' < length room → code ≡ gt_ok)
+
+-- A card's end takes so many characters of an array: all, or up to where it does not listen.
+abbrev pub TakesAll : EndOf CardView → List ℕ → ℕ → EndOf CardView → Type 0
+TakesAll end bytes n' next = Steps TakesCharacter end (take n' bytes) next
+    × ((n' ≡ length bytes) ⊎ ((n' < length bytes) × (listens next.stage ≡ false)))
+
+abbrev pub CardReceives : List ℕ → ℕ → ℕ → CardSide → ℤ → CardSide → Type 0
+CardReceives bytes n n' (Building applications) code new =
+    (code ≡ gt_state) × (new ≡ Building applications) × (n' ≡ n)
+CardReceives bytes n n' (Joined session) code new =
+    (code ≡ gt_state) × (new ≡ Joined session) × (n' ≡ n)
+CardReceives bytes n n' (Standing end plans) code new =
+    (next : EndOf CardView) × (new ≡ Standing next plans) × TakesAll end bytes n' next
+    × (n' ≡ length bytes → code ≡ gt_ok)
+    × (n' < length bytes → code ≡ line_code NotListening)

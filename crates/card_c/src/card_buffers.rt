@@ -1,0 +1,109 @@
+//! Characters of a card that pass by buffers.
+ghost use Rattle.std.specs.Prelude.{◌≡◌, None};
+ghost use Rattle.card_c.specs.CardHandle.{held_by, OnHandle};
+ghost use Rattle.card_c.specs.BufferCalls.{CardSends, CardReceives, HandsOutAll, TakesAll};
+
+use crate::card::next_of;
+use crate::card_held::GtCard;
+use crate::card_side::CardSide;
+use crate::code;
+use crate::plan_queue::PlanQueue;
+use object_card::ObjectCard;
+use std::alloc::Global;
+use t0_core::{CardEnd, LineFault};
+
+/// Hands out the card's characters up to where it listens, or as many as there is room for.
+#[unsafe(no_mangle)]
+pub extern "C" fn galliumtoad_card_send_bytes(
+    alloc: Global,
+    card: &mut GtCard,
+    bytes: &mut [u8],
+    count: &mut usize,
+) -> i32
+    ensures empty { held_by card.old ≡ None
+        → (bytes.new ≡ bytes.old) × (count.new ≡ count.old) }
+    ensures sends { OnHandle (CardSends bytes.old count.old bytes.new count.new)
+        (held_by card.old) result (held_by card.new) }
+{
+    let Some(mut side) = card.take_out(alloc) else {
+        return code::EMPTY;
+    };
+    let answer = send(&mut side, bytes, count);
+    card.put(side);
+    answer
+}
+
+fn send(side: &mut CardSide, bytes: &mut [u8], count: &mut usize) -> i32
+    ensures { CardSends bytes.old count.old bytes.new count.new side.old result side.new }
+{
+    let CardSide::Standing(end, plans) = side else {
+        return code::STATE;
+    };
+    let sent = hand_out(end, plans, bytes);
+    *count = sent;
+    if sent < bytes.len() {
+        code::OK
+    } else {
+        code::SENDS
+    }
+}
+
+/// Hands characters out into a buffer, until it is full or the card listens. Says how many.
+fn hand_out(end: &mut CardEnd<ObjectCard>, plans: &mut PlanQueue, bytes: &mut [u8]) -> usize
+    ensures { HandsOutAll end.old plans.old bytes.old bytes.new result end.new plans.new }
+{
+    for (at, place) in bytes.iter_mut().enumerate() {
+        let Some(byte) = next_of(end, plans) else {
+            return at;
+        };
+        *place = byte;
+    }
+    bytes.len()
+}
+
+/// Takes characters of the terminal, as many as the card listens to.
+#[unsafe(no_mangle)]
+pub extern "C" fn galliumtoad_card_receive_bytes(
+    alloc: Global,
+    card: &mut GtCard,
+    bytes: &[u8],
+    count: &mut usize,
+) -> i32
+    ensures empty { held_by card.old ≡ None → count.new ≡ count.old }
+    ensures receives { OnHandle (CardReceives bytes.now count.old count.new)
+        (held_by card.old) result (held_by card.new) }
+{
+    let Some(mut side) = card.take_out(alloc) else {
+        return code::EMPTY;
+    };
+    let answer = receive(&mut side, bytes, count);
+    card.put(side);
+    answer
+}
+
+fn receive(side: &mut CardSide, bytes: &[u8], count: &mut usize) -> i32
+    ensures { CardReceives bytes.now count.old count.new side.old result side.new }
+{
+    let CardSide::Standing(end, _) = side else {
+        return code::STATE;
+    };
+    let taken = take_all(end, bytes);
+    *count = taken;
+    if taken < bytes.len() {
+        code::of_line(LineFault::NotListening)
+    } else {
+        code::OK
+    }
+}
+
+/// Takes the characters of a buffer, up to where the card does not listen. Says how many.
+fn take_all(end: &mut CardEnd<ObjectCard>, bytes: &[u8]) -> usize
+    ensures { TakesAll end.old bytes.now result end.new }
+{
+    for (at, byte) in bytes.iter().enumerate() {
+        let Ok(()) = end.take(*byte) else {
+            return at;
+        };
+    }
+    bytes.len()
+}

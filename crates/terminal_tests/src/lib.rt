@@ -3,11 +3,15 @@
 #![tactic(auto)]
 
 #[cfg(test)]
+mod buffer_tests;
+#[cfg(test)]
 mod command_tests;
 #[cfg(test)]
 mod data_objects;
 #[cfg(test)]
 mod exchange_tests;
+#[cfg(test)]
+mod limit_tests;
 #[cfg(test)]
 mod long_run_tests;
 #[cfg(test)]
@@ -18,6 +22,8 @@ mod run_memory_tests;
 mod run_tests;
 #[cfg(test)]
 mod session_tests;
+#[cfg(test)]
+mod side;
 #[cfg(test)]
 mod test_card;
 #[cfg(test)]

@@ -1,0 +1,385 @@
+//! Characters that pass by buffers, at an exchange and at a terminal that is driven.
+
+use super::side::Side;
+use super::trace::bytes;
+use apdu_core::Status;
+use card_terminal::{Exchange, HandedOut, OwnedExchange, RESPONSE_LIMIT, Taken, Terminal};
+use std::alloc::AllocGlobal;
+use std::process::Abort;
+use t0_core::{HostTurn, LineFault};
+use tlv_core::{ObjectTag, Tag};
+
+/// A GET DATA of `5F20` that wants everything.
+const GET: &[u8] = &[0x00, 0xCA, 0x5F, 0x20, 0x00];
+
+/// What stands in each place of a buffer before a call.
+const BEFORE: u8 = 0xEE;
+
+/// The exchange of a command, given by its bytes.
+fn begun<S: Side>(rt: &(impl Abort + AllocGlobal), of: &'static [u8]) -> S {
+    S::begin(rt, of, RESPONSE_LIMIT).expect(rt, "memory")
+}
+
+/// What came of handing out into a buffer with so much room.
+#[derive(Drop)]
+struct Handed {
+    buffer: Vec<u8>,
+    count: usize,
+    stop: Option<HostTurn>,
+}
+
+fn after_handing<S: Side>(rt: &(impl Abort + AllocGlobal), side: &mut S, room: usize) -> Handed {
+    let mut buffer = vec![in rt.alloc(); BEFORE; room].expect(rt, "memory");
+    let HandedOut { count, stop } = side.hand_out(rt, &mut buffer);
+    Handed {
+        buffer,
+        count,
+        stop,
+    }
+}
+
+/// These bytes, and behind them those that stood in so much room before.
+fn in_room(rt: &(impl Abort + AllocGlobal), sent: &str, room: usize) -> Vec<u8> {
+    let mut wanted = bytes(rt, sent);
+    for _ in wanted.len()..room {
+        wanted.push(BEFORE).expect(rt, "memory");
+    }
+    wanted
+}
+
+/// So much room is filled with these characters, and what is behind them stays.
+fn hands_out<S: Side>(
+    rt: &(impl Abort + AllocGlobal),
+    side: &mut S,
+    room: usize,
+    sent: &str,
+    stop: Option<HostTurn>,
+) {
+    let handed = after_handing(rt, side, room);
+    assert!(rt; handed.buffer == in_room(rt, sent, room), "{room}: {sent}");
+    assert!(rt; handed.count == bytes(rt, sent).len(), "{room}: {sent}");
+    assert!(rt; handed.stop == stop, "{room}: {sent}");
+}
+
+/// So many of these characters are taken, and the next is this fault, if any.
+fn takes<S: Side>(
+    rt: &(impl Abort + AllocGlobal),
+    side: &mut S,
+    from_card: &str,
+    count: usize,
+    fault: Option<LineFault>,
+) {
+    let taken = side.take_in(&bytes(rt, from_card));
+    assert!(rt; taken.count == count, "{from_card}");
+    assert!(rt; taken.outcome.err() == fault, "{from_card}");
+}
+
+/// The five characters of a header, in rooms that are too small, just right and larger.
+fn hands_out_a_header<S: Side>(rt: &(impl Abort + AllocGlobal)) {
+    for (room, sent, stop) in [
+        (0, "", None),
+        (1, "00", None),
+        (4, "00CA5F20", None),
+        (5, "00CA5F2000", None),
+        (6, "00CA5F2000", Some(HostTurn::Listens)),
+        (300, "00CA5F2000", Some(HostTurn::Listens)),
+    ] {
+        let mut side: S = begun(rt, GET);
+        hands_out(rt, &mut side, room, sent, stop);
+    }
+}
+
+#[test]
+fn room_of_each_size_for_a_header(rt: HostRuntime) {
+    hands_out_a_header::<Exchange<'static>>(&rt);
+    hands_out_a_header::<OwnedExchange>(&rt);
+    hands_out_a_header::<Terminal>(&rt);
+}
+
+/// The sizes of the buffers in which a run of characters of one end passes.
+#[derive(Clone, Copy)]
+struct Sizes {
+    first: usize,
+    others: usize,
+}
+
+/// Buffers that are larger than any run here.
+const WHOLE: Sizes = Sizes {
+    first: 300,
+    others: 300,
+};
+
+/// These are the characters that are sent now, in buffers of these sizes.
+fn is_sent<S: Side>(rt: &(impl Abort + AllocGlobal), side: &mut S, wanted: &[u8], sizes: Sizes) {
+    let mut sent = Vec::new(rt.alloc());
+    let mut room = sizes.first;
+    for _ in 0..1000 {
+        let handed = after_handing(rt, side, room);
+        push_front(rt, &mut sent, &handed);
+        if handed.stop.is_some() {
+            break;
+        }
+        room = sizes.others;
+    }
+    assert!(rt; sent.as_slice() == wanted);
+}
+
+/// Appends what was handed out.
+fn push_front(rt: &impl Abort, sent: &mut Vec<u8>, handed: &Handed) {
+    let characters = handed.buffer.get(..handed.count);
+    let characters = characters.expect(rt, "no more than there is room for");
+    sent.extend_from_slice(characters).expect(rt, "memory");
+}
+
+/// All of these are taken, in buffers of these sizes.
+fn is_taken<S: Side>(rt: &impl Abort, side: &mut S, bytes: &[u8], sizes: Sizes) {
+    let first = sizes.first.min(bytes.len());
+    takes_all(rt, side, &bytes[..first]);
+    for buffer in bytes[first..].chunks(sizes.others.max(1)) {
+        takes_all(rt, side, buffer);
+    }
+}
+
+fn takes_all<S: Side>(rt: &impl Abort, side: &mut S, from_card: &[u8]) {
+    let taken = side.take_in(from_card);
+    assert!(rt; taken.count == from_card.len() && taken.outcome.is_ok());
+}
+
+/// The characters of a trace pass in buffers of these sizes: `> 00CA5F2000 < 6C06 > 00CA5F2006`.
+fn passes<S: Side>(rt: &(impl Abort + AllocGlobal), side: &mut S, trace: &str, sizes: Sizes) {
+    for runs in trace.split('>').skip(1) {
+        let (sent, from_card) = runs.split_once('<').unwrap_or((runs, ""));
+        is_sent(rt, side, &bytes(rt, sent), sizes);
+        is_taken(rt, side, &bytes(rt, from_card), sizes);
+    }
+}
+
+/// What stops it is what comes next; nothing more is told of a buffer that is full.
+fn stops_at_the_next_turn<S: Side>(rt: &(impl Abort + AllocGlobal)) {
+    let ok = Status::new(0x90, 0x00).expect(rt, "a status");
+    let mut side: S = begun(rt, GET);
+    hands_out(rt, &mut side, 9, "00CA5F2000", Some(HostTurn::Listens));
+    hands_out(rt, &mut side, 9, "", Some(HostTurn::Listens));
+    takes(rt, &mut side, "6C06", 2, None);
+    hands_out(rt, &mut side, 3, "00CA5F", None);
+    hands_out(rt, &mut side, 3, "2006", Some(HostTurn::Listens));
+    takes(rt, &mut side, "CA5F2003", 4, None);
+    takes(rt, &mut side, "", 0, None);
+    takes(rt, &mut side, "4A4F459000", 5, None);
+    hands_out(rt, &mut side, 9, "", Some(HostTurn::Done(ok)));
+    hands_out(rt, &mut side, 0, "", None);
+}
+
+#[test]
+fn stop_is_the_next_turn(rt: HostRuntime) {
+    stops_at_the_next_turn::<Exchange<'static>>(&rt);
+    stops_at_the_next_turn::<OwnedExchange>(&rt);
+    stops_at_the_next_turn::<Terminal>(&rt);
+}
+
+/// Characters that have a fault among them.
+#[derive(Clone, Copy)]
+struct Fault<'a> {
+    /// What has passed before, of a GET DATA that wants everything.
+    before: &'a str,
+    /// Characters of the card, and how many of them are taken before the fault.
+    from_card: &'a str,
+    count: usize,
+    fault: LineFault,
+}
+
+/// After the fault this is sent, and this stops it.
+fn stops_at<S: Side>(rt: &(impl Abort + AllocGlobal), row: Fault<'_>, sent: &str, stop: HostTurn) {
+    let mut side: S = begun(rt, GET);
+    passes(rt, &mut side, row.before, WHOLE);
+    takes(rt, &mut side, row.from_card, row.count, Some(row.fault));
+    hands_out(rt, &mut side, 9, sent, Some(stop));
+}
+
+/// Those before it are taken. A procedure byte that is none, and a fetch that brings nothing, end
+/// the exchange; a character where the terminal sends, or after the end, changes nothing.
+fn stops_at_each_fault<S: Side>(rt: &(impl Abort + AllocGlobal)) {
+    let ok = Status::new(0x90, 0x00).expect(rt, "a status");
+    let no_procedure_byte = Fault {
+        before: "> 00CA5F2000",
+        from_card: "604190",
+        count: 1,
+        fault: LineFault::BadProcedure(0x41),
+    };
+    stops_at::<S>(rt, no_procedure_byte, "", HostTurn::Failed);
+    let out_of_turn = Fault {
+        before: "> 00CA5F2000",
+        from_card: "6C0690",
+        count: 2,
+        fault: LineFault::NotListening,
+    };
+    stops_at::<S>(rt, out_of_turn, "00CA5F2006", HostTurn::Listens);
+    let after_the_end = Fault {
+        before: "> 00CA5F2000 < 6C06 > 00CA5F2006",
+        from_card: "CA5F20034A4F45900061",
+        count: 9,
+        fault: LineFault::AfterEnd,
+    };
+    stops_at::<S>(rt, after_the_end, "", HostTurn::Done(ok));
+    let brings_nothing = Fault {
+        before: "> 00CA5F2000 < 6105 > 00C0000005",
+        from_card: "606105",
+        count: 2,
+        fault: LineFault::Stalled,
+    };
+    stops_at::<S>(rt, brings_nothing, "", HostTurn::Failed);
+}
+
+#[test]
+fn fault_among_characters(rt: HostRuntime) {
+    stops_at_each_fault::<Exchange<'static>>(&rt);
+    stops_at_each_fault::<OwnedExchange>(&rt);
+    stops_at_each_fault::<Terminal>(&rt);
+}
+
+/// Nothing goes on after a fault that has ended it, and an empty buffer is still no fault.
+fn stays_failed<S: Side>(rt: &(impl Abort + AllocGlobal)) {
+    let mut side: S = begun(rt, GET);
+    takes(rt, &mut side, "90", 0, Some(LineFault::NotListening));
+    passes(rt, &mut side, "> 00CA5F2000", WHOLE);
+    takes(rt, &mut side, "00", 0, Some(LineFault::BadProcedure(0x00)));
+    takes(rt, &mut side, "9000", 0, Some(LineFault::AfterEnd));
+    takes(rt, &mut side, "", 0, None);
+    hands_out(rt, &mut side, 2, "", Some(HostTurn::Failed));
+    hands_out(rt, &mut side, 0, "", None);
+}
+
+#[test]
+fn nothing_passes_after_a_failure(rt: HostRuntime) {
+    stays_failed::<Exchange<'static>>(&rt);
+    stays_failed::<OwnedExchange>(&rt);
+    stays_failed::<Terminal>(&rt);
+}
+
+/// A command with what passes, and its answer.
+#[derive(Clone, Copy)]
+struct Talk {
+    of: &'static [u8],
+    trace: &'static str,
+    status: u16,
+    data: &'static str,
+}
+
+const TALKS: [Talk; 3] = [
+    Talk {
+        of: GET,
+        trace: "> 00CA5F2000 < 6C06 > 00CA5F2006 < 60CA5F20034A4F459000",
+        status: 0x9000,
+        data: "5F20034A4F45",
+    },
+    Talk {
+        of: &[0x00, 0xA4, 0x04, 0x00, 0x03, 0xA0, 0x00, 0x01, 0x00],
+        trace: "> 00A4040003 < A4 > A00001 < 6107 > 00C0000007 < C06F058403A000019000",
+        status: 0x9000,
+        data: "6F058403A00001",
+    },
+    Talk {
+        of: &[0x00, 0xDA, 0x5F, 0x20, 0x02, 0x41, 0x42],
+        trace: "> 00DA5F2002 < 25 > 41 < 60DA > 42 < 6A84",
+        status: 0x6A84,
+        data: "",
+    },
+];
+
+fn talks<S: Side>(rt: &(impl Abort + AllocGlobal), row: Talk, sizes: Sizes) {
+    let mut side: S = begun(rt, row.of);
+    passes(rt, &mut side, row.trace, sizes);
+    let (status, data) = side.answer_of(rt);
+    assert!(rt; status == row.status, "{}", row.trace);
+    assert!(rt; data == bytes(rt, row.data), "{}", row.trace);
+}
+
+/// Each run of characters passes in a first buffer of each size, from none to all of it and more,
+/// and then in buffers of some size. What passes is the same.
+fn talks_in_each_cut<S: Side>(rt: &(impl Abort + AllocGlobal)) {
+    for row in TALKS {
+        for first in 0..=16 {
+            for others in [1, 2, 3, 300] {
+                talks::<S>(rt, row, Sizes { first, others });
+            }
+        }
+    }
+}
+
+#[test]
+fn each_cut_into_buffers_gives_the_same(rt: HostRuntime) {
+    talks_in_each_cut::<Exchange<'static>>(&rt);
+    talks_in_each_cut::<OwnedExchange>(&rt);
+    talks_in_each_cut::<Terminal>(&rt);
+}
+
+/// A terminal that puts 300 bytes of 42 under the tag `5F20`.
+fn putting(rt: &(impl Abort + AllocGlobal)) -> Terminal {
+    let mut terminal = Terminal::new(rt.alloc());
+    let (tag, _) = Tag::read(&[0x5F, 0x20]).expect(rt, "a tag");
+    let tag = ObjectTag::new(tag).expect(rt, "an address");
+    terminal.put(tag, &bytes(rt, "42*300")).expect(rt, "memory");
+    terminal
+}
+
+/// With the status of a piece the next one begins, and a character behind it is out of turn. After
+/// the last it is after the end.
+#[test]
+fn pieces_of_a_put(rt: HostRuntime) {
+    let ok = Status::new(0x90, 0x00).expect(&rt, "a status");
+    let mut terminal = putting(&rt);
+    passes(&rt, &mut terminal, "> 10DA5F20FF < DA > 42*255", WHOLE);
+    takes(
+        &rt,
+        &mut terminal,
+        "60900060",
+        3,
+        Some(LineFault::NotListening),
+    );
+    hands_out(&rt, &mut terminal, 5, "00DA5F202D", None);
+    takes(&rt, &mut terminal, "DADA", 1, Some(LineFault::NotListening));
+    hands_out(&rt, &mut terminal, 44, "42*44", None);
+    hands_out(&rt, &mut terminal, 44, "42", Some(HostTurn::Listens));
+    takes(&rt, &mut terminal, "900090", 2, Some(LineFault::AfterEnd));
+    hands_out(&rt, &mut terminal, 1, "", Some(HostTurn::Done(ok)));
+}
+
+/// A piece that is refused is the last.
+#[test]
+fn refused_piece_of_a_put(rt: HostRuntime) {
+    let mut terminal = putting(&rt);
+    passes(&rt, &mut terminal, "> 10DA5F20FF < DA > 42*255", WHOLE);
+    takes(&rt, &mut terminal, "6A8490", 2, Some(LineFault::AfterEnd));
+    let (status, data) = terminal.answer_of(&rt);
+    assert!(rt; status == 0x6A84 && data.is_empty());
+}
+
+/// What a terminal hands out into a buffer, and what it takes, without a clause.
+fn handed_by(terminal: &mut Terminal, buffer: &mut [u8]) -> Option<HandedOut> {
+    terminal.next_bytes(buffer)
+}
+
+fn taken_by(terminal: &mut Terminal, bytes: &[u8]) -> Taken {
+    terminal.take_bytes(bytes)
+}
+
+/// Where no operation has begun nothing is handed out, and a buffer stays.
+fn hands_out_nothing(rt: &(impl Abort + AllocGlobal), terminal: &mut Terminal, size: usize) {
+    let mut buffer = in_room(rt, "", size);
+    assert!(rt; handed_by(terminal, &mut buffer).is_none());
+    assert!(rt; buffer == in_room(rt, "", size));
+}
+
+#[test]
+fn no_operation(rt: HostRuntime) {
+    let mut terminal = Terminal::new(rt.alloc());
+    for (size, fault) in [
+        (0, None),
+        (1, Some(LineFault::AfterEnd)),
+        (2, Some(LineFault::AfterEnd)),
+    ] {
+        hands_out_nothing(&rt, &mut terminal, size);
+        let taken = taken_by(&mut terminal, &in_room(&rt, "", size));
+        assert!(rt; taken.count == 0 && taken.outcome.err() == fault);
+    }
+}

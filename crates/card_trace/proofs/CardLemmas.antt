@@ -22,6 +22,7 @@ use Rattle.object_card.specs.CardView.{CardView}
 use Rattle.object_card.specs.Builder.{new_card}
 use Rattle.card_trace.specs.declared.fixed_line.FixedLine.TheVariants as fixed
 use Rattle.card_trace.specs.declared.script.section.Section.TheVariants as section
+use Rattle.card_trace.specs.AnswerToReset.{AnswerToReset, at_first, characters_of, up_to, without, AreOfAnswer, RefusesAnswer}
 use Rattle.card_trace.specs.FixedText.{fixed_text}
 use Rattle.card_trace.specs.TraceText.{handed_out_text}
 use Rattle.card_trace.specs.ScriptWords.{words_of}
@@ -37,8 +38,8 @@ use Rattle.card_trace.proofs.ScriptFaultLemmas.{next_behind, cut_behind, few_lin
 use Rattle.card_trace.specs.declared.script.reading.TheConstants.{SCRIPT_LIMIT}
 use Rattle.card_trace.specs.ScriptTable.{Addition, MayStandIn}
 use Rattle.card_trace.specs.Scripts.{IsNotAdded}
-use Rattle.card_trace.specs.ScriptCard.{CardMeaning, Adds, Plan, Take, HandOut, Reset, Table, is_card_table_line, IsCardLine}
-use Rattle.card_trace.specs.CardScripts.{Past, heard, reset_to, no_past, RunningEnd, CardRun, Building, Running, TakeInTurn, IsFresh, AtWork, end_at, IsReady, IsReadyBy, LeadOn, Writes, TakesCharacters, HandsOut, IsEnough, RunsLine, DoesLine, DoesOrPasses, DoesAll, IsFirstRunLine, RefusesCardLine, CardWrites}
+use Rattle.card_trace.specs.ScriptCard.{CardMeaning, Adds, Atr, Plan, Take, HandOut, Reset, Table, is_card_table_line, IsCardLine}
+use Rattle.card_trace.specs.CardScripts.{Past, heard, reset_to, no_past, RunningEnd, CardRun, Building, Running, TakeInTurn, IsFresh, AtWork, end_at, IsReady, IsReadyBy, LeadOn, Writes, TakesCharacters, HandsOut, IsEnough, Takes, listens_now, answers_first, HandsOutNext, of_answer, of_end, RunsLine, RunsTo, DoesLine, DoesOrPasses, DoesAll, IsFirstRunLine, RefusesMeaning, RefusesCardLine, CardWrites, section_of}
 
 -- ---- characters that pass
 
@@ -506,70 +507,124 @@ writes_refused start old new plans bytes i w before after within refused unwritt
     ))
 
 -- what a line says is this
-pub runs_as : (meaning other : CardMeaning) (old new : AtWork) (before after : Option (List ℕ))
-    → meaning ≡ other
-    → Writes (λ o text n. RunsLine o other text n) old new before after
-    → Writes (λ o text n. RunsLine o meaning text n) old new before after
-runs_as meaning other old new before after is writes =
-    let P : CardMeaning → Type 0 = λ m. Writes (λ o text n. RunsLine o m text n) old new before
-    after in
+pub runs_as : (meaning other : CardMeaning) (answer after_it : AnswerToReset) (old new : AtWork)
+    (before after : Option (List ℕ)) → meaning ≡ other
+    → Writes (λ o text n. RunsLine answer o other text after_it n) old new before after
+    → Writes (λ o text n. RunsLine answer o meaning text after_it n) old new before after
+runs_as meaning other answer after_it old new before after is writes =
+    let P : CardMeaning → Type 0 = λ m. Writes (λ o text n. RunsLine answer o m text after_it n) old
+    new before after in
     subst P (sym is) writes
 
-pub writes_reset : (old new : EndOf CardView) (plans : Cursor) (before after : Option (List ℕ))
+-- nothing of the answer to reset is left, and the end takes characters
+pub takes_now : (answer : AnswerToReset) (bytes : List ℕ) (old new : AtWork)
+    (before after : Option (List ℕ)) → answer.left ≡ []
+    → Writes (λ o text n. TakesCharacters o bytes text n) old new before after
+    → Writes (λ o text n. Takes answer o bytes text n) old new before after
+takes_now answer bytes old new before after none writes = λ past ready.
+    let w = writes past ready in (w.0, w.1, w.2, listens_now none w.3, w.4)
+
+-- some is left, and no character is taken
+pub takes_none : (answer : AnswerToReset) (bytes : List ℕ) (now : AtWork)
+    (before after : Option (List ℕ)) → answer.left ≢ []
+    → Appends before after (fixed_text fixed.NotListening)
+    → Writes (λ o text n. Takes answer o bytes text n) now now before after
+takes_none answer bytes now before after some appends = λ past ready.
+    (fixed_text fixed.NotListening, past, ready, answers_first some refl refl, appends)
+
+pub line_takes : (answer : AnswerToReset) (bytes : List ℕ) (old new : AtWork)
+    (before after : Option (List ℕ))
+    → Writes (λ o text n. Takes answer o bytes text n) old new before after
+    → Writes (λ o text n. RunsLine answer o (Take bytes) text answer n) old new before after
+line_takes answer bytes old new before after writes = λ past ready.
+    let w = writes past ready in (w.0, w.1, w.2, (w.3, refl), w.4)
+
+-- nothing is left, and the end hands out characters
+pub end_hands_out : (answer : AnswerToReset) (most : Option ℕ) (old new : AtWork)
+    (before after : Option (List ℕ)) → answer.left ≡ []
+    → Writes (λ o text n. HandsOut o most text n) old new before after
+    → Writes (λ o text n. HandsOutNext answer o most text answer n) old new before after
+end_hands_out answer most old new before after none writes = λ past ready.
+    let w = writes past ready in (w.0, w.1, w.2, of_end none w.3 refl, w.4)
+
+-- some is left, and handed out
+pub answer_hands_out : (answer after_it : AnswerToReset) (most : Option ℕ) (handed : List ℕ)
+    (now : AtWork) (before after : Option (List ℕ)) → answer.left ≢ []
+    → handed ≡ up_to most answer.left → after_it ≡ without most answer
+    → Appends before after (handed_out_text handed)
+    → Writes (λ o text n. HandsOutNext answer o most text after_it n) now now before after
+answer_hands_out answer after_it most handed now before after some is left appends = λ past ready.
+    (handed_out_text handed, past, ready, of_answer some (ap handed_out_text is) left refl, appends)
+
+pub writes_reset : (answer anew : AnswerToReset) (old new : EndOf CardView) (plans : Cursor)
+    (before after : Option (List ℕ)) → anew ≡ at_first answer.all
     → new.card.state ≡ after_reset old.card.state
     → ((past : Past) → IsReady past (old, plans)
     → IsReady (reset_to past new.card.state) (new, plans))
     → Appends before after (fixed_text fixed.Reset)
-    → Writes (λ o text n. RunsLine o Reset text n) (old, plans) (new, plans) before after
-writes_reset old new plans before after state anew appends = λ past ready.
-    let r = anew past ready in (
+    → Writes (λ o text n. RunsLine answer o Reset text anew n) (old, plans) (new, plans) before
+    after
+writes_reset answer anew old new plans before after begins state ready_again appends =
+    λ past ready.
+    let r = ready_again past ready in (
       fixed_text fixed.Reset,
       reset_to past new.card.state,
       r,
-      (record { past_is = refl; same_left = refl; standing_is = state; is_led = r.led }, refl),
+      (
+        record { past_is = refl; same_left = refl; standing_is = state; is_led = r.led },
+        begins,
+        refl,
+      ),
       appends,
     )
 
 -- ---- a line, and lines one after another
 
 -- a line that is passed over
-pub writes_passed : (old : AtWork) (line : List ℕ) (w : Option (List ℕ)) → words_of line ≡ []
-    → Writes (λ o text n. DoesOrPasses (Running o) line text (Running n)) old old w w
-writes_passed old line w none = λ past h. ([], past, h, inl (none, refl, refl), Appends-nil w)
+pub writes_passed : (answer : AnswerToReset) (old : AtWork) (line : List ℕ) (w : Option (List ℕ))
+    → words_of line ≡ []
+    → Writes (λ o text n. DoesOrPasses (Running answer o) line text (Running answer n)) old old w w
+writes_passed answer old line w none =
+    λ past h. ([], past, h, inl (none, refl, refl), Appends-nil w)
 
 pub run_line_is : (meaning : CardMeaning) → MayStandIn section.Running (is_card_table_line meaning)
     → is_card_table_line meaning ≡ false
 run_line_is (Adds addition) h = search rules
+run_line_is (Atr bytes) h = search rules
 run_line_is (Plan plan) h = search rules
 run_line_is (Take bytes) h = refl
 run_line_is (HandOut most) h = refl
 run_line_is Reset h = refl
 run_line_is Table h = refl
 
-pub writes_line : (old new : AtWork) (line : List ℕ) (meaning : CardMeaning)
-    (before after : Option (List ℕ))
+pub writes_line : (answer after_it : AnswerToReset) (old new : AtWork) (line : List ℕ)
+    (meaning : CardMeaning) (before after : Option (List ℕ))
     → IsCardLine section.Running (words_of line) meaning
-    → Writes (λ o text n. RunsLine o meaning text n) old new before after
-    → Writes (λ o text n. DoesOrPasses (Running o) line text (Running n)) old new before after
-writes_line old new line meaning before after is writes = λ past h.
+    → Writes (λ o text n. RunsLine answer o meaning text after_it n) old new before after
+    → Writes (λ o text n. DoesOrPasses (Running answer o) line text (Running after_it n)) old new
+    before after
+writes_line answer after_it old new line meaning before after is writes = λ past h.
     let done = writes past h in (
       done.0,
       done.1,
       done.2,
-      inr (meaning, is, (end_at done.1 new, done.3, refl)),
+      inr (meaning, is, (after_it, end_at done.1 new, done.3, refl)),
       done.4,
     )
 
-pub record AreRun (start now : AtWork) (all left : List (List ℕ)) (passed number : ℕ)
-    (old new : Option (List ℕ)) : Type 0 where
+pub record AreRun (first answer : AnswerToReset) (start now : AtWork) (all left : List (List ℕ))
+    (passed number : ℕ) (old new : Option (List ℕ)) : Type 0 where
   pub before : List (List ℕ)
   pub is_cut : all ≡ before ++ left
   pub is_number : number ≡ length before + passed
-  pub writes : Writes (λ o text n. DoesAll (Running o) before text (Running n)) start now old new
+  pub writes :
+      Writes (λ o text n. DoesAll (Running first o) before text (Running answer n)) start now old
+      new
 
-pub none_run : (now : AtWork) (all left : List (List ℕ)) (passed number : ℕ) (w : Option (List ℕ))
-    → left ≡ all → number ≡ passed → AreRun now now all left passed number w w
-none_run now all left passed number w same counted = record {
+pub none_run : (answer : AnswerToReset) (now : AtWork) (all left : List (List ℕ))
+    (passed number : ℕ) (w : Option (List ℕ)) → left ≡ all → number ≡ passed
+    → AreRun answer answer now now all left passed number w w
+none_run answer now all left passed number w same counted = record {
   before = [];
   is_cut = sym same;
   is_number = counted ∙ sym (zero_plus passed);
@@ -578,14 +633,16 @@ none_run now all left passed number w same counted = record {
   zero_plus : (n : ℕ) → 0 + n ≡ n
   zero_plus n = omega arith
 
-pub one_more_run : (start old new : AtWork) (all left others : List (List ℕ)) (line : List ℕ)
-    (passed m number : ℕ) (w before after : Option (List ℕ)) → left ≡ line ∷ others
+pub one_more_run : (first answer after_it : AnswerToReset) (start old new : AtWork)
+    (all left others : List (List ℕ)) (line : List ℕ) (passed m number : ℕ)
+    (w before after : Option (List ℕ)) → left ≡ line ∷ others
     → length all + passed < 2 ^ 63 → number ≡ min (m + 1) (2 ^ 64 - 1)
-    → AreRun start old all left passed m w before
-    → Writes (λ o text n. DoesOrPasses (Running o) line text (Running n)) old new before after
-    → AreRun start new all others passed number w after
-one_more_run start old new all left others line passed m number w before after is few saturated
-    so_far one =
+    → AreRun first answer start old all left passed m w before
+    → Writes (λ o text n. DoesOrPasses (Running answer o) line text (Running after_it n)) old new
+    before after
+    → AreRun first after_it start new all others passed number w after
+one_more_run first answer after_it start old new all left others line passed m number w before
+    after is few saturated so_far one =
     let cut : all ≡ so_far.before ++ line ∷ others =
     so_far.is_cut ∙ ap (λ l. so_far.before ++ l) is in
     let counted = next_behind all so_far.before others line passed m number cut so_far.is_number few
@@ -600,37 +657,42 @@ one_more_run start old new all left others line passed m number w before after i
             a.0 ++ b.0,
             b.1,
             b.2,
-            done_both DoesOrPasses (Running (end_at past start)) (Running (end_at a.1 old))
-                (Running (end_at b.1 new))
+            done_both DoesOrPasses (Running first (end_at past start))
+                (Running answer (end_at a.1 old)) (Running after_it (end_at b.1 new))
                 so_far.before (line ∷ []) a.0 b.0 a.3
-                (done_one DoesOrPasses (Running (end_at a.1 old)) (Running (end_at b.1 new)) line
-                b.0 b.3),
+                (done_one DoesOrPasses (Running answer (end_at a.1 old))
+                (Running after_it (end_at b.1 new)) line b.0 b.3),
             Appends-trans w before after a.0 b.0 a.4 b.4,
           );
     }
 
-pub all_run : (start end : AtWork) (these all left : List (List ℕ)) (passed number : ℕ)
+pub all_run : (first answer : AnswerToReset) (start end : AtWork)
+    (these all left : List (List ℕ)) (passed number : ℕ)
     (before after : Option (List ℕ)) → all ≡ these → left ≡ []
-    → AreRun start end all left passed number before after
-    → Writes (λ o text n. DoesAll (Running o) these text (Running n)) start end before after
-all_run start end these all left passed number before after same none so_far = λ past ready.
+    → AreRun first answer start end all left passed number before after
+    → Writes (λ o text n. DoesAll (Running first o) these text (Running answer n)) start end before
+    after
+all_run first answer start end these all left passed number before after same none so_far =
+    λ past ready.
     let a = so_far.writes past ready in
     let whole : so_far.before ≡ these =
     sym (append-nil so_far.before) ∙ ap (λ l. so_far.before ++ l) (sym none) ∙ sym so_far.is_cut
     ∙ same in
-    let P : List (List ℕ) → Type 0 = λ l. DoesAll (Running (end_at past start)) l a.0
-    (Running (end_at a.1 end)) in
+    let P : List (List ℕ) → Type 0 = λ l. DoesAll (Running first (end_at past start)) l a.0
+    (Running answer (end_at a.1 end)) in
     (a.0, a.1, a.2, subst P whole a.3, a.4)
 
 -- a run line that is refused, for its words, or for want of memory
-pub run_stops : (start now : AtWork) (these all left others : List (List ℕ)) (line : List ℕ)
-    (passed m number : ℕ) (w before after : Option (List ℕ)) (fault : PlayFault) → all ≡ these
+pub run_stops : (first answer : AnswerToReset) (start now : AtWork)
+    (these all left others : List (List ℕ)) (line : List ℕ) (passed m number : ℕ)
+    (w before after : Option (List ℕ)) (fault : PlayFault) → all ≡ these
     → left ≡ line ∷ others → length all + passed < 2 ^ 63 → number ≡ min (m + 1) (2 ^ 64 - 1)
-    → AreRun start now all left passed m w before
+    → AreRun first answer start now all left passed m w before
     → IsFaultOfLine (λ _. SaysNothing (IsCardLine section.Running) line) number before after fault
     → (past : Past) → IsReady past start
-    → LinesStop (DoesAll (Running (end_at past start))) RefusesCardLine these passed w after fault
-run_stops start now these all left others line passed m number w before after
+    → LinesStop (DoesAll (Running first (end_at past start))) RefusesCardLine these passed w after
+    fault
+run_stops first answer start now these all left others line passed m number w before after
     (Script n reason) same is few
     saturated so_far (at, nothing, unwritten) = λ past ready.
     let a = so_far.writes past ready in
@@ -649,12 +711,13 @@ run_stops start now these all left others line passed m number w before after
         others = others;
         is_cut = sym same ∙ cut;
         is_number = refl;
-        state = Running (end_at a.1 now);
+        state = Running answer (end_at a.1 now);
         does = a.3;
         refuses = inl nothing;
       },
     )
-run_stops start now these all left others line passed m number w before after NoMemory same is few
+run_stops first answer start now these all left others line passed m number w before after
+    NoMemory same is few
     saturated
     so_far unwritten = λ past ready.
     let a = so_far.writes past ready in
@@ -665,17 +728,20 @@ run_stops start now these all left others line passed m number w before after No
         before = so_far.before;
         others = left;
         is_cut = sym same ∙ so_far.is_cut;
-        state = Running (end_at a.1 now);
+        state = Running answer (end_at a.1 now);
         does = a.3;
       },
     )
-run_stops start now these all left others line passed m number w before after Write same is few
+run_stops first answer start now these all left others line passed m number w before after
+    Write same is few
     saturated
     so_far unknown = λ past ready. tt
-run_stops start now these all left others line passed m number w before after Read same is few
+run_stops first answer start now these all left others line passed m number w before after
+    Read same is few
     saturated
     so_far never = absurd never
-run_stops start now these all left others line passed m number w before after InputTooLong same is
+run_stops first answer start now these all left others line passed m number w before after
+    InputTooLong same is
     few
     saturated so_far never = absurd never
 
@@ -721,24 +787,29 @@ all_built start end all left passed number none so_far =
 
 -- the first run line
 pub first_found : (start : CardRun) (tables now : List Application) (plans these : List Course)
-    (all left others : List (List ℕ)) (line : List ℕ) (passed m number : ℕ) (meaning : CardMeaning)
+    (answer still : Option (List ℕ)) (all left others : List (List ℕ)) (line : List ℕ)
+    (passed m number : ℕ) (meaning : CardMeaning)
     → left ≡ line ∷ others → length all + passed < 2 ^ 63 → number ≡ min (m + 1) (2 ^ 64 - 1)
-    → AreBuilt start (Building tables plans) all left passed m → now ≡ tables → these ≡ plans
+    → AreBuilt start (Building tables plans answer) all left passed m → now ≡ tables
+    → these ≡ plans → still ≡ answer
     → IsCardLine section.Building (words_of line) meaning → is_card_table_line meaning ≡ false
-    → IsFirstRunLine start (Building now these) all others passed number meaning
-first_found start tables now plans these all left others line passed m number meaning is few
-    saturated so_far
-    same same_plans is_line runs =
+    → IsFirstRunLine start (Building now these still) all others passed number meaning
+first_found start tables now plans these answer still all left others line passed m number meaning
+    is few saturated so_far same same_plans same_answer is_line runs =
     let cut : all ≡ so_far.before ++ line ∷ others =
     so_far.is_cut ∙ ap (λ l. so_far.before ++ l) is in
-    let T : List Application → Type 0 = λ t. DoesAll start so_far.before [] (Building t plans) in
-    let C : List Course → Type 0 = λ p. DoesAll start so_far.before [] (Building now p) in record {
+    let T : List Application → Type 0 = λ t. DoesAll start so_far.before []
+    (Building t plans answer) in
+    let C : List Course → Type 0 = λ p. DoesAll start so_far.before [] (Building now p answer) in
+    let A : Option (List ℕ) → Type 0 = λ a. DoesAll start so_far.before []
+    (Building now these a) in record {
       before = so_far.before;
       line = line;
       is_cut = cut;
       is_number = next_behind all so_far.before others line passed m number cut so_far.is_number few
           saturated;
-      does = subst C (sym same_plans) (subst T (sym same) so_far.does);
+      does = subst A (sym same_answer)
+          (subst C (sym same_plans) (subst T (sym same) so_far.does));
       is_line = is_line;
       is_run_line = runs;
     }
@@ -752,19 +823,26 @@ stops_at_once start all passed written = (
   record { before = []; others = all; is_cut = refl; state = start; does = (refl, refl) },
 )
 
--- what the builder does not take
-pub not_added : (tables : List Application) (plans : List Course) (line : List ℕ)
-    (meaning : CardMeaning) (addition : Addition) (refusal : Refusal) → meaning ≡ Adds addition
-    → IsCardLine section.Building (words_of line) meaning → IsNotAdded tables addition refusal
-    → OnReason refusal (RefusesCardLine (Building tables plans) line)
-not_added tables plans line meaning addition (Line reason) is says refused =
+-- what is refused of what a table line says
+pub says_refused : (state : CardRun) (line : List ℕ) (meaning other : CardMeaning)
+    (refusal : Refusal) → meaning ≡ other
+    → IsCardLine (section_of state) (words_of line) meaning
+    → OnReason refusal (RefusesMeaning state other)
+    → OnReason refusal (RefusesCardLine state line)
+says_refused state line meaning other (Line reason) is says refused =
     inr (
-      addition,
-      subst (λ (m : CardMeaning). IsCardLine section.Building (words_of line) m) is
-          says,
+      other,
+      subst (λ (m : CardMeaning). IsCardLine (section_of state) (words_of line) m) is says,
       refused,
     )
-not_added tables plans line meaning addition OutOfMemory is says refused = tt
+says_refused state line meaning other OutOfMemory is says refused = tt
+
+-- what the builder does not take
+pub not_added : (tables : List Application) (plans : List Course) (answer : Option (List ℕ))
+    (addition : Addition) (refusal : Refusal) → IsNotAdded tables addition refusal
+    → OnReason refusal (RefusesMeaning (Building tables plans answer) (Adds addition))
+not_added tables plans answer addition (Line reason) refused = refused
+not_added tables plans answer addition OutOfMemory refused = tt
 
 -- a table line that is refused, or that wants memory
 pub build_stops : (start now : CardRun) (all left others : List (List ℕ)) (line : List ℕ)
@@ -803,19 +881,22 @@ build_stops start now all left others line passed m number OutOfMemory fault is 
     written f in
     subst P (sym at) (stops_at_once start all passed written)
 
-first_does : (tables : List Application) (plans : List Course) (meaning : CardMeaning)
-    (first next : RunningEnd) (text : List ℕ)
+first_does : (tables : List Application) (plans : List Course) (answer : Option (List ℕ))
+    (meaning : CardMeaning) (first next : RunningEnd) (after : AnswerToReset) (text : List ℕ)
     → is_card_table_line meaning ≡ false → IsFresh tables plans first
-    → RunsLine first meaning text next → DoesLine (Building tables plans) meaning text
-    (Running next)
-first_does tables plans (Adds addition) first next text other fresh runs = cc other
-first_does tables plans (Plan plan) first next text other fresh runs = cc other
-first_does tables plans (Take bytes) first next text other fresh runs =
-    (first, next, fresh, runs, refl)
-first_does tables plans (HandOut most) first next text other fresh runs =
-    (first, next, fresh, runs, refl)
-first_does tables plans Reset first next text other fresh runs = (first, next, fresh, runs, refl)
-first_does tables plans Table first next text other fresh runs = (first, next, fresh, runs, refl)
+    → RunsLine (at_first (characters_of answer)) first meaning text after next
+    → DoesLine (Building tables plans answer) meaning text (Running after next)
+first_does tables plans answer (Adds addition) first next after text other fresh runs = cc other
+first_does tables plans answer (Atr bytes) first next after text other fresh runs = cc other
+first_does tables plans answer (Plan plan) first next after text other fresh runs = cc other
+first_does tables plans answer (Take bytes) first next after text other fresh runs =
+    (first, fresh, (after, next, runs, refl))
+first_does tables plans answer (HandOut most) first next after text other fresh runs =
+    (first, fresh, (after, next, runs, refl))
+first_does tables plans answer Reset first next after text other fresh runs =
+    (first, fresh, (after, next, runs, refl))
+first_does tables plans answer Table first next after text other fresh runs =
+    (first, fresh, (after, next, runs, refl))
 
 -- the end of the card that is built
 pub is_made : (tables : List Application) (card : CardView) (made : EndOf CardView) (plans : Cursor)
@@ -830,9 +911,12 @@ is_made tables card made plans is stage led led_under =
 
 -- ---- a whole script
 
-pub empty_table : (none : List Application) (no_plans : List Course) → none ≡ [] → no_plans ≡ []
-    → Building none no_plans ≡ Building [] []
-empty_table none no_plans e p = ap (λ t. Building t no_plans) e ∙ ap (λ l. Building [] l) p
+pub empty_table : (none : List Application) (no_plans : List Course) (no_answer : Option (List ℕ))
+    → none ≡ [] → no_plans ≡ [] → no_answer ≡ None
+    → Building none no_plans no_answer ≡ Building [] [] None
+empty_table none no_plans no_answer e p a =
+    ap (λ t. Building t no_plans no_answer) e ∙ ap (λ l. Building [] l no_answer) p
+    ∙ ap (λ x. Building [] [] x) a
 
 pub few_at_first : (all : List (List ℕ)) (script : List ℕ) → all ≡ lines script
     → length script ≤ SCRIPT_LIMIT → length all + 0 < 2 ^ 63
@@ -847,15 +931,15 @@ few_behind start now all others number meaning f few =
     let counted = f.is_number in omega (arith, whole, few, counted)
 
 -- A script is begun: so many lines are carried out, the last of which is its first run line.
-pub record IsBegun (script : List ℕ) (others : List (List ℕ)) (number : ℕ) (now : AtWork)
-    (old new : Option (List ℕ)) : Type 0 where
+pub record IsBegun (script : List ℕ) (others : List (List ℕ)) (number : ℕ)
+    (answer : AnswerToReset) (now : AtWork) (old new : Option (List ℕ)) : Type 0 where
   pub before : List (List ℕ)
   pub is_cut : lines script ≡ before ++ others
   pub is_number : number ≡ length before
   pub text : List ℕ
   pub past : Past
   pub ready : IsReady past now
-  pub does : DoesAll (Building [] []) before text (Running (end_at past now))
+  pub does : DoesAll (Building [] [] None) before text (Running answer (end_at past now))
   pub appends : Appends old new text
 
 counted_to : (before : List (List ℕ)) (line : List ℕ) (n : ℕ) → n ≡ length before + 1 + 0
@@ -867,61 +951,68 @@ none_more n = omega arith
 
 -- the first run line is carried out, behind those of the table
 pub first_done : (script : List ℕ) (all others : List (List ℕ)) (start : CardRun)
-    (tables : List Application) (plans : List Course) (number : ℕ) (meaning : CardMeaning)
-    (made old : AtWork) (w before : Option (List ℕ)) → all ≡ lines script → start ≡ Building [] []
-    → (f : IsFirstRunLine start (Building tables plans) all others 0 number meaning)
+    (tables : List Application) (plans : List Course) (answer : Option (List ℕ)) (number : ℕ)
+    (meaning : CardMeaning) (first after : AnswerToReset) (made old : AtWork)
+    (w before : Option (List ℕ)) → all ≡ lines script → start ≡ Building [] [] None
+    → (f : IsFirstRunLine start (Building tables plans answer) all others 0 number meaning)
+    → first ≡ at_first (characters_of answer)
     → IsReady (no_past (new_card tables).state) made → made.1.rest ≡ plans
-    → Writes (λ o text n. RunsLine o meaning text n) made old w before
-    → IsBegun script others number old w before
-first_done script all others start tables plans number meaning made old w before is empty f ready
-    all_left one =
+    → Writes (λ o text n. RunsLine first o meaning text after n) made old w before
+    → IsBegun script others number after old w before
+first_done script all others start tables plans answer number meaning first after made old w before
+    is empty f whole ready all_left one =
     let a = one (no_past (new_card tables).state) ready in
     let fresh : IsFresh tables plans (end_at (no_past (new_card tables).state) made) =
     record { past_is = refl; all_left = all_left; is_led = ready.led } in
-    let does = first_does tables plans meaning (end_at (no_past (new_card tables).state) made)
-    (end_at a.1 old) a.0 f.is_run_line fresh a.3 in
-    let P : CardRun → Type 0 = λ s. DoesAll s f.before [] (Building tables plans) in record {
+    let W : AnswerToReset → Type 0 = λ x. RunsLine x
+    (end_at (no_past (new_card tables).state) made) meaning a.0 after (end_at a.1 old) in
+    let does = first_does tables plans answer meaning
+    (end_at (no_past (new_card tables).state) made)
+    (end_at a.1 old) after a.0 f.is_run_line fresh (subst W whole a.3) in
+    let P : CardRun → Type 0 = λ s. DoesAll s f.before [] (Building tables plans answer) in record {
       before = f.before ++ f.line ∷ [];
       is_cut = sym is ∙ cut_behind all f.before others f.line f.is_cut;
       is_number = counted_to f.before f.line number f.is_number;
       text = a.0;
       past = a.1;
       ready = a.2;
-      does = done_both DoesOrPasses (Building [] []) (Building tables plans)
-          (Running (end_at a.1 old)) f.before
+      does = done_both DoesOrPasses (Building [] [] None) (Building tables plans answer)
+          (Running after (end_at a.1 old)) f.before
           (f.line ∷ []) [] a.0 (subst P empty f.does)
-          (done_one DoesOrPasses (Building tables plans) (Running (end_at a.1 old)) f.line a.0
-          (inr (meaning, f.is_line, does)));
+          (done_one DoesOrPasses (Building tables plans answer) (Running after (end_at a.1 old))
+          f.line a.0 (inr (meaning, f.is_line, does)));
       appends = a.4;
     }
 
-pub writes_script : (script : List ℕ) (others : List (List ℕ)) (number : ℕ) (old new : AtWork)
-    (w before after : Option (List ℕ)) → IsBegun script others number old w before
-    → Writes (λ o text n. DoesAll (Running o) others text (Running n)) old new before after
+pub writes_script : (script : List ℕ) (others : List (List ℕ)) (number : ℕ)
+    (first last : AnswerToReset) (old new : AtWork) (w before after : Option (List ℕ))
+    → IsBegun script others number first old w before
+    → Writes (λ o text n. DoesAll (Running first o) others text (Running last n)) old new before
+    after
     → CardWrites (Some script) w after
-writes_script script others number old new w before after begun rest =
+writes_script script others number first last old new w before after begun rest =
     let b = rest begun.past begun.ready in
-    let P : List (List ℕ) → Type 0 = λ l. DoesAll (Building [] []) l (begun.text ++ b.0)
-    (Running (end_at b.1 new)) in (
+    let P : List (List ℕ) → Type 0 = λ l. DoesAll (Building [] [] None) l (begun.text ++ b.0)
+    (Running last (end_at b.1 new)) in (
       begun.text ++ b.0,
       Appends-trans w before after begun.text b.0 begun.appends b.4,
       (
-        Running (end_at b.1 new),
+        Running last (end_at b.1 new),
         subst P (sym begun.is_cut)
-            (done_both DoesOrPasses (Building [] []) (Running (end_at begun.past old))
-            (Running (end_at b.1 new)) begun.before
+            (done_both DoesOrPasses (Building [] [] None) (Running first (end_at begun.past old))
+            (Running last (end_at b.1 new)) begun.before
             others begun.text b.0 begun.does b.3),
       ),
     )
 
-pub script_left : (script : List ℕ) (others : List (List ℕ)) (number : ℕ) (old : AtWork)
-    (w before after : Option (List ℕ)) (fault : PlayFault)
-    → IsBegun script others number old w before
+pub script_left : (script : List ℕ) (others : List (List ℕ)) (number : ℕ)
+    (answer : AnswerToReset) (old : AtWork) (w before after : Option (List ℕ)) (fault : PlayFault)
+    → IsBegun script others number answer old w before
     → ((past : Past) → IsReady past old
-    → LinesStop (DoesAll (Running (end_at past old))) RefusesCardLine others number before after
-    fault)
-    → LinesStop (DoesAll (Building [] [])) RefusesCardLine (lines script) 0 w after fault
-script_left script others number old w before after (Script n reason) begun stops =
+    → LinesStop (DoesAll (Running answer (end_at past old))) RefusesCardLine others number before
+    after fault)
+    → LinesStop (DoesAll (Building [] [] None)) RefusesCardLine (lines script) 0 w after fault
+script_left script others number answer old w before after (Script n reason) begun stops =
     let (text, appends, k, at, r) = stops begun.past begun.ready in
     let both = length-append begun.before r.before in
     let counted : n ≡ length (begun.before ++ r.before) + 1 =
@@ -938,13 +1029,13 @@ script_left script others number old w before after (Script n reason) begun stop
             ∙ sym (append_assoc begun.before r.before (r.line ∷ r.others));
         is_number = counted;
         state = r.state;
-        does = done_both DoesOrPasses (Building [] []) (Running (end_at begun.past old)) r.state
-            begun.before r.before
+        does = done_both DoesOrPasses (Building [] [] None) (Running answer (end_at begun.past old))
+            r.state begun.before r.before
             begun.text text begun.does r.does;
         refuses = r.refuses;
       },
     )
-script_left script others number old w before after NoMemory begun stops =
+script_left script others number answer old w before after NoMemory begun stops =
     let (text, appends, r) = stops begun.past begun.ready in (
       begun.text ++ text,
       Appends-trans w before after begun.text text begun.appends appends,
@@ -954,56 +1045,49 @@ script_left script others number old w before after NoMemory begun stops =
         is_cut = begun.is_cut ∙ ap (λ l. begun.before ++ l) r.is_cut
             ∙ sym (append_assoc begun.before r.before r.others);
         state = r.state;
-        does = done_both DoesOrPasses (Building [] []) (Running (end_at begun.past old)) r.state
-            begun.before r.before
+        does = done_both DoesOrPasses (Building [] [] None) (Running answer (end_at begun.past old))
+            r.state begun.before r.before
             begun.text text begun.does r.does;
       },
     )
-script_left script others number old w before after Write begun stops = tt
-script_left script others number old w before after Read begun stops =
+script_left script others number answer old w before after Write begun stops = tt
+script_left script others number answer old w before after Read begun stops =
     absurd (stops begun.past begun.ready)
-script_left script others number old w before after InputTooLong begun stops =
+script_left script others number answer old w before after InputTooLong begun stops =
     absurd (stops begun.past begun.ready)
 
 -- where the first run line can't be written, or wants memory
 pub first_left : (script : List ℕ) (w after : Option (List ℕ)) (fault : PlayFault)
     → IsWritingFault w after fault
-    → LinesStop (DoesAll (Building [] [])) RefusesCardLine (lines script) 0 w after fault
+    → LinesStop (DoesAll (Building [] [] None)) RefusesCardLine (lines script) 0 w after fault
 first_left script w after NoMemory unwritten =
-    let P : Option (List ℕ) → Type 0 = λ x. LinesStop (DoesAll (Building [] [])) RefusesCardLine
-    (lines script) 0 w x NoMemory in
-    subst P (sym unwritten) (stops_at_once (Building [] []) (lines script) 0 w)
+    let P : Option (List ℕ) → Type 0 = λ x. LinesStop
+    (DoesAll (Building [] [] None)) RefusesCardLine (lines script) 0 w x NoMemory in
+    subst P (sym unwritten) (stops_at_once (Building [] [] None) (lines script) 0 w)
 first_left script w after Write unknown = tt
 first_left script w after (Script n reason) never = absurd never
 first_left script w after Read never = absurd never
 first_left script w after InputTooLong never = absurd never
 
 -- where the table can't be built
-pub table_left : (script : List ℕ) (all : List (List ℕ)) (none : List Application)
-    (no_plans : List Course) (w : Option (List ℕ)) (fault : PlayFault) → all ≡ lines script
-    → none ≡ [] → no_plans ≡ []
-    → LinesStop (DoesAll (Building none no_plans)) RefusesCardLine all 0 w w fault
-    → LinesStop (DoesAll (Building [] [])) RefusesCardLine (lines script) 0 w w fault
-table_left script all none no_plans w fault l e p stops =
-    let T : List Application → Type 0 = λ t. LinesStop
-    (DoesAll (Building t no_plans)) RefusesCardLine all 0 w w fault in
-    let C : List Course → Type 0 = λ c. LinesStop (DoesAll (Building [] c)) RefusesCardLine all 0 w
-    w fault in
-    let L : List (List ℕ) → Type 0 = λ x. LinesStop (DoesAll (Building [] [])) RefusesCardLine x 0 w
-    w fault in
-    subst L l (subst C p (subst T e stops))
+pub table_left : (script : List ℕ) (all : List (List ℕ)) (start : CardRun) (w : Option (List ℕ))
+    (fault : PlayFault) → all ≡ lines script → start ≡ Building [] [] None
+    → LinesStop (DoesAll start) RefusesCardLine all 0 w w fault
+    → LinesStop (DoesAll (Building [] [] None)) RefusesCardLine (lines script) 0 w w fault
+table_left script all start w fault l empty stops =
+    let S : CardRun → Type 0 = λ s. LinesStop (DoesAll s) RefusesCardLine all 0 w w fault in
+    let L : List (List ℕ) → Type 0 = λ x. LinesStop (DoesAll (Building [] [] None)) RefusesCardLine
+    x 0 w w fault in
+    subst L l (subst S empty stops)
 
 -- a script of table lines alone
-pub only_built : (script : List ℕ) (all : List (List ℕ)) (none tables : List Application)
-    (no_plans plans : List Course) (w : Option (List ℕ)) → all ≡ lines script → none ≡ []
-    → no_plans ≡ [] → DoesAll (Building none no_plans) all [] (Building tables plans)
-    → CardWrites (Some script) w w
-only_built script all none tables no_plans plans w l e p does =
-    let T : List Application → Type 0 = λ t. DoesAll (Building t no_plans) all []
-    (Building tables plans) in
-    let C : List Course → Type 0 = λ c. DoesAll (Building [] c) all [] (Building tables plans) in
-    let L : List (List ℕ) → Type 0 = λ x. DoesAll (Building [] []) x [] (Building tables plans) in
-    ([], Appends-nil w, (Building tables plans, subst L l (subst C p (subst T e does))))
+pub only_built : (script : List ℕ) (all : List (List ℕ)) (start end : CardRun)
+    (w : Option (List ℕ)) → all ≡ lines script → start ≡ Building [] [] None
+    → DoesAll start all [] end → CardWrites (Some script) w w
+only_built script all start end w l empty does =
+    let S : CardRun → Type 0 = λ s. DoesAll s all [] end in
+    let L : List (List ℕ) → Type 0 = λ x. DoesAll (Building [] [] None) x [] end in
+    ([], Appends-nil w, (end, subst L l (subst S empty does)))
 
 -- what is read, where that is known, is the script
 pub writes_read : (read : Option (List ℕ)) (items shown : List ℕ) (before after : Option (List ℕ))

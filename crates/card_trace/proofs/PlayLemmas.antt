@@ -219,7 +219,8 @@ stops_at all left others line old mid new state m number script items InputTooLo
 said_refused : (state : PlayState) (line : List ℕ) (meaning : PlayMeaning) (reason : Reason)
     → IsPlayLine (section_of state) (words_of line) meaning → RefusesSaid state meaning reason
     → RefusesPlayLine state line reason
-said_refused (Building tables) line (Adds addition) reason is refused = inr (addition, is, refused)
+said_refused (Building tables) line (Adds addition) reason is refused =
+    inr (Adds addition, is, refused)
 said_refused (Running card plans) line (Adds addition) reason is refused =
     absurd (true≢false is.stands)
 said_refused state line (Send bytes) reason is refused = absurd (refused is.are_fields.2.command)

@@ -3,27 +3,29 @@ use Rattle.std.proofs.Common.{◌≡◌, ℕ, List, ◌∷◌, length, Bool, ref
 use Rattle.std.specs.Prelude.{if◌then◌else◌, ◌==◌, slice_index}
 use Rattle.card_trace.specs.declared.script.keyword.TableWord.TheVariants.{App, Object, Locked}
 use Rattle.card_trace.specs.declared.script.keyword.Keyword.{Keyword}
-use Rattle.card_trace.specs.declared.script.keyword.Keyword.TheVariants.{Adds, Plan, Select, Get, Put, Send, Take, HandOut, Reset, Table}
+use Rattle.card_trace.specs.declared.script.keyword.Keyword.TheVariants.{Adds, Atr, Plan, Select, Get, Put, Send, Take, HandOut, Reset, Table}
 use Rattle.card_trace.specs.declared.script.section.Section.{Section}
 use Rattle.card_trace.specs.ScriptKeywords.{keyword_text}
 use Rattle.card_trace.specs.ScriptTable.{MayStandIn, IsLine}
 
--- the keyword with this length and this first byte
-abbrev with_front : ℕ → ℕ → Keyword
-with_front len byte =
+-- the keyword with this length, this first and this second byte
+abbrev with_front : ℕ → ℕ → ℕ → Keyword
+with_front len byte next =
     if len == 1 then (if byte == 60 then HandOut else Take)
-    else if len == 3 then (if byte == 97 then Adds App else if byte == 103 then Get else Put)
+    else if len == 3 then (if byte == 97 then (if next == 116 then Atr else Adds App)
+    else if byte == 103 then Get else Put)
     else if len == 4 then (if byte == 112 then Plan else Send)
     else if len == 5 then (if byte == 114 then Reset else Table)
     else (if byte == 111 then Adds Object else if byte == 108 then Adds Locked else Select)
 
 abbrev named : List ℕ → Keyword
-named word = with_front (length word) (slice_index word 0)
+named word = with_front (length word) (slice_index word 0) (slice_index word 1)
 
 named_back : (keyword : Keyword) → named (keyword_text keyword) ≡ keyword
 named_back (Adds App) = refl
 named_back (Adds Object) = refl
 named_back (Adds Locked) = refl
+named_back Atr = refl
 named_back Plan = refl
 named_back Select = refl
 named_back Get = refl

@@ -1,5 +1,5 @@
--- What a script of `card` stands for: its lines are carried out in order on the card's end alone,
--- and print text.
+-- What a script of `card` stands for: its lines are carried out in order on the card alone, its
+-- answer to reset and its end, and print text.
 use Rattle.std.specs.Prelude.{◌≡◌, ◌≢◌, ◌≤◌, ◌+◌, ◌⊎◌, ℕ, List, [], ◌∷◌, ◌++◌, length, Option, Some, None, true, false}
 use Rattle.std.specs.Io.KnownBytes.{Appends}
 use Rattle.t0_core.specs.declared.end.End.TheVariants.{Terminal, Card}
@@ -21,14 +21,14 @@ use Rattle.card_trace.specs.declared.script.reason.Reason.{Reason}
 use Rattle.card_trace.specs.declared.script.refusal.Refusal.TheVariants.{Line}
 use Rattle.card_trace.specs.declared.script.section.Section.{Section}
 use Rattle.card_trace.specs.declared.script.section.Section.TheVariants as section
+use Rattle.card_trace.specs.AnswerToReset.{AnswerToReset, at_first, characters_of, up_to, without, AreOfAnswer, RefusesAnswer}
 use Rattle.card_trace.specs.FixedText.{fixed_text}
 use Rattle.card_trace.specs.TableText.{table_text}
 use Rattle.card_trace.specs.TraceText.{handed_out_text}
 use Rattle.card_trace.specs.ScriptWords.{words_of}
-use Rattle.card_trace.specs.ScriptCard.{CardMeaning, Adds, Plan, Take, HandOut, Reset, Table, is_card_table_line, IsCardLine}
+use Rattle.card_trace.specs.ScriptCard.{CardMeaning, Adds, Atr, Plan, Take, HandOut, Reset, Table, is_card_table_line, IsCardLine}
 use Rattle.card_trace.specs.ScriptFaults.{Stops}
 use Rattle.card_trace.specs.ScriptLines.{IsDone, AreDone, ScriptWrites, RefusesLine}
-use Rattle.card_trace.specs.ScriptTable.{Addition}
 use Rattle.card_trace.specs.Scripts.{IsAdded, IsNotAdded}
 
 -- What led to a card's end: all events since the card was built, whose state was the first; and
@@ -65,15 +65,16 @@ TakeInTurn [] (plan ∷ taken) still_left = (plan ≡ plain) × TakeInTurn [] ta
 TakeInTurn (next ∷ left) (plan ∷ taken) still_left =
     (plan ≡ next) × TakeInTurn left taken still_left
 
--- Before the first run line there are the tables of the card that is built, and the plans; from
--- then on its end.
+-- Before the first run line there are the tables of the card that is built, the plans, and the
+-- answer to reset, where the script has one; from then on what of that is to come, and the card's
+-- end.
 pub data CardRun : Type 0 where
-  Building : (tables : List Application) (plans : List Course) → CardRun
-  Running : (end : RunningEnd) → CardRun
+  Building : (tables : List Application) (plans : List Course) (answer : Option (List ℕ)) → CardRun
+  Running : (answer : AnswerToReset) (end : RunningEnd) → CardRun
 
 abbrev pub section_of : CardRun → Section
-section_of (Building tables plans) = section.Building
-section_of (Running end) = section.Running
+section_of (Building tables plans answer) = section.Building
+section_of (Running answer end) = section.Running
 
 -- with these characters, for which these plans were taken
 abbrev pub heard : Past → List Character → List Course → Past
@@ -134,14 +135,41 @@ pub record HandsOut (old : RunningEnd) (most : Option ℕ) (text : List ℕ) (ne
   pub is_enough : IsEnough most (length handed) new.stage
   pub prints : text ≡ handed_out_text handed
 
--- a run line is carried out on the card's end, and prints this text
-abbrev pub RunsLine : RunningEnd → CardMeaning → List ℕ → RunningEnd → Type 0
-RunsLine old (Adds addition) text new = ⊥
-RunsLine old (Plan plan) text new = ⊥
-RunsLine old (Take bytes) text new = TakesCharacters old bytes text new
-RunsLine old (HandOut most) text new = HandsOut old most text new
-RunsLine old Reset text new = IsReset old new × (text ≡ fixed_text fixed.Reset)
-RunsLine old Table text new = (new ≡ old) × (text ≡ table_text old.standing.applications)
+-- What a `>` line does: the card's end takes its characters, but none before the last character of
+-- the answer to reset is handed out.
+pub data Takes (answer : AnswerToReset) (old : RunningEnd) (bytes text : List ℕ) (new : RunningEnd)
+    : Type 0 where
+  listens_now : answer.left ≡ [] → TakesCharacters old bytes text new
+      → Takes answer old bytes text new
+  answers_first : answer.left ≢ [] → new ≡ old → text ≡ fixed_text fixed.NotListening
+      → Takes answer old bytes text new
+
+-- What a `<` line does: what is left of the answer to reset is handed out, or so many characters
+-- of it; and where nothing is left, those of the card's end.
+pub data HandsOutNext (answer : AnswerToReset) (old : RunningEnd) (most : Option ℕ) (text : List ℕ)
+    (after : AnswerToReset) (new : RunningEnd) : Type 0 where
+  of_answer : answer.left ≢ [] → text ≡ handed_out_text (up_to most answer.left)
+      → after ≡ without most answer → new ≡ old → HandsOutNext answer old most text after new
+  of_end : answer.left ≡ [] → HandsOut old most text new → after ≡ answer
+      → HandsOutNext answer old most text after new
+
+-- a run line is carried out on the card, and prints this text
+abbrev pub RunsLine : AnswerToReset → RunningEnd → CardMeaning → List ℕ → AnswerToReset
+    → RunningEnd → Type 0
+RunsLine answer old (Adds addition) text after new = ⊥
+RunsLine answer old (Atr bytes) text after new = ⊥
+RunsLine answer old (Plan plan) text after new = ⊥
+RunsLine answer old (Take bytes) text after new = Takes answer old bytes text new × (after ≡ answer)
+RunsLine answer old (HandOut most) text after new = HandsOutNext answer old most text after new
+RunsLine answer old Reset text after new =
+    IsReset old new × (after ≡ at_first answer.all) × (text ≡ fixed_text fixed.Reset)
+RunsLine answer old Table text after new =
+    (new ≡ old) × (after ≡ answer) × (text ≡ table_text old.standing.applications)
+
+-- where it leads
+abbrev pub RunsTo : AnswerToReset → RunningEnd → CardMeaning → List ℕ → CardRun → Type 0
+RunsTo answer old meaning text new = (after : AnswerToReset) × (next : RunningEnd)
+    × RunsLine answer old meaning text after next × (new ≡ Running after next)
 
 -- nothing has come to a card in this state
 abbrev pub no_past : CardState → Past
@@ -155,16 +183,17 @@ pub record IsFresh (tables : List Application) (plans : List Course) (e : Runnin
 
 -- a line is carried out, and prints this text
 abbrev pub DoesLine : CardRun → CardMeaning → List ℕ → CardRun → Type 0
-DoesLine (Building tables plans) (Adds addition) text new =
+DoesLine (Building tables plans answer) (Adds addition) text new =
     (text ≡ []) × (after : List Application) × IsAdded tables addition after
-    × (new ≡ Building after plans)
-DoesLine (Building tables plans) (Plan plan) text new =
-    (text ≡ []) × (new ≡ Building tables (plans ++ plan ∷ []))
-DoesLine (Building tables plans) meaning text new =
-    (first next : RunningEnd) × IsFresh tables plans first × RunsLine first meaning text next
-    × (new ≡ Running next)
-DoesLine (Running end) meaning text new =
-    (next : RunningEnd) × RunsLine end meaning text next × (new ≡ Running next)
+    × (new ≡ Building after plans answer)
+DoesLine (Building tables plans answer) (Atr bytes) text new =
+    (text ≡ []) × (answer ≡ None) × AreOfAnswer bytes × (new ≡ Building tables plans (Some bytes))
+DoesLine (Building tables plans answer) (Plan plan) text new =
+    (text ≡ []) × (new ≡ Building tables (plans ++ plan ∷ []) answer)
+DoesLine (Building tables plans answer) meaning text new =
+    (first : RunningEnd) × IsFresh tables plans first
+    × RunsTo (at_first (characters_of answer)) first meaning text new
+DoesLine (Running answer end) meaning text new = RunsTo answer end meaning text new
 
 -- the line says something that is carried out, or it is passed over
 abbrev pub DoesOrPasses : CardRun → List ℕ → List ℕ → CardRun → Type 0
@@ -187,21 +216,25 @@ pub record IsFirstRunLine (old new : CardRun) (all others : List (List ℕ)) (pa
 
 -- what `card` writes for the bytes that it reads
 abbrev pub CardWrites : Option (List ℕ) → Option (List ℕ) → Option (List ℕ) → Type 0
-CardWrites = ScriptWrites (DoesAll (Building [] []))
+CardWrites = ScriptWrites (DoesAll (Building [] [] None))
 
--- what a table line adds is refused for this reason
-abbrev pub RefusesAddition : CardRun → Addition → Reason → Type 0
-RefusesAddition (Building tables plans) addition reason = IsNotAdded tables addition (Line reason)
-RefusesAddition (Running end) addition reason = ⊥
+-- what a line says is refused for this reason: what a table line adds, by the builder, and what is
+-- no answer to reset, or the second one
+abbrev pub RefusesMeaning : CardRun → CardMeaning → Reason → Type 0
+RefusesMeaning (Building tables plans answer) (Adds addition) reason =
+    IsNotAdded tables addition (Line reason)
+RefusesMeaning (Building tables plans answer) (Atr bytes) reason =
+    RefusesAnswer answer bytes reason
+RefusesMeaning state meaning reason = ⊥
 
 -- a line is refused for this reason
 abbrev pub RefusesCardLine : CardRun → List ℕ → Reason → Type 0
-RefusesCardLine = RefusesLine section_of IsCardLine (λ addition. Adds addition) RefusesAddition
+RefusesCardLine = RefusesLine section_of IsCardLine RefusesMeaning
 
 -- where `card` stops at a fault
 abbrev pub CardStops : Option (List ℕ) → Option (List ℕ) → Option (List ℕ) → PlayFault → Type 0
 CardStops script old new fault =
-    Stops (DoesAll (Building [] [])) RefusesCardLine script old new fault
+    Stops (DoesAll (Building [] [] None)) RefusesCardLine script old new fault
 
 -- a card's end, and the cursor over the plans that it is given
 abbrev pub AtWork : Type 0

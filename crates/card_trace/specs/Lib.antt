@@ -11,6 +11,7 @@ pub mod ScriptLines
 pub mod Scripts
 pub mod CommandLine
 pub mod ScriptReasons
+pub mod AnswerToReset
 pub mod FaultTexts
 pub mod ScriptWords
 pub mod ScriptKeywords
@@ -20,3 +21,4 @@ pub mod ScriptPlay
 pub mod ScriptCard
 pub mod Playing
 pub mod CardScripts
+pub mod BuiltTable

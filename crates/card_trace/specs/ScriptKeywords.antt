@@ -2,13 +2,14 @@
 use Rattle.std.specs.Prelude.{ℕ, List, codes}
 use Rattle.card_trace.specs.declared.script.keyword.TableWord.TheVariants.{App, Object, Locked}
 use Rattle.card_trace.specs.declared.script.keyword.Keyword.{Keyword}
-use Rattle.card_trace.specs.declared.script.keyword.Keyword.TheVariants.{Adds, Plan, Select, Get, Put, Send, Take, HandOut, Reset, Table}
+use Rattle.card_trace.specs.declared.script.keyword.Keyword.TheVariants.{Adds, Atr, Plan, Select, Get, Put, Send, Take, HandOut, Reset, Table}
 
 -- how a keyword is written
 abbrev pub keyword_text : Keyword → List ℕ
 keyword_text (Adds App) = codes "app"
 keyword_text (Adds Object) = codes "object"
 keyword_text (Adds Locked) = codes "locked"
+keyword_text Atr = codes "atr"
 keyword_text Plan = codes "plan"
 keyword_text Select = codes "select"
 keyword_text Get = codes "get"

@@ -6,7 +6,6 @@ use Rattle.std.specs.Io.KnownBytes.{Appends}
 use Rattle.card_trace.specs.declared.script.reason.Reason.{Reason}
 use Rattle.card_trace.specs.declared.script.section.Section.{Section}
 use Rattle.card_trace.specs.ScriptFaults.{SaysNothing}
-use Rattle.card_trace.specs.ScriptTable.{Addition}
 use Rattle.card_trace.specs.ScriptWords.{words_of}
 
 -- what words say in a section
@@ -35,12 +34,11 @@ abbrev pub ScriptWrites : {State : Type 0} → (List (List ℕ) → List ℕ →
 ScriptWrites {State} Does script old new = (text : List ℕ) × Appends old new text
     × IfSome script (λ bytes. (end : State) × Does (lines bytes) text end)
 
--- A line is refused: its words say nothing that may stand there, or what it adds is refused for
+-- A line is refused: its words say nothing that may stand there, or what they say is refused for
 -- this reason.
 abbrev pub RefusesLine : {State Meaning : Type 0} → (State → Section) → Saying Meaning
-    → (Addition → Meaning) → (State → Addition → Reason → Type 0)
-    → State → List ℕ → Reason → Type 0
-RefusesLine section_of Says adds RefusesAddition state line reason =
+    → (State → Meaning → Reason → Type 0) → State → List ℕ → Reason → Type 0
+RefusesLine {State} {Meaning} section_of Says Refuses state line reason =
     SaysNothing (Says (section_of state)) line
-    ⊎ ((addition : Addition) × Says (section_of state) (words_of line) (adds addition)
-    × RefusesAddition state addition reason)
+    ⊎ ((meaning : Meaning) × Says (section_of state) (words_of line) meaning
+    × Refuses state meaning reason)

@@ -1,11 +1,12 @@
 -- Why a line of a script is refused, and what is told of it.
-use Rattle.std.specs.Prelude.{ℕ, List, codes}
+use Rattle.std.specs.Prelude.{ℕ, List, ◌++◌, codes}
 use Rattle.apdu_core.specs.declared.command.ApduFault.{ApduFault}
 use Rattle.apdu_core.specs.declared.command.ApduFault.TheVariants as command
+use Rattle.atr_core.specs.FaultText.{fault_text}
 use Rattle.object_card.specs.declared.builder_fault.BuilderFault.{BuilderFault}
 use Rattle.object_card.specs.declared.builder_fault.BuilderFault.TheVariants as builder
 use Rattle.card_trace.specs.declared.script.reason.Reason.{Reason}
-use Rattle.card_trace.specs.declared.script.reason.Reason.TheVariants.{UnknownWord, LateTableLine, WrongWordCount, BadHex, BadTag, BadPlan, BadNumber, BadAid, ValueTooLong, CommandTooShort, BadCommandLength, InvalidIns, AidTwice, TooManyApps, NoApp, NotObjects, TableFull}
+use Rattle.card_trace.specs.declared.script.reason.Reason.TheVariants.{UnknownWord, LateTableLine, WrongWordCount, BadHex, BadTag, BadPlan, BadNumber, BadAid, BadAtr, ValueTooLong, CommandTooShort, BadCommandLength, InvalidIns, AtrTwice, AidTwice, TooManyApps, NoApp, NotObjects, TableFull}
 use Rattle.card_trace.specs.declared.script.refusal.Refusal.{Refusal}
 use Rattle.card_trace.specs.declared.script.refusal.Refusal.TheVariants.{Line, OutOfMemory}
 use Rattle.card_trace.specs.declared.play_fault.PlayFault.{PlayFault}
@@ -21,10 +22,12 @@ reason_text BadTag = codes "bad tag"
 reason_text BadPlan = codes "bad plan"
 reason_text BadNumber = codes "bad number"
 reason_text BadAid = codes "bad aid"
+reason_text (BadAtr fault) = codes "bad atr: " ++ fault_text fault
 reason_text ValueTooLong = codes "value too long"
 reason_text CommandTooShort = codes "command too short"
 reason_text BadCommandLength = codes "bad command length"
 reason_text InvalidIns = codes "invalid INS"
+reason_text AtrTwice = codes "atr twice"
 reason_text AidTwice = codes "aid twice"
 reason_text TooManyApps = codes "too many apps"
 reason_text NoApp = codes "no app"

@@ -128,14 +128,14 @@ PlaysAll = AreDone PlaysLine
 abbrev pub PlayWrites : Option (List ℕ) → Option (List ℕ) → Option (List ℕ) → Type 0
 PlayWrites = ScriptWrites (PlaysAll (Building []))
 
--- what a table line adds is refused for this reason
-abbrev pub RefusesAddition : PlayState → Addition → Reason → Type 0
-RefusesAddition (Building tables) addition reason = IsNotAdded tables addition (Line reason)
-RefusesAddition (Running card plans) addition reason = ⊥
+-- what a line says is refused for this reason: what a table line adds, by the builder
+abbrev pub RefusesMeaning : PlayState → PlayMeaning → Reason → Type 0
+RefusesMeaning (Building tables) (Adds addition) reason = IsNotAdded tables addition (Line reason)
+RefusesMeaning state meaning reason = ⊥
 
 -- a line is refused for this reason
 abbrev pub RefusesPlayLine : PlayState → List ℕ → Reason → Type 0
-RefusesPlayLine = RefusesLine section_of IsPlayLine (λ addition. Adds addition) RefusesAddition
+RefusesPlayLine = RefusesLine section_of IsPlayLine RefusesMeaning
 
 -- where `play` stops at a fault
 abbrev pub PlayStops : Option (List ℕ) → Option (List ℕ) → Option (List ℕ) → PlayFault → Type 0

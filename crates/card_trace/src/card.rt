@@ -1,15 +1,18 @@
 //! Scripts of `card`.
-ghost use Rattle.std.specs.Prelude.{◌≡◌, ◌<◌, ◌≤◌, ◌+◌, ◌^◌, [], length, Some, OnOk, IfErr, IfSome};
+ghost use Rattle.std.specs.Prelude.{◌≡◌, ◌<◌, ◌≤◌, ◌+◌, ◌^◌, [], length, Some, None, OnOk, IfErr, IfSome};
 ghost use Rattle.std.specs.Str.Lines.{lines};
 ghost use Rattle.card_trace.specs.CardScripts.{Past, Building, Running, DoesAll, RefusesCardLine, CardWrites, CardStops, IsReady, end_at, Writes};
+ghost use Rattle.card_trace.specs.AnswerToReset.{characters_of};
 ghost use Rattle.card_trace.specs.ScriptFaults.{IsNotBegun};
 ghost use Rattle.card_trace.specs.LineFaults.{LinesStop};
 
 use crate::card_run::{carry_out, run_line};
 use crate::card_table::CardTable;
+use crate::opening::Opening;
 use crate::play_fault::PlayFault;
 use crate::script::lines::Lines;
 use crate::script::reading::{SCRIPT_LIMIT, read_script};
+use card_terminal::Bytes;
 use object_card::ObjectCard;
 use std::alloc::Allocator;
 use std::io::{Read, Write};
@@ -43,7 +46,7 @@ fn carry_out_lines<A: Allocator + Copy, W: Write>(
     requires { length script.now ≤ SCRIPT_LIMIT }
     ensures written { OnOk result
         (CardWrites (Some script.now) (W.contents writer.old) (W.contents writer.new)) }
-    ensures stops { IfErr result (LinesStop (DoesAll (Building [] [])) RefusesCardLine
+    ensures stops { IfErr result (LinesStop (DoesAll (Building [] [] None)) RefusesCardLine
         (lines script.now) 0 (W.contents writer.old) (W.contents writer.new)) }
 {
     let mut table = CardTable::new(alloc);
@@ -52,16 +55,30 @@ fn carry_out_lines<A: Allocator + Copy, W: Write>(
     let Some(first) = table.build(alloc, &mut lines, &mut number)? else {
         return Ok(());
     };
-    let CardTable { builder, plans } = table;
+    let CardTable {
+        builder,
+        plans,
+        answer,
+    } = table;
+    let mut opening = Opening::of(characters(&answer));
     let mut cursor = Plans::over(&plans);
     let mut end = CardEnd::new(builder.finish()?);
-    carry_out(alloc, &mut end, &mut cursor, first, writer)?;
-    run_lines(alloc, &mut end, &mut cursor, lines, number, writer)
+    carry_out(alloc, &mut opening, &mut end, &mut cursor, first, writer)?;
+    run_lines(
+        alloc,
+        &mut opening,
+        &mut end,
+        &mut cursor,
+        lines,
+        number,
+        writer,
+    )
 }
 
 /// Carries out the lines behind the first run line, the first of which has the number after this.
 fn run_lines<A: Allocator + Copy, B: Allocator, W: Write>(
     alloc: A,
+    opening: &mut Opening<'_>,
     end: &mut CardEnd<ObjectCard<A>>,
     plans: &mut Plans<B>,
     lines: Lines<'_>,
@@ -70,16 +87,27 @@ fn run_lines<A: Allocator + Copy, B: Allocator, W: Write>(
 ) -> Result<(), PlayFault>
     requires { length lines + number < 2 ^ 63 }
     ensures written { OnOk result (Writes
-        (λ old text new. DoesAll (Running old) lines.entry text (Running new))
+        (λ old text new. DoesAll (Running opening.old old) lines.entry text
+        (Running opening.new new))
         (end.old, plans.old) (end.new, plans.new)
         (W.contents writer.old) (W.contents writer.new)) }
     ensures stops { IfErr result (λ fault. (past : Past) → IsReady past (end.old, plans.old) →
-        LinesStop (DoesAll (Running (end_at past (end.old, plans.old)))) RefusesCardLine
+        LinesStop (DoesAll (Running opening.old (end_at past (end.old, plans.old)))) RefusesCardLine
         lines.entry number (W.contents writer.old) (W.contents writer.new) fault) }
 {
     for line in lines {
         number = number.saturating_add(1);
-        run_line(alloc, end, plans, line, number, writer)?;
+        run_line(alloc, opening, end, plans, line, number, writer)?;
     }
     Ok(())
+}
+
+/// The characters of an answer to reset, none where there is no such line.
+fn characters<A: Allocator>(answer: &Option<Bytes<A>>) -> &[u8]
+    ensures { result.now ≡ characters_of answer.now }
+{
+    match answer {
+        None => &[],
+        Some(answer) => answer.bytes(),
+    }
 }

@@ -1,18 +1,23 @@
 //! The lines of a script of `card` that say what the card holds, and how it is to answer.
-ghost use Rattle.std.specs.Prelude.{◌≡◌, ◌<◌, ◌+◌, ◌^◌, ℕ, List, [], length, Option, false, IfOk, IfErr, MatchOption};
+ghost use Rattle.std.specs.Prelude.{◌≡◌, ◌<◌, ◌+◌, ◌^◌, ℕ, List, [], length, Option, Some, None, false, OnOk, IfOk, IfErr, MatchOption};
 ghost use Rattle.card_trace.specs.declared.script.section.Section.TheVariants as section;
 ghost use Rattle.card_trace.specs.ScriptWords.{words_of};
 ghost use Rattle.card_trace.specs.ScriptCard.{card_meaning, is_card_table_line, IsCardLine};
-ghost use Rattle.card_trace.specs.CardScripts.{Building, DoesOrPasses, DoesAll, IsFirstRunLine, RefusesCardLine};
+ghost use Rattle.card_trace.specs.CardScripts.{DoesOrPasses, DoesAll, IsFirstRunLine, RefusesCardLine};
+ghost use Rattle.card_trace.specs.AnswerToReset.{AreOfAnswer, RefusesAnswer};
+ghost use Rattle.card_trace.specs.BuiltTable.{built};
 ghost use Rattle.card_trace.specs.ScriptReasons.{OnReason};
 ghost use Rattle.card_trace.specs.LineFaults.{LinesStop};
 
 use crate::play_fault::PlayFault;
 use crate::script::card_line::{CardLine, read_card_line};
 use crate::script::lines::Lines;
+use crate::script::reason::Reason;
 use crate::script::refusal::Refusal;
 use crate::script::section::Section;
 use crate::script::table_line::add;
+use atr_core::Atr;
+use card_terminal::Bytes;
 use object_card::CardBuilder;
 use std::alloc::{AllocError, Allocator};
 use t0_core::Plan;
@@ -22,6 +27,7 @@ use t0_core::Plan;
 pub struct CardTable<A: Allocator + Copy> {
     pub builder: CardBuilder<A>,
     pub plans: Vec<Plan<A>, A>,
+    pub answer: Option<Bytes<A>>,
 }
 
 impl<A: Allocator + Copy> CardTable<A> {
@@ -29,10 +35,12 @@ impl<A: Allocator + Copy> CardTable<A> {
     pub fn new(alloc: A) -> CardTable<A>
         ensures builder { result.builder ≡ [] }
         ensures plans { result.plans.items ≡ [] }
+        ensures answer { result.answer ≡ None }
     {
         CardTable {
             builder: CardBuilder::new(alloc),
             plans: Vec::new(alloc),
+            answer: None,
         }
     }
 
@@ -46,13 +54,13 @@ impl<A: Allocator + Copy> CardTable<A> {
     ) -> Result<Option<CardLine<A>>, PlayFault>
         requires { length lines.now + number.now < 2 ^ 63 }
         ensures ok { IfOk result (λ said. MatchOption said
-            (DoesAll (Building self.old.builder self.old.plans.items) lines.old []
-            (Building self.new.builder self.new.plans.items))
-            (λ said. IsFirstRunLine (Building self.old.builder self.old.plans.items)
-            (Building self.new.builder self.new.plans.items) lines.old lines.new
+            (DoesAll (built self.old) lines.old []
+            (built self.new))
+            (λ said. IsFirstRunLine (built self.old)
+            (built self.new) lines.old lines.new
             number.old number.new (card_meaning said))) }
         ensures stops { IfErr result (λ fault. (written : Option (List ℕ)) →
-            LinesStop (DoesAll (Building self.old.builder self.old.plans.items)) RefusesCardLine
+            LinesStop (DoesAll (built self.old)) RefusesCardLine
             lines.old number.old written written fault) }
     {
         while let Some(line) = lines.next() {
@@ -69,19 +77,24 @@ impl<A: Allocator + Copy> CardTable<A> {
     /// Adds what a table line says; what a run line says is handed back.
     fn take(&mut self, alloc: A, line: &[u8]) -> Result<Option<CardLine<A>>, Refusal>
         ensures ok { IfOk result (λ said. MatchOption said
-            (DoesOrPasses (Building self.old.builder self.old.plans.items) line.now []
-            (Building self.new.builder self.new.plans.items))
+            (DoesOrPasses (built self.old) line.now []
+            (built self.new))
             (λ said. (is_card_table_line (card_meaning said) ≡ false)
             × IsCardLine section.Building (words_of line.now) (card_meaning said)
             × (self.new.builder ≡ self.old.builder)
-            × (self.new.plans.items ≡ self.old.plans.items))) }
+            × (self.new.plans.items ≡ self.old.plans.items)
+            × (self.new.answer ≡ self.old.answer))) }
         ensures refused { IfErr result (λ refusal. OnReason refusal
-            (RefusesCardLine (Building self.old.builder self.old.plans.items) line.now)) }
+            (RefusesCardLine (built self.old) line.now)) }
     {
         match read_card_line(alloc, line, Section::Building)? {
             None => Ok(None),
             Some(CardLine::Adds(addition)) => {
                 add(&mut self.builder, addition)?;
+                Ok(None)
+            }
+            Some(CardLine::Atr(answer)) => {
+                self.answer(answer)?;
                 Ok(None)
             }
             Some(CardLine::Plan(plan)) => {
@@ -90,5 +103,22 @@ impl<A: Allocator + Copy> CardTable<A> {
             }
             Some(said) => Ok(Some(said)),
         }
+    }
+
+    /// Keeps the answer to reset with these characters. `BadAtr` where they are none, and then
+    /// `AtrTwice` where there is one.
+    fn answer(&mut self, answer: Bytes<A>) -> Result<(), Reason>
+        ensures kept { OnOk result ((self.old.answer ≡ None) × AreOfAnswer answer
+            × (self.new.answer ≡ Some answer)) }
+        ensures refused { IfErr result (RefusesAnswer self.old.answer answer) }
+        ensures builder { self.new.builder ≡ self.old.builder }
+        ensures plans { self.new.plans.items ≡ self.old.plans.items }
+    {
+        Atr::read(answer.bytes())?;
+        if self.answer.is_some() {
+            return Err(Reason::AtrTwice);
+        }
+        self.answer = Some(answer);
+        Ok(())
     }
 }

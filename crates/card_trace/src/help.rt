@@ -81,6 +81,8 @@ The script stands on standard input. Its first lines say what the card holds:
   locked TAG VALUE   the same, and no command changes it
   plan STEPS CUT     how the card is to answer one TPDU; plans serve them in
                      order, over resets too
+  atr HEX            the answer to reset, which the card sends at the beginning
+                     and after each reset, and before it listens
 
 The lines behind them are carried out in order:
 

@@ -11,6 +11,7 @@ mod help;
 mod main_status;
 mod objects;
 mod objects_fault;
+mod opening;
 mod play;
 mod play_fault;
 mod player;

@@ -1,6 +1,8 @@
 //! The lines of `card`.
-ghost use Rattle.std.specs.Prelude.{◌≡◌, ◌≢◌, ℕ, [], Option, IfOk, IfErr, MatchOption, false};
+ghost use Rattle.std.specs.Prelude.{◌≡◌, ◌≢◌, ℕ, List, [], Option, IfOk, IfErr, MatchOption, false};
 ghost use Rattle.card_trace.specs.ScriptReasons.{OnReason};
+ghost use Rattle.card_trace.specs.ScriptFields.{IsHexText};
+ghost use Rattle.card_trace.specs.ScriptTable.{OneField};
 ghost use Rattle.card_trace.specs.ScriptWords.{words_in, words_of};
 ghost use Rattle.card_trace.specs.ScriptCard.{CardMeaning, card_meaning, IsMostText, card_keyword, AreCardFields, is_card_table_line, IsCardLine};
 
@@ -20,6 +22,8 @@ use t0_core::Plan;
 pub enum CardLine<A: Allocator = Global> {
     /// Adds to the table.
     Adds(TableLine<A>),
+    /// The characters of the answer to reset, which are not read yet.
+    Atr(Bytes<A>),
     /// A plan for the TPDUs of the script, in turn.
     Plan(Plan<A>),
     /// The card end takes these characters.
@@ -54,6 +58,10 @@ pub fn read_card_line<A: Allocator + Copy>(
             section.takes_table_line()?;
             CardLine::Adds(read_table_line(alloc, word, rest)?)
         }
+        Keyword::Atr => {
+            section.takes_table_line()?;
+            CardLine::Atr(read_characters(alloc, rest)?)
+        }
         Keyword::Plan => {
             section.takes_table_line()?;
             let (steps, cut) = two_words(rest)?;
@@ -78,10 +86,7 @@ fn read_run_line<A: Allocator>(
         is_card_table_line meaning ≡ false → ¬ AreCardFields meaning (words_in rest.now))) }
 {
     match keyword {
-        Keyword::Take => {
-            let bytes = read_hex(alloc, one_word(rest)?)?;
-            Ok(CardLine::Take(Bytes::new(bytes)))
-        }
+        Keyword::Take => Ok(CardLine::Take(read_characters(alloc, rest)?)),
         Keyword::HandOut => Ok(CardLine::HandOut(read_most(rest)?)),
         Keyword::Reset => {
             no_word(rest)?;
@@ -93,6 +98,18 @@ fn read_run_line<A: Allocator>(
         }
         _ => Err(Refusal::Line(Reason::UnknownWord)),
     }
+}
+
+/// The characters of the HEX that is left of a line; else the refusal of the number of words, or of
+/// what is no HEX, or for want of memory.
+fn read_characters<A: Allocator>(alloc: A, rest: &[u8]) -> Result<Bytes<A>, Refusal>
+    ensures ok { IfOk result (λ bytes. OneField (words_in rest.now)
+        (λ text. IsHexText text bytes)) }
+    ensures refused { IfErr result (λ refusal. OnReason refusal (λ _. (bytes : List ℕ) →
+        ¬ OneField (words_in rest.now) (λ text. IsHexText text bytes))) }
+{
+    let bytes = read_hex(alloc, one_word(rest)?)?;
+    Ok(Bytes::new(bytes))
 }
 
 /// How many characters are handed out at most, where that is left of a line.

@@ -15,6 +15,7 @@ pub enum TableWord {
 #[derive(Clone, Copy, Debug, PartialEq, Eq)]
 pub enum Keyword {
     Adds(TableWord),
+    Atr,
     Plan,
     Select,
     Get,
@@ -36,6 +37,7 @@ impl Keyword {
             b"app" => Some(Keyword::Adds(TableWord::App)),
             b"object" => Some(Keyword::Adds(TableWord::Object)),
             b"locked" => Some(Keyword::Adds(TableWord::Locked)),
+            b"atr" => Some(Keyword::Atr),
             b"plan" => Some(Keyword::Plan),
             b"select" => Some(Keyword::Select),
             b"get" => Some(Keyword::Get),

@@ -1,5 +1,6 @@
 //! The reasons to refuse a line of a script, with their texts.
 use apdu_core::ApduFault;
+use atr_core::AtrFault;
 use std::error::Error;
 use std::fmt;
 
@@ -22,6 +23,8 @@ pub enum Reason {
     BadNumber,
     /// An application identifier has not 5 to 16 bytes.
     BadAid,
+    /// The bytes are no answer to reset, for this fault.
+    BadAtr(AtrFault),
     /// A value has more bytes than a put, or an entry of the table, may have.
     ValueTooLong,
     /// A command has fewer than four bytes.
@@ -30,6 +33,8 @@ pub enum Reason {
     BadCommandLength,
     /// The INS of a command is `6X` or `9X`.
     InvalidIns,
+    /// There is an answer to reset before it.
+    AtrTwice,
     /// The identifier is that of an application before it.
     AidTwice,
     /// There are as many applications as a card may have.
@@ -49,7 +54,8 @@ impl fmt::Display for Reason {
     ghost output = { λ reason. Some (reason_text reason) };
 
     fn fmt<W: fmt::Write>(&self, f: &mut fmt::Formatter<W>) -> fmt::Result {
-        f.write_str(match self {
+        let text = match self {
+            Reason::BadAtr(fault) => return write!(f, "bad atr: {fault}"),
             Reason::UnknownWord => "unknown word",
             Reason::LateTableLine => "table line after the first run line",
             Reason::WrongWordCount => "wrong number of words",
@@ -62,12 +68,14 @@ impl fmt::Display for Reason {
             Reason::CommandTooShort => "command too short",
             Reason::BadCommandLength => "bad command length",
             Reason::InvalidIns => "invalid INS",
+            Reason::AtrTwice => "atr twice",
             Reason::AidTwice => "aid twice",
             Reason::TooManyApps => "too many apps",
             Reason::NoApp => "no app",
             Reason::NotObjects => "not objects",
             Reason::TableFull => "table full",
-        })
+        };
+        f.write_str(text)
     }
 }
 
@@ -85,5 +93,16 @@ impl From<ApduFault> for Reason {
             ApduFault::BadLength => Reason::BadCommandLength,
             ApduFault::InvalidIns => Reason::InvalidIns,
         }
+    }
+}
+
+impl From<AtrFault> for Reason {
+    ghost use Rattle.std.specs.Prelude.{◌≡◌};
+    ghost use Rattle.card_trace.specs.declared.script.reason.Reason.TheVariants.{BadAtr};
+
+    ghost from_gives = { λ fault reason. reason ≡ BadAtr fault };
+
+    fn from(fault: AtrFault) -> Reason {
+        Reason::BadAtr(fault)
     }
 }

@@ -1,4 +1,4 @@
-use Rattle.std.proofs.Common.{◌≡◌, ℕ, List, [], Err, IfSome, refl, sym, ap, subst}
+use Rattle.std.proofs.Common.{◌≡◌, ℕ, List, [], Err, None, IfSome, refl, sym, ap, subst}
 use Rattle.card_trace.specs.CardScripts.{Building, DoesAll, RefusesCardLine, CardStops}
 use Rattle.card_trace.proofs.ScriptFaultLemmas.{fault_passed, faults_more, stops_unread, not_begun, within_limit, script_stops}
 use Rattle.card_trace.proofs.ScriptLineLemmas.{on_ok}
@@ -11,7 +11,7 @@ returns-in_err-script-clause-stops g c =
     let old = g.W.Write.contents c.args.writer.now in
     fault_passed c.from_residual.result c.in_err-script.field-0.0 (CardStops script old old)
     c.from_residual.ensures.1
-    (stops_unread (DoesAll (Building [] [])) RefusesCardLine (Building [] [])
+    (stops_unread (DoesAll (Building [] [] None)) RefusesCardLine (Building [] [] None)
     (refl, refl) script old
     c.in_err-script.field-0.0 c.in_err-script.ensures.fault
     (λ same. c.in_err-script.ensures.too_long (ap (λ f. Err f) same)))
@@ -31,7 +31,7 @@ returns-clause-stops g c =
     (λ bytes. l ≡ bytes))
     (sym c.as_slice.ensures.value) c.in_ok-script.ensures.whole in
     faults_more c.carry_out_lines.result _ _
-    (λ fault. script_stops (DoesAll (Building [] [])) RefusesCardLine _ shown _ _ fault read)
+    (λ fault. script_stops (DoesAll (Building [] [] None)) RefusesCardLine _ shown _ _ fault read)
     c.carry_out_lines.ensures.stops
 
 pub returns-in_err-script-clause-limited : goal.returns-in_err-script-clause-limited

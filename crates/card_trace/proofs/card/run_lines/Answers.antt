@@ -5,14 +5,15 @@ use Rattle.card_trace.proofs.CardLemmas.{none_run, one_more_run, all_run, run_st
 use Rattle.card_trace.proofs.card.run_lines.Goals as goal
 
 pub loop-line-init : goal.loop-line-init
-loop-line-init g c = none_run _ _ _ _ _ _ refl refl
+loop-line-init g c = none_run _ _ _ _ _ _ _ refl refl
 
 pub loop-line-preserved : goal.loop-line-preserved
 loop-line-preserved g c =
     let few : length c.into_iter-line-iterator.result + c.args.number < 2 ^ 63 =
     subst (λ (l : List (List ℕ)). length l + c.args.number < 2 ^ 63)
     (sym c.into_iter-line-iterator.ensures.into_iter_gives) c.requires in
-    one_more_run (c.args.end.now, c.args.plans.now) (c.loop-line.end, c.loop-line.plans)
+    one_more_run c.args.opening.now c.loop-line.opening c.run_line.new.opening
+    (c.args.end.now, c.args.plans.now) (c.loop-line.end, c.loop-line.plans)
     (c.run_line.new.end, c.run_line.new.plans)
     _ c.loop-line.line-iterator c.next.new.self c.in-Some.line.now c.args.number c.loop-line.number
     _ _ _ _
@@ -21,7 +22,8 @@ loop-line-preserved g c =
 
 pub returns-clause-written : goal.returns-clause-written
 returns-clause-written g c =
-    all_run (c.args.end.now, c.args.plans.now) (c.loop-line.end, c.loop-line.plans) c.args.lines
+    all_run c.args.opening.now c.loop-line.opening
+    (c.args.end.now, c.args.plans.now) (c.loop-line.end, c.loop-line.plans) c.args.lines
     c.into_iter-line-iterator.result c.loop-line.line-iterator _ _ _ _
     c.into_iter-line-iterator.ensures.into_iter_gives c.in-None.ensures.steps.0
     c.loop-line.invariant
@@ -32,7 +34,8 @@ returns-in_err-run_line-clause-stops g c =
     subst (λ (l : List (List ℕ)). length l + c.args.number < 2 ^ 63)
     (sym c.into_iter-line-iterator.ensures.into_iter_gives) c.requires in
     fault_passed c.from_residual.result c.in_err-run_line.field-0.0 _ c.from_residual.ensures.1
-    (run_stops (c.args.end.now, c.args.plans.now) (c.loop-line.end, c.loop-line.plans) c.args.lines
+    (run_stops c.args.opening.now c.loop-line.opening
+    (c.args.end.now, c.args.plans.now) (c.loop-line.end, c.loop-line.plans) c.args.lines
     c.into_iter-line-iterator.result c.loop-line.line-iterator c.next.new.self c.in-Some.line.now
     c.args.number
     c.loop-line.number _ _ _ _ c.in_err-run_line.field-0.0

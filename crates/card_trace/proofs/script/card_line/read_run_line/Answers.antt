@@ -1,0 +1,25 @@
+-- A run line is its keyword and its fields.
+use Rattle.std.proofs.Common.{◌≡◌, ◌∙◌, ℕ, List, false}
+use Rattle.card_trace.specs.declared.script.reason.Reason.{Reason}
+use Rattle.card_trace.specs.ScriptWords.{words_in}
+use Rattle.card_trace.specs.ScriptFields.{IsHexText}
+use Rattle.card_trace.specs.ScriptTable.{OneField}
+use Rattle.card_trace.specs.ScriptCard.{CardMeaning, card_keyword, AreCardFields, is_card_table_line}
+use Rattle.card_trace.proofs.ScriptCardLemmas.{take_says}
+use Rattle.card_trace.proofs.ScriptRefusalLemmas.{passed_on}
+use Rattle.card_trace.proofs.script.card_line.read_run_line.Goals as goal
+
+pub returns-in_err-read_characters-in-Take-clause-refused :
+    goal.returns-in_err-read_characters-in-Take-clause-refused
+returns-in_err-read_characters-in-Take-clause-refused g c =
+    let rest = words_in c.args.rest.now in
+    let P : Reason → Type 0 = λ _. (bytes : List ℕ)
+    → OneField rest (λ text. IsHexText text bytes) → ⊥ in
+    let Q : Reason → Type 0 = λ _. (meaning : CardMeaning) → card_keyword meaning ≡ c.args.keyword
+    → is_card_table_line meaning ≡ false → AreCardFields meaning rest → ⊥ in
+    passed_on c.from_residual.result
+    c.in_err-read_characters-in-Take.field-0.0 P Q
+    c.from_residual.ensures.1
+    (λ _ none meaning is runs fields.
+    let said = take_says meaning rest (is ∙ c.in-Take.is) fields in none said.0 said.1)
+    c.in_err-read_characters-in-Take.ensures.refused

@@ -24,9 +24,14 @@ use Rattle.trace_explain.specs.Told.{Told, told_by, TellsFront}
 use Rattle.trace_explain.specs.Openings.{Opening, begins_answer, dialogue_in, has_begun, opened, opening_of, unopened}
 use Rattle.trace_explain.specs.Lines.{AreOver, Standing, after_characters, came_after, heard_in, SpellsCharacters, Suits, Says, TakesCharacters, TakesLine, of_form, sender}
 use Rattle.trace_explain.specs.Noted.{HasNoted, NoneGoesOn}
-use Rattle.trace_explain.specs.Explained.{HasExplained, ExplainsMore, ExplainsCharacters, ExplainsLine, HearsUpTo, IsRight, StopsRightly, StopsAtLine, IsStop, Stopped, answers_again, next_line, standing_of}
+use Rattle.trace_explain.specs.Explained.{HasExplained, ExplainsMore, ExplainsReset, ExplainsCharacters, ExplainsLine, HearsUpTo, IsRight, StopsRightly, StopsAtLine, IsStop, Stopped, answers_again, next_line, standing_of}
 use Rattle.trace_explain.specs.UnderWay.{OpensUpTo}
 use Rattle.trace_explain.proofs.OpeningLemmas.{dialogue_is}
+
+-- what holds whatever comes out
+pub when_ok : {T E : Type 0} (r : Result T E) (P : Type 0) → P → OnOk r P
+when_ok (Ok x) P h = h
+when_ok (Err e) P h = tt
 
 -- what is told before a line stays told
 pub noted_none : (events : List Event) (before : List Told) (none : List Tpdu) (l m : Listener)
@@ -37,22 +42,22 @@ noted_none events before none l m is same h =
     let R : Listener → Type 0 = λ x. HasNoted events (before ++ map told_by none) x in
     subst R (sym same) (subst Q (sym is) (subst P (sym (append-nil before)) h))
 
-pub explains_events : (more events : List Event) (before : List Told) (at : Standing)
-    (e : Explainer) → HasExplained (events ++ more) before e → standing_of e ≡ at
-    → ExplainsMore more at events before e
-explains_events more events before at e h is =
-    let P : List Told → Type 0 = λ t. HasExplained (events ++ more) t e in
-    record {
-      told = [];
-      explained = subst P (sym (append-nil before)) h;
-      standing_is = is;
-    }
+pub explains_reset : (events : List Event) (before : List Told) (at : Standing) (e : Explainer)
+    → ExplainsReset events before e → standing_of e ≡ at
+    → ExplainsMore (Reset ∷ []) at events before e
+explains_reset events before at e (told, h) is =
+    record { told = told; explained = h; standing_is = is }
 
 pub explains_nothing : (events : List Event) (before : List Told) (at : Standing) (e : Explainer)
     → HasExplained events before e → standing_of e ≡ at → ExplainsMore [] at events before e
 explains_nothing events before at e h is =
-    let P : List Event → Type 0 = λ es. HasExplained es before e in
-    explains_events [] events before at e (subst P (sym (append-nil events)) h) is
+    let P : List Event → Type 0 = λ es. HasExplained es (before ++ []) e in
+    let Q : List Told → Type 0 = λ ts. HasExplained events ts e in
+    record {
+      told = [];
+      explained = subst P (sym (append-nil events)) (subst Q (sym (append-nil before)) h);
+      standing_is = is;
+    }
 
 -- an explainer that has heard and told what it had before
 pub explained_on : (events : List Event) (before : List Told) (old mid new : Explainer)
@@ -127,13 +132,13 @@ front_of_none t (After_first b sw1) tells none =
 over_behind : (events : List Event) (told : List Told) (l : Listener) → HasNoted events told l
     → (length (told_by l.under_way).header == 0) ≡ true → AreOver events
 over_behind events told l noted none = record {
-  items = noted.heard.items;
-  events_are = noted.heard.events_are
-      ∙ ap (λ es. flat_map events_of noted.heard.items ++ es)
-      (front_of_none (told_by l.under_way) noted.heard.front noted.under_way
+  items = noted.items;
+  events_are = noted.events_are
+      ∙ ap (λ es. flat_map events_of noted.items ++ es)
+      (front_of_none (told_by l.under_way) noted.front noted.under_way
       (eqb-true (length (told_by l.under_way).header) 0 none))
-      ∙ append-nil (flat_map events_of noted.heard.items);
-  are_overheard = noted.heard.are_overheard;
+      ∙ append-nil (flat_map events_of noted.items);
+  are_noted = noted.are_noted;
 }
 
 -- the card answers again
@@ -163,8 +168,7 @@ pub explains_again : (start place : ℕ) (mid : Opening) (from : End) (bytes hea
     → has_begun old.preface.stage ≡ true → HearsUpTo (Some place) from heard events before at
     → begins_answer from (get_or bytes (start + place) 0) ≡ true
     → (length (told_by at.listener.under_way).header == 0) ≡ true
-    → ((es : List Event) (ts : List Told) → HasExplained es ts at
-    → HasExplained (es ++ Reset ∷ []) ts new)
+    → ((es : List Event) (ts : List Told) → HasExplained es ts at → ExplainsReset es ts new)
     → again ≡ drop (start + place) bytes
     → opening_of new.preface ≡ opened unopened Card again
     → new.came ≡ came_after old.came bytes → new.reading ≡ old.reading
@@ -182,11 +186,13 @@ explains_again start place mid from bytes heard again events before old at new o
     let so_far : List Event = passed (sent_by from (take place bytes)) in
     let P : List ℕ → Type 0 = λ bs. HasExplained (events ++ passed (sent_by from (take place bs)))
     (before ++ told) at in
-    let Q : List Event → Type 0 = λ es. HasExplained es (before ++ told) new in
     let here : start + place ≡ place = omega (arith, first) in
     let R : ℕ → Type 0 = λ n. begins_answer from (get_or bytes n 0) ≡ true in
     let is : begins_answer from ts ≡ true = subst R here begins in
     let heard_so : HasExplained (events ++ so_far) (before ++ told) at = subst P all explained in
+    let (more, reset_so) = resets (events ++ so_far) (before ++ told) heard_so in
+    let Q : List Event → Type 0 = λ es. HasExplained es (before ++ (told ++ more)) new in
+    let T : List Told → Type 0 = λ ts. HasExplained (events ++ so_far ++ Reset ∷ []) ts new in
     let opened_so : opening_of new.preface ≡ opened unopened from (ts ∷ behind) =
     opening_is
     ∙ ap (λ bs. opened unopened Card bs)
@@ -211,9 +217,9 @@ explains_again start place mid from bytes heard again events before old at new o
         after_is = refl;
       }),
       record {
-        told = told;
+        told = told ++ more;
         explained = subst Q (append_assoc events so_far (Reset ∷ []))
-            (resets (events ++ so_far) (before ++ told) heard_so);
+            (subst T (append_assoc before told more) reset_so);
         standing_is = same_standing (opening_of new.preface) (opened unopened from (ts ∷ behind))
             new.came true new.reading old.reading opened_so
             (came_is ∙ ap (came_after old.came) cut

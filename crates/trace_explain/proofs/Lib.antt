@@ -3,3 +3,4 @@ pub mod OpeningLemmas
 pub mod ExplainedLemmas
 pub mod TraceLemmas
 pub mod DigitLemmas
+pub mod BareLemmas

@@ -1,6 +1,8 @@
 -- What is told of dialogues, one character or one reset further.
-use Rattle.std.proofs.Common.{◌≡◌, ℕ, ◌<◌, List, [], ◌∷◌, ◌++◌, refl, sym, subst, ◌∙◌, ap, ◌⊎◌, inl, inr, lit<, true, false, append_assoc, map, ◌+◌, length, take, get_or}
+use Rattle.std.proofs.Common.{◌≡◌, ℕ, ◌<◌, List, [], ◌∷◌, ◌++◌, refl, sym, subst, ◌∙◌, ap, ◌⊎◌, inl, inr, lit<, true, false, append_assoc, append-nil, map, ◌+◌, length, take, get_or}
+use Rattle.std.specs.List.{AllByRecursion, flat_map}
 use Rattle.std.proofs.lemmas.List.{map-append, take_more}
+use Rattle.std.proofs.lemmas.List.Concat.{flat_map-append}
 use Rattle.std.proofs.lemmas.List.Sums.{fold-append}
 use Rattle.t0_core.specs.declared.direction.Direction.{Direction}
 use Rattle.t0_core.specs.declared.plan.Step.{Step}
@@ -10,14 +12,14 @@ use Rattle.t0_core.specs.declared.end.End.{End}
 use Rattle.t0_core.specs.Character.{Character, sent_by}
 use Rattle.t0_core.specs.Dialogue.{Body, Dialogue}
 use Rattle.t0_core.specs.Front.{Front, In_header, In_body, After_first, GoesOn, Ends, fresh, front_characters, with_segment, with_moved}
-use Rattle.t0_core.specs.History.{Event, Passed, Reset, Item, Whole, Cut_off, passed}
+use Rattle.t0_core.specs.History.{Event, Passed, Reset, Item, Whole, Cut_off, events_of, passed}
 use Rattle.t0_core.specs.TapSide.{Place, TapStandsAt, Makes, Concludes, turned, turned_body, afresh}
-use Rattle.t0_core.specs.TapHistory.{HasHeard, HearsOn}
+use Rattle.t0_core.specs.TapHistory.{HasHeard, HearsOn, IsOverheard}
 use Rattle.t0_core.specs.TapLaws as law
 use Rattle.trace_explain.specs.declared.listener.Listener.{Listener}
 use Rattle.trace_explain.specs.declared.tpdu.Tpdu.{Tpdu}
 use Rattle.trace_explain.specs.Told.{Told, told_by, counted, uncounted, untold, noted, is_last, TellsBody, TellsFront, Tells}
-use Rattle.trace_explain.specs.Noted.{HasNoted, TellsItems}
+use Rattle.trace_explain.specs.Noted.{HasNoted, IsNoted, TellsItems}
 
 -- what is told says nothing of a direction that nobody has seen
 tells_turned_body : (t : Told) (way : Direction) (b : Body) → TellsBody t b
@@ -150,7 +152,7 @@ ends_last heard.FirstStatus d ends_so last = absurd ends_so
 ends_last (heard.SecondStatus said status) d ends_so last = absurd (cc)
 
 -- one dialogue more, or one that was cut off
-tells_one_more : (items : List Item) (told : List Told) (d : Dialogue) (t : Told)
+pub tells_one_more : (items : List Item) (told : List Told) (d : Dialogue) (t : Told)
     → TellsItems items told → Tells t d → TellsItems (items ++ Whole d ∷ []) (told ++ t ∷ [])
 tells_one_more [] [] d t h this = (this, tt)
 tells_one_more [] (u ∷ told) d t h this = absurd h
@@ -167,93 +169,138 @@ tells_cut_off (Whole e ∷ items) [] part h = absurd h
 tells_cut_off (Whole e ∷ items) (u ∷ told) part h = (h.0, tells_cut_off items told part h.1)
 tells_cut_off (Cut_off other ∷ items) told part h = tells_cut_off items told part h
 
-tells_nothing : TellsFront untold fresh
+pub tells_nothing : TellsFront untold fresh
 tells_nothing = (record { header_is = refl; tally_is = refl; moved_is = refl }, refl)
+
+-- the front at which the tap stands, with nothing before it
+abbrev pub alone : (events : List Event) (told : List Told) (l : Listener)
+    → (n : HasNoted events told l) → HasHeard (passed (front_characters n.front)) l.tap
+alone events told l n = record {
+  items = [];
+  front = n.front;
+  events_are = refl;
+  are_overheard = tt;
+  is_front = n.is_front;
+  stands = n.stands;
+}
+
+-- what a tap has heard is noted behind what was
+noted_items : (before items : List Item) → AllByRecursion IsNoted before
+    → AllByRecursion IsOverheard items → AllByRecursion IsNoted (before ++ items)
+noted_items (item ∷ before) items h more = (h.0, noted_items before items h.1 more)
+noted_items [] [] h more = tt
+noted_items [] (Whole d ∷ items) h more =
+    ((more.0.0, inl more.0.1), noted_items [] items tt more.1)
+noted_items [] (Cut_off part ∷ items) h more = (more.0, noted_items [] items tt more.1)
+
+events_on : (events more : List Event) (front : List Character) (items now : List Item)
+    (next : List Character) → events ≡ flat_map events_of items ++ passed front
+    → passed front ++ more ≡ flat_map events_of now ++ passed next
+    → events ++ more ≡ flat_map events_of (items ++ now) ++ passed next
+events_on events more front items now next is on =
+    ap (λ es. es ++ more) is
+    ∙ append_assoc (flat_map events_of items) (passed front) more
+    ∙ ap (λ es. flat_map events_of items ++ es) on
+    ∙ sym (append_assoc (flat_map events_of items) (flat_map events_of now) (passed next))
+    ∙ ap (λ es. es ++ passed next) (sym (flat_map-append events_of items now))
+
+noted_on : (events more : List Event) (told later : List Told) (old new : Listener)
+    (n : HasNoted events told old)
+    (now : HasHeard (passed (front_characters n.front) ++ more) new.tap)
+    → TellsItems (n.items ++ now.items) later → TellsFront (told_by new.under_way) now.front
+    → HasNoted (events ++ more) later new
+noted_on events more told later old new n now tells under_way = record {
+  items = n.items ++ now.items;
+  front = now.front;
+  events_are = events_on events more (front_characters n.front) n.items now.items
+      (front_characters now.front) n.events_are now.events_are;
+  are_noted = noted_items n.items now.items n.are_noted now.are_overheard;
+  is_front = now.is_front;
+  stands = now.stands;
+  are_told = tells;
+  under_way = under_way;
+}
 
 -- A character has been heard that ends no dialogue, or one that does.
 pub heard_inside : (events : List Event) (told : List Told) (old new : Listener) (h : Heard)
-    (c : Character) (n : HasNoted events told old) → HearsOn n.heard h c new.tap
+    (c : Character) (n : HasNoted events told old)
+    → HearsOn (alone events told old n) h c new.tap
     → is_last h ≡ false → told_by new.under_way ≡ noted (told_by old.under_way) h c.1
     → HasNoted (events ++ Passed c ∷ []) told new
 heard_inside events told old new h c n on inside is = split on.goes
   where
-    split : (GoesOn (turned on.way n.heard.front) c on.now.front
-        × Makes h (turned on.way n.heard.front) c on.now.front
-        × (on.now.items ≡ n.heard.items))
-        ⊎ ((d : Dialogue) × Ends (turned on.way n.heard.front) c d × Concludes h d
-        × (on.now.front ≡ fresh) × (on.now.items ≡ n.heard.items ++ Whole d ∷ []))
+    split : (GoesOn (turned on.way n.front) c on.now.front
+        × Makes h (turned on.way n.front) c on.now.front
+        × (on.now.items ≡ []))
+        ⊎ ((d : Dialogue) × Ends (turned on.way n.front) c d × Concludes h d
+        × (on.now.front ≡ fresh) × (on.now.items ≡ [] ++ Whole d ∷ []))
         → HasNoted (events ++ Passed c ∷ []) told new
     split (inl (goes, makes, items_are)) =
         let P : List Item → Type 0 = λ items. TellsItems items told in
         let Q : Told → Type 0 = λ t. TellsFront t on.now.front in
-        record {
-          heard = on.now;
-          are_told = subst P (sym items_are) n.are_told;
-          under_way = subst Q (sym is)
-              (noted_goes (told_by old.under_way) (turned on.way n.heard.front) on.now.front h c
-              (tells_turned (told_by old.under_way) on.way n.heard.front n.under_way) goes makes);
-        }
+        noted_on events (Passed c ∷ []) told told old new n on.now
+        (subst P (sym (append-nil n.items) ∙ ap (λ items. n.items ++ items) (sym items_are))
+        n.are_told)
+        (subst Q (sym is) (noted_goes (told_by old.under_way) (turned on.way n.front) on.now.front
+        h c (tells_turned (told_by old.under_way) on.way n.front n.under_way) goes makes))
     split (inr (d, ends, ends_so, front_is, items_are)) = absurd (ends_last h d ends_so inside)
 
 pub heard_last : (events : List Event) (told : List Told) (old new : Listener) (h : Heard)
-    (c : Character) (n : HasNoted events told old) → HearsOn n.heard h c new.tap
+    (c : Character) (n : HasNoted events told old)
+    → HearsOn (alone events told old n) h c new.tap
     → is_last h ≡ true → told_by new.under_way ≡ untold
     → HasNoted (events ++ Passed c ∷ []) (told ++ noted (told_by old.under_way) h c.1 ∷ []) new
 heard_last events told old new h c n on last is = split on.goes
   where
-    split : (GoesOn (turned on.way n.heard.front) c on.now.front
-        × Makes h (turned on.way n.heard.front) c on.now.front
-        × (on.now.items ≡ n.heard.items))
-        ⊎ ((d : Dialogue) × Ends (turned on.way n.heard.front) c d × Concludes h d
-        × (on.now.front ≡ fresh) × (on.now.items ≡ n.heard.items ++ Whole d ∷ []))
+    split : (GoesOn (turned on.way n.front) c on.now.front
+        × Makes h (turned on.way n.front) c on.now.front
+        × (on.now.items ≡ []))
+        ⊎ ((d : Dialogue) × Ends (turned on.way n.front) c d × Concludes h d
+        × (on.now.front ≡ fresh) × (on.now.items ≡ [] ++ Whole d ∷ []))
         → HasNoted (events ++ Passed c ∷ []) (told ++ noted (told_by old.under_way) h c.1 ∷ []) new
     split (inl (goes, makes, items_are)) =
-        absurd (makes_no_last h (turned on.way n.heard.front) on.now.front c makes last)
+        absurd (makes_no_last h (turned on.way n.front) on.now.front c makes last)
     split (inr (d, ends, ends_so, front_is, items_are)) =
         let t2 : Told = noted (told_by old.under_way) h c.1 in
         let P : List Item → Type 0 = λ items. TellsItems items (told ++ t2 ∷ []) in
         let Q : Told → Type 0 = λ t. TellsFront t on.now.front in
         let R : Front → Type 0 = λ f. TellsFront untold f in
-        record {
-          heard = on.now;
-          are_told = subst P (sym items_are) (tells_one_more n.heard.items told d t2 n.are_told
-              (noted_ends (told_by old.under_way) (turned on.way n.heard.front) d h c
-              (tells_turned (told_by old.under_way) on.way n.heard.front n.under_way) ends
-              ends_so));
-          under_way = subst Q (sym is) (subst R (sym front_is) tells_nothing);
-        }
+        noted_on events (Passed c ∷ []) told (told ++ t2 ∷ []) old new n on.now
+        (subst P (ap (λ items. n.items ++ items) (sym items_are))
+        (tells_one_more n.items told d t2 n.are_told
+        (noted_ends (told_by old.under_way) (turned on.way n.front) d h c
+        (tells_turned (told_by old.under_way) on.way n.front n.under_way) ends ends_so)))
+        (subst Q (sym is) (subst R (sym front_is) tells_nothing))
 
 -- a reset has come
 pub heard_reset : (events : List Event) (told : List Told) (old new : Listener)
     → HasNoted events told old → new.tap ≡ afresh → told_by new.under_way ≡ untold
     → HasNoted (events ++ Reset ∷ []) told new
 heard_reset events told old new n tap_is is =
-    let (cut, items_are, front_is) = law.heard_reset events old.tap new.tap tap_is n.heard in
+    let part = front_characters n.front in
+    let (cut, items_are, front_is) =
+    law.heard_reset (passed part) old.tap new.tap tap_is (alone events told old n) in
     let P : List Item → Type 0 = λ items. TellsItems items told in
     let Q : Told → Type 0 = λ t. TellsFront t cut.front in
     let R : Front → Type 0 = λ f. TellsFront untold f in
-    record {
-      heard = cut;
-      are_told = subst P (sym items_are)
-          (tells_cut_off n.heard.items told (front_characters n.heard.front) n.are_told);
-      under_way = subst Q (sym is) (subst R (sym front_is) tells_nothing);
-    }
+    noted_on events (Reset ∷ []) told told old new n cut
+    (subst P (ap (λ items. n.items ++ items) (sym items_are))
+    (tells_cut_off n.items told part n.are_told))
+    (subst Q (sym is) (subst R (sym front_is) tells_nothing))
 
 -- nothing has come
-pub heard_nothing : (new : Listener) → HasHeard [] new.tap → told_by new.under_way ≡ untold
+pub heard_nothing : (new : Listener) → told_by new.under_way ≡ untold
     → new.tap ≡ afresh → HasNoted [] [] new
-heard_nothing new led is tap_is =
+heard_nothing new is tap_is =
     let S : Place → Type 0 = λ p. TapStandsAt p fresh in
     let Q : Told → Type 0 = λ t. TellsFront t fresh in
     record {
-      heard = record {
-        items = [];
-        front = fresh;
-        events_are = refl;
-        are_overheard = tt;
-        is_front = lit< tt;
-        stands = subst S (sym tap_is) (refl, lit< tt);
-      };
+      items = [];
+      front = fresh;
+      events_are = refl;
+      are_noted = tt;
+      is_front = lit< tt;
+      stands = subst S (sym tap_is) (refl, lit< tt);
       are_told = tt;
       under_way = subst Q (sym is) tells_nothing;
     }
@@ -270,7 +317,8 @@ told_more before old new whole t more is =
 
 pub heard_told : (events : List Event) (before : List Told) (was now : List Tpdu) (whole : Tpdu)
     (old new : Listener) (h : Heard) (c : Character)
-    (n : HasNoted events (before ++ map told_by was) old) → HearsOn n.heard h c new.tap
+    (n : HasNoted events (before ++ map told_by was) old)
+    → HearsOn (alone events (before ++ map told_by was) old n) h c new.tap
     → is_last h ≡ true → told_by new.under_way ≡ untold
     → now ≡ was ++ whole ∷ [] → told_by whole ≡ noted (told_by old.under_way) h c.1
     → HasNoted (events ++ Passed c ∷ []) (before ++ map told_by now) new

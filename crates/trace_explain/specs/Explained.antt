@@ -1,8 +1,9 @@
 -- What an explainer that does not resume has explained, line after line.
-use Rattle.std.specs.Prelude.{◌≡◌, ◌<◌, ℕ, ◌+◌, ◌-◌, ◌^◌, min, List, ◌++◌, length, take, get_or, Bool, Option, Some, None, false, ◌==◌, ◌&&◌, Result}
+use Rattle.std.specs.Prelude.{◌≡◌, ◌<◌, ℕ, ◌+◌, ◌-◌, ◌^◌, min, List, [], ◌∷◌, ◌++◌, length, take, get_or, Bool, Option, Some, None, false, ◌==◌, ◌&&◌, Result}
 use Rattle.std.specs.Result.{IsErrAnd}
 use Rattle.t0_core.specs.declared.end.End.{End}
 use Rattle.t0_core.specs.Character.{sent_by}
+use Rattle.t0_core.specs.History as history
 use Rattle.t0_core.specs.History.{Event, passed}
 use Rattle.t0_core.specs.TapSide.{due_at}
 use Rattle.trace_explain.specs.declared.complaint.Complaint.{Complaint}
@@ -36,6 +37,11 @@ pub record ExplainsMore (more : List Event) (at : Standing) (events : List Event
   pub told : List Told
   pub explained : HasExplained (events ++ more) (before ++ told) new
   pub standing_is : standing_of new ≡ at
+
+-- a reset has come, with which a dialogue may have ended
+abbrev pub ExplainsReset : List Event → List Told → Explainer → Type 0
+ExplainsReset events before new =
+    (told : List Told) × HasExplained (events ++ history.Reset ∷ []) (before ++ told) new
 
 -- and these are the events of characters
 abbrev pub ExplainsCharacters : End → List ℕ → List Event → List Told → Explainer → Explainer

@@ -8,7 +8,6 @@ use Rattle.t0_core.specs.Character.{sent_by}
 use Rattle.t0_core.specs.TapSide.{other_end}
 use Rattle.t0_core.specs.History as history
 use Rattle.t0_core.specs.History.{Event, Item, events_of, passed}
-use Rattle.t0_core.specs.TapHistory.{IsOverheard}
 use Rattle.trace_explain.specs.declared.form.Form.{Form}
 use Rattle.trace_explain.specs.declared.form.Form.TheVariants as form
 use Rattle.trace_explain.specs.declared.reading.Reading.{Reading}
@@ -16,6 +15,7 @@ use Rattle.trace_explain.specs.declared.trace_line.BadLine.{BadLine}
 use Rattle.trace_explain.specs.declared.trace_line.BadLine.TheVariants as bad
 use Rattle.trace_explain.specs.declared.trace_line.TraceLine.{TraceLine}
 use Rattle.trace_explain.specs.declared.trace_line.TraceLine.TheVariants as said
+use Rattle.trace_explain.specs.Noted.{IsNoted}
 use Rattle.trace_explain.specs.Openings.{Opening, begins_answer, dialogue_in, has_begun, opened, unopened}
 
 -- the sign before the characters of an end, in each form
@@ -186,7 +186,7 @@ heard_in o from bytes = passed (sent_by from (dialogue_in o from bytes))
 pub record AreOver (events : List Event) : Type 0 where
   pub items : List Item
   pub events_are : events ≡ flat_map events_of items
-  pub are_overheard : AllByRecursion IsOverheard items
+  pub are_noted : AllByRecursion IsNoted items
 
 -- The card answers again, though no line says that it was reset: in its characters stands one that
 -- begins an answer where no dialogue is under way. There the card was reset, and an opening begins.

@@ -1,12 +1,18 @@
 -- What a listener has heard and told: all that has gone on since it was made.
-use Rattle.std.specs.Prelude.{◌≡◌, ◌<◌, ℕ, List, [], ◌∷◌, ◌++◌, Some, length, take, get_or}
+use Rattle.std.specs.Prelude.{◌≡◌, ◌<◌, ◌⊎◌, ℕ, List, [], ◌∷◌, ◌++◌, Some, None, Bool, false, ◌==◌, ◌&&◌, if◌then◌else◌, length, slice_index, take, get_or}
+use Rattle.std.specs.List.{AllByRecursion, flat_map}
+use Rattle.apdu_core.specs.StatusWord.{IsStatusWord, is_first_status}
+use Rattle.t0_core.specs.declared.direction.Direction.TheVariants.{ToCard}
 use Rattle.t0_core.specs.declared.end.End.{End}
+use Rattle.t0_core.specs.declared.end.End.TheVariants.{Terminal}
+use Rattle.t0_core.specs.declared.plan.Step.{Step}
+use Rattle.t0_core.specs.declared.plan.Step.TheVariants.{Null, All}
 use Rattle.t0_core.specs.Character.{Character, sent_by}
-use Rattle.t0_core.specs.Dialogue.{Dialogue}
-use Rattle.t0_core.specs.Front.{Front, GoesOn, Ends}
-use Rattle.t0_core.specs.TapSide.{TapStandsAt, IsReadFront, unheard_at}
-use Rattle.t0_core.specs.History.{Event, Item, Whole, Cut_off, passed}
-use Rattle.t0_core.specs.TapHistory.{HasHeard}
+use Rattle.t0_core.specs.Dialogue.{Body, Dialogue, IsDialogue}
+use Rattle.t0_core.specs.Front.{Front, IsFront, GoesOn, Ends, front_characters}
+use Rattle.t0_core.specs.TapSide.{TapStandsAt, IsRead, IsReadFront, unheard_at}
+use Rattle.t0_core.specs.History.{Event, Item, Whole, Cut_off, events_of, passed}
+use Rattle.t0_core.specs.TapHistory.{IsOverheard}
 use Rattle.trace_explain.specs.declared.listener.Listener.{Listener}
 use Rattle.trace_explain.specs.declared.listener.Stop.{Stop}
 use Rattle.trace_explain.specs.declared.refusal.Refusal.{Refusal}
@@ -22,18 +28,67 @@ TellsItems (Whole d ∷ items) [] = ⊥
 TellsItems (Whole d ∷ items) (t ∷ told) = Tells t d × TellsItems items told
 TellsItems (Cut_off part ∷ items) told = TellsItems items told
 
--- These events are whole dialogues, each of which was told, resets, each with what it cut off, and
--- a front of one dialogue more, of which this much is noted.
-pub record HasNoted (events : List Event) (told : List Told) (l : Listener) : Type 0 where
-  pub heard : HasHeard events l.tap
-  pub are_told : TellsItems heard.items told
-  pub under_way : TellsFront (told_by l.under_way) heard.front
+-- A command without data, with P3 00, whose card repeats INS before its status, perhaps behind
+-- NULLs. A tap takes INS for the beginning of 256 data from the card.
+pub record IsBare (b : Body) : Type 0 where
+  pub p3_is : b.p3 ≡ 0
+  pub direction_is : b.direction ≡ ToCard
+  pub nulls : List Step
+  pub are_nulls : AllByRecursion (λ s. s ≡ Null) nulls
+  pub segments_are : b.segments ≡ nulls ++ All ∷ []
 
--- no dialogue that a tap reads goes on with this character, or ends with it
+-- a dialogue, as a tap reads it or such a command, or what a reset cut off of one
+abbrev pub IsNoted : Item → Type 0
+IsNoted (Whole d) = IsDialogue d × (IsRead d.body ⊎ IsBare d.body)
+IsNoted (Cut_off part) = IsOverheard (Cut_off part)
+
+-- so much is told of such a command that is whole, while a tap waits for the third of its data
+abbrev pub are_status : List ℕ → Bool
+are_status [] = false
+are_status (sw1 ∷ []) = false
+are_status (sw1 ∷ sw2 ∷ []) = is_first_status sw1
+are_status (sw1 ∷ sw2 ∷ b ∷ rest) = false
+
+abbrev pub AreStatus : List ℕ → Type 0
+AreStatus [] = ⊥
+AreStatus (sw1 ∷ []) = ⊥
+AreStatus (sw1 ∷ sw2 ∷ []) = IsStatusWord (sw1, sw2)
+AreStatus (sw1 ∷ sw2 ∷ b ∷ rest) = ⊥
+
+abbrev pub is_bare : Told → Bool
+is_bare t = (slice_index t.header 4 == 0) && (t.tally.ones == 0) && (length t.status == 0)
+    && are_status t.moved
+
+-- its data were its status
+abbrev pub bared : Told → Told
+bared t = record { header = t.header; tally = t.tally; way = None; moved = []; status = t.moved }
+
+-- what is told of the dialogue under way where it goes on no more, and whether it was a whole one
+abbrev pub as_ended : Told → Told
+as_ended t = if is_bare t then bared t else t
+
+abbrev pub ended_by : Told → List Told
+ended_by t = if is_bare t then bared t ∷ [] else []
+
+-- These events are whole dialogues, each of which was told, resets, each with what it cut off, and
+-- a front of one dialogue more, at which the tap stands and of which this much is noted.
+pub record HasNoted (events : List Event) (told : List Told) (l : Listener) : Type 0 where
+  pub items : List Item
+  pub front : Front
+  pub events_are : events ≡ flat_map events_of items ++ passed (front_characters front)
+  pub are_noted : AllByRecursion IsNoted items
+  pub is_front : IsFront front
+  pub stands : TapStandsAt l.tap front
+  pub are_told : TellsItems items told
+  pub under_way : TellsFront (told_by l.under_way) front
+
+-- no dialogue that a tap reads goes on with this character, or ends with it; and none is a command
+-- that was whole before it
 pub record NoneGoesOn (l : Listener) (c : Character) : Type 0 where
   pub goes_on : (front next : Front) → TapStandsAt l.tap front → GoesOn front c next
       → IsReadFront next → ⊥
   pub ends : (front : Front) (d : Dialogue) → TapStandsAt l.tap front → Ends front c d → ⊥
+  pub not_bare : c.0 ≡ Terminal → is_bare (told_by l.under_way) ≡ false
 
 -- A character was refused for this reason, and nothing has changed; or memory was wanting.
 abbrev pub IsRefused : Refusal → Listener → List Tpdu → Character → Listener → List Tpdu → Type 0

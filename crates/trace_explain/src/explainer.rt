@@ -5,7 +5,7 @@ ghost use Rattle.t0_core.specs.declared.end.End.TheVariants.{Card};
 ghost use Rattle.t0_core.specs.Character.{sent_by};
 ghost use Rattle.t0_core.specs.History.{Event, Reset, passed};
 ghost use Rattle.t0_core.specs.TapSide.{due_at};
-ghost use Rattle.trace_explain.specs.Explained.{HasExplained, ExplainsCharacters, ExplainsMore, ExplainsLine, HearsUpTo, StopsRightly, StopsAtLine, Stopped, KeepsAll, KeepsHeard, next_line, standing_of};
+ghost use Rattle.trace_explain.specs.Explained.{HasExplained, ExplainsCharacters, ExplainsMore, ExplainsReset, ExplainsLine, HearsUpTo, StopsRightly, StopsAtLine, Stopped, KeepsAll, KeepsHeard, next_line, standing_of};
 ghost use Rattle.trace_explain.specs.Trace.{IsOfEnd};
 ghost use Rattle.trace_explain.specs.UnderWay.{IsOfLines, OpensUpTo};
 ghost use Rattle.trace_explain.specs.Lines.{came_after, first_of_all};
@@ -257,7 +257,7 @@ impl Explainer {
     fn answer_again(&mut self, bytes: &[u8], out: &mut String) -> Result<(), AllocError>
         ensures explained { (events : List Event) (before : List Told) →
             HasExplained events before self.old →
-            OnOk result (HasExplained (events ++ Reset ∷ []) before self.new) }
+            OnOk result (ExplainsReset events before self.new) }
         ensures opened { OnOk result
             (opening_of self.new.preface ≡ opened unopened Card bytes.now) }
         ensures keeps { OnOk result ((self.new.came ≡ self.old.came)
@@ -320,6 +320,7 @@ impl Explainer {
         let mut told = Vec::new(self.alloc);
         let heard = self.listener.hear_all(from, bytes, &mut told);
         self.tell_all(told.as_slice(), out)?;
+        self.note_next(told.is_empty());
         match heard {
             Ok(()) => Ok(None),
             Err(stop) => match stop.refusal {
@@ -336,6 +337,15 @@ impl Explainer {
     {
         self.passed = None;
         if self.listener.under_way().is_empty() {
+            self.began = self.line;
+        }
+    }
+
+    /// Notes the line in which what is under way begins, where a TPDU has ended in it.
+    fn note_next(&mut self, none_ended: bool)
+        ensures { KeepsAll self.old self.new }
+    {
+        if !none_ended {
             self.began = self.line;
         }
     }
@@ -504,7 +514,7 @@ impl Explainer {
     fn cut_off(&mut self, out: &mut String) -> Result<(), AllocError>
         ensures cut_off { (events : List Event) (before : List Told) →
             HasExplained events before self.old →
-            OnOk result (HasExplained (events ++ Reset ∷ []) before self.new) }
+            OnOk result (ExplainsReset events before self.new) }
         ensures keeps { OnOk result ((self.new.preface ≡ self.old.preface)
             × (self.new.came ≡ self.old.came)
             × (self.new.resumes ≡ self.old.resumes)

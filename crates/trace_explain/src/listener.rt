@@ -1,13 +1,14 @@
 //! A tap that keeps what it has heard of the TPDU under way.
 
 ghost use Rattle.std.specs.Prelude.{◌≡◌, ◌++◌, ◌∷◌, [], List, map, take, length, ◌<◌, ℕ, true, OnOk, IfOk, IfErr, slice_get, Some};
+ghost use Rattle.t0_core.specs.declared.end.End.TheVariants.{Terminal};
 ghost use Rattle.t0_core.specs.Character.{sent_by};
 ghost use Rattle.t0_core.specs.Front.{Front, GoesOn, Ends};
 ghost use Rattle.t0_core.specs.Dialogue.{Dialogue};
 ghost use Rattle.t0_core.specs.History.{Event, Passed, Reset, passed};
 ghost use Rattle.t0_core.specs.TapSide.{afresh, due_at};
 ghost use Rattle.trace_explain.specs.Told.{Told, told_by, untold, is_last};
-ghost use Rattle.trace_explain.specs.Noted.{HasNoted, IsRefused, StopsAt};
+ghost use Rattle.trace_explain.specs.Noted.{AreStatus, HasNoted, IsRefused, StopsAt, as_ended, ended_by, is_bare};
 
 use crate::refusal::Refusal;
 use crate::tpdu::Tpdu;
@@ -58,7 +59,7 @@ impl Listener {
         &self.under_way
     }
 
-    /// Hears a character; where a TPDU ends with it, that is told.
+    /// Hears a character; where a TPDU ends with it, or has ended before it, that is told.
     ///
     /// `NoDialogue` comes exactly where no dialogue goes on with the character, and then nothing
     /// changes. After `OutOfMemory` it is not to be used.
@@ -70,6 +71,9 @@ impl Listener {
         ensures refused { IfErr result (λ refusal.
             IsRefused refusal self.old told.old.items (from, byte) self.new told.new.items) }
     {
+        if from == End::Terminal && self.under_way.is_bare() {
+            return self.hear_behind_bare(byte, told);
+        }
         let heard = match self.tap.hear(from, byte) {
             Ok(heard) => heard,
             Err(unheard) => return Err(Refusal::NoDialogue(unheard)),
@@ -80,6 +84,29 @@ impl Listener {
             push(told, whole)?;
         }
         Ok(())
+    }
+
+    /// Hears a character of the terminal where the card has repeated INS of a command without data,
+    /// and sent its status: with it the next header begins.
+    fn hear_behind_bare(&mut self, byte: u8, told: &mut Vec<Tpdu>) -> Result<(), Refusal>
+        requires bare { is_bare (told_by self.old.under_way) ≡ true }
+        requires status { AreStatus self.old.under_way.moved.items }
+        ensures noted { (events : List Event) (before : List Told) →
+            HasNoted events (before ++ map told_by told.old.items) self.old →
+            OnOk result (HasNoted (events ++ Passed (Terminal, byte) ∷ [])
+            (before ++ map told_by told.new.items) self.new) }
+        ensures wants { IfErr result (λ refusal. refusal ≡ Refusal.OutOfMemory) }
+    {
+        self.tap.reset();
+        let whole = self.cut().bared();
+        push(told, whole)?;
+        match self.tap.hear(End::Terminal, byte) {
+            Ok(heard) => {
+                self.under_way.note(&heard, byte)?;
+                Ok(())
+            }
+            Err(unheard) => Err(Refusal::NoDialogue(unheard)),
+        }
     }
 
     /// Hears the characters of a line, up to the first with which no dialogue goes on.
@@ -105,13 +132,16 @@ impl Listener {
         Ok(())
     }
 
-    /// Drops the dialogue under way, and gives what was heard of it.
+    /// Drops the dialogue under way, and gives what was heard of it: a whole one, where the card
+    /// has repeated INS of a command without data, and sent its status.
     pub fn reset(&mut self) -> Tpdu
-        ensures { (events : List Event) (told : List Told) → HasNoted events told self.old →
-            HasNoted (events ++ Reset ∷ []) told self.new }
+        ensures noted { (events : List Event) (told : List Told) → HasNoted events told self.old →
+            HasNoted (events ++ Reset ∷ []) (told ++ ended_by (told_by self.old.under_way))
+            self.new }
+        ensures part { told_by result ≡ as_ended (told_by self.old.under_way) }
     {
         self.tap.reset();
-        self.cut()
+        self.cut().as_ended()
     }
 
     /// Takes what was heard of the TPDU, so that nothing is.

@@ -1,9 +1,11 @@
 //! What was heard of one TPDU.
 
-ghost use Rattle.std.specs.Prelude.{◌≡◌, ◌==◌, length, OnOk};
+ghost use Rattle.std.specs.Prelude.{◌≡◌, ◌==◌, length, true, OnOk};
 ghost use Rattle.trace_explain.specs.Told.{told_by, untold, noted};
+ghost use Rattle.trace_explain.specs.Noted.{AreStatus, are_status, as_ended, bared, is_bare};
 
 use crate::tally::Tally;
+use apdu_core::Status;
 use std::alloc::{AllocError, Global};
 use t0_core::{Direction, Heard};
 
@@ -56,10 +58,56 @@ impl Tpdu {
         Ok(())
     }
 
+    /// Whether P3 is `00`, and INS was followed by two characters that may be a status, and by no
+    /// third one yet: then they are the status of a command without data, if none follows.
+    pub fn is_bare(&self) -> bool
+        ensures value { result ≡ is_bare (told_by self.now) }
+        ensures status { result ≡ true → AreStatus self.now.moved.items }
+    {
+        self.header.get(4).copied().unwrap_or(0) == 0
+            && self.tally.ones == 0
+            && self.status.is_empty()
+            && are_status(self.moved.as_slice())
+    }
+
+    /// The same, where the two were the status.
+    pub fn bared(self) -> Tpdu
+        ensures { told_by result ≡ bared (told_by self) }
+    {
+        let mut none = self.status;
+        none.clear();
+        Tpdu {
+            header: self.header,
+            tally: self.tally,
+            way: None,
+            moved: none,
+            status: self.moved,
+        }
+    }
+
+    /// The same where it goes on no more: whole, if its data were its status.
+    pub fn as_ended(self) -> Tpdu
+        ensures value { told_by result ≡ as_ended (told_by self) }
+        ensures status { is_bare (told_by self) ≡ true → AreStatus self.moved.items }
+    {
+        if self.is_bare() { self.bared() } else { self }
+    }
+
     /// Whether nothing of it has come.
     pub fn is_empty(&self) -> bool
         ensures { result ≡ (length self.now.header.items == 0) }
     {
         self.header.is_empty()
+    }
+}
+
+/// Whether these are the two bytes of a status.
+fn are_status(bytes: &[u8]) -> bool
+    ensures value { result ≡ are_status bytes.now }
+    ensures status { result ≡ true → AreStatus bytes.now }
+{
+    match bytes {
+        [sw1, sw2] => Status::new(*sw1, *sw2).is_some(),
+        _ => false,
     }
 }

@@ -12,16 +12,17 @@ pub returns-in-Ok-clause-explained : goal.returns-in-Ok-clause-explained
 returns-in-Ok-clause-explained c = λ events before h.
     let kept = c.note_beginning.ensures in
     let told = c.in_ok-tell_all.ensures in
+    let next = c.note_next.ensures in
     let P : Listener → Type 0 = λ l.
     HasNoted (events ++ passed (sent_by c.args.from c.args.bytes.now))
     (before ++ map told_by c.hear_all-heard.new.told.items) l in (
       map told_by c.hear_all-heard.new.told.items,
       record {
-        noted = subst P (sym told.listener) (c.in-Ok.ensures.noted events before
+        noted = subst P (sym (next.listener ∙ told.listener)) (c.in-Ok.ensures.noted events before
             (noted_none events before c.new-told.result.items c.args.self.now.listener
             c.note_beginning.new.self.listener c.new-told.ensures.items kept.listener h.noted));
-        resumes = told.resumes ∙ kept.resumes ∙ h.resumes;
-        passes_over = told.passes_over ∙ kept.passes_over ∙ h.passes_over;
+        resumes = next.resumes ∙ told.resumes ∙ kept.resumes ∙ h.resumes;
+        passes_over = next.passes_over ∙ told.passes_over ∙ kept.passes_over ∙ h.passes_over;
       },
     )
 
@@ -29,6 +30,7 @@ pub returns-in-NoDialogue-clause-explained : goal.returns-in-NoDialogue-clause-e
 returns-in-NoDialogue-clause-explained c = λ events before h.
     let kept = c.note_beginning.ensures in
     let told = c.in_ok-tell_all.ensures in
+    let next = c.note_next.ensures in
     let place = c.in-Err.stop.place in
     let bytes = c.args.bytes.now in
     let P : Listener → Type 0 = λ l. HasNoted
@@ -42,10 +44,10 @@ returns-in-NoDialogue-clause-explained c = λ events before h.
     c.note_beginning.new.self.listener c.new-told.ensures.items kept.listener h.noted)) in (
       map told_by c.hear_all-heard.new.told.items,
       record {
-        noted = subst P (sym told.listener) stops.1;
-        resumes = told.resumes ∙ kept.resumes ∙ h.resumes;
-        passes_over = told.passes_over ∙ kept.passes_over ∙ h.passes_over;
+        noted = subst P (sym (next.listener ∙ told.listener)) stops.1;
+        resumes = next.resumes ∙ told.resumes ∙ kept.resumes ∙ h.resumes;
+        passes_over = next.passes_over ∙ told.passes_over ∙ kept.passes_over ∙ h.passes_over;
       },
       stops.0,
-      subst N (sym told.listener) stops.2,
+      subst N (sym (next.listener ∙ told.listener)) stops.2,
     )

@@ -1,7 +1,7 @@
 use Rattle.std.proofs.Common.{[], ◌∷◌, ◌∙◌, ap, refl}
 use Rattle.t0_core.specs.History.{Reset}
 use Rattle.trace_explain.specs.Openings.{opening_of, unopened}
-use Rattle.trace_explain.proofs.ExplainedLemmas.{explains_events, same_standing}
+use Rattle.trace_explain.proofs.ExplainedLemmas.{explains_reset, same_standing}
 use Rattle.trace_explain.proofs.explainer.Explainer.reset.Goals as goal
 
 pub returns-clause-explained : goal.returns-clause-explained
@@ -9,8 +9,14 @@ returns-clause-explained c = λ events before h.
     let kept = c.in_ok-cut_off.ensures.keeps in
     let cut = c.in_ok-cut_off.ensures.cut_off events before
     (record { noted = h.noted; resumes = h.resumes; passes_over = refl }) in
-    explains_events (Reset ∷ []) events before _ _
-    (record { noted = cut.noted; resumes = cut.resumes; passes_over = cut.passes_over })
+    explains_reset events before _ _ (
+      cut.0,
+      record {
+        noted = cut.1.noted;
+        resumes = cut.1.resumes;
+        passes_over = cut.1.passes_over;
+      },
+    )
     (same_standing (opening_of c.cut_off.new.self.preface) unopened c.cut_off.new.self.came
     c.args.self.now.came c.cut_off.new.self.reading c.args.self.now.reading
     (ap opening_of kept.0 ∙ c.reset.ensures) kept.1 kept.4)

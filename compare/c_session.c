@@ -1,0 +1,276 @@
+/* c_session: a card of data objects asked for small and large ones through C, again and again, as
+ * crates/session_speed asks it. With one word it says how long a character takes, in that way:
+ *
+ *   session      a session, which joins both ends
+ *   buffers      a terminal and a card, whose characters pass by buffers
+ *   characters   the same, a character at a time
+ *   by_hand      the two ends of ends_by_hand.c, a character at a time
+ */
+#define _POSIX_C_SOURCE 199309L
+
+#include "ends_by_hand.h"
+
+#include <galliumtoad.h>
+
+#include <stdio.h>
+#include <stdlib.h>
+#include <string.h>
+#include <time.h>
+
+static const uint8_t AID[] = { 0xA0, 0x00, 0x00, 0x00, 0x03, 0x10, 0x10 };
+
+enum { CONTENT = 0x42, BUFFER = 512, OK = 0x9000 };
+
+enum task { TASK_SELECT, TASK_GET, TASK_PUT };
+
+/* What is asked, and how often. */
+struct load {
+    const char *name;
+    enum task task;
+    uint16_t tag;
+    size_t size;
+    int tpdus;
+    size_t characters;
+    long times;
+};
+
+static const struct load LOADS[] = {
+    { "get of 3 bytes", TASK_GET, 0x5F20, 3, 2, 21, 1000000 },
+    { "get of 20 bytes", TASK_GET, 0x5F50, 20, 2, 38, 500000 },
+    { "put of 20 bytes", TASK_PUT, 0x5F50, 20, 1, 28, 1000000 },
+    { "put of 8,192 bytes", TASK_PUT, 0x50, 8192, 33, 8456, 2000 },
+    { "get of 8,192 bytes", TASK_GET, 0x50, 8192, 33, 8460, 2000 },
+};
+
+static const struct load SELECTION = { "selection", TASK_SELECT, 0, 0, 2, 0, 1 };
+
+static uint8_t value[VALUE_LIMIT], data[RESPONSE_LIMIT];
+
+static void fail(const char *what)
+{
+    fprintf(stderr, "c_session: %s\n", what);
+    exit(1);
+}
+
+static void need(bool holds, const char *what)
+{
+    if (!holds)
+        fail(what);
+}
+
+/* ---- A session ------------------------------------------------------------------------------- */
+
+static gt_session session;
+
+static void build(gt_card *card)
+{
+    size_t i;
+    need(gt_card_new(card) == GT_OK && gt_card_app(card, AID, sizeof AID) == GT_OK, "a card");
+    for (i = 0; i < 2; i++)
+        need(gt_card_object(card, LOADS[i].tag, value, LOADS[i].size, 0) == GT_OK, "an object");
+    need(gt_card_object(card, 0x50, value, sizeof value, 0) == GT_OK, "an object");
+    need(gt_card_finish(card) == GT_OK, "a card");
+}
+
+static void session_start(void)
+{
+    gt_card card = GT_INIT;
+    build(&card);
+    need(gt_session_start(&session, &card) == GT_OK, "a session");
+}
+
+static uint16_t session_carry_out(const struct load *load, size_t *len)
+{
+    uint16_t status = 0;
+    int32_t code;
+    *len = 0;
+    if (load->task == TASK_SELECT)
+        code = gt_session_select(&session, AID, sizeof AID, &status, data, sizeof data, len);
+    else if (load->task == TASK_GET)
+        code = gt_session_get(&session, load->tag, &status, data, sizeof data, len);
+    else
+        code = gt_session_put(&session, load->tag, value, load->size, &status);
+    need(code == GT_OK, "an operation");
+    return status;
+}
+
+/* ---- The two ends through C ------------------------------------------------------------------ */
+
+static gt_terminal terminal;
+static gt_card card;
+
+static void ends_start(void)
+{
+    build(&card);
+    need(gt_terminal_new(&terminal) == GT_OK, "a terminal");
+}
+
+static void begin(const struct load *load)
+{
+    int32_t code;
+    if (load->task == TASK_SELECT)
+        code = gt_terminal_select(&terminal, AID, sizeof AID);
+    else if (load->task == TASK_GET)
+        code = gt_terminal_get(&terminal, load->tag);
+    else
+        code = gt_terminal_put(&terminal, load->tag, value, load->size);
+    need(code == GT_OK, "an operation");
+}
+
+static uint16_t answer(size_t *len)
+{
+    uint16_t status = 0;
+    need(gt_terminal_answer(&terminal, &status, data, sizeof data, len) == GT_OK, "an answer");
+    return status;
+}
+
+static uint16_t characters_carry_out(const struct load *load, size_t *len)
+{
+    uint8_t byte;
+    int32_t turn;
+    begin(load);
+    while ((turn = gt_terminal_next(&terminal, &byte)) != GT_DONE) {
+        if (turn == GT_SENDS)
+            need(gt_card_take(&card, byte) == GT_OK, "the card listens");
+        else
+            need(turn == GT_OK && gt_card_turn(&card, &byte) == GT_SENDS
+                 && gt_terminal_take(&terminal, byte) == GT_OK, "the terminal listens");
+    }
+    return answer(len);
+}
+
+static uint16_t buffers_carry_out(const struct load *load, size_t *len)
+{
+    static uint8_t buffer[BUFFER];
+    size_t n, taken;
+    int32_t turn;
+    begin(load);
+    for (;;) {
+        turn = gt_terminal_send_bytes(&terminal, buffer, sizeof buffer, &n);
+        need(gt_card_receive_bytes(&card, buffer, n, &taken) == GT_OK, "the card listens");
+        if (turn == GT_DONE)
+            return answer(len);
+        need(turn == GT_OK && gt_card_send_bytes(&card, buffer, sizeof buffer, &n) == GT_OK
+             && gt_terminal_receive_bytes(&terminal, buffer, n, &taken) == GT_OK,
+             "the terminal listens");
+    }
+}
+
+/* ---- The two ends by hand -------------------------------------------------------------------- */
+
+static struct terminal hand_terminal;
+static struct card hand_card;
+static size_t passed;
+
+static void hand_start(void)
+{
+    size_t i;
+    card_begin(&hand_card, AID, sizeof AID);
+    for (i = 0; i < 2; i++)
+        need(card_object(&hand_card, LOADS[i].tag, value, LOADS[i].size) == NO_FAULT, "an object");
+    need(card_object(&hand_card, 0x50, value, sizeof value) == NO_FAULT, "an object");
+}
+
+static void hand_begin(const struct load *load)
+{
+    enum fault fault;
+    if (load->task == TASK_SELECT)
+        fault = terminal_select(&hand_terminal, AID, sizeof AID);
+    else if (load->task == TASK_GET)
+        fault = terminal_get(&hand_terminal, load->tag);
+    else
+        fault = terminal_put(&hand_terminal, load->tag, value, load->size);
+    need(fault == NO_FAULT, "an operation");
+}
+
+static uint16_t hand_carry_out(const struct load *load, size_t *len)
+{
+    uint8_t byte;
+    enum turn turn;
+    size_t count = 0;
+    hand_begin(load);
+    while ((turn = terminal_next(&hand_terminal, &byte)) != DONE) {
+        count++;
+        if (turn == SENDS)
+            need(card_take(&hand_card, byte) == NO_FAULT, "the card listens");
+        else
+            need(card_turn(&hand_card, &byte) == SENDS
+                 && terminal_take(&hand_terminal, byte) == NO_FAULT, "the terminal listens");
+    }
+    passed = count;
+    return terminal_answer(&hand_terminal, data, sizeof data, len);
+}
+
+/* ---- What is measured ------------------------------------------------------------------------ */
+
+static const struct way {
+    const char *name;
+    void (*start)(void);
+    uint16_t (*carry_out)(const struct load *load, size_t *len);
+} WAYS[] = {
+    { "session", session_start, session_carry_out },
+    { "buffers", ends_start, buffers_carry_out },
+    { "characters", ends_start, characters_carry_out },
+    { "by_hand", hand_start, hand_carry_out },
+};
+
+/* Of this program alone, so that it matters less what else a machine does. */
+static double processor_time(void)
+{
+    struct timespec time;
+    clock_gettime(CLOCK_PROCESS_CPUTIME_ID, &time);
+    return (double)time.tv_sec + (double)time.tv_nsec / 1e9;
+}
+
+/* One operation, answered as it has to be. */
+static void carry_out(const struct way *way, const struct load *load)
+{
+    const size_t head = load->size > 255 ? 4 : 3;
+    size_t len = 0;
+    need(way->carry_out(load, &len) == OK, "another status than 9000");
+    if (load->task == TASK_GET)
+        need(len == head + load->size && data[len - 1] == CONTENT, "other data");
+}
+
+/* One operation has as many characters as all ways have, where they are counted. */
+static void check_characters(const struct way *way, const struct load *load)
+{
+    size_t count = 0;
+    carry_out(way, load);
+    if (way->start == session_start)
+        (void)gt_session_heard(&session, NULL, 0, &count);
+    else if (way->start == hand_start)
+        count = passed;
+    need(count == 0 || count == load->characters, "another number of characters");
+}
+
+static void measure(const struct way *way, const struct load *load)
+{
+    double seconds;
+    long i;
+    check_characters(way, load);
+    seconds = processor_time();
+    for (i = 0; i < load->times; i++)
+        carry_out(way, load);
+    seconds = processor_time() - seconds;
+    printf("%s: %d TPDUs, %lu characters\n  %ld times in %.2f s, %.2f ns a character\n", load->name,
+           load->tpdus, (unsigned long)load->characters, load->times, seconds,
+           seconds * 1e9 / ((double)load->times * (double)load->characters));
+}
+
+int main(int argc, char **argv)
+{
+    size_t i, j;
+    memset(value, CONTENT, sizeof value);
+    for (i = 0; i < sizeof WAYS / sizeof *WAYS; i++) {
+        if (argc != 2 || strcmp(argv[1], WAYS[i].name) != 0)
+            continue;
+        WAYS[i].start();
+        carry_out(&WAYS[i], &SELECTION);
+        for (j = 0; j < sizeof LOADS / sizeof *LOADS; j++)
+            measure(&WAYS[i], &LOADS[j]);
+        return 0;
+    }
+    fail("one word: session, buffers, characters or by_hand");
+    return 1;
+}

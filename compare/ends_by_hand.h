@@ -1,0 +1,113 @@
+/* A terminal and a card of data objects written by hand in C: two state machines that hand
+ * characters out and take them, one at a time, by the rules of session_by_hand.rs. */
+#ifndef ENDS_BY_HAND_H
+#define ENDS_BY_HAND_H
+
+#include <stdbool.h>
+#include <stddef.h>
+#include <stdint.h>
+
+enum {
+    VALUE_LIMIT = 8192,
+    RESPONSE_LIMIT = 16384,
+    ENTRY_LIMIT = 64,
+    PIECE_LIMIT = 255,
+    AID_LEAST = 5,
+    AID_LIMIT = 16
+};
+
+enum turn { LISTENS, SENDS, DONE };
+
+enum fault {
+    NO_FAULT,
+    BAD_PROCEDURE,
+    TOO_LONG,
+    NOT_LISTENING,
+    AFTER_END,
+    STALLED,
+    OUT_OF_MEMORY
+};
+
+/* How far a TPDU has come at the terminal. */
+enum host_stage { HOST_OPENING, HOST_AWAITING, HOST_MOVING, HOST_SECOND_STATUS, HOST_ENDED };
+
+/* A terminal with an operation, all of whose memory is taken as that begins. */
+struct terminal {
+    enum host_stage stage;
+    uint8_t header[5];          /* CLA INS P1 P2 P3 */
+    size_t sent;                /* characters of the header */
+    size_t moved, until;        /* data characters, and where they stop moving */
+    uint8_t sw1, sw2;
+    bool asks;                  /* data come from the card */
+    size_t wanted;              /* how many the command asks for: 256 is all, 0 none */
+    bool fetches, repeats;
+    size_t before;              /* what was gathered before the GET RESPONSE under way */
+    uint8_t *content;           /* the data that go to the card, over all pieces */
+    size_t size, from, piece;   /* of these all, those that have gone, and those of this command */
+    uint8_t *response;
+    size_t gathered;
+};
+
+enum fault terminal_select(struct terminal *terminal, const uint8_t *aid, size_t n);
+enum fault terminal_get(struct terminal *terminal, uint16_t tag);
+enum fault terminal_put(struct terminal *terminal, uint16_t tag, const uint8_t *value, size_t n);
+
+enum turn terminal_next(struct terminal *terminal, uint8_t *byte);
+enum fault terminal_take(struct terminal *terminal, uint8_t byte);
+
+/* The status of an operation that is over, and its data, where there is room for them. */
+uint16_t terminal_answer(const struct terminal *terminal, uint8_t *data, size_t room, size_t *len);
+
+void terminal_free(struct terminal *terminal);
+
+struct entry {
+    uint16_t tag;               /* 0 where the place is free */
+    bool locked;
+    size_t size;
+    uint8_t *value;
+};
+
+/* Bytes of its own and then a value, of which so many are sent. */
+struct response {
+    uint8_t front[20];
+    size_t len, sent;
+    const struct entry *entry;  /* or NULL */
+};
+
+/* How far a TPDU has come at the card. */
+enum card_stage { CARD_OPENING, CARD_RECEIVING, CARD_SENDING, CARD_SECOND_STATUS };
+
+/* What the second status character makes of the card. */
+enum outcome { LEAVES, SELECTS, JOINS, STORES };
+
+/* A card with one application, whose objects are found by a hash of their tags. */
+struct card {
+    uint8_t aid[AID_LIMIT];
+    size_t aid_size;
+    struct entry entries[2 * ENTRY_LIMIT];
+    size_t entry_count;
+    bool is_selected;
+    enum card_stage stage;
+    uint8_t opening[5];
+    size_t taken, moved;
+    uint8_t came[PIECE_LIMIT];
+    bool chains;
+    uint8_t chain[4];           /* the header of the chain that is pending */
+    uint8_t chained[VALUE_LIMIT];
+    size_t chained_size;
+    bool has_response;          /* one is pending */
+    struct response response, sends;
+    enum outcome outcome;
+    bool leaves_response;       /* `sends` is pending after this TPDU */
+    uint8_t sw1, sw2;
+    uint16_t stored_tag;
+    uint8_t *stored;
+};
+
+void card_begin(struct card *card, const uint8_t *aid, size_t n);
+enum fault card_object(struct card *card, uint16_t tag, const uint8_t *value, size_t n);
+enum fault card_take(struct card *card, uint8_t byte);
+enum turn card_turn(struct card *card, uint8_t *byte);
+void card_free(struct card *card);
+
+#endif

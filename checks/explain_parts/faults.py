@@ -150,6 +150,7 @@ fn words_of(part: &[u8]) -> &[u8] {
 
 ONE = """
 fn run{number}(rt: &HostRuntime, part: &[u8]) {{
+    let words = words_of(part);
     let medium = if part[0] == b'h' {{
         m{number}::layout::Medium::Html
     }} else {{
@@ -158,22 +159,42 @@ fn run{number}(rt: &HostRuntime, part: &[u8]) {{
     let resumes = part[1] == b'r';
     let is_summary = part[2] == b's';
     let layout = m{number}::layout::Layout {{ medium, is_summary }};
-    let words = words_of(part);
     let mut trace = &part[words.len() + 1..];
-    let mask = if words.len() > 3 {{
-        let tags = str::from_utf8(&words[4..]).unwrap_or("");
+    let mask = if words.len() > 4 {{
+        let tags = str::from_utf8(&words[5..]).unwrap_or("");
         m{number}::mask::Mask::of(rt.alloc(), tags).unwrap()
     }} else {{
         m{number}::mask::Mask::none(rt.alloc())
     }};
     let hides = mask.hides();
     let mut out = io::writer(rt);
+    if words[3] == b'd' {{
+        return diff{number}(rt, mask, resumes, trace);
+    }}
     let outcome =
         m{number}::explain::explain(rt.alloc(), layout, mask, resumes, &mut trace, &mut out);
     let _ = out.write_all(b"\\x1e");
     if let Err(fault) = outcome {{
         let _ = if hides {{
             out.writeln(&m{number}::explain_fault::MaskedFault(&fault))
+        }} else {{
+            out.writeln(&fault)
+        }};
+    }}
+    let _ = out.write_all(b"\\x1e");
+}}
+
+fn diff{number}(rt: &HostRuntime, mask: m{number}::mask::Mask, resumes: bool, traces: &[u8]) {{
+    let hides = mask.hides();
+    let mut parts = traces.split(|byte| *byte == 0x1C);
+    let mut a = parts.next().unwrap_or(&[]);
+    let mut b = parts.next().unwrap_or(&[]);
+    let mut out = io::writer(rt);
+    let outcome = m{number}::diff::diff(rt.alloc(), mask, resumes, (&mut a, &mut b), &mut out);
+    let _ = out.write_all(b"\\x1e");
+    if let Err(fault) = outcome {{
+        let _ = if hides {{
+            out.writeln(&m{number}::diff_fault::MaskedDiffFault(&fault))
         }} else {{
             out.writeln(&fault)
         }};
@@ -191,10 +212,12 @@ def write_inputs(folder, cases, count):
         words = "".join(
             word[2] if word in case.words else "-" for word in ("--html", "--resume", "--summary")
         )
+        words += "d" if "--diff" in case.words else "-"
         if "--mask" in case.words:
             tags = case.words[case.words.index("--mask") + 1 :]
             words += "=" + "".join(tag for tag in tags[:1] if not tag.startswith("--"))
         given += MARK.encode() + words.encode() + b"\x1d" + case.given
+        given += b"\x1c" + case.other if "--diff" in case.words else b""
     for number in range(count):
         (folder / f"f{number:03}").write_bytes(str(number).encode() + given)
 

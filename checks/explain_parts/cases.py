@@ -5,10 +5,11 @@
 - titles.txt: `HEADER TITLE`, `HEADER > DATA TITLE` (data of the terminal) or `HEADER < DATA TITLE`
   (data of the card), where TITLE stands behind `| `: how a command is named.
 - secrets_told.py: traces that have a secret, which must not be told.
-- stories.cases: several TPDUs. Behind `in` stand the lines of the trace, behind `out` the lines
-  that are written, without the rows of headers, procedure bytes, data and statuses; behind `err`
-  what standard error tells, and behind `$` the words. `\\xHH` in a line is that byte. Of a page
-  only what stands below its head is compared.
+- stories.cases: several TPDUs. Behind `in` stand the lines of the trace, behind `with` those of the
+  other one of `--diff`, behind `out` the lines that are written, without the rows of headers,
+  procedure bytes, data and statuses, but with a mask or `--diff`; behind `err` what standard error
+  tells, and behind `$` the words. `\\xHH` in a line is that byte. Of a page only what stands below
+  its head is compared.
 - lines.cases: what lines say, and bare.cases: commands without data whose card repeats INS, in the
   same words; all that is written above the last block stands there.
 
@@ -32,7 +33,7 @@ COMMAND = re.compile(r"#\d+ (INS [0-9A-F]{2}|SELECT|part of a header|[A-Z]+(?:[ 
 COMPLAINT = "no dialogue that it reads  ("
 BLOCK = "summary"
 HEX = re.compile(r"\b(?:[0-9A-F]{2})+\b")
-ENDS = '<div class="ends"><span>Terminal</span><span>Card</span></div>'
+ENDS = '<div class="ends"><span>Terminal</span><span>Card</span></div><div>'
 ODD = re.compile(rb"\\x([0-9A-F]{2})")
 ROW = re.compile(r"  [ <>] (header|procedure|data|status) ")
 
@@ -48,6 +49,7 @@ class Case:
     error: str = ""
     part: str = "all"
     secret: bytes = b""
+    other: bytes = b""
 
     def fault(self, out, err):
         """What is wrong with what was said; empty where nothing is."""
@@ -56,7 +58,7 @@ class Case:
         if err != self.error:
             return f"{self.name}: on standard error {err!r}, and not {self.error!r}"
         lines = out.splitlines()
-        if self.part != "page" and "--summary" not in self.words:
+        if self.part != "page" and not {"--summary", "--diff"} & set(self.words):
             lines, block = without_block(lines)
             for wanted, line in zip_longest(block_of(lines), block):
                 if wanted != line:
@@ -210,6 +212,8 @@ def story_cases(name, part):
         elif word == "in":
             given = ODD.sub(lambda it: bytes([int(it[1], 16)]), rest.encode())
             found[-1].given += given + b"\n"
+        elif word == "with":
+            found[-1].other += rest.encode() + b"\n"
         elif word == "out":
             found[-1].wanted.append(rest)
         elif word == "err":
@@ -218,7 +222,7 @@ def story_cases(name, part):
             found[-1].words = rest.split()
             if "--html" in rest:
                 found[-1].part = "page"
-            elif "--mask" in rest:
+            elif "--mask" in rest or "--diff" in rest:
                 found[-1].part = "shown"
             else:
                 found[-1].part = part
@@ -233,6 +237,39 @@ def secret_cases(ways):
         for words in ways:
             masked = [*words, "--mask", *tags]
             yield Case(name, lines_of(lines), [], masked, secret=secrets.BYTES)
+
+
+def link_cases():
+    """So many complaints, and so many statuses, that not all have links on the page."""
+    for count, more in ((1000, ""), (1001, " and 1 more"), (1003, " and 3 more")):
+        given = ["> 00CA5F2000", "< 6A88"] * count
+        links = [f'<a href="#t{it}">#{it} 6A88</a>' for it in range(1, 1001)]
+        wanted = f"<p>statuses other than 9000, 61XX and 6CXX: {' '.join(links)}{more}</p>"
+        block = page_block(count, "", f"6A88: {count}", 0, wanted)
+        words = ["--html", "--summary"]
+        yield Case(f"{count} statuses", lines_of(given), block, words, part="page")
+        given = ["> 00CA5F2000", "< 55"] * count
+        links = [f'<a href="#c{it}">line {2 * it}</a>' for it in range(1, 1001)]
+        wanted = f"<p>complaints in {' '.join(links)}{more}</p>"
+        block = page_block(count, f" (cut off: {count})", "none other than 9000", count, wanted)
+        error = (
+            "line 2, character 1: no dialogue that it reads: a procedure byte or SW1 of the card "
+            f"was due, and 55 of the card came (complaints: {count})\n"
+        )
+        words = ["--html", "--summary", "--resume"]
+        yield Case(f"{count} complaints", lines_of(given), block, words, error, part="page")
+
+
+def page_block(count, cut_off, statuses, complaints, links):
+    """The last block of a page about so many GET DATA."""
+    rows = {
+        "TPDUs": f"{count}{cut_off}",
+        "commands": f"GET DATA: {count}",
+        "statuses": statuses,
+        "complaints": complaints,
+    }
+    told = [f'<div class="m n"><b>{it}</b><pre>{rows[it]}</pre></div>' for it in rows]
+    return ["</div><section><h2>summary</h2>", *told, links, "</section>"]
 
 
 def whole_cases():
@@ -272,6 +309,7 @@ def rows_and_stories():
         *story_cases("stories.cases", "story"),
         *story_cases("lines.cases", "shown"),
         *story_cases("bare.cases", "shown"),
+        *link_cases(),
     ]
 
 

@@ -152,6 +152,7 @@ fn words_of(part: &[u8]) -> &[u8] {
 
 ONE = """
 fn run{number}(rt: &HostRuntime, part: &[u8]) {{
+    let words = words_of(part);
     let medium = if part[0] == b'h' {{
         m{number}::layout::Medium::Html
     }} else {{
@@ -161,24 +162,26 @@ fn run{number}(rt: &HostRuntime, part: &[u8]) {{
     let is_summary = part[2] == b's';
     let layout = m{number}::layout::Layout {{ medium, is_summary }};
     let reading = m{number}::reading::Reading {{
-        form: match part[3] {{
+        form: match part[4] {{
             b'-' => None,
             digit => m{number}::form::Form::of_name(
                 m{number}::form::FORM_NAMES[usize::from(digit - b'0')],
             ),
         }},
-        swaps: part[4] == b'w',
+        swaps: part[5] == b'w',
     }};
-    let words = words_of(part);
     let mut trace = &part[words.len() + 1..];
-    let mask = if words.len() > 5 {{
-        let tags = str::from_utf8(&words[6..]).unwrap_or("");
+    let mask = if words.len() > 6 {{
+        let tags = str::from_utf8(&words[7..]).unwrap_or("");
         m{number}::mask::Mask::of(rt.alloc(), tags).unwrap()
     }} else {{
         m{number}::mask::Mask::none(rt.alloc())
     }};
     let hides = mask.hides();
     let mut out = io::writer(rt);
+    if words[3] == b'd' {{
+        return diff{number}(rt, mask, resumes, reading, trace);
+    }}
     let outcome = m{number}::explain::explain(
         rt.alloc(),
         layout,
@@ -198,6 +201,31 @@ fn run{number}(rt: &HostRuntime, part: &[u8]) {{
     }}
     let _ = out.write_all(b"\\x1e");
 }}
+
+fn diff{number}(
+    rt: &HostRuntime,
+    mask: m{number}::mask::Mask,
+    resumes: bool,
+    reading: m{number}::reading::Reading,
+    traces: &[u8],
+) {{
+    let hides = mask.hides();
+    let mut parts = traces.split(|byte| *byte == 0x1C);
+    let mut a = parts.next().unwrap_or(&[]);
+    let mut b = parts.next().unwrap_or(&[]);
+    let mut out = io::writer(rt);
+    let outcome =
+        m{number}::diff::diff(rt.alloc(), mask, resumes, reading, (&mut a, &mut b), &mut out);
+    let _ = out.write_all(b"\\x1e");
+    if let Err(fault) = outcome {{
+        let _ = if hides {{
+            out.writeln(&m{number}::diff_fault::MaskedDiffFault(&fault))
+        }} else {{
+            out.writeln(&fault)
+        }};
+    }}
+    let _ = out.write_all(b"\\x1e");
+}}
 """
 
 
@@ -209,12 +237,14 @@ def write_inputs(folder, cases, count):
         words = "".join(
             word[2] if word in case.words else "-" for word in ("--html", "--resume", "--summary")
         )
+        words += "d" if "--diff" in case.words else "-"
         words += form_of(case.words)
         words += "w" if "--swap" in case.words else "-"
         if "--mask" in case.words:
             tags = case.words[case.words.index("--mask") + 1 :]
             words += "=" + "".join(tag for tag in tags[:1] if not tag.startswith("--"))
         given += MARK.encode() + words.encode() + b"\x1d" + case.given
+        given += b"\x1c" + case.other if "--diff" in case.words else b""
     for number in range(count):
         (folder / f"f{number:03}").write_bytes(str(number).encode() + given)
 

@@ -3,6 +3,7 @@
 
 import subprocess
 import sys
+import tempfile
 from pathlib import Path
 
 sys.dont_write_bytecode = True
@@ -10,13 +11,31 @@ sys.path.insert(0, str(Path(__file__).resolve().parent))
 from cases import tables  # noqa: E402
 
 
+def run_of(program, case, folder):
+    """The run of a program on a case."""
+    words = [program, *case.words]
+    if "--diff" in words:
+        place = words.index("--diff") + 1
+        words[place:place] = [str(folder / "a"), str(folder / "b")]
+        (folder / "a").write_bytes(case.given)
+        (folder / "b").write_bytes(case.other)
+    return subprocess.run(words, input=case.given, capture_output=True, check=False)
+
+
+def status_of(case):
+    """The statuses that it may end with: of a secret is looked at what is told alone."""
+    if case.secret:
+        return 0, 1
+    differ = "--diff" in case.words and not "".join(case.wanted).startswith("alike")
+    return (1,) if case.error or differ else (0,)
+
+
 def main(program):
     for case in tables():
-        run = subprocess.run(
-            [program, *case.words], input=case.given, capture_output=True, check=False
-        )
+        with tempfile.TemporaryDirectory() as name:
+            run = run_of(program, case, Path(name))
         said = case.fault(run.stdout.decode(), run.stderr.decode())
-        if not said and run.returncode != (1 if case.error else 0):
+        if not said and run.returncode not in status_of(case):
             said = f"{case.name}: status {run.returncode}"
         rows = len(case.wanted) if case.part in ("titles", "statuses") else 1
         for line in [said] if said else ["passed"] * rows:

@@ -1,6 +1,6 @@
 //! What is told of an answer to reset, in plain words.
 
-use crate::layout::{Kind, Layout, Side};
+use crate::layout::{Head, Kind, Layout, Side};
 use crate::mask::Mask;
 use crate::opening::{is_direct, is_short};
 use crate::preface::Preface;
@@ -18,7 +18,8 @@ pub fn tell_answer(
     out: &mut String,
 ) -> Result<(), AllocError> {
     let read = Atr::read(preface.answer());
-    layout.open(out, kind_of(&read), "answer to reset", preface.line())?;
+    let head = Head::new(kind_of(&read), "answer to reset", preface.line());
+    layout.open(out, head)?;
     let mut characters = hex_lines(alloc, preface.answer())?;
     if read.is_err() {
         characters = mask.or_hidden(alloc, characters)?;
@@ -38,7 +39,7 @@ pub fn tell_answer(
 /// Whether an answer is whole.
 fn kind_of(read: &Result<Atr, AtrFault>) -> Kind {
     match read {
-        Ok(_) => Kind::Whole,
+        Ok(_) => Kind::Well,
         Err(fault) if is_short(fault.reason) => Kind::CutOff,
         Err(_) => Kind::Complaint,
     }

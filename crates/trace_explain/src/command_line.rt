@@ -11,7 +11,7 @@ use std::alloc::{AllocError, Global};
 
 /// What the words ask for.
 #[derive(Debug, Drop)]
-pub struct Request {
+pub struct Request<'a> {
     /// How the explanation is laid out.
     pub layout: Layout,
     /// What is not shown.
@@ -20,11 +20,13 @@ pub struct Request {
     pub resumes: bool,
     /// How the lines of the trace are read.
     pub reading: Reading,
+    /// The files of two traces that are compared, where no trace is explained.
+    pub compared: Option<(&'a str, &'a str)>,
 }
 
 /// What the words, of which the first is the program's name, ask for. The error is the parser's:
 /// a call for help, a mistake in the words, or want of memory.
-pub fn parsed(alloc: Global, words: &[String]) -> Result<Request, Error> {
+pub fn parsed<'a>(alloc: Global, words: &'a [String]) -> Result<Request<'a>, Error> {
     let matches = command(alloc)?.try_get_matches_from(words)?;
     let medium = if matches.get_flag("html") {
         Medium::Html
@@ -35,8 +37,13 @@ pub fn parsed(alloc: Global, words: &[String]) -> Result<Request, Error> {
         None => Mask::none(alloc),
         Some(tags) => masked(alloc, tags)?,
     };
+    let compared = match matches.get_strs("diff") {
+        Some([a, b]) => Some((*a, *b)),
+        _ => None,
+    };
     Ok(Request {
         mask,
+        compared,
         layout: Layout {
             medium,
             is_summary: matches.get_flag("summary"),
@@ -66,6 +73,13 @@ fn masked(alloc: Global, tags: &str) -> Result<Mask, Error> {
 
 /// The program with its options.
 fn command<'a>(alloc: Global) -> Result<Command<'a>, AllocError> {
+    let diff = Arg::new(alloc, "diff")
+        .long("diff")
+        .value_names(["A", "B"].as_slice())
+        .num_args(2..=2)
+        .help(help::DIFF)
+        .conflicts_with("html")?
+        .conflicts_with("summary")?;
     let mask = Arg::new(alloc, "mask")
         .long("mask")
         .value_name("TAGS")
@@ -76,6 +90,7 @@ fn command<'a>(alloc: Global) -> Result<Command<'a>, AllocError> {
         .version(help::VERSION)
         .about(help::PROGRAM)
         .after_help(help::TRACE)
+        .arg(diff)?
         .arg(flag(alloc, "html", help::HTML))?
         .arg(mask)?
         .arg(flag(alloc, "resume", help::RESUME))?

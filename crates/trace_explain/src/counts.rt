@@ -7,6 +7,9 @@ use crate::tpdu::Tpdu;
 use std::alloc::{AllocError, Global};
 use std::collections::BTreeMap;
 
+/// How many complaints, and how many statuses, have links on a page.
+const LINKS: usize = 1_000;
+
 /// How many TPDUs a trace has, with which commands and statuses, and how many complaints.
 #[derive(Drop)]
 pub struct Counts {
@@ -20,6 +23,12 @@ pub struct Counts {
     /// Those of statuses other than `9000`.
     statuses: BTreeMap<u16, u64>,
     complaints: u64,
+    /// The lines of the first complaints.
+    complaint_lines: Vec<u64>,
+    /// How many TPDUs have a status that is none of `9000`, `61XX` and `6CXX`.
+    unwell: u64,
+    /// The numbers of the first of these, and their statuses.
+    first_unwell: Vec<(u64, u16)>,
 }
 
 impl Counts {
@@ -33,6 +42,9 @@ impl Counts {
             unnamed: BTreeMap::new(alloc),
             statuses: BTreeMap::new(alloc),
             complaints: 0,
+            complaint_lines: Vec::new(alloc),
+            unwell: 0,
+            first_unwell: Vec::new(alloc),
         }
     }
 
@@ -41,9 +53,10 @@ impl Counts {
         self.complaints
     }
 
-    /// One complaint more.
-    pub fn complain(&mut self) {
+    /// One complaint more, which stands in this line. The error is want of memory.
+    pub fn complain(&mut self, line: u64) -> Result<(), AllocError> {
         self.complaints = self.complaints.saturating_add(1);
+        push_first(&mut self.complaint_lines, line)
     }
 
     /// One TPDU more. The error is want of memory.
@@ -58,6 +71,10 @@ impl Counts {
             return Ok(());
         }
         let word = u16::from_be_bytes([status.sw1(), status.sw2()]);
+        if !matches!(status.sw1(), 0x61 | 0x6C) {
+            self.unwell = self.unwell.saturating_add(1);
+            push_first(&mut self.first_unwell, (self.tpdus, word))?;
+        }
         count(&mut self.statuses, word)
     }
 
@@ -85,6 +102,8 @@ impl Counts {
         layout.row(out, Side::Told, "statuses", statuses.as_str())?;
         let complaints = format!(in alloc; "{}\n", self.complaints)?;
         layout.row(out, Side::Told, "complaints", complaints.as_str())?;
+        layout.complaint_links(out, self.complaint_lines.as_slice(), self.complaints)?;
+        layout.status_links(out, self.first_unwell.as_slice(), self.unwell)?;
         layout.close_block(out)
     }
 
@@ -128,6 +147,14 @@ impl Counts {
         }
         Ok(text)
     }
+}
+
+/// Keeps one that is among the first.
+fn push_first<T: Drop>(all: &mut Vec<T>, one: T) -> Result<(), AllocError> {
+    if all.len() < LINKS {
+        all.push(one).map_err(AllocError::from)?;
+    }
+    Ok(())
 }
 
 /// Counts one more.

@@ -22,7 +22,7 @@ pub const TRACE_LIMIT: usize = 1_099_511_627_776;
 pub const LINE_LIMIT: usize = 4_194_304;
 
 /// How many bytes are asked of the reader at once.
-const CHUNK: usize = 16_384;
+pub const CHUNK: usize = 16_384;
 
 /// Explains a trace, whose lines are read so, and writes what it explains.
 pub fn explain<R: Read, W: Write>(
@@ -86,7 +86,7 @@ fn explain_chunks<R: Read, W: Write>(
 }
 
 /// Explains the lines that end in a chunk, and keeps the line that does not.
-fn explain_chunk(
+pub fn explain_chunk(
     explainer: &mut Explainer,
     chunk: &[u8],
     line: &mut Vec<u8>,
@@ -123,7 +123,7 @@ fn push(line: &mut Vec<u8>, byte: u8) -> Result<(), AllocError>
 }
 
 /// Explains the last line, where it has no LF.
-fn explain_last(
+pub fn explain_last(
     explainer: &mut Explainer,
     line: &[u8],
     text: &mut String,

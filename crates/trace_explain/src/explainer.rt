@@ -15,12 +15,13 @@ ghost use Rattle.trace_explain.specs.Told.{Told};
 use crate::answer::tell_answer;
 use crate::complaint::{Complaint, due_text, end_text};
 use crate::counts::Counts;
+use crate::diff::Kept;
 use crate::explain_fault::ExplainFault;
-use crate::layout::{Kind, Layout, Side};
+use crate::layout::{Anchor, Head, Kind, Layout, Side};
 use crate::links::{Link, Links, Whole};
 use crate::listener::Listener;
 use crate::mask::{HIDDEN, Mask, Origin};
-use crate::meaning::push_meaning;
+use crate::meaning::{push_meaning, waiting};
 use crate::opening::{Role, Stage, begins_answer};
 use crate::phrases;
 use crate::pps::tell_exchange;
@@ -58,6 +59,8 @@ pub struct Explainer {
     counts: Counts,
     first: Option<Complaint>,
     passed: Option<Passed>,
+    keeps: bool,
+    kept: Vec<Kept>,
 }
 
 /// What is passed over after a character with which no dialogue goes on.
@@ -101,6 +104,8 @@ impl Explainer {
             counts: Counts::new(alloc),
             first: None,
             passed: None,
+            keeps: false,
+            kept: Vec::new(alloc),
         }
     }
 
@@ -109,6 +114,21 @@ impl Explainer {
         ensures { result ≡ next_line self.now }
     {
         self.line.saturating_add(1)
+    }
+
+    /// From now on it keeps each TPDU with what is told of it, and adds that to no text.
+    pub fn keep(&mut self) {
+        self.keeps = true;
+    }
+
+    /// The TPDUs that it keeps.
+    pub fn kept(&self) -> &[Kept] {
+        self.kept.as_slice()
+    }
+
+    /// Keeps none of them any longer.
+    pub fn forget_kept(&mut self) {
+        self.kept.clear();
     }
 
     /// Adds what comes before the first line.
@@ -402,7 +422,7 @@ impl Explainer {
         };
         self.cut_off(out)?;
         self.story.lose_some();
-        self.counts.complain();
+        self.counts.complain(self.line)?;
         self.complain(complaint, out)?;
         if !self.resumes {
             return Err(ExplainFault::NoDialogue(complaint));
@@ -467,8 +487,12 @@ impl Explainer {
             from,
             byte,
         } = complaint;
-        self.layout
-            .open(out, Kind::Complaint, "no dialogue that it reads", line)?;
+        let number = self.counts.complaints();
+        let head = Head {
+            anchor: Anchor::Complaint(number),
+            ..Head::new(Kind::Complaint, "no dialogue that it reads", line)
+        };
+        self.layout.open(out, head)?;
         let character = place.saturating_add(1);
         let stands = format!(in self.alloc; "line {line}, character {character}\n")?;
         self.layout.row(out, Side::Told, "place", stands.as_str())?;
@@ -558,10 +582,14 @@ impl Explainer {
         }
     }
 
-    /// Explains what is under way where the trace ends, and adds the last block.
+    /// Explains what is under way where the trace ends, and adds the last block; nothing where what
+    /// was told ends within a line, since memory was wanting there.
     pub fn end(&mut self, out: &mut String) -> Result<(), AllocError>
         ensures { OnOk result (standing_of self.new ≡ standing_of self.old) }
     {
+        if ends_within_line(out.as_str()) {
+            return Ok(());
+        }
         self.tell_passed(out)?;
         self.tell_part(self.preface.stage(), out)?;
         self.cut_off(out)?;
@@ -569,18 +597,31 @@ impl Explainer {
         self.layout.end(out)
     }
 
+    /// Tells of a TPDU, or keeps it.
+    fn tell(&mut self, tpdu: &Tpdu, links: Links, out: &mut String) -> Result<(), AllocError>
+        ensures { OnOk result (KeepsAll self.old self.new) }
+    {
+        if !self.keeps {
+            return self.tell_box(tpdu, links, out);
+        }
+        let mut text = String::new(self.alloc);
+        self.tell_box(tpdu, links, &mut text)?;
+        let tpdu = tpdu.copied(self.alloc)?;
+        push(&mut self.kept, Kept { tpdu, text })
+    }
+
     /// Adds the box of a TPDU.
-    fn tell(&self, tpdu: &Tpdu, links: Links, out: &mut String) -> Result<(), AllocError> {
+    fn tell_box(&self, tpdu: &Tpdu, links: Links, out: &mut String) -> Result<(), AllocError> {
         let number = links.number;
         let name = phrases::title(self.alloc, tpdu)?;
         let mut title = format!(in self.alloc; "#{number} {name}")?;
         phrases::push_links(&mut title, links)?;
-        let kind = if tpdu.status.len() == 2 {
-            Kind::Whole
-        } else {
-            Kind::CutOff
+        let head = Head {
+            status: tpdu.status.as_slice(),
+            anchor: Anchor::Tpdu(number),
+            ..Head::new(kind_of(tpdu), title.as_str(), self.began)
         };
-        self.layout.open(out, kind, title.as_str(), self.began)?;
+        self.layout.open(out, head)?;
         if links.drops_before {
             self.layout
                 .row(out, Side::Told, "before", "the chain is dropped\n")?;
@@ -597,8 +638,7 @@ impl Explainer {
     /// Adds the rows of what went over the line.
     fn tell_rows(&self, tpdu: &Tpdu, links: Links, out: &mut String) -> Result<(), AllocError> {
         let header = hex_lines(self.alloc, tpdu.header.as_slice())?;
-        self.layout
-            .row(out, Side::Terminal, "header", header.as_str())?;
+        self.layout.header(out, header.as_str())?;
         let procedure = phrases::procedure(self.alloc, tpdu.tally)?;
         self.layout
             .row(out, Side::Card, "procedure", procedure.as_str())?;
@@ -656,6 +696,29 @@ impl Explainer {
         let data = self.mask.data_lines(self.alloc, origin, true, bytes)?;
         lines.push_str(data.as_str())?;
         self.layout.row(out, Side::Told, "together", lines.as_str())
+    }
+}
+
+/// Whether a text ends within a line.
+fn ends_within_line(text: &str) -> bool {
+    !text.is_empty() && !text.ends_with('\n')
+}
+
+/// Keeps a TPDU.
+fn push(all: &mut Vec<Kept>, kept: Kept) -> Result<(), AllocError> {
+    all.push(kept).map_err(AllocError::from)
+}
+
+/// How a TPDU went: by its status, where it came whole.
+fn kind_of(tpdu: &Tpdu) -> Kind {
+    let (Some(status), Some((header, _))) = (status_of(tpdu), header_of(tpdu)) else {
+        return Kind::CutOff;
+    };
+    match status.sw1() {
+        _ if status.is_ok() || waiting(header, status).is_some() => Kind::Well,
+        0x6C => Kind::Well,
+        0x62 | 0x63 => Kind::Warning,
+        _ => Kind::Failed,
     }
 }
 

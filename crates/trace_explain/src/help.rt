@@ -7,6 +7,9 @@ pub const PROGRAM: &str = "Explains the trace of a dialogue with a smart card ov
 /// The version.
 pub const VERSION: &str = "0.1.0";
 
+/// Of `--diff`.
+pub const DIFF: &str = "Compares the traces of two files, and shows the first TPDU that differs";
+
 /// Of `--html`.
 pub const HTML: &str = "Writes one page of HTML, which needs nothing else, and no text";
 
@@ -63,6 +66,10 @@ list of objects, and parts of a response, a chain or a file. What may be any of 
 always: notes, characters out of turn, and answers that are none. With `--resume` the program then
 goes on with a line `reset` alone.
 
+With `--diff` the traces of two files are compared in place of what stands on standard input, TPDU
+by TPDU: headers, data with their direction, and statuses, but no procedure bytes, and nothing that
+stands between TPDUs. The first that differs is shown of both. Hidden data are compared, too.
+
 The last block has what is counted: TPDUs, commands by name, statuses other than `9000`, and
 complaints.
 
@@ -71,7 +78,7 @@ A trace in which no line has a character of either end, as an empty one, is a fa
 
 The exit status is 0 where the trace came to its end as dialogues, 1 after a fault or where no
 dialogue that it reads goes on with a character, and 2 where the words of the command line are
-refused.
+refused. Of a comparison it is 0 where the traces are alike, and 1 where they are not.
 
 Example:
 

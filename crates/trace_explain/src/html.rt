@@ -1,6 +1,6 @@
 //! An explanation as one page of HTML, which needs nothing else: no script, and no network.
 
-use crate::layout::{Kind, Side};
+use crate::layout::{Anchor, Head, Kind, Side};
 use std::alloc::AllocError;
 
 /// Up to the first box.
@@ -13,23 +13,38 @@ const HEAD: &str = "\
 <title>A trace, explained</title>
 <style>
 :root { color-scheme: light dark; --ink: #1b2430; --soft: #5b6776; --page: #f5f6f8;
-  --box: #ffffff; --line: #ccd3db; --to: #0b5fae; --from: #1d7a46; --bad: #b3261e; }
+  --box: #ffffff; --line: #ccd3db; --to: #0b5fae; --from: #1d7a46; --bad: #b3261e;
+  --warn: #8a5a00; }
 @media (prefers-color-scheme: dark) { :root { --ink: #e4e8ee; --soft: #9aa6b5; --page: #14181d;
-  --box: #1d232b; --line: #3a4451; --to: #7db7f5; --from: #74cf9b; --bad: #ff8a80; } }
+  --box: #1d232b; --line: #3a4451; --to: #7db7f5; --from: #74cf9b; --bad: #ff8a80;
+  --warn: #f0b95b; } }
 body { margin: 0; background: var(--page); color: var(--ink);
   font: 15px/1.45 system-ui, sans-serif; }
-main { max-width: 60rem; margin: 0 auto; padding: 1rem; }
-h1 { font-size: 1.3rem; margin: 0 0 .8rem; }
-.ends { position: sticky; top: 0; display: flex; justify-content: space-between;
+main { max-width: 60rem; margin: 0 auto; padding: 1rem; display: flex; flex-direction: column; }
+h1 { font-size: 1.3rem; margin: 0 0 .8rem; order: -3; }
+section { order: -2; margin: 0 0 .8rem; padding: .5rem .8rem; background: var(--box);
+  border: 1px solid var(--line); border-radius: .4rem; }
+h2 { font-size: 1rem; margin: 0 0 .3rem; }
+section .m { margin: 0; padding: .1rem 0; background: none; display: flex; text-align: left; }
+section .m::before, section .m::after { display: none; }
+section .m b { width: 7rem; flex: none; }
+section p { margin: .3rem 0 0; overflow-wrap: anywhere; }
+a { color: var(--to); }
+.ends { order: -1; position: sticky; top: 0; display: flex; justify-content: space-between;
   padding: .35rem 1.6rem; background: var(--page); border-bottom: 1px solid var(--line);
   font-weight: 600; }
 .ends :first-child { color: var(--to); }
 .ends :last-child { color: var(--from); }
-details { margin: .7rem 0; padding-bottom: .6rem; background: var(--box); border: 1px solid var(--line);
-  border-radius: .4rem; break-inside: avoid; }
+details { margin: .35rem 0; background: var(--box); border: 1px solid var(--line);
+  border-radius: .4rem; break-inside: avoid; scroll-margin-top: 2.5rem;
+  content-visibility: auto; contain-intrinsic-size: auto 2.3rem; }
+details[open] { padding-bottom: .6rem; contain-intrinsic-size: auto 11rem; }
 details.cut { border-style: dashed; }
 details.complaint { border-color: var(--bad); }
-details.complaint summary { color: var(--bad); }
+details.complaint summary, summary .failed { color: var(--bad); }
+summary .well { color: var(--from); }
+summary .warning { color: var(--warn); }
+summary b { font: 600 13px/1.4 ui-monospace, monospace; }
 summary { padding: .4rem .8rem; cursor: pointer; font-weight: 600; overflow-wrap: anywhere; }
 summary small { color: var(--soft); font-weight: 400; }
 .m { position: relative; margin: .15rem 1.6rem; padding: .2rem .8rem .5rem; }
@@ -56,13 +71,14 @@ summary small { color: var(--soft); font-weight: 400; }
 pre.note { margin: .4rem 0; padding: 0 .8rem; color: var(--soft);
   font: 13px/1.4 ui-monospace, monospace; white-space: pre-wrap; overflow-wrap: anywhere; }
 @media print { body { background: none; } .ends { position: static; }
+  details { content-visibility: visible; }
   details::details-content { content-visibility: visible; } }
 </style>
 </head>
 <body>
 <main>
 <h1>A trace, explained</h1>
-<div class=\"ends\"><span>Terminal</span><span>Card</span></div>
+<div class=\"ends\"><span>Terminal</span><span>Card</span></div><div>
 ";
 
 /// Adds the head of the page.
@@ -75,16 +91,86 @@ pub fn end(out: &mut String) -> Result<(), AllocError> {
     out.push_str("</main>\n</body>\n</html>\n")
 }
 
-/// Opens a box that can be folded.
-pub fn open(out: &mut String, kind: Kind, title: &str, line: u64) -> Result<(), AllocError> {
-    let class = match kind {
-        Kind::Whole => "whole",
+/// Opens a box that can be folded, and is where it tells of what went well.
+pub fn open(out: &mut String, head: Head<'_>) -> Result<(), AllocError> {
+    let class = class_of(head.kind);
+    write!(out, "<details class=\"{class}\"")?;
+    match head.anchor {
+        Anchor::None => {}
+        Anchor::Tpdu(number) => write!(out, " id=\"t{number}\"")?,
+        Anchor::Complaint(number) => write!(out, " id=\"c{number}\"")?,
+    }
+    if head.kind != Kind::Well {
+        out.push_str(" open")?;
+    }
+    out.push_str("><summary>")?;
+    push_escaped(out, head.title)?;
+    if let [sw1, sw2] = head.status {
+        write!(out, " <b class=\"{class}\">{sw1:02X}{sw2:02X}</b>")?;
+    }
+    writeln!(out, " <small>line {}</small></summary>", head.line)
+}
+
+/// The style of a box, and of the status in its title.
+fn class_of(kind: Kind) -> &'static str {
+    match kind {
+        Kind::Well => "well",
+        Kind::Warning => "warning",
+        Kind::Failed => "failed",
         Kind::CutOff => "cut",
         Kind::Complaint => "complaint",
-    };
-    write!(out, "<details open class=\"{class}\"><summary>")?;
-    push_escaped(out, title)?;
-    writeln!(out, " <small>line {line}</small></summary>")
+    }
+}
+
+/// Adds the row of a header, with each of its characters behind its name.
+pub fn header(out: &mut String, digits: &str) -> Result<(), AllocError> {
+    out.push_str("<div class=\"m t\"><b>header</b><pre>")?;
+    let mut names = ["CLA ", "  INS ", "  P1 ", "  P2 ", "  P3 "].iter();
+    let mut is_first = true;
+    for digit in digits.trim_end().chars() {
+        if is_first && let Some(name) = names.next() {
+            out.push_str(name)?;
+        }
+        is_first = !is_first;
+        out.push(digit)?;
+    }
+    out.push_str("</pre><i></i></div>\n")
+}
+
+/// Adds links to complaints, which stand in these lines and are the first of so many.
+pub fn complaint_links(out: &mut String, lines: &[u64], all: u64) -> Result<(), AllocError> {
+    if lines.is_empty() {
+        return Ok(());
+    }
+    out.push_str("<p>complaints in")?;
+    let mut number: u64 = 0;
+    for line in lines {
+        number = number.saturating_add(1);
+        write!(out, " <a href=\"#c{number}\">line {line}</a>")?;
+    }
+    push_more(out, all.saturating_sub(number))
+}
+
+/// Adds links to TPDUs, which have these numbers and statuses and are the first of so many.
+pub fn status_links(out: &mut String, tpdus: &[(u64, u16)], all: u64) -> Result<(), AllocError> {
+    if tpdus.is_empty() {
+        return Ok(());
+    }
+    out.push_str("<p>statuses other than 9000, 61XX and 6CXX:")?;
+    let mut told: u64 = 0;
+    for (number, word) in tpdus {
+        told = told.saturating_add(1);
+        write!(out, " <a href=\"#t{number}\">#{number} {word:04X}</a>")?;
+    }
+    push_more(out, all.saturating_sub(told))
+}
+
+/// Adds how many more there are, and ends the links.
+fn push_more(out: &mut String, more: u64) -> Result<(), AllocError> {
+    if more > 0 {
+        write!(out, " and {more} more")?;
+    }
+    out.push_str("</p>\n")
 }
 
 /// Adds a row: an arrow from the end that says it to the other, or a line between the two.
@@ -109,7 +195,7 @@ pub fn close(out: &mut String) -> Result<(), AllocError> {
 
 /// Opens the last block, which stands first on the page.
 pub fn open_block(out: &mut String, title: &str) -> Result<(), AllocError> {
-    writeln!(out, "<section><h2>{title}</h2>")
+    writeln!(out, "</div><section><h2>{title}</h2>")
 }
 
 /// Closes the last block.

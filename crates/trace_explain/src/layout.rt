@@ -35,12 +35,55 @@ pub enum Side {
 /// What a box of rows is about.
 #[derive(Clone, Copy, Debug, PartialEq, Eq)]
 pub enum Kind {
-    /// A whole TPDU.
-    Whole,
-    /// A TPDU that was cut off.
+    /// What came whole, and went well.
+    Well,
+    /// A TPDU that ended with a warning.
+    Warning,
+    /// A TPDU that ended with an error.
+    Failed,
+    /// What was cut off.
     CutOff,
-    /// A character with which no dialogue goes on.
+    /// A character with which no dialogue goes on, or a bad answer to reset.
     Complaint,
+}
+
+/// What a box is called by links.
+#[derive(Clone, Copy, Debug, PartialEq, Eq)]
+pub enum Anchor {
+    /// Nothing.
+    None,
+    /// The TPDU of this number.
+    Tpdu(u64),
+    /// The complaint of this number, counted from 1.
+    Complaint(u64),
+}
+
+/// What stands above the rows of a box.
+#[derive(Clone, Copy, Debug)]
+pub struct Head<'a> {
+    /// What it is about.
+    pub kind: Kind,
+    /// Its title.
+    pub title: &'a str,
+    /// The line of the trace, counted from 1, in which it begins.
+    pub line: u64,
+    /// SW1 and SW2 of a whole TPDU.
+    pub status: &'a [u8],
+    /// What links call it.
+    pub anchor: Anchor,
+}
+
+impl<'a> Head<'a> {
+    /// That of a box that is of no TPDU, and that no link leads to.
+    pub fn new(kind: Kind, title: &'a str, line: u64) -> Head<'a> {
+        Head {
+            kind,
+            title,
+            line,
+            status: &[],
+            anchor: Anchor::None,
+        }
+    }
 }
 
 impl Layout {
@@ -68,18 +111,47 @@ impl Layout {
         }
     }
 
-    /// Opens a box with a title, which begins in this line of the trace.
-    pub fn open(
-        self,
-        out: &mut String,
-        kind: Kind,
-        title: &str,
-        line: u64,
-    ) -> Result<(), AllocError> {
+    /// Opens a box.
+    pub fn open(self, out: &mut String, head: Head<'_>) -> Result<(), AllocError> {
         match self.medium {
             _ if self.is_summary => Ok(()),
-            Medium::Text => text::open(out, title, line),
-            Medium::Html => html::open(out, kind, title, line),
+            Medium::Text => text::open(out, head.title, head.line),
+            Medium::Html => html::open(out, head),
+        }
+    }
+
+    /// Adds the row of a header, on a page with each of its characters apart.
+    pub fn header(self, out: &mut String, digits: &str) -> Result<(), AllocError> {
+        match self.medium {
+            Medium::Text => self.row(out, Side::Terminal, "header", digits),
+            _ if self.is_summary => Ok(()),
+            Medium::Html => html::header(out, digits),
+        }
+    }
+
+    /// Adds links to complaints, which stand in these lines and are the first of so many.
+    pub fn complaint_links(
+        self,
+        out: &mut String,
+        lines: &[u64],
+        all: u64,
+    ) -> Result<(), AllocError> {
+        match self.medium {
+            Medium::Text => Ok(()),
+            Medium::Html => html::complaint_links(out, lines, all),
+        }
+    }
+
+    /// Adds links to TPDUs, which have these numbers and statuses and are the first of so many.
+    pub fn status_links(
+        self,
+        out: &mut String,
+        tpdus: &[(u64, u16)],
+        all: u64,
+    ) -> Result<(), AllocError> {
+        match self.medium {
+            Medium::Text => Ok(()),
+            Medium::Html => html::status_links(out, tpdus, all),
         }
     }
 

@@ -8,6 +8,8 @@ mod command_line;
 mod command_name;
 mod complaint;
 mod counts;
+mod diff;
+mod diff_fault;
 mod digits;
 mod explain;
 mod explain_fault;
@@ -50,6 +52,7 @@ fn main(rt: HostRuntime) -> ExitCode {
         Ok(words) => main_status(
             rt.alloc(),
             words.as_slice(),
+            &rt,
             &mut rt.stdin(),
             &mut io::writer(&rt),
             &mut faults,

@@ -2,23 +2,30 @@
 ghost use Rattle.std.specs.Prelude.{◌≡◌, ◌≤◌, OnOk, OnErr};
 
 use crate::command_line::{Request, parsed};
+use crate::diff::diff;
+use crate::diff_fault::{DiffFault, MaskedDiffFault, Which};
 use crate::explain::explain;
 use crate::explain_fault::{ExplainFault, MaskedFault};
 use crate::help;
+use crate::mask::Mask;
+use crate::reading::Reading;
 use clap::Error;
 use clap::error::ErrorKind;
 use std::alloc::Global;
+use std::fs::File;
 use std::io;
 use std::io::{Read, Write};
+use std::rt::Files;
 
 /// Runs the program on its words, of which the first is its name, and answers its exit status.
 ///
 /// 0: the trace was explained, or help was asked for, which goes to `output`. 1: a fault, which is
 /// told on `faults`. 2: the words were refused, as `faults` tells. That `faults` fails changes no
 /// status.
-pub fn main_status<R: Read, W: Write, F: Write>(
+pub fn main_status<D: Files, R: Read, W: Write, F: Write>(
     alloc: Global,
     words: &[String],
+    files: &D,
     input: &mut R,
     output: &mut W,
     faults: &mut F,
@@ -26,18 +33,79 @@ pub fn main_status<R: Read, W: Write, F: Write>(
     ensures status { result ≤ 2 }
 {
     match parsed(alloc, words) {
-        Ok(request) => {
-            let hides = request.mask.hides();
-            let Request {
-                layout,
-                mask,
-                resumes,
-                reading,
-            } = request;
+        Ok(request) => carried_out(alloc, request, files, input, output, faults),
+        Err(error) => answered(&error, output, faults),
+    }
+}
+
+/// Does what the words ask for, and answers the status.
+fn carried_out<D: Files, R: Read, W: Write, F: Write>(
+    alloc: Global,
+    request: Request<'_>,
+    files: &D,
+    input: &mut R,
+    output: &mut W,
+    faults: &mut F,
+) -> u8
+    ensures status { result ≤ 2 }
+{
+    let Request {
+        layout,
+        mask,
+        resumes,
+        reading,
+        compared,
+    } = request;
+    let hides = mask.hides();
+    match compared {
+        Some(paths) => {
+            let outcome = diff_files(alloc, mask, resumes, reading, files, paths, output);
+            told_diff(&outcome, hides, faults)
+        }
+        None => {
             let outcome = explain(alloc, layout, mask, resumes, reading, input, output);
             told(&outcome, hides, faults)
         }
-        Err(error) => answered(&error, output, faults),
+    }
+}
+
+/// Compares the traces of two files.
+fn diff_files<D: Files, W: Write>(
+    alloc: Global,
+    mask: Mask,
+    resumes: bool,
+    reading: Reading,
+    files: &D,
+    paths: (&str, &str),
+    output: &mut W,
+) -> Result<bool, DiffFault> {
+    let (path_a, path_b) = paths;
+    let mut a = opened(files, path_a, Which::A)?;
+    let mut b = opened(files, path_b, Which::B)?;
+    diff(alloc, mask, resumes, reading, (&mut a, &mut b), output)
+}
+
+/// The file that has a trace.
+fn opened<D: Files>(files: &D, path: &str, which: Which) -> Result<D::File, DiffFault> {
+    File::open(files, path).map_err(|_| DiffFault::Open(which))
+}
+
+/// The status of a comparison: 0 where the traces are alike, and else 1, also for a fault, which is
+/// told on `faults` in one line.
+fn told_diff<F: Write>(outcome: &Result<bool, DiffFault>, hides: bool, faults: &mut F) -> u8
+    ensures status { result ≤ 2 }
+{
+    match outcome {
+        Ok(true) => 0,
+        Ok(false) => 1,
+        Err(fault) => {
+            let _ = if hides {
+                faults.writeln(&MaskedDiffFault(fault))
+            } else {
+                faults.writeln(fault)
+            };
+            1
+        }
     }
 }
 

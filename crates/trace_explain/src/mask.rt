@@ -102,6 +102,14 @@ impl Mask {
         Ok(Mask { hides: true, tags })
     }
 
+    /// The same once more. The error is want of memory.
+    pub fn copied(&self, alloc: Global) -> Result<Mask, AllocError> {
+        let mut tags = Vec::new(alloc);
+        tags.extend_from_slice(self.tags.as_slice())?;
+        let hides = self.hides;
+        Ok(Mask { hides, tags })
+    }
+
     /// Whether anything is not shown. Then nothing is of which it can't be known what it is: notes,
     /// characters out of turn, and a line that may be a header.
     pub fn hides(&self) -> bool {

@@ -1,7 +1,7 @@
 //! What is told of a PPS exchange, in plain words.
 
 use crate::answer::push_rate;
-use crate::layout::{Kind, Layout, Side};
+use crate::layout::{Head, Kind, Layout, Side};
 use crate::mask::Mask;
 use crate::preface::Preface;
 use crate::tree::hex_lines;
@@ -20,8 +20,8 @@ pub fn tell_exchange(
     let request = Pps::read(preface.request());
     let response = Pps::read(preface.response());
     let is_whole = request.is_ok() && response.is_ok();
-    let kind = if is_whole { Kind::Whole } else { Kind::CutOff };
-    layout.open(out, kind, "PPS", preface.line())?;
+    let kind = if is_whole { Kind::Well } else { Kind::CutOff };
+    layout.open(out, Head::new(kind, "PPS", preface.line()))?;
     let mut asked = characters(alloc, mask, preface.request(), request.is_ok())?;
     push_pps(&mut asked, &request)?;
     layout.row(out, Side::Terminal, "request", asked.as_str())?;

@@ -38,6 +38,17 @@ impl Tpdu {
         }
     }
 
+    /// The same once more. The error is want of memory.
+    pub fn copied(&self, alloc: Global) -> Result<Tpdu, AllocError> {
+        let mut other = Tpdu::new(alloc);
+        other.header.extend_from_slice(self.header.as_slice())?;
+        other.tally = self.tally;
+        other.way = self.way;
+        other.moved.extend_from_slice(self.moved.as_slice())?;
+        other.status.extend_from_slice(self.status.as_slice())?;
+        Ok(other)
+    }
+
     /// Notes one more character, which was this. The error is want of memory.
     pub fn note(&mut self, heard: &Heard, byte: u8) -> Result<(), AllocError>
         ensures { OnOk result (told_by self.new ≡ noted (told_by self.old) heard.now byte) }

@@ -1,0 +1,220 @@
+//! Two traces compared, TPDU by TPDU.
+
+use crate::diff_fault::{DiffFault, Which};
+use crate::explain::{CHUNK, TRACE_LIMIT, explain_chunk, explain_last};
+use crate::explain_fault::ExplainFault;
+use crate::explainer::Explainer;
+use crate::layout::{Layout, Medium};
+use crate::mask::Mask;
+use crate::reading::Reading;
+use crate::tpdu::Tpdu;
+use std::alloc::{AllocError, Global};
+use std::io::{Read, Write};
+
+/// How what is compared is told of.
+const LAYOUT: Layout = Layout {
+    medium: Medium::Text,
+    is_summary: false,
+};
+
+/// A TPDU, and the box that tells of it.
+#[derive(Debug, Drop)]
+pub struct Kept {
+    /// The TPDU.
+    pub tpdu: Tpdu,
+    /// What is told of it.
+    pub text: String,
+}
+
+/// One of the two traces.
+#[derive(Drop)]
+struct Trace<'r, R: Read> {
+    which: Which,
+    reader: &'r mut R,
+    explainer: Explainer,
+    size: usize,
+    line: Vec<u8>,
+    /// What else is told, which nobody asks for here.
+    text: String,
+    /// How many of the TPDUs that are kept were compared.
+    passed: usize,
+    is_over: bool,
+    fault: Option<ExplainFault>,
+}
+
+/// Compares two traces, and writes the first TPDU that differs, and in what; it answers whether
+/// they are alike. Procedure bytes are not compared, nor what stands between TPDUs.
+pub fn diff<R: Read, S: Read, W: Write>(
+    alloc: Global,
+    mask: Mask,
+    resumes: bool,
+    reading: Reading,
+    readers: (&mut R, &mut S),
+    writer: &mut W,
+) -> Result<bool, DiffFault> {
+    let (reader_a, reader_b) = readers;
+    let other = mask.copied(alloc)?;
+    let mut a = Trace::new(alloc, Which::A, other, resumes, reading, reader_a);
+    let mut b = Trace::new(alloc, Which::B, mask, resumes, reading, reader_b);
+    let mut text = String::new(alloc);
+    let alike = compare(&mut a, &mut b, &mut text)?;
+    match writer.write_all(text.as_bytes()) {
+        Ok(()) => Ok(alike),
+        Err(_) => Err(DiffFault::Write),
+    }
+}
+
+/// Compares TPDUs up to the first that differs.
+fn compare<R: Read, S: Read>(
+    a: &mut Trace<'_, R>,
+    b: &mut Trace<'_, S>,
+    out: &mut String,
+) -> Result<bool, DiffFault> {
+    for number in 1..u64::MAX {
+        let before = number - 1;
+        match (a.front()?, b.front()?) {
+            (None, None) => {
+                let unit = if before == 1 { "TPDU" } else { "TPDUs" };
+                writeln!(out, "alike: {before} {unit}")?;
+                return Ok(true);
+            }
+            (Some(kept), None) => return only(out, Which::B, before, kept),
+            (None, Some(kept)) => return only(out, Which::A, before, kept),
+            (Some(one), Some(other)) => {
+                if differ(out, number, one, other)? {
+                    return Ok(false);
+                }
+            }
+        }
+        a.pass();
+        b.pass();
+    }
+    Ok(true)
+}
+
+/// Tells that this trace has no more TPDUs, and which is the next of the other.
+fn only(out: &mut String, which: Which, before: u64, next: &Kept) -> Result<bool, DiffFault> {
+    let unit = if before == 1 { "TPDU" } else { "TPDUs" };
+    let other = which.other();
+    writeln!(
+        out,
+        "{which} ends after {before} {unit}, and {other} goes on:"
+    )?;
+    out.push_str(next.text.as_str())?;
+    Ok(false)
+}
+
+/// Whether two TPDUs differ; then it tells of them, and in what.
+fn differ(out: &mut String, number: u64, a: &Kept, b: &Kept) -> Result<bool, AllocError> {
+    let parts = [
+        ("header", a.tpdu.header == b.tpdu.header),
+        (
+            "data",
+            a.tpdu.way == b.tpdu.way && a.tpdu.moved == b.tpdu.moved,
+        ),
+        ("status", a.tpdu.status == b.tpdu.status),
+    ];
+    let mut is_first = true;
+    for (name, is_same) in parts {
+        if !is_same {
+            if is_first {
+                write!(out, "TPDU {number} differs: {name}")?;
+            } else {
+                write!(out, ", {name}")?;
+            }
+            is_first = false;
+        }
+    }
+    if is_first {
+        return Ok(false);
+    }
+    out.push_str("\nA:\n")?;
+    out.push_str(a.text.as_str())?;
+    out.push_str("B:\n")?;
+    out.push_str(b.text.as_str())?;
+    Ok(true)
+}
+
+impl<'r, R: Read> Trace<'r, R> {
+    /// Nothing of it has been read.
+    fn new(
+        alloc: Global,
+        which: Which,
+        mask: Mask,
+        resumes: bool,
+        reading: Reading,
+        reader: &'r mut R,
+    ) -> Trace<'r, R> {
+        let mut explainer = Explainer::new(alloc, LAYOUT, mask, resumes, reading);
+        explainer.keep();
+        Trace {
+            which,
+            reader,
+            explainer,
+            size: 0,
+            line: Vec::new(alloc),
+            text: String::new(alloc),
+            passed: 0,
+            is_over: false,
+            fault: None,
+        }
+    }
+
+    /// The next TPDU; `None` where there are no more. The error is what ended the trace before its
+    /// end, or came at its end.
+    fn front(&mut self) -> Result<Option<&Kept>, DiffFault> {
+        for _chunk in 0..u64::MAX {
+            if self.is_over || self.passed < self.explainer.kept().len() {
+                break;
+            }
+            self.explainer.forget_kept();
+            self.passed = 0;
+            self.text.clear();
+            self.read()?;
+        }
+        if self.passed >= self.explainer.kept().len()
+            && let Some(fault) = self.fault.take()
+        {
+            return Err(DiffFault::Trace(self.which, fault));
+        }
+        Ok(self.explainer.kept().get(self.passed))
+    }
+
+    /// Passes the next TPDU.
+    fn pass(&mut self) {
+        self.passed = self.passed.saturating_add(1);
+    }
+
+    /// Reads a chunk more, and keeps its TPDUs.
+    fn read(&mut self) -> Result<(), AllocError> {
+        match self.read_chunk() {
+            Ok(true) => return Ok(()),
+            Ok(false) => {}
+            Err(fault) => self.fault = Some(fault),
+        }
+        self.is_over = true;
+        self.explainer.end(&mut self.text)
+    }
+
+    /// Explains what ends in a chunk more; it answers whether there was one.
+    fn read_chunk(&mut self) -> Result<bool, ExplainFault> {
+        let mut chunk = [0; CHUNK];
+        match self.reader.read(&mut chunk) {
+            Ok(0) => {
+                explain_last(&mut self.explainer, self.line.as_slice(), &mut self.text)?;
+                self.explainer.outcome()?;
+                Ok(false)
+            }
+            Ok(count) => {
+                self.size = self.size.saturating_add(count);
+                if self.size > TRACE_LIMIT {
+                    return Err(ExplainFault::InputTooLong);
+                }
+                let bytes = &chunk[..count];
+                explain_chunk(&mut self.explainer, bytes, &mut self.line, &mut self.text)?;
+                Ok(true)
+            }
+            Err(_) => Err(ExplainFault::Read),
+        }
+    }
+}

@@ -8,10 +8,10 @@
   that are written, without the rows of headers, procedure bytes, data and statuses; behind `err`
   what standard error tells, and behind `$` the words. `\\xHH` in a line is that byte. Of a page
   only what stands below its head is compared.
-- lines.cases: what lines say, and bare.cases: commands without data whose card repeats INS, in the
-  same words; all that is written stands there.
+- lines.cases: what lines say; times.cases: the times before their signs; bare.cases: commands
+  without data whose card repeats INS; all in the same words, with all that is written.
 
-In the five tables `#` begins a line that is passed over."""
+In the six tables `#` begins a line that is passed over."""
 
 import re
 from dataclasses import dataclass, field
@@ -172,12 +172,13 @@ def lines_of(lines):
 
 
 def tables():
-    """The cases of the five tables."""
+    """The cases of the six tables."""
     return [
         status_case(),
         title_case(),
         *story_cases("stories.cases", "story"),
         *story_cases("lines.cases", "all"),
+        *story_cases("times.cases", "all"),
         *story_cases("bare.cases", "all"),
     ]
 

@@ -109,11 +109,11 @@ is_signed line = begins_with line (codes ">") || begins_with line (codes "<")
     || begins_with_word line (codes "TX") || begins_with_word line (codes "RX")
     || begins_with_word line (codes "IFD") || begins_with_word line (codes "ICC")
 
--- what is left of a line, behind digits or none, has digits, and nothing else but spaces
+-- what is left of a line, behind digits or none, has digits, and nothing else but spaces behind one
 abbrev pub is_digits_from : Bool → List ℕ → Bool
 is_digits_from came [] = came
 is_digits_from came (b ∷ line) = if is_hex_digit b then is_digits_from true line
-    else if b == 32 then is_digits_from came line else false
+    else if (b == 32) && came then is_digits_from came line else false
 
 abbrev pub is_digits : List ℕ → Bool
 is_digits line = is_digits_from false line

@@ -10,11 +10,12 @@
   procedure bytes, data and statuses, but with a mask or `--diff`; behind `err` what standard error
   tells, and behind `$` the words. `\\xHH` in a line is that byte. Of a page only what stands below
   its head is compared.
-- lines.cases: what lines say, and bare.cases: commands without data whose card repeats INS, in the
-  same words; all that is written above the last block stands there.
+- lines.cases: what lines say; times.cases: the times before their signs; bare.cases: commands
+  without data whose card repeats INS; all in the same words, with all that is written above the
+  last block.
 
 The last block of text is told nowhere but in explain_cases: it has to count what stands above it
-(`block_of`). In the five tables `#` begins a line that is passed over."""
+(`block_of`). In the six tables `#` begins a line that is passed over."""
 
 import re
 from collections import Counter
@@ -296,18 +297,19 @@ def lines_of(lines):
 
 
 def tables():
-    """The cases of the five tables, and those of secrets."""
+    """The cases of the six tables, and those of secrets."""
     ways = [], ["--html"], ["--resume"], ["--summary", "--resume"]
     return [*rows_and_stories(), *secret_cases(ways)]
 
 
 def rows_and_stories():
-    """The cases of the five tables."""
+    """The cases of the six tables."""
     return [
         status_case(),
         title_case(),
         *story_cases("stories.cases", "story"),
         *story_cases("lines.cases", "shown"),
+        *story_cases("times.cases", "shown"),
         *story_cases("bare.cases", "shown"),
         *link_cases(),
     ]

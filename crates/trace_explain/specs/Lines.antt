@@ -1,6 +1,6 @@
 -- The lines of a trace, and what is heard of each.
 use Rattle.std.specs.Prelude.{◌≡◌, ◌≢◌, ◌⊎◌, ℕ, ◌+◌, ◌*◌, List, [], ◌∷◌, ◌++◌, take, drop, codes, length, eqb, Option, Some, None, Bool, true, false, not, nat_le, ◌==◌, ◌&&◌, ◌||◌, is_some, if◌then◌else◌}
-use Rattle.std.specs.List.{AllByRecursion, flat_map, position_or_len, starts_with}
+use Rattle.std.specs.List.{AllByRecursion, flat_map, starts_with}
 use Rattle.hex.specs.Hex.{hex_digit_value, is_hex_digit}
 use Rattle.t0_core.specs.declared.end.End.{End}
 use Rattle.t0_core.specs.declared.end.End.TheVariants as end
@@ -17,6 +17,7 @@ use Rattle.trace_explain.specs.declared.trace_line.TraceLine.{TraceLine}
 use Rattle.trace_explain.specs.declared.trace_line.TraceLine.TheVariants as said
 use Rattle.trace_explain.specs.Noted.{IsNoted}
 use Rattle.trace_explain.specs.Openings.{Opening, begins_answer, dialogue_in, has_begun, opened, unopened}
+use Rattle.trace_explain.specs.Times.{behind_time, place_of}
 
 -- the sign before the characters of an end, in each form
 abbrev pub sign_of : Form → End → List ℕ
@@ -42,14 +43,11 @@ sign_of form.DeviceColon end.Terminal = codes "IFD:"
 sign_of form.DeviceColon end.Card = codes "ICC:"
 
 -- a line up to its first space, and from there on
-abbrev pub word_len : List ℕ → ℕ
-word_len line = position_or_len (λ b. b == 32) line
-
 abbrev pub first_word : List ℕ → List ℕ
-first_word line = take (word_len line) line
+first_word line = take (place_of 32 line) line
 
 abbrev pub behind_word : List ℕ → List ℕ
-behind_word line = drop (word_len line) line
+behind_word line = drop (place_of 32 line) line
 
 -- the byte of two digits, in either case
 abbrev pub byte_of : Option ℕ → Option ℕ → Option ℕ
@@ -80,11 +78,12 @@ AreBadDigits bad.Hex digits = bytes_in digits ≡ None
 AreBadDigits bad.OutOfMemory digits = Unit {0}
 AreBadDigits other digits = ⊥
 
--- characters of one end: the sign of a form, and what the digits behind it say, if there are any
+-- characters of one end: behind a time or none, the sign of a form, and what the digits behind it
+-- say, if there are any
 pub record SpellsCharacters (form : Form) (line : List ℕ) (from : End) (bytes : List ℕ) : Type 0
   where
-    pub sign_is : first_word line ≡ sign_of form from
-    pub digits_are : bytes_in (behind_word line) ≡ Some bytes
+    pub sign_is : first_word (behind_time line) ≡ sign_of form from
+    pub digits_are : bytes_in (behind_word (behind_time line)) ≡ Some bytes
 
 -- a word ends where no letter or digit follows
 abbrev pub is_in : ℕ → ℕ → ℕ → Bool
@@ -110,14 +109,18 @@ is_signed line = begins_with line (codes ">") || begins_with line (codes "<")
     || begins_with_word line (codes "TX") || begins_with_word line (codes "RX")
     || begins_with_word line (codes "IFD") || begins_with_word line (codes "ICC")
 
--- what is left of a line, behind digits or none, has digits, and nothing else but spaces
+-- what is left of a line, behind digits or none, has digits, and nothing else but spaces behind one
 abbrev pub is_digits_from : Bool → List ℕ → Bool
 is_digits_from came [] = came
 is_digits_from came (b ∷ line) = if is_hex_digit b then is_digits_from true line
-    else if b == 32 then is_digits_from came line else false
+    else if (b == 32) && came then is_digits_from came line else false
 
 abbrev pub is_digits : List ℕ → Bool
 is_digits line = is_digits_from false line
+
+-- so has all of it, or what stands behind a time
+abbrev pub are_digits : List ℕ → Bool
+are_digits line = is_digits line || is_digits (behind_time line)
 
 -- a line may have signs of this form: of any where no line had one, and else of the same
 abbrev pub Suits : Option Form → Form → Type 0
@@ -128,9 +131,9 @@ Suits (Some known) form = form ≡ known
 abbrev pub Says : Option Form → List ℕ → TraceLine → Type 0
 Says known line (said.Characters form from bytes) =
     SpellsCharacters form line from bytes.items × Suits known form
-Says known line said.Reset = line ≡ codes "reset"
-Says known line (said.Note note) = (is_signed line ≡ false) × (line ≢ codes "reset")
-    × (known ≡ None → is_digits line ≡ false)
+Says known line said.Reset = behind_time line ≡ codes "reset"
+Says known line (said.Note note) = (is_signed (behind_time line) ≡ false)
+    × (behind_time line ≢ codes "reset") × (known ≡ None → are_digits line ≡ false)
 
 -- these are no characters of an end, in any form
 abbrev pub SpellsNothing : List ℕ → Type 0
@@ -140,12 +143,12 @@ SpellsNothing line = (form : Form) (from : End) (bytes : List ℕ)
 -- A line that is refused begins with a sign and is of no form; is of another form than the lines
 -- before it; or has nothing but digits, and no line before it has a sign.
 abbrev pub IsBadLine : BadLine → Option Form → List ℕ → Type 0
-IsBadLine bad.Hex known line = (is_signed line ≡ true) × SpellsNothing line
+IsBadLine bad.Hex known line = (is_signed (behind_time line) ≡ true) × SpellsNothing line
 IsBadLine (bad.OtherForm expected) known line = (known ≡ Some expected)
     × (form : Form) × (from : End) × (bytes : List ℕ) × SpellsCharacters form line from bytes
     × (form ≢ expected)
-IsBadLine bad.NoSign known line = (known ≡ None) × (is_digits line ≡ true)
-    × (is_signed line ≡ false)
+IsBadLine bad.NoSign known line = (known ≡ None) × (are_digits line ≡ true)
+    × (is_signed (behind_time line) ≡ false)
 IsBadLine bad.OutOfMemory known line = Unit {0}
 
 -- whether a character has come by then

@@ -45,7 +45,7 @@ fn first_byte(digits: &[u8]) -> Option<u8>
     }
 }
 
-/// Whether these are digits, with nothing else but spaces between them; at least one.
+/// Whether these are digits, with nothing else but spaces behind the first one.
 pub fn is_digits(line: &[u8]) -> bool
     ensures { result ≡ is_digits line.now }
 {
@@ -53,7 +53,7 @@ pub fn is_digits(line: &[u8]) -> bool
     for &byte in line {
         if value_of(byte).is_some() {
             came = true;
-        } else if byte != b' ' {
+        } else if byte != b' ' || !came {
             return false;
         }
     }

@@ -13,6 +13,7 @@ ghost use Rattle.trace_explain.specs.Openings.{begins_answer, opened, opening_of
 ghost use Rattle.trace_explain.specs.Told.{Told};
 
 use crate::answer::tell_answer;
+use crate::clock::Clock;
 use crate::complaint::{Complaint, due_text, end_text};
 use crate::counts::Counts;
 use crate::diff::Kept;
@@ -29,6 +30,7 @@ use crate::preface::Preface;
 use crate::reading::Reading;
 use crate::refusal::Refusal;
 use crate::story::{Story, header_of, status_of};
+use crate::time::cut_time;
 use crate::tpdu::Tpdu;
 use crate::trace_line::{BadLine, TraceLine, read_line};
 use crate::tree::{hex_lines, push_hex};
@@ -54,6 +56,7 @@ pub struct Explainer {
     came: bool,
     line: u64,
     began: u64,
+    clock: Clock,
     listener: Listener,
     story: Story,
     counts: Counts,
@@ -99,6 +102,7 @@ impl Explainer {
             came: false,
             line: 0,
             began: 0,
+            clock: Clock::new(alloc),
             listener: Listener::new(alloc),
             story: Story::new(alloc),
             counts: Counts::new(alloc),
@@ -153,6 +157,8 @@ impl Explainer {
         ensures of_lines { IfErr result IsOfLines }
     {
         self.line = self.line.saturating_add(1);
+        let (time, _) = cut_time(line);
+        self.clock.pass(time)?;
         match read_line(self.alloc, self.reading.form, line) {
             Ok(TraceLine::Characters(form, from, bytes)) => {
                 self.reading = self.reading.of_form(form);
@@ -336,7 +342,7 @@ impl Explainer {
         ensures wants { IfErr result (λ fault. fault ≡ ExplainFault.OutOfMemory) }
     {
         self.tell_passed(out)?;
-        self.note_beginning();
+        self.note_beginning(from);
         let mut told = Vec::new(self.alloc);
         let heard = self.listener.hear_all(from, bytes, &mut told);
         self.tell_all(told.as_slice(), out)?;
@@ -350,14 +356,15 @@ impl Explainer {
         }
     }
 
-    /// Notes the line in which a TPDU begins, where none is under way, and that nothing is passed
-    /// over.
-    fn note_beginning(&mut self)
+    /// Notes the line in which a TPDU begins, where none is under way and the terminal sends, and
+    /// that nothing is passed over.
+    fn note_beginning(&mut self, from: End)
         ensures { KeepsAll self.old self.new }
     {
         self.passed = None;
-        if self.listener.under_way().is_empty() {
+        if from == End::Terminal && self.listener.under_way().is_empty() {
             self.began = self.line;
+            self.clock.begin();
         }
     }
 
@@ -365,8 +372,9 @@ impl Explainer {
     fn note_next(&mut self, none_ended: bool)
         ensures { KeepsAll self.old self.new }
     {
-        if !none_ended {
+        if !none_ended && !self.listener.under_way().is_empty() {
             self.began = self.line;
+            self.clock.begin();
         }
     }
 
@@ -455,6 +463,7 @@ impl Explainer {
         ensures of_lines { IfErr result IsOfLines }
     {
         self.began = self.line;
+        self.clock.begin();
         let mut told = Vec::new(self.alloc);
         match self.listener.hear_all(End::Terminal, bytes, &mut told) {
             Ok(()) => Ok(()),
@@ -622,6 +631,7 @@ impl Explainer {
             ..Head::new(kind_of(tpdu), title.as_str(), self.began)
         };
         self.layout.open(out, head)?;
+        self.tell_time(out)?;
         if links.drops_before {
             self.layout
                 .row(out, Side::Told, "before", "the chain is dropped\n")?;
@@ -633,6 +643,13 @@ impl Explainer {
         }
         self.tell_whole(tpdu, links, out)?;
         self.layout.close(out)
+    }
+
+    /// Adds the row of when the TPDU began, where its line has a time.
+    fn tell_time(&self, out: &mut String) -> Result<(), AllocError> {
+        let mut text = String::new(self.alloc);
+        self.clock.push_begin(&mut text)?;
+        self.layout.row(out, Side::Told, "time", text.as_str())
     }
 
     /// Adds the rows of what went over the line.

@@ -42,6 +42,11 @@ HEX is two digits for each byte, in either case, with or without spaces between 
 first sign of a line says which, and all later ones must be of that form. `--form` says it before,
 by the names of the first four, `angle`, `angles`, `arrow` and `double`, or the terminal's sign.
 
+A time may stand before a sign, or before `reset`, with a space behind it: of day, as
+`12:34:56.789`, in seconds, as `[0.001234]`, since the line before, as `+0.5 ms`, `us` or `s`, or as
+a count of microseconds. It is told with the TPDU that begins in its line, and how long after the
+last that is.
+
 Every other line is a note, and is told behind `| `; one within a TPDU stands before it. But a line
 that begins with a sign and can't be read is a fault, and so are digits alone where no line before
 them has a sign and no form is said. An empty line is passed over. A trace has at most 2^40 bytes,

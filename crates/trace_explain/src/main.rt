@@ -4,6 +4,7 @@
 mod answer;
 mod ascii;
 mod chain;
+mod clock;
 mod command_line;
 mod command_name;
 mod complaint;
@@ -36,6 +37,7 @@ mod statuses;
 mod story;
 mod tally;
 mod text;
+mod time;
 mod tpdu;
 mod trace_line;
 mod tree;

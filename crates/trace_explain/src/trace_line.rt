@@ -1,16 +1,18 @@
 //! The lines of a trace.
-ghost use Rattle.std.specs.Prelude.{◌≡◌, ◌≤◌, length, take, drop, IfOk, IfErr};
-ghost use Rattle.trace_explain.specs.Lines.{Says, SpellsNothing, IsBadLine, begins_with_word, ends_word, is_signed, word_len};
+ghost use Rattle.std.specs.Prelude.{◌≡◌, IfOk, IfErr};
+ghost use Rattle.trace_explain.specs.Lines.{Says, SpellsNothing, IsBadLine, begins_with_word, ends_word, is_signed};
+ghost use Rattle.trace_explain.specs.Times.{behind_time};
 
 use crate::digits::{bytes_of, is_digits};
 use crate::form::{Form, Sign};
+use crate::time::{cut_time, place_of};
 use std::alloc::{AllocError, Global};
 use t0_core::End;
 
 /// What a line of a trace is.
 #[derive(Debug, Drop)]
 pub enum TraceLine<'a> {
-    /// Characters, behind the sign of an end in some form.
+    /// Characters, behind the sign of an end in some form, and a time or none before it.
     Characters(Form, End, Vec<u8>),
     /// `reset`: the card was reset.
     Reset,
@@ -47,9 +49,10 @@ pub fn read_line(alloc: Global, known: Option<Form>, line: &[u8]) -> Result<Trac
     ensures says { IfOk result (λ said. Says known line.now said) }
     ensures refused { IfErr result (λ why. IsBadLine why known line.now) }
 {
-    let (word, digits) = line.split_at(word_len(line));
+    let (_, rest) = cut_time(line);
+    let (word, digits) = rest.split_at(place_of(b' ', rest));
     let Some(sign) = Sign::of_word(word) else {
-        return without_sign(known, line);
+        return without_sign(known, line, rest);
     };
     let bytes = bytes_of(alloc, digits)?;
     match known {
@@ -58,33 +61,25 @@ pub fn read_line(alloc: Global, known: Option<Form>, line: &[u8]) -> Result<Trac
     }
 }
 
-/// What a line is whose first word is no sign.
-fn without_sign(known: Option<Form>, line: &[u8]) -> Result<TraceLine<'_>, BadLine>
+/// What a line is, behind whose time or none this stands, of which the first word is no sign.
+fn without_sign<'a>(
+    known: Option<Form>,
+    line: &'a [u8],
+    rest: &[u8],
+) -> Result<TraceLine<'a>, BadLine>
+    requires { rest.now ≡ behind_time line.now }
     ensures says { IfOk result (λ said. Says known line.now said) }
     ensures refused { IfErr result (λ why.
         SpellsNothing line.now → IsBadLine why known line.now) }
 {
-    if is_signed(line) {
+    if is_signed(rest) {
         return Err(BadLine::Hex);
     }
-    match line {
+    match rest {
         b"reset" => Ok(TraceLine::Reset),
-        _ if known.is_none() && is_digits(line) => Err(BadLine::NoSign),
+        _ if known.is_none() && (is_digits(line) || is_digits(rest)) => Err(BadLine::NoSign),
         _ => Ok(TraceLine::Note(line)),
     }
-}
-
-/// How many bytes come before the first space.
-fn word_len(line: &[u8]) -> usize
-    ensures value { result ≡ word_len line.now }
-    ensures within { result ≤ length line.now }
-{
-    for place in 0..line.len() {
-        if line[place] == b' ' {
-            return place;
-        }
-    }
-    line.len()
 }
 
 /// Whether the line begins with a sign; one of letters alone is a word.

@@ -244,6 +244,9 @@ def noise():
                    "< 3B00 > 00CA5F2000 < 698555 ", [*GET, *GET], "= 6985\n",
                    "operation 2: another echo has come back than what was sent\n", 1, ["-k"],
                    heaps=heaps)
+    # what stays on the line is read in turn, as an echo too
+    yield Case("all of the rest before its time",
+               "< 3B00 > 00CA5F2000 < 6C0600CA5F2006CA5F20034A4F459000 ", GET, GOT, heaps=True)
     yield Case("a NULL among others", "< 3B00 " + SHORT_WORDS + "< 6060609000 ", SHORT,
                "reset\n< 3B00\n> 0020000000\n< 6060609000\n= 9000\n", options=["-v"], heaps=True)
     yield Case("no echo", "< 3B00 ", SHORT, fault="operation 1: no echo has come back\n",

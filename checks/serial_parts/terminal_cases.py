@@ -220,6 +220,9 @@ def waiting():
     yield Case("NULLs with data between them", "< 3B00 > 00CA5F2006 < 60 ~ 0.7 < CA5F20034A4F45 "
                "~ 0.7 < 609000 ", ["send", "00CA5F2006"], "= 9000 5F20034A4F45\n", slack=3000,
                options=["--patience", "1"])
+    yield Case("NULLs before data in heaps", "< 3B00 > 00CA5F2006 < 60 ~ 0.7 < 60CA5F20034A4F45 "
+               "~ 0.7 < 609000 ", ["send", "00CA5F2006"], "= 9000 5F20034A4F45\n", slack=3000,
+               options=["--patience", "1"], heaps=True)
     yield Case("a trace that a fault cuts", quick + SHORT_WORDS + "< 60 ", SHORT,
                "reset\n< 3B804002\n> 0020000000\n< 60\n", fault, 1, options=["-v"], waits=0.2)
 

@@ -1,5 +1,5 @@
 -- A command without data whose card repeats INS: what a tap has heard of it is a whole dialogue.
-use Rattle.std.proofs.Common.{◌≡◌, ℕ, ◌+◌, ◌-◌, ◌^◌, min, ◌<◌, ◌≤◌, List, [], ◌∷◌, ◌++◌, length, slice_index, fold, map, refl, sym, ap, subst, ◌∙◌, append-nil, append_assoc, Bool, true, false, ◌==◌, ◌&&◌, IsTrue, Some, None, inr, lit<, arith}
+use Rattle.std.proofs.Common.{◌≡◌, ℕ, ◌<◌, List, [], ◌∷◌, ◌++◌, length, slice_index, fold, map, refl, sym, ap, subst, ◌∙◌, append-nil, append_assoc, Bool, true, false, ◌==◌, ◌&&◌, Some, None, inr, lit<, arith}
 use Rattle.std.specs.List.{AllByRecursion, flat_map}
 use Rattle.std.proofs.lemmas.Bool.{eqb-true}
 use Rattle.apdu_core.specs.HeaderBytes.{header_bytes}
@@ -10,12 +10,12 @@ use Rattle.t0_core.specs.declared.end.End.TheVariants.{Card, Terminal}
 use Rattle.t0_core.specs.declared.plan.Step.{Step}
 use Rattle.t0_core.specs.declared.plan.Step.TheVariants.{Null, One, All}
 use Rattle.t0_core.specs.Character.{Character, sent_by}
-use Rattle.t0_core.specs.Dialogue.{Body, Dialogue, IsDialogue, all_moves, body_characters, characters, foreseen, segment_characters}
+use Rattle.t0_core.specs.Dialogue.{Body, Dialogue, IsDialogue, all_moves, characters, foreseen, segment_characters}
 use Rattle.t0_core.specs.DialogueLaws.{all_more, flat_map_last}
 use Rattle.t0_core.specs.Front.{Front, In_header, In_body, After_first, EndInLast, IsFront, fresh, front_characters}
 use Rattle.t0_core.specs.declared.heard.Heard.{Heard}
 use Rattle.t0_core.specs.declared.unheard.Unheard.{Unheard}
-use Rattle.t0_core.specs.History.{Event, Passed, Reset, Item, Whole, events_of, passed}
+use Rattle.t0_core.specs.History.{Event, Passed, Reset, Whole, events_of, passed}
 use Rattle.t0_core.specs.TapSide.{Place, TapStandsAt, afresh, heard_at, unheard_at}
 use Rattle.t0_core.specs.TapHistory.{HasHeard, HearsOn}
 use Rattle.trace_explain.specs.declared.listener.Listener.{Listener}

@@ -1,5 +1,5 @@
 -- The bytes that digits say, one byte or one space further.
-use Rattle.std.proofs.Common.{◌≡◌, ℕ, ◌+◌, ◌<◌, ◌≤◌, List, [], ◌∷◌, ◌++◌, length, drop, get_or, refl, sym, ap, ◌∙◌, append_assoc, Option, Some, None, Bool, true, false, ◌==◌, arith}
+use Rattle.std.proofs.Common.{◌≡◌, ℕ, ◌+◌, ◌<◌, ◌≤◌, List, [], ◌∷◌, ◌++◌, length, drop, get_or, refl, sym, ap, ◌∙◌, append_assoc, Option, Some, None, false, ◌==◌, arith}
 use Rattle.std.proofs.lemmas.List.{drop_more, length-drop}
 use Rattle.trace_explain.specs.Lines.{bytes_in, first_byte, with_byte}
 

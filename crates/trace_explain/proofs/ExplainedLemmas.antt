@@ -1,5 +1,5 @@
 -- What an explainer has explained, one line further.
-use Rattle.std.proofs.Common.{◌≡◌, ℕ, ◌+◌, ◌<◌, List, [], ◌∷◌, ◌++◌, length, take, drop, sym, subst, ◌∙◌, ap, Bool, true, false, ◌==◌, ◌&&◌, refl, append-nil, append_assoc, map, get_or, Option, Some, None, Result, Ok, Err, IfErr, OnOk, inl, inr, arith}
+use Rattle.std.proofs.Common.{◌≡◌, ℕ, ◌+◌, ◌<◌, List, [], ◌∷◌, ◌++◌, length, take, drop, sym, subst, ◌∙◌, ap, Bool, true, false, ◌==◌, ◌&&◌, refl, append-nil, append_assoc, map, get_or, Some, None, Result, Ok, Err, IfErr, OnOk, inl, inr, arith}
 use Rattle.std.specs.List.{flat_map}
 use Rattle.std.proofs.lemmas.Bool.{eqb-true}
 use Rattle.std.proofs.lemmas.List.{drop_more, get_or-drop, length-drop, length-take, nil_from_length, take-append-drop, length-append}
@@ -10,7 +10,6 @@ use Rattle.t0_core.specs.Character.{sent_by}
 use Rattle.t0_core.specs.Front.{Front, In_header, In_body, After_first, front_characters}
 use Rattle.t0_core.specs.History.{Event, Reset, events_of, passed}
 use Rattle.t0_core.specs.TapSide.{due_at}
-use Rattle.t0_core.specs.declared.heard.Due.{Due}
 use Rattle.trace_explain.specs.declared.complaint.Complaint.{Complaint}
 use Rattle.trace_explain.specs.declared.explain_fault.ExplainFault.{ExplainFault}
 use Rattle.trace_explain.specs.declared.explain_fault.ExplainFault.TheVariants as fault
@@ -22,9 +21,9 @@ use Rattle.trace_explain.specs.declared.trace_line.TraceLine.{TraceLine}
 use Rattle.trace_explain.specs.declared.tpdu.Tpdu.{Tpdu}
 use Rattle.trace_explain.specs.Told.{Told, told_by, TellsFront}
 use Rattle.trace_explain.specs.Openings.{Opening, begins_answer, dialogue_in, has_begun, opened, opening_of, unopened}
-use Rattle.trace_explain.specs.Lines.{AreOver, Standing, after_characters, came_after, heard_in, SpellsCharacters, Suits, Says, TakesCharacters, TakesLine, of_form, sender}
+use Rattle.trace_explain.specs.Lines.{AreOver, Standing, after_characters, came_after, heard_in, SpellsCharacters, Suits, Says, TakesCharacters, TakesLine, sender}
 use Rattle.trace_explain.specs.Noted.{HasNoted, NoneGoesOn}
-use Rattle.trace_explain.specs.Explained.{HasExplained, ExplainsMore, ExplainsReset, ExplainsCharacters, ExplainsLine, HearsUpTo, IsRight, StopsRightly, StopsAtLine, IsStop, Stopped, answers_again, next_line, standing_of}
+use Rattle.trace_explain.specs.Explained.{HasExplained, ExplainsMore, ExplainsReset, ExplainsCharacters, ExplainsLine, HearsUpTo, IsRight, StopsRightly, StopsAtLine, Stopped, answers_again, next_line, standing_of}
 use Rattle.trace_explain.specs.UnderWay.{OpensUpTo}
 use Rattle.trace_explain.proofs.OpeningLemmas.{dialogue_is}
 

@@ -12,7 +12,6 @@ use Rattle.trace_explain.specs.declared.explain_fault.ExplainFault.TheVariants a
 use Rattle.trace_explain.specs.declared.explainer.Explainer.{Explainer}
 use Rattle.trace_explain.specs.declared.form.Form.{Form}
 use Rattle.trace_explain.specs.declared.listener.Listener.{Listener}
-use Rattle.trace_explain.specs.declared.trace_line.BadLine.{BadLine}
 use Rattle.trace_explain.specs.declared.trace_line.BadLine.TheVariants as bad
 use Rattle.trace_explain.specs.declared.trace_line.TraceLine.{TraceLine}
 use Rattle.trace_explain.specs.Lines.{SpellsCharacters, Suits, Says, IsBadLine, Standing, TakesCharacters, TakesLine, heard_in, sender}

@@ -1,13 +1,10 @@
-use Rattle.std.proofs.Common.{◌≡◌, ℕ, ◌+◌, ◌-◌, ◌==◌, ◌∙◌, List, length, drop, get_or, Option, Some, None, Bool, false, true, ap, subst, sym, take}
+use Rattle.std.proofs.Common.{◌≡◌, ℕ, ◌+◌, ◌-◌, ◌==◌, ◌∙◌, length, drop, get_or, Option, Some, false, ap, subst, sym, take}
 use Rattle.std.proofs.lemmas.List.{take_rest}
-use Rattle.t0_core.specs.History.{Event}
 use Rattle.trace_explain.specs.declared.explainer.Explainer.{Explainer}
-use Rattle.trace_explain.specs.declared.listener.Listener.{Listener}
-use Rattle.trace_explain.specs.Explained.{HasExplained, HearsUpTo, answers_again, standing_of}
+use Rattle.trace_explain.specs.Explained.{HearsUpTo, answers_again}
 use Rattle.trace_explain.specs.Lines.{came_after}
-use Rattle.trace_explain.specs.Noted.{HasNoted}
 use Rattle.trace_explain.specs.Openings.{begins_answer, has_begun, opening_of}
-use Rattle.trace_explain.specs.Told.{Told, told_by}
+use Rattle.trace_explain.specs.Told.{told_by}
 use Rattle.trace_explain.specs.UnderWay.{OpensUpTo}
 use Rattle.trace_explain.proofs.ExplainedLemmas.{both_hold, explained_on, explains_again, explains_heard, first_fails, others_fail, stops_rightly}
 use Rattle.trace_explain.proofs.explainer.Explainer.characters.Goals as goal

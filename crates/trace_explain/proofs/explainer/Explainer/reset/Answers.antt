@@ -1,5 +1,4 @@
-use Rattle.std.proofs.Common.{[], ◌∷◌, ◌∙◌, ap, refl}
-use Rattle.t0_core.specs.History.{Reset}
+use Rattle.std.proofs.Common.{◌∙◌, ap, refl}
 use Rattle.trace_explain.specs.Openings.{opening_of, unopened}
 use Rattle.trace_explain.proofs.ExplainedLemmas.{explains_reset, same_standing}
 use Rattle.trace_explain.proofs.explainer.Explainer.reset.Goals as goal

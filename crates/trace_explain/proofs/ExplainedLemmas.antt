@@ -28,10 +28,10 @@ use Rattle.trace_explain.specs.Explained.{HasExplained, ExplainsMore, ExplainsRe
 use Rattle.trace_explain.specs.UnderWay.{OpensUpTo}
 use Rattle.trace_explain.proofs.OpeningLemmas.{dialogue_is}
 
--- what holds whatever comes out
-pub when_ok : {T E : Type 0} (r : Result T E) (P : Type 0) → P → OnOk r P
-when_ok (Ok x) P h = h
-when_ok (Err e) P h = tt
+-- what follows where it went well
+pub on_ok_too : {T E : Type 0} (r : Result T E) (P Q : Type 0) → OnOk r P → (P → Q) → OnOk r Q
+on_ok_too (Ok x) P Q h next = next h
+on_ok_too (Err e) P Q h next = tt
 
 -- what is told before a line stays told
 pub noted_none : (events : List Event) (before : List Told) (none : List Tpdu) (l m : Listener)

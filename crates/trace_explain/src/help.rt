@@ -48,9 +48,9 @@ a count of microseconds. It is told with the TPDU that begins in its line, and h
 last that is.
 
 Every other line is a note, and is told behind `| `; one within a TPDU stands before it. But a line
-that begins with a sign and can't be read is a fault, and so are digits alone where no line before
-them has a sign and no form is said. An empty line is passed over. A trace has at most 2^40 bytes,
-and a line at most 4,194,304.
+that begins with a sign and can't be read is a fault, and so is one of digits alone, with no space
+before them, where no line before it has a sign and no form is said. An empty line is passed over. A
+trace has at most 2^40 bytes, and a line at most 4,194,304.
 
 Where the trace begins or the card was reset, a first character `3B`, `3F` or `03` of the card
 begins an answer to reset, and `FF` of the terminal behind an answer begins a PPS request. They are

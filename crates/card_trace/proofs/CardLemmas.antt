@@ -22,7 +22,7 @@ use Rattle.object_card.specs.CardView.{CardView}
 use Rattle.object_card.specs.Builder.{new_card}
 use Rattle.card_trace.specs.declared.fixed_line.FixedLine.TheVariants as fixed
 use Rattle.card_trace.specs.declared.script.section.Section.TheVariants as section
-use Rattle.card_trace.specs.AnswerToReset.{AnswerToReset, at_first, characters_of, up_to, without, AreOfAnswer, RefusesAnswer}
+use Rattle.card_trace.specs.AnswerToReset.{AnswerToReset, at_first, characters_of, up_to, without}
 use Rattle.card_trace.specs.FixedText.{fixed_text}
 use Rattle.card_trace.specs.TraceText.{handed_out_text}
 use Rattle.card_trace.specs.ScriptWords.{words_of}
@@ -39,7 +39,7 @@ use Rattle.card_trace.specs.declared.script.reading.TheConstants.{SCRIPT_LIMIT}
 use Rattle.card_trace.specs.ScriptTable.{Addition, MayStandIn}
 use Rattle.card_trace.specs.Scripts.{IsNotAdded}
 use Rattle.card_trace.specs.ScriptCard.{CardMeaning, Adds, Atr, Plan, Take, HandOut, Reset, Table, is_card_table_line, IsCardLine}
-use Rattle.card_trace.specs.CardScripts.{Past, heard, reset_to, no_past, RunningEnd, CardRun, Building, Running, TakeInTurn, IsFresh, AtWork, end_at, IsReady, IsReadyBy, LeadOn, Writes, TakesCharacters, HandsOut, IsEnough, Takes, listens_now, answers_first, HandsOutNext, of_answer, of_end, RunsLine, RunsTo, DoesLine, DoesOrPasses, DoesAll, IsFirstRunLine, RefusesMeaning, RefusesCardLine, CardWrites, section_of}
+use Rattle.card_trace.specs.CardScripts.{Past, heard, reset_to, no_past, RunningEnd, CardRun, Building, Running, TakeInTurn, IsFresh, AtWork, end_at, IsReady, IsReadyBy, LeadOn, Writes, TakesCharacters, HandsOut, IsEnough, Takes, listens_now, answers_first, HandsOutNext, of_answer, of_end, RunsLine, DoesLine, DoesOrPasses, DoesAll, IsFirstRunLine, RefusesMeaning, RefusesCardLine, CardWrites, section_of}
 
 -- ---- characters that pass
 

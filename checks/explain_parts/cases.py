@@ -8,8 +8,8 @@
 - stories.cases: several TPDUs. Behind `in` stand the lines of the trace, behind `with` those of the
   other one of `--diff`, behind `out` the lines that are written, without the rows of headers,
   procedure bytes, data and statuses, but with a mask or `--diff`; behind `err` what standard error
-  tells, and behind `$` the words. `\\xHH` in a line is that byte. Of a page only what stands below
-  its head is compared.
+  tells, behind `time` how long it took by the last block, and behind `$` the words. `\\xHH` in a
+  line is that byte. Of a page only what stands below its head is compared.
 - lines.cases: what lines say; times.cases: the times before their signs; bare.cases: commands
   without data whose card repeats INS; all in the same words, with all that is written above the
   last block.
@@ -31,6 +31,7 @@ TITLE = re.compile(r"#\d+ (.*)  \(line \d+\)$")
 STATUS = re.compile(r"  < status     ([0-9A-F]{4} .*)$")
 # a name is of words in capitals; what SELECT selects may be, too
 COMMAND = re.compile(r"#\d+ (INS [0-9A-F]{2}|SELECT|part of a header|[A-Z]+(?:[ /][A-Z]+)*)\b")
+TIME = re.compile(r"^    time       (.*)$", re.MULTILINE)
 COMPLAINT = "no dialogue that it reads  ("
 BLOCK = "summary"
 HEX = re.compile(r"\b(?:[0-9A-F]{2})+\b")
@@ -51,6 +52,7 @@ class Case:
     part: str = "all"
     secret: bytes = b""
     other: bytes = b""
+    time: str = ""
 
     def fault(self, out, err):
         """What is wrong with what was said; empty where nothing is."""
@@ -61,7 +63,7 @@ class Case:
         lines = out.splitlines()
         if self.part != "page" and not {"--summary", "--diff"} & set(self.words):
             lines, block = without_block(lines)
-            for wanted, line in zip_longest(block_of(lines), block):
+            for wanted, line in zip_longest(block_of(lines, self.time), block):
                 if wanted != line:
                     return f"{self.name}: in the last block {line!r}, and not {wanted!r}"
         if self.part == "all":
@@ -95,8 +97,8 @@ def without_block(lines):
     return lines[:begins], lines[begins:]
 
 
-def block_of(lines):
-    """The last block behind these lines: what stands in them, counted."""
+def block_of(lines, time):
+    """The last block behind these lines: what stands in them, counted, and how long it took."""
     names = [it[1] for line in lines if (it := COMMAND.match(line))]
     commands = Counter(name.replace("RECORDS", "RECORD") for name in names)
     came = [it[1] for line in lines if (it := STATUS.match(line))]
@@ -109,6 +111,7 @@ def block_of(lines):
         *row("commands", counted(commands, rank) or ["none"]),
         *row("statuses", counted(statuses, str) or ["none other than 9000"]),
         *row("complaints", [str(sum(line.startswith(COMPLAINT) for line in lines))]),
+        *(row("time", [time]) if time else []),
     ]
 
 
@@ -219,6 +222,8 @@ def story_cases(name, part):
             found[-1].wanted.append(rest)
         elif word == "err":
             found[-1].error += rest + "\n"
+        elif word == "time":
+            found[-1].time = rest
         elif word == "$":
             found[-1].words = rest.split()
             if "--html" in rest:
@@ -277,12 +282,14 @@ def whole_cases():
     """The cases of checks/explain_cases, whose output stands there whole."""
     for trace in sorted(CASES.glob("*.trace")):
         text = {kind: there(trace.with_suffix(f".{kind}")) for kind in ("out", "args", "err")}
+        time = TIME.search(text["out"].rpartition(f"{BLOCK}\n")[2])
         yield Case(
             trace.stem,
             trace.read_bytes(),
             text["out"].splitlines(),
             text["args"].split(),
             text["err"],
+            time=time[1] if time else "",
         )
 
 

@@ -314,6 +314,9 @@ stops_rightly (Err fault.Read) start place n line mid from bytes heard events be
 stops_rightly (Err fault.Write) start place n line mid from bytes heard events before old at is n_is
     opens heard_is hears not_again =
     tt
+stops_rightly (Err fault.Closed) start place n line mid from bytes heard events before old at is n_is
+    opens heard_is hears not_again =
+    tt
 stops_rightly (Err fault.InputTooLong) start place n line mid from bytes heard events before old at
     is n_is opens heard_is hears not_again =
     tt
@@ -366,6 +369,8 @@ line_stops (Err (fault.Resumed m c)) line n form from bytes given events before 
 line_stops (Err fault.Read) line n form from bytes given events before old same spells n_is h =
     tt
 line_stops (Err fault.Write) line n form from bytes given events before old same spells n_is h =
+    tt
+line_stops (Err fault.Closed) line n form from bytes given events before old same spells n_is h =
     tt
 line_stops (Err fault.InputTooLong) line n form from bytes given events before old same spells n_is
     h =

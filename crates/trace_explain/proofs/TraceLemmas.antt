@@ -248,6 +248,7 @@ of_lines_kept (fault.Resumed m c) bytes h = tt
 of_lines_kept fault.OutOfMemory bytes h = tt
 of_lines_kept fault.Read bytes h = tt
 of_lines_kept fault.Write bytes h = tt
+of_lines_kept fault.Closed bytes h = tt
 of_lines_kept fault.InputTooLong bytes h = absurd h
 of_lines_kept fault.NoCharacters bytes h = absurd h
 
@@ -288,6 +289,7 @@ line_stops_in reading fault.NoCharacters all line given left others old come end
 line_stops_in reading (fault.Resumed m c) all line given left others old come ends stops = tt
 line_stops_in reading fault.Read all line given left others old come ends stops = tt
 line_stops_in reading fault.Write all line given left others old come ends stops = tt
+line_stops_in reading fault.Closed all line given left others old come ends stops = tt
 line_stops_in reading fault.InputTooLong all line given left others old come ends stops = tt
 line_stops_in reading fault.OutOfMemory all line given left others old come ends stops = tt
 
@@ -437,6 +439,7 @@ ended_at reading (fault.NoSign m) (Some bytes) at ended explained = absurd ended
 ended_at reading (fault.LineTooLong m) (Some bytes) at ended explained = absurd ended
 ended_at reading fault.Read (Some bytes) at ended explained = tt
 ended_at reading fault.Write (Some bytes) at ended explained = tt
+ended_at reading fault.Closed (Some bytes) at ended explained = tt
 ended_at reading fault.InputTooLong (Some bytes) at ended explained = tt
 ended_at reading fault.OutOfMemory (Some bytes) at ended explained = tt
 

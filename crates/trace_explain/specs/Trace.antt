@@ -126,3 +126,14 @@ abbrev pub IsOfEnd : ExplainFault → Bool → Type 0
 IsOfEnd (fault.Resumed complaints first) came = Unit {0}
 IsOfEnd fault.NoCharacters came = came ≡ false
 IsOfEnd other came = ⊥
+
+-- the faults of the writer: it failed, or nobody reads any more
+abbrev pub IsOfWriting : ExplainFault → Type 0
+IsOfWriting fault.Write = Unit {0}
+IsOfWriting fault.Closed = Unit {0}
+IsOfWriting other = ⊥
+
+-- the exit status for a fault: 1, but 0 where nobody reads any more
+abbrev pub status_of : ExplainFault → ℕ
+status_of fault.Closed = 0
+status_of other = 1

@@ -27,6 +27,7 @@ pub record HasCome (reading : Reading) (all : List (List ℕ)) (line left : List
 abbrev pub IsOfLines : ExplainFault → Type 0
 IsOfLines fault.Read = ⊥
 IsOfLines fault.Write = ⊥
+IsOfLines fault.Closed = ⊥
 IsOfLines fault.InputTooLong = ⊥
 IsOfLines fault.NoCharacters = ⊥
 IsOfLines other = Unit {0}

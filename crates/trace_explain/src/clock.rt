@@ -42,6 +42,10 @@ pub struct Clock {
     began: Option<Moment>,
     /// How long that is behind the one before it.
     since: Option<u64>,
+    /// The time of the last line of characters that had one.
+    heard: Option<Moment>,
+    /// How long it is from the first of these lines to the last, where that is known.
+    whole: Option<u64>,
 }
 
 impl Clock {
@@ -53,6 +57,8 @@ impl Clock {
             shown: Vec::new(alloc),
             began: None,
             since: None,
+            heard: None,
+            whole: Some(0),
         }
     }
 
@@ -64,6 +70,17 @@ impl Clock {
             self.now = Some(moment.behind(self.now));
         }
         Ok(())
+    }
+
+    /// The last line has characters that are heard.
+    pub fn hear(&mut self) {
+        if self.text.is_empty() {
+            return;
+        }
+        if self.heard.is_some() {
+            self.whole = sum(self.whole, span(self.heard, self.now));
+        }
+        self.heard = self.now;
     }
 
     /// A TPDU begins in the last line.
@@ -87,6 +104,19 @@ impl Clock {
         }
         if let Some(nanos) = self.since {
             push_span(text, nanos)?;
+        }
+        text.push('\n')
+    }
+
+    /// Adds how long it is from the first line of characters with a time to the last: nothing,
+    /// where none has one.
+    pub fn push_whole(&self, text: &mut String) -> Result<(), AllocError> {
+        if self.heard.is_none() {
+            return Ok(());
+        }
+        match self.whole {
+            Some(nanos) => push_duration(text, nanos)?,
+            None => text.push_str("not known, as times go back or are of two kinds")?,
         }
         text.push('\n')
     }
@@ -185,14 +215,26 @@ fn span(before: Option<Moment>, now: Option<Moment>) -> Option<u64> {
     }
 }
 
+/// Both together, where both are known.
+fn sum(one: Option<u64>, other: Option<u64>) -> Option<u64> {
+    one?.checked_add(other?)
+}
+
 /// Adds how long after another one a TPDU began.
 fn push_span(text: &mut String, nanos: u64) -> Result<(), AllocError> {
+    text.push_str(", ")?;
+    push_duration(text, nanos)?;
+    text.push_str(" later")
+}
+
+/// Adds how long something took.
+fn push_duration(text: &mut String, nanos: u64) -> Result<(), AllocError> {
     let micros = nanos / 1_000;
     if nanos < SECOND {
         let (whole, rest) = (micros / 1_000, micros % 1_000);
-        write!(text, ", {whole}.{rest:03} ms later")
+        write!(text, "{whole}.{rest:03} ms")
     } else {
         let (whole, rest) = (micros / 1_000_000, micros % 1_000_000);
-        write!(text, ", {whole}.{rest:06} s later")
+        write!(text, "{whole}.{rest:06} s")
     }
 }

@@ -1,5 +1,6 @@
 //! What is counted over a whole trace, and told in its last block.
 
+use crate::clock::Clock;
 use crate::instructions::instruction;
 use crate::layout::{Layout, Side};
 use crate::story::{header_of, status_of};
@@ -90,8 +91,14 @@ impl Counts {
         }
     }
 
-    /// Adds the last block.
-    pub fn tell(&self, alloc: Global, layout: Layout, out: &mut String) -> Result<(), AllocError> {
+    /// Adds the last block, with how long it all took by this clock.
+    pub fn tell(
+        &self,
+        alloc: Global,
+        layout: Layout,
+        clock: &Clock,
+        out: &mut String,
+    ) -> Result<(), AllocError> {
         let layout = layout.of_block();
         layout.open_block(out, "summary")?;
         let tpdus = self.tpdu_text(alloc)?;
@@ -102,6 +109,9 @@ impl Counts {
         layout.row(out, Side::Told, "statuses", statuses.as_str())?;
         let complaints = format!(in alloc; "{}\n", self.complaints)?;
         layout.row(out, Side::Told, "complaints", complaints.as_str())?;
+        let mut time = String::new(alloc);
+        clock.push_whole(&mut time)?;
+        layout.row(out, Side::Told, "time", time.as_str())?;
         layout.complaint_links(out, self.complaint_lines.as_slice(), self.complaints)?;
         layout.status_links(out, self.first_unwell.as_slice(), self.unwell)?;
         layout.close_block(out)

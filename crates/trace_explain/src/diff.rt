@@ -9,6 +9,7 @@ use crate::mask::Mask;
 use crate::reading::Reading;
 use crate::tpdu::Tpdu;
 use std::alloc::{AllocError, Global};
+use std::io;
 use std::io::{Read, Write};
 
 /// How what is compared is told of.
@@ -43,7 +44,8 @@ struct Trace<'r, R: Read> {
 }
 
 /// Compares two traces, and writes the first TPDU that differs, and in what; it answers whether
-/// they are alike. Procedure bytes are not compared, nor what stands between TPDUs.
+/// they are alike, also where nobody reads that any more. Procedure bytes are not compared, nor
+/// what stands between TPDUs.
 pub fn diff<R: Read, S: Read, W: Write>(
     alloc: Global,
     mask: Mask,
@@ -60,6 +62,7 @@ pub fn diff<R: Read, S: Read, W: Write>(
     let alike = compare(&mut a, &mut b, &mut text)?;
     match writer.write_all(text.as_bytes()) {
         Ok(()) => Ok(alike),
+        Err(error) if error.kind() == io::ErrorKind::BrokenPipe => Ok(alike),
         Err(_) => Err(DiffFault::Write),
     }
 }

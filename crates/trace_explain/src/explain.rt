@@ -4,7 +4,7 @@ ghost use Rattle.std.specs.Str.Lines.{strip_carriage_return};
 ghost use Rattle.trace_explain.specs.declared.reading.Reading.{Reading};
 ghost use Rattle.trace_explain.specs.Explained.{HasExplained, standing_of};
 ghost use Rattle.trace_explain.specs.Lines.{first_of_all};
-ghost use Rattle.trace_explain.specs.Trace.{IsExplained, IsWhole, KeepsLimit, StopsIn, lines_of};
+ghost use Rattle.trace_explain.specs.Trace.{IsExplained, IsOfWriting, IsWhole, KeepsLimit, StopsIn, lines_of};
 ghost use Rattle.trace_explain.specs.UnderWay.{HasCome, IsOfLines};
 
 use crate::explain_fault::ExplainFault;
@@ -153,9 +153,12 @@ fn without_return(line: &[u8]) -> &[u8]
 
 /// Writes the text, and empties it.
 fn write_text<W: Write>(text: &mut String, writer: &mut W) -> Result<(), ExplainFault>
-    ensures { IfErr result (λ fault. fault ≡ ExplainFault.Write) }
+    ensures { IfErr result IsOfWriting }
 {
     let outcome = writer.write_all(text.as_bytes());
     text.clear();
-    outcome.map_err(|_| ExplainFault::Write)
+    match outcome {
+        Ok(()) => Ok(()),
+        Err(error) => Err(ExplainFault::of_writing(&error)),
+    }
 }

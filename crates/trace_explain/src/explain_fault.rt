@@ -1,9 +1,11 @@
 //! The reasons why the program ends with status 1, with their texts.
 
+ghost use Rattle.trace_explain.specs.Trace.{IsOfWriting};
+
 use crate::complaint::{Complaint, Masked};
 use crate::form::Form;
 use std::alloc::AllocError;
-use std::fmt;
+use std::{fmt, io};
 use thiserror::Error;
 
 /// Why the program ends with status 1.
@@ -38,6 +40,10 @@ pub enum ExplainFault {
     /// The writer failed; how much it took is not known.
     #[error("write fault")]
     Write,
+    /// Nobody reads any more what is written, as behind `| head`: that ends the program, and is no
+    /// fault of it.
+    #[error("closed output")]
+    Closed,
     /// The trace has more bytes than a trace may have; what came before was explained.
     #[error("input too long")]
     InputTooLong,
@@ -59,6 +65,18 @@ impl fmt::Display for MaskedFault<'_> {
                 write!(f, " (complaints: {complaints})")
             }
             other => other.fmt(f),
+        }
+    }
+}
+
+impl ExplainFault {
+    /// What an error of the writer is.
+    pub fn of_writing(error: &io::Error) -> ExplainFault
+        ensures { IsOfWriting result }
+    {
+        match error.kind() {
+            io::ErrorKind::BrokenPipe => ExplainFault::Closed,
+            _ => ExplainFault::Write,
         }
     }
 }

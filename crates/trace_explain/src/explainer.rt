@@ -356,12 +356,13 @@ impl Explainer {
         }
     }
 
-    /// Notes the line in which a TPDU begins, where none is under way and the terminal sends, and
-    /// that nothing is passed over.
+    /// Notes the line in which a TPDU begins, where none is under way and the terminal sends, that
+    /// nothing is passed over, and the time.
     fn note_beginning(&mut self, from: End)
         ensures { KeepsAll self.old self.new }
     {
         self.passed = None;
+        self.clock.hear();
         if from == End::Terminal && self.listener.under_way().is_empty() {
             self.began = self.line;
             self.clock.begin();
@@ -602,7 +603,7 @@ impl Explainer {
         self.tell_passed(out)?;
         self.tell_part(self.preface.stage(), out)?;
         self.cut_off(out)?;
-        self.counts.tell(self.alloc, self.layout, out)?;
+        self.counts.tell(self.alloc, self.layout, &self.clock, out)?;
         self.layout.end(out)
     }
 

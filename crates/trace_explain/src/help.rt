@@ -76,14 +76,15 @@ by TPDU: headers, data with their direction, and statuses, but no procedure byte
 stands between TPDUs. The first that differs is shown of both. Hidden data are compared, too.
 
 The last block has what is counted: TPDUs, commands by name, statuses other than `9000`, and
-complaints.
+complaints; and the time that all took, where lines have times.
 
 A TPDU that a reset or the end of the trace has cut off is told as far as it came, and is no fault.
 A trace in which no line has a character of either end, as an empty one, is a fault.
 
-The exit status is 0 where the trace came to its end as dialogues, 1 after a fault or where no
-dialogue that it reads goes on with a character, and 2 where the words of the command line are
-refused. Of a comparison it is 0 where the traces are alike, and 1 where they are not.
+The exit status is 0 where the trace came to its end as dialogues, or where nobody reads the output
+any more, 1 after a fault or where no dialogue that it reads goes on with a character, and 2 where
+the words of the command line are refused. Of a comparison it is 0 where the traces are alike, and 1
+where they are not.
 
 Example:
 

@@ -1,5 +1,6 @@
 //! The program over any reader and writers.
-ghost use Rattle.std.specs.Prelude.{◌≡◌, ◌≤◌, OnOk, OnErr};
+ghost use Rattle.std.specs.Prelude.{◌≡◌, ◌≤◌, OnOk, IfErr};
+ghost use Rattle.trace_explain.specs.Trace.{status_of};
 
 use crate::command_line::{Request, parsed};
 use crate::diff::diff;
@@ -19,9 +20,9 @@ use std::rt::Files;
 
 /// Runs the program on its words, of which the first is its name, and answers its exit status.
 ///
-/// 0: the trace was explained, or help was asked for, which goes to `output`. 1: a fault, which is
-/// told on `faults`. 2: the words were refused, as `faults` tells. That `faults` fails changes no
-/// status.
+/// 0: the trace was explained, or help was asked for, which goes to `output`, or nobody reads
+/// `output` any more. 1: a fault, which is told on `faults`. 2: the words were refused, as `faults`
+/// tells. That `faults` fails changes no status.
 pub fn main_status<D: Files, R: Read, W: Write, F: Write>(
     alloc: Global,
     words: &[String],
@@ -128,17 +129,20 @@ fn answered<W: Write, F: Write>(error: &Error, output: &mut W, faults: &mut F) -
 
 /// Writes the help.
 fn shown<W: Write>(error: &Error, output: &mut W) -> Result<(), ExplainFault> {
-    output.write_fmt(error).map_err(|_| ExplainFault::Write)
+    match output.write_fmt(error) {
+        Ok(()) => Ok(()),
+        Err(error) => Err(ExplainFault::of_writing(&error)),
+    }
 }
 
-/// The status for an outcome: 0, or 1 for a fault, which is told on `faults` in one line, with
-/// characters of the trace or without.
+/// The status for an outcome: 0, also where nobody reads what is written any more, or 1 for a
+/// fault, which is told on `faults` in one line, with characters of the trace or without.
 fn told<F: Write>(outcome: &Result<(), ExplainFault>, hides: bool, faults: &mut F) -> u8
     ensures success { OnOk outcome.now (result ≡ 0) }
-    ensures fault { OnErr outcome.now (result ≡ 1) }
+    ensures fault { IfErr outcome.now (λ fault. result ≡ status_of fault) }
 {
     match outcome {
-        Ok(()) => 0,
+        Ok(()) | Err(ExplainFault::Closed) => 0,
         Err(fault) => {
             let _ = if hides {
                 faults.writeln(&MaskedFault(fault))

@@ -1,8 +1,6 @@
 -- What stands once the answer is handed out.
-use Rattle.std.proofs.Common.{◌≡◌, ◌≢◌, ◌∙◌, ℕ, zero, suc, List, [], ◌∷◌, Option, Some, None, Bool, true, false, refl, sym, ap, subst}
+use Rattle.std.proofs.Common.{◌≡◌, ◌∙◌, ℕ, zero, suc, List, [], ◌∷◌, Option, Some, None, Bool, true, false, refl, sym, ap, subst}
 use Rattle.std.specs.Prelude.{slice_get, slice_set, unwrap_or, option_map, if◌then◌else◌}
-use Rattle.std.specs.List.{AllByRecursion}
-use Rattle.std.specs.Cmp.Lexicographic.{same_text}
 use Rattle.std.proofs.lemmas.Option.{slice_get_within}
 use Rattle.apdu_core.specs.Chaining.{ChainState, idle}
 use Rattle.t0_core.specs.Meaning.{Decided}
@@ -17,6 +15,7 @@ use Rattle.object_card.specs.CardView.{NewValue, IsStanding, IsCard, IsReady, se
 use Rattle.object_card.specs.PutData.{IsStored}
 use Rattle.object_card.specs.TableLaws.{aids}
 use Rattle.object_card.proofs.SameTag.{itself}
+use Rattle.object_card.proofs.CardFieldLemmas.{other_aid}
 
 -- an entry that is not locked, or new, is put as a value is
 entry_with : (tag value : List ℕ) (entries : List Entry) → is_locked tag entries ≡ false
@@ -36,20 +35,6 @@ entry_with tag value (e ∷ entries) free = split (same_bytes tag e.tag) refl
     split false s more =
         rw s (ap (λ es. e ∷ es)
         (more (subst (λ b. (if b then e.locked else is_locked tag entries) ≡ false) s free)))
-
--- an identifier further on is another
-other_aid : (x : List ℕ) (held : List ApplicationView) (i : ℕ) (a : ApplicationView)
-    → AllByRecursion (λ y. x ≢ y) (aids (applications_of held)) → slice_get held i ≡ Some a
-    → same_bytes a.aid x ≡ false
-other_aid x [] i a all at_place = absurd (cc)
-other_aid x (h ∷ held) zero a all at_place = split (same_bytes a.aid x) refl
-  where
-    split : (v : Bool) → same_bytes a.aid x ≡ v → v ≡ false
-    split true s =
-        let e : h ≡ a = cc in
-        absurd (all.0 (sym (ap (λ a. a.aid) e ∙ same_text a.aid x (sym s))))
-    split false s = refl
-other_aid x (h ∷ held) (suc i) a all at_place = other_aid x held i a all.1 at_place
 
 -- a value that is put in an application's place is put under its identifier
 applications_with : (held : List ApplicationView) (i : ℕ) (a b : ApplicationView)
@@ -146,11 +131,6 @@ pub settles : (held new : List ApplicationView) (selected : Option ℕ) (chain :
     → IsDecided (prepared_of held selected chain response ready put)
     → IsStored held selected put new
     → Settles held new selected chain response ready put
-settles held new selected chain response ready.Nothing put card decided stored = absurd decided
-settles held new selected chain response (ready.Receives h p3 cut) put card decided stored =
-    absurd decided
-settles held new selected chain response (ready.Sends h p3 cut sent) put card decided stored =
-    absurd decided
 settles held new selected chain response (ready.Leaves next) put card decided stored =
     subst (λ new. Settles held new selected chain response (ready.Leaves next) put)
     (unchanged held new selected put card.fits.1 stored)
@@ -165,6 +145,7 @@ settles held new selected chain response (ready.Joins before) put card decided s
     (record { standing = card.fits.0; decided = refl })
 settles held new selected chain response ready.Stores put card decided stored =
     stands_stored held new selected chain response put card.standing card.fits stored
+settles _ _ _ _ _ _ _ _ decided _ = absurd decided
 
 -- the fields once the answer is handed out: they are sound, and what was decided stands
 pub handed_out : (held now new after : List ApplicationView) (selected selected_now : Option ℕ)

@@ -156,27 +156,23 @@ object_added tag value locked applications addressable takes are =
 -- the last application is the one at the last place
 last_is : (applications : List Application) (i : ℕ) (a : Application) → suc i ≡ length applications
     → slice_get applications i ≡ Some a → last_added applications ≡ Some a
-last_is [] i a last is = absurd (omega (arith, last))
 last_is (x ∷ []) zero a last is = is
-last_is (x ∷ []) (suc i) a last is = absurd (omega (arith, last))
-last_is (x ∷ y ∷ applications) zero a last is = absurd (omega (arith, last))
 last_is (x ∷ y ∷ applications) (suc i) a last is =
     last_is (y ∷ applications) i a (omega (arith, last)) is
+last_is _ _ a last is = absurd (omega (arith, last))
 
 last_set : (tag value : List ℕ) (locked : Bool) (applications : List Application) (i : ℕ)
     (a : Application) → suc i ≡ length applications → slice_get applications i ≡ Some a
     → slice_set applications i (record a { entries = with_entry tag value locked a.entries })
     ≡ with_last_entry tag value locked applications
-last_set tag value locked [] i a last is = absurd (omega (arith, last))
 last_set tag value locked (x ∷ []) zero a last is =
     let e : x ≡ a = cc in
     let With : Application → List Application =
     λ y. record y { entries = with_entry tag value locked y.entries } ∷ [] in
     ap With (sym e)
-last_set tag value locked (x ∷ []) (suc i) a last is = absurd (omega (arith, last))
-last_set tag value locked (x ∷ y ∷ applications) zero a last is = absurd (omega (arith, last))
 last_set tag value locked (x ∷ y ∷ applications) (suc i) a last is =
     ap (λ xs. x ∷ xs) (last_set tag value locked (y ∷ applications) i a (omega (arith, last)) is)
+last_set tag value locked _ _ a last is = absurd (omega (arith, last))
 
 -- the application that one in memory is
 abbrev pub application_in : ApplicationView → Application

@@ -26,6 +26,12 @@ other_than x y other = split (same_bytes x y) refl
     split true e = absurd (other (sym (same_text x y (sym e))))
     split false e = refl
 
+-- an identifier further on is another
+pub other_aid : (x : List ℕ) (held : List ApplicationView) (i : ℕ) (a : ApplicationView)
+    → AllByRecursion (λ y. x ≢ y) (aids (applications_of held)) → slice_get held i ≡ Some a
+    → same_bytes a.aid x ≡ false
+other_aid x held i a all is = other_than a.aid x (all_at (λ y. x ≢ y) held i a all is)
+
 -- the entries in an application's place are those under its identifier
 pub entries-in : (held : List ApplicationView) (i : ℕ) (a : ApplicationView)
     → AreDistinct (aids (applications_of held)) → slice_get held i ≡ Some a
@@ -36,8 +42,14 @@ entries-in (h ∷ held) zero a distinct is =
     subst (λ x. entries_in x.aid (applications_of (h ∷ held)) ≡ Some x.entries) e
     (rw (itself h.aid) refl)
 entries-in (h ∷ held) (suc i) a distinct is =
-    rw (other_than a.aid h.aid (all_at (λ y. h.aid ≢ y) held i a distinct.0 is))
-    (entries-in held i a distinct.1 is)
+    rw (other_aid h.aid held i a distinct.0 is) (entries-in held i a distinct.1 is)
+
+-- so are those in the place that is selected
+pub entries-here : (held : List ApplicationView) (selected : Option ℕ) (a : ApplicationView)
+    → AreDistinct (aids (applications_of held)) → held_at held selected ≡ Some a
+    → entries_in a.aid (applications_of held) ≡ Some a.entries
+entries-here held None a distinct is = absurd (cc)
+entries-here held (Some i) a distinct is = entries-in held i a distinct is
 
 pub selected-entries : (held : List ApplicationView) (selected : Option ℕ) (chain : ChainState)
     (response : Option Response) → IsCardState (state_of held selected chain response)
@@ -78,10 +90,9 @@ pub entries-sound : (held : List ApplicationView) (selected : Option ℕ) (chain
     (response : Option Response) (a : ApplicationView)
     → IsCardState (state_of held selected chain response) → held_at held selected ≡ Some a
     → AllByRecursion IsEntry a.entries
-entries-sound held None chain response a is at_place = absurd (cc)
-entries-sound held (Some i) chain response a is at_place =
+entries-sound held selected chain response a is at_place =
     (found_is_sound a.aid a.entries (applications_of held) is.are_applications.all_sound
-    (entries-in held i a is.are_applications.distinct_aids at_place)).are_entries
+    (entries-here held selected a is.are_applications.distinct_aids at_place)).are_entries
 
 -- a value that is held keeps to the limit
 pub value-fits : (held : List ApplicationView) (selected : Option ℕ) (chain : ChainState)

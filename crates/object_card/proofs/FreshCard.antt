@@ -20,13 +20,8 @@ chain_limit chain (Some len) = refl
 
 -- what is ready changes no limit
 pub standing_limit : (chain : ChainState) (r : Ready) → (standing_chain chain r).limit ≡ chain.limit
-standing_limit chain ready.Nothing = refl
-standing_limit chain (ready.Receives h p3 cut) = refl
-standing_limit chain (ready.Sends h p3 cut response) = refl
-standing_limit chain (ready.Leaves response) = refl
-standing_limit chain (ready.Selects application response) = refl
 standing_limit chain (ready.Joins before) = chain_limit chain before
-standing_limit chain ready.Stores = refl
+standing_limit _ _ = refl
 
 pub is_fresh : (held : List ApplicationView) (chain : ChainState)
     → AreApplications (applications_of held) → chain ≡ idle VALUE_LIMIT

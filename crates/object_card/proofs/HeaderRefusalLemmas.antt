@@ -1,9 +1,6 @@
 -- The reasons to refuse a header, instruction by instruction.
 use Rattle.std.proofs.Common.{◌≡◌, ◌≢◌, ◌∙◌, ℕ, ◌+◌, ◌<◌, ◌≤◌, List, [], ◌∷◌, ◌++◌, length, Option, Some, None, Bool, true, false, refl, sym, ap, subst}
 use Rattle.std.specs.Prelude.{IsSome, option_map, option_and_then, is_none, if◌then◌else◌, nat_lt, ◌==◌, ◌||◌, ◌&&◌, not, bit_and, IfSome}
-use Rattle.std.proofs.lemmas.Bool.{lt-ltb, le-ltb, ne_eqb, eqb-true, not-false, and_parts}
-use Rattle.std.proofs.Common.{◌≡◌, ◌≢◌, ◌∙◌, ℕ, ◌+◌, ◌<◌, ◌≤◌, List, [], ◌∷◌, ◌++◌, length, Option, Some, None, Bool, true, false, refl, ap, subst}
-use Rattle.std.specs.Prelude.{option_map, option_and_then, is_none, if◌then◌else◌, nat_lt, ◌==◌, ◌||◌, ◌&&◌, not, bit_and, IfSome}
 use Rattle.std.proofs.lemmas.Bool.{lt-ltb, le-ltb, ne_eqb, eqb-true, not-false}
 use Rattle.apdu_core.specs.declared.header.Header.{Header}
 use Rattle.apdu_core.specs.StatusWord.{StatusWord}
@@ -18,6 +15,7 @@ use Rattle.object_card.specs.CardFields.{chain_pending, pending_in}
 use Rattle.object_card.specs.HeaderReasons.{of_form, of_state}
 use Rattle.object_card.proofs.SameTag.{same_as_itself}
 use Rattle.object_card.specs.StateLaws.{none_of_them}
+use Rattle.object_card.specs.RefusalLaws.{is_of_its_chain}
 
 pub put_reasons : (s : CardState) (h : Header) (p3 : ℕ) → h.ins ≡ 0xDA
     → first_of_them s h p3 of_state
@@ -148,16 +146,25 @@ goes_on_with entries chain None h same of_puts = split chain.pending same of_put
         && (h.p2 == x.p2)) ≡ false in
         subst P same (rw (class, instruction, same_as_itself h.p1, same_as_itself h.p2) refl)
 
--- and one that does not continue it breaks it
-same_header : (a b : Header) → a.cla ≡ b.cla → a.ins ≡ b.ins → a.p1 ≡ b.p1 → a.p2 ≡ b.p2 → a ≡ b
-same_header a b cla ins p1 p2 =
-    ap (λ (x : ℕ). let h : Header = record { cla = x; ins = a.ins; p1 = a.p1; p2 = a.p2 } in h) cla
-    ∙ ap (λ (x : ℕ). let h : Header = record { cla = b.cla; ins = x; p1 = a.p1; p2 = a.p2 } in h)
-    ins
-    ∙ ap (λ (x : ℕ). let h : Header = record { cla = b.cla; ins = b.ins; p1 = x; p2 = a.p2 } in h)
-    p1
-    ∙ ap (λ (x : ℕ). let h : Header = record { cla = b.cla; ins = b.ins; p1 = b.p1; p2 = x } in h)
-    p2
+-- and it continues the chain where it does not break it
+pub accepts : (entries : List Entry) (chain : ChainState) (response : Option Response) (h : Header)
+    → (IsSome response → chain.pending ≡ None)
+    → IfSome chain.pending (λ first. (first.cla ≡ 0x00) × (first.ins ≡ 0xDA))
+    → breaks_chain (pending_in entries chain response) h ≡ false
+    → IfSome chain.pending (λ first. as_last h ≡ first)
+accepts entries chain (Some r) h alone of_puts goes_on =
+    subst (λ v. IfSome v (λ first. as_last h ≡ first)) (sym (alone refl)) tt
+accepts entries chain None h alone of_puts goes_on = split chain.pending of_puts goes_on
+  where
+    split : (v : Option Header) → IfSome v (λ first. (first.cla ≡ 0x00) × (first.ins ≡ 0xDA))
+        → breaks_chain (chain_pending v chain.bytes) h ≡ false
+        → IfSome v (λ first. as_last h ≡ first)
+    split None of_puts goes_on = tt
+    split (Some first) of_puts goes_on =
+        let own = is_of_its_chain first.p1 first.p2 chain.bytes h goes_on in
+        let a : bit_and h.cla 0xEF ≡ first.cla = own.0 ∙ sym of_puts.0 in
+        let b : h.ins ≡ first.ins = own.1 ∙ sym of_puts.1 in
+        λ i. record { cla = a i; ins = b i; p1 = own.2 i; p2 = own.3 i }
 
 pub breaks_with : (entries : List Entry) (chain : ChainState) (response : Option Response)
     (h : Header)
@@ -165,33 +172,12 @@ pub breaks_with : (entries : List Entry) (chain : ChainState) (response : Option
     → (IsSome response → chain.pending ≡ None)
     → IfSome chain.pending (λ first. (first.cla ≡ 0x00) × (first.ins ≡ 0xDA))
     → breaks_chain (pending_in entries chain response) h ≡ true
-breaks_with entries chain (Some r) h other alone of_puts =
-    let Continues : Option Header → Type 0 = λ v. IfSome v (λ first. as_last h ≡ first) in
-    absurd (other (subst Continues (sym (alone refl)) tt))
-breaks_with entries chain None h other alone of_puts = split chain.pending other of_puts
+breaks_with entries chain response h other alone of_puts =
+    split (breaks_chain (pending_in entries chain response) h) refl
   where
-    split : (v : Option Header) → (IfSome v (λ first. as_last h ≡ first) → ⊥)
-        → IfSome v (λ first. (first.cla ≡ 0x00) × (first.ins ≡ 0xDA))
-        → breaks_chain (chain_pending v chain.bytes) h ≡ true
-    split None other of_puts = absurd (other tt)
-    split (Some first) other of_puts =
-        choose ((bit_and h.cla 0xEF == 0x00) && (h.ins == 0xDA) && (h.p1 == first.p1)
-        && (h.p2 == first.p2)) refl
-      where
-        choose : (v : Bool) → ((bit_and h.cla 0xEF == 0x00) && (h.ins == 0xDA) && (h.p1 == first.p1)
-            && (h.p2 == first.p2)) ≡ v
-            → not v ≡ true
-        choose false e = refl
-        choose true e =
-            let last = and_parts ((bit_and h.cla 0xEF == 0x00) && (h.ins == 0xDA)
-            && (h.p1 == first.p1)) (h.p2 == first.p2) e in
-            let third = and_parts ((bit_and h.cla 0xEF == 0x00) && (h.ins == 0xDA))
-            (h.p1 == first.p1) last.0 in
-            let second = and_parts (bit_and h.cla 0xEF == 0x00) (h.ins == 0xDA) third.0 in
-            absurd (other (same_header (as_last h) first
-            (eqb-true (bit_and h.cla 0xEF) 0x00 second.0 ∙ sym of_puts.0)
-            (eqb-true h.ins 0xDA second.1 ∙ sym of_puts.1)
-            (eqb-true h.p1 first.p1 third.1) (eqb-true h.p2 first.p2 last.1)))
+    split : (v : Bool) → breaks_chain (pending_in entries chain response) h ≡ v → v ≡ true
+    split true e = refl
+    split false e = absurd (other (accepts entries chain response h alone of_puts e))
 
 pub turn_chain : (s : CardState) (h : Header) (p3 : ℕ) → breaks_chain s.pending h ≡ true
     → refusal s h p3 ≡ Some (0x68, 0x83)

@@ -43,15 +43,12 @@ same_tpdu d e alike =
 same_after : (before : List Tpdu) (items others : List Item) → AreAlikeInTurn items others
     → shown_after before items ≡ shown_after before others
 same_after before [] [] alike = refl
-same_after before [] (o ∷ others) alike = absurd alike
-same_after before (i ∷ items) [] alike = absurd alike
 same_after before (Whole d ∷ items) (Whole e ∷ others) (one, rest) =
     ap (λ t. shown_by before t ++ shown_after (t ∷ before) items) (same_tpdu d e one)
     ∙ ap (λ x. shown_by before (tpdu_of e) ++ x) (same_after (tpdu_of e ∷ before) items others rest)
-same_after before (Whole d ∷ items) (Cut_off p ∷ others) alike = absurd alike
-same_after before (Cut_off p ∷ items) (Whole e ∷ others) alike = absurd alike
 same_after before (Cut_off p ∷ items) (Cut_off q ∷ others) (one, rest) =
     same_after [] items others rest
+same_after _ _ _ alike = absurd alike
 
 -- Alike items show the same puts.
 pub same_shown : (items others : List Item) → AreAlikeInTurn items others

@@ -34,18 +34,9 @@ pub idle_seen : (entries : List Entry) (chain : ChainState) (response : Option R
     → (IsSome response → (standing_chain chain r).pending ≡ None)
     → stands_idle r (is_some chain.pending) ≡ is_idle
     (pending_in entries (standing_chain chain r) response)
-idle_seen entries chain response ready.Nothing alone = sym (of_pending entries chain response alone)
-idle_seen entries chain response (ready.Receives h p3 cut) alone =
-    sym (of_pending entries chain response alone)
-idle_seen entries chain response (ready.Sends h p3 cut sent) alone =
-    sym (of_pending entries chain response alone)
-idle_seen entries chain response (ready.Leaves next) alone =
-    sym (of_pending entries chain response alone)
-idle_seen entries chain response (ready.Selects application next) alone =
-    sym (of_pending entries chain response alone)
 idle_seen entries chain response (ready.Joins before) alone =
     sym (joined chain before) ∙ sym (of_pending entries (chain_before chain before) response alone)
-idle_seen entries chain response ready.Stores alone = sym (of_pending entries chain response alone)
+idle_seen entries chain response _ alone = sym (of_pending entries chain response alone)
 
 -- what waits in a sound state is less than a terminal gathers
 pub few_wait : (selected : Option (List ℕ)) (pending : Pending) → IsPending selected pending

@@ -11,7 +11,6 @@ pub mod HistoryLemmas
 pub mod OutcomeLemmas
 pub mod PendingLemmas
 pub mod PutDataLemmas
-pub mod PutOutcome
 pub mod PutLemmas
 pub mod Responses
 pub mod SameTag

@@ -1,20 +1,22 @@
 -- An operation has one reply and one next state, and a TPDU one outcome, where memory is not
 -- wanted.
 use Rattle.std.proofs.Common.{◌≡◌, ◌≢◌, ℕ, List, [], ◌∷◌, ◌++◌, take, drop, Some, None, true, false, refl, sym, ap, subst, ◌∙◌, arith, Option}
-use Rattle.std.specs.Prelude.{is_some, option_and_then, ◌||◌, ◌==◌}
+use Rattle.std.specs.Prelude.{Bool, is_some, option_and_then, unwrap_or, if◌then◌else◌, ◌||◌, ◌==◌}
 use Rattle.std.proofs.lemmas.Bool.{true≢false, eqb-true}
 use Rattle.apdu_core.specs.StatusWord.{StatusWord, ok, count}
 use Rattle.t0_core.specs.Meaning.{Tpdu}
 use Rattle.tlv_core.specs.Spelling.{object_bytes}
 use Rattle.object_card.specs.Tables.{Entry, entries_in, value_under}
 use Rattle.object_card.specs.State.{CardState, NothingPending, ChainPending, ResponsePending, chained, pending_of, with_pending, with_selected, selected_entries}
-use Rattle.object_card.specs.OneStep.{Operation, Put, Reply, reply, Answers, selects, finds_no_application, none_selected, finds_no_object, gives, stores, does_not_store, wants_memory, with_put, control_information, SameTables, PutStatus, not_allowed, wrong_length, wrong_data, no_space, stored}
+use Rattle.object_card.specs.OneStep.{Operation, Select, Get, Put, Reply, reply, is_selection, Answers, selects, finds_no_application, none_selected, finds_no_object, gives, stores, does_not_store, wants_memory, with_put, control_information, SameTables, PutStatus, not_allowed}
 use Rattle.object_card.specs.Refusals.{is_select, is_get, is_put, is_get_response, refusal, to_send, named_tag}
 use Rattle.object_card.specs.CardMeaning.{Does, refuses, selects_application, misses_application, sends, chains, puts_value, after_refusal, announcing}
 use Rattle.object_card.specs.TagLaws.{named}
 use Rattle.object_card.specs.RefusalLaws.{is_refusing}
 use Rattle.object_card.specs.StepLaws.{refused_step, select_step, select_refused, is_selected, is_missed, put_step, put_refused, is_chained, is_ended, send_step, send_refused, is_sent}
+use Rattle.object_card.specs.ShownPuts.{is_ok}
 use Rattle.object_card.proofs.PutLemmas.{one_status}
+use Rattle.object_card.specs.CardLaws.{not_ok}
 
 -- one reply and one state
 abbrev Same : Reply → Reply → CardState → CardState → Type 0
@@ -28,119 +30,85 @@ found_not_missed : (aid : List ℕ) (state : CardState) → is_some (entries_in 
     ≡ true → entries_in aid state.applications ≡ None → ⊥
 found_not_missed aid state found missed = true≢false (sym found ∙ ap is_some missed)
 
-none_or_some : (state : CardState) (entries : List Entry) → selected_entries state ≡ None
-    → selected_entries state ≡ Some entries → ⊥
-none_or_some state entries none some = let no : None ≡ Some entries = sym none ∙ some in absurd (cc)
-
 entries_selected : (state : CardState) (aid : List ℕ) (entries : List Entry) → state.selected
     ≡ Some aid → entries_in aid state.applications ≡ Some entries
     → selected_entries state ≡ Some entries
 entries_selected state aid entries selected is =
     ap (λ v. option_and_then (λ a. entries_in a state.applications) v) selected ∙ is
 
-same_entries : (state : CardState) (es fs : List Entry) → selected_entries state ≡ Some es
-    → selected_entries state ≡ Some fs → es ≡ fs
-same_entries state es fs first second = let same : Some es ≡ Some fs = sym first ∙ second in cc
+-- how a SELECT is answered, by whether the application is there
+abbrev chosen : CardState → List ℕ → Bool → Reply × CardState
+chosen old aid true =
+    (record { status = ok; content = control_information aid }, with_selected old aid)
+chosen old aid false = (reply (0x6A, 0x82), old)
+
+-- how a GET DATA is answered, by the value under its tag, and by the entries
+abbrev found : List ℕ → Option (List ℕ) → Reply
+found tag None = reply (0x6A, 0x88)
+found tag (Some value) = record { status = ok; content = object_bytes tag value }
+
+abbrev got : List ℕ → Option (List Entry) → Reply
+got tag None = reply (0x69, 0x85)
+got tag (Some entries) = found tag (value_under tag entries)
+
+-- what an operation comes to among these entries, where memory is not wanted
+abbrev Comes : CardState → Operation → Option (List Entry) → Reply → CardState → Type 0
+Comes old (Select aid) es r new =
+    (r, new) ≡ chosen old aid (is_some (entries_in aid old.applications))
+Comes old (Get tag) es r new = Same r (got tag es) new old
+Comes old (Put tag value) None r new = Same r (reply (0x69, 0x85)) new old
+Comes old (Put tag value) (Some entries) r new = (status : StatusWord)
+    × PutStatus entries tag value status × (r ≡ reply status)
+    × (new ≡ (if is_ok status then with_put old (unwrap_or old.selected []) tag value else old))
+
+unselected : (old : CardState) (operation : Operation) → is_selection operation ≡ false
+    → Comes old operation None (reply (0x69, 0x85)) old
+unselected old (Select aid) kind = absurd (true≢false kind)
+unselected old (Get tag) kind = (refl, refl)
+unselected old (Put tag value) kind = (refl, refl)
+
+comes : (old new : CardState) (operation : Operation) (r : Reply) → Answers old operation r new
+    → IsServed r.status → Comes old operation (selected_entries old) r new
+comes old new operation r (selects aid held) served = ap (chosen old aid) (sym held)
+comes old new operation r (finds_no_application aid none) served =
+    ap (λ es. chosen old aid (is_some es)) (sym none)
+comes old new operation r (none_selected op kind none) served =
+    subst (λ es. Comes old op es (reply (0x69, 0x85)) old) (sym none) (unselected old op kind)
+comes old new operation r (finds_no_object tag entries is none) served =
+    subst (λ es. Comes old (Get tag) es (reply (0x6A, 0x88)) old) (sym is)
+    (ap (found tag) (sym none), refl)
+comes old new operation r (gives tag value entries is held) served =
+    subst (λ es. Comes old (Get tag) es (found tag (Some value)) old) (sym is)
+    (ap (found tag) (sym held), refl)
+comes old new operation r (stores tag value aid entries selected is put) served =
+    subst (λ es. Comes old (Put tag value) es (reply ok) (with_put old aid tag value))
+    (sym (entries_selected old aid entries selected is))
+    (ok, put, refl, ap (λ v. with_put old (unwrap_or v []) tag value) (sym selected))
+comes old new operation r (does_not_store tag value entries status is other put) served =
+    subst (λ es. Comes old (Put tag value) es (reply status) old) (sym is)
+    (status, put, refl, rw (not_ok status other) refl)
+comes old new operation r (wants_memory tag value entries is put) served = absurd (served refl)
+
+one_coming : (old a b : CardState) (operation : Operation) (es : Option (List Entry)) (r s : Reply)
+    → Comes old operation es r a → Comes old operation es s b → Same r s a b
+one_coming old a b (Select aid) es r s first second =
+    let same : (r, a) ≡ (s, b) = first ∙ sym second in
+    (ap (λ (x : Reply × CardState). x.0) same, ap (λ (x : Reply × CardState). x.1) same)
+one_coming old a b (Put tag value) (Some entries) r s (v, put, r_is, a_is) (w, too, s_is, b_is) =
+    let same : v ≡ w = one_status entries tag value v w put too in (
+      r_is ∙ ap (λ x. reply x) same ∙ sym s_is,
+      a_is ∙ ap (λ (x : StatusWord). if is_ok x
+          then with_put old (unwrap_or old.selected []) tag value else old) same ∙ sym b_is,
+    )
+one_coming _ _ _ _ _ _ _ first second = (first.0 ∙ sym second.0, first.1 ∙ sym second.1)
 
 -- An operation has one reply and one next state, where memory is not wanted.
 pub one_answer : (old a b : CardState) (operation : Operation) (r s : Reply)
     → Answers old operation r a → Answers old operation s b
     → IsServed r.status → IsServed s.status → Same r s a b
-one_answer old a b operation r s (selects aid held) (selects aid2 held2) served served2 =
-    (refl, refl)
-one_answer old a b operation r s (selects aid held) (finds_no_application aid2 none2) served
-    served2 = absurd (found_not_missed aid old held none2)
-one_answer old a b operation r s (selects aid held) (none_selected op2 kind2 none2) served served2 =
-    absurd (true≢false kind2)
-one_answer old a b operation r s (finds_no_application aid none)
-    (selects aid2 held2) served served2 = absurd (found_not_missed aid old held2 none)
-one_answer old a b operation r s (finds_no_application aid none)
-    (finds_no_application aid2 none2) served served2 = (refl, refl)
-one_answer old a b operation r s (finds_no_application aid none)
-    (none_selected op2 kind2 none2) served served2 = absurd (true≢false kind2)
-one_answer old a b operation r s (none_selected op kind none) (selects aid2 held2) served served2 =
-    absurd (true≢false kind)
-one_answer old a b operation r s (none_selected op kind none)
-    (finds_no_application aid2 none2) served served2 = absurd (true≢false kind)
-one_answer old a b operation r s (none_selected op kind none) (none_selected op2 kind2 none2) served
-    served2 = (refl, refl)
-one_answer old a b operation r s (none_selected op kind none)
-    (finds_no_object tag2 entries2 is2 none2) served served2 =
-    absurd (none_or_some old entries2 none is2)
-one_answer old a b operation r s (none_selected op kind none) (gives tag2 value2 entries2 is2 held2)
-    served served2 = absurd (none_or_some old entries2 none is2)
-one_answer old a b operation r s (none_selected op kind none)
-    (does_not_store tag2 value2 entries2 status2 is2 other2 put2) served served2 =
-    absurd (none_or_some old entries2 none is2)
-one_answer old a b operation r s (none_selected op kind none)
-    (wants_memory tag2 value2 entries2 is2 put2) served served2 =
-    absurd (none_or_some old entries2 none is2)
-one_answer old a b operation r s (none_selected op kind none)
-    (stores tag2 value2 aid2 entries2 selected2 is2 put2) served served2 =
-    absurd (none_or_some old entries2 none (entries_selected old aid2 entries2 selected2 is2))
-one_answer old a b operation r s (finds_no_object tag entries is none)
-    (none_selected op2 kind2 none2) served served2 = absurd (none_or_some old entries none2 is)
-one_answer old a b operation r s (finds_no_object tag entries is none)
-    (finds_no_object tag2 entries2 is2 none2) served served2 = (refl, refl)
-one_answer old a b operation r s (finds_no_object tag entries is none)
-    (gives tag2 value2 entries2 is2 held2) served served2 = let no : None ≡ Some value2 =
-    sym none ∙ ap (λ es. value_under tag es) (same_entries old entries entries2 is is2)
-    ∙ held2 in absurd (cc)
-one_answer old a b operation r s (gives tag value entries is held)
-    (none_selected op2 kind2 none2) served served2 = absurd (none_or_some old entries none2 is)
-one_answer old a b operation r s (gives tag value entries is held)
-    (finds_no_object tag2 entries2 is2 none2) served served2 = let no : None ≡ Some value =
-    sym none2 ∙ ap (λ es. value_under tag es) (same_entries old entries2 entries is2 is)
-    ∙ held in absurd (cc)
-one_answer old a b operation r s (gives tag value entries is held)
-    (gives tag2 value2 entries2 is2 held2) served served2 =
-    let both : Some value ≡ Some value2 = sym held
-    ∙ ap (λ es. value_under tag es) (same_entries old entries entries2 is is2) ∙ held2 in
-    let same : value ≡ value2 = cc in
-    (ap (λ v. record { status = ok; content = object_bytes tag v }) same, refl)
-one_answer old a b operation r s (stores tag value aid entries selected is put)
-    (none_selected op2 kind2 none2) served served2 =
-    absurd (none_or_some old entries none2 (entries_selected old aid entries selected is))
-one_answer old a b operation r s (stores tag value aid entries selected is put)
-    (stores tag2 value2 aid2 entries2 selected2 is2 put2) served served2 =
-    let both : Some aid ≡ Some aid2 = sym selected ∙ selected2 in
-    let same : aid ≡ aid2 = cc in
-    (refl, ap (λ x. with_put old x tag value) same)
-one_answer old a b operation r s (stores tag value aid entries selected is put)
-    (does_not_store tag2 value2 entries2 status2 is2 other2 put2) served served2 =
-    let there : PutStatus entries2 tag value ok =
-    subst (λ es. PutStatus es tag value ok)
-    (same_entries old entries entries2 (entries_selected old aid entries selected is) is2)
-    put in
-    absurd (other2 (one_status entries2 tag value status2 ok put2 there))
-one_answer old a b operation r s (stores tag value aid entries selected is put)
-    (wants_memory tag2 value2 entries2 is2 put2) served served2 = absurd (served2 refl)
-one_answer old a b operation r s (does_not_store tag value entries status is other put)
-    (none_selected op2 kind2 none2) served served2 = absurd (none_or_some old entries none2 is)
-one_answer old a b operation r s (does_not_store tag value entries status is other put)
-    (stores tag2 value2 aid2 entries2 selected2 is2 put2) served served2 =
-    let there : PutStatus entries tag value ok =
-    subst (λ es. PutStatus es tag value ok)
-    (same_entries old entries2 entries (entries_selected old aid2 entries2 selected2 is2)
-    is) put2 in
-    absurd (other (one_status entries tag value status ok put there))
-one_answer old a b operation r s (does_not_store tag value entries status is other put)
-    (does_not_store tag2 value2 entries2 status2 is2 other2 put2) served served2 =
-    let there : PutStatus entries tag value status2 =
-    subst (λ es. PutStatus es tag value status2) (same_entries old entries2 entries is2 is)
-    put2 in
-    (ap (λ w. reply w) (one_status entries tag value status status2 put there), refl)
-one_answer old a b operation r s (does_not_store tag value entries status is other put)
-    (wants_memory tag2 value2 entries2 is2 put2) served served2 = absurd (served2 refl)
-one_answer old a b operation r s (wants_memory tag value entries is put)
-    (none_selected op2 kind2 none2) served served2 = absurd (served refl)
-one_answer old a b operation r s (wants_memory tag value entries is put)
-    (stores tag2 value2 aid2 entries2 selected2 is2 put2) served served2 = absurd (served refl)
-one_answer old a b operation r s (wants_memory tag value entries is put)
-    (does_not_store tag2 value2 entries2 status2 is2 other2 put2) served served2 =
-    absurd (served refl)
-one_answer old a b operation r s (wants_memory tag value entries is put)
-    (wants_memory tag2 value2 entries2 is2 put2) served served2 = absurd (served refl)
+one_answer old a b operation r s first second served served2 =
+    one_coming old a b operation (selected_entries old) r s (comes old a operation r first served)
+    (comes old b operation s second served2)
 
 other_byte : (status : StatusWord) → (status.0 == 0x65) ≡ false → status ≡ (0x65, 0x81) → ⊥
 other_byte status differs is = true≢false (sym (ap (λ (s : StatusWord). s.0 == 0x65) is) ∙ differs)
@@ -148,10 +116,7 @@ other_byte status differs is = true≢false (sym (ap (λ (s : StatusWord). s.0 =
 no_put_wants : (entries : List Entry) (tag value : List ℕ) (status : StatusWord)
     → PutStatus entries tag value status → (status.0 == 0x65) ≡ false
 no_put_wants entries tag value status (not_allowed locked) = refl
-no_put_wants entries tag value status (wrong_length free long) = refl
-no_put_wants entries tag value status (wrong_data free fits none) = refl
-no_put_wants entries tag value status (no_space free fits value_of none full) = refl
-no_put_wants entries tag value status (stored free fits value_of room) = refl
+no_put_wants _ _ _ _ _ = refl
 
 would_store : (old : CardState) (tag value : List ℕ) (entries : List Entry) → selected_entries old
     ≡ Some entries → PutStatus entries tag value ok
@@ -173,22 +138,18 @@ would_store old tag value entries is put = split old.selected refl
 pub wanting_memory : (old new : CardState) (operation : Operation) (answer : Reply)
     → Answers old operation answer new → answer.status ≡ (0x65, 0x81)
     → (new ≡ old) × ((next : CardState) × Answers old operation (reply ok) next)
-wanting_memory old new operation answer (selects aid held) wants = absurd (other_byte ok refl wants)
 wanting_memory old new operation answer (finds_no_application aid none) wants =
     absurd (other_byte (0x6A, 0x82) refl wants)
 wanting_memory old new operation answer (none_selected op kind none) wants =
     absurd (other_byte (0x69, 0x85) refl wants)
 wanting_memory old new operation answer (finds_no_object tag entries is none) wants =
     absurd (other_byte (0x6A, 0x88) refl wants)
-wanting_memory old new operation answer (gives tag value entries is held) wants =
-    absurd (other_byte ok refl wants)
-wanting_memory old new operation answer (stores tag value aid entries selected is put) wants =
-    absurd (other_byte ok refl wants)
 wanting_memory old new operation answer (does_not_store tag value entries status is other put)
     wants =
     absurd (other_byte status (no_put_wants entries tag value status put) wants)
 wanting_memory old new operation answer (wants_memory tag value entries is put) wants =
     (refl, would_store old tag value entries is put)
+wanting_memory _ _ _ _ _ wants = absurd (other_byte ok refl wants)
 
 -- the same command, with the same data to the card
 record IsSameCommand (t u : Tpdu) : Type 0 where
@@ -212,18 +173,6 @@ not_refused old t u status same e refused =
     subst (λ p. refusal old u.header p ≡ None) same.p3_is
     (subst (λ h. refusal old h t.p3 ≡ None) same.header_is e) in
     let no : None ≡ Some status = sym there ∙ refused in absurd (cc)
-
-put_receives_none : (old new : CardState) (cut : ℕ) (t : Tpdu) → Does old cut t new
-    → is_put t.header ≡ true → t.received ≡ []
-put_receives_none old new cut t (refuses h p3 status e) put = refl
-put_receives_none old new cut t (selects_application h aid e ins held) put = refl
-put_receives_none old new cut t (misses_application h aid e ins none) put = refl
-put_receives_none old new cut t (sends h p3 e ins) put =
-    let no : false ≡ true = subst (λ i. ((i == 0xCA) || (i == 0xC0)) ≡ true)
-    (eqb-true h.ins 0xDA put) ins in absurd (true≢false (sym no))
-put_receives_none old new cut t (chains h bytes e ins cla) put = refl
-put_receives_none old new cut t (puts_value h bytes tag answer next e ins cla named_by is) put =
-    refl
 
 outcome : (old a b : CardState) (cut : ℕ) (t u : Tpdu) → Does old cut t a → Does old cut u b
     → IsSameCommand t u → IsServed t.status → IsServed u.status
@@ -275,8 +224,8 @@ outcome old a b cut t u (sends h p3 e ins) does same served served2 =
 outcome old a b cut t u (chains h bytes e ins cla) does same served served2 =
     elim (put_step old b cut u does (subst (λ h. is_put h ≡ true) same.header_is ins)) [
       | put_refused refused new_is ↦ absurd (not_refused old t u u.status same e refused)
-      | is_chained taken also all fine new_is ↦ (
-        sym (put_receives_none old b cut u does (subst (λ h. is_put h ≡ true) same.header_is ins)),
+      | is_chained taken also all none fine new_is ↦ (
+        sym none,
         sym fine,
         ap (λ h. with_pending old (ChainPending h.p1 h.p2 (chained old.pending ++ bytes)))
             same.header_is
@@ -284,7 +233,7 @@ outcome old a b cut t u (chains h bytes e ins cla) does same served served2 =
             (ChainPending u.header.p1 u.header.p2 (chained old.pending ++ bs))) same.sent_is
             ∙ sym new_is,
       )
-      | is_ended taken last all tag answer next named_by status put new_is ↦
+      | is_ended taken last all none tag answer next named_by status put new_is ↦
           let more : u.header.cla ≡ 0x10 = subst (λ h. h.cla ≡ 0x10) same.header_is cla in
           absurd (omega (arith, last, more))
     ]
@@ -292,10 +241,10 @@ outcome old a b cut t u (puts_value h bytes tag answer next e ins cla named_by p
     served2 =
     elim (put_step old b cut u does (subst (λ h. is_put h ≡ true) same.header_is ins)) [
       | put_refused refused new_is ↦ absurd (not_refused old t u u.status same e refused)
-      | is_chained taken more all fine new_is ↦
+      | is_chained taken more all none fine new_is ↦
           let last : u.header.cla ≡ 0x00 = subst (λ h. h.cla ≡ 0x00) same.header_is cla in
           absurd (omega (arith, last, more))
-      | is_ended taken last all other answer2 next2 named2 status put2 new_is ↦
+      | is_ended taken last all none other answer2 next2 named2 status put2 new_is ↦
           let tags : Some tag ≡ Some other =
           sym (named tag h.p1 h.p2 named_by) ∙ ap (λ h. named_tag h.p1 h.p2) same.header_is
           ∙ named other u.header.p1 u.header.p2 named2 in
@@ -308,8 +257,7 @@ outcome old a b cut t u (puts_value h bytes tag answer next e ins cla named_by p
           subst (λ o. Answers old o answer2 next2) operation put2 in
           let answered = one_answer old next next2 (Put tag (chained old.pending ++ bytes)) answer
           answer2 put too served (subst IsServed status served2) in (
-            sym (put_receives_none old b cut u does
-                (subst (λ h. is_put h ≡ true) same.header_is ins)),
+            sym none,
             ap (λ r. r.status) answered.0 ∙ sym status,
             ap (λ s. with_pending s NothingPending) answered.1 ∙ sym new_is,
           )

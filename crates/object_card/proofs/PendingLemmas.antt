@@ -1,42 +1,36 @@
 -- What is pending after a TPDU.
 use Rattle.std.proofs.Common.{◌≡◌, ◌≢◌, ℕ, List, [], ◌∷◌, length, drop, Some, None, Bool, true, false, ◌⊎◌, inl, inr, refl, sym, subst, ◌∙◌}
-use Rattle.std.specs.Prelude.{if◌then◌else◌, ◌&&◌, ◌||◌, ◌==◌}
+use Rattle.std.specs.Prelude.{if◌then◌else◌, ◌&&◌, ◌==◌}
 use Rattle.std.proofs.lemmas.Bool.{and_parts, eqb-true}
 use Rattle.apdu_core.specs.declared.header.Header.{Header}
 use Rattle.apdu_core.specs.StatusWord.{StatusWord, ok, count}
 use Rattle.t0_core.specs.Meaning.{Tpdu}
 use Rattle.object_card.specs.State.{CardState, Pending, NothingPending, ChainPending, ResponsePending, is_idle, pending_of}
 use Rattle.object_card.specs.Refusals.{refusal, is_select, is_put, is_get_response, to_send}
-use Rattle.object_card.specs.StepLaws.{select_step, select_refused, is_selected, is_missed}
+use Rattle.object_card.specs.StepLaws.{select_step, select_refused, is_selected, is_missed, other_ins, is_sending}
 use Rattle.object_card.specs.ResponseLaws.{rest_is_idle}
 use Rattle.object_card.specs.RefusalLaws.{refusal_drops_chain}
-use Rattle.object_card.specs.CardMeaning.{Does, refuses, selects_application, misses_application, sends, chains, puts_value, after_refusal, announcing}
+use Rattle.object_card.specs.CardMeaning.{Does, refuses, selects_application, sends, chains, after_refusal, announcing}
 
 -- Every status but 9000 drops a chain.
 pub other_status_drops_chain : (old new : CardState) (cut : ℕ) (tpdu : Tpdu) → Does old cut tpdu new
     → tpdu.status ≢ ok → is_idle new.pending ≡ true
 other_status_drops_chain old new cut tpdu (refuses h p3 status e) other =
     refusal_drops_chain h status old.pending
-other_status_drops_chain old new cut tpdu (selects_application h aid e ins held) other = refl
-other_status_drops_chain old new cut tpdu (misses_application h aid e ins none) other = refl
 other_status_drops_chain old new cut tpdu (sends h p3 e ins) other =
     rest_is_idle (drop (count p3) (to_send old h))
 other_status_drops_chain old new cut tpdu (chains h bytes e ins cla) other = absurd (other refl)
-other_status_drops_chain old new cut tpdu (puts_value h bytes tag answer next e ins cla named put)
-    other = refl
+other_status_drops_chain _ _ _ _ _ _ = refl
 
 -- A command that is the last of its chain ends it.
 pub last_ends_chain : (old new : CardState) (cut : ℕ) (tpdu : Tpdu) → Does old cut tpdu new
     → tpdu.header.cla ≢ 0x10 → is_idle new.pending ≡ true
 last_ends_chain old new cut tpdu (refuses h p3 status e) last =
     refusal_drops_chain h status old.pending
-last_ends_chain old new cut tpdu (selects_application h aid e ins held) last = refl
-last_ends_chain old new cut tpdu (misses_application h aid e ins none) last = refl
 last_ends_chain old new cut tpdu (sends h p3 e ins) last =
     rest_is_idle (drop (count p3) (to_send old h))
 last_ends_chain old new cut tpdu (chains h bytes e ins cla) last = absurd (last cla)
-last_ends_chain old new cut tpdu (puts_value h bytes tag answer next e ins cla named put) last =
-    refl
+last_ends_chain _ _ _ _ _ _ = refl
 
 -- why a response may be pending after a TPDU
 abbrev pub IsAnnounced : CardState → CardState → Tpdu → Type 0
@@ -72,26 +66,18 @@ pub response_is_announced : (old new : CardState) (cut : ℕ) (tpdu : Tpdu) (lef
 response_is_announced old new cut tpdu left (refuses h p3 status e) is =
     inr (refusal_keeps_response h status old.pending left is)
 response_is_announced old new cut tpdu left (selects_application h aid e ins held) is = inl refl
-response_is_announced old new cut tpdu left (misses_application h aid e ins none) is = absurd (cc)
 response_is_announced old new cut tpdu left (sends h p3 e ins) is =
     inl (rest_is_announced (drop (count p3) (to_send old h)) cut left is)
-response_is_announced old new cut tpdu left (chains h bytes e ins cla) is = absurd (cc)
-response_is_announced old new cut tpdu left (puts_value h bytes tag answer next e ins cla named put)
-    is = absurd (cc)
+response_is_announced old new cut tpdu left _ is = absurd (cc)
 
 -- All P3 bytes of a PUT DATA move, unless its header is refused.
 pub all_of_a_put_moves : (old new : CardState) (cut : ℕ) (tpdu : Tpdu) → Does old cut tpdu new
     → refusal old tpdu.header tpdu.p3 ≡ None
     → is_put tpdu.header ≡ true → tpdu.p3 ≡ length tpdu.sent
 all_of_a_put_moves old new cut tpdu (refuses h p3 status e) taken put = absurd (cc)
-all_of_a_put_moves old new cut tpdu (selects_application h aid e ins held) taken put = refl
-all_of_a_put_moves old new cut tpdu (misses_application h aid e ins none) taken put = refl
 all_of_a_put_moves old new cut tpdu (sends h p3 e ins) taken put =
-    let no : false ≡ true = subst (λ i. ((i == 0xCA) || (i == 0xC0)) ≡ true)
-    (eqb-true h.ins 0xDA put) ins in absurd (cc)
-all_of_a_put_moves old new cut tpdu (chains h bytes e ins cla) taken put = refl
-all_of_a_put_moves old new cut tpdu (puts_value h bytes tag answer next e ins cla named put_value)
-    taken put = refl
+    absurd (other_ins is_sending h.ins 0xDA refl put ins)
+all_of_a_put_moves _ _ _ _ _ _ _ = refl
 
 -- All P3 bytes of a SELECT move, unless its header is refused.
 pub all_of_a_select_moves : (old new : CardState) (cut : ℕ) (tpdu : Tpdu) → Does old cut tpdu new

@@ -1,6 +1,6 @@
 -- A card's tables are those of the puts that its history shows.
-use Rattle.std.proofs.Common.{◌≡◌, ℕ, List, [], ◌∷◌, ◌++◌, length, drop, Some, None, Bool, true, false, ◌⊎◌, inl, inr, ◌≢◌, refl, sym, ap, subst, ◌∙◌}
-use Rattle.std.specs.Prelude.{reverse, if◌then◌else◌, ◌==◌, ◌&&◌, ◌||◌, take_while, bit_and}
+use Rattle.std.proofs.Common.{◌≡◌, ℕ, List, [], ◌∷◌, ◌++◌, length, drop, Some, None, Bool, true, false, inl, inr, refl, sym, ap, ◌∙◌, arith}
+use Rattle.std.specs.Prelude.{reverse, if◌then◌else◌, ◌==◌, ◌&&◌, ◌||◌, take_while}
 use Rattle.std.specs.List.{flat_map}
 use Rattle.std.proofs.lemmas.Grind.{reverse_onto}
 use Rattle.std.proofs.lemmas.List.Sums.{take_while-cons}
@@ -8,18 +8,18 @@ use Rattle.apdu_core.specs.declared.header.Header.{Header}
 use Rattle.t0_core.specs.Meaning.{Tpdu, tpdu_of}
 use Rattle.t0_core.specs.History.{Item, Whole, Cut_off, RunsOver}
 use Rattle.t0_core.specs.DialogueLaws.{flat_map_last}
-use Rattle.std.proofs.lemmas.Bool.{true≢false, not-false, and_left, and_right, and_parts, and_from, eqb-true, eq-eqb, ne_eqb}
+use Rattle.std.proofs.lemmas.Bool.{and_left, and_right, and_from, eqb-true, eq-eqb, ne_eqb}
 use Rattle.apdu_core.specs.StatusWord.{StatusWord, ok, count}
 use Rattle.object_card.specs.State.{CardState, Pending, NothingPending, ChainPending, ResponsePending, chained, pending_of, after_reset}
 use Rattle.object_card.specs.Refusals.{is_put, is_select, is_get, is_get_response, to_send, breaks_chain, OtherThanItsChain}
 use Rattle.object_card.specs.CardMeaning.{Does, refuses, selects_application, misses_application, sends, chains, puts_value, after_refusal}
 use Rattle.object_card.specs.Tables.{Application, with_object}
-use Rattle.object_card.specs.OneStep.{Operation, Select, Get, Put, Reply, Answers, selects, finds_no_application, none_selected, finds_no_object, gives, stores, does_not_store, wants_memory, with_put}
 use Rattle.object_card.specs.TagLaws.{named}
-use Rattle.object_card.specs.CardLaws.{put_keeps_selection}
+use Rattle.object_card.specs.CardLaws.{put_keeps_selection, put_leaves}
 use Rattle.object_card.specs.StateLaws.{none_holds}
-use Rattle.object_card.specs.RefusalLaws.{is_refusing}
+use Rattle.object_card.specs.RefusalLaws.{is_refusing, after_refusal_holds, is_of_its_chain}
 use Rattle.object_card.specs.ShownPuts.{is_ok, is_selecting, is_piece_for, is_stored, selected_by, run_before, ShownPut, shown_by, shown_after, shown_puts, with_puts}
+use Rattle.object_card.specs.StepLaws.{other_ins, is_sending}
 
 -- one more TPDU
 run_goes_on : (h : Header) (before : List Tpdu) (t : Tpdu) → is_piece_for h t ≡ true
@@ -74,47 +74,28 @@ not_ok_no_piece h t other = and_right _ (is_ok t.status) other
 
 not_put_no_piece : (h : Header) (t : Tpdu) → is_put h ≡ true → is_put t.header ≡ false
     → is_piece_for h t ≡ false
-not_put_no_piece h t put other =
-    let ins : h.ins ≡ 0xDA = eqb-true h.ins 0xDA put in
-    let differs : (t.header.ins == h.ins) ≡ false =
-    subst (λ n. (t.header.ins == n) ≡ false) (sym ins) other in
-    and_left _ (is_ok t.status)
-    (and_left _ (t.header.p2 == h.p2)
-    (and_left _ (t.header.p1 == h.p1)
-    (and_right (t.header.cla == 0x10) (t.header.ins == h.ins) differs)))
+not_put_no_piece h t put other = grind (arith, put, other)
 
 other_class_no_piece : (h : Header) (t : Tpdu) → (t.header.cla == 0x10) ≡ false → is_piece_for h t
     ≡ false
-other_class_no_piece h t other =
-    and_left _ (is_ok t.status)
-    (and_left _ (t.header.p2 == h.p2)
-    (and_left _ (t.header.p1 == h.p1)
-    (and_left (t.header.cla == 0x10) (t.header.ins == h.ins) other)))
+other_class_no_piece h t other = grind (arith, other)
 
 no_chain_after_refusal : (g h : Header) (status : StatusWord) (pending : Pending)
     → chained_for g (after_refusal h status pending) ≡ []
-no_chain_after_refusal g h status NothingPending = refl
-no_chain_after_refusal g h status (ChainPending p1 p2 bytes) = refl
-no_chain_after_refusal g h status (ResponsePending left) =
-    kept (is_get_response h && (status.0 == 0x6C))
-  where
-    kept : (v : Bool) → chained_for g (if v then ResponsePending left else NothingPending) ≡ []
-    kept true = refl
-    kept false = refl
+no_chain_after_refusal g h status pending =
+    after_refusal_holds (λ p. chained_for g p ≡ []) h status pending refl (λ left e. refl)
 
 no_chain_in_rest : (g : Header) (left : List ℕ) → chained_for g (pending_of left) ≡ []
 no_chain_in_rest g [] = refl
 no_chain_in_rest g (b ∷ left) = refl
 
 sending_is_no_select : (h : Header) → is_get h || is_get_response h ≡ true → is_select h ≡ false
-sending_is_no_select h ins = ne_eqb h.ins 0xA4
-    (λ e. let no : false ≡ true = subst (λ i. ((i == 0xCA) || (i == 0xC0)) ≡ true) e ins in
-    true≢false (sym no))
+sending_is_no_select h ins =
+    ne_eqb h.ins 0xA4 (λ e. other_ins is_sending h.ins 0xA4 refl (eq-eqb h.ins 0xA4 e) ins)
 
 sending_is_no_put : (h : Header) → is_get h || is_get_response h ≡ true → is_put h ≡ false
-sending_is_no_put h ins = ne_eqb h.ins 0xDA
-    (λ e. let no : false ≡ true = subst (λ i. ((i == 0xCA) || (i == 0xC0)) ≡ true) e ins in
-    true≢false (sym no))
+sending_is_no_put h ins =
+    ne_eqb h.ins 0xDA (λ e. other_ins is_sending h.ins 0xDA refl (eq-eqb h.ins 0xDA e) ins)
 
 put_is_no_select : (h : Header) → is_put h ≡ true → is_select h ≡ false
 put_is_no_select h ins = rw (eqb-true h.ins 0xDA ins) refl
@@ -124,13 +105,9 @@ chained_where : (pending : Pending) (h g : Header) → breaks_chain pending h �
     → h.p2 ≡ g.p2 → chained_for g pending ≡ chained pending
 chained_where NothingPending h g goes_on first second = refl
 chained_where (ChainPending p1 p2 bytes) h g goes_on first second =
-    let all = not-false ((bit_and h.cla 0xEF == 0x00) && is_put h && (h.p1 == p1) && (h.p2 == p2))
-    goes_on in
-    let (three, here) = and_parts ((bit_and h.cla 0xEF == 0x00) && is_put h && (h.p1 == p1))
-    (h.p2 == p2) all in
-    let (two, there) = and_parts ((bit_and h.cla 0xEF == 0x00) && is_put h) (h.p1 == p1) three in
-    let same_first : (p1 == g.p1) ≡ true = eq-eqb p1 g.p1 (sym (eqb-true h.p1 p1 there) ∙ first) in
-    let same_second : (p2 == g.p2) ≡ true = eq-eqb p2 g.p2 (sym (eqb-true h.p2 p2 here) ∙ second) in
+    let own = is_of_its_chain p1 p2 bytes h goes_on in
+    let same_first : (p1 == g.p1) ≡ true = eq-eqb p1 g.p1 (sym own.2 ∙ first) in
+    let same_second : (p2 == g.p2) ≡ true = eq-eqb p2 g.p2 (sym own.3 ∙ second) in
     rw (same_first, same_second) refl
 chained_where (ResponsePending left) h g goes_on first second = refl
 
@@ -199,48 +176,6 @@ tells_on before old new cut t (puts_value h bytes tag answer next e ins cla name
     (λ g is. other_class_no_piece g t (rw cla refl))
     (put_keeps_selection old next tag (chained old.pending ++ bytes) answer put) (λ g. refl) tells
 
--- what a put does, by its status
-abbrev PutDoes : CardState → Operation → StatusWord → CardState → Type 0
-PutDoes old (Select aid) status new = Unit {0}
-PutDoes old (Get tag) status new = Unit {0}
-PutDoes old (Put tag value) status new = ((is_ok status ≡ false) × (new ≡ old))
-    ⊎ ((aid : List ℕ) × (is_ok status ≡ true) × (old.selected ≡ Some aid)
-    × (new ≡ with_put old aid tag value))
-
--- every status but 9000 is another
-not_ok : (status : StatusWord) → status ≢ ok → is_ok status ≡ false
-not_ok status other = split (status.0 == 0x90) (status.1 == 0x00) refl refl
-  where
-    split : (a b : Bool) → (status.0 == 0x90) ≡ a → (status.1 == 0x00) ≡ b → is_ok status ≡ false
-    split true true first second =
-        let sw1 : status.0 ≡ 0x90 = eqb-true status.0 0x90 first in
-        let sw2 : status.1 ≡ 0x00 = eqb-true status.1 0x00 second in
-        let half : status ≡ (0x90, status.1) = ap (λ (n : ℕ). (n, status.1)) sw1 in
-        let is : status ≡ ok = half ∙ ap (λ (n : ℕ). (0x90, n)) sw2 in
-        absurd (other is)
-    split true false first second = and_right (status.0 == 0x90) (status.1 == 0x00) second
-    split false b first second = and_left (status.0 == 0x90) (status.1 == 0x00) first
-
-refused_put : (old : CardState) (operation : Operation) (status : StatusWord) → is_ok status ≡ false
-    → PutDoes old operation status old
-refused_put old (Select aid) status other = tt
-refused_put old (Get tag) status other = tt
-refused_put old (Put tag value) status other = inl (other, refl)
-
-put_does : (old new : CardState) (operation : Operation) (answer : Reply)
-    → Answers old operation answer new → PutDoes old operation answer.status new
-put_does old new operation answer (selects aid held) = tt
-put_does old new operation answer (finds_no_application aid none) = tt
-put_does old new operation answer (none_selected op kind none) =
-    refused_put old op (0x69, 0x85) refl
-put_does old new operation answer (finds_no_object tag entries is none) = tt
-put_does old new operation answer (gives tag value entries is held) = tt
-put_does old new operation answer (stores tag value aid entries selected is status) =
-    inr (aid, refl, selected, refl)
-put_does old new operation answer (does_not_store tag value entries status is other put) =
-    inl (not_ok status other, refl)
-put_does old new operation answer (wants_memory tag value entries is put) = inl (refl, refl)
-
 -- what shows no put leaves the tables
 shows_none : (before : List Tpdu) (t : Tpdu) (applications : List Application) → is_stored t ≡ false
     → applications ≡ with_puts (shown_by before t) applications
@@ -253,10 +188,6 @@ tables_on before old new cut t (refuses h p3 status e) tells =
     shows_none before t old.applications
     (and_right _ (is_ok status)
     (and_left (status.0 == 0x90) (status.1 == 0x00) (is_refusing old h p3 status e).not_ok))
-tables_on before old new cut t (selects_application h aid e ins held) tells =
-    shows_none before t old.applications (and_right _ false refl)
-tables_on before old new cut t (misses_application h aid e ins none) tells =
-    shows_none before t old.applications (and_right _ false refl)
 tables_on before old new cut t (sends h p3 e ins) tells =
     shows_none before t old.applications
     (and_left _ (is_ok t.status)
@@ -264,10 +195,10 @@ tables_on before old new cut t (sends h p3 e ins) tells =
 tables_on before old new cut t (chains h bytes e ins cla) tells =
     shows_none before t old.applications (rw cla refl)
 tables_on before old new cut t (puts_value h bytes tag answer next e ins cla named_by put) tells =
-    elim (put_does old next (Put tag (chained old.pending ++ bytes)) answer put) [
+    elim (put_leaves old next tag (chained old.pending ++ bytes) answer put) [
       | inl (other, same) ↦ ap (λ s. s.applications) same
           ∙ shows_none before t old.applications (and_right _ (is_ok answer.status) other)
-      | inr (aid, fine, selected, same) ↦
+      | inr (aid, entries, fine, selected, is, status, same) ↦
           let run : run_before h before ≡ chained old.pending =
           tells.chained_is h ins ∙ chained_where old.pending h h
           (none_holds old h (length bytes) OtherThanItsChain e) refl refl in
@@ -275,6 +206,7 @@ tables_on before old new cut t (puts_value h bytes tag answer next e ins cla nam
           ap (λ s. s.applications) same
           ∙ rw (cla, ins, fine, under, named tag h.p1 h.p2 named_by, run) refl
     ]
+tables_on before old _ _ t _ _ = shows_none before t old.applications (and_right _ false refl)
 
 with_more_puts : (first others : List ShownPut) (applications : List Application)
     → with_puts (first ++ others) applications ≡ with_puts others (with_puts first applications)

@@ -58,6 +58,11 @@ in_chain bytes = card (entries_with name) (Some aid) (ChainPending 0x5F 0x20 byt
 abbrev head : ℕ → ℕ → ℕ → ℕ → Header
 head cla ins p1 p2 = record { cla = cla; ins = ins; p1 = p1; p2 = p2 }
 
+-- a TPDU: its header, P3, the data to the card and from it, and its status
+abbrev tpdu : Header → ℕ → List ℕ → List ℕ → StatusWord → Tpdu
+tpdu header p3 sent received status =
+    record { header = header; p3 = p3; sent = sent; received = received; status = status }
+
 -- the file control information
 information : control_information aid ≡ 0x6F ∷ 0x09 ∷ 0x84 ∷ 0x07 ∷ 0xA0 ∷ 0x00 ∷ 0x00 ∷ 0x00 ∷ 0x03
     ∷ 0x10 ∷ 0x10 ∷ []
@@ -216,104 +221,45 @@ new_is_not_locked : is_locked (0x51 ∷ [])
 new_is_not_locked = refl
 
 -- 00A4040007 and the identifier: 610B
-select_row : Does fresh 256
-    (record {
-      header = head 0x00 0xA4 0x04 0x00;
-      p3 = 7;
-      sent = aid;
-      received = [];
-      status =
-          (0x61, 0x0B);
-    })
+select_row : Does fresh 256 (tpdu (head 0x00 0xA4 0x04 0x00) 7 aid [] (0x61, 0x0B))
     (card (entries_with name) (Some aid) (ResponsePending (control_information aid)))
 select_row = selects_application (head 0x00 0xA4 0x04 0x00) aid refl refl refl
 
 -- 00A4040007 and another one: 6A82, and the selection stays
-select_nothing_row : Does ready 256
-    (record {
-      header = head 0x00 0xA4 0x04 0x00;
-      p3 = 7;
-      sent = other_aid;
-      received = [];
-      status =
-          (0x6A, 0x82);
-    }) ready
+select_nothing_row : Does ready 256 (tpdu (head 0x00 0xA4 0x04 0x00) 7 other_aid [] (0x6A, 0x82))
+    ready
 select_nothing_row = misses_application (head 0x00 0xA4 0x04 0x00) other_aid refl refl refl
 
 -- 00C000000B: the response whole, 9000
 response_row : Does (card (entries_with name) (Some aid)
     (ResponsePending (control_information aid))) 256
-    (record {
-      header = head 0x00 0xC0 0x00 0x00;
-      p3 = 11;
-      sent = [];
-      received = control_information
-          aid;
-      status = (0x90, 0x00);
-    }) ready
+    (tpdu (head 0x00 0xC0 0x00 0x00) 11 [] (control_information aid) (0x90, 0x00)) ready
 response_row = sends (head 0x00 0xC0 0x00 0x00) 11 refl refl
 
 -- 00C000000C: 6C0B, and the response stays
-longer_response_row : Does
-    (card (entries_with name) (Some aid) (ResponsePending (control_information aid))) 256
-    (record {
-      header = head 0x00 0xC0 0x00 0x00;
-      p3 = 12;
-      sent = [];
-      received = [];
-      status =
-          (0x6C, 0x0B);
-    })
+longer_response_row : Does (card (entries_with name) (Some aid)
+    (ResponsePending (control_information aid))) 256
+    (tpdu (head 0x00 0xC0 0x00 0x00) 12 [] [] (0x6C, 0x0B))
     (card (entries_with name) (Some aid) (ResponsePending (control_information aid)))
 longer_response_row = refuses (head 0x00 0xC0 0x00 0x00) 12 (0x6C, 0x0B) refl
 
 -- 00CA5F2000: 6C06, which drops a response
 dropped_response_row : Does (card (entries_with name) (Some aid) (ResponsePending (0x41 ∷ []))) 256
-    (record {
-      header = head 0x00 0xCA 0x5F 0x20;
-      p3 = 0;
-      sent = [];
-      received = [];
-      status =
-          (0x6C, 0x06);
-    }) ready
+    (tpdu (head 0x00 0xCA 0x5F 0x20) 0 [] [] (0x6C, 0x06)) ready
 dropped_response_row = refuses (head 0x00 0xCA 0x5F 0x20) 0 (0x6C, 0x06) refl
 
 -- 00CA5F2006: the object whole, 9000
-get_row : Does ready 256
-    (record {
-      header = head 0x00 0xCA 0x5F 0x20;
-      p3 = 6;
-      sent = [];
-      received = 0x5F ∷ 0x20 ∷ 0x03
-          ∷ name;
-      status = (0x90, 0x00);
-    }) ready
+get_row : Does ready 256 (tpdu (head 0x00 0xCA 0x5F 0x20) 6 [] (0x5F ∷ 0x20 ∷ 0x03 ∷ name)
+    (0x90, 0x00)) ready
 get_row = sends (head 0x00 0xCA 0x5F 0x20) 6 refl refl
 
 -- 00CA5F2002: a part of it, 6104 and, under a cut of 3, 6103
-get_part_row : Does ready 256
-    (record {
-      header = head 0x00 0xCA 0x5F 0x20;
-      p3 = 2;
-      sent = [];
-      received = 0x5F ∷ 0x20
-          ∷ [];
-      status = (0x61, 0x04);
-    })
+get_part_row : Does ready 256 (tpdu (head 0x00 0xCA 0x5F 0x20) 2 [] (0x5F ∷ 0x20 ∷ []) (0x61, 0x04))
     (card (entries_with name) (Some aid) (ResponsePending (0x03 ∷ name)))
 get_part_row = sends (head 0x00 0xCA 0x5F 0x20) 2 refl refl
 
-get_part_cut_row : Does ready 3
-    (record {
-      header = head 0x00 0xCA 0x5F 0x20;
-      p3 = 2;
-      sent = [];
-      received = 0x5F ∷ 0x20
-          ∷ [];
-      status = (0x61, 0x03);
-    })
-    (card (entries_with name) (Some aid) (ResponsePending (0x03 ∷ name)))
+get_part_cut_row : Does ready 3 (tpdu (head 0x00 0xCA 0x5F 0x20) 2 [] (0x5F ∷ 0x20 ∷ [])
+    (0x61, 0x03)) (card (entries_with name) (Some aid) (ResponsePending (0x03 ∷ name)))
 get_part_cut_row = sends (head 0x00 0xCA 0x5F 0x20) 2 refl refl
 
 address : NamesTag name_tag 0x5F 0x20
@@ -327,72 +273,35 @@ abbrev done : Reply
 done = record { status = (0x90, 0x00); content = [] }
 
 -- 00DA5F2002 AABB: 9000
-put_row : Does ready 256
-    (record {
-      header = head 0x00 0xDA 0x5F 0x20;
-      p3 = 2;
-      sent = 0xAA ∷ 0xBB
-          ∷ [];
-      received = [];
-      status = (0x90, 0x00);
-    })
+put_row : Does ready 256 (tpdu (head 0x00 0xDA 0x5F 0x20) 2 (0xAA ∷ 0xBB ∷ []) [] (0x90, 0x00))
     (card (entries_with (0xAA ∷ 0xBB ∷ [])) (Some aid) NothingPending)
 put_row = puts_value (head 0x00 0xDA 0x5F 0x20) (0xAA ∷ 0xBB ∷ []) name_tag done
     (card (entries_with (0xAA ∷ 0xBB ∷ [])) (Some aid) NothingPending) refl refl refl address
     (stores name_tag (0xAA ∷ 0xBB ∷ []) aid (entries_with name) refl refl two_bytes_fit)
 
 -- the same, where memory is wanted: 6581, and the entry stays
-put_without_memory_row : Does ready 256
-    (record {
-      header = head 0x00 0xDA 0x5F 0x20;
-      p3 = 2;
-      sent = 0xAA ∷ 0xBB
-          ∷ [];
-      received = [];
-      status = (0x65, 0x81);
-    }) ready
+put_without_memory_row : Does ready 256 (tpdu (head 0x00 0xDA 0x5F 0x20) 2 (0xAA ∷ 0xBB ∷ []) []
+    (0x65, 0x81)) ready
 put_without_memory_row = puts_value (head 0x00 0xDA 0x5F 0x20) (0xAA ∷ 0xBB ∷ []) name_tag
     (record { status = (0x65, 0x81); content = [] })
     ready refl refl refl address
     (wants_memory name_tag (0xAA ∷ 0xBB ∷ []) (entries_with name) refl two_bytes_fit)
 
 -- 10DA5F2001 AA: 9000, then 00DA5F2001 BB: 9000
-first_piece_row : Does ready 256
-    (record {
-      header = head 0x10 0xDA 0x5F 0x20;
-      p3 = 1;
-      sent = 0xAA
-          ∷ [];
-      received = [];
-      status = (0x90, 0x00);
-    }) (in_chain (0xAA ∷ []))
+first_piece_row : Does ready 256 (tpdu (head 0x10 0xDA 0x5F 0x20) 1 (0xAA ∷ []) [] (0x90, 0x00))
+    (in_chain (0xAA ∷ []))
 first_piece_row = chains (head 0x10 0xDA 0x5F 0x20) (0xAA ∷ []) refl refl refl
 
-last_piece_row : Does (in_chain (0xAA ∷ [])) 256
-    (record {
-      header = head 0x00 0xDA 0x5F 0x20;
-      p3 = 1;
-      sent = 0xBB
-          ∷ [];
-      received = [];
-      status = (0x90, 0x00);
-    })
-    (card (entries_with (0xAA ∷ 0xBB ∷ [])) (Some aid) NothingPending)
+last_piece_row : Does (in_chain (0xAA ∷ [])) 256 (tpdu (head 0x00 0xDA 0x5F 0x20) 1 (0xBB ∷ []) []
+    (0x90, 0x00)) (card (entries_with (0xAA ∷ 0xBB ∷ [])) (Some aid) NothingPending)
 last_piece_row = puts_value (head 0x00 0xDA 0x5F 0x20) (0xBB ∷ []) name_tag done
     (card (entries_with (0xAA ∷ 0xBB ∷ [])) (Some aid) (ChainPending 0x5F 0x20 (0xAA ∷ []))) refl
     refl refl address
     (stores name_tag (0xAA ∷ 0xBB ∷ []) aid (entries_with name) refl refl two_bytes_fit)
 
 -- 10DA5F2000: an empty chain is pending
-empty_piece_row : Does ready 256
-    (record {
-      header = head 0x10 0xDA 0x5F 0x20;
-      p3 = 0;
-      sent = [];
-      received = [];
-      status =
-          (0x90, 0x00);
-    }) (in_chain [])
+empty_piece_row : Does ready 256 (tpdu (head 0x10 0xDA 0x5F 0x20) 0 [] [] (0x90, 0x00))
+    (in_chain [])
 empty_piece_row = chains (head 0x10 0xDA 0x5F 0x20) [] refl refl refl
 
 -- 00DA007003 500541: 6A80, since the value of 50 passes the end
@@ -417,15 +326,8 @@ cut_value objects =
 template_address : NamesTag (0x70 ∷ []) 0x00 0x70
 template_address = (omega arith, omega arith, omega arith, refl, refl)
 
-wrong_data_row : Does ready 256
-    (record {
-      header = head 0x00 0xDA 0x00 0x70;
-      p3 = 3;
-      sent = 0x50 ∷ 0x05 ∷ 0x41
-          ∷ [];
-      received = [];
-      status = (0x6A, 0x80);
-    }) ready
+wrong_data_row : Does ready 256 (tpdu (head 0x00 0xDA 0x00 0x70) 3 (0x50 ∷ 0x05 ∷ 0x41 ∷ []) []
+    (0x6A, 0x80)) ready
 wrong_data_row = puts_value (head 0x00 0xDA 0x00 0x70) (0x50 ∷ 0x05 ∷ 0x41 ∷ []) (0x70 ∷ [])
     (record { status = (0x6A, 0x80); content = [] })
     ready refl refl refl template_address
@@ -467,29 +369,15 @@ padded_objects = (
 abbrev with_template : List Entry
 with_template = entries_with name ++ record { tag = 0x70 ∷ []; value = padded; locked = false } ∷ []
 
-padded_row : Does ready 256
-    (record {
-      header = head 0x00 0xDA 0x00 0x70;
-      p3 = 6;
-      sent = padded;
-      received = [];
-      status =
-          (0x90, 0x00);
-    }) (card with_template (Some aid) NothingPending)
+padded_row : Does ready 256 (tpdu (head 0x00 0xDA 0x00 0x70) 6 padded [] (0x90, 0x00))
+    (card with_template (Some aid) NothingPending)
 padded_row = puts_value (head 0x00 0xDA 0x00 0x70) padded (0x70 ∷ []) done
     (card with_template (Some aid) NothingPending) refl refl refl template_address
     (stores (0x70 ∷ []) padded aid (entries_with name) refl refl
     (stored refl (omega arith) (λ kind. padded_objects) (inr (omega arith))))
 
 get_padded_row : Does (card with_template (Some aid) NothingPending) 256
-    (record {
-      header = head 0x00 0xCA 0x00 0x70;
-      p3 = 8;
-      sent = [];
-      received = 0x70 ∷ 0x06
-          ∷ padded;
-      status = (0x90, 0x00);
-    })
+    (tpdu (head 0x00 0xCA 0x00 0x70) 8 [] (0x70 ∷ 0x06 ∷ padded) (0x90, 0x00))
     (card with_template (Some aid) NothingPending)
 get_padded_row = sends (head 0x00 0xCA 0x00 0x70) 8 refl refl
 
@@ -523,51 +411,29 @@ name_stands_first [] = false
 name_stands_first (a ∷ others) = is_name_first a.entries
 
 not_moved : (reply : Reply) → Answers ready (Put name_tag (0x42 ∷ [])) reply moved → ⊥
-not_moved reply h = elim (put_leaves ready moved (Put name_tag (0x42 ∷ [])) reply h) [
-  | inl e ↦ let same : false ≡ true = ap (λ state. name_stands_first state.applications) e in
+not_moved reply h = elim (put_leaves ready moved name_tag (0x42 ∷ []) reply h) [
+  | inl w ↦ let same : false ≡ true = ap (λ state. name_stands_first state.applications) w.1 in
       absurd (cc)
   | inr w ↦
       let one : aid ≡ w.0 = cc in
       let put : moved ≡ with_put ready aid name_tag (0x42 ∷ []) =
-      subst (λ x. moved ≡ with_put ready x name_tag (0x42 ∷ [])) (sym one) w.5 in
+      subst (λ x. moved ≡ with_put ready x name_tag (0x42 ∷ [])) (sym one) w.6 in
       let same : false ≡ true = ap (λ state. name_stands_first state.applications) put in
       absurd (cc)
 ]
 
 -- near miss: a PUT DATA with CLA 10 that stores its piece
-piece_is_not_stored : (cut : ℕ) → Does ready cut
-    (record {
-      header = head 0x10 0xDA 0x5F 0x20;
-      p3 = 1;
-      sent = 0xAA
-          ∷ [];
-      received = [];
-      status = (0x90, 0x00);
-    })
-    (card [] (Some aid) (ChainPending 0x5F 0x20 (0xAA ∷ []))) → ⊥
+piece_is_not_stored : (cut : ℕ) → Does ready cut (tpdu (head 0x10 0xDA 0x5F 0x20) 1 (0xAA ∷ []) []
+    (0x90, 0x00)) (card [] (Some aid) (ChainPending 0x5F 0x20 (0xAA ∷ []))) → ⊥
 piece_is_not_stored cut h =
     let e = chaining_keeps_applications ready
     (card [] (Some aid) (ChainPending 0x5F 0x20 (0xAA ∷ []))) cut
-    (record {
-      header = head 0x10 0xDA 0x5F 0x20;
-      p3 = 1;
-      sent = 0xAA
-          ∷ [];
-      received = [];
-      status = (0x90, 0x00);
-    }) h refl in
+    (tpdu (head 0x10 0xDA 0x5F 0x20) 1 (0xAA ∷ []) [] (0x90, 0x00)) h refl in
     let same : false ≡ true = ap name_stands_first e in absurd (cc)
 
 -- near miss: a refused header that moves data
 abbrev moving : Tpdu
-moving = record {
-  header = head 0x10 0xA4 0x04 0x00;
-  p3 = 7;
-  sent = aid;
-  received = [];
-  status =
-      (0x68, 0x84);
-}
+moving = tpdu (head 0x10 0xA4 0x04 0x00) 7 aid [] (0x68, 0x84)
 
 refused_is_not_moved : (cut : ℕ) (new : CardState) → Does ready cut moving new → ⊥
 refused_is_not_moved cut new h = let e =
@@ -575,22 +441,8 @@ refused_is_not_moved cut new h = let e =
 
 -- near miss: 6A82 that drops the selection
 selection_is_not_dropped : (cut : ℕ) → Does ready cut
-    (record {
-      header = head 0x00 0xA4 0x04 0x00;
-      p3 = 7;
-      sent = other_aid;
-      received = [];
-      status =
-          (0x6A, 0x82);
-    }) fresh → ⊥
+    (tpdu (head 0x00 0xA4 0x04 0x00) 7 other_aid [] (0x6A, 0x82)) fresh → ⊥
 selection_is_not_dropped cut h =
     let e : None ≡ Some aid = not_found_keeps_selection ready fresh cut
-    (record {
-      header = head 0x00 0xA4 0x04 0x00;
-      p3 = 7;
-      sent = other_aid;
-      received = [];
-      status =
-          (0x6A, 0x82);
-    }) h refl in
+    (tpdu (head 0x00 0xA4 0x04 0x00) 7 other_aid [] (0x6A, 0x82)) h refl in
     absurd (cc)

@@ -1,10 +1,9 @@
 -- What an operation is answered does not hang on what is pending; how a put is answered.
 use Rattle.std.proofs.Common.{◌≡◌, ℕ, List, Some, None, true, refl, sym, ap, subst, ◌∙◌}
 use Rattle.std.specs.Prelude.{is_some, option_and_then}
-use Rattle.apdu_core.specs.StatusWord.{StatusWord}
 use Rattle.object_card.specs.Tables.{entries_in, with_object}
 use Rattle.object_card.specs.State.{CardState, selected_entries, with_selected}
-use Rattle.object_card.specs.OneStep.{Operation, Select, Get, Put, Reply, reply, Answers, selects, finds_no_application, none_selected, finds_no_object, gives, stores, does_not_store, wants_memory, with_put, SameTables}
+use Rattle.object_card.specs.OneStep.{Operation, Put, Reply, reply, Answers, selects, finds_no_application, none_selected, finds_no_object, gives, stores, does_not_store, wants_memory, with_put, SameTables}
 
 -- the same tables have the same entries selected
 pub same_entries : (a b : CardState) → SameTables a b → selected_entries a ≡ selected_entries b
@@ -40,29 +39,8 @@ answers_alike a b a' operation answer same (does_not_store tag value entries sta
 answers_alike a b a' operation answer same (wants_memory tag value entries is put) =
     (b, wants_memory tag value entries (sym (same_entries a b same) ∙ is) put, same)
 
--- a put is answered without data
-abbrev IsBare : Operation → Reply → Type 0
-IsBare (Select aid) answer = Unit {0}
-IsBare (Get tag) answer = Unit {0}
-IsBare (Put tag value) answer = answer ≡ reply answer.status
-
-bare_status : (operation : Operation) (status : StatusWord) → IsBare operation (reply status)
-bare_status (Select aid) status = tt
-bare_status (Get tag) status = tt
-bare_status (Put tag value) status = refl
-
-bare : (old new : CardState) (operation : Operation) (answer : Reply)
-    → Answers old operation answer new → IsBare operation answer
-bare old new operation answer (selects aid held) = tt
-bare old new operation answer (finds_no_application aid none) = tt
-bare old new operation answer (none_selected op kind none) = bare_status op (0x69, 0x85)
-bare old new operation answer (finds_no_object tag entries is none) = tt
-bare old new operation answer (gives tag value entries is held) = tt
-bare old new operation answer (stores tag value aid entries selected is status) = refl
-bare old new operation answer (does_not_store tag value entries status is other put) = refl
-bare old new operation answer (wants_memory tag value entries is put) = refl
-
 -- A put is answered with a status and no data.
 pub put_is_bare : (old new : CardState) (tag value : List ℕ) (answer : Reply)
     → Answers old (Put tag value) answer new → answer ≡ reply answer.status
-put_is_bare old new tag value answer h = bare old new (Put tag value) answer h
+put_is_bare old new tag value answer (none_selected op kind none) = refl
+put_is_bare _ _ _ _ _ _ = refl

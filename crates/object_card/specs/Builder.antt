@@ -40,10 +40,7 @@ RefusesApplication aid applications Twice = is_some (entries_in aid applications
 RefusesApplication aid applications TooManyApps =
     (entries_in aid applications ≡ None) × (APPLICATION_LIMIT ≤ length applications)
 RefusesApplication aid applications OutOfMemory = TakesApplication aid applications
-RefusesApplication aid applications NoApp = ⊥
-RefusesApplication aid applications ValueTooLong = ⊥
-RefusesApplication aid applications NotObjects = ⊥
-RefusesApplication aid applications Full = ⊥
+RefusesApplication _ _ _ = ⊥
 
 -- an entry with this tag and value can be added: the value keeps to the limit and is of the tag's
 -- kind, and the tag is held or there are fewer entries than an application may have
@@ -62,9 +59,7 @@ RefusesEntry tag value entries Full =
     (length value ≤ VALUE_LIMIT) × IsValueOf tag value
     × (value_under tag entries ≡ None) × (ENTRY_LIMIT ≤ length entries)
 RefusesEntry tag value entries OutOfMemory = TakesEntry tag value entries
-RefusesEntry tag value entries Twice = ⊥
-RefusesEntry tag value entries TooManyApps = ⊥
-RefusesEntry tag value entries NoApp = ⊥
+RefusesEntry _ _ _ _ = ⊥
 
 -- there is an application, and the last can take the entry
 abbrev pub TakesObject : List ℕ → List ℕ → List Application → Type 0

@@ -1,86 +1,77 @@
 -- What no TPDU does, whatever the state.
-use Rattle.std.proofs.Common.{◌≡◌, ℕ, List, [], ◌++◌, Some, ◌⊎◌, inl, inr, refl, ap, arith}
+use Rattle.std.proofs.Common.{◌≡◌, ℕ, List, [], ◌++◌, Some, ◌⊎◌, inl, inr, refl, ap, arith, ◌≢◌, Bool, true, false, ◌∙◌}
 use Rattle.apdu_core.specs.StatusWord.{StatusWord, ok}
 use Rattle.t0_core.specs.Meaning.{Tpdu}
 use Rattle.object_card.specs.Tables.{Entry, entries_in}
 use Rattle.object_card.specs.State.{CardState, chained}
-use Rattle.object_card.specs.OneStep.{Operation, Select, Get, Put, Reply, Answers, PutStatus, selects, finds_no_application, none_selected, finds_no_object, gives, stores, does_not_store, wants_memory, with_put}
-use Rattle.object_card.specs.CardMeaning.{Does, refuses, selects_application, misses_application, sends, chains, puts_value}
+use Rattle.object_card.specs.OneStep.{Put, Reply, Answers, PutStatus, stores, does_not_store, with_put}
+use Rattle.object_card.specs.CardMeaning.{Does, selects_application, puts_value}
 use Rattle.object_card.specs.Refusals.{refusal}
+use Rattle.std.specs.Prelude.{◌==◌}
+use Rattle.std.proofs.lemmas.Bool.{eqb-true, and_left, and_right}
+use Rattle.object_card.specs.ShownPuts.{is_ok}
+use Rattle.object_card.specs.StepLaws.{refused_step}
 
--- what a put leaves: the state as it was, or with this value in the application that is selected
-abbrev pub PutLeaves : CardState → Operation → CardState → Type 0
-PutLeaves old (Select aid) new = Unit {0}
-PutLeaves old (Get tag) new = Unit {0}
-PutLeaves old (Put tag value) new = (new ≡ old)
-    ⊎ ((aid : List ℕ) × (entries : List Entry) × (old.selected ≡ Some aid)
-    × (entries_in aid old.applications ≡ Some entries)
+-- every status but 9000 is another
+pub not_ok : (status : StatusWord) → status ≢ ok → is_ok status ≡ false
+not_ok status other = split (status.0 == 0x90) (status.1 == 0x00) refl refl
+  where
+    split : (a b : Bool) → (status.0 == 0x90) ≡ a → (status.1 == 0x00) ≡ b → is_ok status ≡ false
+    split true true first second =
+        absurd (other (ap (λ (n : ℕ). (n, status.1)) (eqb-true status.0 0x90 first)
+        ∙ ap (λ (n : ℕ). (0x90, n)) (eqb-true status.1 0x00 second)))
+    split true false first second = and_right (status.0 == 0x90) (status.1 == 0x00) second
+    split false b first second = and_left (status.0 == 0x90) (status.1 == 0x00) first
+
+-- What a put that is answered so leaves: the state as it was, or, with 9000, with this value in the
+-- application that is selected.
+abbrev pub PutLeaves : CardState → List ℕ → List ℕ → StatusWord → CardState → Type 0
+PutLeaves old tag value status new = ((is_ok status ≡ false) × (new ≡ old))
+    ⊎ ((aid : List ℕ) × (entries : List Entry) × (is_ok status ≡ true)
+    × (old.selected ≡ Some aid) × (entries_in aid old.applications ≡ Some entries)
     × PutStatus entries tag value ok × (new ≡ with_put old aid tag value))
 
-stays : (old : CardState) (operation : Operation) → PutLeaves old operation old
-stays old (Select aid) = tt
-stays old (Get tag) = tt
-stays old (Put tag value) = inl refl
-
-pub put_leaves : (old new : CardState) (operation : Operation) (reply : Reply)
-    → Answers old operation reply new → PutLeaves old operation new
-put_leaves old new operation reply (selects aid held) = tt
-put_leaves old new operation reply (finds_no_application aid none) = tt
-put_leaves old new operation reply (none_selected op kind none) = stays old op
-put_leaves old new operation reply (finds_no_object tag entries is none) = tt
-put_leaves old new operation reply (gives tag value entries is held) = tt
-put_leaves old new operation reply (stores tag value aid entries selected is status) =
-    inr (aid, entries, selected, is, status, refl)
-put_leaves old new operation reply (does_not_store tag value entries status is other put) = inl refl
-put_leaves old new operation reply (wants_memory tag value entries is put) = inl refl
+pub put_leaves : (old new : CardState) (tag value : List ℕ) (answer : Reply)
+    → Answers old (Put tag value) answer new → PutLeaves old tag value answer.status new
+put_leaves old new tag value answer (stores t v aid entries selected is status) =
+    inr (aid, entries, refl, selected, is, status, refl)
+put_leaves old new tag value answer (does_not_store t v entries status is other put) =
+    inl (not_ok status other, refl)
+put_leaves _ _ _ _ _ _ = inl (refl, refl)
 
 -- a put keeps the selection
 pub put_keeps_selection : (old new : CardState) (tag value : List ℕ) (reply : Reply)
     → Answers old (Put tag value) reply new → new.selected ≡ old.selected
-put_keeps_selection old new tag value reply h = elim (put_leaves old new (Put tag value) reply h) [
-  | inl e ↦ ap (λ s. s.selected) e
-  | inr w ↦ ap (λ s. s.selected) w.5
+put_keeps_selection old new tag value reply h = elim (put_leaves old new tag value reply h) [
+  | inl w ↦ ap (λ s. s.selected) w.1
+  | inr w ↦ ap (λ s. s.selected) w.6
 ]
 
 -- A command that is not the last of its chain changes no entry.
 pub chaining_keeps_applications : (old new : CardState) (cut : ℕ) (tpdu : Tpdu)
     → Does old cut tpdu new → tpdu.header.cla ≡ 0x10
     → new.applications ≡ old.applications
-chaining_keeps_applications old new cut tpdu (refuses h p3 status is) more = refl
-chaining_keeps_applications old new cut tpdu (selects_application h aid is ins held) more = refl
-chaining_keeps_applications old new cut tpdu (misses_application h aid is ins none) more = refl
-chaining_keeps_applications old new cut tpdu (sends h p3 is ins) more = refl
-chaining_keeps_applications old new cut tpdu (chains h bytes is ins cla) more = refl
 chaining_keeps_applications old new cut tpdu
     (puts_value h bytes tag answer next is ins cla named put) more =
     absurd (omega (arith, cla, more))
+chaining_keeps_applications _ _ _ _ _ _ = refl
 
 -- A header that is refused moves no data, and has that status.
 pub refused_moves_nothing : (old new : CardState) (cut : ℕ) (tpdu : Tpdu) (status : StatusWord)
     → Does old cut tpdu new
     → refusal old tpdu.header tpdu.p3 ≡ Some status → (tpdu.sent ≡ []) × (tpdu.received ≡ [])
     × (tpdu.status ≡ status)
-refused_moves_nothing old new cut tpdu status (refuses h p3 other is) refused =
-    let e : other ≡ status = cc in (refl, refl, e)
-refused_moves_nothing old new cut tpdu status (selects_application h aid is ins held) refused =
-    absurd (cc)
-refused_moves_nothing old new cut tpdu status (misses_application h aid is ins none) refused =
-    absurd (cc)
-refused_moves_nothing old new cut tpdu status (sends h p3 is ins) refused = absurd (cc)
-refused_moves_nothing old new cut tpdu status (chains h bytes is ins cla) refused = absurd (cc)
-refused_moves_nothing old new cut tpdu status
-    (puts_value h bytes tag answer next is ins cla named put) refused = absurd (cc)
+refused_moves_nothing old new cut tpdu status does refused =
+    let step = refused_step old new cut tpdu status does refused in
+    (step.none_sent, step.none_received, step.status_is)
 
 -- 6A82 keeps the selection.
 pub not_found_keeps_selection : (old new : CardState) (cut : ℕ) (tpdu : Tpdu)
     → Does old cut tpdu new → tpdu.status ≡ (0x6A, 0x82)
     → new.selected ≡ old.selected
-not_found_keeps_selection old new cut tpdu (refuses h p3 status is) not_found = refl
 not_found_keeps_selection old new cut tpdu (selects_application h aid is ins held) not_found =
     let e : 0x61 ≡ 0x6A = ap (λ s. s.0) not_found in absurd (omega (arith, e))
-not_found_keeps_selection old new cut tpdu (misses_application h aid is ins none) not_found = refl
-not_found_keeps_selection old new cut tpdu (sends h p3 is ins) not_found = refl
-not_found_keeps_selection old new cut tpdu (chains h bytes is ins cla) not_found = refl
 not_found_keeps_selection old new cut tpdu (puts_value h bytes tag answer next is ins cla named put)
     not_found =
     put_keeps_selection old next tag (chained old.pending ++ bytes) answer put
+not_found_keeps_selection _ _ _ _ _ _ = refl

@@ -34,52 +34,28 @@ length_before chain = option_map (λ first. length chain.bytes) chain.pending
 
 -- the chain that stands
 abbrev pub standing_chain : ChainState → Ready → ChainState
-standing_chain chain ready.Nothing = chain
-standing_chain chain (ready.Receives h p3 cut) = chain
-standing_chain chain (ready.Sends h p3 cut response) = chain
-standing_chain chain (ready.Leaves response) = chain
-standing_chain chain (ready.Selects application response) = chain
 standing_chain chain (ready.Joins before) = chain_before chain before
-standing_chain chain ready.Stores = chain
+standing_chain chain _ = chain
 
 -- what is selected and pending once the answer is handed out, and whether a chain is
 abbrev pub selected_after : Ready → Option ℕ → Option ℕ
-selected_after ready.Nothing selected = selected
-selected_after (ready.Receives h p3 cut) selected = selected
-selected_after (ready.Sends h p3 cut response) selected = selected
-selected_after (ready.Leaves response) selected = selected
 selected_after (ready.Selects application response) selected = Some application
-selected_after (ready.Joins before) selected = selected
-selected_after ready.Stores selected = selected
+selected_after _ selected = selected
 
 abbrev pub response_after : Ready → Option Response
-response_after ready.Nothing = None
-response_after (ready.Receives h p3 cut) = None
-response_after (ready.Sends h p3 cut response) = None
 response_after (ready.Leaves response) = response
 response_after (ready.Selects application response) = Some response
-response_after (ready.Joins before) = None
-response_after ready.Stores = None
+response_after _ = None
 
 abbrev pub keeps_chain : Ready → Bool
-keeps_chain ready.Nothing = false
-keeps_chain (ready.Receives h p3 cut) = false
-keeps_chain (ready.Sends h p3 cut response) = false
-keeps_chain (ready.Leaves response) = false
-keeps_chain (ready.Selects application response) = false
 keeps_chain (ready.Joins before) = true
-keeps_chain ready.Stores = false
+keeps_chain _ = false
 
 -- whether no chain stands, where the chain is pending or not: a piece that joins one changes
 -- nothing yet
 abbrev pub stands_idle : Ready → Bool → Bool
-stands_idle ready.Nothing pending = not pending
-stands_idle (ready.Receives h p3 cut) pending = not pending
-stands_idle (ready.Sends h p3 cut response) pending = not pending
-stands_idle (ready.Leaves response) pending = not pending
-stands_idle (ready.Selects application response) pending = not pending
 stands_idle (ready.Joins before) pending = is_none before || not pending
-stands_idle ready.Stores pending = not pending
+stands_idle _ pending = not pending
 
 -- the chain once the answer is handed out
 abbrev pub settled_chain : ChainState → Ready → ChainState

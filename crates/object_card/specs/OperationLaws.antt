@@ -20,7 +20,7 @@ use Rattle.object_card.specs.CardMeaning.{Does, announcing}
 use Rattle.object_card.specs.CarryingOut.{select_header, get_header, IsCarriedOut, Carries, FetchAll}
 use Rattle.object_card.specs.TagLaws.{named}
 use Rattle.object_card.specs.RefusalLaws.{refusal_drops_chain}
-use Rattle.object_card.specs.StepLaws.{select_step, select_refused, is_selected, is_missed, SendStep, send_step, send_refused, is_sent}
+use Rattle.object_card.specs.StepLaws.{refused_step, select_step, select_refused, is_selected, is_missed, send_step, send_refused, is_sent}
 use Rattle.object_card.specs.AnswerLaws.{same_entries, answers_alike}
 use Rattle.object_card.specs.PutRunLaws.{all_have_moved}
 use Rattle.object_card.specs.ResponseLaws.{announces_some, fetched, rest_waits, rest_is_idle}
@@ -204,9 +204,8 @@ first_of_get broken p3 tag entries =
 
 -- how a GET DATA for a tag is refused, or not, and what there is to send
 data GetCase (state : CardState) (tag : List ℕ) (p3 : ℕ) : Option StatusWord → List ℕ → Type 0 where
-  case_unselected : selected_entries state ≡ None → GetCase state tag p3 (Some (0x69, 0x85)) []
-  case_missing : (entries : List Entry) → selected_entries state ≡ Some entries
-      → value_under tag entries ≡ None → GetCase state tag p3 (Some (0x6A, 0x88)) []
+  case_refused : (status : StatusWord) → Answers state (Get tag) (reply status) state
+      → announces status ≡ None → corrects status ≡ None → GetCase state tag p3 (Some status) []
   case_short : (entries : List Entry) (value : List ℕ) → selected_entries state ≡ Some entries
       → value_under tag entries ≡ Some value
       → length (object_bytes tag value) < count p3
@@ -240,13 +239,14 @@ get_case state tag p1 p2 p3 idle is_named =
     chosen : (es : Option (List Entry)) → selected_entries state ≡ es
         → GetCase state tag p3 (first_of_get false p3 (Some tag) es)
         (unwrap_or (object_of (Some tag) es) [])
-    chosen None e = case_unselected e
+    chosen None e = case_refused (0x69, 0x85) (none_selected (Get tag) refl e) refl refl
     chosen (Some entries) e = valued (value_under tag entries) refl
       where
         valued : (v : Option (List ℕ)) → value_under tag entries ≡ v
             → GetCase state tag p3 (first_of_get false p3 (Some tag) (Some entries))
             (unwrap_or (object_of (Some tag) (Some entries)) [])
-        valued None k = subst Found (sym k) (case_missing entries e k)
+        valued None k = subst Found (sym k)
+            (case_refused (0x6A, 0x88) (finds_no_object tag entries e k) refl refl)
         valued (Some value) k =
             subst Found (sym k) (sized (nat_lt (length (object_bytes tag value)) (count p3)) refl)
           where
@@ -308,10 +308,24 @@ pub no_correction : (left : List ℕ) (cut : ℕ) → corrects (announcing left 
 no_correction [] cut = refl
 no_correction (b ∷ left) cut = refl
 
-not_both : (refused : Option StatusWord) (status : StatusWord) → refused ≡ None
-    → refused ≡ Some status → ⊥
-not_both refused status none some = let no : ◌≡◌ {A = Option StatusWord} None (Some status) =
-    sym none ∙ some in absurd (cc)
+-- a TPDU of which the header is refused
+record Stops (old : CardState) (t : Tpdu) (new : CardState) (status : StatusWord) : Type 0 where
+  status_is : t.status ≡ status
+  none_received : t.received ≡ []
+  same : SameTables old new
+  idle : is_idle new.pending ≡ true
+
+stops : (old new : CardState) (cut : ℕ) (t : Tpdu) (status : StatusWord) → Does old cut t new
+    → refusal old t.header t.p3 ≡ Some status → Stops old t new status
+stops old new cut t status does refused =
+    let step = refused_step old new cut t status does refused in
+    record {
+      status_is = step.status_is;
+      none_received = step.none_received;
+      same = (sym (ap (λ s. s.applications) step.new_is), sym (ap (λ s. s.selected) step.new_is));
+      idle = ap (λ s. is_idle s.pending) step.new_is
+          ∙ refusal_drops_chain t.header status old.pending;
+    }
 
 -- how a GET DATA ends, or goes on
 data GetStep (old : CardState) (tag : List ℕ) (cut : ℕ) (t : Tpdu) (new : CardState) : Type 0 where
@@ -336,55 +350,32 @@ get_step old new tag p1 p2 cut t idle is header does =
     each (refusal old t.header t.p3) (to_send old t.header) refl refl
     (subst (λ h. GetCase old tag t.p3 (refusal old h t.p3) (to_send old h)) (sym header)
     (get_case old tag p1 p2 t.p3 idle (named tag p1 p2 is)))
-    (send_step old new cut t does (ap (λ h. is_get h || is_get_response h) header))
   where
-    refused_by : (status : StatusWord) → Some t.status ≡ Some status → t.status ≡ status
-    refused_by status e = cc
-
     each : (r : Option StatusWord) (whole : List ℕ) → refusal old t.header t.p3 ≡ r
-        → to_send old t.header ≡ whole → GetCase old tag t.p3 r whole
-        → SendStep old cut t new → GetStep old tag cut t new
-    each r whole e w (case_unselected none) (send_refused refused nothing new_is) =
-        let status : t.status ≡ (0x69, 0x85) = refused_by (0x69, 0x85) (sym refused ∙ e) in
-        get_refused (subst (λ s. Answers old (Get tag) (reply s) old) (sym status)
-        (none_selected (Get tag) refl none)) (ap announces status) (ap corrects status) nothing
-        (sym (ap (λ s. s.applications) new_is), sym (ap (λ s. s.selected) new_is))
-        (ap (λ s. is_idle s.pending) new_is ∙ refusal_drops_chain t.header t.status old.pending)
-    each r whole e w (case_unselected none) (is_sent taken brought status new_is) =
-        absurd (not_both (refusal old t.header t.p3) (0x69, 0x85) taken e)
-    each r whole e w (case_missing entries selected absent) (send_refused refused nothing new_is) =
-        let status : t.status ≡ (0x6A, 0x88) = refused_by (0x6A, 0x88) (sym refused ∙ e) in
-        get_refused (subst (λ s. Answers old (Get tag) (reply s) old) (sym status)
-        (finds_no_object tag entries selected absent)) (ap announces status)
-        (ap corrects status) nothing
-        (sym (ap (λ s. s.applications) new_is), sym (ap (λ s. s.selected) new_is))
-        (ap (λ s. is_idle s.pending) new_is ∙ refusal_drops_chain t.header t.status old.pending)
-    each r whole e w (case_missing entries selected absent) (is_sent taken brought status new_is) =
-        absurd (not_both (refusal old t.header t.p3) (0x6A, 0x88) taken e)
-    each r whole e w (case_short entries value selected held short)
-        (send_refused refused nothing new_is) =
-        let status : t.status ≡ (0x6C, length (object_bytes tag value)) =
-        refused_by (0x6C, length (object_bytes tag value)) (sym refused ∙ e) in
-        let same : count (length (object_bytes tag value)) ≡ length (object_bytes tag value) =
-        count_of_some (length (object_bytes tag value)) (some_bytes tag value) in
+        → to_send old t.header ≡ whole → GetCase old tag t.p3 r whole → GetStep old tag cut t new
+    each r whole e w (case_refused status answers no_more uncorrected) =
+        let s = stops old new cut t status does e in
+        get_refused (subst (λ s. Answers old (Get tag) (reply s) old) (sym s.status_is) answers)
+        (ap announces s.status_is ∙ no_more) (ap corrects s.status_is ∙ uncorrected)
+        s.none_received s.same s.idle
+    each r whole e w (case_short entries value selected held short) =
+        let n = length (object_bytes tag value) in
+        let s = stops old new cut t (0x6C, n) does e in
         get_corrected value (record { entries = entries; is_selected = selected; is_under = held })
-        short (ap corrects status ∙ ap (λ n. Some n) same) nothing
-        (sym (ap (λ s. s.applications) new_is), sym (ap (λ s. s.selected) new_is))
-        (ap (λ s. is_idle s.pending) new_is ∙ refusal_drops_chain t.header t.status old.pending)
-    each r whole e w (case_short entries value selected held short)
-        (is_sent taken brought status new_is) =
-        absurd (not_both (refusal old t.header t.p3) (0x6C, length (object_bytes tag value)) taken
-        e)
-    each r whole e w (case_given entries value selected held few)
-        (send_refused refused nothing new_is) = let no : Some t.status ≡ None = sym refused ∙ e in
-        absurd (cc)
-    each r whole e w (case_given entries value selected held few)
-        (is_sent taken brought status new_is) =
-        get_given value (record { entries = entries; is_selected = selected; is_under = held })
-        (brought ∙ ap (λ bs. take (count t.p3) bs) w)
-        (status ∙ ap (λ bs. announcing (drop (count t.p3) bs) cut) w)
-        (sym (ap (λ s. s.applications) new_is), sym (ap (λ s. s.selected) new_is))
-        (ap (λ s. s.pending) new_is ∙ ap (λ bs. pending_of (drop (count t.p3) bs)) w)
+        short (ap corrects s.status_is ∙ ap (λ n. Some n) (count_of_some n (some_bytes tag value)))
+        s.none_received s.same s.idle
+    each r whole e w (case_given entries value selected held few) =
+        elim (send_step old new cut t does (ap (λ h. is_get h || is_get_response h) header)) [
+          | send_refused refused nothing new_is ↦ let no : Some t.status ≡ None =
+              sym refused ∙ e in absurd (cc)
+          | is_sent taken brought status new_is ↦
+              get_given value
+              (record { entries = entries; is_selected = selected; is_under = held })
+              (brought ∙ ap (λ bs. take (count t.p3) bs) w)
+              (status ∙ ap (λ bs. announcing (drop (count t.p3) bs) cut) w)
+              (sym (ap (λ s. s.applications) new_is), sym (ap (λ s. s.selected) new_is))
+              (ap (λ s. s.pending) new_is ∙ ap (λ bs. pending_of (drop (count t.p3) bs)) w)
+        ]
 
 -- A GET DATA and all that is fetched after it get the object in one step.
 pub get_is_carried_out : (old mid new : CardState) (tag : List ℕ) (p1 p2 cut : ℕ) (t : Tpdu)

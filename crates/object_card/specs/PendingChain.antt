@@ -6,10 +6,5 @@ use Rattle.object_card.specs.declared.ready.Ready.TheVariants as ready
 
 -- a piece that joined the chain was added to its bytes
 abbrev pub CanBeGivenUp : ChainState → Ready → Type 0
-CanBeGivenUp chain ready.Nothing = Unit {0}
-CanBeGivenUp chain (ready.Receives h p3 cut) = Unit {0}
-CanBeGivenUp chain (ready.Sends h p3 cut response) = Unit {0}
-CanBeGivenUp chain (ready.Leaves response) = Unit {0}
-CanBeGivenUp chain (ready.Selects application response) = Unit {0}
 CanBeGivenUp chain (ready.Joins before) = IfSome before (λ len. len ≤ length chain.bytes)
-CanBeGivenUp chain ready.Stores = Unit {0}
+CanBeGivenUp _ _ = Unit {0}

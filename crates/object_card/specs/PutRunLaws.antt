@@ -13,7 +13,7 @@ use Rattle.object_card.specs.State.{CardState, Pending, NothingPending, ChainPen
 use Rattle.object_card.specs.OneStep.{Put, reply, Answers, none_selected, does_not_store, not_allowed, wrong_length, SameTables}
 use Rattle.object_card.specs.Refusals.{is_put, refusal, breaks_chain}
 use Rattle.object_card.specs.CardMeaning.{after_refusal}
-use Rattle.object_card.specs.CarryingOut.{put_header, IsAnswered, AreTaken, EndsWith, IsCarriedOut, all_taken, stopped}
+use Rattle.object_card.specs.CarryingOut.{put_header, IsAnswered, EndsWith, IsCarriedOut, all_taken, stopped}
 use Rattle.object_card.specs.TagLaws.{named}
 use Rattle.object_card.specs.RefusalLaws.{is_refusing, refusal_drops_chain, IsPutRefusal, none_is_selected, is_not_allowed, is_too_long, put_is_refused}
 use Rattle.object_card.specs.StepLaws.{put_step, put_refused, is_chained, is_ended}
@@ -50,6 +50,35 @@ some_piece : (value : List ℕ) (pieces : List (List ℕ)) → IsPieces value pi
 some_piece [] pieces is = ([], [], is, ap concat is)
 some_piece (b ∷ bytes) [] is = absurd is.1
 some_piece (b ∷ bytes) (first ∷ others) is = (first, others, refl, is.0)
+
+-- where commands come to their end: the first is answered otherwise, or the others come to it
+ends_first : (old new : CardState) (c : Command) (commands : List Command) (status : StatusWord)
+    → EndsWith old (c ∷ commands) new status
+    → (IsAnswered old c status new × (status ≢ ok))
+    ⊎ ((next : CardState) × IsAnswered old c ok next × EndsWith next commands new status)
+ends_first old new c commands status (all_taken (next, answered, taken)) =
+    inr (next, answered, all_taken taken)
+ends_first old new c commands status
+    (stopped [] e after mid last split taken answered other) =
+    let same : e ≡ c = cc in
+    let at_old : IsAnswered old e status new =
+    subst (λ s. IsAnswered s e status new) taken answered in
+    inl (subst (λ x. IsAnswered old x status new) same at_old, other)
+ends_first old new c commands status
+    (stopped (b ∷ before) e after mid last split (next, now, taken) answered other) =
+    let same : b ≡ c = cc in
+    let rest : commands ≡ before ++ e ∷ after = cc in
+    inr (
+      next,
+      subst (λ x. IsAnswered old x ok next) same now,
+      stopped before e after mid status rest taken answered other,
+    )
+
+ends_none : (old new : CardState) (status : StatusWord) → EndsWith old [] new status
+    → (status ≡ ok) × (old ≡ new)
+ends_none old new status (all_taken same) = (refl, sym same)
+ends_none old new status (stopped before c after mid last split taken answered other) =
+    absurd (omega (arith, ap length split, length-append before (c ∷ after)))
 
 module _ (tag : List ℕ) (p1 p2 : ℕ) (is_named : NamesTag tag p1 p2) where
   -- what is pending after these bytes of the value
@@ -135,7 +164,7 @@ module _ (tag : List ℕ) (p1 p2 : ℕ) (is_named : NamesTag tag p1 p2) where
                   (refused_here old mid new t bytes value gathering (inr carries.header_is) fits
                   refused left),
             )
-        | is_chained taken cla all fine left ↦
+        | is_chained taken cla all none fine left ↦
             let sent : piece ≡ t.sent =
             all_have_moved piece t.sent carries.takes.0 carries.takes.1
             (sym carries.counts ∙ all) in
@@ -156,7 +185,7 @@ module _ (tag : List ℕ) (p1 p2 : ℕ) (is_named : NamesTag tag p1 p2) where
                     (ap (λ h. h.p1) carries.header_is, ap (λ h. h.p2) carries.header_is, joined);
               },
             )
-        | is_ended taken cla all other answer next named_by same answers left ↦
+        | is_ended taken cla all none other answer next named_by same answers left ↦
             let more : t.header.cla ≡ 0x10 = ap (λ h. h.cla) carries.header_is in
             absurd (omega (arith, cla, more))
       ]
@@ -177,10 +206,10 @@ module _ (tag : List ℕ) (p1 p2 : ℕ) (is_named : NamesTag tag p1 p2) where
             subst (λ s. IsCarriedOut old (Put tag (bytes ++ last)) s [] new) is
             (refused_here old mid new t bytes (bytes ++ last) gathering (inl carries.header_is)
             fits refused left)
-        | is_chained taken cla all fine left ↦
-            let none : t.header.cla ≡ 0x00 = ap (λ h. h.cla) carries.header_is in
-            absurd (omega (arith, cla, none))
-        | is_ended taken cla all other answer next named_by same answers left ↦
+        | is_chained taken cla all none fine left ↦
+            let last_class : t.header.cla ≡ 0x00 = ap (λ h. h.cla) carries.header_is in
+            absurd (omega (arith, cla, last_class))
+        | is_ended taken cla all none other answer next named_by same answers left ↦
             let sent : last ≡ t.sent =
             all_have_moved last t.sent carries.takes.0 carries.takes.1
             (sym carries.counts ∙ all) in
@@ -214,57 +243,22 @@ module _ (tag : List ℕ) (p1 p2 : ℕ) (is_named : NamesTag tag p1 p2) where
             )
       ]
 
-  -- where all commands are answered 9000
+  -- all commands from one on
   all_of_them : (first : List ℕ) (others : List (List ℕ)) (old mid new : CardState) (bytes : List ℕ)
-      → IsGathering old mid bytes
-      → AreTaken mid (chain_commands (put_header p1 p2) (first ∷ others)) new
-      → IsCarriedOut old (Put tag (bytes ++ concat (first ∷ others))) ok [] new
-  all_of_them first [] old mid new bytes gathering (next, answered, is) =
-      let put : IsCarriedOut old (Put tag (bytes ++ first)) ok [] next =
-      last_step old mid next first bytes ok gathering answered in
-      subst (λ v. IsCarriedOut old (Put tag (bytes ++ v)) ok [] new) (sym (append-nil first))
-      (subst (λ s. IsCarriedOut old (Put tag (bytes ++ first)) ok [] s) (sym is) put)
-  all_of_them first (second ∷ others) old mid new bytes gathering (next, answered, rest) =
-      let value : List ℕ = bytes ++ concat (first ∷ second ∷ others) in
-      let fits : length bytes + length first ≤ length value =
-      omega (
-        arith,
-        length-append bytes (concat (first ∷ second ∷ others)),
-        length-append first (concat (second ∷ others)),
-      ) in
-      elim (piece_step old mid next first bytes value ok gathering answered fits) [
-        | inl taken ↦ subst (λ v. IsCarriedOut old (Put tag v) ok [] new)
-            (append_assoc bytes first (concat (second ∷ others)))
-            (all_of_them second others old next new (bytes ++ first) taken.1 rest)
-        | inr refused ↦ absurd (refused.0 refl)
-      ]
-
-  -- where one is answered otherwise
-  up_to_one : (first : List ℕ) (others : List (List ℕ)) (before : List Command) (c : Command)
-      (after : List Command) (old mid last new : CardState) (bytes : List ℕ) (status : StatusWord)
-      → IsGathering old mid bytes → chain_commands (put_header p1 p2) (first ∷ others) ≡ before ++ c
-      ∷ after
-      → AreTaken mid before last → IsAnswered last c status new → status ≢ ok
+      (status : StatusWord) → IsGathering old mid bytes
+      → EndsWith mid (chain_commands (put_header p1 p2) (first ∷ others)) new status
       → IsCarriedOut old (Put tag (bytes ++ concat (first ∷ others))) status [] new
-  up_to_one first [] [] c after old mid last new bytes status gathering are taken answered other =
-      let here : Command = record { header = put_header p1 p2; content = first; le = None } in
-      let same : here ≡ c = cc in
-      let at_mid : IsAnswered mid here status new =
-      subst (λ s. IsAnswered s here status new) taken
-      (subst (λ x. IsAnswered last x status new) (sym same) answered) in
+  all_of_them first [] old mid new bytes status gathering ends =
       subst (λ v. IsCarriedOut old (Put tag (bytes ++ v)) status [] new) (sym (append-nil first))
-      (last_step old mid new first bytes status gathering at_mid)
-  up_to_one first [] (b ∷ before) c after old mid last new bytes status gathering are taken answered
-      other =
-      absurd (omega (arith, ap length are, length-append before (c ∷ after)))
-  up_to_one first (second ∷ others) [] c after old mid last new bytes status gathering are taken
-      answered other =
-      let here : Command =
-      record { header = with_more (put_header p1 p2); content = first; le = None } in
-      let same : here ≡ c = cc in
-      let at_mid : IsAnswered mid here status new =
-      subst (λ s. IsAnswered s here status new) taken
-      (subst (λ x. IsAnswered last x status new) (sym same) answered) in
+      (elim (ends_first mid new _ [] status ends) [
+        | inl (answered, other) ↦ last_step old mid new first bytes status gathering answered
+        | inr (next, answered, rest) ↦
+            let (fine, same) = ends_none next new status rest in
+            subst (λ w. IsCarriedOut old (Put tag (bytes ++ first)) w [] new) (sym fine)
+            (subst (λ s. IsCarriedOut old (Put tag (bytes ++ first)) ok [] s) same
+            (last_step old mid next first bytes ok gathering answered))
+      ])
+  all_of_them first (second ∷ others) old mid new bytes status gathering ends =
       let value : List ℕ = bytes ++ concat (first ∷ second ∷ others) in
       let fits : length bytes + length first ≤ length value =
       omega (
@@ -272,31 +266,20 @@ module _ (tag : List ℕ) (p1 p2 : ℕ) (is_named : NamesTag tag p1 p2) where
         length-append bytes (concat (first ∷ second ∷ others)),
         length-append first (concat (second ∷ others)),
       ) in
-      elim (piece_step old mid new first bytes value status gathering at_mid fits) [
-        | inl taken_too ↦ absurd (other taken_too.0)
-        | inr refused ↦ refused.1
-      ]
-  up_to_one first (second ∷ others) (b ∷ before) c after old mid last new bytes status gathering are
-      (next, now, taken) answered other =
-      let here : Command =
-      record { header = with_more (put_header p1 p2); content = first; le = None } in
-      let same : here ≡ b = cc in
-      let rest : chain_commands (put_header p1 p2) (second ∷ others) ≡ before ++ c ∷ after = cc in
-      let at_mid : IsAnswered mid here ok next =
-      subst (λ x. IsAnswered mid x ok next) (sym same) now in
-      let value : List ℕ = bytes ++ concat (first ∷ second ∷ others) in
-      let fits : length bytes + length first ≤ length value =
-      omega (
-        arith,
-        length-append bytes (concat (first ∷ second ∷ others)),
-        length-append first (concat (second ∷ others)),
-      ) in
-      elim (piece_step old mid next first bytes value ok gathering at_mid fits) [
-        | inl taken_too ↦ subst (λ v. IsCarriedOut old (Put tag v) status [] new)
-            (append_assoc bytes first (concat (second ∷ others)))
-            (up_to_one second others before c after old next last new (bytes ++ first) status
-            taken_too.1 rest taken answered other)
-        | inr refused ↦ absurd (refused.0 refl)
+      let left = chain_commands (put_header p1 p2) (second ∷ others) in
+      elim (ends_first mid new _ left status ends) [
+        | inl (answered, other) ↦
+            elim (piece_step old mid new first bytes value status gathering answered fits) [
+              | inl taken ↦ absurd (other taken.0)
+              | inr refused ↦ refused.1
+            ]
+        | inr (next, answered, rest) ↦
+            elim (piece_step old mid next first bytes value ok gathering answered fits) [
+              | inl taken ↦ subst (λ v. IsCarriedOut old (Put tag v) status [] new)
+                  (append_assoc bytes first (concat (second ∷ others)))
+                  (all_of_them second others old next new (bytes ++ first) status taken.1 rest)
+              | inr refused ↦ absurd (refused.0 refl)
+            ]
       ]
 
   suits_idle : (pending : Pending) → is_idle pending ≡ true → Suits pending []
@@ -314,20 +297,6 @@ module _ (tag : List ℕ) (p1 p2 : ℕ) (is_named : NamesTag tag p1 p2) where
       let (first, others, pieces_are, whole) = some_piece value pieces are in
       let begun : IsGathering old old [] =
       record { same = (refl, refl); suits = suits_idle old.pending idle } in
-      let all : concat (first ∷ others) ≡ value = ap concat (sym pieces_are) ∙ whole in
-      each first others status all begun
-      (subst (λ p. EndsWith old (chain_commands (put_header p1 p2) p) new status) pieces_are
-      ends)
-    where
-      each : (first : List ℕ) (others : List (List ℕ)) (last : StatusWord)
-          → concat (first ∷ others) ≡ value → IsGathering old old []
-          → EndsWith old (chain_commands (put_header p1 p2) (first ∷ others)) new last
-          → IsCarriedOut old (Put tag value) last [] new
-      each first others last all begun (all_taken taken) =
-          subst (λ v. IsCarriedOut old (Put tag v) ok [] new) all
-          (all_of_them first others old old new [] begun taken)
-      each first others last all begun
-          (stopped before c after mid other_status split taken answered other) =
-          subst (λ v. IsCarriedOut old (Put tag v) other_status [] new) all
-          (up_to_one first others before c after old old mid new [] other_status begun split
-          taken answered other)
+      subst (λ v. IsCarriedOut old (Put tag v) status [] new) (ap concat (sym pieces_are) ∙ whole)
+      (all_of_them first others old old new [] status begun
+      (subst (λ p. EndsWith old (chain_commands (put_header p1 p2) p) new status) pieces_are ends))

@@ -1,14 +1,14 @@
 -- How a header is refused: with which statuses, and what holds where it is not.
 use Rattle.std.proofs.Common.{◌≡◌, ℕ, ◌+◌, ◌<◌, List, [], ◌∷◌, length, Option, Some, None, Bool, true, false, ◌⊎◌, inl, inr, refl, subst}
-use Rattle.std.specs.Prelude.{if◌then◌else◌, ◌==◌, ◌&&◌, not, is_some, is_none, nat_lt}
-use Rattle.std.proofs.lemmas.Bool.{ltb-true}
+use Rattle.std.specs.Prelude.{if◌then◌else◌, ◌==◌, ◌&&◌, not, is_some, is_none, nat_lt, bit_and}
+use Rattle.std.proofs.lemmas.Bool.{ltb-true, not-false, and_parts, eqb-true}
 use Rattle.apdu_core.specs.declared.header.Header.{Header}
 use Rattle.apdu_core.specs.StatusWord.{StatusWord}
 use Rattle.apdu_core.specs.Chaining.{with_more}
 use Rattle.object_card.specs.declared.limits.TheConstants.{VALUE_LIMIT}
 use Rattle.object_card.specs.Tables.{Entry, is_locked}
 use Rattle.object_card.specs.State.{CardState, Pending, NothingPending, ChainPending, ResponsePending, is_idle, chained, selected_entries}
-use Rattle.object_card.specs.Refusals.{Reason, OtherThanItsChain, UnknownClass, UnknownInstruction, NotChained, WrongParameters, NoApplicationSelected, NoResponsePending, LockedEntry, NoSuchObject, ValueTooLong, NoIdentifier, MoreThanIsLeft, in_order, holds, first_of_them, status_for, refusal, breaks_chain, named_tag, is_locked_among, is_get_response, to_send}
+use Rattle.object_card.specs.Refusals.{Reason, MoreThanIsLeft, in_order, holds, first_of_them, status_for, refusal, breaks_chain, named_tag, is_locked_among, is_get_response, is_put}
 use Rattle.object_card.specs.CardMeaning.{after_refusal}
 use Rattle.object_card.specs.CarryingOut.{put_header}
 
@@ -18,23 +18,10 @@ pub record IsRefusing (status : StatusWord) : Type 0 where
   pub not_more : (status.0 == 0x61) ≡ false
   pub not_memory : (status.0 == 0x65) ≡ false
 
-is_other : (status : StatusWord) → (status.0 == 0x90) ≡ false → (status.0 == 0x61) ≡ false
-    → (status.0 == 0x65) ≡ false → IsRefusing status
-is_other status ok more memory = record { not_ok = ok; not_more = more; not_memory = memory }
-
 each_is_refusing : (state : CardState) (h : Header) (r : Reason) → IsRefusing (status_for state h r)
-each_is_refusing state h OtherThanItsChain = is_other (0x68, 0x83) refl refl refl
-each_is_refusing state h UnknownClass = is_other (0x6E, 0x00) refl refl refl
-each_is_refusing state h UnknownInstruction = is_other (0x6D, 0x00) refl refl refl
-each_is_refusing state h NotChained = is_other (0x68, 0x84) refl refl refl
-each_is_refusing state h WrongParameters = is_other (0x6A, 0x86) refl refl refl
-each_is_refusing state h NoApplicationSelected = is_other (0x69, 0x85) refl refl refl
-each_is_refusing state h NoResponsePending = is_other (0x69, 0x85) refl refl refl
-each_is_refusing state h LockedEntry = is_other (0x69, 0x82) refl refl refl
-each_is_refusing state h NoSuchObject = is_other (0x6A, 0x88) refl refl refl
-each_is_refusing state h ValueTooLong = is_other (0x67, 0x00) refl refl refl
-each_is_refusing state h NoIdentifier = is_other (0x67, 0x00) refl refl refl
-each_is_refusing state h MoreThanIsLeft = is_other (0x6C, length (to_send state h)) refl refl refl
+each_is_refusing state h MoreThanIsLeft =
+    record { not_ok = refl; not_more = refl; not_memory = refl }
+each_is_refusing _ _ _ = record { not_ok = refl; not_more = refl; not_memory = refl }
 
 first_is_refusing : (state : CardState) (h : Header) (p3 : ℕ) (rs : List Reason)
     (status : StatusWord) → first_of_them state h p3 rs ≡ Some status → IsRefusing status
@@ -59,16 +46,42 @@ pub is_refusing : (state : CardState) (h : Header) (p3 : ℕ) (status : StatusWo
     → refusal state h p3 ≡ Some status → IsRefusing status
 is_refusing state h p3 status is = first_is_refusing state h p3 in_order status is
 
+-- A header that does not break a chain is one of its own.
+pub is_of_its_chain : (p1 p2 : ℕ) (bytes : List ℕ) (h : Header)
+    → breaks_chain (ChainPending p1 p2 bytes) h ≡ false
+    → (bit_and h.cla 0xEF ≡ 0x00) × (h.ins ≡ 0xDA) × (h.p1 ≡ p1) × (h.p2 ≡ p2)
+is_of_its_chain p1 p2 bytes h goes_on =
+    let all = not-false ((bit_and h.cla 0xEF == 0x00) && is_put h && (h.p1 == p1) && (h.p2 == p2))
+    goes_on in
+    let (three, second) = and_parts ((bit_and h.cla 0xEF == 0x00) && is_put h && (h.p1 == p1))
+    (h.p2 == p2) all in
+    let (two, first) = and_parts ((bit_and h.cla 0xEF == 0x00) && is_put h) (h.p1 == p1) three in
+    let (class, ins) = and_parts (bit_and h.cla 0xEF == 0x00) (is_put h) two in (
+      eqb-true (bit_and h.cla 0xEF) 0x00 class,
+      eqb-true h.ins 0xDA ins,
+      eqb-true h.p1 p1 first,
+      eqb-true h.p2 p2 second,
+    )
+
+-- What holds where nothing is pending, and where the response is that was pending, holds after a
+-- refusal.
+pub after_refusal_holds : (P : Pending → Type 0) (h : Header) (status : StatusWord)
+    (pending : Pending) → P NothingPending
+    → ((left : List ℕ) → pending ≡ ResponsePending left → P (ResponsePending left))
+    → P (after_refusal h status pending)
+after_refusal_holds P h status (ResponsePending left) nothing waits =
+    kept (is_get_response h && (status.0 == 0x6C))
+  where
+    kept : (v : Bool) → P (if v then ResponsePending left else NothingPending)
+    kept true = waits left refl
+    kept false = nothing
+after_refusal_holds _ _ _ _ nothing _ = nothing
+
 -- Nothing of a chain is left after a refusal.
 pub refusal_drops_chain : (h : Header) (status : StatusWord) (pending : Pending)
     → is_idle (after_refusal h status pending) ≡ true
-refusal_drops_chain h status NothingPending = refl
-refusal_drops_chain h status (ChainPending p1 p2 bytes) = refl
-refusal_drops_chain h status (ResponsePending left) = kept (is_get_response h && (status.0 == 0x6C))
-  where
-    kept : (v : Bool) → is_idle (if v then ResponsePending left else NothingPending) ≡ true
-    kept true = refl
-    kept false = refl
+refusal_drops_chain h status pending =
+    after_refusal_holds (λ p. is_idle p ≡ true) h status pending refl (λ left e. refl)
 
 -- the first of the reasons that a PUT DATA may be refused for
 abbrev first_of_put : Bool → Bool → Bool → Bool → Bool → Option StatusWord

@@ -1,7 +1,7 @@
 -- What a card announces waits, and is brought where it is fetched; no exchange brings more than a
 -- value and its head.
 use Rattle.std.proofs.Common.{◌≡◌, ℕ, suc, ◌+◌, ◌%◌, ◌≤◌, min, List, [], ◌∷◌, length, take, drop, Some, None, Bool, true, false, refl, sym, ap, subst, ◌∙◌, arith, length-append, length-take, length-drop}
-use Rattle.std.specs.Prelude.{if◌then◌else◌, ◌==◌, ◌&&◌, ◌||◌, nat_lt}
+use Rattle.std.specs.Prelude.{if◌then◌else◌, ◌==◌, ◌||◌, nat_lt}
 use Rattle.std.specs.List.{flat_map}
 use Rattle.std.proofs.lemmas.Bool.{eqb-true, eqb-false, ne_eqb, le-ltb}
 use Rattle.apdu_core.specs.declared.header.Header.{Header}
@@ -9,13 +9,13 @@ use Rattle.apdu_core.specs.StatusWord.{StatusWord, ok, count, announces, correct
 use Rattle.t0_core.specs.Plan.{IsCut}
 use Rattle.t0_core.specs.Meaning.{Tpdu}
 use Rattle.object_card.specs.declared.limits.TheConstants.{VALUE_LIMIT, HEAD_LIMIT}
-use Rattle.object_card.specs.State.{CardState, IsCardState, Pending, NothingPending, ChainPending, ResponsePending, is_idle, waiting, pending_of}
-use Rattle.object_card.specs.OneStep.{Operation, Put, Reply, Answers, selects, finds_no_application, none_selected, finds_no_object, gives, stores, does_not_store, wants_memory, PutStatus, not_allowed, wrong_length, wrong_data, no_space, stored, control_information}
+use Rattle.object_card.specs.State.{CardState, IsCardState, Pending, ResponsePending, is_idle, waiting, pending_of}
+use Rattle.object_card.specs.OneStep.{Operation, Put, Reply, Answers, does_not_store, PutStatus, not_allowed, control_information}
 use Rattle.object_card.specs.Refusals.{is_get, is_get_response, refusal, to_send}
 use Rattle.object_card.specs.CardMeaning.{Does, refuses, selects_application, misses_application, sends, chains, puts_value, after_refusal, announcing}
 use Rattle.object_card.specs.CarryingOut.{get_response, AreFetches, IsFetched}
 use Rattle.object_card.specs.StepLaws.{send_step, send_refused, is_sent}
-use Rattle.object_card.specs.RefusalLaws.{is_refusing}
+use Rattle.object_card.specs.RefusalLaws.{is_refusing, after_refusal_holds}
 use Rattle.object_card.specs.StateLaws.{stays_sound, waiting_length, to_send_length}
 
 -- a count of 1 to 256, told in a byte
@@ -51,34 +51,14 @@ put_tells_no_count : (entries : _) (tag value : List ℕ) (status : StatusWord)
     → PutStatus entries tag value status → TellsNoCount status
 put_tells_no_count entries tag value status (not_allowed locked) =
     record { no_more = refl; no_correction = refl }
-put_tells_no_count entries tag value status (wrong_length free long) =
-    record { no_more = refl; no_correction = refl }
-put_tells_no_count entries tag value status (wrong_data free fits none) =
-    record { no_more = refl; no_correction = refl }
-put_tells_no_count entries tag value status (no_space free fits value_of none full) =
-    record { no_more = refl; no_correction = refl }
-put_tells_no_count entries tag value status (stored free fits value_of room) =
-    record { no_more = refl; no_correction = refl }
+put_tells_no_count _ _ _ _ _ = record { no_more = refl; no_correction = refl }
 
 answer_tells_no_count : (old new : CardState) (operation : Operation) (answer : Reply)
     → Answers old operation answer new → TellsNoCount answer.status
-answer_tells_no_count old new operation answer (selects aid held) =
-    record { no_more = refl; no_correction = refl }
-answer_tells_no_count old new operation answer (finds_no_application aid none) =
-    record { no_more = refl; no_correction = refl }
-answer_tells_no_count old new operation answer (none_selected op kind none) =
-    record { no_more = refl; no_correction = refl }
-answer_tells_no_count old new operation answer (finds_no_object tag entries is none) =
-    record { no_more = refl; no_correction = refl }
-answer_tells_no_count old new operation answer (gives tag value entries is held) =
-    record { no_more = refl; no_correction = refl }
-answer_tells_no_count old new operation answer (stores tag value aid entries selected is status) =
-    record { no_more = refl; no_correction = refl }
 answer_tells_no_count old new operation answer
     (does_not_store tag value entries status is other put) =
     put_tells_no_count entries tag value status put
-answer_tells_no_count old new operation answer (wants_memory tag value entries is put) =
-    record { no_more = refl; no_correction = refl }
+answer_tells_no_count _ _ _ _ _ = record { no_more = refl; no_correction = refl }
 
 no_announcement : (status : StatusWord) (n : ℕ) → (status.0 == 0x61) ≡ false
     → announces status ≡ Some n → ⊥
@@ -120,18 +100,13 @@ what_is_announced_waits old new cut n t (puts_value h bytes tag answer next e in
 -- Data come before a 6CXX in no TPDU.
 pub corrected_brings_none : (old new : CardState) (cut n : ℕ) (t : Tpdu) → Does old cut t new
     → corrects t.status ≡ Some n → t.received ≡ []
-corrected_brings_none old new cut n t (refuses h p3 status e) corrected = refl
-corrected_brings_none old new cut n t (selects_application h aid e ins held) corrected = refl
-corrected_brings_none old new cut n t (misses_application h aid e ins none) corrected = refl
 corrected_brings_none old new cut n t (sends h p3 e ins) corrected =
     absurd (no_correction (drop (count p3) (to_send old h)) corrected)
   where
     no_correction : (left : List ℕ) → corrects (announcing left cut) ≡ Some n → ⊥
     no_correction [] is = absurd (cc)
     no_correction (b ∷ left) is = absurd (cc)
-corrected_brings_none old new cut n t (chains h bytes e ins cla) corrected = refl
-corrected_brings_none old new cut n t (puts_value h bytes tag answer next e ins cla named put)
-    corrected = refl
+corrected_brings_none _ _ _ _ _ _ _ = refl
 
 taken_and_left : (n : ℕ) (whole : List ℕ)
     → length (take n whole) + length (waiting (pending_of (drop n whole))) ≡ length whole
@@ -149,14 +124,9 @@ brings_within old new cut t does is =
     each : (old new : CardState) (cut : ℕ) (t : Tpdu) → Does old cut t new → IsCardState old
         → length (waiting new.pending) ≤ VALUE_LIMIT + HEAD_LIMIT
         → length t.received + length (waiting new.pending) ≤ VALUE_LIMIT + HEAD_LIMIT
-    each old new cut t (refuses h p3 status e) is within = omega (arith, within)
-    each old new cut t (selects_application h aid e ins held) is within = omega (arith, within)
-    each old new cut t (misses_application h aid e ins none) is within = omega (arith, within)
     each old new cut t (sends h p3 e ins) is within =
         omega (arith, taken_and_left (count p3) (to_send old h), to_send_length old h is)
-    each old new cut t (chains h bytes e ins cla) is within = omega (arith, within)
-    each old new cut t (puts_value h bytes tag answer next e ins cla named put) is within =
-        omega (arith, within)
+    each old new cut t _ is within = omega (arith, within)
 
 -- a GET RESPONSE for no more than what waits is not refused
 fetch_is_taken : (state : CardState) (p3 : ℕ) → 1 ≤ length (waiting state.pending)
@@ -164,15 +134,13 @@ fetch_is_taken : (state : CardState) (p3 : ℕ) → 1 ≤ length (waiting state.
 fetch_is_taken state p3 some few = split state.pending refl
   where
     split : (v : Pending) → state.pending ≡ v → refusal state get_response p3 ≡ None
-    split NothingPending e = absurd (omega (arith, some, ap (λ p. length (waiting p)) e))
-    split (ChainPending p1 p2 bytes) e =
-        absurd (omega (arith, some, ap (λ p. length (waiting p)) e))
     split (ResponsePending left) e =
         let is_there : (length (waiting state.pending) == 0) ≡ false =
         ne_eqb (length (waiting state.pending)) 0 (λ none. omega (arith, none, some)) in
         let fits : nat_lt (length (waiting state.pending)) (count p3) ≡ false =
         le-ltb (length (waiting state.pending)) (count p3) few in
         rw (is_there, fits, e) refl
+    split _ e = absurd (omega (arith, some, ap (λ p. length (waiting p)) e))
 
 pub count_is_some : (b : ℕ) → 1 ≤ count b
 count_is_some b = split (b == 0) refl
@@ -228,15 +196,9 @@ announced_is_brought old mid new cut next n t fetch does is announced fetches he
 
 refusal_keeps_within : (h : Header) (status : StatusWord) (pending : Pending)
     → length (waiting (after_refusal h status pending)) ≤ length (waiting pending)
-refusal_keeps_within h status NothingPending = omega arith
-refusal_keeps_within h status (ChainPending p1 p2 bytes) = omega arith
-refusal_keeps_within h status (ResponsePending left) =
-    kept (is_get_response h && (status.0 == 0x6C))
-  where
-    kept : (v : Bool) → length (waiting (if v then ResponsePending left else NothingPending))
-        ≤ length left
-    kept true = omega arith
-    kept false = omega arith
+refusal_keeps_within h status pending =
+    after_refusal_holds (λ p. length (waiting p) ≤ length (waiting pending)) h status pending
+    (omega arith) (λ left e. subst (λ p. length left ≤ length (waiting p)) (sym e) (omega arith))
 
 -- What a GET RESPONSE brings and what then waits are at most what waited.
 pub fetch_brings_what_waits : (old new : CardState) (cut : ℕ) (t : Tpdu) → Does old cut t new

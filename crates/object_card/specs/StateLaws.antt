@@ -1,6 +1,6 @@
 -- A card's state stays one, whatever the terminal sends.
 use Rattle.std.proofs.Common.{◌≡◌, ◌<◌, ℕ, ◌+◌, ◌/◌, ◌%◌, ◌≤◌, List, [], ◌∷◌, ◌++◌, length, drop, Option, Some, None, Bool, true, false, ◌⊎◌, inl, inr, refl, sym, ap, arith, subst, ◌∙◌, length-append, length-drop}
-use Rattle.std.specs.Prelude.{is_some, is_none, IsSome, if◌then◌else◌, IfSome, ◌&&◌, ◌||◌, ◌==◌, nat_lt, option_and_then, unwrap_or}
+use Rattle.std.specs.Prelude.{is_some, is_none, IsSome, if◌then◌else◌, IfSome, ◌&&◌, ◌||◌, nat_lt, option_and_then, unwrap_or}
 use Rattle.std.specs.Option.{option_map}
 use Rattle.std.specs.List.{AllByRecursion}
 use Rattle.std.proofs.lemmas.Bool.{ltb-false}
@@ -11,30 +11,22 @@ use Rattle.tlv_core.specs.Address.{IsAddressable, NamesTag}
 use Rattle.tlv_core.specs.Length.{shortest}
 use Rattle.tlv_core.specs.Spelling.{object_bytes}
 use Rattle.object_card.specs.declared.limits.TheConstants.{VALUE_LIMIT, ENTRY_LIMIT, HEAD_LIMIT}
-use Rattle.object_card.specs.Tables.{Entry, IsEntry, AreApplications, IsValueOf, value_under, entries_in, with_object}
-use Rattle.object_card.specs.State.{CardState, IsCardState, Pending, NothingPending, ChainPending, ResponsePending, IsPending, chained, waiting, pending_of, selected_entries}
-use Rattle.object_card.specs.OneStep.{Put, Reply, Answers, PutStatus, not_allowed, wrong_length, wrong_data, no_space, stored, control_information}
+use Rattle.object_card.specs.Tables.{Entry, IsEntry, AreApplications, IsValueOf, value_under, entries_in, with_object, is_locked}
+use Rattle.object_card.specs.State.{CardState, IsCardState, Pending, NothingPending, ChainPending, ResponsePending, IsPending, chained, waiting, pending_of, selected_entries, with_pending}
+use Rattle.object_card.specs.OneStep.{Put, Reply, Answers, PutStatus, stored, control_information}
 use Rattle.object_card.specs.Refusals.{Reason, OtherThanItsChain, UnknownClass, UnknownInstruction, NotChained, WrongParameters, NoApplicationSelected, NoResponsePending, LockedEntry, NoSuchObject, ValueTooLong, NoIdentifier, MoreThanIsLeft, in_order, holds, first_of_them, status_for, refusal, is_get, is_put, to_send, object_asked, named_tag, is_get_response}
 use Rattle.object_card.specs.CardMeaning.{Does, refuses, selects_application, misses_application, sends, chains, puts_value, after_refusal}
 use Rattle.object_card.specs.TableLaws.{applications_stay_sound, found_is_sound, value_is_sound, held_stays}
 use Rattle.object_card.specs.CardLaws.{put_leaves}
 use Rattle.object_card.specs.TableLaws.{applications_stay_sound, found_is_sound, value_is_sound, held_stays}
 use Rattle.object_card.specs.CardLaws.{put_leaves}
+use Rattle.object_card.specs.RefusalLaws.{after_refusal_holds}
 
 -- why a value was stored
-stored_why : (entries : List Entry) (tag value : List ℕ) (status : StatusWord)
-    → PutStatus entries tag value status → status ≡ ok
-    → (length value ≤ VALUE_LIMIT) × IsValueOf tag value
+pub stored_why : (entries : List Entry) (tag value : List ℕ) → PutStatus entries tag value ok
+    → (is_locked tag entries ≡ false) × (length value ≤ VALUE_LIMIT) × IsValueOf tag value
     × ((is_some (value_under tag entries) ≡ true) ⊎ (length entries < ENTRY_LIMIT))
-stored_why entries tag value status (not_allowed locked) is = let e : 0x69 ≡ 0x90 =
-    ap (λ s. s.0) is in absurd (omega (arith, e))
-stored_why entries tag value status (wrong_length free long) is = let e : 0x67 ≡ 0x90 =
-    ap (λ s. s.0) is in absurd (omega (arith, e))
-stored_why entries tag value status (wrong_data free fits none) is = let e : 0x6A ≡ 0x90 =
-    ap (λ s. s.0) is in absurd (omega (arith, e))
-stored_why entries tag value status (no_space free fits value_of none full) is =
-    let e : 0x6A ≡ 0x90 = ap (λ s. s.0) is in absurd (omega (arith, e))
-stored_why entries tag value status (stored free fits value_of room) is = (fits, value_of, room)
+stored_why entries tag value (stored free fits value_of room) = (free, fits, value_of, room)
 
 -- none of these holds where no status is given
 pub none_of_them : (state : CardState) (h : Header) (p3 : ℕ) (rs : List Reason)
@@ -113,14 +105,9 @@ put_is_selected state h p3 none put = selected_where state (
 pending_after : (selected : Option (List ℕ)) (h : Header) (status : StatusWord) (pending : Pending)
     → IsPending selected pending
     → IsPending selected (after_refusal h status pending)
-pending_after selected h status NothingPending is = tt
-pending_after selected h status (ChainPending p1 p2 bytes) is = tt
-pending_after selected h status (ResponsePending left) is =
-    kept (is_get_response h && (status.0 == 0x6C))
-  where
-    kept : (v : Bool) → IsPending selected (if v then ResponsePending left else NothingPending)
-    kept true = is
-    kept false = tt
+pending_after selected h status pending is =
+    after_refusal_holds (IsPending selected) h status pending tt
+    (λ left e. subst (IsPending selected) e is)
 
 pending_rest : (selected : Option (List ℕ)) (left : List ℕ) → length left ≤ VALUE_LIMIT + HEAD_LIMIT
     → IsPending selected (pending_of left)
@@ -252,11 +239,11 @@ pub put_stays_sound : (old new : CardState) (tag value : List ℕ) (reply : Repl
     → Answers old (Put tag value) reply new → IsAddressable tag
     → IsCardState old → AreApplications new.applications × IsSelectionHeld new
 put_stays_sound old new tag value reply h addressable is =
-    elim (put_leaves old new (Put tag value) reply h) [
-      | inl e ↦ subst (λ s. AreApplications s.applications × IsSelectionHeld s) (sym e)
+    elim (put_leaves old new tag value reply h) [
+      | inl (other, e) ↦ subst (λ s. AreApplications s.applications × IsSelectionHeld s) (sym e)
           (is.are_applications, is.selected_is_held)
-      | inr (aid, entries, selected, found, status, e) ↦
-          let (fits, value_of, room) = stored_why entries tag value ok status refl in
+      | inr (aid, entries, fine, selected, found, status, e) ↦
+          let (free, fits, value_of, room) = stored_why entries tag value status in
           let entry : IsEntry (record { tag = tag; value = value; locked = false }) =
           record { addressable = addressable; within = fits; value_of_kind = value_of } in
           subst (λ s. AreApplications s.applications × IsSelectionHeld s) (sym e) (
@@ -269,45 +256,37 @@ put_stays_sound old new tag value reply h addressable is =
           )
     ]
 
+sound_with : (state : CardState) (pending : Pending) → IsCardState state
+    → IsPending state.selected pending → IsCardState (with_pending state pending)
+sound_with state pending is fits = record {
+  are_applications = is.are_applications;
+  selected_is_held = is.selected_is_held;
+  is_pending = fits;
+}
+
 -- A card's state stays one.
 pub stays_sound : (old new : CardState) (cut : ℕ) (tpdu : Tpdu) → Does old cut tpdu new
     → IsCardState old → IsCardState new
 stays_sound old new cut tpdu (refuses h p3 status e) is =
-    record {
-      are_applications = is.are_applications;
-      selected_is_held = is.selected_is_held;
-      is_pending = pending_after old.selected h status old.pending is.is_pending;
-    }
+    sound_with old _ is (pending_after old.selected h status old.pending is.is_pending)
 stays_sound old new cut tpdu (selects_application h aid e ins held) is =
     record {
       are_applications = is.are_applications;
       selected_is_held = held;
       is_pending = control_information_is_pending old aid is held;
     }
-stays_sound old new cut tpdu (misses_application h aid e ins none) is =
-    record {
-      are_applications = is.are_applications;
-      selected_is_held = is.selected_is_held;
-      is_pending = tt;
-    }
-stays_sound old new cut tpdu (sends h p3 e ins) is = record {
-  are_applications = is.are_applications;
-  selected_is_held = is.selected_is_held;
-  is_pending = pending_rest old.selected (drop (count p3) (to_send old h))
-      (omega (arith, length-drop (count p3) (to_send old h), to_send_length old h is));
-}
-stays_sound old new cut tpdu (chains h bytes e ins cla) is = record {
-  are_applications = is.are_applications;
-  selected_is_held = is.selected_is_held;
-  is_pending = (
-    put_is_selected old h (length bytes) e ins,
-    omega (
-      arith,
-      length-append (chained old.pending) bytes,
-      keeps_to_limit old h (length bytes) e ins,
-    ),
-  );
-}
+stays_sound old new cut tpdu (misses_application h aid e ins none) is = sound_with old _ is tt
+stays_sound old new cut tpdu (sends h p3 e ins) is =
+    sound_with old _ is (pending_rest old.selected (drop (count p3) (to_send old h))
+    (omega (arith, length-drop (count p3) (to_send old h), to_send_length old h is)))
+stays_sound old new cut tpdu (chains h bytes e ins cla) is = sound_with old _ is (
+  put_is_selected old h (length bytes) e ins,
+  omega (
+    arith,
+    length-append (chained old.pending) bytes,
+    keeps_to_limit old h (length bytes) e ins,
+  ),
+)
 stays_sound old new cut tpdu (puts_value h bytes tag answer next e ins cla named put) is =
     let sound = put_stays_sound old next tag (chained old.pending ++ bytes) answer put
     (h.p1, h.p2, named) is in

@@ -1,8 +1,7 @@
 -- What each command does to a card, read off the command.
-use Rattle.std.proofs.Common.{◌≡◌, ℕ, List, [], ◌++◌, length, take, drop, Some, None, true, false, refl, sym, ap, subst, ◌∙◌}
-use Rattle.std.specs.Prelude.{◌==◌, ◌||◌, is_some}
+use Rattle.std.proofs.Common.{◌≡◌, ℕ, List, [], ◌++◌, length, take, drop, Some, None, true, false, refl, sym, ap, ◌∙◌}
+use Rattle.std.specs.Prelude.{◌==◌, ◌||◌, is_some, Bool}
 use Rattle.std.proofs.lemmas.Bool.{true≢false, eqb-true}
-use Rattle.apdu_core.specs.declared.header.Header.{Header}
 use Rattle.apdu_core.specs.StatusWord.{StatusWord, ok, count}
 use Rattle.t0_core.specs.Meaning.{Tpdu}
 use Rattle.tlv_core.specs.Address.{NamesTag}
@@ -53,10 +52,12 @@ pub data SelectStep (old : CardState) (cut : ℕ) (t : Tpdu) (new : CardState) :
       → entries_in t.sent old.applications ≡ None → t.received ≡ []
       → t.status ≡ (0x6A, 0x82) → new ≡ with_pending old NothingPending → SelectStep old cut t new
 
-not_select : (h : Header) (ins : ℕ) → (ins == 0xA4) ≡ false → (h.ins == ins) ≡ true
-    → is_select h ≡ true → ⊥
-not_select h ins differs is select =
-    true≢false (sym select ∙ ap (λ n. n == 0xA4) (eqb-true h.ins ins is) ∙ differs)
+-- an instruction of which a test does not hold is another
+pub other_ins : (P : ℕ → Bool) (n ins : ℕ) → P ins ≡ false → (n == ins) ≡ true → P n ≡ true → ⊥
+other_ins P n ins differs is holds = true≢false (sym holds ∙ ap P (eqb-true n ins is) ∙ differs)
+
+abbrev pub is_sending : ℕ → Bool
+is_sending n = (n == 0xCA) || (n == 0xC0)
 
 pub select_step : (old new : CardState) (cut : ℕ) (t : Tpdu) → Does old cut t new
     → is_select t.header ≡ true → SelectStep old cut t new
@@ -66,46 +67,38 @@ select_step old new cut t (selects_application h aid e ins held) select =
 select_step old new cut t (misses_application h aid e ins none) select =
     is_missed e refl none refl refl refl
 select_step old new cut t (sends h p3 e ins) select =
-    let no : false ≡ true =
-    subst (λ i. ((i == 0xCA) || (i == 0xC0)) ≡ true) (eqb-true h.ins 0xA4 select) ins in
-    absurd (true≢false (sym no))
+    absurd (other_ins is_sending h.ins 0xA4 refl select ins)
 select_step old new cut t (chains h bytes e ins cla) select =
-    absurd (not_select h 0xDA refl ins select)
+    absurd (other_ins (λ n. n == 0xA4) h.ins 0xDA refl ins select)
 select_step old new cut t (puts_value h bytes tag answer next e ins cla named_by put) select =
-    absurd (not_select h 0xDA refl ins select)
+    absurd (other_ins (λ n. n == 0xA4) h.ins 0xDA refl ins select)
 
 -- that of a PUT DATA
 pub data PutStep (old : CardState) (t : Tpdu) (new : CardState) : Type 0 where
   put_refused : refusal old t.header t.p3 ≡ Some t.status
       → new ≡ with_pending old (after_refusal t.header t.status old.pending) → PutStep old t new
   is_chained : refusal old t.header t.p3 ≡ None → t.header.cla ≡ 0x10 → t.p3 ≡ length t.sent
-      → t.status ≡ ok
+      → t.received ≡ [] → t.status ≡ ok
       → new ≡ with_pending old
       (ChainPending t.header.p1 t.header.p2 (chained old.pending ++ t.sent)) → PutStep old t new
   is_ended : refusal old t.header t.p3 ≡ None → t.header.cla ≡ 0x00 → t.p3 ≡ length t.sent
-      → (tag : List ℕ) (answer : Reply) (next : CardState) → NamesTag tag t.header.p1 t.header.p2
+      → t.received ≡ [] → (tag : List ℕ) (answer : Reply) (next : CardState)
+      → NamesTag tag t.header.p1 t.header.p2
       → t.status ≡ answer.status → Answers old (Put tag (chained old.pending ++ t.sent)) answer next
       → new ≡ with_pending next NothingPending → PutStep old t new
-
-other_ins : (h : Header) (ins : ℕ) → (ins == 0xDA) ≡ false → (h.ins == ins) ≡ true → is_put h ≡ true
-    → ⊥
-other_ins h ins differs is put =
-    true≢false (sym put ∙ ap (λ n. n == 0xDA) (eqb-true h.ins ins is) ∙ differs)
 
 pub put_step : (old new : CardState) (cut : ℕ) (t : Tpdu) → Does old cut t new
     → is_put t.header ≡ true → PutStep old t new
 put_step old new cut t (refuses h p3 status e) put = put_refused e refl
 put_step old new cut t (selects_application h aid e ins held) put =
-    absurd (other_ins h 0xA4 refl ins put)
+    absurd (other_ins (λ n. n == 0xDA) h.ins 0xA4 refl ins put)
 put_step old new cut t (misses_application h aid e ins none) put =
-    absurd (other_ins h 0xA4 refl ins put)
+    absurd (other_ins (λ n. n == 0xDA) h.ins 0xA4 refl ins put)
 put_step old new cut t (sends h p3 e ins) put =
-    let no : false ≡ true =
-    subst (λ i. ((i == 0xCA) || (i == 0xC0)) ≡ true) (eqb-true h.ins 0xDA put) ins in
-    absurd (true≢false (sym no))
-put_step old new cut t (chains h bytes e ins cla) put = is_chained e cla refl refl refl
+    absurd (other_ins is_sending h.ins 0xDA refl put ins)
+put_step old new cut t (chains h bytes e ins cla) put = is_chained e cla refl refl refl refl
 put_step old new cut t (puts_value h bytes tag answer next e ins cla named_by is) put =
-    is_ended e cla refl tag answer next named_by refl is refl
+    is_ended e cla refl refl tag answer next named_by refl is refl
 
 -- that of a GET DATA or a GET RESPONSE
 pub data SendStep (old : CardState) (cut : ℕ) (t : Tpdu) (new : CardState) : Type 0 where
@@ -117,21 +110,15 @@ pub data SendStep (old : CardState) (cut : ℕ) (t : Tpdu) (new : CardState) : T
       → new ≡ with_pending old (pending_of (drop (count t.p3) (to_send old t.header)))
       → SendStep old cut t new
 
-not_sending : (h : Header) (ins : ℕ) → ((ins == 0xCA) || (ins == 0xC0)) ≡ false
-    → (h.ins == ins) ≡ true → is_get h || is_get_response h ≡ true → ⊥
-not_sending h ins differs is sending =
-    true≢false (sym sending ∙ ap (λ n. (n == 0xCA) || (n == 0xC0)) (eqb-true h.ins ins is)
-    ∙ differs)
-
 pub send_step : (old new : CardState) (cut : ℕ) (t : Tpdu) → Does old cut t new → is_get t.header
     || is_get_response t.header ≡ true → SendStep old cut t new
 send_step old new cut t (refuses h p3 status e) sending = send_refused e refl refl
 send_step old new cut t (selects_application h aid e ins held) sending =
-    absurd (not_sending h 0xA4 refl ins sending)
+    absurd (other_ins is_sending h.ins 0xA4 refl ins sending)
 send_step old new cut t (misses_application h aid e ins none) sending =
-    absurd (not_sending h 0xA4 refl ins sending)
+    absurd (other_ins is_sending h.ins 0xA4 refl ins sending)
 send_step old new cut t (sends h p3 e ins) sending = is_sent e refl refl refl
 send_step old new cut t (chains h bytes e ins cla) sending =
-    absurd (not_sending h 0xDA refl ins sending)
+    absurd (other_ins is_sending h.ins 0xDA refl ins sending)
 send_step old new cut t (puts_value h bytes tag answer next e ins cla named put) sending =
-    absurd (not_sending h 0xDA refl ins sending)
+    absurd (other_ins is_sending h.ins 0xDA refl ins sending)

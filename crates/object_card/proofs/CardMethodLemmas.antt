@@ -1,80 +1,68 @@
 -- A card that takes or sends, or on which a header is judged: what its fields are seen as.
-use Rattle.std.proofs.Common.{◌≡◌, ℕ, List, Option, None, refl}
+use Rattle.std.proofs.Common.{◌≡◌, ℕ, List, Option, None, refl, sym, subst}
 use Rattle.apdu_core.specs.Chaining.{ChainState}
 use Rattle.t0_core.specs.Meaning.{Ask, IsReceiving, IsSending}
 use Rattle.object_card.specs.declared.response.Response.{Response}
 use Rattle.object_card.specs.declared.ready.Ready.{Ready}
 use Rattle.object_card.specs.declared.ready.Ready.TheVariants as ready
 use Rattle.object_card.specs.CardFields.{ApplicationView, state_of}
-use Rattle.object_card.specs.CardView.{NewValue, IsCard, IsReady, IsStanding, prepared_of, view_of}
+use Rattle.object_card.specs.CardView.{CardView, NewValue, IsCard, IsReady, IsStanding, prepared_of, view_of}
 use Rattle.object_card.specs.PendingChain.{CanBeGivenUp}
 
--- what stands where data are taken
-pub takes_standing : (held : List ApplicationView) (selected : Option ℕ) (chain : ChainState)
-    (response : Option Response) (now : Ready) (put : Option NewValue) (P : Ask → Type 0)
-    → IsCard held selected chain response now put
-    → IsReceiving (prepared_of held selected chain response now put) P
-    → IsStanding held selected chain response
-takes_standing held selected chain response (ready.Receives h p3 cut) put P is takes = is.standing
-takes_standing _ _ _ _ _ _ _ _ takes = absurd takes
+-- what holds of the fields of a card that takes data, or sends bytes, and is seen so
+pub record IsAtWork (held : List ApplicationView) (selected : Option ℕ) (chain : ChainState)
+    (response : Option Response) (now : Ready) (put : Option NewValue) (seen : CardView) : Type 0
+  where
+    pub standing : IsStanding held selected chain response
+    pub fits : IsReady held selected chain response now None
+    pub none_put : put ≡ None
+    pub same_state : state_of held selected chain response ≡ seen.state
+    pub same_prepared : prepared_of held selected chain response now None ≡ seen.prepared
 
-pub takes_fits : (held : List ApplicationView) (selected : Option ℕ) (chain : ChainState)
-    (response : Option Response) (now : Ready) (put : Option NewValue) (P : Ask → Type 0)
-    → IsCard held selected chain response now put
-    → IsReceiving (prepared_of held selected chain response now put) P
-    → IsReady held selected chain response now None
-takes_fits held selected chain response (ready.Receives h p3 cut) put P is takes =
-    (is.fits.0, is.fits.1, refl)
-takes_fits _ _ _ _ _ _ _ _ takes = absurd takes
+module _ (held : List ApplicationView) (selected : Option ℕ) (chain : ChainState)
+    (response : Option Response) (put : Option NewValue) where
+  abbrev AtWork : Ready → CardView → Type 0
+  AtWork now seen = IsAtWork held selected chain response now put seen
 
--- no value is put where data are taken
-pub takes_alone : (held : List ApplicationView) (selected : Option ℕ) (chain : ChainState)
-    (response : Option Response) (now : Ready) (put other : Option NewValue) (P : Ask → Type 0)
-    → IsReceiving (prepared_of held selected chain response now put) P
-    → IsReceiving (prepared_of held selected chain response now other) P
-takes_alone held selected chain response (ready.Receives h p3 cut) put other P takes = takes
-takes_alone _ _ _ _ _ _ _ _ takes = absurd takes
+  pub takes : (now : Ready) (seen : CardView) (P : Ask → Type 0)
+      → IsCard held selected chain response now put
+      → view_of held selected chain response now put ≡ seen → IsReceiving seen.prepared P
+      → AtWork now seen
+  takes now seen P is view receives =
+      subst (AtWork now) view
+      (each now is (subst (λ v. IsReceiving v.prepared P) (sym view) receives))
+    where
+      each : (now : Ready) → IsCard held selected chain response now put
+          → IsReceiving (prepared_of held selected chain response now put) P
+          → AtWork now (view_of held selected chain response now put)
+      each (ready.Receives h p3 cut) is receives = record {
+        standing = is.standing;
+        fits = (is.fits.0, is.fits.1, refl);
+        none_put = is.fits.2;
+        same_state = refl;
+        same_prepared = refl;
+      }
+      each _ _ receives = absurd receives
 
--- the state that stands where data are taken is that of the fields
-pub takes_state : (held : List ApplicationView) (selected : Option ℕ) (chain : ChainState)
-    (response : Option Response) (now : Ready) (put : Option NewValue) (P : Ask → Type 0)
-    → IsReceiving (prepared_of held selected chain response now put) P
-    → state_of held selected chain response ≡ (view_of held selected chain response now put).state
-takes_state held selected chain response (ready.Receives h p3 cut) put P takes = refl
-takes_state _ _ _ _ _ _ _ takes = absurd takes
-
--- what stands where bytes are sent
-pub sends_standing : (held : List ApplicationView) (selected : Option ℕ) (chain : ChainState)
-    (response : Option Response) (now : Ready) (put : Option NewValue) (P : Ask → List ℕ → Type 0)
-    → IsCard held selected chain response now put
-    → IsSending (prepared_of held selected chain response now put) P
-    → IsStanding held selected chain response
-sends_standing held selected chain response (ready.Sends h p3 cut sent) put P is sends = is.standing
-sends_standing _ _ _ _ _ _ _ _ sends = absurd sends
-
--- no value is put where bytes are sent
-pub sends_put : (held : List ApplicationView) (selected : Option ℕ) (chain : ChainState)
-    (response : Option Response) (now : Ready) (put : Option NewValue) (P : Ask → List ℕ → Type 0)
-    → IsCard held selected chain response now put
-    → IsSending (prepared_of held selected chain response now put) P → put ≡ None
-sends_put held selected chain response (ready.Sends h p3 cut sent) put P is sends = is.fits.4
-sends_put _ _ _ _ _ _ _ _ sends = absurd sends
-
-pub sends_alone : (held : List ApplicationView) (selected : Option ℕ) (chain : ChainState)
-    (response : Option Response) (now : Ready) (put other : Option NewValue)
-    (P : Ask → List ℕ → Type 0)
-    → IsSending (prepared_of held selected chain response now put) P
-    → IsSending (prepared_of held selected chain response now other) P
-sends_alone held selected chain response (ready.Sends h p3 cut sent) put other P sends = sends
-sends_alone _ _ _ _ _ _ _ _ sends = absurd sends
-
--- the state that stands where bytes are sent is that of the fields
-pub sends_state : (held : List ApplicationView) (selected : Option ℕ) (chain : ChainState)
-    (response : Option Response) (now : Ready) (put : Option NewValue) (P : Ask → List ℕ → Type 0)
-    → IsSending (prepared_of held selected chain response now put) P
-    → state_of held selected chain response ≡ (view_of held selected chain response now put).state
-sends_state held selected chain response (ready.Sends h p3 cut sent) put P sends = refl
-sends_state _ _ _ _ _ _ _ sends = absurd sends
+  pub sends : (now : Ready) (seen : CardView) (P : Ask → List ℕ → Type 0)
+      → IsCard held selected chain response now put
+      → view_of held selected chain response now put ≡ seen → IsSending seen.prepared P
+      → AtWork now seen
+  sends now seen P is view sending =
+      subst (AtWork now) view
+      (each now is (subst (λ v. IsSending v.prepared P) (sym view) sending))
+    where
+      each : (now : Ready) → IsCard held selected chain response now put
+          → IsSending (prepared_of held selected chain response now put) P
+          → AtWork now (view_of held selected chain response now put)
+      each (ready.Sends h p3 cut sent) is sending = record {
+        standing = is.standing;
+        fits = (is.fits.0, is.fits.1, is.fits.2, is.fits.3, refl);
+        none_put = is.fits.4;
+        same_state = refl;
+        same_prepared = refl;
+      }
+      each _ _ sending = absurd sending
 
 -- what is made ready can be given up
 pub gives_up : (held : List ApplicationView) (selected : Option ℕ) (chain : ChainState)

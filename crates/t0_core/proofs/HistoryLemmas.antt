@@ -19,7 +19,7 @@ use Rattle.t0_core.specs.CardHistory.{IsAt, Leads, AreDone, LeadsUnder, IsTakenL
 use Rattle.t0_core.proofs.PlannedFront.{at_front, at_fresh, planned_under}
 use Rattle.std.proofs.lemmas.List.{map-append}
 use Rattle.t0_core.specs.DialogueLaws.{flat_map_last, follow_each, all_more, runs_each, one_more_each, ends_with}
-use Rattle.t0_core.specs.FrontLaws.{goes_on}
+use Rattle.t0_core.specs.FrontLaws.{goes_on, begins_between}
 use Rattle.t0_core.proofs.PlanLemmas.{nulls_move_nothing}
 use Rattle.t0_core.specs.CardLaws.{due_data, next_front, taken_stays, begun}
 use Rattle.t0_core.proofs.CardLemmas.{direction_in, suits_itself}
@@ -81,39 +81,18 @@ terminal_is_due Does s p (Taking_header bytes) cut byte (In_header f) new stands
 terminal_is_due Does s p (Taking_header bytes) cut byte (In_body b) new stands (inl moves) =
     let Moves : Body → Type 0 = λ x. length x.moved < to_move x in
     absurd (omega (arith, subst Moves stands.1 moves.0))
-terminal_is_due Does s p (Taking_header bytes) cut byte (In_body b) new stands (inr (inl begins)) =
-    let e : Terminal ≡ Card = begins.1 in absurd (cc)
-terminal_is_due Does s p (Taking_header bytes) cut byte (In_body b) new stands (inr (inr ends)) =
-    let e : Terminal ≡ Card = ends.1 in absurd (cc)
-terminal_is_due Does s p (Taking_header bytes) cut byte (After_first b sw1) new stands goes =
-    absurd stands
 terminal_is_due Does s p (Refusing h p3 status done) cut byte (In_body b) new stands (inl moves) =
     let nothing : to_move b ≡ 0 =
     nulls_move_nothing b.segments (foreseen b.direction b.p3) stands.nulls in
     absurd (omega (arith, moves.0, nothing))
-terminal_is_due Does s p (Refusing h p3 status done) cut byte (In_body b) new stands
-    (inr (inl begins)) = let e : Terminal ≡ Card = begins.1 in absurd (cc)
-terminal_is_due Does s p (Refusing h p3 status done) cut byte (In_body b) new stands
-    (inr (inr ends)) = let e : Terminal ≡ Card = ends.1 in absurd (cc)
-terminal_is_due Does s p (Refusing h p3 status done) cut byte (In_header f) new stands goes =
-    absurd stands
-terminal_is_due Does s p (Refusing h p3 status done) cut byte (After_first b sw1) new stands goes =
-    absurd stands
 terminal_is_due Does s p (Serving service came) cut byte (In_body b) new stands (inl moves) =
     data_are_due service.direction service.moved service.until
     (ap comes_from_terminal (sym stands.direction_is) ∙ terminal_sends b.direction moves.1)
     (omega (arith, moves.0, stands.moved_is, stands.until_is))
-terminal_is_due Does s p (Serving service came) cut byte (In_body b) new stands (inr (inl begins)) =
-    let e : Terminal ≡ Card = begins.1 in absurd (cc)
-terminal_is_due Does s p (Serving service came) cut byte (In_body b) new stands (inr (inr ends)) =
-    let e : Terminal ≡ Card = ends.1 in absurd (cc)
-terminal_is_due Does s p (Serving service came) cut byte (In_header f) new stands goes =
-    absurd stands
-terminal_is_due Does s p (Serving service came) cut byte (After_first b sw1) new stands goes =
-    absurd stands
-terminal_is_due Does s p (Ending status) cut byte (In_header f) new stands goes = absurd stands
-terminal_is_due Does s p (Ending status) cut byte (In_body b) new stands goes = absurd stands
+terminal_is_due Does s p stage cut byte (In_body b) new stands (inr begins) =
+    let e : Terminal ≡ Card = (begins_between b (Terminal, byte) new begins).1 in absurd (cc)
 terminal_is_due Does s p (Ending status) cut byte (After_first b sw1) new stands goes = absurd goes
+terminal_is_due _ _ _ _ _ _ _ _ stands _ = absurd stands
 
 one_came : {State : Type 0} (prepared : Prepared State) (d : Direction) (s : Service)
     (came : List ℕ) (cut : ℕ) (moved : List ℕ) (byte : ℕ) → d ≡ ToCard
@@ -171,8 +150,6 @@ takes_on Does s p (Taking_header bytes) cut byte (In_header f) new due stands go
     (header_grows Does s p bytes f cut byte new stands.0 goes, λ plan on. tt)
 takes_on Does s p (Taking_header bytes) cut byte (In_body b) new due stands goes =
     absurd (omega (arith, ltb-true (length bytes) 5 due, ap length stands.0))
-takes_on Does s p (Taking_header bytes) cut byte (After_first b sw1) new due stands goes =
-    absurd stands
 takes_on Does s p (Refusing h p3 status done) cut byte front new due stands goes = absurd (cc)
 takes_on Does s p (Serving service came) cut byte (In_body b) new due stands (inl moves) =
     let data_due = due_data service.direction service.moved service.until due in
@@ -183,14 +160,10 @@ takes_on Does s p (Serving service came) cut byte (In_body b) new due stands (in
       data_taken p service came cut byte b data_due.0 data_due.1 stands,
       λ plan on. on,
     )
-takes_on Does s p (Serving service came) cut byte (In_body b) new due stands (inr (inl begins)) =
-    let e : Terminal ≡ Card = begins.1 in absurd (cc)
-takes_on Does s p (Serving service came) cut byte (In_body b) new due stands (inr (inr ends)) =
-    let e : Terminal ≡ Card = ends.1 in absurd (cc)
-takes_on Does s p (Serving service came) cut byte (In_header f) new due stands goes = absurd stands
-takes_on Does s p (Serving service came) cut byte (After_first b sw1) new due stands goes =
-    absurd stands
+takes_on Does s p (Serving service came) cut byte (In_body b) new due stands (inr begins) =
+    let e : Terminal ≡ Card = (begins_between b (Terminal, byte) new begins).1 in absurd (cc)
 takes_on Does s p (Ending status) cut byte front new due stands goes = absurd (cc)
+takes_on _ _ _ _ _ _ _ _ _ stands _ = absurd stands
 
 -- one character further
 came_with : (came : List Character) (whole : List Dialogue) (front new : Front) (c : Character)
@@ -472,12 +445,7 @@ chosen Does after_reset first s p (Taking_header bytes) next events cut ranges s
           },
           λ takes. (refl, suits_itself next b.header b.p3 b.direction),
         )
-chosen Does after_reset first s p (Refusing h p3 status done) next events cut ranges silent led =
-    (led, λ takes. absurd (cc))
-chosen Does after_reset first s p (Serving service before) next events cut ranges silent led =
-    (led, λ takes. absurd (cc))
-chosen Does after_reset first s p (Ending status) next events cut ranges silent led =
-    (led, λ takes. absurd (cc))
+chosen _ after_reset first s p _ next events cut ranges silent led = (led, λ takes. absurd (cc))
 
 -- what a hand-out does
 abbrev pub HandsOut : {State : Type 0} (Does : State → ℕ → Tpdu → State → Type 0) (kept : Course)

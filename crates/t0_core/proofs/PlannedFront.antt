@@ -182,25 +182,15 @@ planned_under Does standing prepared (Taking_header bytes) cut plan (In_body b) 
     let P : Body → Type 0 = λ x. IsPartUnder plan (body_characters x) in
     subst P (sym at.1) (fresh_body (body_characters (header_only b.header b.p3 b.direction)) plan
     b.header b.p3 b.direction [] in_range (sym (append-nil _)))
-planned_under Does standing prepared (Taking_header bytes) cut plan (After_first b sw1) in_range is
-    at on = absurd at
 planned_under Does standing prepared (Refusing h p3 status done) cut plan (In_body b) in_range is at
     on =
     let none : to_move b ≡ 0 = nulls_move_nothing b.segments (foreseen b.direction b.p3) at.nulls in
     no_data (body_characters b) plan b (segments_of (drop done plan.steps) 0) [] in_range is
     (ap length at.no_data ∙ sym none) on (nulls_where_none_left (drop done plan.steps))
     (sym (append-nil (body_characters b)))
-planned_under Does standing prepared (Refusing h p3 status done) cut plan (In_header f) in_range is
-    at on = absurd at
-planned_under Does standing prepared (Refusing h p3 status done) cut plan (After_first b sw1)
-    in_range is at on = absurd at
 planned_under Does standing prepared (Serving s came) cut plan (In_body b) in_range is at on =
     in_service prepared plan s came cut b
     (segments_of (drop s.done plan.steps) (whole_of s - s.until)) in_range is at on
-planned_under Does standing prepared (Serving s came) cut plan (In_header f) in_range is at on =
-    absurd at
-planned_under Does standing prepared (Serving s came) cut plan (After_first b sw1) in_range is at
-    on = absurd at
 planned_under Does standing prepared (Ending status) cut plan (After_first b sw1) in_range is at
     on =
     let d : Dialogue = record { body = b; status = status } in (
@@ -211,10 +201,7 @@ planned_under Does standing prepared (Ending status) cut plan (After_first b sw1
       ends_with (After_first b sw1) status.1 d
           (refl, at.4.is_status.1, ap (λ x. record { body = b; status = (x, status.1) }) at.0),
     )
-planned_under Does standing prepared (Ending status) cut plan (In_header f) in_range is at on =
-    absurd at
-planned_under Does standing prepared (Ending status) cut plan (In_body b) in_range is at on =
-    absurd at
+planned_under _ _ _ _ _ _ _ _ _ at _ = absurd at
 
 abbrev any_cut : IsCut 256
 any_cut = (lit≤ tt, lit≤ tt)
@@ -238,23 +225,18 @@ planned Does standing prepared (Refusing h p3 status done) cut (In_body b) is at
           (sym (nulls_follow b.segments at.nulls) ∙ sym (append-nil b.segments)) tt
           (sym (append-nil (body_characters b))),
     )
-planned Does standing prepared (Refusing h p3 status done) cut (In_header f) is at = absurd at
-planned Does standing prepared (Refusing h p3 status done) cut (After_first b sw1) is at = absurd at
 planned Does standing prepared (Serving s came) cut (In_body b) is at = (
   itself b.segments,
   in_service prepared (itself b.segments) s came cut b _ any_cut is at
       (frugal_goes_on b.segments (whole_of s) at.frugal),
 )
-planned Does standing prepared (Serving s came) cut (In_header f) is at = absurd at
-planned Does standing prepared (Serving s came) cut (After_first b sw1) is at = absurd at
 planned Does standing prepared (Ending status) cut (After_first b sw1) is at = (
   itself b.segments,
   planned_under Does standing prepared (Ending status) cut (itself b.segments) (After_first b sw1)
       any_cut is at
       (record { all_or_nothing = at.5.all_or_nothing; step_by_step = at.5.step_by_step }),
 )
-planned Does standing prepared (Ending status) cut (In_header f) is at = absurd at
-planned Does standing prepared (Ending status) cut (In_body b) is at = absurd at
+planned _ _ _ _ _ _ _ at = absurd at
 
 -- where a card's end stands
 pub at_front : {State : Type 0} (Does : State → ℕ → Tpdu → State → Type 0) (standing : State)

@@ -3,7 +3,6 @@ use Rattle.std.proofs.Common.{◌≡◌, ℕ, zero, suc, ◌+◌, ◌-◌, ◌<�
 use Rattle.std.specs.List.{AllByRecursion, flat_map}
 use Rattle.std.proofs.lemmas.List.{take_all, length-take-le}
 use Rattle.std.proofs.lemmas.Bool.{ltb-true, ltb-false, ne_eqb, eqb-true, eqb-false}
-use Rattle.apdu_core.specs.declared.header.Header.{Header}
 use Rattle.apdu_core.specs.HeaderBytes.{header_bytes, ins_is_valid}
 use Rattle.apdu_core.specs.StatusWord.{IsStatusWord, is_first_status}
 use Rattle.t0_core.specs.declared.end.End.{End}
@@ -22,8 +21,8 @@ use Rattle.t0_core.specs.declared.unheard.Unheard.{Unheard}
 use Rattle.t0_core.specs.declared.unheard.Unheard.TheVariants.{OutOfTurn, BadProcedure}
 use Rattle.t0_core.specs.Character.{Character, sent_by}
 use Rattle.t0_core.specs.Dialogue.{Body, Dialogue, IsDialogue, characters, body_characters, segment_characters, data_sender, foreseen, procedure_byte, moves, all_moves, to_move}
-use Rattle.t0_core.specs.Front.{Front, IsFront, front_characters, fresh, In_header, In_body, After_first, GoesOn, Ends, IsBetween, IsBegun, EndInLast, with_segment, with_moved, header_only}
-use Rattle.t0_core.specs.FrontLaws.{goes_on, all_moves-more, all_moves-within}
+use Rattle.t0_core.specs.Front.{Front, IsFront, front_characters, fresh, In_header, In_body, After_first, GoesOn, Ends, IsBetween, IsBegun, EndInLast, with_segment, with_moved, GoesOnInHeader}
+use Rattle.t0_core.specs.FrontLaws.{goes_on, all_moves-more, all_moves-within, begins_between}
 use Rattle.t0_core.specs.History.{Event, Passed, Whole, events_of, passed}
 use Rattle.t0_core.specs.TapHistory.{HasHeard, HearsOn, IsOverheard}
 use Rattle.t0_core.specs.TapView.{place_of, IsHeldAt}
@@ -33,6 +32,7 @@ use Rattle.t0_core.specs.ProcedureLaws.{step_is, status_is_no_step, first_is_in_
 use Rattle.t0_core.proofs.HostTook.{step_tells}
 use Rattle.t0_core.proofs.HistoryLemmas.{events_with, events_item, passed_more}
 use Rattle.t0_core.proofs.PlanLemmas.{nulls_move_nothing}
+use Rattle.t0_core.specs.CardLaws.{next_header}
 
 -- What the tap makes of a character with which a dialogue goes on.
 pub record TapTook (place : Place) (from : End) (byte : ℕ) (front new : Front) : Type 0 where
@@ -42,12 +42,8 @@ pub record TapTook (place : Place) (from : End) (byte : ℕ) (front new : Front)
 
 -- a header that is not whole
 opened_short : (bytes : List ℕ) → length bytes < 5 → after_opening bytes ≡ In_opening bytes
-opened_short [] lt = refl
-opened_short (a ∷ []) lt = refl
-opened_short (a ∷ b ∷ []) lt = refl
-opened_short (a ∷ b ∷ c ∷ []) lt = refl
-opened_short (a ∷ b ∷ c ∷ d ∷ []) lt = refl
 opened_short (a ∷ b ∷ c ∷ d ∷ e ∷ bytes) lt = absurd (omega (arith, lt))
+opened_short _ _ = refl
 
 in_header : (bytes heard : List ℕ) (from : End) (byte : ℕ) (new : Front) → heard ≡ bytes
     → length bytes < 5 → GoesOn (In_header heard) (from, byte) new
@@ -253,16 +249,12 @@ in_data said until from byte b says lt all way =
 
 -- INS is a byte
 abbrev pub HasByte : Place → Type 0
-HasByte (In_opening bytes) = Unit {0}
 HasByte (Between said) = said.header.ins < 256
-HasByte (In_data said until) = Unit {0}
-HasByte (After_sw1 said sw1) = Unit {0}
+HasByte _ = Unit {0}
 
 has_byte : (place : Place) → IsPlace place → HasByte place
-has_byte (In_opening bytes) range = tt
 has_byte (Between said) range = range.0
-has_byte (In_data said until) range = tt
-has_byte (After_sw1 said sw1) range = tt
+has_byte _ _ = tt
 
 pub takes_all : (place : Place) (from : End) (byte : ℕ) (front new : Front) → HasByte place
     → TapStandsAt place front → GoesOn front (from, byte) new → IsReadFront new
@@ -284,21 +276,11 @@ takes_all (Between said) from byte (In_body b) new range at (inr (inr (between, 
 takes_all (In_data said until) from byte (In_body b) new range at (inl (lt, way, is)) read =
     let P : Front → Type 0 = λ x. TapTook (In_data said until) from byte (In_body b) x in
     subst P (sym is) (in_data said until from byte b at.0 at.1 at.2 way)
-takes_all (In_data said until) from byte (In_body b) new range at
-    (inr (inl (between, way, others))) read =
-    absurd (omega (arith, between, at.0.moved_is, at.1, at.2))
-takes_all (In_data said until) from byte (In_body b) new range at
-    (inr (inr (between, way, status, is))) read =
-    absurd (omega (arith, between, at.0.moved_is, at.1, at.2))
+takes_all (In_data said until) from byte (In_body b) new range at (inr begins) read =
+    let between = begins_between b (from, byte) new begins in
+    absurd (omega (arith, between.0, at.0.moved_is, at.1, at.2))
 takes_all (After_sw1 said sw1) from byte (After_first b first) new range at goes read = absurd goes
-takes_all (In_opening bytes) from byte (In_body b) new range at goes read = absurd at
-takes_all (In_opening bytes) from byte (After_first b first) new range at goes read = absurd at
-takes_all (Between said) from byte (In_header heard) new range at goes read = absurd at
-takes_all (Between said) from byte (After_first b first) new range at goes read = absurd at
-takes_all (In_data said until) from byte (In_header heard) new range at goes read = absurd at
-takes_all (In_data said until) from byte (After_first b first) new range at goes read = absurd at
-takes_all (After_sw1 said sw1) from byte (In_header heard) new range at goes read = absurd at
-takes_all (After_sw1 said sw1) from byte (In_body b) new range at goes read = absurd at
+takes_all _ _ _ _ _ _ at _ _ = absurd at
 
 -- ---- what is taken is of a dialogue
 
@@ -402,20 +384,19 @@ goes_straight : (place : Place) (from : End) (byte : ℕ) (b : Body) (new : Fron
 goes_straight place from byte b new goes took =
     goes_so place from byte b new b.direction refl (λ is. is) goes took
 
+-- where a header goes on, nothing of a dialogue has come that the tap does not read
+header_read : (heard : List ℕ) (c : Character) (new : Front) → GoesOnInHeader heard c new
+    → IsReadFront new
+header_read heard c new (way, inl (short, is)) = let P : Front → Type 0 = λ f. IsReadFront f in
+    subst P (sym is) tt
+header_read heard c new (way, inr (h, direction, whole, is)) =
+    let P : Front → Type 0 = λ f. IsReadFront f in subst P (sym is) (λ to none. tt)
+
 pub header_goes : (heard : List ℕ) (byte : ℕ) → length heard < 5
     → (new : Front) × GoesOn (In_header heard) (Terminal, byte) new × IsReadFront new
-header_goes [] byte lt = (In_header (byte ∷ []), (refl, inl (lit< tt, refl)), tt)
-header_goes (a ∷ []) byte lt = (In_header (a ∷ byte ∷ []), (refl, inl (lit< tt, refl)), tt)
-header_goes (a ∷ b ∷ []) byte lt = (In_header (a ∷ b ∷ byte ∷ []), (refl, inl (lit< tt, refl)), tt)
-header_goes (a ∷ b ∷ c ∷ []) byte lt =
-    (In_header (a ∷ b ∷ c ∷ byte ∷ []), (refl, inl (lit< tt, refl)), tt)
-header_goes (a ∷ b ∷ c ∷ d ∷ []) byte lt =
-    let h : Header = record { cla = a; ins = b; p1 = c; p2 = d } in (
-      In_body (header_only h byte FromCard),
-      (refl, inr (h, FromCard, refl, refl)),
-      λ way none. tt,
-    )
-header_goes (a ∷ b ∷ c ∷ d ∷ e ∷ heard) byte lt = absurd (omega (arith, lt))
+header_goes heard byte lt =
+    let next = next_header heard byte lt in
+    (next.0, next.1, header_read heard (Terminal, byte) next.0 next.1)
 
 took_header : (bytes heard : List ℕ) (from : End) (byte : ℕ) → heard ≡ bytes → length bytes < 5
     → from ≡ Terminal
@@ -635,14 +616,7 @@ took place from byte front range small at none =
         took_data said until from byte b at.0 at.1 at.2 turn
     at_place (After_sw1 said sw1) (After_first b first) range at turn none =
         took_end said sw1 from byte b first small at.0 at.1 (of_card from turn)
-    at_place (In_opening bytes) (In_body b) range at turn none = absurd at
-    at_place (In_opening bytes) (After_first b first) range at turn none = absurd at
-    at_place (Between said) (In_header heard) range at turn none = absurd at
-    at_place (Between said) (After_first b first) range at turn none = absurd at
-    at_place (In_data said until) (In_header heard) range at turn none = absurd at
-    at_place (In_data said until) (After_first b first) range at turn none = absurd at
-    at_place (After_sw1 said sw1) (In_header heard) range at turn none = absurd at
-    at_place (After_sw1 said sw1) (In_body b) range at turn none = absurd at
+    at_place _ _ _ at _ _ = absurd at
 
 -- ---- as the tap is seen
 
@@ -691,10 +665,7 @@ hears_of_one p seen from byte heard next hears front stands =
 
 concluded_read : (heard : Heard) (d : Dialogue) → Concludes heard d → IsRead d.body
 concluded_read (heard.SecondStatus said status) d concludes = concludes.0.is_read
-concluded_read heard.Header d concludes = absurd concludes
-concluded_read (heard.Procedure step) d concludes = absurd concludes
-concluded_read (heard.Data direction) d concludes = absurd concludes
-concluded_read heard.FirstStatus d concludes = absurd concludes
+concluded_read _ _ concludes = absurd concludes
 
 ended_is : (front : Front) (c : Character) (d : Dialogue) → IsFront front → Ends front c d
     → IsDialogue d
@@ -782,9 +753,7 @@ heard_nothing = record {
 pub place_in_range : (stage : TapStage) → IsHeldAt stage → IsPlace (place_of stage)
 place_in_range (stage.Opening bytes taken) held =
     omega (arith, held.0, held.1, length-take-le taken bytes (omega (arith, held.0, held.1)))
-place_in_range (stage.Awaiting said) held = held
-place_in_range (stage.Moving said until) held = held
-place_in_range (stage.AwaitingSecond said sw1) held = held
+place_in_range _ held = held
 
 -- out of turn
 pub out_of_turn : (place : Place) (from : End) (byte : ℕ) → may_come_from (due_at place) from

@@ -58,13 +58,11 @@ of_read (After_first b sw1) d is = is.1
 
 has_its_byte : (place : Place) (front : Front) (d : Dialogue) → TapStandsAt place front
     → IsOf front d → d.body.header.ins < 256 → HasByte place
-has_its_byte (In_opening bytes) front d at is small = tt
 has_its_byte (Between said) (In_body b) d at is small =
     let P : Header → Type 0 = λ h. h.ins < 256 in subst P (sym is.0 ∙ at.0.header_is) small
 has_its_byte (Between said) (In_header bytes) d at is small = absurd at
 has_its_byte (Between said) (After_first b sw1) d at is small = absurd at
-has_its_byte (In_data said until) front d at is small = tt
-has_its_byte (After_sw1 said sw1) front d at is small = tt
+has_its_byte _ _ _ _ _ _ = tt
 
 -- the end of a dialogue
 record Closes (place : Place) (from : End) (byte : ℕ) (d : Dialogue) : Type 0 where
@@ -79,33 +77,20 @@ closes (After_sw1 said sw1) from byte (After_first b first) d at ends = record {
   concludes = rw (ends.2) (at.0, ap (λ x. (x, byte)) at.1);
   after = refl;
 }
-closes (After_sw1 said sw1) from byte (In_header bytes) d at ends = absurd at
-closes (After_sw1 said sw1) from byte (In_body b) d at ends = absurd at
 closes (In_opening bytes) from byte (In_header heard) d at ends = absurd ends
-closes (In_opening bytes) from byte (In_body b) d at ends = absurd at
-closes (In_opening bytes) from byte (After_first b first) d at ends = absurd at
-closes (Between said) from byte (In_header heard) d at ends = absurd at
 closes (Between said) from byte (In_body b) d at ends = absurd ends
-closes (Between said) from byte (After_first b first) d at ends = absurd at
-closes (In_data said until) from byte (In_header heard) d at ends = absurd at
 closes (In_data said until) from byte (In_body b) d at ends = absurd ends
-closes (In_data said until) from byte (After_first b first) d at ends = absurd at
+closes _ _ _ _ _ at _ = absurd at
 
 -- what it says of a character within a dialogue tells no dialogue
 told_more : (this : Heard) (front new : Front) (c : Character) (told : List Heard)
     (ds : List Dialogue) → Makes this front c new → AreTold told ds → AreTold (this ∷ told) ds
-told_more heard.Header front new c told ds makes are = are
-told_more (heard.Procedure step) front new c told ds makes are = are
-told_more (heard.Data direction) front new c told ds makes are = are
-told_more heard.FirstStatus front new c told ds makes are = are
 told_more (heard.SecondStatus said status) front new c told ds makes are = absurd makes
+told_more _ _ _ _ _ _ _ are = are
 
 told_last : (this : Heard) (d : Dialogue) → Concludes this d → AreTold (this ∷ []) (d ∷ [])
 told_last (heard.SecondStatus said status) d is = (is.0, is.1, tt)
-told_last heard.Header d is = absurd is
-told_last (heard.Procedure step) d is = absurd is
-told_last (heard.Data direction) d is = absurd is
-told_last heard.FirstStatus d is = absurd is
+told_last _ _ is = absurd is
 
 hears_through : (cs : List Character) (place : Place) (front : Front) (d : Dialogue)
     → TapStandsAt place front → GoesThrough front cs d → IsRead d.body → d.body.header.ins < 256

@@ -198,8 +198,6 @@ between_at Does s p (Refusing h p3 status done) cut (In_body b) stands is = (
     nulls_move_nothing b.segments (foreseen b.direction b.p3) stands.nulls,
   ),
 )
-between_at Does s p (Refusing h p3 status done) cut (In_header f) stands is = absurd stands
-between_at Does s p (Refusing h p3 status done) cut (After_first b sw1) stands is = absurd stands
 between_at Does s p (Serving service came) cut (In_body b) stands is = (
   b,
   refl,
@@ -212,17 +210,14 @@ between_at Does s p (Serving service came) cut (In_body b) stands is = (
         refl is,
   ),
 )
-between_at Does s p (Serving service came) cut (In_header f) stands is = absurd stands
-between_at Does s p (Serving service came) cut (After_first b sw1) stands is = absurd stands
 between_at Does s p (Ending status) cut at stands is = absurd (cc)
+between_at _ _ _ _ _ _ stands _ = absurd stands
 
 pub sending_at : {State : Type 0} (Does : State → ℕ → Tpdu → State → Type 0) (s : State)
     (p : Prepared State) (stage : Stage) (cut place : ℕ) (at : Front)
     → StandsAt Does s p stage cut at → awaited_in stage ≡ next.OfCard place
     → (b : Body) × (at ≡ In_body b) × (length b.moved < to_move b) × (b.direction ≡ FromCard)
     × (length b.moved ≡ place)
-sending_at Does s p (Taking_header bytes) cut place at stands is = absurd (cc)
-sending_at Does s p (Refusing h p3 status done) cut place at stands is = absurd (cc)
 sending_at Does s p (Serving service came) cut place (In_body b) stands is =
     let due = card_is_due (nat_lt service.moved service.until) service.direction service.moved
     service.until place refl is in (
@@ -232,17 +227,14 @@ sending_at Does s p (Serving service came) cut place (In_body b) stands is =
       stands.direction_is ∙ due.1,
       stands.moved_is ∙ due.2,
     )
-sending_at Does s p (Serving service came) cut place (In_header f) stands is = absurd stands
-sending_at Does s p (Serving service came) cut place (After_first b sw1) stands is = absurd stands
-sending_at Does s p (Ending status) cut place at stands is = absurd (cc)
+sending_at Does s p (Serving service came) cut place at stands is = absurd stands
+sending_at _ s p _ cut place _ stands is = absurd (cc)
 
 pub taking_at : {State : Type 0} (Does : State → ℕ → Tpdu → State → Type 0) (s : State)
     (p : Prepared State) (stage : Stage) (cut place : ℕ) (at : Front)
     → StandsAt Does s p stage cut at → awaited_in stage ≡ next.OfTerminal place
     → (b : Body) × (at ≡ In_body b) × (length b.moved < to_move b) × (b.direction ≡ ToCard)
     × (length b.moved ≡ place)
-taking_at Does s p (Taking_header bytes) cut place at stands is = absurd (cc)
-taking_at Does s p (Refusing h p3 status done) cut place at stands is = absurd (cc)
 taking_at Does s p (Serving service came) cut place (In_body b) stands is =
     let due = terminal_due (nat_lt service.moved service.until) service.direction service.moved
     service.until place refl is in (
@@ -252,9 +244,8 @@ taking_at Does s p (Serving service came) cut place (In_body b) stands is =
       stands.direction_is ∙ due.1,
       stands.moved_is ∙ due.2,
     )
-taking_at Does s p (Serving service came) cut place (In_header f) stands is = absurd stands
-taking_at Does s p (Serving service came) cut place (After_first b sw1) stands is = absurd stands
-taking_at Does s p (Ending status) cut place at stands is = absurd (cc)
+taking_at Does s p (Serving service came) cut place at stands is = absurd stands
+taking_at _ s p _ cut place _ stands is = absurd (cc)
 
 same_first : (m n : ℕ) → next.Second m ≡ next.Second n → m ≡ n
 same_first m n e = cc
@@ -268,8 +259,7 @@ ending_at Does s p (Serving service came) cut sw1 at stands is =
     absurd (no_second (nat_lt service.moved service.until) service.direction service.moved sw1 is)
 ending_at Does s p (Ending status) cut sw1 (After_first b first) stands is =
     (b, ap (After_first b) (sym stands.0 ∙ same_first status.0 sw1 is))
-ending_at Does s p (Ending status) cut sw1 (In_header f) stands is = absurd stands
-ending_at Does s p (Ending status) cut sw1 (In_body b) stands is = absurd stands
+ending_at Does s p (Ending status) cut sw1 at stands is = absurd stands
 
 -- ---- one character
 
@@ -731,6 +721,4 @@ pub rested : (stage : Stage) → rests stage ≡ true → stage ≡ Taking_heade
 rested (Taking_header []) is = refl
 rested (Taking_header (b ∷ bs)) is =
     absurd (omega (arith, eqb-true (length (b ∷ bs)) 0 is))
-rested (Refusing h p3 status done) is = absurd (cc)
-rested (Serving s came) is = absurd (cc)
-rested (Ending status) is = absurd (cc)
+rested _ is = absurd (cc)

@@ -6,7 +6,7 @@ use Rattle.apdu_core.specs.declared.header.Header.{Header}
 use Rattle.apdu_core.specs.HeaderBytes.{header_bytes, ins_is_valid}
 use Rattle.apdu_core.specs.StatusWord.{StatusWord, IsStatusWord, count}
 use Rattle.t0_core.specs.declared.host_end.HostStage.{HostStage}
-use Rattle.t0_core.specs.declared.host_end.HostStage.TheVariants.{SendingHeader, Awaiting, Moving, AwaitingSecond, Ended, Broken}
+use Rattle.t0_core.specs.declared.host_end.HostStage.TheVariants.{SendingHeader}
 use Rattle.t0_core.specs.declared.direction.Direction.{Direction}
 use Rattle.t0_core.specs.declared.direction.Direction.TheVariants.{ToCard, FromCard}
 use Rattle.t0_core.specs.declared.plan.Step.{Step}
@@ -34,11 +34,7 @@ due_at host (SendingHeader sent) (In_header bytes) stands due =
     (eqb-true sent 0 due))
 due_at host (SendingHeader sent) (In_body b) stands due = absurd stands
 due_at host (SendingHeader sent) (After_first b first) stands due = absurd stands
-due_at host (Awaiting moved) front stands due = absurd (cc)
-due_at host (Moving moved until) front stands due = absurd (cc)
-due_at host (AwaitingSecond sw1) front stands due = absurd (cc)
-due_at host (Ended status) front stands due = absurd (cc)
-due_at host Broken front stands due = absurd (cc)
+due_at host _ _ stands due = absurd (cc)
 
 pub due_is_fresh : (host : Hosting) (front : Front) → HostStandsAt host front
     → is_due host ≡ true → front ≡ fresh
@@ -48,11 +44,7 @@ fresh_at : (host : Hosting) (stage : HostStage) → HostStandsAt (at_stage host 
     → is_due (at_stage host stage) ≡ true
 fresh_at host (SendingHeader zero) stands = refl
 fresh_at host (SendingHeader (suc n)) stands = absurd (cc)
-fresh_at host (Awaiting moved) stands = absurd stands
-fresh_at host (Moving moved until) stands = absurd stands
-fresh_at host (AwaitingSecond sw1) stands = absurd stands
-fresh_at host (Ended status) stands = absurd stands
-fresh_at host Broken stands = absurd stands
+fresh_at _ _ stands = absurd stands
 
 pub fresh_is_due : (host : Hosting) → HostStandsAt host fresh → is_due host ≡ true
 fresh_is_due host stands = fresh_at host host.stage stands
@@ -60,11 +52,7 @@ fresh_is_due host stands = fresh_at host host.stage stands
 due_sends_at : (host : Hosting) (stage : HostStage) → is_due (at_stage host stage) ≡ true
     → (byte : ℕ) × (turn_of (at_stage host stage) ≡ Sends byte)
 due_sends_at host (SendingHeader sent) due = (_, refl)
-due_sends_at host (Awaiting moved) due = absurd (cc)
-due_sends_at host (Moving moved until) due = absurd (cc)
-due_sends_at host (AwaitingSecond sw1) due = absurd (cc)
-due_sends_at host (Ended status) due = absurd (cc)
-due_sends_at host Broken due = absurd (cc)
+due_sends_at host _ due = absurd (cc)
 
 -- where one is due the end has a character to send
 pub due_sends : (host : Hosting) → is_due host ≡ true → (byte : ℕ) × (turn_of host ≡ Sends byte)

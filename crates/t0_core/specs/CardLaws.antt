@@ -7,7 +7,7 @@ use Rattle.t0_core.specs.declared.direction.Direction.TheVariants.{ToCard, FromC
 use Rattle.t0_core.specs.Dialogue.{Body, data_sender}
 use Rattle.t0_core.specs.Plan.{Course}
 use Rattle.t0_core.specs.Meaning.{Tpdu, Prepared}
-use Rattle.t0_core.specs.Front.{Front, In_header, In_body, After_first, GoesOn, header_only, with_moved, with_segment}
+use Rattle.t0_core.specs.Front.{Front, In_header, In_body, After_first, GoesOn, header_only, with_moved}
 use Rattle.t0_core.specs.CardSide.{Stage, Taking_header, Refusing, Serving, Ending, StandsAt, listens, takes_plan, with_character, still_to_go, comes_from_terminal}
 use Rattle.t0_core.specs.CardHistory.{under_way}
 
@@ -17,7 +17,7 @@ pub due_data : (d : Direction) (a b : ℕ) → (comes_from_terminal d && nat_lt 
 due_data ToCard a b due = (refl, ltb-true a b due)
 due_data FromCard a b due = absurd (cc)
 
-next_header : (bytes : List ℕ) (byte : ℕ) → length bytes < 5
+pub next_header : (bytes : List ℕ) (byte : ℕ) → length bytes < 5
     → (new : Front) × GoesOn (In_header bytes) (Terminal, byte) new
 next_header [] byte lt = (In_header (byte ∷ []), (refl, inl (lit< tt, refl)))
 next_header (a ∷ []) byte lt = (In_header (a ∷ byte ∷ []), (refl, inl (lit< tt, refl)))
@@ -39,7 +39,6 @@ next_front Does s p (Taking_header bytes) cut byte (In_header f) due stands =
     next_header f byte (omega (arith, stands.1, ap length stands.0))
 next_front Does s p (Taking_header bytes) cut byte (In_body b) due stands =
     absurd (omega (arith, ltb-true (length bytes) 5 due, ap length stands.0))
-next_front Does s p (Taking_header bytes) cut byte (After_first b sw1) due stands = absurd stands
 next_front Does s p (Refusing h p3 status done) cut byte front due stands = absurd (cc)
 next_front Does s p (Serving service came) cut byte (In_body b) due stands =
     let data_due = due_data service.direction service.moved service.until due in (
@@ -50,100 +49,60 @@ next_front Does s p (Serving service came) cut byte (In_body b) due stands =
         refl,
       ),
     )
-next_front Does s p (Serving service came) cut byte (In_header f) due stands = absurd stands
-next_front Does s p (Serving service came) cut byte (After_first b sw1) due stands = absurd stands
 next_front Does s p (Ending status) cut byte front due stands = absurd (cc)
+next_front _ _ _ _ _ _ _ _ stands = absurd stands
 
 -- with a character of the terminal the plan of the TPDU stays
 pub taken_stays : (stage : Stage) (plan : Course) (byte : ℕ)
     → under_way (with_character stage byte) plan ≡ under_way stage plan
 taken_stays (Taking_header bytes) plan byte = refl
-taken_stays (Refusing h p3 status done) plan byte = refl
-taken_stays (Serving s came) plan byte = refl
-taken_stays (Ending status) plan byte = refl
+taken_stays _ _ _ = refl
 
 -- where a card's end listens, no plan is taken next
 pub no_plan_yet : (stage : Stage) → listens stage ≡ true → takes_plan stage ≡ false
 no_plan_yet (Taking_header bytes) listening =
     let few : length bytes < 5 = ltb-true (length bytes) 5 listening in
     ne_eqb (length bytes) 5 (λ e. absurd (omega (arith, few, e)))
-no_plan_yet (Refusing h p3 status done) listening = refl
-no_plan_yet (Serving s came) listening = refl
-no_plan_yet (Ending status) listening = refl
+no_plan_yet _ _ = refl
 
 -- what is to go where one is
 pub before_plan : (stage : Stage) (plan : Course) → takes_plan stage ≡ true
     → still_to_go stage plan ≡ length plan.steps + 300
 before_plan (Taking_header bytes) plan e = let five : length bytes ≡ 5 =
     eqb-true (length bytes) 5 e in omega (arith, five)
-before_plan (Refusing h p3 status done) plan e = absurd (cc)
-before_plan (Serving s came) plan e = absurd (cc)
-before_plan (Ending status) plan e = absurd (cc)
+before_plan _ plan e = absurd (cc)
 
-the_body : Body → Front → Body
-the_body other (In_header f) = other
-the_body other (In_body b) = b
-the_body other (After_first b sw1) = other
+-- how many segments and data a front has, or one, with SW1
+abbrev weight : Front → ℕ
+weight (In_header f) = 0
+weight (In_body b) = length b.segments + length b.moved
+weight (After_first b sw1) = 1
 
-body_of : {a b : Body} → In_body a ≡ In_body b → a ≡ b
-unfolding the_body
-body_of {a = a} is = ap (the_body a) is
+weighs : (front new : Front) (byte : ℕ) → GoesOn front (Card, byte) new → 0 < weight new
+weighs (In_header f) new byte goes = let e : Card ≡ Terminal = goes.0 in absurd (cc)
+weighs (In_body b) new byte (inl moves) =
+    omega (arith, ap weight moves.2, length-append b.moved (byte ∷ []))
+weighs (In_body b) new byte (inr (inl begins)) =
+    omega (arith, ap weight begins.2.3, length-append b.segments (begins.2.0 ∷ []))
+weighs (In_body b) new byte (inr (inr ends)) = omega (arith, ap weight ends.3)
+weighs (After_first b sw1) new byte goes = absurd goes
 
 -- after a hand-out the card has begun to answer
 pub begun : {State : Type 0} (Does : State → ℕ → Tpdu → State → Type 0) (standing : State)
     (prepared : Prepared State) (stage : Stage) (cut byte : ℕ) (plan : Course) (front new : Front)
     → GoesOn front (Card, byte) new → StandsAt Does standing prepared stage cut new
     → under_way stage plan ≡ plan ∷ []
-begun Does s p (Refusing h p3 status done) cut byte plan front new goes stands = refl
-begun Does s p (Serving service came) cut byte plan front new goes stands = refl
-begun Does s p (Ending status) cut byte plan front new goes stands = refl
+begun Does s p (Taking_header bytes) cut byte plan front (In_header f) goes stands =
+    absurd (omega (arith, weighs front (In_header f) byte goes))
+begun Does s p (Taking_header bytes) cut byte plan front (In_body b) goes stands =
+    absurd (omega (
+      arith,
+      weighs front (In_body b) byte goes,
+      ap (λ (x : Body). length x.segments + length x.moved) stands.1,
+    ))
 begun Does s p (Taking_header bytes) cut byte plan front (After_first b sw1) goes stands =
     absurd stands
-begun Does s p (Taking_header bytes) cut byte plan (In_header f) (In_header f2) goes stands =
-    let e : Card ≡ Terminal = goes.0 in absurd (cc)
-begun Does s p (Taking_header bytes) cut byte plan (In_header f) (In_body b) goes stands =
-    let e : Card ≡ Terminal = goes.0 in absurd (cc)
-begun Does s p (Taking_header bytes) cut byte plan (After_first a sw1) (In_header f2) goes stands =
-    absurd goes
-begun Does s p (Taking_header bytes) cut byte plan (After_first a sw1) (In_body b) goes stands =
-    absurd goes
-begun Does s p (Taking_header bytes) cut byte plan (In_body a) (In_header f2) (inl moves) stands =
-    absurd (never moves.2)
-  where
-    never : {x : Body} → In_header f2 ≡ In_body x → ⊥
-    never is = absurd (cc)
-begun Does s p (Taking_header bytes) cut byte plan (In_body a) (In_header f2) (inr (inl begins))
-    stands = absurd (never begins.2.3)
-  where
-    never : {x : Body} → In_header f2 ≡ In_body x → ⊥
-    never is = absurd (cc)
-begun Does s p (Taking_header bytes) cut byte plan (In_body a) (In_header f2) (inr (inr ends))
-    stands = absurd (never ends.3)
-  where
-    never : {x : Body} {n : ℕ} → In_header f2 ≡ After_first x n → ⊥
-    never is = absurd (cc)
-begun Does s p (Taking_header bytes) cut byte plan (In_body a) (In_body b) (inl moves) stands =
-    let e : b ≡ with_moved a byte = body_of moves.2 in
-    absurd (omega (
-      arith,
-      length-append a.moved (byte ∷ []),
-      ap (λ (x : Body). length x.moved) e,
-      ap (λ (x : Body). length x.moved) stands.1,
-    ))
-begun Does s p (Taking_header bytes) cut byte plan (In_body a) (In_body b) (inr (inl begins))
-    stands =
-    let e : b ≡ with_segment a begins.2.0 = body_of begins.2.3 in
-    absurd (omega (
-      arith,
-      length-append a.segments (begins.2.0 ∷ []),
-      ap (λ (x : Body). length x.segments) e,
-      ap (λ (x : Body). length x.segments) stands.1,
-    ))
-begun Does s p (Taking_header bytes) cut byte plan (In_body a) (In_body b) (inr (inr ends)) stands =
-    absurd (never ends.3)
-  where
-    never : {x : Body} {n : ℕ} → In_body b ≡ After_first x n → ⊥
-    never is = absurd (cc)
+begun _ _ _ _ _ _ _ _ _ _ _ = refl
 
 -- where the card's turn has come, and it has its plan, it has begun to answer
 pub answers_on : {State : Type 0} (Does : State → ℕ → Tpdu → State → Type 0) (standing : State)
@@ -156,6 +115,4 @@ answers_on Does s p (Taking_header bytes) cut plan (In_body b) stands silent non
     absurd (let e : true ≡ false = sym (eq-eqb (length bytes) 5 (ap length stands.0)) ∙ none in cc)
 answers_on Does s p (Taking_header bytes) cut plan (After_first b sw1) stands silent none =
     absurd stands
-answers_on Does s p (Refusing h p3 status done) cut plan front stands silent none = refl
-answers_on Does s p (Serving service came) cut plan front stands silent none = refl
-answers_on Does s p (Ending status) cut plan front stands silent none = refl
+answers_on _ _ _ _ _ _ _ _ _ _ = refl

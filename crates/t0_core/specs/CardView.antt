@@ -93,9 +93,7 @@ abbrev pub IsAfter : Phase → Phase → Type 0
 IsAfter (phase.Opening bytes taken) new = IsOpening new where
   IsOpening : Phase → Type 0
   IsOpening (phase.Opening all more) = (length all ≡ 5) × (more ≤ 5)
-  IsOpening (phase.Refused header p3 status done) = ⊥
-  IsOpening (phase.Accepted service) = ⊥
-  IsOpening (phase.SecondStatus status) = ⊥
+  IsOpening _ = ⊥
 IsAfter (phase.Refused header p3 status done) new = ⊥
 IsAfter (phase.Accepted service) new = (service.moved < service.until)
     × (new ≡ phase.Accepted (one_moved service))

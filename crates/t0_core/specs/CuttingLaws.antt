@@ -13,7 +13,7 @@ use Rattle.t0_core.specs.declared.plan.Step.TheVariants.{Null}
 use Rattle.t0_core.specs.declared.direction.Direction.{Direction}
 use Rattle.t0_core.specs.declared.direction.Direction.TheVariants.{ToCard, FromCard}
 use Rattle.t0_core.specs.declared.host_end.HostStage.{HostStage}
-use Rattle.t0_core.specs.declared.host_end.HostStage.TheVariants.{SendingHeader, Awaiting, Moving, AwaitingSecond, Ended, Broken}
+use Rattle.t0_core.specs.declared.host_end.HostStage.TheVariants.{SendingHeader, Awaiting, Moving, AwaitingSecond}
 use Rattle.t0_core.specs.declared.host_end.HostTurn.TheVariants.{Sends, Listens}
 use Rattle.t0_core.specs.declared.line_fault.LineFault.TheVariants.{BadProcedure, TooLong}
 use Rattle.t0_core.specs.Character.{Character, sent_by}
@@ -24,6 +24,7 @@ use Rattle.t0_core.specs.Front.{Front, In_header, In_body, After_first, IsFront,
 use Rattle.t0_core.specs.HostSide.{Hosting, HostStandsAt, HasRoom, IsOpenedBy, IsRequest, AreOwn, at_stage, turn_of, data_turn, fault_of, data_fault, procedure_fault, step_of}
 use Rattle.t0_core.specs.WholeLaws.{GoesTo, reached, goes_through, whole_front}
 use Rattle.t0_core.specs.ProcedureLaws.{Apart, apart_where_valid, apart_where_invalid, step_is, status_is_no_step}
+use Rattle.t0_core.specs.FrontLaws.{begins_between}
 
 -- ---- lists
 
@@ -148,14 +149,10 @@ header_once bytes c x y new other way (t, inr (h, z, is, new_is)) (u, inr (g, w,
 body_once : (b : Body) (c : Character) (new other : Front) → b.header.ins < 256
     → GoesOn (In_body b) c new → GoesOn (In_body b) c other → new ≡ other
 body_once b c new other small (inl (lt, from, is)) (inl (le, also, are)) = is ∙ sym are
-body_once b c new other small (inl (lt, from, is)) (inr (inl (between, also, others))) =
-    absurd (omega (arith, lt, between))
-body_once b c new other small (inl (lt, from, is)) (inr (inr (between, also, status, others))) =
-    absurd (omega (arith, lt, between))
-body_once b c new other small (inr (inl (between, also, others))) (inl (lt, from, is)) =
-    absurd (omega (arith, lt, between))
-body_once b c new other small (inr (inr (between, also, status, others))) (inl (lt, from, is)) =
-    absurd (omega (arith, lt, between))
+body_once b c new other small (inl (lt, from, is)) (inr begins) =
+    absurd (omega (arith, lt, (begins_between b c other begins).0))
+body_once b c new other small (inr begins) (inl (lt, from, is)) =
+    absurd (omega (arith, lt, (begins_between b c new begins).0))
 body_once b c new other small (inr (inl (bt, from, (s, ns, byte, is))))
     (inr (inl (also, by, (t, nt, same, are)))) =
     is ∙ ap (λ u. In_body (with_segment b u))
@@ -371,11 +368,8 @@ in_segment host moved until b d [] r rest of_b of_d n lt owed on e = absurd on
 in_segment host moved until b d (c ∷ cs) r rest of_b of_d n lt owed (inl (ends, none)) e =
     absurd ends
 in_segment host moved until b d (c ∷ cs) r rest of_b of_d n lt owed
-    (inr (new, inr (inl (between, from, others)), on)) e =
-    absurd (omega (arith, n, lt, owed, between))
-in_segment host moved until b d (c ∷ cs) r rest of_b of_d n lt owed
-    (inr (new, inr (inr (between, from, status, others)), on)) e =
-    absurd (omega (arith, n, lt, owed, between))
+    (inr (new, inr begins, on)) e =
+    absurd (omega (arith, n, lt, owed, (begins_between b c new begins).0))
 in_segment host moved until b d (c ∷ cs) r rest of_b of_d n lt owed
     (inr (new, inl (less, from, new_is), on)) e =
     let P : Front → Type 0 = λ f. GoesThrough f cs d in
@@ -448,24 +442,7 @@ next_at host (AwaitingSecond sw1) (After_first b first) d r rest request stands 
     let by = comes_by b (After_first b first) d r rest (stands.0.2 ∙ sym of_d.2)
     (small_ins host d request of_d) (itself b) front_is is e in
     second host sw1 first b d by.0 r rest by.1 by.2
-next_at host (SendingHeader sent) (In_body b) d r rest request stands front_is is of_d e =
-    absurd stands
-next_at host (SendingHeader sent) (After_first b first) d r rest request stands front_is is of_d e =
-    absurd stands
-next_at host (Awaiting moved) (In_header bytes) d r rest request stands front_is is of_d e =
-    absurd stands
-next_at host (Awaiting moved) (After_first b first) d r rest request stands front_is is of_d e =
-    absurd stands
-next_at host (Moving moved until) (In_header bytes) d r rest request stands front_is is of_d e =
-    absurd stands
-next_at host (Moving moved until) (After_first b first) d r rest request stands front_is is of_d e =
-    absurd stands
-next_at host (AwaitingSecond sw1) (In_header bytes) d r rest request stands front_is is of_d e =
-    absurd stands
-next_at host (AwaitingSecond sw1) (In_body b) d r rest request stands front_is is of_d e =
-    absurd stands
-next_at host (Ended status) front d r rest request stands front_is is of_d e = absurd stands
-next_at host Broken front d r rest request stands front_is is of_d e = absurd stands
+next_at _ _ _ _ _ _ _ stands _ _ _ _ = absurd stands
 
 -- there is one next character
 pub at_next : (host : Hosting) (front : Front) (d : Dialogue) (c e : Character)

@@ -29,24 +29,10 @@ front_characters (In_body b) = body_characters b
 front_characters (After_first b sw1) = body_characters b ++ (Card, sw1) ∷ []
 
 abbrev pub with_segment : Body → Step → Body
-with_segment b s = record {
-  header = b.header;
-  p3 = b.p3;
-  direction = b.direction;
-  segments =
-      b.segments ++ s ∷ [];
-  moved = b.moved;
-}
+with_segment b s = record b { segments = b.segments ++ s ∷ [] }
 
 abbrev pub with_moved : Body → ℕ → Body
-with_moved b byte = record {
-  header = b.header;
-  p3 = b.p3;
-  direction = b.direction;
-  segments =
-      b.segments;
-  moved = b.moved ++ byte ∷ [];
-}
+with_moved b byte = record b { moved = b.moved ++ byte ∷ [] }
 
 abbrev pub header_only : Header → ℕ → Direction → Body
 header_only h p3 direction =

@@ -1,5 +1,5 @@
 -- A dialogue goes on by one character at a time, and ends as a dialogue.
-use Rattle.std.proofs.Common.{◌≡◌, ℕ, zero, suc, ◌+◌, ◌-◌, ◌<◌, ◌≤◌, List, [], ◌∷◌, ◌++◌, length, take, drop, refl, sym, subst, ap, arith, inl, inr, false, append_assoc, length-append}
+use Rattle.std.proofs.Common.{◌≡◌, ℕ, zero, suc, ◌+◌, ◌-◌, ◌<◌, ◌≤◌, List, [], ◌∷◌, ◌++◌, length, take, drop, refl, sym, subst, ap, arith, inl, inr, false, append_assoc, length-append, ◌⊎◌}
 use Rattle.std.proofs.lemmas.List.{take_all, take-append-le, append-nil, length-drop}
 use Rattle.apdu_core.specs.HeaderBytes.{ins_is_valid}
 use Rattle.t0_core.specs.declared.end.End.{End}
@@ -9,7 +9,7 @@ use Rattle.t0_core.specs.declared.plan.Step.TheVariants.{Null, One, All}
 use Rattle.t0_core.specs.Character.{Character, sent_by}
 use Rattle.t0_core.specs.declared.direction.Direction.{Direction}
 use Rattle.t0_core.specs.Dialogue.{Body, data_sender, foreseen, moves, all_moves, to_move, procedure_byte, segment_characters}
-use Rattle.t0_core.specs.Front.{Front, In_header, In_body, After_first, front_characters, GoesOn, IsBetween, EndInLast, IsBegun, IsFront, with_segment, with_moved}
+use Rattle.t0_core.specs.Front.{Front, In_header, In_body, After_first, front_characters, GoesOn, IsBetween, EndInLast, IsBegun, IsFront, with_segment, with_moved, BeginsSegment, BeginsStatus}
 use Rattle.t0_core.specs.DialogueLaws.{all_more}
 
 pub moves-within : (s : Step) (n : ℕ) → moves s n ≤ n
@@ -100,6 +100,12 @@ moved_characters ins direction (s ∷ t ∷ segments) n moved x in_last lt =
     shorter : length moved < moves s n + all_moves (t ∷ segments) (n - moves s n)
         → length (drop (moves s n) moved) < all_moves (t ∷ segments) (n - moves s n)
     shorter h = omega (arith, h, left, in_last.0)
+
+-- what is no data character comes from the card, between segments
+pub begins_between : (b : Body) (c : Character) (new : Front)
+    → BeginsSegment b c new ⊎ BeginsStatus b c new → IsBetween b × (c.0 ≡ Card)
+begins_between b c new (inl begins) = (begins.0, begins.1)
+begins_between b c new (inr begins) = (begins.0, begins.1)
 
 abbrev nothing : List ℕ
 nothing = []

@@ -64,13 +64,10 @@ pub record AreAlike (d e : Dialogue) : Type 0 where
 
 abbrev pub AreAlikeInTurn : List Item → List Item → Type 0
 AreAlikeInTurn [] [] = Unit {0}
-AreAlikeInTurn [] (other ∷ others) = ⊥
-AreAlikeInTurn (item ∷ items) [] = ⊥
 AreAlikeInTurn (Whole d ∷ items) (Whole e ∷ others) = AreAlike d e × AreAlikeInTurn items others
-AreAlikeInTurn (Whole d ∷ items) (Cut_off part ∷ others) = ⊥
-AreAlikeInTurn (Cut_off part ∷ items) (Whole d ∷ others) = ⊥
 AreAlikeInTurn (Cut_off part ∷ items) (Cut_off other ∷ others) =
     (part ≡ other) × AreAlikeInTurn items others
+AreAlikeInTurn _ _ = ⊥
 
 -- each character that passes is a byte
 abbrev pub IsByteEvent : Event → Type 0

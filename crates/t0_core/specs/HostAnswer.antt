@@ -4,7 +4,7 @@ use Rattle.apdu_core.specs.StatusWord.{StatusWord, count}
 use Rattle.t0_core.specs.declared.answer_fault.AnswerFault.{AnswerFault}
 use Rattle.t0_core.specs.declared.answer_fault.AnswerFault.TheVariants.{NotDue, NotAsked, TooMany, TooLong, Stalled}
 use Rattle.t0_core.specs.declared.host_end.HostStage.{HostStage}
-use Rattle.t0_core.specs.declared.host_end.HostStage.TheVariants.{SendingHeader, Awaiting, Moving, AwaitingSecond, Ended, Broken}
+use Rattle.t0_core.specs.declared.host_end.HostStage.TheVariants.{SendingHeader, Moving, AwaitingSecond, Broken}
 use Rattle.t0_core.specs.declared.direction.Direction.{Direction}
 use Rattle.t0_core.specs.declared.direction.Direction.TheVariants.{ToCard, FromCard}
 use Rattle.t0_core.specs.Room.{Room}
@@ -15,11 +15,7 @@ use Rattle.t0_core.specs.HostSide.{Hosting, IsOpenedBy, at_stage}
 -- a TPDU is about to begin: none of its characters has gone
 abbrev pub is_start : HostStage → Bool
 is_start (SendingHeader sent) = sent == 0
-is_start (Awaiting moved) = false
-is_start (Moving moved until) = false
-is_start (AwaitingSecond sw1) = false
-is_start (Ended status) = false
-is_start Broken = false
+is_start _ = false
 
 abbrev pub is_due : Hosting → Bool
 is_due host = is_start host.stage

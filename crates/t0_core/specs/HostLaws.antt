@@ -17,6 +17,7 @@ use Rattle.t0_core.specs.Dialogue.{Body}
 use Rattle.t0_core.specs.Front.{Front, In_header, In_body, After_first, GoesOn, brought, from_card}
 use Rattle.t0_core.specs.Room.{Room}
 use Rattle.t0_core.specs.HostSide.{Hosting, at_stage, IsOpenedBy, HostStandsAt, turn_of, data_turn, fault_of, data_fault, procedure_fault, step_of}
+use Rattle.t0_core.specs.FrontLaws.{begins_between}
 
 -- the front is one of a dialogue that this end opened
 abbrev pub IsOpenedFront : Hosting → Front → Type 0
@@ -40,16 +41,7 @@ opened_at host (SendingHeader sent) (In_header bytes) stands = header_front host
 opened_at host (Awaiting moved) (In_body b) stands = stands.0
 opened_at host (Moving moved until) (In_body b) stands = stands.0
 opened_at host (AwaitingSecond sw1) (After_first b first) stands = stands.0
-opened_at host (SendingHeader sent) (In_body b) stands = absurd stands
-opened_at host (SendingHeader sent) (After_first b first) stands = absurd stands
-opened_at host (Awaiting moved) (In_header bytes) stands = absurd stands
-opened_at host (Awaiting moved) (After_first b first) stands = absurd stands
-opened_at host (Moving moved until) (In_header bytes) stands = absurd stands
-opened_at host (Moving moved until) (After_first b first) stands = absurd stands
-opened_at host (AwaitingSecond sw1) (In_header bytes) stands = absurd stands
-opened_at host (AwaitingSecond sw1) (In_body b) stands = absurd stands
-opened_at host (Ended status) front stands = absurd stands
-opened_at host Broken front stands = absurd stands
+opened_at _ _ _ stands = absurd stands
 
 pub opened : (host : Hosting) (front : Front) → HostStandsAt host front → IsOpenedFront host front
 opened host front stands = opened_at host host.stage front stands
@@ -67,13 +59,11 @@ data_fails_not FromCard content moved e = absurd (cc)
 
 going_at : (host : Hosting) (stage : HostStage) (front : Front) (status : StatusWord)
     → HostStandsAt (at_stage host stage) front → turn_of (at_stage host stage) ≡ Done status → ⊥
-going_at host (SendingHeader sent) front status stands e = absurd (cc)
-going_at host (Awaiting moved) front status stands e = absurd (cc)
 going_at host (Moving moved until) front status stands e =
     data_is_going host.direction host.content moved status e
-going_at host (AwaitingSecond sw1) front status stands e = absurd (cc)
 going_at host (Ended other) front status stands e = stands
 going_at host Broken front status stands e = stands
+going_at host _ front status stands e = absurd (cc)
 
 pub going : (host : Hosting) (front : Front) (status : StatusWord) → HostStandsAt host front
     → turn_of host ≡ Done status → ⊥
@@ -81,13 +71,11 @@ going host front status stands e = going_at host host.stage front status stands 
 
 unbroken_at : (host : Hosting) (stage : HostStage) (front : Front)
     → HostStandsAt (at_stage host stage) front → turn_of (at_stage host stage) ≡ Failed → ⊥
-unbroken_at host (SendingHeader sent) front stands e = absurd (cc)
-unbroken_at host (Awaiting moved) front stands e = absurd (cc)
 unbroken_at host (Moving moved until) front stands e =
     data_fails_not host.direction host.content moved e
-unbroken_at host (AwaitingSecond sw1) front stands e = absurd (cc)
 unbroken_at host (Ended other) front stands e = stands
 unbroken_at host Broken front stands e = stands
+unbroken_at host _ front stands e = absurd (cc)
 
 pub unbroken : (host : Hosting) (front : Front) → HostStandsAt host front → turn_of host ≡ Failed
     → ⊥
@@ -97,13 +85,11 @@ unbroken host front stands e = unbroken_at host host.stage front stands e
 after_done_at : (host : Hosting) (stage : HostStage) (room : Room) (byte : ℕ) (status : StatusWord)
     → turn_of (at_stage host stage) ≡ Done status
     → fault_of (at_stage host stage) room byte ≡ Some AfterEnd
-after_done_at host (SendingHeader sent) room byte status e = absurd (cc)
-after_done_at host (Awaiting moved) room byte status e = absurd (cc)
 after_done_at host (Moving moved until) room byte status e =
     absurd (data_is_going host.direction host.content moved status e)
-after_done_at host (AwaitingSecond sw1) room byte status e = absurd (cc)
 after_done_at host (Ended other) room byte status e = refl
 after_done_at host Broken room byte status e = refl
+after_done_at host _ room byte status e = absurd (cc)
 
 pub after_done : (host : Hosting) (room : Room) (byte : ℕ) (status : StatusWord)
     → turn_of host ≡ Done status → fault_of host room byte ≡ Some AfterEnd
@@ -112,13 +98,11 @@ after_done host room byte status e = after_done_at host host.stage room byte sta
 after_failure_at : (host : Hosting) (stage : HostStage) (room : Room) (byte : ℕ)
     → turn_of (at_stage host stage) ≡ Failed
     → fault_of (at_stage host stage) room byte ≡ Some AfterEnd
-after_failure_at host (SendingHeader sent) room byte e = absurd (cc)
-after_failure_at host (Awaiting moved) room byte e = absurd (cc)
 after_failure_at host (Moving moved until) room byte e =
     absurd (data_fails_not host.direction host.content moved e)
-after_failure_at host (AwaitingSecond sw1) room byte e = absurd (cc)
 after_failure_at host (Ended other) room byte e = refl
 after_failure_at host Broken room byte e = refl
+after_failure_at host _ room byte e = absurd (cc)
 
 pub after_failure : (host : Hosting) (room : Room) (byte : ℕ) → turn_of host ≡ Failed
     → fault_of host room byte ≡ Some AfterEnd
@@ -159,19 +143,11 @@ too_long_at host (Moving moved until) room byte (In_body b) new stands e
     (inl (lt, sender, new_is)) =
     let full = moved_data host.direction room b byte stands.0.2 e in
     (full.0, ap brought new_is ∙ full.1)
-too_long_at host (Moving moved until) room byte (In_body b) new stands e
-    (inr (inl (between, sender, others))) =
-    absurd (omega (arith, between, stands.1, stands.2, stands.3))
-too_long_at host (Moving moved until) room byte (In_body b) new stands e
-    (inr (inr (between, sender, status, new_is))) =
-    absurd (omega (arith, between, stands.1, stands.2, stands.3))
-too_long_at host (Moving moved until) room byte (In_header bytes) new stands e goes =
-    absurd stands
-too_long_at host (Moving moved until) room byte (After_first b first) new stands e goes =
-    absurd stands
+too_long_at host (Moving moved until) room byte (In_body b) new stands e (inr begins) =
+    let between = begins_between b (Card, byte) new begins in
+    absurd (omega (arith, between.0, stands.1, stands.2, stands.3))
 too_long_at host (AwaitingSecond sw1) room byte front new stands e goes = absurd (cc)
-too_long_at host (Ended status) room byte front new stands e goes = absurd stands
-too_long_at host Broken room byte front new stands e goes = absurd stands
+too_long_at _ _ _ _ _ _ stands _ _ = absurd stands
 
 pub too_long : (host : Hosting) (room : Room) (byte : ℕ) (front new : Front)
     → HostStandsAt host front → fault_of host room byte ≡ Some TooLong

@@ -1,6 +1,6 @@
 -- Law: the front at which the terminal's end stands is that of a dialogue that this end opens, with
 -- its own data.
-use Rattle.std.proofs.Common.{◌≡◌, ℕ, zero, suc, ◌+◌, ◌-◌, ◌<◌, List, [], ◌∷◌, ◌++◌, length, take, refl, sym, ◌∙◌, ap, arith, lit<, length-append}
+use Rattle.std.proofs.Common.{◌≡◌, ℕ, suc, ◌+◌, ◌-◌, ◌<◌, List, [], ◌∷◌, ◌++◌, length, take, refl, sym, ◌∙◌, ap, arith, lit<, length-append}
 use Rattle.std.specs.Prelude.{slice_index}
 use Rattle.std.proofs.lemmas.List.{take_more}
 use Rattle.apdu_core.specs.HeaderBytes.{header_bytes}
@@ -8,7 +8,7 @@ use Rattle.t0_core.specs.declared.end.End.TheVariants.{Terminal, Card}
 use Rattle.t0_core.specs.declared.direction.Direction.{Direction}
 use Rattle.t0_core.specs.declared.direction.Direction.TheVariants.{ToCard, FromCard}
 use Rattle.t0_core.specs.declared.host_end.HostStage.{HostStage}
-use Rattle.t0_core.specs.declared.host_end.HostStage.TheVariants.{SendingHeader, Awaiting, Moving, AwaitingSecond, Ended, Broken}
+use Rattle.t0_core.specs.declared.host_end.HostStage.TheVariants.{SendingHeader, Awaiting, Moving, AwaitingSecond}
 use Rattle.t0_core.specs.Character.{Character, sent_by}
 use Rattle.t0_core.specs.Dialogue.{Body, Dialogue, IsDialogue, characters, foreseen, to_move}
 use Rattle.t0_core.specs.Front.{Front, In_header, In_body, After_first, IsFront, IsBegun, front_characters, header_only}
@@ -68,12 +68,8 @@ in_header host sent bytes lt is =
     rest_of : (n : ℕ) → n < 5 → (c : Character) × (rest : List Character)
         × (characters (closed (header_only host.header host.p3 host.direction)) ≡ sent_by Terminal
         (take n (header_bytes host.header ++ host.p3 ∷ [])) ++ c ∷ rest)
-    rest_of zero lt = (_, _, refl)
-    rest_of (suc zero) lt = (_, _, refl)
-    rest_of (suc (suc zero)) lt = (_, _, refl)
-    rest_of (suc (suc (suc zero))) lt = (_, _, refl)
-    rest_of (suc (suc (suc (suc zero)))) lt = (_, _, refl)
     rest_of (suc (suc (suc (suc (suc n))))) lt = absurd (omega (arith, lt))
+    rest_of _ _ = (_, _, refl)
 
 in_body : (host : Hosting) (b : Body) → IsRequest host → IsOpenedBy host b → IsBegun b
     → BeginsOwn host (In_body b)
@@ -115,16 +111,7 @@ begins_at host (AwaitingSecond sw1) (After_first b first) request stands is =
       stands.0,
       ends_with (After_first b first) 0 d (refl, lit< tt, refl),
     )
-begins_at host (SendingHeader sent) (In_body b) request stands is = absurd stands
-begins_at host (SendingHeader sent) (After_first b first) request stands is = absurd stands
-begins_at host (Awaiting m) (In_header bytes) request stands is = absurd stands
-begins_at host (Awaiting m) (After_first b first) request stands is = absurd stands
-begins_at host (Moving m until) (In_header bytes) request stands is = absurd stands
-begins_at host (Moving m until) (After_first b first) request stands is = absurd stands
-begins_at host (AwaitingSecond sw1) (In_header bytes) request stands is = absurd stands
-begins_at host (AwaitingSecond sw1) (In_body b) request stands is = absurd stands
-begins_at host (Ended status) front request stands is = absurd stands
-begins_at host Broken front request stands is = absurd stands
+begins_at _ _ _ _ stands _ = absurd stands
 
 pub begins_own : (host : Hosting) (front : Front) → IsRequest host → HostStandsAt host front
     → IsFront front → BeginsOwn host front

@@ -15,14 +15,7 @@ stands_read (In_opening bytes) (In_header heard) at = tt
 stands_read (Between said) (In_body b) at = at.0.is_read
 stands_read (In_data said until) (In_body b) at = at.0.is_read
 stands_read (After_sw1 said sw1) (After_first b first) at = at.0.is_read
-stands_read (In_opening bytes) (In_body b) at = absurd at
-stands_read (In_opening bytes) (After_first b first) at = absurd at
-stands_read (Between said) (In_header heard) at = absurd at
-stands_read (Between said) (After_first b first) at = absurd at
-stands_read (In_data said until) (In_header heard) at = absurd at
-stands_read (In_data said until) (After_first b first) at = absurd at
-stands_read (After_sw1 said sw1) (In_header heard) at = absurd at
-stands_read (After_sw1 said sw1) (In_body b) at = absurd at
+stands_read _ _ at = absurd at
 
 events_cut_off : (events : List Event) (items : List Item) (part : List Character)
     → events ≡ flat_map events_of items ++ passed part

@@ -66,14 +66,7 @@ TapStandsAt (In_data said until) (In_body b) = SaysSo said b × (said.moved < un
     × (to_move b ≡ until)
 TapStandsAt (After_sw1 said sw1) (After_first b first) = SaysSo said b × (first ≡ sw1)
     × IsBetween b
-TapStandsAt (In_opening bytes) (In_body b) = ⊥
-TapStandsAt (In_opening bytes) (After_first b first) = ⊥
-TapStandsAt (Between said) (In_header heard) = ⊥
-TapStandsAt (Between said) (After_first b first) = ⊥
-TapStandsAt (In_data said until) (In_header heard) = ⊥
-TapStandsAt (In_data said until) (After_first b first) = ⊥
-TapStandsAt (After_sw1 said sw1) (In_header heard) = ⊥
-TapStandsAt (After_sw1 said sw1) (In_body b) = ⊥
+TapStandsAt _ _ = ⊥
 
 -- the way in which an end's data move
 abbrev pub direction_from : End → Direction
@@ -154,12 +147,8 @@ begun_at (Some step) said byte =
 begun_at None said byte = After_sw1 said byte
 
 abbrev pub with_one_more : Said → End → Said
-with_one_more said from = record {
-  header = said.header;
-  p3 = said.p3;
-  direction = Some (direction_from from);
-  moved = said.moved + 1;
-}
+with_one_more said from =
+    record said { direction = Some (direction_from from); moved = said.moved + 1 }
 
 abbrev pub after_opening : List ℕ → Place
 after_opening (cla ∷ ins ∷ p1 ∷ p2 ∷ p3 ∷ []) = Between (record {
@@ -202,10 +191,7 @@ Makes (heard.SecondStatus said status) front c new = ⊥
 -- SW2 ends the dialogue: what was said, and the status
 abbrev pub Concludes : Heard → Dialogue → Type 0
 Concludes (heard.SecondStatus said status) d = SaysSo said d.body × (d.status ≡ status)
-Concludes heard.Header d = ⊥
-Concludes (heard.Procedure step) d = ⊥
-Concludes (heard.Data direction) d = ⊥
-Concludes heard.FirstStatus d = ⊥
+Concludes _ _ = ⊥
 
 -- From this front the dialogue goes on with the character, or ends with it, and the tap with it.
 abbrev pub TakesOn : Heard → Front → Character → Place → Type 0
@@ -215,13 +201,7 @@ TakesOn heard front c place =
 
 -- the same front, had the data gone this way
 abbrev pub turned_body : Direction → Body → Body
-turned_body way b = record {
-  header = b.header;
-  p3 = b.p3;
-  direction = way;
-  segments = b.segments;
-  moved = b.moved;
-}
+turned_body way b = record b { direction = way }
 
 abbrev pub turned : Direction → Front → Front
 turned way (In_header bytes) = In_header bytes

@@ -29,12 +29,9 @@ asked_with header (p3 ∷ b ∷ bs) =
 
 -- what these bytes ask, if they are a whole TPDU
 abbrev pub asked_in : List ℕ → Option Asked
-asked_in [] = None
-asked_in (cla ∷ []) = None
-asked_in (cla ∷ ins ∷ []) = None
-asked_in (cla ∷ ins ∷ p1 ∷ []) = None
 asked_in (cla ∷ ins ∷ p1 ∷ p2 ∷ rest) =
     asked_with (record { cla = cla; ins = ins; p1 = p1; p2 = p2 }) rest
+asked_in _ = None
 
 abbrev pub asked_of : WholeTpdu → Asked
 asked_of t = asked_for t.header t.p3 t.content.now t.may_come

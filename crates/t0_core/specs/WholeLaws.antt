@@ -124,42 +124,24 @@ closes Q b x whole =
           ∙ ap (λ cs. body_characters b ++ cs) more.2,
     )
 
+begun_so : (cla ins p1 p2 : ℕ) → let d : Dialogue =
+    closed (header_only (record { cla = cla; ins = ins; p1 = p1; p2 = p2 }) 0 FromCard) in
+    (bytes : List ℕ) (c : Character) (rest : List Character)
+    → characters d ≡ sent_by Terminal bytes ++ c ∷ rest → BeginsDialogue (In_header bytes)
+begun_so cla ins p1 p2 bytes c rest e = (
+  closed (header_only (record { cla = cla; ins = ins; p1 = p1; p2 = p2 }) 0 FromCard),
+  c,
+  rest,
+  record { moved_by_segments = refl; is_status = (refl, lit< tt); only_nulls = λ _. tt },
+  e,
+)
+
 header_begins : (bytes : List ℕ) → length bytes < 5 → BeginsDialogue (In_header bytes)
-header_begins [] lt = (
-  closed (header_only (record { cla = 0; ins = 0; p1 = 0; p2 = 0 }) 0 FromCard),
-  _,
-  _,
-  record { moved_by_segments = refl; is_status = (refl, lit< tt); only_nulls = λ _. tt },
-  refl,
-)
-header_begins (a ∷ []) lt = (
-  closed (header_only (record { cla = a; ins = 0; p1 = 0; p2 = 0 }) 0 FromCard),
-  _,
-  _,
-  record { moved_by_segments = refl; is_status = (refl, lit< tt); only_nulls = λ _. tt },
-  refl,
-)
-header_begins (a ∷ b ∷ []) lt = (
-  closed (header_only (record { cla = a; ins = b; p1 = 0; p2 = 0 }) 0 FromCard),
-  _,
-  _,
-  record { moved_by_segments = refl; is_status = (refl, lit< tt); only_nulls = λ _. tt },
-  refl,
-)
-header_begins (a ∷ b ∷ c ∷ []) lt = (
-  closed (header_only (record { cla = a; ins = b; p1 = c; p2 = 0 }) 0 FromCard),
-  _,
-  _,
-  record { moved_by_segments = refl; is_status = (refl, lit< tt); only_nulls = λ _. tt },
-  refl,
-)
-header_begins (a ∷ b ∷ c ∷ e ∷ []) lt = (
-  closed (header_only (record { cla = a; ins = b; p1 = c; p2 = e }) 0 FromCard),
-  _,
-  _,
-  record { moved_by_segments = refl; is_status = (refl, lit< tt); only_nulls = λ _. tt },
-  refl,
-)
+header_begins [] lt = begun_so 0 0 0 0 [] _ _ refl
+header_begins (a ∷ []) lt = begun_so a 0 0 0 (a ∷ []) _ _ refl
+header_begins (a ∷ b ∷ []) lt = begun_so a b 0 0 (a ∷ b ∷ []) _ _ refl
+header_begins (a ∷ b ∷ c ∷ []) lt = begun_so a b c 0 (a ∷ b ∷ c ∷ []) _ _ refl
+header_begins (a ∷ b ∷ c ∷ e ∷ []) lt = begun_so a b c e (a ∷ b ∷ c ∷ e ∷ []) _ _ refl
 header_begins (a ∷ b ∷ c ∷ e ∷ f ∷ bytes) lt = absurd (omega (arith, lt))
 
 pub begins : (front : Front) → IsFront front → BeginsDialogue front

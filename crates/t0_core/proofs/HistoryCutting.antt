@@ -1,5 +1,5 @@
 -- Events have one cutting into dialogues and resets, but for a direction that nobody saw.
-use Rattle.std.proofs.Common.{◌≡◌, ℕ, zero, suc, ◌+◌, ◌-◌, ◌<◌, List, [], ◌∷◌, ◌++◌, length, refl, sym, subst, ◌∙◌, ap, arith, inl, inr, ◌⊎◌, false, append-nil, append_assoc}
+use Rattle.std.proofs.Common.{◌≡◌, ℕ, zero, suc, ◌+◌, ◌-◌, ◌<◌, List, [], ◌∷◌, ◌++◌, length, refl, sym, subst, ◌∙◌, ap, arith, inl, inr, ◌⊎◌, false, append-nil, append_assoc, Option, Some, None}
 use Rattle.std.specs.List.{AllByRecursion, flat_map}
 use Rattle.apdu_core.specs.HeaderBytes.{ins_is_valid}
 use Rattle.t0_core.specs.declared.end.End.TheVariants.{Terminal, Card}
@@ -11,7 +11,7 @@ use Rattle.t0_core.specs.Character.{Character, sent_by}
 use Rattle.t0_core.specs.Dialogue.{Dialogue, IsDialogue, characters, segment_characters, procedure_byte, data_sender, foreseen, moves, all_moves}
 use Rattle.t0_core.specs.Plan.{Course, segments_of}
 use Rattle.t0_core.specs.CardSide.{Starts, IsFrugal}
-use Rattle.t0_core.specs.History.{Event, Reset, Item, Whole, Cut_off, IsPart, IsItem, IsUnderPlan, AreAlike, AreAlikeInTurn, IsByteEvent, events_of, passed}
+use Rattle.t0_core.specs.History.{Event, Reset, Item, Whole, Cut_off, IsPart, IsItem, IsUnderPlan, AreAlike, AreAlikeInTurn, IsByteEvent, events_of, passed, Passed}
 use Rattle.t0_core.specs.CuttingLaws.{all_apart, byte_is, stripped, same_dialogue as one_dialogue}
 use Rattle.t0_core.specs.TapSide.{turned_body}
 use Rattle.t0_core.proofs.PlanLemmas.{nulls_where_none_left, nulls_move_nothing}
@@ -38,20 +38,17 @@ first_sender ins x y s ds es k l (a ∷ m) [] r q some_m some_n sk sl deeper e =
     absurd (omega (arith, some_n))
 first_sender ins x y Null ds es k l (a ∷ m) (b ∷ n) r q some_m some_n sk sl deeper e =
     let one : Character = (Card, procedure_byte ins Null) in deeper refl (stripped one _ _ e)
-first_sender ins x y One ds es zero l (a ∷ m) (b ∷ n) r q some_m some_n sk sl deeper e =
-    absurd (omega (arith, sk))
 first_sender ins x y One ds es (suc k) zero (a ∷ m) (b ∷ n) r q some_m some_n sk sl deeper e =
     absurd (omega (arith, sl))
 first_sender ins x y One ds es (suc k) (suc l) (a ∷ m) (b ∷ n) r q some_m some_n sk sl deeper e =
     let c : Character = (data_sender x, a) in let d : Character = (data_sender y, b) in
     let f : c ≡ d = cc in same_sender x y (ap (λ (z : Character). z.0) f)
-first_sender ins x y All ds es zero l (a ∷ m) (b ∷ n) r q some_m some_n sk sl deeper e =
-    absurd (omega (arith, sk))
 first_sender ins x y All ds es (suc k) zero (a ∷ m) (b ∷ n) r q some_m some_n sk sl deeper e =
     absurd (omega (arith, sl))
 first_sender ins x y All ds es (suc k) (suc l) (a ∷ m) (b ∷ n) r q some_m some_n sk sl deeper e =
     let c : Character = (data_sender x, a) in let d : Character = (data_sender y, b) in
     let f : c ≡ d = cc in same_sender x y (ap (λ (z : Character). z.0) f)
+first_sender ins x y _ ds es _ _ _ _ r q some_m some_n sk sl deeper e = absurd (omega (arith, sk))
 
 -- segments that are begun for something, and move something
 record Moves (ins : ℕ) (ds : List Step) (k : ℕ) (m : List ℕ) : Type 0 where
@@ -236,166 +233,132 @@ no_part d p part r is small (q, (e, c, rest, also, e_is)) begins =
 
 -- ---- events
 
-passed_same : (xs ys : List Character) → passed xs ≡ passed ys → xs ≡ ys
-passed_same [] [] e = refl
-passed_same [] (y ∷ ys) e = absurd (cc)
-passed_same (x ∷ xs) [] e = absurd (cc)
-passed_same (x ∷ xs) (y ∷ ys) e =
-    let first : x ≡ y = cc in
-    let others : passed xs ≡ passed ys = cc in
-    let rest = passed_same xs ys others in cc
+-- the characters before the first reset
+abbrev heard : List Event → List Character
+heard [] = []
+heard (Passed c ∷ es) = c ∷ heard es
+heard (Reset ∷ es) = []
 
-abbrev GoesPast : List Character → List Character → List Event → List Event → Type 0
-GoesPast xs ys es fs = (r : List Character) × (ys ≡ xs ++ r) × (es ≡ passed r ++ fs)
+-- what comes after it
+abbrev after_reset : List Event → Option (List Event)
+after_reset [] = None
+after_reset (Passed c ∷ es) = after_reset es
+after_reset (Reset ∷ es) = Some es
 
--- of two rows of characters in the same events one begins the other
-one_begins : (xs ys : List Character) (es fs : List Event) → passed xs ++ es ≡ passed ys ++ fs
-    → GoesPast xs ys es fs ⊎ GoesPast ys xs fs es
-one_begins [] ys es fs e = inl (ys, refl, e)
-one_begins (x ∷ xs) [] es fs e = inr (x ∷ xs, refl, sym e)
-one_begins (x ∷ xs) (y ∷ ys) es fs e =
-    let first : x ≡ y = cc in
-    let others : passed xs ++ es ≡ passed ys ++ fs = cc in
-    elim (one_begins xs ys es fs others) [
-      | inl past ↦ inl (
-        past.0,
-        ap (λ cs. y ∷ cs) past.1 ∙ ap (λ c. c ∷ (xs ++ past.0)) (sym first),
-        past.2,
-      )
-      | inr past ↦ inr (
-        past.0,
-        ap (λ cs. x ∷ cs) past.1 ∙ ap (λ c. c ∷ (ys ++ past.0)) first,
-        past.2,
-      )
-    ]
+-- there is nothing else in events
+same_events : (es fs : List Event) → heard es ≡ heard fs → after_reset es ≡ after_reset fs → es ≡ fs
+same_events [] [] same after = refl
+same_events (Passed c ∷ es) (Passed d ∷ fs) same after =
+    let first : c ≡ d = cc in
+    let others : heard es ≡ heard fs = cc in
+    let rest = same_events es fs others after in cc
+same_events (Reset ∷ es) (Reset ∷ fs) same after = let rest : es ≡ fs = cc in cc
+same_events [] (Passed d ∷ fs) same after = absurd (cc)
+same_events [] (Reset ∷ fs) same after = absurd (cc)
+same_events es fs same after = absurd (cc)
 
--- a reset is reached at once or not at all
-at_reset : (r : List Character) (es fs : List Event) → Reset ∷ es ≡ passed r ++ fs
-    → (r ≡ []) × (fs ≡ Reset ∷ es)
-at_reset [] es fs e = (refl, sym e)
-at_reset (c ∷ r) es fs e = absurd (cc)
+heard_passed : (cs : List Character) (es : List Event) → heard (passed cs ++ es) ≡ cs ++ heard es
+heard_passed [] es = refl
+heard_passed (c ∷ cs) es = ap (λ xs. c ∷ xs) (heard_passed cs es)
+
+after_passed : (cs : List Character) (es : List Event)
+    → after_reset (passed cs ++ es) ≡ after_reset es
+after_passed [] es = refl
+after_passed (c ∷ cs) es = after_passed cs es
+
+heard_part : (part : List Character) → heard (passed part) ≡ part
+heard_part part = ap heard (sym (append-nil (passed part))) ∙ heard_passed part []
+    ∙ append-nil part
+
+after_part : (part : List Character) → after_reset (passed part) ≡ None
+after_part part = ap after_reset (sym (append-nil (passed part))) ∙ after_passed part []
 
 all_after : {A : Type 0} (P : A → Type 0) (xs ys : List A) → AllByRecursion P (xs ++ ys)
     → AllByRecursion P ys
 all_after P [] ys all = all
 all_after P (x ∷ xs) ys all = all_after P xs ys all.1
 
--- a part is no whole dialogue with something after it, and no reset is among its characters
-no_whole : (part : List Character) (d : Dialogue) (p : Course) (es : List Event) → IsPart part
-    → IsUnderPlan d p → d.body.header.ins < 256 → passed part ≡ passed (characters d) ++ es → ⊥
-no_whole part d p es is under small e =
-    elim (one_begins part (characters d) [] es (append-nil (passed part) ∙ e)) [
-      | inl past ↦ no_part d p part [] under small is (ends past.0 past.1 past.2)
-      | inr past ↦ no_part d p part past.0 under small is past.1
-    ]
-  where
-    ends : (r : List Character) → characters d ≡ part ++ r → [] ≡ passed r ++ es
-        → part ≡ characters d ++ []
-    ends [] is none = sym (append-nil part) ∙ sym is ∙ sym (append-nil (characters d))
-    ends (c ∷ r) is none = absurd (cc)
-
-no_cut : (part other : List Character) (es : List Event) → passed part ≡ passed other ++ Reset ∷ es
-    → ⊥
-no_cut [] [] es e = absurd (cc)
-no_cut [] (y ∷ other) es e = absurd (cc)
-no_cut (x ∷ part) [] es e = absurd (cc)
-no_cut (x ∷ part) (y ∷ other) es e = let others : passed part ≡ passed other ++ Reset ∷ es = cc in
-    no_cut part other es others
-
--- a whole dialogue is no part that a reset cut off
-not_both : (d : Dialogue) (p : Course) (part : List Character) (es fs : List Event)
-    → IsUnderPlan d p → d.body.header.ins < 256 → IsPart part
-    → passed (characters d) ++ es ≡ passed part ++ Reset ∷ fs → ⊥
-not_both d p part es fs under small is e = elim (one_begins (characters d) part es (Reset ∷ fs) e) [
-  | inl past ↦ no_part d p part past.0 under small is past.1
-  | inr past ↦
-      let here = at_reset past.0 fs es past.2 in
-      no_part d p part [] under small is (sym (append-nil part) ∙ ap (λ r. part ++ r) (sym here.0)
-      ∙ sym past.1 ∙ sym (append-nil (characters d)))
-]
-
-same_cut : (part other : List Character) (es fs : List Event)
-    → passed part ++ Reset ∷ es ≡ passed other ++ Reset ∷ fs → (part ≡ other) × (es ≡ fs)
-same_cut part other es fs e = elim (one_begins part other (Reset ∷ es) (Reset ∷ fs) e) [
-  | inl past ↦ let here = at_reset past.0 es (Reset ∷ fs) past.2 in
-      (sym (append-nil part) ∙ ap (λ r. part ++ r) (sym here.0) ∙ sym past.1, let f = here.1 in cc)
-  | inr past ↦ let here = at_reset past.0 fs (Reset ∷ es) past.2 in
-      (past.1 ∙ ap (λ r. other ++ r) here.0 ∙ append-nil other, let f = here.1 in cc)
-]
-
-same_whole : (d e : Dialogue) (p q : Course) (es fs : List Event) → IsUnderPlan d p
-    → IsUnderPlan e q → d.body.header.ins < 256
-    → passed (characters d) ++ es ≡ passed (characters e) ++ fs → AreAlike d e × (es ≡ fs)
-same_whole d e p q es fs is also small equal =
-    elim (one_begins (characters d) (characters e) es fs equal) [
-      | inl past ↦
-          let alike = same_dialogue d e p q past.0 [] is also small
-          (sym past.1 ∙ sym (append-nil (characters e))) in
-          (alike.0, past.2 ∙ ap (λ r. passed r ++ fs) alike.1)
-      | inr past ↦
-          let alike = same_dialogue d e p q [] past.0 is also small
-          (append-nil (characters d) ∙ past.1) in
-          (alike.0, sym (past.2 ∙ ap (λ r. passed r ++ es) (sym alike.1)))
-    ]
-
--- events have one cutting
 abbrev events_in : List Item → List Character → List Event
 events_in items part = flat_map events_of items ++ passed part
 
-whole_first : (d : Dialogue) (items : List Item) (part : List Character)
-    → events_in (Whole d ∷ items) part ≡ passed (characters d) ++ events_in items part
-whole_first d items part =
-    append_assoc (passed (characters d)) (flat_map events_of items) (passed part)
+module _ (items : List Item) (part : List Character) where
+  whole_first : (d : Dialogue)
+      → events_in (Whole d ∷ items) part ≡ passed (characters d) ++ events_in items part
+  whole_first d = append_assoc (passed (characters d)) (flat_map events_of items) (passed part)
 
-cut_first : (cut : List Character) (items : List Item) (part : List Character)
-    → events_in (Cut_off cut ∷ items) part ≡ passed cut ++ Reset ∷ events_in items part
-cut_first cut items part =
-    append_assoc (passed cut ++ Reset ∷ []) (flat_map events_of items) (passed part)
-    ∙ append_assoc (passed cut) (Reset ∷ []) (flat_map events_of items ++ passed part)
+  heard_whole : (d : Dialogue)
+      → heard (events_in (Whole d ∷ items) part) ≡ characters d ++ heard (events_in items part)
+  heard_whole d = ap heard (whole_first d) ∙ heard_passed (characters d) (events_in items part)
 
-ins_is_byte : (d : Dialogue) (items : List Item) (part : List Character)
-    → AllByRecursion IsByteEvent (events_in (Whole d ∷ items) part) → d.body.header.ins < 256
-ins_is_byte d items part bytes = bytes.1.0
+  after_whole : (d : Dialogue)
+      → after_reset (events_in (Whole d ∷ items) part) ≡ after_reset (events_in items part)
+  after_whole d = ap after_reset (whole_first d)
+      ∙ after_passed (characters d) (events_in items part)
+
+  cut_first : (cut : List Character)
+      → events_in (Cut_off cut ∷ items) part ≡ passed cut ++ Reset ∷ events_in items part
+  cut_first cut = append_assoc (passed cut ++ Reset ∷ []) (flat_map events_of items) (passed part)
+      ∙ append_assoc (passed cut) (Reset ∷ []) (events_in items part)
+
+  heard_cut : (cut : List Character) → heard (events_in (Cut_off cut ∷ items) part) ≡ cut
+  heard_cut cut = ap heard (cut_first cut) ∙ heard_passed cut (Reset ∷ events_in items part)
+      ∙ append-nil cut
+
+  after_cut : (cut : List Character)
+      → after_reset (events_in (Cut_off cut ∷ items) part) ≡ Some (events_in items part)
+  after_cut cut = ap after_reset (cut_first cut) ∙ after_passed cut (Reset ∷ events_in items part)
 
 abbrev AllBytes : List Event → Type 0
 AllBytes es = AllByRecursion IsByteEvent es
 
+ins_is_byte : (d : Dialogue) (items : List Item) (part : List Character)
+    → AllBytes (events_in (Whole d ∷ items) part) → d.body.header.ins < 256
+ins_is_byte d items part bytes = bytes.1.0
+
+-- Events have one cutting.
 pub one_cutting : (items others : List Item) (part other : List Character)
     → AllByRecursion IsItem items → AllByRecursion IsItem others → IsPart part → IsPart other
     → AllBytes (events_in items part) → events_in items part ≡ events_in others other
     → AreAlikeInTurn items others × (part ≡ other)
-one_cutting [] [] part other are also is is_other bytes e = (tt, passed_same part other e)
+one_cutting [] [] part other are also is is_other bytes e =
+    (tt, sym (heard_part part) ∙ ap heard e ∙ heard_part other)
 one_cutting [] (Whole d ∷ others) part other are also is is_other bytes e =
-    let small = ins_is_byte d others other (subst AllBytes e bytes) in
-    absurd (no_whole part d also.0.0 (events_in others other) is also.0.1 small
-    (e ∙ whole_first d others other))
+    absurd (no_part d also.0.0 part (heard (events_in others other)) also.0.1
+    (ins_is_byte d others other (subst AllBytes e bytes)) is
+    (sym (heard_part part) ∙ ap heard e ∙ heard_whole others other d))
 one_cutting [] (Cut_off cut ∷ others) part other are also is is_other bytes e =
-    absurd (no_cut part cut (events_in others other) (e ∙ cut_first cut others other))
+    let no : None ≡ Some (events_in others other) = sym (after_part part) ∙ ap after_reset e
+    ∙ after_cut others other cut in absurd (cc)
 one_cutting (Whole d ∷ items) [] part other are also is is_other bytes e =
-    absurd (no_whole other d are.0.0 (events_in items part) is_other are.0.1
-    (ins_is_byte d items part bytes) (sym e ∙ whole_first d items part))
+    absurd (no_part d are.0.0 other (heard (events_in items part)) are.0.1
+    (ins_is_byte d items part bytes) is_other
+    (sym (heard_part other) ∙ ap heard (sym e) ∙ heard_whole items part d))
 one_cutting (Cut_off cut ∷ items) [] part other are also is is_other bytes e =
-    absurd (no_cut other cut (events_in items part) (sym e ∙ cut_first cut items part))
+    let no : None ≡ Some (events_in items part) = sym (after_part other) ∙ ap after_reset (sym e)
+    ∙ after_cut items part cut in absurd (cc)
 one_cutting (Whole d ∷ items) (Whole f ∷ others) part other are also is is_other bytes e =
-    let first = same_whole d f are.0.0 also.0.0 (events_in items part) (events_in others other)
-    are.0.1 also.0.1 (ins_is_byte d items part bytes)
-    (sym (whole_first d items part) ∙ e ∙ whole_first f others other) in
+    let first = same_dialogue d f are.0.0 also.0.0 (heard (events_in items part))
+    (heard (events_in others other)) are.0.1 also.0.1 (ins_is_byte d items part bytes)
+    (sym (heard_whole items part d) ∙ ap heard e ∙ heard_whole others other f) in
+    let same = same_events (events_in items part) (events_in others other) first.1
+    (sym (after_whole items part d) ∙ ap after_reset e ∙ after_whole others other f) in
     let left = all_after IsByteEvent (passed (characters d)) (events_in items part)
-    (subst AllBytes (whole_first d items part) bytes) in
-    let rest = one_cutting items others part other are.1 also.1 is is_other left first.1 in
+    (subst AllBytes (whole_first items part d) bytes) in
+    let rest = one_cutting items others part other are.1 also.1 is is_other left same in
     ((first.0, rest.0), rest.1)
 one_cutting (Whole d ∷ items) (Cut_off cut ∷ others) part other are also is is_other bytes e =
-    absurd (not_both d are.0.0 cut (events_in items part) (events_in others other) are.0.1
+    absurd (no_part d are.0.0 cut (heard (events_in items part)) are.0.1
     (ins_is_byte d items part bytes) also.0
-    (sym (whole_first d items part) ∙ e ∙ cut_first cut others other))
+    (sym (heard_cut others other cut) ∙ ap heard (sym e) ∙ heard_whole items part d))
 one_cutting (Cut_off cut ∷ items) (Whole f ∷ others) part other are also is is_other bytes e =
-    absurd (not_both f also.0.0 cut (events_in others other) (events_in items part) also.0.1
+    absurd (no_part f also.0.0 cut (heard (events_in others other)) also.0.1
     (ins_is_byte f others other (subst AllBytes e bytes)) are.0
-    (sym (whole_first f others other) ∙ sym e ∙ cut_first cut items part))
+    (sym (heard_cut items part cut) ∙ ap heard e ∙ heard_whole others other f))
 one_cutting (Cut_off cut ∷ items) (Cut_off last ∷ others) part other are also is is_other bytes e =
-    let first = same_cut cut last (events_in items part) (events_in others other)
-    (sym (cut_first cut items part) ∙ e ∙ cut_first last others other) in
+    let both : Some (events_in items part) ≡ Some (events_in others other) =
+    sym (after_cut items part cut) ∙ ap after_reset e ∙ after_cut others other last in
+    let same : events_in items part ≡ events_in others other = cc in
     let left = all_after IsByteEvent (passed cut) (Reset ∷ events_in items part)
-    (subst AllBytes (cut_first cut items part) bytes) in
-    let rest = one_cutting items others part other are.1 also.1 is is_other left.1 first.1 in
-    ((first.0, rest.0), rest.1)
+    (subst AllBytes (cut_first items part cut) bytes) in
+    let rest = one_cutting items others part other are.1 also.1 is is_other left.1 same in
+    ((sym (heard_cut items part cut) ∙ ap heard e ∙ heard_cut others other last, rest.0), rest.1)

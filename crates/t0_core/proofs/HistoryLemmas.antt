@@ -18,7 +18,7 @@ use Rattle.t0_core.specs.History.{Event, Passed, Reset, Item, Whole, Cut_off, Is
 use Rattle.t0_core.specs.CardHistory.{IsAt, Leads, AreDone, LeadsUnder, IsTakenLast, under_way}
 use Rattle.t0_core.proofs.PlannedFront.{at_front, at_fresh, planned_under}
 use Rattle.std.proofs.lemmas.List.{map-append}
-use Rattle.t0_core.specs.DialogueLaws.{flat_map_last, follow_each, all_more, runs_each, one_more_each, ends_with}
+use Rattle.t0_core.specs.DialogueLaws.{flat_map_last, follow_each, all_more, runs_each, one_more_each, ends_with, events_item}
 use Rattle.t0_core.specs.FrontLaws.{goes_on, begins_between}
 use Rattle.t0_core.proofs.PlanLemmas.{nulls_move_nothing}
 use Rattle.t0_core.specs.CardLaws.{due_data, next_front, taken_stays, begun}
@@ -199,16 +199,6 @@ events_with events items front new c is grown =
     ∙ append_assoc (flat_map events_of items) (passed (front_characters front)) (Passed c ∷ [])
     ∙ ap (λ es. flat_map events_of items ++ es)
     (sym (ap passed grown ∙ passed_more (front_characters front) c))
-
--- the items with one more, whose last event this is
-pub events_item : (events : List Event) (items : List Item) (before : List Event) (e : Event)
-    (item : Item) → events ≡ flat_map events_of items ++ before → events_of item ≡ before ++ e ∷ []
-    → events ++ e ∷ [] ≡ flat_map events_of (items ++ item ∷ []) ++ passed (front_characters fresh)
-events_item events items before e item is last =
-    ap (λ es. es ++ e ∷ []) is ∙ append_assoc (flat_map events_of items) before (e ∷ [])
-    ∙ ap (λ es. flat_map events_of items ++ es) (sym last)
-    ∙ sym (flat_map_last events_of items item)
-    ∙ sym (append-nil (flat_map events_of (items ++ item ∷ [])))
 
 pub whole_more : {State : Type 0} (Does : State → ℕ → Tpdu → State → Type 0)
     (after_reset : State → State) (first old new : State) (items : List Item) (d : Dialogue)

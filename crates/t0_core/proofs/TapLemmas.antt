@@ -26,11 +26,11 @@ use Rattle.t0_core.specs.FrontLaws.{goes_on, all_moves-more, all_moves-within, b
 use Rattle.t0_core.specs.History.{Event, Passed, Whole, events_of, passed}
 use Rattle.t0_core.specs.TapHistory.{HasHeard, HearsOn, IsOverheard}
 use Rattle.t0_core.specs.TapView.{place_of, IsHeldAt}
-use Rattle.t0_core.specs.DialogueLaws.{all_more, ends_with}
+use Rattle.t0_core.specs.DialogueLaws.{all_more, ends_with, events_item}
 use Rattle.t0_core.specs.TapSide.{Place, In_opening, Between, In_data, After_sw1, SaysSo, Shows, IsRead, IsReadFront, IsPlace, TapStandsAt, Makes, unheard_at, heard_at, after_hearing, after_opening, begun_by, foreseen_by, may_come_from, due_at, direction_from, goes_this_way, way_of, with_one_more, is_terminal, unheard_byte, unheard_procedure, turned_body, turned, Takes, Concludes, afresh}
 use Rattle.t0_core.specs.ProcedureLaws.{step_is, status_is_no_step, first_is_in_range}
 use Rattle.t0_core.proofs.HostTook.{step_tells}
-use Rattle.t0_core.proofs.HistoryLemmas.{events_with, events_item, passed_more}
+use Rattle.t0_core.proofs.HistoryLemmas.{events_with, passed_more}
 use Rattle.t0_core.proofs.PlanLemmas.{nulls_move_nothing}
 use Rattle.t0_core.specs.CardLaws.{next_header}
 

@@ -16,7 +16,7 @@ use Rattle.t0_core.specs.declared.unheard.Unheard.{Unheard}
 use Rattle.t0_core.specs.declared.unheard.Unheard.TheVariants.{OutOfTurn, BadProcedure}
 use Rattle.t0_core.specs.Dialogue.{Body, data_sender, foreseen, to_move}
 use Rattle.t0_core.specs.Front.{Front, In_header, In_body, After_first, IsBetween, with_segment, with_moved}
-use Rattle.t0_core.specs.FrontLaws.{all_moves-within}
+use Rattle.t0_core.specs.FrontLaws.{all_moves-within, begins_between}
 use Rattle.t0_core.specs.DialogueLaws.{all_more}
 use Rattle.t0_core.specs.TapSide.{Place, In_opening, Between, In_data, After_sw1, SaysSo, TapStandsAt, HasTurn, other_end, unheard_at, unheard_procedure, heard_at, heard_procedure, after_hearing, begun_by, may_come_from, way_of}
 use Rattle.t0_core.proofs.TapLemmas.{HearsOne, header_goes, may_come, stands_inside}
@@ -96,14 +96,7 @@ others_turn (In_data said until) from byte (In_body b) at e =
     data_turn said until from b at.0 at.1 at.2 (out_of_turn_is _ e)
 others_turn (After_sw1 said sw1) Terminal byte (After_first b first) at e = status_turn b first
 others_turn (After_sw1 said sw1) Card byte (After_first b first) at e = absurd (cc)
-others_turn (In_opening bytes) from byte (In_body b) at e = absurd at
-others_turn (In_opening bytes) from byte (After_first b first) at e = absurd at
-others_turn (Between said) from byte (In_header heard) at e = absurd at
-others_turn (Between said) from byte (After_first b first) at e = absurd at
-others_turn (In_data said until) from byte (In_header heard) at e = absurd at
-others_turn (In_data said until) from byte (After_first b first) at e = absurd at
-others_turn (After_sw1 said sw1) from byte (In_header heard) at e = absurd at
-others_turn (After_sw1 said sw1) from byte (In_body b) at e = absurd at
+others_turn _ _ _ _ at _ = absurd at
 
 -- ---- a bad procedure byte: it is not
 
@@ -112,8 +105,8 @@ terminal_is_card e = absurd (cc)
 
 no_turn : (said : Said) (b : Body) → IsBetween b → HasTurn Terminal (In_body b) → ⊥
 no_turn said b between (byte, small, inl (new, inl moves, read)) = omega (arith, between, moves.0)
-no_turn said b between (byte, small, inl (new, inr (inl begins), read)) = terminal_is_card begins.1
-no_turn said b between (byte, small, inl (new, inr (inr begins), read)) = terminal_is_card begins.1
+no_turn said b between (byte, small, inl (new, inr begins, read)) =
+    terminal_is_card (begins_between b (Terminal, byte) new begins).1
 no_turn said b between (byte, small, inr (d, ends)) = ends
 
 no_bad : (v : Bool) → (if v then None else Some OutOfTurn) ≡ Some BadProcedure → ⊥
@@ -126,8 +119,7 @@ bad_in_turn (In_opening bytes) Terminal byte front at e turn = absurd (cc)
 bad_in_turn (In_opening bytes) Card byte front at e turn = absurd (cc)
 bad_in_turn (Between said) Terminal byte front at e turn = absurd (cc)
 bad_in_turn (Between said) Card byte (In_body b) at e turn = no_turn said b at.1 turn
-bad_in_turn (Between said) Card byte (In_header heard) at e turn = absurd at
-bad_in_turn (Between said) Card byte (After_first b first) at e turn = absurd at
+bad_in_turn (Between said) Card byte front at e turn = absurd at
 bad_in_turn (In_data said until) from byte front at e turn = no_bad _ e
 bad_in_turn (After_sw1 said sw1) Terminal byte front at e turn = absurd (cc)
 bad_in_turn (After_sw1 said sw1) Card byte front at e turn = absurd (cc)

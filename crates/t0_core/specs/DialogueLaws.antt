@@ -5,7 +5,8 @@ use Rattle.t0_core.specs.declared.end.End.TheVariants.{Card}
 use Rattle.t0_core.specs.Dialogue.{Dialogue, body_characters, characters}
 use Rattle.t0_core.specs.Plan.{Course, Follows, FollowInTurn}
 use Rattle.t0_core.specs.Meaning.{Tpdu, tpdu_of, Runs}
-use Rattle.t0_core.specs.Front.{Front, In_header, In_body, After_first, front_characters, Ends}
+use Rattle.t0_core.specs.Front.{Front, In_header, In_body, After_first, front_characters, Ends, fresh}
+use Rattle.t0_core.specs.History.{Event, Item, events_of, passed}
 
 -- one more list in a row of lists
 pub flat_map_last : {A B : Type 0} (f : A → List B) (xs : List A) (x : A)
@@ -13,6 +14,16 @@ pub flat_map_last : {A B : Type 0} (f : A → List B) (xs : List A) (x : A)
 flat_map_last f [] x = append-nil (f x)
 flat_map_last f (y ∷ xs) x = ap (λ bs. f y ++ bs) (flat_map_last f xs x)
     ∙ sym (append_assoc (f y) (flat_map f xs) (f x))
+
+-- the items with one more, whose last event this is
+pub events_item : (events : List Event) (items : List Item) (before : List Event) (e : Event)
+    (item : Item) → events ≡ flat_map events_of items ++ before → events_of item ≡ before ++ e ∷ []
+    → events ++ e ∷ [] ≡ flat_map events_of (items ++ item ∷ []) ++ passed (front_characters fresh)
+events_item events items before e item is last =
+    ap (λ es. es ++ e ∷ []) is ∙ append_assoc (flat_map events_of items) before (e ∷ [])
+    ∙ ap (λ es. flat_map events_of items ++ es) (sym last)
+    ∙ sym (flat_map_last events_of items item)
+    ∙ sym (append-nil (flat_map events_of (items ++ item ∷ [])))
 
 -- one more dialogue is over, under its own plan
 pub follow_each : (whole : List Dialogue) (plans : List Course) (d : Dialogue) (p : Course)

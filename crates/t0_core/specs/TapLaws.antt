@@ -1,11 +1,9 @@
 -- Laws of what a tap has heard.
 use Rattle.std.specs.Prelude.{◌≡◌, List, [], ◌∷◌, ◌++◌}
-use Rattle.std.specs.List.{flat_map}
-use Rattle.std.proofs.Common.{refl, sym, subst, ◌∙◌, ap, append-nil, append_assoc, lit<}
-use Rattle.t0_core.specs.Character.{Character}
-use Rattle.t0_core.specs.DialogueLaws.{all_more, flat_map_last}
+use Rattle.std.proofs.Common.{refl, sym, subst, lit<}
+use Rattle.t0_core.specs.DialogueLaws.{all_more, events_item}
 use Rattle.t0_core.specs.Front.{Front, In_header, In_body, After_first, fresh, front_characters}
-use Rattle.t0_core.specs.History.{Event, Reset, Item, Cut_off, events_of, passed}
+use Rattle.t0_core.specs.History.{Event, Reset, Cut_off, passed}
 use Rattle.t0_core.specs.TapSide.{Place, In_opening, Between, In_data, After_sw1, TapStandsAt, IsReadFront, afresh}
 use Rattle.t0_core.specs.TapHistory.{HasHeard, IsOverheard}
 
@@ -17,16 +15,6 @@ stands_read (In_data said until) (In_body b) at = at.0.is_read
 stands_read (After_sw1 said sw1) (After_first b first) at = at.0.is_read
 stands_read _ _ at = absurd at
 
-events_cut_off : (events : List Event) (items : List Item) (part : List Character)
-    → events ≡ flat_map events_of items ++ passed part
-    → events ++ Reset ∷ [] ≡ flat_map events_of (items ++ Cut_off part ∷ [])
-    ++ passed (front_characters fresh)
-events_cut_off events items part is =
-    ap (λ es. es ++ Reset ∷ []) is
-    ∙ append_assoc (flat_map events_of items) (passed part) (Reset ∷ [])
-    ∙ sym (flat_map_last events_of items (Cut_off part))
-    ∙ sym (append-nil (flat_map events_of (items ++ Cut_off part ∷ [])))
-
 -- A reset cuts off the front under way, and nothing of the dialogue to come has been heard.
 pub heard_reset : (events : List Event) (before after : Place) → after ≡ afresh
     → (led : HasHeard events before) → (now : HasHeard (events ++ Reset ∷ []) after)
@@ -37,7 +25,8 @@ heard_reset events before after is led =
       record {
         items = led.items ++ Cut_off part ∷ [];
         front = fresh;
-        events_are = events_cut_off events led.items part led.events_are;
+        events_are = events_item events led.items (passed part) Reset (Cut_off part) led.events_are
+            refl;
         are_overheard = all_more IsOverheard led.items (Cut_off part) led.are_overheard
             (led.front, led.is_front, stands_read before led.front led.stands, refl);
         is_front = lit< tt;

@@ -67,7 +67,7 @@ terminal_sends : (d : Direction) → Terminal ≡ data_sender d → comes_from_t
 terminal_sends ToCard is = refl
 terminal_sends FromCard is = absurd (cc)
 
-data_are_due : (d : Direction) (a b : ℕ) → comes_from_terminal d ≡ true → a < b
+pub data_are_due : (d : Direction) (a b : ℕ) → comes_from_terminal d ≡ true → a < b
     → (comes_from_terminal d && nat_lt a b) ≡ true
 data_are_due ToCard a b way lt = lt-ltb a b lt
 data_are_due FromCard a b way lt = absurd (cc)

@@ -1,8 +1,10 @@
 pub mod HostLemmas
 pub mod HostTook
+pub mod DataRunLemmas
 pub mod PlanLemmas
 pub mod CardLemmas
 pub mod HistoryLemmas
+pub mod CardTakingLemmas
 mod Vectors
 pub mod PlannedFront
 pub mod TpduLemmas

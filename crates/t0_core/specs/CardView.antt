@@ -1,5 +1,5 @@
 -- How the fields of a card's end are seen.
-use Rattle.std.specs.Prelude.{◌≡◌, ℕ, ◌+◌, ◌-◌, ◌<◌, ◌≤◌, ◌⊎◌, List, [], ◌∷◌, length, take, drop, replicate, true, Option, Some, None}
+use Rattle.std.specs.Prelude.{◌≡◌, ℕ, ◌+◌, ◌-◌, ◌<◌, ◌≤◌, ◌⊎◌, List, [], ◌∷◌, ◌++◌, length, take, drop, replicate, true, Option, Some, None}
 use Rattle.apdu_core.specs.HeaderBytes.{ins_is_valid}
 use Rattle.apdu_core.specs.StatusWord.{StatusWord, IsStatusWord, count}
 use Rattle.t0_core.specs.declared.card_end.Phase.{Phase}
@@ -98,6 +98,19 @@ IsAfter (phase.Refused header p3 status done) new = ⊥
 IsAfter (phase.Accepted service) new = (service.moved < service.until)
     × (new ≡ phase.Accepted (one_moved service))
 IsAfter (phase.SecondStatus status) new = ⊥
+
+-- so many data characters more have moved
+abbrev pub so_many_moved : Service → ℕ → Service
+so_many_moved s n = record s { moved = s.moved + n }
+
+-- These data characters of the terminal have come in one run: none, or so many of those that are
+-- due.
+abbrev pub IsRun : Phase → List ℕ → List ℕ → Phase → List ℕ → Type 0
+IsRun old came bytes new room = ((bytes ≡ []) × (new ≡ old) × (room ≡ came))
+    ⊎ ((s : Service) × (old ≡ phase.Accepted s) × (s.direction ≡ ToCard)
+    × (s.moved + length bytes ≤ s.until)
+    × (new ≡ phase.Accepted (so_many_moved s (length bytes)))
+    × (take (s.moved + length bytes) room ≡ take s.moved came ++ bytes))
 
 -- a verdict and its direction stay until the status
 abbrev pub KeepsDirection : Stage → Stage → Type 0

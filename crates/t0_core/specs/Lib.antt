@@ -12,6 +12,7 @@ pub mod CardContract
 pub mod HostSide
 pub mod HostView
 pub mod HostMark
+pub mod Buffers
 pub mod HostAnswer
 pub mod CardView
 pub mod FrontLaws
@@ -27,6 +28,7 @@ pub mod AnswerLaws
 pub mod TpduBytes
 pub mod CardTpdu
 pub mod Answering
+pub mod CardTaking
 pub mod FaultText
 pub mod TapSide
 pub mod TapView

@@ -3,13 +3,15 @@ ghost use Rattle.std.specs.Prelude.{◌≡◌, ℕ, ◌+◌, ◌≤◌, ◌<◌,
 ghost use Rattle.apdu_core.specs.declared.header.Header.{Header};
 ghost use Rattle.apdu_core.specs.HeaderBytes.{header_bytes, ins_is_valid};
 ghost use Rattle.t0_core.specs.declared.service.Service.{Service};
-ghost use Rattle.t0_core.specs.CardView.{Fits, IsForgotten, IsHeld, IsJudged, IsVerdict, IsAfter, KeepsDirection, Refuses, stage_of};
+ghost use Rattle.t0_core.specs.CardView.{Fits, IsForgotten, IsHeld, IsJudged, IsRun, IsVerdict, IsAfter, KeepsDirection, Refuses, stage_of};
 ghost use Rattle.t0_core.specs.CardSide.{StandsAt, Advances, GoesByCount, IsOnPlan, SuitsFront, IsPermitted, begins_with, listens, with_character, Taking_header, Serving, takes_plan, still_to_go};
 ghost use Rattle.t0_core.specs.History.{Event, Passed, Reset};
 ghost use Rattle.t0_core.specs.CardHistory.{Leads, LeadsUnder, IsTakenLast};
 ghost use Rattle.t0_core.specs.Plan.{Course, IsCut, advanced, plan_kept};
 ghost use Rattle.t0_core.specs.declared.direction.Direction.{Direction};
 ghost use Rattle.t0_core.specs.Front.{Front, In_body, header_only};
+ghost use Rattle.t0_core.specs.Buffers.{Steps};
+ghost use Rattle.t0_core.specs.CardTaking.{IsTaken};
 
 mod tpdu;
 
@@ -202,6 +204,32 @@ impl<C: TpduCard> CardEnd<C> {
         Ok(())
     }
 
+    /// Takes characters of the terminal, as `take` one at a time, as many as it listens to. Says
+    /// how many; those behind them change nothing.
+    #[inline(always)]
+    pub fn take_bytes(&mut self, bytes: &[u8]) -> usize
+        ensures taken { Steps (IsTaken C.TpduCard) self.old (take result bytes.now) self.new }
+        ensures all { (result ≡ length bytes.now)
+            ⊎ ((result < length bytes.now) × (listens self.new.stage ≡ false)) }
+    {
+        let count = self.take_data(bytes);
+        for at in count..bytes.len() {
+            let Ok(()) = self.take(bytes[at]) else {
+                return at;
+            };
+        }
+        bytes.len()
+    }
+
+    /// Takes the data characters that are due, in one run. Says how many.
+    #[inline(always)]
+    fn take_data(&mut self, bytes: &[u8]) -> usize
+        ensures taken { Steps (IsTaken C.TpduCard) self.old (take result bytes.now) self.new }
+        ensures fits { result ≤ length bytes.now }
+    {
+        take_run(&mut self.phase, bytes, &mut self.came)
+    }
+
     /// Hands out the card's next character, if it is the card's turn; else nothing changes.
     ///
     /// With the first character after a header the next of the plans is taken. The steps done are
@@ -339,6 +367,22 @@ fn take_into(phase: &mut Phase, byte: u8, came: &mut [u8; 255]) -> Result<(), No
         }
     }
     Err(NotListening)
+}
+
+/// Takes data characters of the terminal to their places in `came`, as many as are due. Says how
+/// many.
+#[inline(always)]
+fn take_run(phase: &mut Phase, bytes: &[u8], came: &mut [u8; 255]) -> usize
+    requires held { IsHeld phase.old }
+    requires room { length came.old ≡ 255 }
+    ensures run { IsRun phase.old came.old (take result bytes.now) phase.new came.new }
+    ensures fits { result ≤ length bytes.now }
+    ensures room { length came.new ≡ 255 }
+{
+    match phase {
+        Phase::Accepted { service } => service.take_run(bytes, came),
+        Phase::Opening { .. } | Phase::Refused { .. } | Phase::SecondStatus { .. } => 0,
+    }
 }
 
 /// Hands out the card's next character, and takes the phase past it.

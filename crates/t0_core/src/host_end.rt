@@ -1,5 +1,5 @@
 //! The terminal's end of one TPDU, which opens it and follows the card's procedure bytes.
-ghost use Rattle.std.specs.Prelude.{◌≡◌, ℕ, ◌≤◌, ◌<◌, List, [], ◌∷◌, ◌++◌, true, OnOk, OnErr, IfErr, IsErrOf, MatchResult, IsOk, length, IfOk, is_ok, if◌then◌else◌, ◌⊎◌, ◌↔◌, Some, None, is_some, IfSome};
+ghost use Rattle.std.specs.Prelude.{◌≡◌, ℕ, ◌+◌, ◌≤◌, ◌<◌, List, [], ◌∷◌, ◌++◌, true, OnOk, OnErr, IfErr, IsErrOf, MatchResult, IsOk, length, take, drop, IfOk, is_ok, if◌then◌else◌, ◌⊎◌, ◌↔◌, Some, None, is_some, IfSome};
 ghost use Rattle.std.specs.Result.{result_err};
 ghost use Rattle.apdu_core.specs.HeaderBytes.{ins_is_valid};
 ghost use Rattle.apdu_core.specs.StatusWord.{StatusWord, count};
@@ -8,6 +8,7 @@ ghost use Rattle.t0_core.specs.declared.direction.Direction.TheVariants.{ToCard,
 ghost use Rattle.t0_core.specs.HostSide.{IsInRange, IsStage, turn_of, data_turn, data_due, after_turn, moving, fault_of, data_fault, procedure_fault, step_of, after_fault, after_taking, data_in, gathered};
 ghost use Rattle.t0_core.specs.HostView.{host_of, direction_of, content_of};
 ghost use Rattle.t0_core.specs.HostMark.{HasOnly, with_data};
+ghost use Rattle.t0_core.specs.Buffers.{HandsOut, IsDataTurn};
 ghost use Rattle.t0_core.specs.HostAnswer.{is_due, is_start, may_come, excess, answer_fault, after_answer_fault, Gives};
 
 use crate::answer_fault::AnswerFault;
@@ -191,6 +192,18 @@ impl<'a> HostEnd<'a> {
             (new : Front) × GoesOn front (Terminal, byte) new × HostStandsAt self.new new }
     {
         data_at(&self.request, &mut self.stage)
+    }
+
+    /// Hands out characters of the command's data into a buffer, as `next_data` one at a time, as
+    /// many as are due and there is room for. Says how many; what stands behind them stays as it
+    /// was.
+    #[inline(always)]
+    pub fn next_data_bytes(&mut self, bytes: &mut [u8]) -> usize
+        ensures handed { HandsOut IsDataTurn self.old bytes.old bytes.new result self.new }
+        ensures all { (result ≡ length bytes.old) ⊎ (data_due self.new ≡ None) }
+        ensures keeps { IsRequest self.new }
+    {
+        data_bytes_at(&self.request, &mut self.stage, bytes)
     }
 
     /// The status, if the TPDU has ended.
@@ -453,6 +466,47 @@ fn data_at(request: &Request, stage: &mut HostStage) -> Option<u8>
         },
         _ => None,
     }
+}
+
+/// Hands out the data characters that are due at this stage into a buffer, as many as it has room
+/// for, in one run.
+#[inline(always)]
+fn data_bytes_at(request: &Request, stage: &mut HostStage, bytes: &mut [u8]) -> usize
+    requires { IsInRange (host_of request.now stage.old) }
+    ensures handed { HandsOut IsDataTurn (host_of request.now stage.old) bytes.old bytes.new result
+        (host_of request.now stage.new) }
+    ensures all { (result ≡ length bytes.old)
+        ⊎ (data_due (host_of request.now stage.new) ≡ None) }
+    ensures range { IsInRange (host_of request.now stage.new) }
+{
+    match stage {
+        HostStage::Moving { moved, until } => match request.transfer {
+            Transfer::Sending(content) => {
+                let (place, end) = (*moved, *until);
+                let count = hand_run(content, place, end, bytes);
+                *stage = stage_moving(place + count as u16, end);
+                count
+            }
+            Transfer::Asking => 0,
+        },
+        _ => 0,
+    }
+}
+
+/// Copies the data from one place up to another to the front of a buffer, as many as it has room
+/// for. Says how many.
+#[inline(always)]
+fn hand_run(content: &[u8], place: u16, end: u16, bytes: &mut [u8]) -> usize
+    requires { (place ≤ end) × (end ≤ length content.now) }
+    ensures fits { result ≤ length bytes.old }
+    ensures within { place + result ≤ end }
+    ensures all { (result ≡ length bytes.old) ⊎ (place + result ≡ end) }
+    ensures copied { bytes.new ≡ take result (drop place content.now) ++ drop result bytes.old }
+{
+    let count = ((end - place) as usize).min(bytes.len());
+    let from = &content[place as usize..];
+    bytes[..count].copy_from_slice(&from[..count]);
+    count
 }
 
 /// What an end at this stage does. A character to send takes it to the next.

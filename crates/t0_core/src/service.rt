@@ -1,6 +1,7 @@
 //! How a card's end moves the data of a TPDU.
-ghost use Rattle.std.specs.Prelude.{◌≡◌, ℕ, ◌-◌, ◌<◌, ◌≤◌, List, [], length, take, drop, false, MatchOption, nat_lt, ◌&&◌};
+ghost use Rattle.std.specs.Prelude.{◌≡◌, ℕ, ◌+◌, ◌-◌, ◌<◌, ◌≤◌, ◌⊎◌, ◌++◌, List, [], length, take, drop, false, MatchOption, nat_lt, ◌&&◌};
 ghost use Rattle.t0_core.specs.declared.plan.Step.{Step};
+ghost use Rattle.t0_core.specs.declared.direction.Direction.TheVariants.{ToCard};
 ghost use Rattle.t0_core.specs.CardContract.{IsDecided};
 ghost use Rattle.t0_core.specs.CardView.{Fits, IsInService, IsNext, IsReadyFor, GivesStatus, KeepsDirection, phase_after, stage_of};
 ghost use Rattle.t0_core.specs.CardSide.{comes_from_terminal, Advances, GoesByCount, IsServed, Serving, listens, one_moved, still_to_go, whole_of};
@@ -93,6 +94,31 @@ impl Service {
         ensures { self.new ≡ one_moved self.old }
     {
         self.moved += 1;
+    }
+
+    /// Takes data characters of the terminal to their places in `came`, as many as are due. Says
+    /// how many.
+    #[inline(always)]
+    pub(crate) fn take_run(&mut self, bytes: &[u8], came: &mut [u8; 255]) -> usize
+        requires within { (self.old.until ≤ whole_of self.old) × (self.old.p3 < 256) }
+        requires room { length came.old ≡ 255 }
+        ensures moved { self.new ≡ record self.old { moved = self.old.moved + result } }
+        ensures due { (result ≡ 0) ⊎ ((self.old.direction ≡ ToCard)
+            × (self.old.moved + result ≤ self.old.until)) }
+        ensures came { take (self.old.moved + result) came.new
+            ≡ take self.old.moved came.old ++ take result bytes.now }
+        ensures none { result ≡ 0 → came.new ≡ came.old }
+        ensures fits { result ≤ length bytes.now }
+        ensures room { length came.new ≡ 255 }
+    {
+        if !self.is_listening() {
+            return 0;
+        }
+        let place = self.moved as usize;
+        let count = ((self.until - self.moved) as usize).min(bytes.len());
+        came[place..place + count].copy_from_slice(&bytes[..count]);
+        self.moved += count as u32;
+        count
     }
 
     /// Hands out the next procedure byte, when those so far have moved their data; `None`, and

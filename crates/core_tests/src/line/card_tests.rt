@@ -36,6 +36,21 @@ fn passes_under(rt: &impl Abort, alloc: Global, steps: &[Step], runs: &[(End, &[
 }
 
 #[test]
+fn takes_as_many_as_it_listens_to(rt: HostRuntime) {
+    let mut plans = Plans::<Global>::over(&[]);
+    let mut end = CardEnd::new(TestCard::new());
+    assert!(rt; end.take_bytes(b"\x00\xDA\x00") == 3);
+    assert!(rt; end.take_bytes(b"\x00\x03\x41") == 2);
+    assert!(rt; end.turn(&mut plans) == Turn::Sends(0xDA));
+    assert!(rt; end.take_bytes(b"\x41\x42") == 2);
+    assert!(rt; end.take_bytes(b"\x43\x44") == 1);
+    assert!(rt; &end.held()[..4] == b"\x41\x42\x43\x00".as_slice());
+    assert!(rt; end.take_bytes(b"\x44") == 0);
+    assert!(rt; end.turn(&mut plans) == Turn::Sends(0x90));
+    assert!(rt; end.turn(&mut plans) == Turn::Sends(0x00));
+}
+
+#[test]
 fn each_step_of_a_plan(rt: HostRuntime) {
     let get = (End::Terminal, b"\x00\xCA\x00\x00\x03".as_slice());
     let put = (End::Terminal, b"\x00\xDA\x00\x00\x02".as_slice());

@@ -143,6 +143,28 @@ fn hands_out_data_and_nothing_else(rt: HostRuntime) {
 }
 
 #[test]
+fn hands_out_a_run_of_data(rt: HostRuntime) {
+    let mut gather = Gather::with_room(rt.alloc(), 1).expect(&rt, "memory");
+    let mut end = HostEnd::sending(PUT, b"\x41\x42\x43");
+    let mut room = [0xEE; 4];
+    assert!(rt; end.next_data_bytes(&mut room) == 0);
+    let opening = b"\x00\xDA\x00\x00\x03".as_slice();
+    pass(
+        &rt,
+        &mut end,
+        &mut gather,
+        &[(End::Terminal, opening), (End::Card, b"\xDA")],
+    );
+    assert!(rt; end.next_data_bytes(&mut room[..2]) == 2);
+    assert!(rt; room == [0x41, 0x42, 0xEE, 0xEE]);
+    assert!(rt; end.next_data_bytes(&mut room) == 1);
+    assert!(rt; room == [0x43, 0x42, 0xEE, 0xEE]);
+    assert!(rt; end.next_data_bytes(&mut room) == 0);
+    pass(&rt, &mut end, &mut gather, &[(End::Card, b"\x90\x00")]);
+    is_done(&rt, &mut end, 0x9000);
+}
+
+#[test]
 fn listens_to_nothing_while_it_sends(rt: HostRuntime) {
     let mut gather = Gather::with_room(rt.alloc(), 2).expect(&rt, "memory");
     let mut end = HostEnd::sending(PUT, b"\x41\x42");

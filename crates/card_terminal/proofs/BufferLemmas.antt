@@ -1,7 +1,7 @@
 -- Characters that pass by a buffer: one step more.
 use Rattle.std.proofs.Common.{◌≡◌, ◌<◌, ◌+◌, ◌++◌, ℕ, List, [], ◌∷◌, length, take, drop, set, get_or, refl, sym, subst, ap, ◌∙◌, arith}
 use Rattle.std.proofs.lemmas.List.{take_more, take_more_set, drop-set-lt, drop-drop}
-use Rattle.card_terminal.specs.Buffers.{Steps, HandsOut}
+use Rattle.t0_core.specs.Buffers.{Steps, HandsOut}
 
 module _ {State : Type 0} (Step : State → ℕ → State → Type 0) where
   -- one step more
@@ -10,10 +10,6 @@ module _ {State : Type 0} (Step : State → ℕ → State → Type 0) where
   one_more [] s last next b same step = (next, subst (λ x. Step x b next) same step, refl)
   one_more (c ∷ bs) s last next b steps step =
       (steps.0, steps.1, one_more bs steps.0 last next b steps.2 step)
-
-  -- none is handed out
-  pub none_handed : (s : State) (bytes : List ℕ) → HandsOut Step s bytes bytes 0 s
-  none_handed s bytes = record { fits = omega arith; steps = refl; behind = refl }
 
   -- what stands behind a place stays where a byte is written there
   pub rest_stays : (before after : List ℕ) (at b : ℕ) → drop at after ≡ drop at before

@@ -1,5 +1,5 @@
 -- Characters that a terminal's end hands out into a buffer, one turn for each.
-use Rattle.std.proofs.Common.{◌≡◌, ℕ, ◌+◌, ◌<◌, ◌≤◌, List, length, set, refl, sym, subst, ap, ◌∙◌, arith, Some, None, Bool, true, false}
+use Rattle.std.proofs.Common.{◌≡◌, ℕ, ◌+◌, ◌<◌, ◌≤◌, List, [], ◌∷◌, length, take, set, refl, sym, subst, ap, ◌∙◌, arith, Some, None, Bool, true, false}
 use Rattle.apdu_core.specs.StatusWord.{StatusWord}
 use Rattle.t0_core.specs.declared.end.End.TheVariants.{Terminal}
 use Rattle.t0_core.specs.declared.host_end.HostTurn.{HostTurn}
@@ -8,14 +8,15 @@ use Rattle.t0_core.specs.Front.{Front, GoesOn}
 use Rattle.t0_core.specs.Room.{Room}
 use Rattle.t0_core.specs.HostSide.{Hosting, HostStandsAt, IsRequest, at_stage, turn_of, after_turn}
 use Rattle.t0_core.specs.HostMark.{HasOnly}
+use Rattle.t0_core.specs.Buffers.{Steps, HandsOut, IsDataTurn}
 use Rattle.card_terminal.specs.declared.attempt.Attempt.{Attempt}
 use Rattle.card_terminal.specs.declared.wanted.Wanted.{Wanted}
-use Rattle.card_terminal.specs.Buffers.{HandsOut, IsHandingOut}
-use Rattle.card_terminal.proofs.BufferLemmas.{none_handed, one_handed}
+use Rattle.card_terminal.specs.Buffers.{IsHandingOut}
+use Rattle.card_terminal.proofs.BufferLemmas.{one_handed}
 use Rattle.card_terminal.specs.ExchangeSide.{ExchangeOf, IsKept, exchange_turn}
 use Rattle.card_terminal.specs.ExchangeSteps.{IsTurn}
 use Rattle.card_terminal.specs.OwnedExchange.{of_parts}
-use Rattle.card_terminal.proofs.OwnedLemmas.{turned}
+use Rattle.card_terminal.proofs.OwnedLemmas.{same_sent, turned}
 use Rattle.card_terminal.proofs.TurnLemmas.{over_by_turn}
 
 -- a turn at which a character is handed out
@@ -37,16 +38,6 @@ pub record HasHanded (begun : Hosting) (stalled : Bool) (before after : List ℕ
       → exchange_turn (of_parts end gather attempt wanted stalled) ≡ Done status → end ≡ begun
   pub only : (content : List ℕ) → HasOnly content begun → HasOnly content end
 
-pub none_yet : (begun : Hosting) (stalled : Bool) (bytes : List ℕ)
-    → HasHanded begun stalled bytes bytes 0 begun
-none_yet begun stalled bytes = record {
-  out = λ gather attempt wanted kept.
-      none_handed SendsOne (of_parts begun gather attempt wanted stalled) bytes;
-  kept = λ gather attempt wanted kept. kept;
-  over = λ gather attempt wanted status done. refl;
-  only = λ content only. only;
-}
-
 -- what holds of every exchange still does at another stage of its end, where it has not stalled
 still_kept : (end next : Hosting) (stalled : Bool) (gather : Room) (attempt : Attempt)
     (wanted : Wanted) → stalled ≡ false → IsKept (of_parts end gather attempt wanted stalled)
@@ -57,6 +48,68 @@ still_kept end next stalled gather attempt wanted going kept = record {
   fits = kept.fits;
   stalled_at_end = λ is. let no : true ≡ false = sym is ∙ going in absurd (cc);
 }
+
+-- a run of data is so many turns
+data_run : (bytes : List ℕ) (end last : Hosting) (gather : Room) (attempt : Attempt)
+    (wanted : Wanted) → IsKept (of_parts end gather attempt wanted false)
+    → Steps IsDataTurn end bytes last
+    → Steps SendsOne (of_parts end gather attempt wanted false) bytes
+    (of_parts last gather attempt wanted false)
+data_run [] end last gather attempt wanted kept steps =
+    ap (λ (h : Hosting). of_parts h gather attempt wanted false) steps
+data_run (b ∷ bytes) end last gather attempt wanted kept steps =
+    let ex = of_parts end gather attempt wanted false in
+    let next = steps.0 in
+    let turn = steps.1 in (
+      of_parts next gather attempt wanted false,
+      turned ex (Sends b) next kept refl (sym turn.sends) turn.after turn.keeps
+          (λ none. absurd (none b refl)) (λ front byte stands is.
+          subst (λ x. (new : Front) × GoesOn front (Terminal, x) new × HostStandsAt next new)
+          (same_sent b byte is) (turn.goes_on front stands)),
+      data_run bytes next last gather attempt wanted
+          (still_kept end next false gather attempt wanted refl kept) steps.2,
+    )
+
+data_over : (bytes : List ℕ) (end last : Hosting) (gather : Room) (attempt : Attempt)
+    (wanted : Wanted) (status : StatusWord) → Steps IsDataTurn end bytes last
+    → exchange_turn (of_parts last gather attempt wanted false) ≡ Done status → last ≡ end
+data_over [] end last gather attempt wanted status steps done = steps
+data_over (b ∷ bytes) end last gather attempt wanted status steps done =
+    let next = steps.0 in
+    let ex = of_parts end gather attempt wanted false in
+    let back : last ≡ next =
+    data_over bytes next last gather attempt wanted status steps.2 done in
+    let first : next ≡ end = ap (λ (e : ExchangeOf). e.host)
+    (over_by_turn ex ex next status refl refl steps.1.after
+    (ap (λ (h : Hosting). exchange_turn (of_parts h gather attempt wanted false)) (sym back)
+    ∙ done)) in
+    back ∙ first
+
+data_only : (bytes : List ℕ) (end last : Hosting) (content : List ℕ)
+    → Steps IsDataTurn end bytes last → HasOnly content end → HasOnly content last
+data_only [] end last content steps only =
+    subst (λ (h : Hosting). HasOnly content h) (sym steps) only
+data_only (b ∷ bytes) end last content steps only = data_only bytes steps.0 last content steps.2
+    (subst (λ (h : Hosting). HasOnly content h) (sym steps.1.after) only)
+
+-- the data that are due have been handed out
+pub run_handed : (begun end : Hosting) (stalled : Bool) (before after : List ℕ) (at : ℕ)
+    → stalled ≡ false → HandsOut IsDataTurn begun before after at end
+    → HasHanded begun stalled before after at end
+run_handed begun end stalled before after at going handed =
+    let P : Bool → Type 0 = λ v. HasHanded begun v before after at end in
+    subst P (sym going) (record {
+      out = λ gather attempt wanted kept. record {
+        fits = handed.fits;
+        steps = data_run (take at after) begun end gather attempt wanted kept handed.steps;
+        behind = handed.behind;
+      };
+      kept = λ gather attempt wanted kept. still_kept begun end false gather attempt wanted refl
+          kept;
+      over = λ gather attempt wanted status done. data_over (take at after) begun end gather
+          attempt wanted status handed.steps done;
+      only = λ content only. data_only (take at after) begun end content handed.steps only;
+    })
 
 module _ (begun end next : Hosting) (stalled : Bool) (before after : List ℕ) (at : ℕ)
     (turn : HostTurn) (going : stalled ≡ false) (below : at < length after)
@@ -97,24 +150,20 @@ module _ (begun end next : Hosting) (stalled : Bool) (before after : List ℕ) (
   }
 
   -- or none, and that is told
-  pub handed_up_to : (kept_as : List ℕ) → kept_as ≡ after
-      → ((byte : ℕ) → turn ≡ Sends byte → ⊥) → (gather : Room) (attempt : Attempt)
+  pub handed_up_to : ((byte : ℕ) → turn ≡ Sends byte → ⊥) → (gather : Room) (attempt : Attempt)
       (wanted : Wanted) → IsKept (of_parts begun gather attempt wanted stalled)
-      → IsHandingOut IsTurn (of_parts begun gather attempt wanted stalled) before kept_as
+      → IsHandingOut IsTurn (of_parts begun gather attempt wanted stalled) before after
       (record { count = at; stop = Some turn }) (of_parts next gather attempt wanted stalled)
-  handed_up_to kept_as equal none gather attempt wanted kept =
+  handed_up_to none gather attempt wanted kept =
       let back = stays none in
       let step = one_turn gather attempt wanted kept in
       let S : Hosting → Type 0 = λ h. HandsOut SendsOne
-      (of_parts begun gather attempt wanted stalled) before kept_as at
+      (of_parts begun gather attempt wanted stalled) before after at
       (of_parts h gather attempt wanted stalled) in
-      let P : List ℕ → Type 0 = λ bs. HandsOut SendsOne
-      (of_parts begun gather attempt wanted stalled) before bs at
-      (of_parts end gather attempt wanted stalled) in
       let Q : Hosting → Type 0 = λ h. IsTurn (of_parts h gather attempt wanted stalled) turn
       (of_parts next gather attempt wanted stalled) in
       record {
-        sent = subst S (sym back) (subst P (sym equal) (handed.out gather attempt wanted kept));
+        sent = subst S (sym back) (handed.out gather attempt wanted kept);
         stop = (omega (arith, below, same), subst Q (sym back) step, none);
       }
 

@@ -3,7 +3,8 @@ use Rattle.std.proofs.Common.{◌≡◌, ℕ, ◌+◌, ◌<◌, ◌≤◌, List,
 use Rattle.std.specs.Prelude.{Result, Ok, Err}
 use Rattle.t0_core.specs.declared.line_fault.LineFault.{LineFault}
 use Rattle.t0_core.specs.HostMark.{HasOnly}
-use Rattle.card_terminal.specs.Buffers.{Steps, IsTakingAll}
+use Rattle.t0_core.specs.Buffers.{Steps}
+use Rattle.card_terminal.specs.Buffers.{IsTakingAll}
 use Rattle.card_terminal.proofs.BufferLemmas.{one_taken}
 use Rattle.card_terminal.specs.ExchangeSide.{ExchangeOf, IsKept}
 use Rattle.card_terminal.specs.ExchangeSteps.{IsTaking}

@@ -6,9 +6,10 @@ use Rattle.t0_core.specs.declared.host_end.HostTurn.{HostTurn}
 use Rattle.t0_core.specs.declared.host_end.HostTurn.TheVariants.{Sends, Done, Failed}
 use Rattle.t0_core.specs.declared.line_fault.LineFault.{LineFault}
 use Rattle.t0_core.specs.declared.line_fault.LineFault.TheVariants.{AfterEnd, NotListening}
+use Rattle.t0_core.specs.Buffers.{Steps}
 use Rattle.card_terminal.specs.declared.handed_out.HandedOut.{HandedOut}
 use Rattle.card_terminal.specs.declared.taken.Taken.{Taken}
-use Rattle.card_terminal.specs.Buffers.{Steps, IsHandingOut, IsTakingAll}
+use Rattle.card_terminal.specs.Buffers.{IsHandingOut, IsTakingAll}
 use Rattle.card_terminal.specs.Conversing.{is_done}
 use Rattle.card_terminal.specs.ExchangeSide.{ExchangeOf, IsBounded, exchange_turn, is_final}
 use Rattle.card_terminal.specs.ExchangeSteps.{IsTurn, IsTaking}

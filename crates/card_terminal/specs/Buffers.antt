@@ -1,24 +1,11 @@
--- Characters that pass by a buffer: what it does is so many steps of one character each.
-use Rattle.std.specs.Prelude.{◌≡◌, ◌<◌, ◌≤◌, ℕ, List, [], ◌∷◌, length, take, drop, slice_index, Result, Ok, Err, MatchResult, MatchOption}
+-- Characters of an exchange that pass by a buffer, one step for each.
+use Rattle.std.specs.Prelude.{◌≡◌, ◌<◌, ℕ, List, length, take, slice_index, Result, Ok, Err, MatchResult, MatchOption}
 use Rattle.t0_core.specs.declared.host_end.HostTurn.{HostTurn}
 use Rattle.t0_core.specs.declared.host_end.HostTurn.TheVariants.{Sends}
 use Rattle.t0_core.specs.declared.line_fault.LineFault.{LineFault}
+pub use Rattle.t0_core.specs.Buffers.{Steps, HandsOut}
 use Rattle.card_terminal.specs.declared.handed_out.HandedOut.{HandedOut}
 use Rattle.card_terminal.specs.declared.taken.Taken.{Taken}
-
--- These bytes lead from a state to the last, by one step for each.
-abbrev pub Steps : {State : Type 0} → (State → ℕ → State → Type 0) → State → List ℕ → State
-    → Type 0
-Steps Step s [] last = last ≡ s
-Steps Step s (b ∷ bs) last = (next : _) × Step s b next × Steps Step next bs last
-
--- So many bytes were handed out into a buffer, by one step for each: they stand at its front, and
--- what stands behind them stays as it was.
-pub record HandsOut {State : Type 0} (Step : State → ℕ → State → Type 0) (old : State)
-    (before after : List ℕ) (count : ℕ) (new : State) : Type 0 where
-  pub fits : count ≤ length before
-  pub steps : Steps Step old (take count after) new
-  pub behind : drop count after ≡ drop count before
 
 -- An end that takes turns hands out each character that it sends, until the buffer is full, or what
 -- it does next is not to send: then that is told.

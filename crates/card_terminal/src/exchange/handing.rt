@@ -32,9 +32,11 @@ pub(crate) fn handed_by(end: &mut HostEnd<'_>, stalled: bool, bytes: &mut [u8]) 
     if stalled {
         return none_by_failed(bytes.len());
     }
-    for (at, place) in bytes.iter_mut().enumerate() {
+    // Data are due at the front alone, since a procedure byte of the card is what asks for them.
+    let count = end.next_data_bytes(bytes);
+    for at in count..bytes.len() {
         match end.next() {
-            HostTurn::Sends(byte) => *place = byte,
+            HostTurn::Sends(byte) => bytes[at] = byte,
             turn => {
                 return HandedOut {
                     count: at,

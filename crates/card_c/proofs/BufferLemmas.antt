@@ -3,7 +3,7 @@ use Rattle.std.proofs.Common.{◌≡◌, ◌<◌, ◌+◌, ◌++◌, ℕ, List, 
 use Rattle.std.proofs.lemmas.List.{take_more, take_more_set, drop-set-lt, drop-drop}
 use Rattle.t0_core.specs.CardSide.{EndOf}
 use Rattle.object_card.specs.CardView.{CardView}
-use Rattle.card_terminal.specs.Buffers.{Steps, HandsOut}
+use Rattle.t0_core.specs.Buffers.{Steps, HandsOut}
 use Rattle.card_c.specs.CardCalls.{TakesCharacter}
 use Rattle.card_c.specs.BufferCalls.{Driven, HandsOutOne}
 

@@ -4,10 +4,11 @@ use Rattle.t0_core.specs.declared.host_end.HostTurn.{HostTurn}
 use Rattle.t0_core.specs.declared.line_fault.LineFault.TheVariants.{NotListening}
 use Rattle.t0_core.specs.CardSide.{EndOf, listens}
 use Rattle.t0_core.specs.Plan.{Cursor}
+use Rattle.t0_core.specs.Buffers.{Steps, HandsOut}
 use Rattle.object_card.specs.CardView.{CardView}
 use Rattle.card_terminal.specs.declared.handed_out.HandedOut.{HandedOut}
 use Rattle.card_terminal.specs.declared.taken.Taken.{Taken}
-use Rattle.card_terminal.specs.Buffers.{Steps, HandsOut, IsHandingOut, IsTakingAll}
+use Rattle.card_terminal.specs.Buffers.{IsHandingOut, IsTakingAll}
 use Rattle.card_terminal.specs.ExchangeSide.{ExchangeOf}
 use Rattle.card_terminal.specs.ExchangeSteps.{IsTurn, IsTaking}
 use Rattle.card_terminal.specs.TerminalSide.{OperationOf}

@@ -3,7 +3,7 @@ use Rattle.std.specs.Prelude.{◌≡◌, ◌<◌, ℕ, List, length, take, slice
 use Rattle.t0_core.specs.declared.host_end.HostTurn.{HostTurn}
 use Rattle.t0_core.specs.declared.host_end.HostTurn.TheVariants.{Sends}
 use Rattle.t0_core.specs.declared.line_fault.LineFault.{LineFault}
-pub use Rattle.t0_core.specs.Buffers.{Steps, HandsOut}
+use Rattle.t0_core.specs.Buffers.{Steps, HandsOut}
 use Rattle.card_terminal.specs.declared.handed_out.HandedOut.{HandedOut}
 use Rattle.card_terminal.specs.declared.taken.Taken.{Taken}
 

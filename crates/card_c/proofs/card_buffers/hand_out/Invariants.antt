@@ -1,5 +1,5 @@
 use Rattle.std.proofs.Common.{}
-use Rattle.card_terminal.specs.Buffers.{HandsOut}
+use Rattle.t0_core.specs.Buffers.{HandsOut}
 use Rattle.card_c.specs.BufferCalls.{HandsOutOne}
 use Rattle.card_c.proofs.card_buffers.hand_out.Given as goal
 

@@ -1,5 +1,5 @@
 use Rattle.std.proofs.Common.{take}
-use Rattle.card_terminal.specs.Buffers.{Steps}
+use Rattle.t0_core.specs.Buffers.{Steps}
 use Rattle.card_c.specs.CardCalls.{TakesCharacter}
 use Rattle.card_c.proofs.card_buffers.take_all.Given as goal
 

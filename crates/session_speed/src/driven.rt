@@ -3,7 +3,6 @@
 ghost use Rattle.std.specs.Prelude.{◌≤◌, length};
 
 use crate::session::{card, selection};
-use anyhow::Context;
 use card_terminal::{Op, Terminal};
 use object_card::ObjectCard;
 use std::alloc::Global;
@@ -33,11 +32,12 @@ impl Driven {
         Ok(driven)
     }
 
-    /// Carries out operations, all of which the card answers with `9000`.
+    /// Carries out operations, all of which the card answers with `9000`, over one buffer.
     pub fn carry_out(&mut self, ops: &[Op]) -> anyhow::Result<()> {
+        let mut buffer = [0; BUFFER];
         for op in ops {
             self.begin(op)?;
-            self.pass()?;
+            self.pass(&mut buffer)?;
             self.check_answer()?;
         }
         Ok(())
@@ -52,19 +52,18 @@ impl Driven {
         Ok(())
     }
 
-    /// Passes characters until the operation is over, in buffers from either end.
-    fn pass(&mut self) -> anyhow::Result<()> {
+    /// Passes characters by a buffer, from either end, until the operation is over.
+    fn pass(&mut self, buffer: &mut [u8]) -> anyhow::Result<()> {
         let mut plans = Plans::<Global>::over(&[]);
-        let mut buffer = [0; BUFFER];
         for _ in 0..CHARACTERS {
-            let Some(handed) = self.terminal.next_bytes(&mut buffer) else {
+            let Some(handed) = self.terminal.next_bytes(buffer) else {
                 break;
             };
             self.hand_on(&buffer[..handed.count])?;
             match handed.stop {
                 None => {}
                 Some(HostTurn::Listens) => {
-                    let count = self.card_bytes(&mut plans, &mut buffer);
+                    let count = self.card_bytes(&mut plans, buffer);
                     self.terminal.take_bytes(&buffer[..count]).outcome?;
                 }
                 Some(_) => break,
@@ -75,11 +74,8 @@ impl Driven {
 
     /// Hands characters of the terminal to the card.
     fn hand_on(&mut self, bytes: &[u8]) -> anyhow::Result<()> {
-        for byte in bytes {
-            self.end
-                .take(*byte)
-                .ok()
-                .context("the card does not listen")?;
+        if self.end.take_bytes(bytes) < bytes.len() {
+            anyhow::bail!("the card does not listen");
         }
         Ok(())
     }

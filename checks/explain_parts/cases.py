@@ -11,11 +11,11 @@
   tells, behind `time` how long it took by the last block, and behind `$` the words. `\\xHH` in a
   line is that byte. Of a page only what stands below its head is compared.
 - lines.cases: what lines say; times.cases: the times before their signs; bare.cases: commands
-  without data whose card repeats INS; all in the same words, with all that is written above the
-  last block.
+  without data whose card repeats INS; unsigned.cases: lines without signs; all in the same words,
+  with all that is written above the last block.
 
 The last block of text is told nowhere but in explain_cases: it has to count what stands above it
-(`block_of`). In the six tables `#` begins a line that is passed over."""
+(`block_of`). In the seven tables `#` begins a line that is passed over."""
 
 import re
 from collections import Counter
@@ -37,6 +37,34 @@ BLOCK = "summary"
 HEX = re.compile(r"\b(?:[0-9A-F]{2})+\b")
 ENDS = '<div class="ends"><span>Terminal</span><span>Card</span></div><div>'
 ODD = re.compile(rb"\\x([0-9A-F]{2})")
+# a sign behind a time or none, and a count before one
+SIGNED = re.compile(
+    rb"^((?:\[ *[\d:.]+\] *|\+[\d:.]+ +[mu]?s +|\d+[:.][\d:.]* +)?)"
+    rb"(?:>>?|<<?|->|<-|=>|<=|[TR][Xx]:|[TR]X|[TC]:|IFD:?|ICC:?)(?: +|(?=\r?$))",
+    re.M,
+)
+COUNTED = re.compile(rb"^\d+ +[^\d ]", re.M)
+SPEAK_OF_SIGNS = {"--form", "--swap", "--unsigned"}
+# the ways of instructions that no table has
+WAYS = ["--to-card", "A8,AE"]
+# what signs alone tell, in which cases
+TOLD_BY_SIGNS = {
+    # where a trace begins within a TPDU
+    "a trace that begins within a dialogue with a character that may be TS: none is lost",
+    "what is told before a header is no answer, whatever comes next",
+    # what follows an answer at fault, or the first characters of a PPS request or response
+    "a page of answers and an exchange",
+    "answers_at_fault",
+    "pps",
+    # an answer that begins with `03` behind a TPDU
+    "answers_again",
+    # the same bytes, the other way
+    "two traces whose data go another way, and of which one is cut off",
+    # digits that are notes
+    "digits without a sign are notes behind a line that has one",
+    "a sign without characters is one, too",
+    "a time before a reset, and before a note",
+}
 ROW = re.compile(r"  [ <>] (header|procedure|data|status) ")
 
 
@@ -293,6 +321,19 @@ def whole_cases():
         )
 
 
+def unsigned_cases(signed):
+    """The same cases with their signs taken off, but where these alone tell who sent what."""
+    for case in signed:
+        words = {word for word in case.words if word.startswith("--")}
+        if case.error or words & SPEAK_OF_SIGNS or case.name in TOLD_BY_SIGNS:
+            continue
+        given, other = (SIGNED.sub(rb"\1", it) for it in (case.given, case.other))
+        if given != case.given and not COUNTED.search(case.given + case.other):
+            name = f"{case.name}, without signs"
+            said = [*case.words, "--unsigned", *WAYS]
+            yield Case(name, given, case.wanted, said, part=case.part, other=other)
+
+
 def there(path):
     """The text of a file, empty where it is not there."""
     return path.read_text(encoding="utf-8") if path.exists() else ""
@@ -304,13 +345,19 @@ def lines_of(lines):
 
 
 def tables():
-    """The cases of the six tables, and those of secrets."""
+    """The cases of the seven tables, and those of secrets."""
     ways = [], ["--html"], ["--resume"], ["--summary", "--resume"]
     return [*rows_and_stories(), *secret_cases(ways)]
 
 
 def rows_and_stories():
-    """The cases of the six tables."""
+    """The cases of the seven tables, those with signs also without."""
+    signed = table_cases()
+    return [*signed, *unsigned_cases([*signed, *whole_cases()])]
+
+
+def table_cases():
+    """The cases of the seven tables."""
     return [
         status_case(),
         title_case(),
@@ -318,6 +365,7 @@ def rows_and_stories():
         *story_cases("lines.cases", "shown"),
         *story_cases("times.cases", "shown"),
         *story_cases("bare.cases", "shown"),
+        *story_cases("unsigned.cases", "shown"),
         *link_cases(),
     ]
 

@@ -152,7 +152,14 @@ fn words_of(part: &[u8]) -> &[u8] {
 
 ONE = """
 fn run{number}(rt: &HostRuntime, part: &[u8]) {{
-    let words = words_of(part);
+    let size = words_of(part).len();
+    let mut parts = words_of(part).split(|byte| *byte == 0x1B);
+    let words = parts.next().unwrap_or(&[]);
+    let mut ways = m{number}::ways::Ways::none();
+    for way in [t0_core::Direction::ToCard, t0_core::Direction::FromCard] {{
+        let said = str::from_utf8(parts.next().unwrap_or(&[])).unwrap_or("");
+        let _ = ways.say(way, said);
+    }}
     let medium = if part[0] == b'h' {{
         m{number}::layout::Medium::Html
     }} else {{
@@ -169,10 +176,11 @@ fn run{number}(rt: &HostRuntime, part: &[u8]) {{
             ),
         }},
         swaps: part[5] == b'w',
+        unsigned: (part[6] == b'u').then_some(ways),
     }};
-    let mut trace = &part[words.len() + 1..];
-    let mask = if words.len() > 6 {{
-        let tags = str::from_utf8(&words[7..]).unwrap_or("");
+    let mut trace = &part[size + 1..];
+    let mask = if words.len() > 7 {{
+        let tags = str::from_utf8(&words[8..]).unwrap_or("");
         m{number}::mask::Mask::of(rt.alloc(), tags).unwrap()
     }} else {{
         m{number}::mask::Mask::none(rt.alloc())
@@ -240,9 +248,12 @@ def write_inputs(folder, cases, count):
         words += "d" if "--diff" in case.words else "-"
         words += form_of(case.words)
         words += "w" if "--swap" in case.words else "-"
+        words += "u" if "--unsigned" in case.words else "-"
         if "--mask" in case.words:
             tags = case.words[case.words.index("--mask") + 1 :]
             words += "=" + "".join(tag for tag in tags[:1] if not tag.startswith("--"))
+        for word in ("--to-card", "--from-card"):
+            words += "\x1b" + (case.words[case.words.index(word) + 1] if word in case.words else "")
         given += MARK.encode() + words.encode() + b"\x1d" + case.given
         given += b"\x1c" + case.other if "--diff" in case.words else b""
     for number in range(count):

@@ -1,5 +1,5 @@
 -- What an explainer has explained, one line further.
-use Rattle.std.proofs.Common.{◌≡◌, ℕ, ◌+◌, ◌<◌, List, [], ◌∷◌, ◌++◌, length, take, drop, sym, subst, ◌∙◌, ap, Bool, true, false, ◌==◌, ◌&&◌, refl, append-nil, append_assoc, map, get_or, Some, None, Result, Ok, Err, IfErr, OnOk, inl, inr, arith}
+use Rattle.std.proofs.Common.{◌≡◌, ℕ, ◌+◌, ◌<◌, List, [], ◌∷◌, ◌++◌, length, take, drop, sym, subst, ◌∙◌, ap, Bool, true, false, ◌==◌, ◌&&◌, refl, append-nil, append_assoc, map, get_or, Option, Some, None, Result, Ok, Err, IfErr, OnOk, inl, inr, arith}
 use Rattle.std.specs.List.{flat_map}
 use Rattle.std.proofs.lemmas.Bool.{eqb-true}
 use Rattle.std.proofs.lemmas.List.{drop_more, get_or-drop, length-drop, length-take, nil_from_length, take-append-drop, length-append}
@@ -17,13 +17,17 @@ use Rattle.trace_explain.specs.declared.explainer.Explainer.{Explainer}
 use Rattle.trace_explain.specs.declared.listener.Listener.{Listener}
 use Rattle.trace_explain.specs.declared.form.Form.{Form}
 use Rattle.trace_explain.specs.declared.reading.Reading.{Reading}
+use Rattle.trace_explain.specs.declared.trace_line.BadLine.{BadLine}
+use Rattle.trace_explain.specs.declared.trace_line.BadLine.TheVariants as bad
 use Rattle.trace_explain.specs.declared.trace_line.TraceLine.{TraceLine}
 use Rattle.trace_explain.specs.declared.tpdu.Tpdu.{Tpdu}
+use Rattle.trace_explain.specs.declared.ways.Ways.{Ways}
 use Rattle.trace_explain.specs.Told.{Told, told_by, TellsFront}
 use Rattle.trace_explain.specs.Openings.{Opening, begins_answer, dialogue_in, has_begun, opened, opening_of, unopened}
-use Rattle.trace_explain.specs.Lines.{AreOver, Standing, after_characters, came_after, heard_in, SpellsCharacters, Suits, Says, TakesCharacters, TakesLine, sender}
+use Rattle.trace_explain.specs.Lines.{AreOver, Standing, after_characters, came_after, heard_in, SpellsCharacters, Suits, Says, IsBadLine, TakesCharacters, TakesLine, sender}
 use Rattle.trace_explain.specs.Noted.{HasNoted, NoneGoesOn}
-use Rattle.trace_explain.specs.Explained.{HasExplained, ExplainsMore, ExplainsReset, ExplainsCharacters, ExplainsLine, HearsUpTo, IsRight, StopsRightly, StopsAtLine, Stopped, answers_again, next_line, standing_of}
+use Rattle.trace_explain.specs.Explained.{HasExplained, ExplainsMore, ExplainsReset, ExplainsCharacters, ExplainsLine, ExplainsSigned, HearsUpTo, IsRight, StopsRightly, StopsAtLine, StopsAtSigned, StopsBy, Stopped, answers_again, at_place, next_line, refused, standing_of}
+use Rattle.trace_explain.specs.Unsigned.{IsHeard}
 use Rattle.trace_explain.specs.UnderWay.{OpensUpTo}
 use Rattle.trace_explain.proofs.OpeningLemmas.{dialogue_is}
 
@@ -237,7 +241,8 @@ heard_there start place o mid from bytes opens within =
     ap (λ n. dialogue_in o from (take n bytes)) same ∙ opens.dialogue (place + 1) in
     omega (arith, within, ap length is, length-take (place + 1) (drop start bytes))
 
-pub complains_rightly : (c : Complaint) (start place n : ℕ) (mid : Opening) (from : End)
+complains_rightly : (c : Complaint) (start place n : ℕ) (astray : Bool) (mid : Opening)
+    (from : End)
     (bytes heard : List ℕ) (events : List Event) (before : List Told) (old at : Explainer)
     → c ≡ record {
       line = n;
@@ -245,13 +250,14 @@ pub complains_rightly : (c : Complaint) (start place n : ℕ) (mid : Opening) (f
       due = due_at at.listener.tap;
       from = from;
       byte = get_or bytes (start + place) 0;
+      is_astray = astray;
     }
     → OpensUpTo start (opening_of old.preface) from bytes mid → heard ≡ drop start bytes
     → HearsUpTo (Some place) from heard events before at
     → answers_again (opening_of old.preface) at.listener from (get_or bytes (start + place) 0)
     ≡ false
     → IsRight c (opening_of old.preface) from bytes events before
-complains_rightly c start place n mid from bytes heard events before old at is opens heard_is
+complains_rightly c start place n astray mid from bytes heard events before old at is opens heard_is
     (told, explained, within, none) not_again =
     let o : Opening = opening_of old.preface in
     let P : Complaint → Type 0 = λ x. IsRight x (opening_of old.preface) from bytes events before in
@@ -272,62 +278,73 @@ complains_rightly c start place n mid from bytes heard events before old at is o
       byte_is = refl;
     })
 
-pub stops_rightly : {T : Type 0} (result : Result T ExplainFault) (start place n line : ℕ)
-    (mid : Opening) (from : End) (bytes heard : List ℕ) (events : List Event)
+pub stops_rightly : {T : Type 0} (result : Result T ExplainFault) (start place ahead n line : ℕ)
+    (astray : Bool) (mid : Opening) (from : End) (bytes heard : List ℕ) (events : List Event)
     (before : List Told) (old at : Explainer)
     → Stopped result (record {
       line = n;
-      place = start + place;
+      place = ahead + (start + place);
       due = due_at at.listener.tap;
       from = from;
       byte = get_or bytes (start + place) 0;
+      is_astray = astray;
     })
     → n ≡ line → OpensUpTo start (opening_of old.preface) from bytes mid
     → heard ≡ drop start bytes → HearsUpTo (Some place) from heard events before at
     → answers_again (opening_of old.preface) at.listener from (get_or bytes (start + place) 0)
     ≡ false
-    → IfErr result (λ f. StopsRightly f line (opening_of old.preface) from bytes events before)
-stops_rightly (Ok x) start place n line mid from bytes heard events before old at is n_is opens
-    heard_is hears not_again =
+    → IfErr result (λ f. StopsRightly f line ahead (opening_of old.preface) from bytes events
+    before)
+stops_rightly (Ok x) start place ahead n line astray mid from bytes heard
+    events before old at is n_is opens heard_is hears not_again =
     tt
-stops_rightly (Err (fault.BadHex m)) start place n line mid from bytes heard events before old at is
-    n_is opens heard_is hears not_again =
+stops_rightly (Err (fault.BadHex m)) start place ahead n line astray mid from bytes heard
+    events before old at is n_is opens heard_is hears not_again =
     absurd is
-stops_rightly (Err (fault.OtherForm m known)) start place n line mid from bytes heard events before
-    old at is n_is opens heard_is hears not_again =
+stops_rightly (Err (fault.OtherForm m known)) start place ahead n line astray mid from bytes heard
+    events before old at is n_is opens heard_is hears not_again =
     absurd is
-stops_rightly (Err (fault.NoSign m)) start place n line mid from bytes heard events before old at is
-    n_is opens heard_is hears not_again =
+stops_rightly (Err (fault.NoSign m)) start place ahead n line astray mid from bytes heard
+    events before old at is n_is opens heard_is hears not_again =
     absurd is
-stops_rightly (Err (fault.LineTooLong m)) start place n line mid from bytes heard events before old
-    at is n_is opens heard_is hears not_again =
+stops_rightly (Err (fault.Signed m)) start place ahead n line astray mid from bytes heard
+    events before old at is n_is opens heard_is hears not_again =
     absurd is
-stops_rightly (Err fault.NoCharacters) start place n line mid from bytes heard events before old at
-    is n_is opens heard_is hears not_again =
+stops_rightly (Err (fault.NoTurn m k why)) start place ahead n line astray mid from bytes heard
+    events before old at is n_is opens heard_is hears not_again =
     absurd is
-stops_rightly (Err (fault.Resumed m first)) start place n line mid from bytes heard events before
-    old at is n_is opens heard_is hears not_again =
+stops_rightly (Err (fault.LineTooLong m)) start place ahead n line astray mid from bytes heard
+    events before old at is n_is opens heard_is hears not_again =
+    absurd is
+stops_rightly (Err fault.NoCharacters) start place ahead n line astray mid from bytes heard
+    events before old at is n_is opens heard_is hears not_again =
+    absurd is
+stops_rightly (Err (fault.Resumed m first)) start place ahead n line astray mid from bytes heard
+    events before old at is n_is opens heard_is hears not_again =
     tt
-stops_rightly (Err fault.Read) start place n line mid from bytes heard events before old at is n_is
-    opens heard_is hears not_again =
+stops_rightly (Err fault.Read) start place ahead n line astray mid from bytes heard
+    events before old at is n_is opens heard_is hears not_again =
     tt
-stops_rightly (Err fault.Write) start place n line mid from bytes heard events before old at is n_is
-    opens heard_is hears not_again =
+stops_rightly (Err fault.Write) start place ahead n line astray mid from bytes heard
+    events before old at is n_is opens heard_is hears not_again =
     tt
-stops_rightly (Err fault.Closed) start place n line mid from bytes heard events before old at is n_is
-    opens heard_is hears not_again =
+stops_rightly (Err fault.Closed) start place ahead n line astray mid from bytes heard
+    events before old at is n_is opens heard_is hears not_again =
     tt
-stops_rightly (Err fault.InputTooLong) start place n line mid from bytes heard events before old at
-    is n_is opens heard_is hears not_again =
+stops_rightly (Err fault.InputTooLong) start place ahead n line astray mid from bytes heard
+    events before old at is n_is opens heard_is hears not_again =
     tt
-stops_rightly (Err fault.OutOfMemory) start place n line mid from bytes heard events before old at
-    is n_is opens heard_is hears not_again =
+stops_rightly (Err fault.OutOfMemory) start place ahead n line astray mid from bytes heard
+    events before old at is n_is opens heard_is hears not_again =
     tt
-stops_rightly (Err (fault.NoDialogue c)) start place n line mid from bytes heard events before old
-    at is n_is opens heard_is hears not_again = (
+stops_rightly (Err (fault.NoDialogue c)) start place ahead n line astray mid from bytes heard
+    events before old at is n_is opens heard_is hears not_again = (
       ap (λ (x : Complaint). x.line) is ∙ n_is,
-      complains_rightly c start place n mid from bytes heard events before old at is opens heard_is
-          hears not_again,
+      start + place,
+      ap (λ (x : Complaint). x.place) is,
+      complains_rightly (at_place c (start + place)) start place n astray mid from bytes heard
+          events before old at (ap (λ x. at_place x (start + place)) is) opens heard_is hears
+          not_again,
     )
 
 -- what a line says
@@ -338,49 +355,99 @@ pub as_line : {T : Type 0} (result : Result T ExplainFault) (line : List ℕ) (s
     → TakesCharacters events (standing_of mid) from given more at
     → TakesLine events (standing_of old) said more at)
     → OnOk result (ExplainsCharacters from given events before mid new)
-    → OnOk result (ExplainsLine line events before old new)
+    → OnOk result (ExplainsSigned line events before old new)
 as_line (Err e) line said from given events before old mid new says is h = tt
 as_line (Ok x) line said from given events before old mid new says is (more, at, takes, explains) =
     (said, says, more, at, is more at takes, explains)
+
+-- the complaint is at its own place
+at_its_place : (c : Complaint) (place : ℕ) → c.place ≡ 0 + place → at_place c place ≡ c
+at_its_place c place is =
+    let same : place ≡ c.place = omega (arith, is) in ap (λ n. at_place c n) same
 
 pub line_stops : {T : Type 0} (result : Result T ExplainFault) (line : List ℕ) (n : ℕ) (form : Form)
     (from : End) (bytes given : List ℕ) (events : List Event) (before : List Told) (old : Explainer)
     → given ≡ bytes → SpellsCharacters form line from bytes × Suits old.reading.form form
     → n ≡ next_line old
-    → IfErr result (λ f. StopsRightly f n (opening_of old.preface) (sender old.reading from) given
+    → IfErr result (λ f. StopsRightly f n 0 (opening_of old.preface) (sender old.reading from) given
     events before)
-    → IfErr result (λ f. StopsAtLine f line old events before)
-line_stops (Ok x) line n form from bytes given events before old same spells n_is h = tt
-line_stops (Err (fault.BadHex m)) line n form from bytes given events before old same spells n_is
-    h = absurd h
+    → IfErr result (λ f. StopsAtSigned f line old events before)
+line_stops (Ok x) line n form from bytes given events before old same spells
+    n_is h = tt
+line_stops (Err (fault.BadHex m)) line n form from bytes given events before old same spells
+    n_is h = absurd h
 line_stops (Err (fault.OtherForm m known)) line n form from bytes given events before old same
-    spells n_is
-    h = absurd h
-line_stops (Err (fault.NoSign m)) line n form from bytes given events before old same spells n_is
-    h = absurd h
+    spells n_is h = absurd h
+line_stops (Err (fault.NoSign m)) line n form from bytes given events before old same spells
+    n_is h = absurd h
+line_stops (Err (fault.Signed m)) line n form from bytes given events before old same spells
+    n_is h = absurd h
+line_stops (Err (fault.NoTurn m k why)) line n form from bytes given events before old same spells
+    n_is h = absurd h
 line_stops (Err (fault.LineTooLong m)) line n form from bytes given events before old same spells
-    n_is
-    h = absurd h
-line_stops (Err fault.NoCharacters) line n form from bytes given events before old same spells n_is
-    h =
-    absurd h
-line_stops (Err (fault.Resumed m c)) line n form from bytes given events before old same spells n_is
-    h = tt
-line_stops (Err fault.Read) line n form from bytes given events before old same spells n_is h =
-    tt
-line_stops (Err fault.Write) line n form from bytes given events before old same spells n_is h =
-    tt
-line_stops (Err fault.Closed) line n form from bytes given events before old same spells n_is h =
-    tt
-line_stops (Err fault.InputTooLong) line n form from bytes given events before old same spells n_is
-    h =
-    tt
-line_stops (Err fault.OutOfMemory) line n form from bytes given events before old same spells n_is h
-    =
-    tt
+    n_is h = absurd h
+line_stops (Err fault.NoCharacters) line n form from bytes given events before old same spells
+    n_is h = absurd h
+line_stops (Err (fault.Resumed m c)) line n form from bytes given events before old same spells
+    n_is h = tt
+line_stops (Err fault.Read) line n form from bytes given events before old same spells
+    n_is h = tt
+line_stops (Err fault.Write) line n form from bytes given events before old same spells
+    n_is h = tt
+line_stops (Err fault.Closed) line n form from bytes given events before old same spells
+    n_is h = tt
+line_stops (Err fault.InputTooLong) line n form from bytes given events before old same spells
+    n_is h = tt
+line_stops (Err fault.OutOfMemory) line n form from bytes given events before old same spells
+    n_is h = tt
 line_stops (Err (fault.NoDialogue c)) line n form from bytes given events before old same spells
-    n_is
-    h =
-    let P : List ℕ → Type 0 = λ bs.
-    IsRight c (opening_of old.preface) (sender old.reading from) bs events before in
-    (form, from, bytes, spells.0, spells.1, h.0 ∙ n_is, subst P same h.1)
+    n_is h =
+    let (number, place, place_is, is_right) = h in
+    let P : Complaint → Type 0 = λ x. IsRight x (opening_of old.preface) (sender old.reading from)
+    given events before in
+    let Q : List ℕ → Type 0 = λ bs. IsRight c (opening_of old.preface) (sender old.reading from) bs
+    events before in (
+      number ∙ n_is,
+      (
+        form,
+        from,
+        bytes,
+        spells.0,
+        spells.1,
+        subst Q same (subst P (at_its_place c place place_is) is_right),
+      ),
+    )
+
+-- a line that is refused for what it is
+pub line_refused : (why : BadLine) (line : List ℕ) (n : ℕ) (f : ExplainFault) (events : List Event)
+    (before : List Told) (old : Explainer) → IsBadLine why old.reading.form line
+    → f ≡ refused n why → n ≡ next_line old → StopsAtSigned f line old events before
+line_refused why line n f events before old is_bad f_is n_is =
+    let P : ExplainFault → Type 0 = λ x. StopsAtSigned x line old events before in
+    subst P (sym f_is) (of_kind why is_bad)
+  where
+    of_kind : (w : BadLine) → IsBadLine w old.reading.form line
+        → StopsAtSigned (refused n w) line old events before
+    of_kind bad.Hex h = (n_is, h)
+    of_kind (bad.OtherForm expected) h = (n_is, h)
+    of_kind bad.NoSign h = (n_is, h)
+    of_kind bad.Signed h = absurd h
+    of_kind bad.OutOfMemory h = tt
+
+-- a line with signs, where lines have some
+pub signed_so : {T : Type 0} (result : Result T ExplainFault) (line : List ℕ)
+    (events : List Event) (before : List Told) (old new : Explainer) → old.reading.unsigned ≡ None
+    → OnOk result (ExplainsSigned line events before old new)
+    → OnOk result (ExplainsLine line events before old new)
+signed_so (Err e) line events before old new none h = tt
+signed_so (Ok x) line events before old new none (said, says, more, at, takes, explains) =
+    let P : Option Ways → Type 0 = λ u. IsHeard u events (standing_of old) line more at in
+    (more, at, subst P (sym none) (said, says, takes), explains)
+
+pub signed_stops : {T : Type 0} (result : Result T ExplainFault) (line : List ℕ)
+    (events : List Event) (before : List Told) (old : Explainer) → old.reading.unsigned ≡ None
+    → IfErr result (λ f. StopsAtSigned f line old events before)
+    → IfErr result (λ f. StopsAtLine f line old events before)
+signed_stops (Ok x) line events before old none h = tt
+signed_stops (Err f) line events before old none h =
+    let P : Option Ways → Type 0 = λ u. StopsBy u f line old events before in subst P (sym none) h

@@ -6,49 +6,49 @@ use Rattle.std.proofs.lemmas.List.{drop_all, length-append}
 use Rattle.std.specs.Io.KnownBytes.{Consumes, IsAtEnd}
 use Rattle.std.specs.Str.Lines.{strip_carriage_return}
 use Rattle.t0_core.specs.History.{Event}
+use Rattle.trace_explain.specs.declared.complaint.Complaint.{Complaint}
 use Rattle.trace_explain.specs.declared.explain_fault.ExplainFault.{ExplainFault}
 use Rattle.trace_explain.specs.declared.explain_fault.ExplainFault.TheVariants as fault
 use Rattle.trace_explain.specs.declared.explainer.Explainer.{Explainer}
 use Rattle.trace_explain.specs.declared.reading.Reading.{Reading}
-use Rattle.trace_explain.specs.declared.trace_line.TraceLine.{TraceLine}
+use Rattle.trace_explain.specs.declared.form.Form.{Form}
+use Rattle.trace_explain.specs.declared.trace_line.BadLine.TheVariants as bad
+use Rattle.trace_explain.specs.declared.turn.NoTurn.{NoTurn}
+use Rattle.trace_explain.specs.declared.ways.Ways.{Ways}
 use Rattle.trace_explain.specs.Told.{Told}
-use Rattle.trace_explain.specs.Lines.{Says, Standing, TakesLine, first_of_all}
-use Rattle.trace_explain.specs.Explained.{HasExplained, ExplainsLine, StopsAtLine, next_line, standing_of}
-use Rattle.trace_explain.specs.Trace.{lines_from, lines_of, IsReached, IsOfEnd, SayInTurn, SayAll, IsExplained, IsWhole, IsOver, KeepsLimit, StopsIn}
+use Rattle.trace_explain.specs.Lines.{Standing, first_of_all}
+use Rattle.trace_explain.specs.Unsigned.{IsHeard}
+use Rattle.trace_explain.specs.Explained.{HasExplained, ExplainsLine, StopsAtLine, StopsBy, next_line, standing_of}
+use Rattle.trace_explain.specs.Trace.{lines_from, lines_of, IsBadFor, IsRightAt, IsUnsentAt, IsReached, IsOfEnd, SayInTurn, SayAll, IsExplained, IsWhole, IsOver, KeepsLimit, StopsIn}
 use Rattle.trace_explain.specs.UnderWay.{HasCome, IsOfLines}
 
 -- one line more says its events behind the others
 say_more : (so_far : List Event) (at mid after : Standing) (before : List (List ℕ))
-    (line : List ℕ) (said : TraceLine) (events more : List Event)
-    → SayInTurn so_far at before events mid → Says mid.reading.form line said
-    → TakesLine (so_far ++ events) mid said more after
+    (line : List ℕ) (events more : List Event) → SayInTurn so_far at before events mid
+    → IsHeard mid.reading.unsigned (so_far ++ events) mid line more after
     → SayInTurn so_far at (before ++ line ∷ []) (events ++ more) after
-say_more so_far at mid after [] line said events more (none, same) says takes =
-    let P : List Event → Type 0 = λ es. TakesLine (so_far ++ es) mid said more after in
-    let Q : List Event → Type 0 = λ es. TakesLine es mid said more after in
-    let R : Standing → Type 0 = λ s. TakesLine so_far s said more after in
-    let S : Standing → Type 0 = λ s. Says s.reading.form line said in (
-      said,
-      subst S same says,
+say_more so_far at mid after [] line events more (none, same) heard =
+    let P : List Event → Type 0 = λ es. IsHeard mid.reading.unsigned (so_far ++ es) mid line more
+    after in
+    let Q : List Event → Type 0 = λ es. IsHeard mid.reading.unsigned es mid line more after in
+    let R : Standing → Type 0 = λ s. IsHeard s.reading.unsigned so_far s line more after in (
       more,
       [],
       after,
-      subst R same (subst Q (append-nil so_far) (subst P none takes)),
+      subst R same (subst Q (append-nil so_far) (subst P none heard)),
       ap (λ es. es ++ more) none ∙ sym (append-nil more),
       (refl, refl),
     )
-say_more so_far at mid after (one ∷ before) line said events more
-    (first, first_says, heard, rest, next, first_takes, cut, others) says takes =
-    let P : List Event → Type 0 = λ es. TakesLine es mid said more after in (
+say_more so_far at mid after (one ∷ before) line events more
+    (first, rest, next, first_heard, cut, others) heard =
+    let P : List Event → Type 0 = λ es. IsHeard mid.reading.unsigned es mid line more after in (
       first,
-      first_says,
-      heard,
       rest ++ more,
       next,
-      first_takes,
-      ap (λ es. es ++ more) cut ∙ append_assoc heard rest more,
-      say_more (so_far ++ heard) next mid after before line said rest more others says
-          (subst P (ap (λ es. so_far ++ es) cut ∙ sym (append_assoc so_far heard rest)) takes),
+      first_heard,
+      ap (λ es. es ++ more) cut ∙ append_assoc first rest more,
+      say_more (so_far ++ first) next mid after before line rest more others
+          (subst P (ap (λ es. so_far ++ es) cut ∙ sym (append_assoc so_far first rest)) heard),
     )
 
 fed : (line given left bytes : List ℕ) (b : ℕ) → bytes ≡ b ∷ left → b ≡ 10
@@ -82,8 +82,9 @@ pub line_more : (reading : Reading) (all : List (List ℕ)) (line given next byt
     → ExplainsLine given events before old new)
     → HasCome reading all next left new
 line_more reading all line given next bytes left others old new come counts ends rest explains =
-    let (said, says, more, at, takes, told) = explains come.events come.told come.explained in
-    let P : Standing → Type 0 = λ s. TakesLine come.events (standing_of old) said more s in
+    let (more, at, heard, told) = explains come.events come.told come.explained in
+    let P : Standing → Type 0 = λ s. IsHeard old.reading.unsigned come.events (standing_of old)
+    given more s in
     record {
       before = come.before ++ given ∷ [];
       is_cut = come.is_cut ∙ ap (λ ls. come.before ++ ls) (ends ∙ ap (λ ls. given ∷ ls) rest)
@@ -93,8 +94,7 @@ line_more reading all line given next bytes left others old new come counts ends
           (length-append come.before (given ∷ []));
       events = come.events ++ more;
       says = say_more [] (first_of_all reading) (standing_of old) (standing_of new) come.before
-          given said
-          come.events more come.says says (subst P (sym told.standing_is) takes);
+          given come.events more come.says (subst P (sym told.standing_is) heard);
       told = come.told ++ told.told;
       explained = told.explained;
     }
@@ -242,6 +242,8 @@ of_lines_kept : (f : ExplainFault) (bytes : List ℕ) → IsOfLines f
 of_lines_kept (fault.BadHex m) bytes h = tt
 of_lines_kept (fault.OtherForm m known) bytes h = tt
 of_lines_kept (fault.NoSign m) bytes h = tt
+of_lines_kept (fault.Signed m) bytes h = tt
+of_lines_kept (fault.NoTurn m k why) bytes h = tt
 of_lines_kept (fault.LineTooLong m) bytes h = tt
 of_lines_kept (fault.NoDialogue c) bytes h = tt
 of_lines_kept (fault.Resumed m c) bytes h = tt
@@ -251,6 +253,65 @@ of_lines_kept fault.Write bytes h = tt
 of_lines_kept fault.Closed bytes h = tt
 of_lines_kept fault.InputTooLong bytes h = absurd h
 of_lines_kept fault.NoCharacters bytes h = absurd h
+
+-- a complaint is right, as lines are read
+right_at : (u : Option Ways) (c : Complaint) (line : List ℕ) (old : Explainer)
+    (events : List Event) (before : List Told)
+    → StopsBy u (fault.NoDialogue c) line old events before
+    → (c.line ≡ next_line old) × IsRightAt u c (standing_of old) line events before
+right_at None c line old events before h = h
+right_at (Some ways) c line old events before h = h
+
+unsent_at : (u : Option Ways) (n : ℕ) (place : ℕ) (why : NoTurn) (line : List ℕ) (old : Explainer)
+    (events : List Event) (before : List Told)
+    → StopsBy u (fault.NoTurn n place why) line old events before
+    → (n ≡ next_line old) × IsUnsentAt u why place (standing_of old) line events before
+unsent_at None n place why line old events before h = absurd h
+unsent_at (Some ways) n place why line old events before (number, bytes, spells, unsent) =
+    (number, (bytes, spells, unsent))
+
+-- and a line is refused for what it is
+hex_at : (u : Option Ways) (n : ℕ) (line : List ℕ) (old : Explainer)
+    (events : List Event) (before : List Told)
+    → StopsBy u (fault.BadHex n) line old events before
+    → (n ≡ next_line old) × IsBadFor u bad.Hex old.reading.form line
+hex_at None n line old events before h = h
+hex_at (Some ways) n line old events before h = h
+
+other_form_at : (u : Option Ways) (n : ℕ) (form : Form) (line : List ℕ) (old : Explainer)
+    (events : List Event) (before : List Told)
+    → StopsBy u (fault.OtherForm n form) line old events before
+    → (n ≡ next_line old) × IsBadFor u (bad.OtherForm form) old.reading.form line
+other_form_at None n form line old events before h = h
+other_form_at (Some ways) n form line old events before h = absurd h
+
+no_sign_at : (u : Option Ways) (n : ℕ) (line : List ℕ) (old : Explainer)
+    (events : List Event) (before : List Told)
+    → StopsBy u (fault.NoSign n) line old events before
+    → (n ≡ next_line old) × IsBadFor u bad.NoSign old.reading.form line
+no_sign_at None n line old events before h = h
+no_sign_at (Some ways) n line old events before h = absurd h
+
+signed_at : (u : Option Ways) (n : ℕ) (line : List ℕ) (old : Explainer)
+    (events : List Event) (before : List Told)
+    → StopsBy u (fault.Signed n) line old events before
+    → (n ≡ next_line old) × IsBadFor u bad.Signed old.reading.form line
+signed_at None n line old events before h = absurd h
+signed_at (Some ways) n line old events before h = h
+
+none_too_long : (u : Option Ways) (n : ℕ) (line : List ℕ) (old : Explainer)
+    (events : List Event) (before : List Told)
+    → StopsBy u (fault.LineTooLong n) line old events before
+    → ⊥
+none_too_long None n line old events before h = h
+none_too_long (Some ways) n line old events before h = h
+
+none_is_empty : (u : Option Ways) (line : List ℕ) (old : Explainer)
+    (events : List Event) (before : List Told)
+    → StopsBy u fault.NoCharacters line old events before
+    → ⊥
+none_is_empty None line old events before h = h
+none_is_empty (Some ways) line old events before h = h
 
 -- a line at which an explainer stops
 pub line_stops_in : (reading : Reading) (f : ExplainFault) (all : List (List ℕ))
@@ -262,30 +323,35 @@ pub line_stops_in : (reading : Reading) (f : ExplainFault) (all : List (List ℕ
     → StopsIn reading all f
 unfolding reached
 line_stops_in reading (fault.NoDialogue c) all line given left others old come ends stops =
-    let (form, from, bytes, spells, suits, number, is_right) =
-    stops come.events come.told come.explained in
-    record {
-      reached = reached reading c.line all line given left others old come ends number;
-      form = form;
-      from = from;
-      bytes = bytes;
-      spells = spells;
-      suits = suits;
-      is_right = is_right;
-    }
+    let (number, is) = right_at old.reading.unsigned c given old come.events come.told
+    (stops come.events come.told come.explained) in
+    (reached reading c.line all line given left others old come ends number, is)
+line_stops_in reading (fault.NoTurn n place why) all line given left others old come ends stops =
+    let (number, is) = unsent_at old.reading.unsigned n place why given old come.events come.told
+    (stops come.events come.told come.explained) in
+    (reached reading n all line given left others old come ends number, is)
 line_stops_in reading (fault.BadHex n) all line given left others old come ends stops =
-    let (number, is_bad) = stops come.events come.told come.explained in
-    (reached reading n all line given left others old come ends number, is_bad)
+    let (number, is) = hex_at old.reading.unsigned n given old come.events come.told
+    (stops come.events come.told come.explained) in
+    (reached reading n all line given left others old come ends number, is)
 line_stops_in reading (fault.OtherForm n known) all line given left others old come ends stops =
-    let (number, is_bad) = stops come.events come.told come.explained in
-    (reached reading n all line given left others old come ends number, is_bad)
+    let (number, is) = other_form_at old.reading.unsigned n known given old come.events come.told
+    (stops come.events come.told come.explained) in
+    (reached reading n all line given left others old come ends number, is)
 line_stops_in reading (fault.NoSign n) all line given left others old come ends stops =
-    let (number, is_bad) = stops come.events come.told come.explained in
-    (reached reading n all line given left others old come ends number, is_bad)
+    let (number, is) = no_sign_at old.reading.unsigned n given old come.events come.told
+    (stops come.events come.told come.explained) in
+    (reached reading n all line given left others old come ends number, is)
+line_stops_in reading (fault.Signed n) all line given left others old come ends stops =
+    let (number, is) = signed_at old.reading.unsigned n given old come.events come.told
+    (stops come.events come.told come.explained) in
+    (reached reading n all line given left others old come ends number, is)
 line_stops_in reading (fault.LineTooLong n) all line given left others old come ends stops =
-    absurd (stops come.events come.told come.explained)
+    absurd (none_too_long old.reading.unsigned n given old come.events come.told
+    (stops come.events come.told come.explained))
 line_stops_in reading fault.NoCharacters all line given left others old come ends stops =
-    absurd (stops come.events come.told come.explained)
+    absurd (none_is_empty old.reading.unsigned given old come.events come.told
+    (stops come.events come.told come.explained))
 line_stops_in reading (fault.Resumed m c) all line given left others old come ends stops = tt
 line_stops_in reading fault.Read all line given left others old come ends stops = tt
 line_stops_in reading fault.Write all line given left others old come ends stops = tt
@@ -436,6 +502,8 @@ ended_at reading (fault.NoDialogue c) (Some bytes) at ended explained = absurd e
 ended_at reading (fault.BadHex m) (Some bytes) at ended explained = absurd ended
 ended_at reading (fault.OtherForm m known) (Some bytes) at ended explained = absurd ended
 ended_at reading (fault.NoSign m) (Some bytes) at ended explained = absurd ended
+ended_at reading (fault.Signed m) (Some bytes) at ended explained = absurd ended
+ended_at reading (fault.NoTurn m k why) (Some bytes) at ended explained = absurd ended
 ended_at reading (fault.LineTooLong m) (Some bytes) at ended explained = absurd ended
 ended_at reading fault.Read (Some bytes) at ended explained = tt
 ended_at reading fault.Write (Some bytes) at ended explained = tt

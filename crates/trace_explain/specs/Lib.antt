@@ -3,6 +3,9 @@ pub mod Noted
 pub mod Openings
 pub mod Times
 pub mod Lines
+pub mod WaysOf
+pub mod Turns
+pub mod Unsigned
 pub mod Explained
 pub mod Trace
 pub mod UnderWay

@@ -149,6 +149,7 @@ IsBadLine (bad.OtherForm expected) known line = (known ≡ Some expected)
     × (form ≢ expected)
 IsBadLine bad.NoSign known line = (known ≡ None) × (are_digits line ≡ true)
     × (is_signed (behind_time line) ≡ false)
+IsBadLine bad.Signed known line = ⊥
 IsBadLine bad.OutOfMemory known line = Unit {0}
 
 -- whether a character has come by then

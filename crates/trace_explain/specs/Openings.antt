@@ -100,9 +100,12 @@ abbrev pub is_direct : Convention → Bool
 is_direct Direct = true
 is_direct Inverse = false
 
+abbrev pub has_answered : Opening → Bool
+has_answered o = not (length o.answer == 0)
+
 -- a terminal may ask by PPS behind an answer whose characters are read as they are meant
 abbrev pub may_ask : Opening → Bool
-may_ask o = is_direct o.turned && not (length o.answer == 0)
+may_ask o = is_direct o.turned && has_answered o
 
 -- what a character is
 abbrev pub role_of : Opening → End → ℕ → Role

@@ -70,3 +70,11 @@ time_in line = take (time_len line) line
 abbrev pub behind_time : List ℕ → List ℕ
 behind_time line =
     if time_len line == 0 then line else behind_spaces (drop (time_len line) line)
+
+-- Where lines have no signs a time is one that no digits of bytes can be: a count is none.
+abbrev pub are_decimal : List ℕ → Bool
+are_decimal [] = true
+are_decimal (b ∷ bytes) = nat_le 48 b && nat_le b 57 && are_decimal bytes
+
+abbrev pub behind_clock : List ℕ → List ℕ
+behind_clock line = if are_decimal (time_in line) then line else behind_time line

@@ -1,7 +1,6 @@
 -- A whole trace: its lines, and what an explainer that does not resume has explained of them.
-use Rattle.std.specs.Prelude.{◌≡◌, ◌≤◌, ◌<◌, ℕ, ◌+◌, ◌-◌, ◌^◌, min, List, [], ◌∷◌, ◌++◌, length, Bool, true, false, ◌==◌, if◌then◌else◌, Result, Ok, Err}
+use Rattle.std.specs.Prelude.{◌≡◌, ◌≤◌, ◌<◌, ℕ, ◌+◌, ◌-◌, ◌^◌, min, List, [], ◌∷◌, ◌++◌, length, Bool, true, false, ◌==◌, if◌then◌else◌, Option, Some, None, Result, Ok, Err}
 use Rattle.std.specs.Str.Lines.{strip_carriage_return}
-use Rattle.t0_core.specs.declared.end.End.{End}
 use Rattle.t0_core.specs.History.{Event}
 use Rattle.trace_explain.specs.declared.complaint.Complaint.{Complaint}
 use Rattle.trace_explain.specs.declared.explain_fault.ExplainFault.{ExplainFault}
@@ -11,11 +10,14 @@ use Rattle.trace_explain.specs.declared.form.Form.{Form}
 use Rattle.trace_explain.specs.declared.reading.Reading.{Reading}
 use Rattle.trace_explain.specs.declared.trace_line.BadLine.{BadLine}
 use Rattle.trace_explain.specs.declared.trace_line.BadLine.TheVariants as bad
-use Rattle.trace_explain.specs.declared.trace_line.TraceLine.{TraceLine}
-use Rattle.trace_explain.specs.Explained.{IsRight}
-use Rattle.trace_explain.specs.Lines.{SpellsCharacters, Suits, Says, IsBadLine, Standing, TakesLine, first_of_all, sender}
+use Rattle.trace_explain.specs.declared.turn.NoTurn.{NoTurn}
+use Rattle.trace_explain.specs.declared.ways.Ways.{Ways}
+use Rattle.trace_explain.specs.Explained.{IsRightSigned, IsRightUnsigned, IsUnsent}
+use Rattle.trace_explain.specs.Lines.{IsBadLine, Standing, bytes_in, first_of_all}
 use Rattle.trace_explain.specs.Noted.{HasNoted}
+use Rattle.trace_explain.specs.Times.{behind_clock}
 use Rattle.trace_explain.specs.Told.{Told}
+use Rattle.trace_explain.specs.Unsigned.{IsBadUnsigned, IsHeard}
 
 -- The lines of bytes, where this much of the first line came before them: cut at LF, which the last
 -- may lack, and without the one CR right before an LF. Where nothing comes after the last LF, that
@@ -33,9 +35,8 @@ lines_of bytes = lines_from [] bytes
 -- before them to where it stands behind them.
 abbrev pub SayInTurn : List Event → Standing → List (List ℕ) → List Event → Standing → Type 0
 SayInTurn so_far at [] events after = (events ≡ []) × (after ≡ at)
-SayInTurn so_far at (line ∷ others) events after = (said : TraceLine)
-    × Says at.reading.form line said
-    × (first rest : List Event) × (next : Standing) × TakesLine so_far at said first next
+SayInTurn so_far at (line ∷ others) events after = (first rest : List Event) × (next : Standing)
+    × IsHeard at.reading.unsigned so_far at line first next
     × (events ≡ first ++ rest) × SayInTurn (so_far ++ first) next others rest after
 
 -- and these are all lines so far, read so
@@ -81,20 +82,36 @@ pub record IsReached (reading : Reading) (all : List (List ℕ)) (number : ℕ) 
 
 -- The line that the complaint names has a character with which no dialogue goes on, as it tells:
 -- the characters before it in the line, too, have been heard and told.
-pub record IsRightIn (reading : Reading) (all : List (List ℕ)) (c : Complaint) : Type 0 where
-  pub reached : IsReached reading all c.line
-  pub form : Form
-  pub from : End
-  pub bytes : List ℕ
-  pub spells : SpellsCharacters form reached.line from bytes
-  pub suits : Suits reached.at.reading.form form
-  pub is_right : IsRight c reached.at.opening (sender reached.at.reading from) bytes reached.events
-      reached.told
+abbrev pub IsRightAt : Option Ways → Complaint → Standing → List ℕ → List Event → List Told → Type 0
+IsRightAt None c at line events before = IsRightSigned c at line events before
+IsRightAt (Some ways) c at line events before = IsRightUnsigned ways c at line events before
+
+abbrev pub IsRightIn : Reading → List (List ℕ) → Complaint → Type 0
+IsRightIn reading all c = (reached : IsReached reading all c.line)
+    × IsRightAt reached.at.reading.unsigned c reached.at reached.line reached.events reached.told
+
+-- it can't be known for this reason whose the character at this place of a line without signs is
+abbrev pub IsUnsentAt : Option Ways → NoTurn → ℕ → Standing → List ℕ → List Event → List Told
+    → Type 0
+IsUnsentAt None why place at line events before = ⊥
+IsUnsentAt (Some ways) why place at line events before = (bytes : List ℕ)
+    × (bytes_in (behind_clock line) ≡ Some bytes)
+    × IsUnsent ways why place at bytes events before
+
+abbrev pub IsUnsentIn : Reading → List (List ℕ) → ℕ → ℕ → NoTurn → Type 0
+IsUnsentIn reading all number place why = (reached : IsReached reading all number)
+    × IsUnsentAt reached.at.reading.unsigned why place reached.at reached.line reached.events
+    reached.told
+
+-- such a line is refused, as lines are read
+abbrev pub IsBadFor : Option Ways → BadLine → Option Form → List ℕ → Type 0
+IsBadFor None why known line = IsBadLine why known line
+IsBadFor (Some ways) why known line = IsBadUnsigned why line
 
 -- the line with this number is refused for what it is
 abbrev pub IsBadAt : Reading → List (List ℕ) → ℕ → BadLine → Type 0
 IsBadAt reading all number why = (reached : IsReached reading all number)
-    × IsBadLine why reached.at.reading.form reached.line
+    × IsBadFor reached.at.reading.unsigned why reached.at.reading.form reached.line
 
 -- Of a fault that stops it at a line: a complaint is right; a line that is refused is as the fault
 -- says; and the line that is too long has, without the CR right before its LF, as many bytes as a
@@ -105,6 +122,8 @@ StopsIn reading all (fault.BadHex number) = IsBadAt reading all number bad.Hex
 StopsIn reading all (fault.OtherForm number expected) =
     IsBadAt reading all number (bad.OtherForm expected)
 StopsIn reading all (fault.NoSign number) = IsBadAt reading all number bad.NoSign
+StopsIn reading all (fault.Signed number) = IsBadAt reading all number bad.Signed
+StopsIn reading all (fault.NoTurn number place why) = IsUnsentIn reading all number place why
 StopsIn reading all (fault.LineTooLong number) =
     (at : IsReached reading all number) × (4194304 ≤ length at.line)
 StopsIn reading all fault.NoCharacters = SayNoCharacters reading all

@@ -46,6 +46,8 @@ pub struct Clock {
     heard: Option<Moment>,
     /// How long it is from the first of these lines to the last, where that is known.
     whole: Option<u64>,
+    /// Whether a TPDU has begun in the last line.
+    has_begun: bool,
 }
 
 impl Clock {
@@ -59,11 +61,13 @@ impl Clock {
             since: None,
             heard: None,
             whole: Some(0),
+            has_begun: false,
         }
     }
 
     /// The next line has this time, which is empty where it has none. The error is want of memory.
     pub fn pass(&mut self, time: &[u8]) -> Result<(), AllocError> {
+        self.has_begun = false;
         self.text.clear();
         self.text.extend_from_slice(time)?;
         if let Some(moment) = Moment::of(time) {
@@ -83,9 +87,14 @@ impl Clock {
         self.heard = self.now;
     }
 
-    /// A TPDU begins in the last line.
+    /// A TPDU begins in the last line. Of a second one there it is not known how long after the
+    /// first that is.
     pub fn begin(&mut self) {
         self.since = None;
+        if self.has_begun {
+            return;
+        }
+        self.has_begun = true;
         if !self.text.is_empty() {
             self.since = span(self.began, self.now);
             self.began = self.now;

@@ -5,9 +5,11 @@ use crate::help;
 use crate::layout::{Layout, Medium};
 use crate::mask::{BadTags, Mask};
 use crate::reading::Reading;
+use crate::ways::Ways;
 use clap::error::ErrorKind;
-use clap::{Arg, ArgAction, Command, Error};
+use clap::{Arg, ArgAction, ArgMatches, Command, Error};
 use std::alloc::{AllocError, Global};
+use t0_core::Direction;
 
 /// What the words ask for.
 #[derive(Debug, Drop)]
@@ -37,6 +39,7 @@ pub fn parsed<'a>(alloc: Global, words: &'a [String]) -> Result<Request<'a>, Err
         None => Mask::none(alloc),
         Some(tags) => masked(alloc, tags)?,
     };
+    let unsigned = unsigned(alloc, &matches)?;
     let compared = match matches.get_strs("diff") {
         Some([a, b]) => Some((*a, *b)),
         _ => None,
@@ -52,6 +55,7 @@ pub fn parsed<'a>(alloc: Global, words: &'a [String]) -> Result<Request<'a>, Err
         reading: Reading {
             form: matches.get_str("form").and_then(Form::of_name),
             swaps: matches.get_flag("swap"),
+            unsigned,
         },
     })
 }
@@ -69,6 +73,28 @@ fn masked(alloc: Global, tags: &str) -> Result<Mask, Error> {
             Err(command(alloc)?.error(ErrorKind::ValueValidation, text.as_str())?)
         }
     }
+}
+
+/// What is said of the ways of instructions, where the lines have no signs; the error says what is
+/// wrong with that.
+fn unsigned(alloc: Global, matches: &ArgMatches<'_>) -> Result<Option<Ways>, Error> {
+    if !matches.get_flag("unsigned") {
+        return Ok(None);
+    }
+    let mut ways = Ways::none();
+    let options = [
+        ("to-card", Direction::ToCard),
+        ("from-card", Direction::FromCard),
+    ];
+    for (name, way) in options {
+        if let Some(words) = matches.get_str(name)
+            && let Err(why) = ways.say(way, words)
+        {
+            let text = format!(in alloc; "invalid value '{words}' for '--{name} <INS>': {why}")?;
+            return Err(command(alloc)?.error(ErrorKind::ValueValidation, text.as_str())?);
+        }
+    }
+    Ok(Some(ways))
 }
 
 /// The program with its options.
@@ -96,6 +122,9 @@ fn command<'a>(alloc: Global) -> Result<Command<'a>, AllocError> {
         .arg(flag(alloc, "resume", help::RESUME))?
         .arg(form(alloc))?
         .arg(flag(alloc, "swap", help::SWAP))?
+        .arg(unsigned_flag(alloc)?)?
+        .arg(way(alloc, "to-card", help::TO_CARD)?)?
+        .arg(way(alloc, "from-card", help::FROM_CARD)?)?
         .arg(flag(alloc, "summary", help::SUMMARY))
 }
 
@@ -107,6 +136,23 @@ fn form<'a>(alloc: Global) -> Arg<'a> {
         .value_name("FORM")
         .value_parser(FORM_NAMES.as_slice())
         .help(help::FORM)
+}
+
+/// The option that says that the lines have no signs.
+fn unsigned_flag<'a>(alloc: Global) -> Result<Arg<'a>, AllocError> {
+    flag(alloc, "unsigned", help::UNSIGNED)
+        .conflicts_with("form")?
+        .conflicts_with("swap")
+}
+
+/// An option that says which way the data of instructions go.
+fn way<'a>(alloc: Global, name: &'a str, about: &'a str) -> Result<Arg<'a>, AllocError> {
+    Arg::new(alloc, name)
+        .long(name)
+        .action(ArgAction::Set)
+        .value_name("INS")
+        .help(about)
+        .requires_arg("unsigned")
 }
 
 /// An option without a value.

@@ -4,6 +4,9 @@ use crate::mask::HIDDEN;
 use std::fmt;
 use t0_core::{Direction, Due, End};
 
+/// What may be where a trace without signs leads to no dialogue from its beginning on.
+pub const ASTRAY: &str = "the trace may begin within a TPDU";
+
 /// A character with which no dialogue that a tap reads goes on: where it stands, what was due, and
 /// what came.
 #[derive(Clone, Copy, Debug, PartialEq, Eq)]
@@ -18,6 +21,8 @@ pub struct Complaint {
     pub from: End,
     /// The character.
     pub byte: u8,
+    /// Whether no sign says so, and no answer to reset, line `reset` or whole TPDU came before it.
+    pub is_astray: bool,
 }
 
 impl fmt::Display for Complaint {
@@ -52,7 +57,12 @@ impl Complaint {
             write!(f, "{:02X}", self.byte)?;
         }
         let from = end_text(self.from);
-        write!(f, " of the {from} came")
+        write!(f, " of the {from} came")?;
+        if self.is_astray {
+            f.write_str("; ")?;
+            f.write_str(ASTRAY)?;
+        }
+        Ok(())
     }
 }
 

@@ -61,7 +61,7 @@ pub fn is_digits(line: &[u8]) -> bool
 }
 
 /// The value of a digit, if it is one.
-fn value_of(digit: u8) -> Option<u8>
+pub fn value_of(digit: u8) -> Option<u8>
     ensures { result ≡ hex_digit_value digit }
 {
     match digit {

@@ -4,6 +4,7 @@ ghost use Rattle.trace_explain.specs.Trace.{IsOfWriting};
 
 use crate::complaint::{Complaint, Masked};
 use crate::form::Form;
+use crate::turn::NoTurn;
 use std::alloc::AllocError;
 use std::{fmt, io};
 use thiserror::Error;
@@ -14,23 +15,50 @@ pub enum ExplainFault {
     /// Characters of a line, counted from 1, are not of their form; what the lines before it say
     /// was explained.
     #[error("line {line}: bad hex")]
-    BadHex { line: u64 },
+    BadHex {
+        line: u64,
+    },
     /// The sign of a line, counted from 1, is of another form than this one, of which the lines
     /// are; what the lines before it say was explained.
     #[error("line {line}: a sign of another form than {form}")]
-    OtherForm { line: u64, form: Form },
+    OtherForm {
+        line: u64,
+        form: Form,
+    },
     /// A line, counted from 1, has digits and no sign, and no line before it has one.
-    #[error("line {line}: no sign says which end sent these digits, and no line before has one")]
-    NoSign { line: u64 },
+    #[error("line {line}: no sign says which end sent these digits, and no line before has one: \
+        `--unsigned` reads such lines")]
+    NoSign {
+        line: u64,
+    },
+    /// A line, counted from 1, begins with a sign, and lines have none; what the lines before it
+    /// say was explained.
+    #[error("line {line}: a sign, and with `--unsigned` lines have none")]
+    Signed {
+        line: u64,
+    },
+    /// Which end sends a character of lines without signs can't be known; what stands before it was
+    /// explained. The line is counted from 1, and the character's place in it from 0.
+    #[error("line {line}, character {}: {why}", .place.saturating_add(1))]
+    NoTurn {
+        line: u64,
+        place: usize,
+        why: NoTurn,
+    },
     /// A line has more bytes than a line may have.
     #[error("line {line}: line too long")]
-    LineTooLong { line: u64 },
+    LineTooLong {
+        line: u64,
+    },
     /// No dialogue goes on with a character.
     #[error("{0}")]
     NoDialogue(Complaint),
     /// There are such characters, after which the explanation went on.
     #[error("{first} (complaints: {complaints})")]
-    Resumed { complaints: u64, first: Complaint },
+    Resumed {
+        complaints: u64,
+        first: Complaint,
+    },
     /// The trace came to its end, and no line has a character of either end.
     #[error("no characters heard")]
     NoCharacters,

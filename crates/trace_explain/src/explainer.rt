@@ -1,20 +1,22 @@
 //! Explains a trace line by line: hears its characters, and tells of each TPDU once it has ended.
 
-ghost use Rattle.std.specs.Prelude.{◌≡◌, ◌<◌, ◌∷◌, ◌++◌, ◌==◌, ◌&&◌, List, [], true, false, get_or, length, OnOk, IfErr, IfOk, IfSome};
+ghost use Rattle.std.specs.Prelude.{◌≡◌, ◌<◌, ◌+◌, ◌^◌, ◌∷◌, ◌++◌, ◌==◌, ◌&&◌, List, [], true, false, get_or, length, OnOk, IfErr, IfOk, IfSome};
+ghost use Rattle.std.specs.Result.{IsErrAnd};
 ghost use Rattle.t0_core.specs.declared.end.End.TheVariants.{Card};
 ghost use Rattle.t0_core.specs.Character.{sent_by};
 ghost use Rattle.t0_core.specs.History.{Event, Reset, passed};
 ghost use Rattle.t0_core.specs.TapSide.{due_at};
-ghost use Rattle.trace_explain.specs.Explained.{HasExplained, ExplainsCharacters, ExplainsMore, ExplainsReset, ExplainsLine, HearsUpTo, StopsRightly, StopsAtLine, Stopped, KeepsAll, KeepsHeard, next_line, standing_of};
+ghost use Rattle.trace_explain.specs.Explained.{HasExplained, ExplainsCharacters, ExplainsMore, ExplainsReset, ExplainsLine, ExplainsSigned, ExplainsUnsigned, ExplainsInTurn, HearsUpTo, StopsRightly, StopsAtLine, StopsAtSigned, StopsAtUnsigned, StopsInTurn, Stopped, KeepsAll, KeepsHeard, is_astray, next_line, refused, standing_of};
 ghost use Rattle.trace_explain.specs.Trace.{IsOfEnd};
 ghost use Rattle.trace_explain.specs.UnderWay.{IsOfLines, OpensUpTo};
 ghost use Rattle.trace_explain.specs.Lines.{came_after, first_of_all};
 ghost use Rattle.trace_explain.specs.Openings.{begins_answer, opened, opening_of, unopened};
 ghost use Rattle.trace_explain.specs.Told.{Told};
+ghost use Rattle.trace_explain.specs.Turns.{turn_at};
 
 use crate::answer::tell_answer;
 use crate::clock::Clock;
-use crate::complaint::{Complaint, due_text, end_text};
+use crate::complaint::{ASTRAY, Complaint, due_text, end_text};
 use crate::counts::Counts;
 use crate::diff::Kept;
 use crate::explain_fault::ExplainFault;
@@ -30,10 +32,13 @@ use crate::preface::Preface;
 use crate::reading::Reading;
 use crate::refusal::Refusal;
 use crate::story::{Story, header_of, status_of};
-use crate::time::cut_time;
+use crate::time::{cut_clock, cut_time};
 use crate::tpdu::Tpdu;
 use crate::trace_line::{BadLine, TraceLine, read_line};
 use crate::tree::{hex_lines, push_hex};
+use crate::turn::{NoTurn, turn_before, turn_within};
+use crate::unsigned_line::{UnsignedLine, read_unsigned};
+use crate::ways::Ways;
 use std::alloc::{AllocError, Global};
 use t0_core::{Direction, End};
 
@@ -58,6 +63,8 @@ pub struct Explainer {
     began: u64,
     clock: Clock,
     listener: Listener,
+    /// Whether an answer to reset, a line `reset` or a whole TPDU has come.
+    is_led: bool,
     story: Story,
     counts: Counts,
     first: Option<Complaint>,
@@ -104,6 +111,7 @@ impl Explainer {
             began: 0,
             clock: Clock::new(alloc),
             listener: Listener::new(alloc),
+            is_led: false,
             story: Story::new(alloc),
             counts: Counts::new(alloc),
             first: None,
@@ -144,8 +152,9 @@ impl Explainer {
     ///
     /// `BadHex` is a line of characters that are not of their form, `OtherForm` one of another form
     /// than the lines before it, and `NoSign` one of digits alone, where no line before it has a
-    /// sign. `NoDialogue` is a character with which no dialogue goes on, where it does not resume.
-    /// `OutOfMemory` may come after a part of the line.
+    /// sign. Where lines have no signs, `Signed` is one with a sign, and `NoTurn` a character of
+    /// which it can't be known which end sends it. `NoDialogue` is a character with which no
+    /// dialogue goes on, where it does not resume. `OutOfMemory` may come after a part of the line.
     pub fn line(&mut self, line: &[u8], out: &mut String) -> Result<(), ExplainFault>
         ensures explained { (events : List Event) (before : List Told) →
             HasExplained events before self.old →
@@ -156,13 +165,119 @@ impl Explainer {
         ensures counts { OnOk result (self.new.line ≡ next_line self.old) }
         ensures of_lines { IfErr result IsOfLines }
     {
+        match self.reading.unsigned {
+            None => self.signed_line(line, out),
+            Some(ways) => self.unsigned_line(&ways, line, out),
+        }
+    }
+
+    /// Explains the next line of a trace without signs.
+    fn unsigned_line(
+        &mut self,
+        ways: &Ways,
+        line: &[u8],
+        out: &mut String,
+    ) -> Result<(), ExplainFault>
+        ensures explained { (events : List Event) (before : List Told) →
+            HasExplained events before self.old →
+            OnOk result (ExplainsUnsigned ways.now line.now events before self.old self.new) }
+        ensures stops { (events : List Event) (before : List Told) →
+            HasExplained events before self.old →
+            IfErr result (λ fault. StopsAtUnsigned fault ways.now line.now self.old events before) }
+        ensures counts { OnOk result (self.new.line ≡ next_line self.old) }
+        ensures of_lines { IfErr result IsOfLines }
+    {
+        self.line = self.line.saturating_add(1);
+        let (time, _) = cut_clock(line);
+        self.clock.pass(time)?;
+        match read_unsigned(self.alloc, line) {
+            Ok(UnsignedLine::Characters(bytes)) => self.unsigned(ways, bytes.as_slice(), out),
+            Ok(UnsignedLine::Reset) => {
+                self.reset(out)?;
+                Ok(())
+            }
+            Ok(UnsignedLine::Note(note)) => {
+                self.note(note, out)?;
+                Ok(())
+            }
+            Err(why) => Err(refused(self.line, why)),
+        }
+    }
+
+    /// Explains characters of which no sign says who sent them: each is of the end that has the
+    /// turn.
+    fn unsigned(&mut self, ways: &Ways, bytes: &[u8], out: &mut String) -> Result<(), ExplainFault>
+        ensures explained { (events : List Event) (before : List Told) →
+            HasExplained events before self.old →
+            OnOk result (ExplainsInTurn ways.now bytes.now events before self.old self.new) }
+        ensures stops { (events : List Event) (before : List Told) →
+            HasExplained events before self.old →
+            IfErr result (λ fault. StopsInTurn fault ways.now self.old.line (standing_of self.old)
+            bytes.now events before) }
+        ensures counts { OnOk result (self.new.line ≡ self.old.line) }
+        ensures of_lines { IfErr result IsOfLines }
+    {
+        for place in 0..bytes.len() {
+            if self.is_passed_over(End::Card, bytes) {
+                return Ok(());
+            }
+            match self.turn(ways, bytes[place]) {
+                Ok(from) => self.characters(from, &bytes[place..place + 1], place, out)?,
+                Err(why) => return self.stop_unsent(place, why),
+            }
+        }
+        Ok(())
+    }
+
+    /// Whose turn it is to send this character.
+    fn turn(&self, ways: &Ways, byte: u8) -> Result<End, NoTurn>
+        ensures { result ≡ turn_at ways.now (opening_of self.now.preface) self.now.listener byte }
+    {
+        let stage = self.preface.stage();
+        if stage.has_begun() {
+            turn_within(ways, self.listener.due(), self.listener.under_way(), byte)
+        } else {
+            turn_before(stage, self.preface.has_answered(), byte)
+        }
+    }
+
+    /// Stops at a character of which it can't be known which end sends it, or passes over what
+    /// follows an answer at fault.
+    fn stop_unsent(&mut self, place: usize, why: NoTurn) -> Result<(), ExplainFault>
+        ensures stopped { self.old.resumes ≡ false → IsErrAnd result (λ fault. fault
+            ≡ ExplainFault.NoTurn self.old.line place why) }
+        ensures counts { OnOk result (self.new.line ≡ self.old.line) }
+        ensures of_lines { IfErr result IsOfLines }
+    {
+        if self.resumes && why == NoTurn::Answer {
+            self.pass_over(place);
+            return Ok(());
+        }
+        Err(ExplainFault::NoTurn {
+            line: self.line,
+            place,
+            why,
+        })
+    }
+
+    /// Explains the next line of a trace with signs.
+    fn signed_line(&mut self, line: &[u8], out: &mut String) -> Result<(), ExplainFault>
+        ensures explained { (events : List Event) (before : List Told) →
+            HasExplained events before self.old →
+            OnOk result (ExplainsSigned line.now events before self.old self.new) }
+        ensures stops { (events : List Event) (before : List Told) →
+            HasExplained events before self.old →
+            IfErr result (λ fault. StopsAtSigned fault line.now self.old events before) }
+        ensures counts { OnOk result (self.new.line ≡ next_line self.old) }
+        ensures of_lines { IfErr result IsOfLines }
+    {
         self.line = self.line.saturating_add(1);
         let (time, _) = cut_time(line);
         self.clock.pass(time)?;
         match read_line(self.alloc, self.reading.form, line) {
             Ok(TraceLine::Characters(form, from, bytes)) => {
                 self.reading = self.reading.of_form(form);
-                self.characters(self.reading.sender(from), bytes.as_slice(), out)
+                self.characters(self.reading.sender(from), bytes.as_slice(), 0, out)
             }
             Ok(TraceLine::Reset) => {
                 self.reset(out)?;
@@ -172,25 +287,26 @@ impl Explainer {
                 self.note(note, out)?;
                 Ok(())
             }
-            Err(BadLine::Hex) => Err(ExplainFault::BadHex { line: self.line }),
-            Err(BadLine::OtherForm(form)) => Err(ExplainFault::OtherForm {
-                line: self.line,
-                form,
-            }),
-            Err(BadLine::NoSign) => Err(ExplainFault::NoSign { line: self.line }),
-            Err(BadLine::OutOfMemory) => Err(ExplainFault::OutOfMemory),
+            Err(why) => Err(refused(self.line, why)),
         }
     }
 
-    /// Explains the characters of a line, if they are not passed over.
-    fn characters(&mut self, from: End, bytes: &[u8], out: &mut String) -> Result<(), ExplainFault>
+    /// Explains characters of a line, behind so many others, if they are not passed over.
+    fn characters(
+        &mut self,
+        from: End,
+        bytes: &[u8],
+        ahead: usize,
+        out: &mut String,
+    ) -> Result<(), ExplainFault>
+        requires within { ahead + length bytes.now < 2 ^ 64 }
         ensures explained { (events : List Event) (before : List Told) →
             HasExplained events before self.old →
             OnOk result (ExplainsCharacters from bytes.now events before self.old self.new) }
         ensures stops { (events : List Event) (before : List Told) →
             HasExplained events before self.old →
-            IfErr result (λ fault. StopsRightly fault self.old.line (opening_of self.old.preface)
-            from bytes.now events before) }
+            IfErr result (λ fault. StopsRightly fault self.old.line ahead
+            (opening_of self.old.preface) from bytes.now events before) }
         ensures counts { OnOk result (self.new.line ≡ self.old.line) }
         ensures of_lines { IfErr result IsOfLines }
     {
@@ -206,7 +322,7 @@ impl Explainer {
                 self.answer_again(&bytes[start + place..], out)?;
                 Ok(())
             }
-            Some(place) => self.stop(from, bytes, start + place, out),
+            Some(place) => self.stop(from, bytes, start + place, ahead, out),
         }
     }
 
@@ -225,6 +341,7 @@ impl Explainer {
             if role.is_dialogue() {
                 return Ok(place);
             }
+            self.is_led = true;
             self.tell_after(role, out)?;
         }
         Ok(bytes.len())
@@ -342,7 +459,7 @@ impl Explainer {
         ensures wants { IfErr result (λ fault. fault ≡ ExplainFault.OutOfMemory) }
     {
         self.tell_passed(out)?;
-        self.note_beginning(from);
+        self.note_beginning(from, bytes);
         let mut told = Vec::new(self.alloc);
         let heard = self.listener.hear_all(from, bytes, &mut told);
         self.tell_all(told.as_slice(), out)?;
@@ -358,12 +475,12 @@ impl Explainer {
 
     /// Notes the line in which a TPDU begins, where none is under way and the terminal sends, that
     /// nothing is passed over, and the time.
-    fn note_beginning(&mut self, from: End)
+    fn note_beginning(&mut self, from: End, bytes: &[u8])
         ensures { KeepsAll self.old self.new }
     {
         self.passed = None;
         self.clock.hear();
-        if from == End::Terminal && self.listener.under_way().is_empty() {
+        if from == End::Terminal && !bytes.is_empty() && self.listener.under_way().is_empty() {
             self.began = self.line;
             self.clock.begin();
         }
@@ -387,6 +504,7 @@ impl Explainer {
             self.counts.take(tpdu)?;
             let links = self.story.tell(tpdu)?;
             self.tell(tpdu, links, out)?;
+            self.is_led = true;
         }
         Ok(())
     }
@@ -403,31 +521,35 @@ impl Explainer {
         self.layout.note(out, lines.as_str())
     }
 
-    /// Tells of a character at this place of a line with which no dialogue goes on, and stops or
-    /// passes over what follows.
+    /// Tells of a character at this place, behind so many others of its line, with which no
+    /// dialogue goes on, and stops or passes over what follows.
     fn stop(
         &mut self,
         from: End,
         bytes: &[u8],
         place: usize,
+        ahead: usize,
         out: &mut String,
     ) -> Result<(), ExplainFault>
+        requires within { ahead + place < 2 ^ 64 }
         ensures stopped { self.old.resumes ≡ false → Stopped result (record {
           line = self.old.line;
-          place = place;
+          place = ahead + place;
           due = due_at self.old.listener.tap;
           from = from;
           byte = get_or bytes.now place 0;
+          is_astray = is_astray self.old;
         }) }
         ensures counts { OnOk result (self.new.line ≡ self.old.line) }
         ensures of_lines { IfErr result IsOfLines }
     {
         let complaint = Complaint {
             line: self.line,
-            place,
+            place: ahead + place,
             due: self.listener.due(),
             from,
             byte: bytes.get(place).copied().unwrap_or(0),
+            is_astray: self.reading.unsigned.is_some() && !self.is_led,
         };
         self.cut_off(out)?;
         self.story.lose_some();
@@ -437,7 +559,7 @@ impl Explainer {
             return Err(ExplainFault::NoDialogue(complaint));
         }
         self.first = Some(self.first.unwrap_or(complaint));
-        self.resume(from, bytes, place)
+        self.resume(from, bytes, complaint.place)
     }
 
     /// Goes on after a character at this place of a line: with that line, where it is a header, and
@@ -449,13 +571,20 @@ impl Explainer {
         if self.may_begin(from, bytes) {
             return self.hear_header(bytes);
         }
+        self.pass_over(place);
+        Ok(())
+    }
+
+    /// Passes over what follows from this place of the line on.
+    fn pass_over(&mut self, place: usize)
+        ensures counts { self.new.line ≡ self.old.line }
+    {
         self.passes_over = true;
         self.passed = Some(Passed {
             line: self.line,
             place,
             last: self.line,
         });
-        Ok(())
     }
 
     /// Hears a line that is taken for a header, while no dialogue is under way.
@@ -496,6 +625,7 @@ impl Explainer {
             due,
             from,
             byte,
+            is_astray,
         } = complaint;
         let number = self.counts.complaints();
         let head = Head {
@@ -516,6 +646,10 @@ impl Explainer {
             format!(in self.alloc; "{byte:02X} of the {from}\n")?
         };
         self.layout.row(out, Side::Told, "came", came.as_str())?;
+        if is_astray {
+            let astray = format!(in self.alloc; "{ASTRAY}\n")?;
+            self.layout.row(out, Side::Told, "or", astray.as_str())?;
+        }
         self.layout.close(out)
     }
 
@@ -531,6 +665,7 @@ impl Explainer {
         self.tell_passed(out)?;
         self.passed = None;
         self.passes_over = false;
+        self.is_led = true;
         self.tell_part(self.preface.stage(), out)?;
         self.preface.reset();
         self.cut_off(out)?;
@@ -714,6 +849,19 @@ impl Explainer {
         let data = self.mask.data_lines(self.alloc, origin, true, bytes)?;
         lines.push_str(data.as_str())?;
         self.layout.row(out, Side::Told, "together", lines.as_str())
+    }
+}
+
+/// The fault of a line with this number that is refused for this.
+fn refused(line: u64, why: BadLine) -> ExplainFault
+    ensures { result ≡ refused line why }
+{
+    match why {
+        BadLine::Hex => ExplainFault::BadHex { line },
+        BadLine::OtherForm(form) => ExplainFault::OtherForm { line, form },
+        BadLine::NoSign => ExplainFault::NoSign { line },
+        BadLine::Signed => ExplainFault::Signed { line },
+        BadLine::OutOfMemory => ExplainFault::OutOfMemory,
     }
 }
 

@@ -25,6 +25,15 @@ pub const FORM: &str = "Says which signs the lines have, which else the first of
 /// Of `--swap`.
 pub const SWAP: &str = "Takes each sign for that of the other end, as where TX is the card's";
 
+/// Of `--unsigned`.
+pub const UNSIGNED: &str = "Reads lines without signs: the dialogue says who sent each character";
+
+/// Of `--to-card`.
+pub const TO_CARD: &str = "Says of instructions, as `5A,F0`, that their data go to the card";
+
+/// Of `--from-card`.
+pub const FROM_CARD: &str = "Says of instructions that their data come from the card";
+
 /// Of `--summary`.
 pub const SUMMARY: &str = "Writes the last block, with what is counted, and nothing else";
 
@@ -63,6 +72,14 @@ counted from 1, with what was due and what came. Then the program stops. With `-
 over what follows, up to the next line `reset`, or the next line `> HEX` of just five characters,
 which it takes for a header: that may be the character's own line. It tells which lines it passed
 over.
+
+With `--unsigned` lines of digits alone are characters of either end, as a log of a line with one
+wire has them. A time may stand before them, but no count, which is digits too. The dialogue says
+who sent each, and the class and INS which way its data go; `--to-card` and `--from-card` say that
+of other instructions, or otherwise. Where nothing says it, the line and the character are told, and
+the program stops. The trace begins, also behind a line `reset`, with an answer to reset or a
+header; an answer whose first character is `3B` or `3F` may begin behind each TPDU. With `--resume`
+the program goes on with a line `reset` alone.
 
 With `--mask` reference data are told as `**`: the data of VERIFY, CHANGE REFERENCE DATA, DISABLE
 and ENABLE VERIFICATION REQUIREMENT and RESET RETRY COUNTER. So are objects with the tags that are

@@ -41,6 +41,9 @@ mod time;
 mod tpdu;
 mod trace_line;
 mod tree;
+mod turn;
+mod unsigned_line;
+mod ways;
 
 use main_status::{main_status, status_without_words};
 use std::process::ExitCode;

@@ -8,7 +8,7 @@ use atr_core::{Atr, AtrFault, Convention, Pps, Reason};
 use t0_core::End;
 
 /// PPSS, the first character of a PPS request and of a response (ISO/IEC 7816-3, 9.2).
-const PPSS: u8 = 0xFF;
+pub const PPSS: u8 = 0xFF;
 
 /// TS of the inverse convention as a receiver of the direct one reads it (ISO/IEC 7816-3, 8.1).
 const TURNED_TS: u8 = 0x03;
@@ -154,7 +154,7 @@ fn as_ts(byte: u8) -> Role
 }
 
 /// How an answer that begins with this character is turned.
-fn turned_by(byte: u8) -> Option<Convention>
+pub fn turned_by(byte: u8) -> Option<Convention>
     ensures { result ≡ turned_by byte }
 {
     if byte == TURNED_TS {

@@ -2,7 +2,7 @@
 ghost use Rattle.std.specs.Prelude.{◌≡◌, ◌++◌, ◌∷◌, [], OnOk};
 ghost use Rattle.atr_core.specs.Conventions.{as_sent};
 ghost use Rattle.atr_core.specs.FirstFault.{first_fault};
-ghost use Rattle.trace_explain.specs.Openings.{after_answer, begun, has_begun, is_full, may_ask, opening_of, opens, role_of, unopened};
+ghost use Rattle.trace_explain.specs.Openings.{after_answer, begun, has_answered, has_begun, is_full, may_ask, opening_of, opens, role_of, unopened};
 
 use crate::opening::{Role, Stage, after_answer, is_direct, is_full, role_at};
 use atr_core::Convention;
@@ -53,6 +53,13 @@ impl Preface {
         self.answer.as_slice()
     }
 
+    /// Whether an answer has begun.
+    pub fn has_answered(&self) -> bool
+        ensures { result ≡ has_answered (opening_of self.now) }
+    {
+        !self.answer.is_empty()
+    }
+
     /// The characters of the last PPS request.
     pub fn request(&self) -> &[u8] {
         self.request.as_slice()
@@ -72,7 +79,7 @@ impl Preface {
     pub fn role_of(&self, from: End, byte: u8) -> Role
         ensures { result ≡ role_of (opening_of self.now) from byte }
     {
-        let may_ask = is_direct(self.turned) && !self.answer.is_empty();
+        let may_ask = is_direct(self.turned) && self.has_answered();
         role_at(self.stage, may_ask, from, byte)
     }
 

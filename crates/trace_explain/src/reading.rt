@@ -5,15 +5,18 @@ ghost use Rattle.t0_core.specs.TapSide.{other_end};
 ghost use Rattle.trace_explain.specs.Lines.{of_form, sender};
 
 use crate::form::Form;
+use crate::ways::Ways;
 use t0_core::End;
 
 /// How the lines of a trace are read: what the words say of it, and the lines before.
-#[derive(Clone, Copy, Debug, PartialEq, Eq)]
+#[derive(Clone, Copy, Debug)]
 pub struct Reading {
     /// The form of the lines, where it is known.
     pub form: Option<Form>,
     /// Whether each sign stands for the other end.
     pub swaps: bool,
+    /// Where lines have no signs, what the words say of the ways of instructions.
+    pub unsigned: Option<Ways>,
 }
 
 impl Reading {

@@ -1,6 +1,6 @@
-//! The time that may stand before the sign of a line.
+//! The time that may stand before the sign of a line, or before digits without one.
 ghost use Rattle.std.specs.Prelude.{◌≡◌, ◌≤◌, length};
-ghost use Rattle.trace_explain.specs.Times.{are_of_time, behind_spaces, behind_time, bracket_len, is_bracketed, is_shift, is_stamp, is_unit, place_of, shift_len, stamp_len, time_in, time_len};
+ghost use Rattle.trace_explain.specs.Times.{are_decimal, are_of_time, behind_clock, behind_spaces, behind_time, bracket_len, is_bracketed, is_shift, is_stamp, is_unit, place_of, shift_len, stamp_len, time_in, time_len};
 
 /// The time before a line's sign, which is empty where there is none, and what stands behind it and
 /// its spaces.
@@ -14,6 +14,30 @@ pub fn cut_time(line: &[u8]) -> (&[u8], &[u8])
     }
     let (time, rest) = line.split_at(size);
     (time, behind_spaces(rest))
+}
+
+/// The same of a line without a sign, where a count is none: it is digits, as bytes are.
+pub fn cut_clock(line: &[u8]) -> (&[u8], &[u8])
+    ensures { result.1.now ≡ behind_clock line.now }
+{
+    let (time, rest) = cut_time(line);
+    if are_decimal(time) {
+        (&line[..0], line)
+    } else {
+        (time, rest)
+    }
+}
+
+/// Whether each of these is a digit from `0` to `9`.
+fn are_decimal(bytes: &[u8]) -> bool
+    ensures { result ≡ are_decimal bytes.now }
+{
+    for &byte in bytes {
+        if !matches!(byte, b'0'..=b'9') {
+            return false;
+        }
+    }
+    true
 }
 
 /// How many bytes of a line are a time; 0 where it begins with none.

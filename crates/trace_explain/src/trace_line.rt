@@ -29,6 +29,8 @@ pub enum BadLine {
     OtherForm(Form),
     /// It has digits and no sign, and no line before it has one.
     NoSign,
+    /// It begins with a sign, and lines have none.
+    Signed,
     /// Memory was wanting.
     OutOfMemory,
 }
@@ -83,7 +85,7 @@ fn without_sign<'a>(
 }
 
 /// Whether the line begins with a sign; one of letters alone is a word.
-fn is_signed(line: &[u8]) -> bool
+pub fn is_signed(line: &[u8]) -> bool
     ensures { result ≡ is_signed line.now }
 {
     line.starts_with(b">")

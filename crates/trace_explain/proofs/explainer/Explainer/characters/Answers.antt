@@ -1,7 +1,7 @@
 use Rattle.std.proofs.Common.{◌≡◌, ℕ, ◌+◌, ◌-◌, ◌==◌, ◌∙◌, length, drop, get_or, Option, Some, false, ap, subst, sym, take}
 use Rattle.std.proofs.lemmas.List.{take_rest}
 use Rattle.trace_explain.specs.declared.explainer.Explainer.{Explainer}
-use Rattle.trace_explain.specs.Explained.{HearsUpTo, answers_again}
+use Rattle.trace_explain.specs.Explained.{HearsUpTo, answers_again, is_astray}
 use Rattle.trace_explain.specs.Lines.{came_after}
 use Rattle.trace_explain.specs.Openings.{begins_answer, has_begun, opening_of}
 use Rattle.trace_explain.specs.Told.{told_by}
@@ -101,7 +101,8 @@ returns-in-Some-2-clause-stops c = λ events before h.
           (sym w.answers_again.ensures ∙ w.if-answers_again.false)
       | else-begun w ↦ first_fails begun begins nothing (stage_is ∙ w.if-begun.false)
     ] in
-    stops_rightly c.stop.result start place c.hear.new.self.line c.args.self.now.line after
+    stops_rightly c.stop.result start place c.args.ahead c.hear.new.self.line c.args.self.now.line
+    (is_astray c.hear.new.self) after
     c.args.from bytes heard events before c.args.self.now c.hear.new.self
     (c.stop.ensures.stopped hears.1.resumes)
     (kept.4 ∙ opened.line ∙ c.is_passed_over.ensures.counts)

@@ -1,64 +1,23 @@
-use Rattle.std.proofs.Common.{ℕ, List, [], ◌∙◌, IfErr, ap, refl, subst}
-use Rattle.t0_core.specs.declared.end.End.{End}
-use Rattle.trace_explain.specs.declared.reading.Reading.{Reading}
-use Rattle.trace_explain.specs.declared.trace_line.TraceLine.{TraceLine}
-use Rattle.trace_explain.specs.declared.trace_line.TraceLine.TheVariants as said
-use Rattle.trace_explain.specs.Explained.{StopsRightly, standing_of}
-use Rattle.trace_explain.specs.Lines.{Says, TakesCharacters, sender}
-use Rattle.trace_explain.specs.Openings.{opening_of}
-use Rattle.trace_explain.proofs.ExplainedLemmas.{explains_nothing, as_line, line_stops}
+use Rattle.trace_explain.proofs.ExplainedLemmas.{signed_so, signed_stops}
+use Rattle.trace_explain.proofs.TurnLemmas.{heard_so, heard_stops}
 use Rattle.trace_explain.proofs.explainer.Explainer.line.Goals as goal
 
-pub returns-in-Ok-Characters-clause-explained : goal.returns-in-Ok-Characters-clause-explained
-returns-in-Ok-Characters-clause-explained c = λ events before h.
-    let old = c.args.self.now in
-    let form = c.in-Ok-Characters.form in
-    let from = c.in-Ok-Characters.from in
-    let P : TraceLine → Type 0 = λ s. Says old.reading.form c.args.line.now s in
-    as_line c.characters.result c.args.line.now (said.Characters form from c.in-Ok-Characters.bytes)
-    c.sender.result c.as_slice.result.now events before old
-    (record old { reading = c.of_form-self.result }) c.characters.new.self
-    (subst P c.in-Ok-Characters.field-0-is c.in-Ok-Characters.ensures.says)
-    (λ more at takes.
-    let Q : List ℕ → Type 0 = λ bs. TakesCharacters events
-    (record (standing_of old) { reading = c.of_form-self.result }) c.sender.result bs more at in
-    let E : End → Type 0 = λ e. TakesCharacters events
-    (record (standing_of old) { reading = c.of_form-self.result }) e c.in-Ok-Characters.bytes.items
-    more
-    at in
-    let R : Reading → Type 0 = λ r. TakesCharacters events
-    (record (standing_of old) { reading = r })
-    (sender r from) c.in-Ok-Characters.bytes.items more at in
-    subst R c.of_form-self.ensures
-    (subst E c.sender.ensures (subst Q c.as_slice.ensures.value takes)))
-    (c.characters.ensures.explained events before
-    (record { noted = h.noted; resumes = h.resumes; passes_over = h.passes_over }))
+pub returns-in-None-clause-explained : goal.returns-in-None-clause-explained
+returns-in-None-clause-explained c = λ events before h.
+    signed_so c.signed_line.result c.args.line.now events before c.args.self.now
+    c.signed_line.new.self c.in-None.is (c.signed_line.ensures.explained events before h)
 
-pub returns-in-Ok-Characters-clause-stops : goal.returns-in-Ok-Characters-clause-stops
-returns-in-Ok-Characters-clause-stops c = λ events before h.
-    let old = c.args.self.now in
-    let from = c.in-Ok-Characters.from in
-    let P : TraceLine → Type 0 = λ s. Says old.reading.form c.args.line.now s in
-    let E : End → Type 0 = λ e. IfErr c.characters.result (λ f. StopsRightly f
-    c.saturating_add-self.result (opening_of old.preface) e c.as_slice.result.now events before) in
-    line_stops c.characters.result c.args.line.now c.saturating_add-self.result
-    c.in-Ok-Characters.form from c.in-Ok-Characters.bytes.items c.as_slice.result.now events before
-    old c.as_slice.ensures.value
-    (subst P c.in-Ok-Characters.field-0-is c.in-Ok-Characters.ensures.says)
-    c.saturating_add-self.ensures
-    (subst E (c.sender.ensures ∙ ap (λ r. sender r from) c.of_form-self.ensures)
-    (c.characters.ensures.stops events before
-    (record { noted = h.noted; resumes = h.resumes; passes_over = h.passes_over })))
+pub returns-in-None-clause-stops : goal.returns-in-None-clause-stops
+returns-in-None-clause-stops c = λ events before h.
+    signed_stops c.signed_line.result c.args.line.now events before c.args.self.now c.in-None.is
+    (c.signed_line.ensures.stops events before h)
 
-pub returns-in_ok-note-in-Ok-Note-clause-explained :
-    goal.returns-in_ok-note-in-Ok-Note-clause-explained
-returns-in_ok-note-in-Ok-Note-clause-explained c = λ events before h.
-    let P : TraceLine → Type 0 = λ s. Says c.args.self.now.reading.form c.args.line.now s in (
-      said.Note c.in-Ok-Note.note,
-      subst P c.in-Ok-Note.field-0-is c.in-Ok-Note.ensures.says,
-      [],
-      standing_of c.args.self.now,
-      (refl, refl),
-      explains_nothing events before (standing_of c.args.self.now) _
-          (record { noted = h.noted; resumes = h.resumes; passes_over = h.passes_over }) refl,
-    )
+pub returns-in-Some-clause-explained : goal.returns-in-Some-clause-explained
+returns-in-Some-clause-explained c = λ events before h.
+    heard_so c.unsigned_line.result c.in-Some.ways c.args.line.now events before c.args.self.now
+    c.unsigned_line.new.self c.in-Some.is (c.unsigned_line.ensures.explained events before h)
+
+pub returns-in-Some-clause-stops : goal.returns-in-Some-clause-stops
+returns-in-Some-clause-stops c = λ events before h.
+    heard_stops c.unsigned_line.result c.in-Some.ways c.args.line.now events before
+    c.args.self.now c.in-Some.is (c.unsigned_line.ensures.stops events before h)

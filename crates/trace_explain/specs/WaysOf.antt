@@ -1,0 +1,68 @@
+-- Which way the data of an instruction go, where no sign says who sent them.
+use Rattle.std.specs.Prelude.{◌≡◌, ℕ, List, [], ◌∷◌, ◌++◌, Option, Some, None, Bool, false, ◌==◌, ◌||◌, nat_lt, if◌then◌else◌, get_or}
+use Rattle.t0_core.specs.declared.direction.Direction.{Direction}
+use Rattle.t0_core.specs.declared.direction.Direction.TheVariants.{ToCard, FromCard}
+use Rattle.trace_explain.specs.declared.ways.Ways.{Ways}
+
+abbrev pub is_among : ℕ → List ℕ → Bool
+is_among ins [] = false
+is_among ins (one ∷ others) = (ins == one) || is_among ins others
+
+-- Instructions of ISO/IEC 7816-4 (7), and of its parts 7 to 9, whose data the card sends: MANAGE
+-- CHANNEL, GET CHALLENGE, READ BINARY, READ RECORD, GET RESPONSE and GET DATA.
+abbrev pub interindustry_from_card : List ℕ
+interindustry_from_card = 0x70 ∷ 0x84 ∷ 0xB0 ∷ 0xB2 ∷ 0xC0 ∷ 0xCA ∷ []
+
+-- And those whose data, if there are any, the terminal sends: on files as a whole, queries and a
+-- card's life; of security; on what files hold, where with an odd INS it says which part.
+abbrev pub of_files : List ℕ
+of_files = 0x04 ∷ 0x10 ∷ 0x12 ∷ 0x14 ∷ 0x44 ∷ 0xA4 ∷ 0xC2 ∷ 0xC3 ∷ 0xE0 ∷ 0xE4 ∷ 0xE6 ∷ 0xE8
+    ∷ 0xFE ∷ []
+
+abbrev pub of_security : List ℕ
+of_security = 0x20 ∷ 0x21 ∷ 0x22 ∷ 0x24 ∷ 0x26 ∷ 0x28 ∷ 0x2A ∷ 0x2C ∷ 0x46 ∷ 0x82 ∷ 0x86 ∷ 0x87
+    ∷ 0x88 ∷ []
+
+abbrev pub of_data : List ℕ
+of_data = 0x0C ∷ 0x0E ∷ 0x0F ∷ 0xA0 ∷ 0xA1 ∷ 0xA2 ∷ 0xB1 ∷ 0xB3 ∷ 0xCB ∷ 0xD0 ∷ 0xD1 ∷ 0xD2 ∷ 0xD6
+    ∷ 0xD7 ∷ 0xDA ∷ 0xDB ∷ 0xDC ∷ 0xDD ∷ 0xE2 ∷ []
+
+abbrev pub interindustry : ℕ → Option Direction
+interindustry ins = if is_among ins interindustry_from_card then Some FromCard
+    else if is_among ins of_files || is_among ins of_security || is_among ins of_data
+    then Some ToCard else None
+
+-- Of the own classes of EMV (4.3, Book 3, 6.5): CARD BLOCK, APPLICATION UNBLOCK and BLOCK, PIN
+-- CHANGE/UNBLOCK, GET PROCESSING OPTIONS, GENERATE AC.
+abbrev pub payment : ℕ → Option Direction
+payment ins = if is_among ins (0x16 ∷ 0x18 ∷ 0x1E ∷ 0x24 ∷ 0xA8 ∷ 0xAE ∷ []) then Some ToCard
+    else None
+
+-- Of a SIM card (3GPP TS 51.011, 9.2): the card sends data under FETCH, READ BINARY, READ RECORD
+-- and STATUS, and under GET RESPONSE, which is one of those below.
+abbrev pub sim : ℕ → Option Direction
+sim ins = if is_among ins (0x12 ∷ 0xB0 ∷ 0xB2 ∷ 0xF2 ∷ []) then Some FromCard
+    else if is_among ins (0x04 ∷ 0x10 ∷ 0x14 ∷ 0x20 ∷ 0x24 ∷ 0x26 ∷ 0x28 ∷ 0x2C ∷ 0x32 ∷ 0x44 ∷ 0x88
+    ∷ 0xA2 ∷ 0xC2 ∷ 0xD6 ∷ 0xDC ∷ 0xFA ∷ []) then Some ToCard else None
+
+-- of every class: GET RESPONSE and GET DATA, SELECT and PUT DATA (this project's profile)
+abbrev pub everywhere : ℕ → Option Direction
+everywhere ins = if is_among ins (0xC0 ∷ 0xCA ∷ []) then Some FromCard
+    else if is_among ins (0xA4 ∷ 0xDA ∷ []) then Some ToCard else None
+
+abbrev pub own_way : ℕ → ℕ → Option Direction
+own_way cla ins = if nat_lt cla 0x80 then interindustry ins
+    else if nat_lt cla 0x90 then payment ins
+    else if cla == 0xA0 then sim ins else None
+
+-- the first of two that is known
+abbrev pub or_else : Option Direction → Option Direction → Option Direction
+or_else (Some way) other = Some way
+or_else None other = other
+
+abbrev pub by_standard : ℕ → ℕ → Option Direction
+by_standard cla ins = or_else (own_way cla ins) (everywhere ins)
+
+-- what the words say of INS, in every class, and else the standards
+abbrev pub way_of : Ways → ℕ → ℕ → Option Direction
+way_of ways cla ins = or_else (get_or ways.said ins None) (by_standard cla ins)

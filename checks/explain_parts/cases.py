@@ -1,10 +1,12 @@
 """The cases of `trace_explain`: what it is given, and what it must say.
 
-- checks/explain_cases/NAME.trace with NAME.out, NAME.args and NAME.err: all that is written.
+- checks/explain_cases/NAME.trace with NAME.out, NAME.args and NAME.err, and those in its folder
+  captures/: all that is written.
 - statuses.txt: `HEADER STATUS SENTENCE`, what is said of a status after such a command.
 - titles.txt: `HEADER TITLE`, `HEADER > DATA TITLE` (data of the terminal) or `HEADER < DATA TITLE`
   (data of the card), where TITLE stands behind `| `: how a command is named.
 - secrets_told.py: traces that have a secret, which must not be told.
+- long_traces.py: traces in which what is to be told comes late.
 - stories.cases: several TPDUs. Behind `in` stand the lines of the trace, behind `with` those of the
   other one of `--diff`, behind `out` the lines that are written, without the rows of headers,
   procedure bytes, data and statuses, but with a mask or `--diff`; behind `err` what standard error
@@ -23,6 +25,7 @@ from dataclasses import dataclass, field
 from itertools import zip_longest
 from pathlib import Path
 
+import long_traces
 import secrets_told as secrets
 
 HERE = Path(__file__).resolve().parent
@@ -306,9 +309,19 @@ def page_block(count, cut_off, statuses, complaints, links):
     return ["</div><section><h2>summary</h2>", *told, links, "</section>"]
 
 
+def long_cases(traces):
+    """Long traces; where rows are wanted, all lines are compared."""
+    for name, words, given, wanted, error in traces:
+        other = []
+        if "--diff" in words:
+            given, other = given
+        part = "shown" if any(ROW.match(line) for line in wanted) else "story"
+        yield Case(name, lines_of(given), wanted, words, error, part, other=lines_of(other))
+
+
 def whole_cases():
     """The cases of checks/explain_cases, whose output stands there whole."""
-    for trace in sorted(CASES.glob("*.trace")):
+    for trace in sorted(CASES.rglob("*.trace")):
         text = {kind: there(trace.with_suffix(f".{kind}")) for kind in ("out", "args", "err")}
         time = TIME.search(text["out"].rpartition(f"{BLOCK}\n")[2])
         yield Case(
@@ -345,9 +358,10 @@ def lines_of(lines):
 
 
 def tables():
-    """The cases of the seven tables, and those of secrets."""
+    """The cases of the seven tables, those of secrets, and the long ones."""
     ways = [], ["--html"], ["--resume"], ["--summary", "--resume"]
-    return [*rows_and_stories(), *secret_cases(ways)]
+    long = long_cases([*long_traces.traces(), *long_traces.at_limits()])
+    return [*rows_and_stories(), *secret_cases(ways), *long]
 
 
 def rows_and_stories():
@@ -372,4 +386,6 @@ def table_cases():
 
 def all_cases():
     """All cases, the small ones first, those of secrets in one way alone."""
-    return [*rows_and_stories(), *secret_cases([["--resume"]]), *whole_cases()]
+    secret = secret_cases([["--resume"]])
+    long = long_cases(long_traces.traces())
+    return [*rows_and_stories(), *secret, *whole_cases(), *long]

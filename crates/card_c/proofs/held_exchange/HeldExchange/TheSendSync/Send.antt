@@ -1,26 +1,23 @@
 -- What a handle holds names no thread, so it may go to another.
-use mir.Raw.{raw}
 use base.Shift.{Keyless}
-use denote.Memory.{lone}
 use denote.RawPtr.{Ptr}
 use denote.Struct.Struct.{exits_of}
 use denote.Struct.Owning.{shape, fields, to}
 use denote.Param.Send.{IsSend, AllSend, owning_send, struct_send, sendable}
 use Rattle.std.specs.Prelude.{Option, Some, None}
 use Rattle.std.specs.Global.{Global}
-use Rattle.std.proofs.Crossing as heap
 use Rattle.std.proofs.alloc.Global.TheSendSync as handle
-use Rattle.std_alloc.proofs.SendSync.{quiet, lies}
+use Rattle.std_alloc.proofs.SendSync.{quiet}
 use Rattle.card_c.specs.declared.terminal_side.TerminalSide.{TerminalSide}
 use Rattle.card_c.specs.contracts.terminal_side.TerminalSide as side
 use Rattle.card_c.proofs.terminal_side.TerminalSide.TheSendSync.{the_send as side_send}
-use Rattle.card_c.specs.HeldExchangeOwned.{held_owns}
 use Rattle.card_c.specs.contracts.held_exchange.HeldExchange.{the_row, the_type}
+use Rattle.card_c.specs.HeldExchangeOwned.{held_owns}
+use Rattle.card_c.proofs.HeldSend.{block_goes}
 
 held : (p : Ptr) (a : Global) (v : Option TerminalSide) → Keyless (held_owns p a v)
 held p a None = tt
-held p a (Some x) =
-    (lies side.the_row side_send p x, heap.frees.frees a (raw (lone side.the_row.mir)) p)
+held p a (Some x) = block_goes side.the_row side_send p a x
 
 pub send : IsSend the_row
 send =

@@ -344,7 +344,9 @@ def unsigned_cases(signed):
         if given != case.given and not COUNTED.search(case.given + case.other):
             name = f"{case.name}, without signs"
             said = [*case.words, "--unsigned", *WAYS]
-            yield Case(name, given, case.wanted, said, part=case.part, other=other)
+            yield Case(
+                name, given, case.wanted, said, part=case.part, other=other, time=case.time
+            )
 
 
 def there(path):

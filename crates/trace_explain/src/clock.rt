@@ -76,9 +76,9 @@ impl Clock {
         Ok(())
     }
 
-    /// The last line has characters that are heard.
+    /// The last line has characters that are heard. Once a TPDU has begun in it, it counts no more.
     pub fn hear(&mut self) {
-        if self.text.is_empty() {
+        if self.text.is_empty() || self.has_begun {
             return;
         }
         if self.heard.is_some() {

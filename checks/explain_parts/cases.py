@@ -13,11 +13,11 @@
   tells, behind `time` how long it took by the last block, and behind `$` the words. `\\xHH` in a
   line is that byte. Of a page only what stands below its head is compared.
 - lines.cases: what lines say; times.cases: the times before their signs; bare.cases: commands
-  without data whose card repeats INS; unsigned.cases: lines without signs; all in the same words,
-  with all that is written above the last block.
+  without data whose card repeats INS; unsigned.cases: lines without signs; logs.cases: logs of
+  whole TPDUs; all in the same words, with all that is written above the last block.
 
 The last block of text is told nowhere but in explain_cases: it has to count what stands above it
-(`block_of`). In the seven tables `#` begins a line that is passed over."""
+(`block_of`). In the eight tables `#` begins a line that is passed over."""
 
 import re
 from collections import Counter
@@ -35,7 +35,7 @@ STATUS = re.compile(r"  < status     ([0-9A-F]{4} .*)$")
 # a name is of words in capitals; what SELECT selects may be, too
 COMMAND = re.compile(r"#\d+ (INS [0-9A-F]{2}|SELECT|part of a header|[A-Z]+(?:[ /][A-Z]+)*)\b")
 TIME = re.compile(r"^    time       (.*)$", re.MULTILINE)
-COMPLAINT = "no dialogue that it reads  ("
+COMPLAINTS = ("no dialogue that it reads  (", "no exchange that it reads  (")
 BLOCK = "summary"
 HEX = re.compile(r"\b(?:[0-9A-F]{2})+\b")
 ENDS = '<div class="ends"><span>Terminal</span><span>Card</span></div><div>'
@@ -141,7 +141,7 @@ def block_of(lines, time):
         *row("TPDUs", [f"{commands.total()}{of_them}"]),
         *row("commands", counted(commands, rank) or ["none"]),
         *row("statuses", counted(statuses, str) or ["none other than 9000"]),
-        *row("complaints", [str(sum(line.startswith(COMPLAINT) for line in lines))]),
+        *row("complaints", [str(sum(line.startswith(COMPLAINTS) for line in lines))]),
         *(row("time", [time]) if time else []),
     ]
 
@@ -269,10 +269,16 @@ def story_cases(name, part):
 
 
 def secret_cases(ways):
-    """Each trace with a secret, explained in each of these ways with a mask."""
+    """Each trace or log with a secret, explained in each of these ways with a mask; a log is not
+    resumed."""
     for name, tags, lines in secrets.traces():
         for words in ways:
             masked = [*words, "--mask", *tags]
+            yield Case(name, lines_of(lines), [], masked, secret=secrets.BYTES)
+    for name, tags, lines in secrets.of_logs():
+        for words in ways:
+            words = [word for word in words if word != "--resume"]
+            masked = ["--tpdu", *words, "--mask", *tags]
             yield Case(name, lines_of(lines), [], masked, secret=secrets.BYTES)
 
 
@@ -360,20 +366,20 @@ def lines_of(lines):
 
 
 def tables():
-    """The cases of the seven tables, those of secrets, and the long ones."""
+    """The cases of the eight tables, those of secrets, and the long ones."""
     ways = [], ["--html"], ["--resume"], ["--summary", "--resume"]
     long = long_cases([*long_traces.traces(), *long_traces.at_limits()])
     return [*rows_and_stories(), *secret_cases(ways), *long]
 
 
 def rows_and_stories():
-    """The cases of the seven tables, those with signs also without."""
+    """The cases of the eight tables, those with signs also without."""
     signed = table_cases()
     return [*signed, *unsigned_cases([*signed, *whole_cases()])]
 
 
 def table_cases():
-    """The cases of the seven tables."""
+    """The cases of the eight tables."""
     return [
         status_case(),
         title_case(),
@@ -382,6 +388,7 @@ def table_cases():
         *story_cases("times.cases", "shown"),
         *story_cases("bare.cases", "shown"),
         *story_cases("unsigned.cases", "shown"),
+        *story_cases("logs.cases", "shown"),
         *link_cases(),
     ]
 

@@ -29,7 +29,7 @@ LEFT_OUT = ("main", "main_status", "command_line", "help")
 FORMS = "angle angles arrow double TX TX: Tx: T: IFD IFD:".split()
 # stands between the cases that a program is given, and between what it says of them
 MARK = "\x1e"
-DECLARED = re.compile(r"^ *ghost use [^;]*;\n", re.M)
+DECLARED = re.compile(r"^ *(?:ghost use [^;]*;|#\[tactic\(auto, using\(.*)\n", re.M)
 
 
 @dataclass
@@ -177,6 +177,7 @@ fn run{number}(rt: &HostRuntime, part: &[u8]) {{
         }},
         swaps: part[5] == b'w',
         unsigned: (part[6] == b'u').then_some(ways),
+        of_tpdus: part[6] == b't',
     }};
     let mut trace = &part[size + 1..];
     let mask = if words.len() > 7 {{
@@ -248,7 +249,7 @@ def write_inputs(folder, cases, count):
         words += "d" if "--diff" in case.words else "-"
         words += form_of(case.words)
         words += "w" if "--swap" in case.words else "-"
-        words += "u" if "--unsigned" in case.words else "-"
+        words += lines_of(case.words)
         if "--mask" in case.words:
             tags = case.words[case.words.index("--mask") + 1 :]
             words += "=" + "".join(tag for tag in tags[:1] if not tag.startswith("--"))
@@ -258,6 +259,13 @@ def write_inputs(folder, cases, count):
         given += b"\x1c" + case.other if "--diff" in case.words else b""
     for number in range(count):
         (folder / f"f{number:03}").write_bytes(str(number).encode() + given)
+
+
+def lines_of(words):
+    """What lines are: without signs, of a log of TPDUs, or with signs."""
+    if "--unsigned" in words:
+        return "u"
+    return "t" if "--tpdu" in words else "-"
 
 
 def form_of(words):

@@ -1,5 +1,5 @@
-"""Traces that have a secret, which no explanation with a mask may tell: reference data, and an
-object `5A`, whole and cut in each place, over several TPDUs, and where no object is heard.
+"""Traces and logs that have a secret, which no explanation with a mask may tell: reference data,
+and an object `5A`, whole and cut in each place, over several TPDUs, and where no object is heard.
 
 No byte of the secret but `02` stands anywhere else in a trace, nor in what is told of it. Its
 second half reads as an object, so that it is told where the first half is forgotten."""
@@ -103,6 +103,59 @@ def of_objects():
             + brought("00C00000", rest)
         )
         yield "a character too many", [*brought("00CA005A", front), f"< {rest}"]
+
+
+def pairs(digits):
+    """The bytes of digits with a space behind each."""
+    return "".join(f"{digits[i : i + 2]} " for i in range(0, len(digits), 2))
+
+
+def dump(end, digits):
+    """A dump of OpenSC, which has the bytes as text beside them."""
+    text = bytes.fromhex(digits).decode("latin-1")
+    shown = "".join(it if it.isprintable() and it.isascii() else "." for it in text)
+    lines = [
+        f"{pairs(digits[2 * i : 2 * i + 32]):48}{shown[i : i + 16]}"
+        for i in range(0, len(text), 16)
+    ]
+    return [f"{end} APDU ({len(text)} bytes):", *lines]
+
+
+def of_logs():
+    """Logs of whole TPDUs, the tags that are given, and their lines."""
+    verify = f"0020008008{DIGITS}"
+    yield "a command", [], [f"> {verify}", "< 9000"]
+    yield "a command with Le", [], [f"> {verify}00", f"< {DIGITS}9000"]
+    yield "a command of pcscd", [], [f"00000012 APDU: {pairs(verify)}", "00000003 SW: 63 C2 "]
+    yield "a command of OpenSC", [], [*dump("Outgoing", verify), *dump("Incoming", "9000")]
+    yield "a part of a dump", [], dump("Outgoing", f"{verify}{DIGITS}{DIGITS}")[:2]
+    yield "a part of an answer", TAGS, ["> 00B2010C00", *dump("Incoming", f"{RECORD}9000")[:2]]
+    yield "without an answer", [], [f"> {verify}", "reset", f"> {verify}"]
+    yield "a byte too few", [], [f"> 0020008009{DIGITS}", "< 6700"]
+    yield "an extended command", [], [f"> 00200080000008{DIGITS}", "< 6700"]
+    yield "an answer without a status", [], ["> 00CA5F2000", f"< {DIGITS}"]
+    yield "an answer before a command", [], [f"< {DIGITS}9000"]
+    yield "the echo of a command", [], [pairs(verify), f"> {pairs(verify)}", "< 90 00 : Well."]
+    yield "a result", [], [f"= 9000 {DIGITS}", "> 00CA5F2000", "< 6A88"]
+    yield "a record in a log", TAGS, ["> 00B2010C00", f"< {RECORD}9000"]
+    yield "a record behind a command", TAGS, ["> 00CB3FFF035C015A00", f"< {RECORD}9000"]
+    yield "a named object in a log", TAGS, ["> 00CA005A00", f"< {DIGITS}9000"]
+    broken = [pairs(f"{RECORD}9000")[i : i + 48] for i in range(0, len(RECORD) * 3 // 2 + 6, 48)]
+    yield "an answer of scriptor", TAGS, ["> 00B2010C00", f"< {broken[0]}", f"{broken[1]} : Well."]
+    for front, rest in cuts(RECORD):
+        yield "an answer in parts", TAGS, [
+            "> 00CB3FFF035C015A00",
+            f"< {front}61{len(rest) // 2:02X}",
+            f"> 00C00000{len(rest) // 2:02X}",
+            f"< {rest}9000",
+        ]
+        yield "a part that is lost", TAGS, ["> 00CB3FFF035C015A00", "> 00C0000000", f"< {rest}9000"]
+        yield "a chain in a log", TAGS, [
+            f"> 10DB3FFF{len(front) // 2:02X}{front}",
+            "< 9000",
+            f"> 00DB3FFF{len(rest) // 2:02X}{rest}00",
+            "< 9000",
+        ]
 
 
 def traces():

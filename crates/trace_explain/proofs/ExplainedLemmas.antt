@@ -66,8 +66,8 @@ explains_nothing events before at e h is =
 pub explained_on : (events : List Event) (before : List Told) (old mid new : Explainer)
     → HasExplained events before old → mid ≡ old → new.listener ≡ mid.listener
     → new.resumes ≡ mid.resumes → new.passes_over ≡ mid.passes_over
-    → HasExplained events before new
-explained_on events before old mid new h same listener resumes passes_over =
+    → new.reading ≡ mid.reading → HasExplained events before new
+explained_on events before old mid new h same listener resumes passes_over reading =
     let P : Explainer → Type 0 = λ e. HasExplained events before e in
     let Q : Listener → Type 0 = λ l. HasNoted events before l in
     let still : HasExplained events before mid = subst P (sym same) h in
@@ -75,6 +75,7 @@ explained_on events before old mid new h same listener resumes passes_over =
       noted = subst Q (sym listener) still.noted;
       resumes = resumes ∙ still.resumes;
       passes_over = passes_over ∙ still.passes_over;
+      hears = ap (λ (r : Reading). r.of_tpdus) reading ∙ still.hears;
     }
 
 pub same_standing : (o p : Opening) (c d : Bool) (r s : Reading) → o ≡ p → c ≡ d → r ≡ s
@@ -322,6 +323,9 @@ stops_rightly (Err fault.NoCharacters) start place ahead n line astray mid from 
 stops_rightly (Err (fault.Resumed m first)) start place ahead n line astray mid from bytes heard
     events before old at is n_is opens heard_is hears not_again =
     tt
+stops_rightly (Err (fault.BadExchanges m k why)) start place ahead n line astray mid from bytes
+    heard events before old at is n_is opens heard_is hears not_again =
+    tt
 stops_rightly (Err fault.Read) start place ahead n line astray mid from bytes heard
     events before old at is n_is opens heard_is hears not_again =
     tt
@@ -390,6 +394,8 @@ line_stops (Err fault.NoCharacters) line n form from bytes given events before o
     n_is h = absurd h
 line_stops (Err (fault.Resumed m c)) line n form from bytes given events before old same spells
     n_is h = tt
+line_stops (Err (fault.BadExchanges k m why)) line n form from bytes given events before old same
+    spells n_is h = tt
 line_stops (Err fault.Read) line n form from bytes given events before old same spells
     n_is h = tt
 line_stops (Err fault.Write) line n form from bytes given events before old same spells

@@ -247,6 +247,7 @@ of_lines_kept (fault.NoTurn m k why) bytes h = tt
 of_lines_kept (fault.LineTooLong m) bytes h = tt
 of_lines_kept (fault.NoDialogue c) bytes h = tt
 of_lines_kept (fault.Resumed m c) bytes h = tt
+of_lines_kept (fault.BadExchanges n m why) bytes h = tt
 of_lines_kept fault.OutOfMemory bytes h = tt
 of_lines_kept fault.Read bytes h = tt
 of_lines_kept fault.Write bytes h = tt
@@ -353,6 +354,8 @@ line_stops_in reading fault.NoCharacters all line given left others old come end
     absurd (none_is_empty old.reading.unsigned given old come.events come.told
     (stops come.events come.told come.explained))
 line_stops_in reading (fault.Resumed m c) all line given left others old come ends stops = tt
+line_stops_in reading (fault.BadExchanges n m why) all line given left others old come ends stops =
+    tt
 line_stops_in reading fault.Read all line given left others old come ends stops = tt
 line_stops_in reading fault.Write all line given left others old come ends stops = tt
 line_stops_in reading fault.Closed all line given left others old come ends stops = tt
@@ -498,6 +501,7 @@ ended_at reading f None at ended explained = tt
 ended_at reading fault.NoCharacters (Some bytes) at ended explained =
     (explained.events, at, explained.says, ended)
 ended_at reading (fault.Resumed m c) (Some bytes) at ended explained = tt
+ended_at reading (fault.BadExchanges n m why) (Some bytes) at ended explained = tt
 ended_at reading (fault.NoDialogue c) (Some bytes) at ended explained = absurd ended
 ended_at reading (fault.BadHex m) (Some bytes) at ended explained = absurd ended
 ended_at reading (fault.OtherForm m known) (Some bytes) at ended explained = absurd ended

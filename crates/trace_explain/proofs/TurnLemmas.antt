@@ -204,6 +204,7 @@ in_turn_stops ways bytes given place line from events before old mid here f with
     of_kind (fault.LineTooLong m) h = absurd h
     of_kind fault.NoCharacters h = absurd h
     of_kind (fault.Resumed m c) h = tt
+    of_kind (fault.BadExchanges m k why) h = tt
     of_kind fault.Read h = tt
     of_kind fault.Write h = tt
     of_kind fault.Closed h = tt
@@ -273,6 +274,7 @@ unsigned_stops (Err f) ways line n bytes given events before old same spells n_i
     of_kind (fault.LineTooLong m) h = absurd h
     of_kind fault.NoCharacters h = absurd h
     of_kind (fault.Resumed m c) h = tt
+    of_kind (fault.BadExchanges m k why) h = tt
     of_kind fault.Read h = tt
     of_kind fault.Write h = tt
     of_kind fault.Closed h = tt

@@ -31,6 +31,7 @@ pub record HasExplained (events : List Event) (told : List Told) (e : Explainer)
   pub noted : HasNoted events told e.listener
   pub resumes : e.resumes ≡ false
   pub passes_over : e.passes_over ≡ false
+  pub hears : e.reading.of_tpdus ≡ false
 
 -- where it stands in the trace
 abbrev pub standing_of : Explainer → Standing

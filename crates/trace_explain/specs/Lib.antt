@@ -6,6 +6,9 @@ pub mod Lines
 pub mod WaysOf
 pub mod Turns
 pub mod Unsigned
+pub mod LogLines
+pub mod Exchanges
+pub mod Logs
 pub mod Explained
 pub mod Trace
 pub mod UnderWay

@@ -143,6 +143,7 @@ KeepsLimit bytes (Err f) = IsOver bytes f
 -- the faults at the end of a trace: it was explained on, or no character has come
 abbrev pub IsOfEnd : ExplainFault → Bool → Type 0
 IsOfEnd (fault.Resumed complaints first) came = Unit {0}
+IsOfEnd (fault.BadExchanges complaints line why) came = Unit {0}
 IsOfEnd fault.NoCharacters came = came ≡ false
 IsOfEnd other came = ⊥
 

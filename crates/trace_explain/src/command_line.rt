@@ -56,6 +56,7 @@ pub fn parsed<'a>(alloc: Global, words: &'a [String]) -> Result<Request<'a>, Err
             form: matches.get_str("form").and_then(Form::of_name),
             swaps: matches.get_flag("swap"),
             unsigned,
+            of_tpdus: matches.get_flag("tpdu"),
         },
     })
 }
@@ -125,7 +126,8 @@ fn command<'a>(alloc: Global) -> Result<Command<'a>, AllocError> {
         .arg(unsigned_flag(alloc)?)?
         .arg(way(alloc, "to-card", help::TO_CARD)?)?
         .arg(way(alloc, "from-card", help::FROM_CARD)?)?
-        .arg(flag(alloc, "summary", help::SUMMARY))
+        .arg(flag(alloc, "summary", help::SUMMARY))?
+        .arg(tpdu(alloc)?)
 }
 
 /// The option that says the form of the lines.
@@ -153,6 +155,15 @@ fn way<'a>(alloc: Global, name: &'a str, about: &'a str) -> Result<Arg<'a>, Allo
         .value_name("INS")
         .help(about)
         .requires_arg("unsigned")
+}
+
+/// The option that says that the lines are those of a log of TPDUs, of which each stands alone.
+fn tpdu<'a>(alloc: Global) -> Result<Arg<'a>, AllocError> {
+    flag(alloc, "tpdu", help::TPDU)
+        .conflicts_with("form")?
+        .conflicts_with("resume")?
+        .conflicts_with("swap")?
+        .conflicts_with("unsigned")
 }
 
 /// An option without a value.

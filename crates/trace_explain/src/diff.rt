@@ -113,8 +113,11 @@ fn differ(out: &mut String, number: u64, a: &Kept, b: &Kept) -> Result<bool, All
         ("header", a.tpdu.header == b.tpdu.header),
         (
             "data",
-            a.tpdu.way == b.tpdu.way && a.tpdu.moved == b.tpdu.moved,
+            a.tpdu.way == b.tpdu.way
+                && a.tpdu.moved == b.tpdu.moved
+                && a.tpdu.answer == b.tpdu.answer,
         ),
+        ("Le", a.tpdu.le == b.tpdu.le),
         ("status", a.tpdu.status == b.tpdu.status),
     ];
     let mut is_first = true;

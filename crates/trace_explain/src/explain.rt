@@ -34,9 +34,9 @@ pub fn explain<R: Read, W: Write>(
     reader: &mut R,
     writer: &mut W,
 ) -> Result<(), ExplainFault>
-    ensures explained { resumes ≡ false →
+    ensures explained { resumes ≡ false → reading.of_tpdus ≡ false →
         OnOk result (IfSome (R.remaining reader.old) (λ bytes. IsWhole reading (lines_of bytes))) }
-    ensures stops { resumes ≡ false → IfErr result (λ fault.
+    ensures stops { resumes ≡ false → reading.of_tpdus ≡ false → IfErr result (λ fault.
         IfSome (R.remaining reader.old) (λ bytes. StopsIn reading (lines_of bytes) fault)) }
     ensures limited { IfSome (R.remaining reader.old) (λ bytes. KeepsLimit bytes result) }
 {

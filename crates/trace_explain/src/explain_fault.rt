@@ -3,6 +3,7 @@
 ghost use Rattle.trace_explain.specs.Trace.{IsOfWriting};
 
 use crate::complaint::{Complaint, Masked};
+use crate::exchange::BadExchange;
 use crate::form::Form;
 use crate::turn::NoTurn;
 use std::alloc::AllocError;
@@ -58,6 +59,14 @@ pub enum ExplainFault {
     Resumed {
         complaints: u64,
         first: Complaint,
+    },
+    /// There are commands of a log that are told as no TPDU, after which the explanation went on:
+    /// the first began in this line.
+    #[error("line {line}: no exchange that it reads: {why} (complaints: {complaints})")]
+    BadExchanges {
+        complaints: u64,
+        line: u64,
+        why: BadExchange,
     },
     /// The trace came to its end, and no line has a character of either end.
     #[error("no characters heard")]

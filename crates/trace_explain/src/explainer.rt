@@ -19,10 +19,13 @@ use crate::clock::Clock;
 use crate::complaint::{ASTRAY, Complaint, due_text, end_text};
 use crate::counts::Counts;
 use crate::diff::Kept;
+use crate::exchange::{BadExchange, commanded, exchanged};
 use crate::explain_fault::ExplainFault;
 use crate::layout::{Anchor, Head, Kind, Layout, Side};
 use crate::links::{Link, Links, Whole};
 use crate::listener::Listener;
+use crate::log::{Log, Logged};
+use crate::log_line::time_of;
 use crate::mask::{HIDDEN, Mask, Origin};
 use crate::meaning::{push_meaning, waiting};
 use crate::opening::{Role, Stage, begins_answer};
@@ -65,9 +68,11 @@ pub struct Explainer {
     listener: Listener,
     /// Whether an answer to reset, a line `reset` or a whole TPDU has come.
     is_led: bool,
+    log: Log,
     story: Story,
     counts: Counts,
     first: Option<Complaint>,
+    first_bad: Option<(u64, BadExchange)>,
     passed: Option<Passed>,
     keeps: bool,
     kept: Vec<Kept>,
@@ -94,7 +99,8 @@ impl Explainer {
         resumes: bool,
         reading: Reading,
     ) -> Explainer
-        ensures explained { resumes ≡ false → HasExplained [] [] result }
+        ensures explained { resumes ≡ false → reading.of_tpdus ≡ false →
+            HasExplained [] [] result }
         ensures standing { standing_of result ≡ first_of_all reading }
         ensures line { result.line ≡ 0 }
     {
@@ -112,9 +118,11 @@ impl Explainer {
             clock: Clock::new(alloc),
             listener: Listener::new(alloc),
             is_led: false,
+            log: Log::new(alloc),
             story: Story::new(alloc),
             counts: Counts::new(alloc),
             first: None,
+            first_bad: None,
             passed: None,
             keeps: false,
             kept: Vec::new(alloc),
@@ -150,12 +158,31 @@ impl Explainer {
 
     /// Explains the next line.
     ///
-    /// `BadHex` is a line of characters that are not of their form, `OtherForm` one of another form
-    /// than the lines before it, and `NoSign` one of digits alone, where no line before it has a
-    /// sign. Where lines have no signs, `Signed` is one with a sign, and `NoTurn` a character of
-    /// which it can't be known which end sends it. `NoDialogue` is a character with which no
-    /// dialogue goes on, where it does not resume. `OutOfMemory` may come after a part of the line.
+    /// `BadHex` is a line of characters that are not of their form, or of a log that can't be read,
+    /// `OtherForm` one of another form than the lines before it, and `NoSign` one of digits alone,
+    /// where no line before it has a sign. Where lines have no signs, `Signed` is one with a sign,
+    /// and `NoTurn` a character of which it can't be known which end sends it. `NoDialogue` is a
+    /// character with which no dialogue goes on, where it does not resume. `OutOfMemory` may come
+    /// after a part of the line.
     pub fn line(&mut self, line: &[u8], out: &mut String) -> Result<(), ExplainFault>
+        ensures explained { (events : List Event) (before : List Told) →
+            HasExplained events before self.old →
+            OnOk result (ExplainsLine line.now events before self.old self.new) }
+        ensures stops { (events : List Event) (before : List Told) →
+            HasExplained events before self.old →
+            IfErr result (λ fault. StopsAtLine fault line.now self.old events before) }
+        ensures counts { OnOk result (self.new.line ≡ next_line self.old) }
+        ensures of_lines { IfErr result IsOfLines }
+    {
+        if self.reading.of_tpdus {
+            self.log_line(line, out)
+        } else {
+            self.line_of_characters(line, out)
+        }
+    }
+
+    /// Explains the next line of a trace of characters.
+    fn line_of_characters(&mut self, line: &[u8], out: &mut String) -> Result<(), ExplainFault>
         ensures explained { (events : List Event) (before : List Told) →
             HasExplained events before self.old →
             OnOk result (ExplainsLine line.now events before self.old self.new) }
@@ -289,6 +316,144 @@ impl Explainer {
             }
             Err(why) => Err(refused(self.line, why)),
         }
+    }
+
+    /// Explains the next line of a log of TPDUs.
+    fn log_line(&mut self, line: &[u8], out: &mut String) -> Result<(), ExplainFault>
+        ensures counts { OnOk result (self.new.line ≡ next_line self.old) }
+        ensures of_lines { IfErr result IsOfLines }
+    {
+        self.line = self.line.saturating_add(1);
+        self.clock.pass(time_of(line))?;
+        let mut logged = Vec::new(self.alloc);
+        let taken = self.log.take(line, &mut logged);
+        self.came = self.came || self.log.has_come();
+        self.tell_all_logged(logged.as_slice(), line, out)?;
+        match taken {
+            Ok(()) => Ok(()),
+            Err(BadLine::OutOfMemory) => Err(ExplainFault::OutOfMemory),
+            Err(_) => Err(ExplainFault::BadHex { line: self.line }),
+        }
+    }
+
+    /// Tells what came of a line of a log.
+    fn tell_all_logged(
+        &mut self,
+        logged: &[Logged],
+        line: &[u8],
+        out: &mut String,
+    ) -> Result<(), AllocError>
+        ensures { OnOk result (self.new.line ≡ self.old.line) }
+    {
+        for one in logged {
+            if one.is_reset() {
+                self.reset(out)?;
+            } else {
+                self.tell_logged(one, line, out)?;
+            }
+        }
+        Ok(())
+    }
+
+    /// Tells one thing that came of a line of a log, and is no reset.
+    fn tell_logged(&mut self, one: &Logged, line: &[u8], out: &mut String) -> Result<(), AllocError>
+        ensures { OnOk result (KeepsAll self.old self.new) }
+    {
+        match one {
+            Logged::Begins => {
+                self.began = self.line;
+                self.clock.begin();
+                Ok(())
+            }
+            Logged::Exchange(command, answer) => {
+                self.exchange(command.as_slice(), Some(answer.as_slice()), out)
+            }
+            Logged::Unanswered(command) => self.exchange(command.as_slice(), None, out),
+            Logged::Stray(bytes) => {
+                self.story.lose_some();
+                self.tell_bytes("before a command, from the card:\n", bytes.as_slice(), out)
+            }
+            Logged::Part(from, bytes) => {
+                let what = match from {
+                    End::Terminal => "a part of a command:\n",
+                    End::Card => "a part of an answer:\n",
+                };
+                self.tell_bytes(what, bytes.as_slice(), out)
+            }
+            Logged::Reset => Ok(()),
+            Logged::Note => self.note(line, out),
+        }
+    }
+
+    /// Tells a command with its answer, or without one: as a TPDU, or why it is none that it reads.
+    fn exchange(
+        &mut self,
+        command: &[u8],
+        answer: Option<&[u8]>,
+        out: &mut String,
+    ) -> Result<(), AllocError>
+        ensures { OnOk result (KeepsAll self.old self.new) }
+    {
+        let outcome = match answer {
+            Some(bytes) => exchanged(self.alloc, command, bytes),
+            None => commanded(self.alloc, command),
+        };
+        let why = match outcome {
+            Ok(tpdu) => {
+                self.tell_one(&tpdu, out)?;
+                if answer.is_none() {
+                    self.story.lose_some();
+                }
+                return Ok(());
+            }
+            Err(BadExchange::OutOfMemory) => return Err(AllocError),
+            Err(why) => why,
+        };
+        self.story.lose_some();
+        self.counts.complain(self.began)?;
+        self.first_bad = Some(self.first_bad.unwrap_or((self.began, why)));
+        self.complain_exchange(why, command, answer, out)
+    }
+
+    /// Adds a box for a command and its answer that are no TPDU.
+    fn complain_exchange(
+        &self,
+        why: BadExchange,
+        command: &[u8],
+        answer: Option<&[u8]>,
+        out: &mut String,
+    ) -> Result<(), AllocError> {
+        let head = Head {
+            anchor: Anchor::Complaint(self.counts.complaints()),
+            ..Head::new(Kind::Complaint, "no exchange that it reads", self.began)
+        };
+        self.layout.open(out, head)?;
+        let fault = format!(in self.alloc; "{why}\n")?;
+        self.layout.row(out, Side::Told, "fault", fault.as_str())?;
+        let sent = self
+            .mask
+            .or_hidden(self.alloc, hex_lines(self.alloc, command)?)?;
+        self.layout
+            .row(out, Side::Terminal, "command", sent.as_str())?;
+        let came = match answer {
+            Some(bytes) => self
+                .mask
+                .or_hidden(self.alloc, hex_lines(self.alloc, bytes)?)?,
+            None => format!(in self.alloc; "none\n")?,
+        };
+        self.layout.row(out, Side::Card, "answer", came.as_str())?;
+        self.layout.close(out)
+    }
+
+    /// Tells bytes that are of no TPDU, behind what they are.
+    fn tell_bytes(&self, what: &str, bytes: &[u8], out: &mut String) -> Result<(), AllocError> {
+        let mut lines = String::new(self.alloc);
+        lines.push_str(what)?;
+        let digits = self
+            .mask
+            .or_hidden(self.alloc, hex_lines(self.alloc, bytes)?)?;
+        lines.push_str(digits.as_str())?;
+        self.layout.note(out, lines.as_str())
     }
 
     /// Explains characters of a line, behind so many others, if they are not passed over.
@@ -501,24 +666,25 @@ impl Explainer {
         ensures { OnOk result (KeepsAll self.old self.new) }
     {
         for tpdu in told {
-            self.counts.take(tpdu)?;
-            let links = self.story.tell(tpdu)?;
-            self.tell(tpdu, links, out)?;
+            self.tell_one(tpdu, out)?;
             self.is_led = true;
         }
         Ok(())
     }
 
+    /// Tells of a TPDU, which is counted, and what it is among those before it.
+    fn tell_one(&mut self, tpdu: &Tpdu, out: &mut String) -> Result<(), AllocError>
+        ensures { OnOk result (KeepsAll self.old self.new) }
+    {
+        self.counts.take(tpdu)?;
+        let links = self.story.tell(tpdu)?;
+        self.tell(tpdu, links, out)
+    }
+
     /// Tells characters of the card that come before the dialogue, and are of no answer or
     /// response: the end of what was not heard, or what stands behind an answer's first fault.
     fn before_header(&self, bytes: &[u8], out: &mut String) -> Result<(), AllocError> {
-        let mut lines = String::new(self.alloc);
-        lines.push_str("before a header, from the card:\n")?;
-        let characters = self
-            .mask
-            .or_hidden(self.alloc, hex_lines(self.alloc, bytes)?)?;
-        lines.push_str(characters.as_str())?;
-        self.layout.note(out, lines.as_str())
+        self.tell_bytes("before a header, from the card:\n", bytes, out)
     }
 
     /// Tells of a character at this place, behind so many others of its line, with which no
@@ -693,9 +859,7 @@ impl Explainer {
         if part.is_empty() {
             return Ok(());
         }
-        self.counts.take(&part)?;
-        let links = self.story.tell(&part)?;
-        self.tell(&part, links, out)
+        self.tell_one(&part, out)
     }
 
     /// Keeps a line that is none of characters.
@@ -717,6 +881,13 @@ impl Explainer {
         ensures came { OnOk result (self.now.came ≡ true) }
         ensures ended { IfErr result (λ fault. IsOfEnd fault self.now.came) }
     {
+        if let Some((line, why)) = self.first_bad {
+            return Err(ExplainFault::BadExchanges {
+                complaints: self.counts.complaints(),
+                line,
+                why,
+            });
+        }
         match self.first {
             None if self.came => Ok(()),
             None => Err(ExplainFault::NoCharacters),
@@ -735,11 +906,24 @@ impl Explainer {
         if ends_within_line(out.as_str()) {
             return Ok(());
         }
+        self.end_log(out)?;
         self.tell_passed(out)?;
         self.tell_part(self.preface.stage(), out)?;
         self.cut_off(out)?;
         self.counts.tell(self.alloc, self.layout, &self.clock, out)?;
         self.layout.end(out)
+    }
+
+    /// Tells what is open where a log ends.
+    fn end_log(&mut self, out: &mut String) -> Result<(), AllocError>
+        ensures { OnOk result (KeepsAll self.old self.new) }
+    {
+        let mut logged = Vec::new(self.alloc);
+        self.log.end(&mut logged)?;
+        for one in logged.as_slice() {
+            self.tell_logged(one, &[], out)?;
+        }
+        Ok(())
     }
 
     /// Tells of a TPDU, or keeps it.
@@ -813,7 +997,31 @@ impl Explainer {
         };
         let moved = tpdu.moved.as_slice();
         let lines = self.mask.data_lines(self.alloc, origin, is_tree, moved)?;
-        self.layout.row(out, side, "data", lines.as_str())
+        self.layout.row(out, side, "data", lines.as_str())?;
+        self.tell_answer_data(tpdu, links, out)
+    }
+
+    /// Adds the rows of what a command APDU has behind its data, and of the data that came in
+    /// answer to it.
+    fn tell_answer_data(
+        &self,
+        tpdu: &Tpdu,
+        links: Links,
+        out: &mut String,
+    ) -> Result<(), AllocError> {
+        if let Some(le) = tpdu.le {
+            let most = phrases::most(self.alloc, le)?;
+            self.layout.row(out, Side::Terminal, "Le", most.as_str())?;
+        }
+        let Some(origin) = Origin::of_answer(tpdu, links) else {
+            return Ok(());
+        };
+        let bytes = tpdu.answer.as_slice();
+        if bytes.is_empty() {
+            return Ok(());
+        }
+        let lines = self.mask.data_lines(self.alloc, origin, true, bytes)?;
+        self.layout.row(out, Side::Card, "data", lines.as_str())
     }
 
     /// Adds the row of the status, or that the TPDU was cut off.

@@ -37,6 +37,9 @@ pub const FROM_CARD: &str = "Says of instructions that their data come from the 
 /// Of `--summary`.
 pub const SUMMARY: &str = "Writes the last block, with what is counted, and nothing else";
 
+/// Of `--tpdu`.
+pub const TPDU: &str = "Reads a log of whole TPDUs or APDUs, as programs of PC/SC write them";
+
 /// What a trace is, and what comes where it is no dialogue.
 pub const TRACE: &str = "\
 The trace stands on standard input, in lines as `card_trace play` prints them:
@@ -80,6 +83,14 @@ of other instructions, or otherwise. Where nothing says it, the line and the cha
 the program stops. The trace begins, also behind a line `reset`, with an answer to reset or a
 header; an answer whose first character is `3B` or `3F` may begin behind each TPDU. With `--resume`
 the program goes on with a line `reset` alone.
+
+With `--tpdu` the lines are those of a log of whole TPDUs or APDUs, and each command has its answer
+behind it. They are `> HEX` and `< HEX`, as `gt_pcsc -v` and `scriptor` write them, with `reset` or
+`> RESET`; `APDU: HEX` and `SW: HEX` of `pcscd --apdu`, with or without colours; and the dumps of
+OpenSC, as of `opensc-tool -vvv`. A command without an answer is told as cut off, and an answer
+without a command as before one. A command that is not short, and an answer without SW1-SW2 at its
+end, are told with what is wrong, as complaints; then the program goes on. Every other line is a
+note, but one that begins as one of these and can't be read is a fault.
 
 With `--mask` reference data are told as `**`: the data of VERIFY, CHANGE REFERENCE DATA, DISABLE
 and ENABLE VERIFICATION REQUIREMENT and RESET RETRY COUNTER. So are objects with the tags that are

@@ -51,4 +51,6 @@ pub struct Links {
     pub asker: Option<Header>,
     /// Others of its data came before, as those of a chain or of a response in parts.
     pub goes_on: bool,
+    /// The same of the data of the card that came beside those of the terminal.
+    pub answer_goes_on: bool,
 }

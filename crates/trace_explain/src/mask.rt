@@ -61,6 +61,13 @@ impl Origin {
         })
     }
 
+    /// That of the data of the card that came beside those of the terminal.
+    pub fn of_answer(tpdu: &Tpdu, links: Links) -> Option<Origin> {
+        let origin = Origin::of(tpdu, links, Direction::FromCard)?;
+        let goes_on = links.answer_goes_on;
+        Some(Origin { goes_on, ..origin })
+    }
+
     /// That of the same data with all that came before them.
     pub fn of_all(self) -> Origin {
         Origin {

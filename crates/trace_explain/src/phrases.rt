@@ -65,6 +65,13 @@ pub fn procedure(alloc: Global, tally: Tally) -> Result<String, AllocError> {
     Ok(text)
 }
 
+/// Le behind the data of a command, in words.
+pub fn most(alloc: Global, le: u8) -> Result<String, AllocError> {
+    let most = count(le);
+    let unit = unit_of(u64::from(most));
+    format!(in alloc; "{le:02X} up to {most} {unit}\n")
+}
+
 /// Adds how far a TPDU came that was cut off: behind SW1, or within its header, or after how many
 /// of the bytes that P3 foresees, where some have come.
 pub fn push_cut_off(text: &mut String, tpdu: &Tpdu) -> Result<(), AllocError> {

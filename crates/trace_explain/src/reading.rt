@@ -17,6 +17,8 @@ pub struct Reading {
     pub swaps: bool,
     /// Where lines have no signs, what the words say of the ways of instructions.
     pub unsigned: Option<Ways>,
+    /// Whether they are those of a log of whole TPDUs or APDUs.
+    pub of_tpdus: bool,
 }
 
 impl Reading {

@@ -31,7 +31,7 @@ impl Story {
         self.number = self.number.saturating_add(1);
         match (header_of(tpdu), status_of(tpdu)) {
             (Some((header, p3)), Some(status)) => self.tell_whole(tpdu, header, p3, status),
-            (Some((header, p3)), None) => Ok(self.linked(tpdu, header, p3)),
+            (Some((header, p3)), None) => Ok(self.linked(tpdu, header, le_of(tpdu, p3))),
             _ => Ok(self.with(Link::None)),
         }
     }
@@ -46,8 +46,9 @@ impl Story {
     ) -> Result<Links, AllocError> {
         let drops_before = self.chain.is_pending() && !self.chain.goes_on_with(header);
         let piece = self.chain.link_of(header);
-        let links = self.linked(tpdu, header, p3);
-        if self.response.link_of(header, p3) == Link::None {
+        let le = le_of(tpdu, p3);
+        let links = self.linked(tpdu, header, le);
+        if self.response.link_of(header, le) == Link::None {
             self.response.begin(header);
         }
         self.chain
@@ -66,28 +67,31 @@ impl Story {
         })
     }
 
-    /// How a TPDU with this header and P3 goes on with those before it, and its data with theirs.
-    fn linked(&self, tpdu: &Tpdu, header: Header, p3: u8) -> Links {
-        let is_asked = self.response.link_of(header, p3) != Link::None;
+    /// How a TPDU with this header, and this P3 or Le, goes on with those before it, and its data
+    /// with theirs.
+    fn linked(&self, tpdu: &Tpdu, header: Header, le: u8) -> Links {
+        let is_asked = self.response.link_of(header, le) != Link::None;
         let asker = if is_asked {
             self.response.asker()
         } else {
             Some(header)
         };
+        let answer_goes_on = is_asked && self.response.has_come();
         let goes_on = match tpdu.way {
-            Some(Direction::FromCard) => is_asked && self.response.has_come(),
+            Some(Direction::FromCard) => answer_goes_on,
             _ => self.chain.goes_on_with(header),
         };
         Links {
             asker,
             goes_on,
-            ..self.with(self.link_of(header, p3))
+            answer_goes_on,
+            ..self.with(self.link_of(header, le))
         }
     }
 
-    /// How a command with this header and P3 goes on with those before it.
-    fn link_of(&self, header: Header, p3: u8) -> Link {
-        match self.response.link_of(header, p3) {
+    /// How a command with this header, and this P3 or Le, goes on with those before it.
+    fn link_of(&self, header: Header, le: u8) -> Link {
+        match self.response.link_of(header, le) {
             Link::None => self.chain.link_of(header),
             asked => asked,
         }
@@ -141,6 +145,7 @@ impl Story {
             whole: Whole::None,
             asker: None,
             goes_on: false,
+            answer_goes_on: false,
         }
     }
 }
@@ -183,6 +188,11 @@ pub fn brought(tpdu: &Tpdu) -> &[u8] {
     if tpdu.way == Some(Direction::FromCard) {
         tpdu.moved.as_slice()
     } else {
-        &[]
+        tpdu.answer.as_slice()
     }
+}
+
+/// What is asked for: Le of a command APDU, and else P3.
+fn le_of(tpdu: &Tpdu, p3: u8) -> u8 {
+    tpdu.le.unwrap_or(p3)
 }

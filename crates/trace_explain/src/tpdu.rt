@@ -22,6 +22,10 @@ pub struct Tpdu {
     pub moved: Vec<u8>,
     /// SW1 and SW2, as many as have come.
     pub status: Vec<u8>,
+    /// Le behind the data of a command APDU, which no TPDU has.
+    pub le: Option<u8>,
+    /// The data of the card that came in one exchange with those of the terminal.
+    pub answer: Vec<u8>,
 }
 
 impl Tpdu {
@@ -35,6 +39,8 @@ impl Tpdu {
             way: None,
             moved: Vec::new(alloc),
             status: Vec::new(alloc),
+            le: None,
+            answer: Vec::new(alloc),
         }
     }
 
@@ -46,6 +52,8 @@ impl Tpdu {
         other.way = self.way;
         other.moved.extend_from_slice(self.moved.as_slice())?;
         other.status.extend_from_slice(self.status.as_slice())?;
+        other.le = self.le;
+        other.answer.extend_from_slice(self.answer.as_slice())?;
         Ok(other)
     }
 
@@ -93,6 +101,8 @@ impl Tpdu {
             way: None,
             moved: none,
             status: self.moved,
+            le: self.le,
+            answer: self.answer,
         }
     }
 
@@ -113,7 +123,7 @@ impl Tpdu {
 }
 
 /// Whether these are the two bytes of a status.
-fn are_status(bytes: &[u8]) -> bool
+pub fn are_status(bytes: &[u8]) -> bool
     ensures value { result ≡ are_status bytes.now }
     ensures status { result ≡ true → AreStatus bytes.now }
 {

@@ -1,6 +1,7 @@
-use Rattle.std.proofs.Common.{[], ◌∷◌, ◌++◌, ◌∙◌, subst, sym}
+use Rattle.std.proofs.Common.{[], ◌∷◌, ◌++◌, ◌∙◌, ap, subst, sym}
 use Rattle.t0_core.specs.History.{Reset}
 use Rattle.trace_explain.specs.declared.listener.Listener.{Listener}
+use Rattle.trace_explain.specs.declared.reading.Reading.{Reading}
 use Rattle.trace_explain.specs.Noted.{HasNoted, ended_by}
 use Rattle.trace_explain.specs.Told.{told_by}
 use Rattle.trace_explain.proofs.explainer.Explainer.answer_again.Goals as goal
@@ -15,5 +16,6 @@ returns-clause-explained c = λ events before h.
         noted = subst P (sym kept.listener) (c.reset.ensures.noted events before h.noted);
         resumes = kept.resumes ∙ h.resumes;
         passes_over = kept.passes_over ∙ h.passes_over;
+        hears = ap (λ (r : Reading). r.of_tpdus) kept.reading ∙ h.hears;
       },
     )

@@ -28,7 +28,7 @@ returns-in-None-clause-explained c = λ events before h.
     (subst P same c.in_ok-start.ensures.opens) heard_is
     (subst Q c.in-None.is (c.in_ok-hear.ensures.explained events before
     (explained_on events before c.args.self.now c.is_passed_over.new.self c.open.new.self h same
-    opened.listener opened.resumes opened.passes_over)))
+    opened.listener opened.resumes opened.passes_over opened.reading)))
     (ap opening_of kept.2)
     (kept.3 ∙ opened.came ∙ c.came_after-self.ensures
     ∙ ap (λ (e : Explainer). came_after e.came bytes) same)
@@ -63,7 +63,7 @@ returns-in_ok-answer_again-in-Some-clause-explained c = λ events before h.
     ∙ ap has_begun (sym c.stage.ensures) ∙ sym c.has_begun-begun.ensures ∙ c.if-begun.true)
     (subst Q c.in-Some.is (c.in_ok-hear.ensures.explained events before
     (explained_on events before c.args.self.now c.is_passed_over.new.self c.open.new.self h same
-    opened.listener opened.resumes opened.passes_over)))
+    opened.listener opened.resumes opened.passes_over opened.reading)))
     both.0 both.1 again.explained (take_rest bytes (start + place)) again.opened
     (again.keeps.0 ∙ kept.3 ∙ opened.came ∙ c.came_after-self.ensures
     ∙ ap (λ (e : Explainer). came_after e.came bytes) same)
@@ -87,7 +87,7 @@ returns-in-Some-2-clause-stops c = λ events before h.
     let hears : HearsUpTo (Some place) c.args.from heard events before c.hear.new.self =
     subst Q c.in-Some.is (c.in_ok-hear.ensures.explained events before
     (explained_on events before c.args.self.now c.is_passed_over.new.self c.open.new.self h same
-    opened.listener opened.resumes opened.passes_over)) in
+    opened.listener opened.resumes opened.passes_over opened.reading)) in
     let stage_is : has_begun c.args.self.now.preface.stage ≡ c.has_begun-begun.result =
     ap (λ (e : Explainer). has_begun e.preface.stage) (sym same)
     ∙ ap has_begun (sym c.stage.ensures) ∙ sym c.has_begun-begun.ensures in

@@ -1,7 +1,8 @@
-use Rattle.std.proofs.Common.{◌++◌, ◌∙◌, get_or, map, subst, sym, take}
+use Rattle.std.proofs.Common.{◌++◌, ◌∙◌, ap, get_or, map, subst, sym, take}
 use Rattle.t0_core.specs.Character.{sent_by}
 use Rattle.t0_core.specs.History.{passed}
 use Rattle.trace_explain.specs.declared.listener.Listener.{Listener}
+use Rattle.trace_explain.specs.declared.reading.Reading.{Reading}
 use Rattle.trace_explain.specs.declared.refusal.Refusal.{Refusal}
 use Rattle.trace_explain.specs.Noted.{HasNoted, NoneGoesOn, StopsWith}
 use Rattle.trace_explain.specs.Told.{told_by}
@@ -23,6 +24,8 @@ returns-in-Ok-clause-explained c = λ events before h.
             c.note_beginning.new.self.listener c.new-told.ensures.items kept.listener h.noted));
         resumes = next.resumes ∙ told.resumes ∙ kept.resumes ∙ h.resumes;
         passes_over = next.passes_over ∙ told.passes_over ∙ kept.passes_over ∙ h.passes_over;
+        hears = ap (λ (r : Reading). r.of_tpdus) (next.reading ∙ told.reading ∙ kept.reading)
+            ∙ h.hears;
       },
     )
 
@@ -47,6 +50,8 @@ returns-in-NoDialogue-clause-explained c = λ events before h.
         noted = subst P (sym (next.listener ∙ told.listener)) stops.1;
         resumes = next.resumes ∙ told.resumes ∙ kept.resumes ∙ h.resumes;
         passes_over = next.passes_over ∙ told.passes_over ∙ kept.passes_over ∙ h.passes_over;
+        hears = ap (λ (r : Reading). r.of_tpdus) (next.reading ∙ told.reading ∙ kept.reading)
+            ∙ h.hears;
       },
       stops.0,
       subst N (sym (next.listener ∙ told.listener)) stops.2,

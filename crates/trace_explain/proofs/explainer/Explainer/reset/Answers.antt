@@ -7,13 +7,19 @@ pub returns-clause-explained : goal.returns-clause-explained
 returns-clause-explained c = λ events before h.
     let kept = c.in_ok-cut_off.ensures.keeps in
     let cut = c.in_ok-cut_off.ensures.cut_off events before
-    (record { noted = h.noted; resumes = h.resumes; passes_over = refl }) in
+    (record {
+      noted = h.noted;
+      resumes = h.resumes;
+      passes_over = refl;
+      hears = h.hears;
+    }) in
     explains_reset events before _ _ (
       cut.0,
       record {
         noted = cut.1.noted;
         resumes = cut.1.resumes;
         passes_over = cut.1.passes_over;
+        hears = cut.1.hears;
       },
     )
     (same_standing (opening_of c.cut_off.new.self.preface) unopened c.cut_off.new.self.came

@@ -32,7 +32,12 @@ returns-in-Ok-Characters-clause-explained c = λ events before h.
     subst R c.of_form-self.ensures
     (subst E c.sender.ensures (subst Q c.as_slice.ensures.value takes)))
     (c.characters.ensures.explained events before
-    (record { noted = h.noted; resumes = h.resumes; passes_over = h.passes_over }))
+    (record {
+      noted = h.noted;
+      resumes = h.resumes;
+      passes_over = h.passes_over;
+      hears = ap (λ (r : Reading). r.of_tpdus) c.of_form-self.ensures ∙ h.hears;
+    }))
 
 pub returns-in-Ok-Characters-clause-stops : goal.returns-in-Ok-Characters-clause-stops
 returns-in-Ok-Characters-clause-stops c = λ events before h.
@@ -48,7 +53,12 @@ returns-in-Ok-Characters-clause-stops c = λ events before h.
     c.saturating_add-self.ensures
     (subst E (c.sender.ensures ∙ ap (λ r. sender r from) c.of_form-self.ensures)
     (c.characters.ensures.stops events before
-    (record { noted = h.noted; resumes = h.resumes; passes_over = h.passes_over })))
+    (record {
+      noted = h.noted;
+      resumes = h.resumes;
+      passes_over = h.passes_over;
+      hears = ap (λ (r : Reading). r.of_tpdus) c.of_form-self.ensures ∙ h.hears;
+    })))
 
 pub returns-in_ok-note-in-Ok-Note-clause-explained :
     goal.returns-in_ok-note-in-Ok-Note-clause-explained
@@ -60,7 +70,12 @@ returns-in_ok-note-in-Ok-Note-clause-explained c = λ events before h.
       standing_of c.args.self.now,
       (refl, refl),
       explains_nothing events before (standing_of c.args.self.now) _
-          (record { noted = h.noted; resumes = h.resumes; passes_over = h.passes_over }) refl,
+          (record {
+            noted = h.noted;
+            resumes = h.resumes;
+            passes_over = h.passes_over;
+            hears = h.hears;
+          }) refl,
     )
 
 pub returns-in-Err-clause-stops : goal.returns-in-Err-clause-stops

@@ -20,7 +20,12 @@ returns-in-Ok-Characters-clause-explained c = λ events before h.
     at in
     subst Q c.as_slice.ensures.value takes)
     (c.unsigned.ensures.explained events before
-    (record { noted = h.noted; resumes = h.resumes; passes_over = h.passes_over }))
+    (record {
+      noted = h.noted;
+      resumes = h.resumes;
+      passes_over = h.passes_over;
+      hears = h.hears;
+    }))
 
 pub returns-in-Ok-Characters-clause-stops : goal.returns-in-Ok-Characters-clause-stops
 returns-in-Ok-Characters-clause-stops c = λ events before h.
@@ -31,7 +36,12 @@ returns-in-Ok-Characters-clause-stops c = λ events before h.
     (subst P c.in-Ok-Characters.field-0-is c.in-Ok-Characters.ensures.says).1
     c.saturating_add-self.ensures
     (c.unsigned.ensures.stops events before
-    (record { noted = h.noted; resumes = h.resumes; passes_over = h.passes_over }))
+    (record {
+      noted = h.noted;
+      resumes = h.resumes;
+      passes_over = h.passes_over;
+      hears = h.hears;
+    }))
 
 pub returns-in_ok-note-in-Ok-Note-clause-explained :
     goal.returns-in_ok-note-in-Ok-Note-clause-explained
@@ -43,7 +53,12 @@ returns-in_ok-note-in-Ok-Note-clause-explained c = λ events before h.
       standing_of c.args.self.now,
       (refl, refl),
       explains_nothing events before (standing_of c.args.self.now) _
-          (record { noted = h.noted; resumes = h.resumes; passes_over = h.passes_over }) refl,
+          (record {
+            noted = h.noted;
+            resumes = h.resumes;
+            passes_over = h.passes_over;
+            hears = h.hears;
+          }) refl,
     )
 
 pub returns-in-Err-clause-stops : goal.returns-in-Err-clause-stops

@@ -1,6 +1,6 @@
 use Rattle.trace_explain.proofs.ExplainedLemmas.{signed_so, signed_stops}
 use Rattle.trace_explain.proofs.TurnLemmas.{heard_so, heard_stops}
-use Rattle.trace_explain.proofs.explainer.Explainer.line.Goals as goal
+use Rattle.trace_explain.proofs.explainer.Explainer.line_of_characters.Goals as goal
 
 pub returns-in-None-clause-explained : goal.returns-in-None-clause-explained
 returns-in-None-clause-explained c = λ events before h.

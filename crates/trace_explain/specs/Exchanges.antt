@@ -1,0 +1,106 @@
+-- A command and its answer, as a log of PC/SC has them, and the TPDU that is told of them.
+use Rattle.std.specs.Prelude.{◌≡◌, ◌≤◌, ◌<◌, ℕ, ◌+◌, ◌-◌, List, [], ◌∷◌, ◌++◌, take, drop, length, slice_index, Option, Some, None, Bool, true, false, ◌==◌, ◌&&◌, nat_lt, if◌then◌else◌}
+use Rattle.t0_core.specs.declared.direction.Direction.{Direction}
+use Rattle.t0_core.specs.declared.direction.Direction.TheVariants.{ToCard, FromCard}
+use Rattle.trace_explain.specs.declared.exchange.BadExchange.{BadExchange}
+use Rattle.trace_explain.specs.declared.exchange.BadExchange.TheVariants as bad
+use Rattle.trace_explain.specs.declared.tpdu.Tpdu.{Tpdu}
+use Rattle.trace_explain.specs.Noted.{are_status}
+use Rattle.trace_explain.specs.Told.{Told, told_by, uncounted}
+
+-- A short command (ISO/IEC 7816-4, 5.1): CLA INS P1 P2 and P3, data of the terminal, and Le behind
+-- them, where it stands there.
+pub record Command : Type 0 where
+  pub header : List ℕ
+  pub sent : List ℕ
+  pub le : Option ℕ
+
+-- behind P3 nothing, which is Le then (case 2); or, where it is Lc and not 00, as many data as it
+-- says (case 3), and Le behind them (case 4)
+abbrev pub with_p3 : List ℕ → ℕ → List ℕ → Option Command
+with_p3 header p3 rest = if length rest == 0
+    then Some (record { header = header ++ p3 ∷ []; sent = []; le = None })
+    else if p3 == 0 then None
+    else if length rest == p3
+    then Some (record { header = header ++ p3 ∷ []; sent = rest; le = None })
+    else if length rest == p3 + 1 then Some (record {
+      header = header ++ p3 ∷ [];
+      sent = take p3 rest;
+      le = Some (slice_index rest p3);
+    })
+    else None
+
+-- CLA INS P1 P2 alone (case 1) have P3 00 (ISO/IEC 7816-3, 12.2)
+abbrev pub command_in : List ℕ → Option Command
+command_in command = if nat_lt (length command) 4 then None
+    else if length command == 4
+    then Some (record { header = command ++ 0 ∷ []; sent = []; le = None })
+    else with_p3 (take 4 command) (slice_index command 4) (drop 5 command)
+
+-- its length fields are extended: 00, and two bytes more or longer, where P3 stands
+abbrev pub is_extended : List ℕ → Bool
+is_extended command = nat_lt 6 (length command) && (slice_index command 4 == 0)
+
+-- an answer: data of the card, and SW1-SW2 behind them
+abbrev pub data_in : List ℕ → List ℕ
+data_in answer = take (length answer - 2) answer
+
+abbrev pub status_in : List ℕ → List ℕ
+status_in answer = drop (length answer - 2) answer
+
+-- Which way data moved: where both sent some, they are the terminal's, and the card's are beside.
+abbrev pub way_of : List ℕ → List ℕ → Option Direction
+way_of [] [] = None
+way_of [] (b ∷ brought) = Some FromCard
+way_of (b ∷ sent) brought = Some ToCard
+
+abbrev pub moved_of : List ℕ → List ℕ → List ℕ
+moved_of [] brought = brought
+moved_of (b ∷ sent) brought = b ∷ sent
+
+abbrev pub beside : List ℕ → List ℕ → List ℕ
+beside [] brought = []
+beside (b ∷ sent) brought = brought
+
+-- the TPDU tells the command, these data of the card, and this status, and no procedure byte
+pub record TellsExchange (c : Command) (brought status : List ℕ) (t : Tpdu) : Type 0 where
+  pub told_is : told_by t ≡ record {
+    header = c.header;
+    tally = uncounted;
+    way = way_of c.sent brought;
+    moved = moved_of c.sent brought;
+    status = status;
+  }
+  pub beside_is : t.answer.items ≡ beside c.sent brought
+  pub le_is : t.le ≡ c.le
+
+-- the TPDU of a command without an answer
+abbrev pub IsCommand : List ℕ → Tpdu → Type 0
+IsCommand command t =
+    (c : Command) × (command_in command ≡ Some c) × TellsExchange c [] [] t
+
+-- and with its answer
+abbrev pub IsExchange : List ℕ → List ℕ → Tpdu → Type 0
+IsExchange command answer t = (c : Command) × (command_in command ≡ Some c)
+    × TellsExchange c (data_in answer) (status_in answer) t
+    × (are_status (status_in answer) ≡ true)
+
+-- why a command is none that is short
+abbrev pub IsBadCommand : BadExchange → List ℕ → Type 0
+IsBadCommand bad.Short command = length command < 4
+IsBadCommand bad.Extended command = is_extended command ≡ true
+IsBadCommand bad.Length command =
+    (4 ≤ length command) × (is_extended command ≡ false) × (command_in command ≡ None)
+IsBadCommand bad.NoStatus command = ⊥
+IsBadCommand bad.OutOfMemory command = Unit {0}
+
+abbrev pub IsBadRest : BadExchange → List ℕ → ℕ → List ℕ → Type 0
+IsBadRest bad.Length header p3 rest = with_p3 header p3 rest ≡ None
+IsBadRest bad.OutOfMemory header p3 rest = Unit {0}
+IsBadRest other header p3 rest = ⊥
+
+-- or, of a short one, that its answer does not end with a status
+abbrev pub IsBadExchange : BadExchange → List ℕ → List ℕ → Type 0
+IsBadExchange bad.NoStatus command answer =
+    ((c : Command) × (command_in command ≡ Some c)) × (are_status (status_in answer) ≡ false)
+IsBadExchange other command answer = IsBadCommand other command

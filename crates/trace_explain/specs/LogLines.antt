@@ -1,0 +1,144 @@
+-- The lines of a log of whole TPDUs or APDUs, and what each says.
+use Rattle.std.specs.Prelude.{◌≡◌, ℕ, ◌+◌, ◌-◌, ◌*◌, min, List, [], ◌∷◌, take, drop, codes, length, Option, Some, None, Bool, true, false, not, nat_le, nat_lt, ◌==◌, ◌&&◌, ◌||◌, if◌then◌else◌}
+use Rattle.t0_core.specs.declared.end.End.TheVariants as end
+use Rattle.trace_explain.specs.declared.log_line.LineKind.{LineKind}
+use Rattle.trace_explain.specs.declared.log_line.LineKind.TheVariants as kind
+use Rattle.trace_explain.specs.declared.log_line.LogLine.{LogLine}
+use Rattle.trace_explain.specs.declared.log_line.LogLine.TheVariants as said
+use Rattle.trace_explain.specs.declared.log_line.Rest.{Rest}
+use Rattle.trace_explain.specs.declared.log_line.Rest.TheVariants as rest
+use Rattle.trace_explain.specs.declared.trace_line.BadLine.{BadLine}
+use Rattle.trace_explain.specs.declared.trace_line.BadLine.TheVariants as bad
+use Rattle.trace_explain.specs.Lines.{begins_with, bytes_in, is_in}
+use Rattle.trace_explain.specs.Times.{behind_time, place_of}
+
+-- an answer behind its sign: words may follow it behind a colon
+abbrev pub cut_answer : List ℕ → LineKind × List ℕ
+cut_answer behind = if nat_lt (place_of 58 behind) (length behind)
+    then (kind.Answer, take (place_of 58 behind) behind) else (kind.OpenAnswer, behind)
+
+-- a line with `>` or `<`, as scriptor and gt_pcsc write it
+abbrev pub cut_signed : List ℕ → LineKind × List ℕ
+cut_signed line = if begins_with line (codes "> RESET") then (kind.Reset, line)
+    else if begins_with line (codes "> ") then (kind.Command, drop 2 line)
+    else if begins_with line (codes "< OK:") || begins_with line (codes "< KO:")
+    then (kind.Note, line)
+    else if begins_with line (codes "< ") then cut_answer (drop 2 line) else (kind.Bad, line)
+
+-- what pcscd writes before its text: a time, the number of a thread, the beginnings of colours
+abbrev pub is_of_prefix : ℕ → Bool
+is_of_prefix b = is_in 48 57 b || (b == 32) || (b == 91) || (b == 93) || (b == 59) || (b == 109)
+    || (b == 27)
+
+abbrev pub behind_prefix : List ℕ → List ℕ
+behind_prefix [] = []
+behind_prefix (b ∷ line) = if is_of_prefix b then behind_prefix line else b ∷ line
+
+-- its text ends where a colour does
+abbrev pub text_in : List ℕ → List ℕ
+text_in line = take (place_of 27 (behind_prefix line)) (behind_prefix line)
+
+-- a line of `pcscd --apdu`, or the head of one of OpenSC's dumps
+abbrev pub cut_text : List ℕ → List ℕ → LineKind × List ℕ
+cut_text line text = if begins_with text (codes "APDU:") then (kind.Command, drop 5 text)
+    else if begins_with text (codes "SW:") then (kind.Answer, drop 3 text)
+    else if begins_with line (codes "Outgoing APDU (")
+    then (kind.Dump end.Terminal, drop 15 line)
+    else if begins_with line (codes "Incoming APDU (") then (kind.Dump end.Card, drop 15 line)
+    else (kind.Note, line)
+
+abbrev pub is_reset : List ℕ → Bool
+is_reset line = begins_with line (codes "reset") && (length line == 5)
+
+-- what a line is, and the part of it that says bytes, or how many
+abbrev pub cut_line : List ℕ → LineKind × List ℕ
+cut_line line = if begins_with (behind_time line) (codes ">")
+    || begins_with (behind_time line) (codes "<") then cut_signed (behind_time line)
+    else if is_reset (behind_time line) then (kind.Reset, behind_time line)
+    else cut_text line (text_in line)
+
+-- a number of at most seven decimal digits
+abbrev pub number_from : ℕ → List ℕ → Option ℕ
+number_from n [] = Some n
+number_from n (d ∷ digits) = if nat_lt 999999 n || not (is_in 48 57 d) then None
+    else number_from (n * 10 + (d - 48)) digits
+
+abbrev pub number_in : List ℕ → Option ℕ
+number_in [] = None
+number_in (d ∷ digits) = number_from 0 (d ∷ digits)
+
+-- how many bytes a dump has, in its head
+abbrev pub has_unit : List ℕ → Bool
+has_unit unit = begins_with unit (codes " byte):") || begins_with unit (codes " bytes):")
+
+abbrev pub size_in : List ℕ → Option ℕ
+size_in text = if has_unit (drop (place_of 32 text) text)
+    then number_in (take (place_of 32 text) text) else None
+
+abbrev pub IsBadSize : BadLine → List ℕ → Type 0
+IsBadSize bad.Hex text = size_in text ≡ None
+IsBadSize other text = ⊥
+
+-- an answer of which no word says that it ends goes on, perhaps, where it fills a line
+abbrev pub SaysOpen : List ℕ → LogLine → Type 0
+SaysOpen bytes (said.Answer same) = (same.items ≡ bytes) × ((length bytes == 16) ≡ false)
+SaysOpen bytes (said.Front same) = (same.items ≡ bytes) × ((length bytes == 16) ≡ true)
+SaysOpen bytes other = ⊥
+
+-- what a line says that is of this kind, with this part
+abbrev pub SaysPart : LineKind × List ℕ → LogLine → Type 0
+SaysPart (kind.Command, part) (said.Command bytes) = bytes_in part ≡ Some bytes.items
+SaysPart (kind.Answer, part) (said.Answer bytes) = bytes_in part ≡ Some bytes.items
+SaysPart (kind.OpenAnswer, part) line =
+    (bytes : List ℕ) × (bytes_in part ≡ Some bytes) × SaysOpen bytes line
+SaysPart (kind.Dump from, part) (said.Dump sender size) =
+    (sender ≡ from) × (size_in part ≡ Some size)
+SaysPart (kind.Reset, part) said.Reset = Unit {0}
+SaysPart (kind.Note, part) said.Note = Unit {0}
+SaysPart (other, part) line = ⊥
+
+abbrev pub SaysLog : List ℕ → LogLine → Type 0
+SaysLog line said = SaysPart (cut_line line) said
+
+-- it says nothing that can be read
+abbrev pub IsBadPart : LineKind × List ℕ → Type 0
+IsBadPart (kind.Command, part) = bytes_in part ≡ None
+IsBadPart (kind.Answer, part) = bytes_in part ≡ None
+IsBadPart (kind.OpenAnswer, part) = bytes_in part ≡ None
+IsBadPart (kind.Dump from, part) = size_in part ≡ None
+IsBadPart (kind.Bad, part) = Unit {0}
+IsBadPart (other, part) = ⊥
+
+abbrev pub IsBadLogLine : BadLine → List ℕ → Type 0
+IsBadLogLine bad.Hex line = IsBadPart (cut_line line)
+IsBadLogLine bad.OutOfMemory line = Unit {0}
+IsBadLogLine other line = ⊥
+
+-- bytes that go on with an answer, up to a colon with words behind it
+abbrev pub rest_in : List ℕ → Option (List ℕ)
+rest_in line = bytes_in (take (place_of 58 line) line)
+
+-- no bytes are none that go on; they may go on where they fill a line
+abbrev pub SaysRest : List ℕ → Rest → Type 0
+SaysRest line rest.None = (bytes : List ℕ) → rest_in line ≡ Some bytes → bytes ≡ []
+SaysRest line (rest.Last bytes) = (rest_in line ≡ Some bytes.items)
+    × (((length bytes.items == 16) && (place_of 58 line == length line)) ≡ false)
+SaysRest line (rest.More bytes) = (rest_in line ≡ Some bytes.items)
+    × (((length bytes.items == 16) && (place_of 58 line == length line)) ≡ true)
+
+-- the bytes of a line of a dump of which so many are left, each with a space behind it
+abbrev pub row : ℕ → ℕ
+row left = min left 16
+
+abbrev pub of_count : ℕ → Option (List ℕ) → Option (List ℕ)
+of_count n None = None
+of_count n (Some bytes) = if length bytes == n then Some bytes else None
+
+abbrev pub dumped_in : ℕ → List ℕ → Option (List ℕ)
+dumped_in left line = if nat_lt (length line) (3 * row left) then None
+    else of_count (row left) (bytes_in (take (3 * row left) line))
+
+abbrev pub IsBadDump : BadLine → ℕ → List ℕ → Type 0
+IsBadDump bad.Hex left line = dumped_in left line ≡ None
+IsBadDump bad.OutOfMemory left line = Unit {0}
+IsBadDump other left line = ⊥

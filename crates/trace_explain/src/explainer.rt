@@ -362,10 +362,12 @@ impl Explainer {
         match one {
             Logged::Begins => {
                 self.began = self.line;
+                self.clock.hear();
                 self.clock.begin();
                 Ok(())
             }
             Logged::Exchange(command, answer) => {
+                self.clock.hear();
                 self.exchange(command.as_slice(), Some(answer.as_slice()), out)
             }
             Logged::Unanswered(command) => self.exchange(command.as_slice(), None, out),

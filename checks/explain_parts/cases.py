@@ -47,9 +47,9 @@ SIGNED = re.compile(
     re.M,
 )
 COUNTED = re.compile(rb"^\d+ +[^\d ]", re.M)
-SPEAK_OF_SIGNS = {"--form", "--swap", "--unsigned"}
+SPEAK_OF_SIGNS = {"--form", "--swap", "--unsigned", "--tpdu"}
 # the ways of instructions that no table has
-WAYS = ["--to-card", "A8,AE"]
+WAYS = ["--to-card", "50,82,A8,AE,E2"]
 # what signs alone tell, in which cases
 TOLD_BY_SIGNS = {
     # where a trace begins within a TPDU
@@ -63,6 +63,9 @@ TOLD_BY_SIGNS = {
     "answers_again",
     # the same bytes, the other way
     "two traces whose data go another way, and of which one is cut off",
+    # characters of the card where a header may begin, and a sign with none behind it
+    "characters of the card behind a reset that begin no answer, in two lines",
+    "no TPDU begins with a sign alone, whose line has a time",
     # digits that are notes
     "digits without a sign are notes behind a line that has one",
     "a sign without characters is one, too",

@@ -27,6 +27,8 @@ SOURCE = TOP / "crates" / "trace_explain" / "src"
 LEFT_OUT = ("main", "main_status", "command_line", "help")
 # the names of the forms, in the order of FORM_NAMES
 FORMS = "angle angles arrow double TX TX: Tx: T: IFD IFD:".split()
+# how many runs a module's cases are divided among, since one may write a mebibyte
+BATCHES = 3
 # stands between the cases that a program is given, and between what it says of them
 MARK = "\x1e"
 DECLARED = re.compile(r"^ *(?:ghost use [^;]*;|#\[tactic\(auto, using\(.*)\n", re.M)
@@ -239,26 +241,30 @@ fn diff{number}(
 
 
 def write_inputs(folder, cases, count):
-    """For each module a file with its number and all cases."""
+    """For each module a file with its number and the cases of each batch."""
     folder.mkdir()
-    given = b""
-    for case in cases:
-        words = "".join(
-            word[2] if word in case.words else "-" for word in ("--html", "--resume", "--summary")
-        )
-        words += "d" if "--diff" in case.words else "-"
-        words += form_of(case.words)
-        words += "w" if "--swap" in case.words else "-"
-        words += lines_of(case.words)
-        if "--mask" in case.words:
-            tags = case.words[case.words.index("--mask") + 1 :]
-            words += "=" + "".join(tag for tag in tags[:1] if not tag.startswith("--"))
-        for word in ("--to-card", "--from-card"):
-            words += "\x1b" + (case.words[case.words.index(word) + 1] if word in case.words else "")
-        given += MARK.encode() + words.encode() + b"\x1d" + case.given
-        given += b"\x1c" + case.other if "--diff" in case.words else b""
-    for number in range(count):
-        (folder / f"f{number:03}").write_bytes(str(number).encode() + given)
+    for batch in range(BATCHES):
+        given = b"".join(input_of(case) for case in cases[batch::BATCHES])
+        for number in range(count):
+            (folder / f"f{number:03}_{batch}").write_bytes(str(number).encode() + given)
+
+
+def input_of(case):
+    """What a module is given of a case."""
+    words = "".join(
+        word[2] if word in case.words else "-" for word in ("--html", "--resume", "--summary")
+    )
+    words += "d" if "--diff" in case.words else "-"
+    words += form_of(case.words)
+    words += "w" if "--swap" in case.words else "-"
+    words += lines_of(case.words)
+    if "--mask" in case.words:
+        tags = case.words[case.words.index("--mask") + 1 :]
+        words += "=" + "".join(tag for tag in tags[:1] if not tag.startswith("--"))
+    for word in ("--to-card", "--from-card"):
+        words += "\x1b" + (case.words[case.words.index(word) + 1] if word in case.words else "")
+    other = b"\x1c" + case.other if "--diff" in case.words else b""
+    return MARK.encode() + words.encode() + b"\x1d" + case.given + other
 
 
 def lines_of(words):
@@ -276,23 +282,29 @@ def form_of(words):
 
 
 def run_all(crate, folder):
-    """What each module says of the cases, by its number; None where it ended otherwise."""
+    """What each module says of the cases of each batch; None where it ended otherwise."""
     run = subprocess.run(
         ["rt", "try", "--steps", "1", "--cases", str(folder)],
         cwd=crate,
         capture_output=True,
         check=False,
     )
-    said = re.split(rb"^== f(\d+)\n", run.stdout, flags=re.M)[1:]
+    said = re.split(rb"^== f(\d+_\d)\n", run.stdout, flags=re.M)[1:]
     if not said:
         raise SystemExit(run.stderr.decode()[-2000:])
-    ended = {int(it) for it in re.findall(rb"^case=f(\d+) run=ended status=0 ", run.stderr, re.M)}
-    texts = {int(number): text.decode() for number, text in zip(said[::2], said[1::2])}
-    return {number: texts[number] if number in ended else None for number in texts}
+    ended = set(re.findall(rb"^case=f(\d+_\d) run=ended status=0 ", run.stderr, re.M))
+    texts = zip(said[::2], said[1::2])
+    return {name.decode(): text.decode() if name in ended else None for name, text in texts}
 
 
-def faults_in(text, cases):
-    """Each case in which something else is said, or that the program ended."""
+def faults_in(texts, number, cases):
+    """Each case in which this module says something else, or that the program ended."""
+    for batch in range(BATCHES):
+        yield from faults_of(texts.get(f"{number:03}_{batch}"), cases[batch::BATCHES])
+
+
+def faults_of(text, cases):
+    """The same of the cases of a batch."""
     if text is None:
         yield "the program ended"
         return
@@ -313,12 +325,12 @@ def main(words):
         crate = write_program(folder, faults)
         write_inputs(folder / "cases", cases, len(faults) + 1)
         texts = run_all(crate, folder / "cases")
-    wrong = list(faults_in(texts.get(0), cases))
+    wrong = list(faults_in(texts, 0, cases))
     for told in wrong:
         print(f"FAILED: without a fault: {told}")
     through = []
     for number, fault in enumerate(faults, 1):
-        found = next(faults_in(texts.get(number), cases), "")
+        found = next(faults_in(texts, number, cases), "")
         if found:
             print(f"refused: {fault}\n    {found}")
         else:

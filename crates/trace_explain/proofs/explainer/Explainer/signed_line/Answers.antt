@@ -45,7 +45,8 @@ returns-in-Ok-Characters-clause-stops c = λ events before h.
     let from = c.in-Ok-Characters.from in
     let P : TraceLine → Type 0 = λ s. Says old.reading.form c.args.line.now s in
     let E : End → Type 0 = λ e. IfErr c.characters.result (λ f. StopsRightly f
-    c.saturating_add-self.result 0 (opening_of old.preface) e c.as_slice.result.now events before) in
+    c.saturating_add-self.result 0 (opening_of old.preface) e c.as_slice.result.now events
+    before) in
     line_stops c.characters.result c.args.line.now c.saturating_add-self.result
     c.in-Ok-Characters.form from c.in-Ok-Characters.bytes.items c.as_slice.result.now events before
     old c.as_slice.ensures.value

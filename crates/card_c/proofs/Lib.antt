@@ -12,4 +12,3 @@ pub mod Listing
 pub mod PlanLemmas
 pub mod PointerValues
 pub mod SessionLemmas
-pub mod TpduLemmas

@@ -6,7 +6,6 @@ use Rattle.apdu_core.specs.StatusWord.{StatusWord}
 use Rattle.t0_core.specs.declared.host_end.HostTurn.{HostTurn}
 use Rattle.t0_core.specs.declared.line_fault.LineFault.{LineFault}
 use Rattle.t0_core.specs.declared.answer_fault.AnswerFault.{AnswerFault}
-use Rattle.t0_core.specs.TpduBytes.{Asked}
 use Rattle.object_card.specs.Tables.{IsAid}
 use Rattle.object_card.specs.OneStep.{Select, Get, Put}
 use Rattle.card_terminal.specs.declared.terminal.begin_fault.BeginFault.{BeginFault}
@@ -19,7 +18,7 @@ use Rattle.card_c.specs.declared.operating_side.OperatingSide.{OperatingSide}
 use Rattle.card_c.specs.Codes.{gt_ok, gt_empty, gt_state, gt_memory, gt_argument, gt_no_status, command_code}
 use Rattle.card_c.specs.ExchangeCalls.{AreNone, turn_code, turn_byte, taking_code, TellsEnd}
 use Rattle.card_c.specs.TagNumbers.{IsNumbered}
-use Rattle.card_c.specs.TpduCalls.{AreAnswer, answered_code, due_of}
+use Rattle.card_c.specs.TpduCalls.{AreAnswer, answered_code}
 
 -- The limit on responses stays, and is the room of the operation's exchange; or nothing changes at
 -- all.
@@ -103,11 +102,6 @@ TakesTurn before byte old code new = (turn : Option HostTurn) × (code ≡ told_
 abbrev pub TakesCharacter : ℕ → Option OperationOf → ℤ → Option OperationOf → Type 0
 TakesCharacter byte old code new = (taken : Result (Unit {0}) LineFault)
     × (code ≡ taking_code taken) × IsTerminalTaking old byte taken new
-
--- what it asks a reader now
-abbrev pub due_in : Option OperationOf → Option Asked
-due_in None = None
-due_in (Some operation) = due_of operation.exchange
 
 abbrev pub TakesAnswer : List ℕ → Option OperationOf → ℤ → Option OperationOf → Type 0
 TakesAnswer answer old code new =

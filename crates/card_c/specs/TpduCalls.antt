@@ -1,16 +1,11 @@
 -- What the exports on whole TPDUs answer.
-use Rattle.std.specs.Prelude.{◌≡◌, ◌⊎◌, ℕ, ℤ, ◌<◌, List, [], ◌∷◌, ◌++◌, drop, length, Option, Some, None, Result, Ok, Err, if◌then◌else◌}
+use Rattle.std.specs.Prelude.{◌≡◌, ◌⊎◌, ℕ, ℤ, ◌<◌, List, [], ◌∷◌, ◌++◌, drop, length, Option, Some, None, Result, Ok, Err}
 use Rattle.apdu_core.specs.StatusWord.{StatusWord, IsStatusWord}
 use Rattle.t0_core.specs.declared.answer_fault.AnswerFault.{AnswerFault}
-use Rattle.t0_core.specs.HostAnswer.{is_due}
-use Rattle.t0_core.specs.TpduBytes.{Asked, asked_by, tpdu_bytes}
+use Rattle.t0_core.specs.TpduBytes.{Asked, tpdu_bytes}
 use Rattle.card_terminal.specs.ExchangeSide.{ExchangeOf}
 use Rattle.card_terminal.specs.ExchangeSteps.{IsAnswering}
 use Rattle.card_c.specs.Codes.{gt_ok, gt_buffer, gt_not_due, gt_no_status, answer_code}
-
--- what an exchange asks a reader now
-abbrev pub due_of : ExchangeOf → Option Asked
-due_of exchange = if is_due exchange.host then Some (asked_by exchange.host) else None
 
 -- The TPDU that is due goes out, and how many bytes may come back. Where none is, or there is too
 -- little room, nothing changes.

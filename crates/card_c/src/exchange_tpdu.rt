@@ -1,9 +1,10 @@
 //! An exchange that is driven by whole TPDUs.
 ghost use Rattle.std.specs.Prelude.{◌≡◌, Some, None, IsSome};
+ghost use Rattle.t0_core.specs.TpduBytes.{due_by};
 ghost use Rattle.card_c.specs.Codes.{gt_empty};
 ghost use Rattle.card_c.specs.declared.terminal_side.TerminalSide.{TerminalSide};
 ghost use Rattle.card_c.specs.ExchangeHandle.{exchange_in};
-ghost use Rattle.card_c.specs.TpduCalls.{TellsTpdu, IsAnswered, due_of};
+ghost use Rattle.card_c.specs.TpduCalls.{TellsTpdu, IsAnswered};
 
 use crate::code;
 use crate::held_exchange::ExchangeHandle;
@@ -24,7 +25,7 @@ pub extern "C" fn galliumtoad_exchange_tpdu(
     ensures empty { exchange_in exchange.old ≡ None → (result ≡ gt_empty)
         × (tpdu.new ≡ tpdu.old) × (len.new ≡ len.old) × (most.new ≡ most.old) }
     ensures told { (side : TerminalSide) → exchange_in exchange.old ≡ Some side
-        → TellsTpdu (due_of side.exchange) tpdu.old len.old most.old
+        → TellsTpdu (due_by side.exchange.host) tpdu.old len.old most.old
         result tpdu.new len.new most.new }
 {
     let Some(side) = exchange.take_out(alloc) else {
@@ -37,7 +38,7 @@ pub extern "C" fn galliumtoad_exchange_tpdu(
 
 /// The TPDU that is due goes out to C.
 fn due(side: &TerminalSide, tpdu: &mut [u8], len: &mut usize, most: &mut usize) -> i32
-    ensures { TellsTpdu (due_of side.now.exchange) tpdu.old len.old most.old
+    ensures { TellsTpdu (due_by side.now.exchange.host) tpdu.old len.old most.old
         result tpdu.new len.new most.new }
 {
     told(side.exchange.tpdu(), tpdu, len, most)

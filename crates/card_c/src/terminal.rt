@@ -6,9 +6,10 @@ ghost use Rattle.card_c.specs.Codes.{gt_empty, gt_state, command_code};
 ghost use Rattle.card_c.specs.ExchangeCalls.{AreNone};
 ghost use Rattle.card_terminal.specs.ExchangeSide.{response_limit};
 ghost use Rattle.card_terminal.specs.TerminalSide.{KeepsLimit, is_going};
+ghost use Rattle.card_terminal.specs.TerminalSteps.{terminal_due};
 ghost use Rattle.card_c.specs.declared.operating_side.OperatingSide.{OperatingSide};
 ghost use Rattle.card_c.specs.TerminalHandle.{terminal_in};
-ghost use Rattle.card_c.specs.TerminalCalls.{HasBegun, KeepsRoom, OnTerminal, BeginsSelect, BeginsGet, BeginsPut, BeginsSend, Resets, TakesTurn, TakesCharacter, TakesAnswer, TellsAnswer, due_in, begin_code};
+ghost use Rattle.card_c.specs.TerminalCalls.{HasBegun, KeepsRoom, OnTerminal, BeginsSelect, BeginsGet, BeginsPut, BeginsSend, Resets, TakesTurn, TakesCharacter, TakesAnswer, TellsAnswer, begin_code};
 ghost use Rattle.card_c.specs.TpduCalls.{TellsTpdu};
 
 use crate::code;
@@ -304,7 +305,7 @@ pub extern "C" fn galliumtoad_terminal_tpdu(
     ensures empty { terminal_in terminal.old ≡ None → (result ≡ gt_empty)
         × (tpdu.new ≡ tpdu.old) × (len.new ≡ len.old) × (most.new ≡ most.old) }
     ensures told { (side : OperatingSide) → terminal_in terminal.old ≡ Some side
-        → TellsTpdu (due_in side.terminal.operation) tpdu.old len.old most.old
+        → TellsTpdu (terminal_due side.terminal.operation) tpdu.old len.old most.old
         result tpdu.new len.new most.new }
 {
     let Some(side) = terminal.take_out(alloc) else {

@@ -1,6 +1,7 @@
 -- The answer to a whole TPDU takes an exchange as far as a dialogue that gives it.
 use Rattle.std.proofs.Common.{◌≡◌, ℕ, ◌+◌, ◌-◌, ◌<◌, List, [], ◌∷◌, ◌++◌, length, length-append, refl, sym, subst, ◌∙◌, ap, arith, inl, inr, ◌⊎◌, true, false, Bool, Option, Some, None, is_some, append-nil, append_assoc, if◌then◌else◌, ◌==◌, eq-eqb}
 use Rattle.std.specs.Prelude.{IsSome, ◌↔◌}
+use Rattle.std.specs.Option.{option_map}
 use Rattle.std.specs.List.{flat_map}
 use Rattle.std.proofs.lemmas.Bool.{leb-false}
 use Rattle.apdu_core.specs.StatusWord.{StatusWord}
@@ -20,6 +21,8 @@ use Rattle.t0_core.specs.DialogueLaws.{ends_with}
 use Rattle.t0_core.specs.Room.{Room}
 use Rattle.t0_core.specs.HostSide.{Hosting, AreOwn, HostStandsAt, IsOpenedBy, IsRequest, at_stage, gathered, fault_of, data_fault, turn_of}
 use Rattle.t0_core.specs.HostAnswer.{is_due, excess, answer_fault, after_answer_fault, before_sw2, moving_in, Gives}
+use Rattle.t0_core.specs.declared.whole_tpdu.WholeTpdu.{WholeTpdu}
+use Rattle.t0_core.specs.TpduBytes.{Asked, asked_of, asked_by, due_by}
 use Rattle.t0_core.specs.WholeLaws.{whole_front}
 use Rattle.t0_core.specs.AnswerLaws.{due_is_fresh, fresh_is_due, due_sends, dialogue_overflows}
 use Rattle.card_terminal.specs.Gathered.{UnitOf}
@@ -340,11 +343,24 @@ refused_leads c came ex seen host bytes sw d fault is kept leads gives host_is (
 
 -- ---- what is due
 
+some_due : (o : Option WholeTpdu) (host : Hosting) → option_map asked_of o ≡ due_by host
+    → is_some o ≡ is_due host
+some_due o host e = some o ∙ ap is_some e ∙ some_where (is_due host) (asked_by host) where
+  some : (o : Option WholeTpdu) → is_some o ≡ is_some (option_map asked_of o)
+  some None = refl
+  some (Some t) = refl
+
+  some_where : (v : Bool) (a : Asked) → is_some (if v then Some a else None) ≡ v
+  some_where true a = refl
+  some_where false a = refl
+
 -- it is due exactly where no character of the TPDU has gone
-pub due_where_fresh : {A : Type 0} (o : Option A) (c : Command) (ex : ExchangeOf)
+pub due_where_fresh : (o : Option WholeTpdu) (c : Command) (ex : ExchangeOf)
     (units : List UnitOf) (first : Option Dialogue) (front : Front)
-    → is_some o ≡ is_due ex.host → UnderWay c ex units first front → IsSome o ↔ (front ≡ fresh)
-due_where_fresh o c ex units first front is under =
+    → option_map asked_of o ≡ due_by ex.host → UnderWay c ex units first front
+    → IsSome o ↔ (front ≡ fresh)
+due_where_fresh o c ex units first front due under =
+    let is = some_due o ex.host due in
     let Stands : Front → Type 0 = λ f. HostStandsAt ex.host f in (
       (λ some. due_is_fresh ex.host front under.stands (sym is ∙ some)),
       (λ same. is ∙ fresh_is_due ex.host (subst Stands same under.stands)),

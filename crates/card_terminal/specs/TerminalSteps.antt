@@ -1,5 +1,5 @@
 -- What each call does to a terminal that is driven from outside.
-use Rattle.std.specs.Prelude.{◌≡◌, ℕ, List, [], ◌∷◌, ◌++◌, Option, Some, None, Bool, true, false, ◌⊎◌, Result, MatchResult, IfErr, IsErrOf, IfSome, is_some}
+use Rattle.std.specs.Prelude.{◌≡◌, ℕ, List, [], ◌∷◌, ◌++◌, Option, Some, None, true, false, ◌⊎◌, Result, MatchResult, IfErr, IsErrOf, IfSome, is_some}
 use Rattle.apdu_core.specs.StatusWord.{StatusWord}
 use Rattle.apdu_core.specs.CommandBytes.{Command}
 use Rattle.t0_core.specs.declared.end.End.TheVariants.{Terminal, Card}
@@ -12,7 +12,8 @@ use Rattle.t0_core.specs.declared.answer_fault.AnswerFault.TheVariants as answer
 use Rattle.t0_core.specs.Character.{Character}
 use Rattle.t0_core.specs.Dialogue.{Dialogue, characters}
 use Rattle.t0_core.specs.HostSide.{fault_of, data_due}
-use Rattle.t0_core.specs.HostAnswer.{is_due, answer_fault, fails_with, Gives}
+use Rattle.t0_core.specs.HostAnswer.{answer_fault, fails_with, Gives}
+use Rattle.t0_core.specs.TpduBytes.{Asked, due_by}
 use Rattle.card_terminal.specs.declared.handed_out.HandedOut.{HandedOut}
 use Rattle.card_terminal.specs.declared.terminal.begin_fault.BeginFault.{BeginFault}
 use Rattle.card_terminal.specs.declared.terminal.begin_fault.BeginFault.TheVariants.{OutOfMemory, UnderWay}
@@ -96,10 +97,10 @@ pub record IsTerminalAnswer (t : Option OperationOf) (answer : Option (StatusWor
       × AreExchangesOf commands exchanges (record { status = a.0; content = a.1 })
       × (came ≡ talk_characters exchanges))
 
--- a TPDU is about to begin
-abbrev pub is_tpdu_due : Option OperationOf → Bool
-is_tpdu_due None = false
-is_tpdu_due (Some o) = is_due o.exchange.host
+-- the whole TPDU that is due, if one is about to begin
+abbrev pub terminal_due : Option OperationOf → Option Asked
+terminal_due None = None
+terminal_due (Some o) = due_by o.exchange.host
 
 -- the fault that an answer with these data is, if any; none is due where no operation has begun
 abbrev pub whole_fault : Option OperationOf → List ℕ → Option AnswerFault

@@ -1,5 +1,6 @@
 //! The exchange of one command: its TPDUs in turn, and the data that they bring.
-ghost use Rattle.std.specs.Prelude.{◌≡◌, ◌≤◌, ◌<◌, ◌+◌, ◌*◌, ℕ, ◌⊎◌, ◌↔◌, List, [], ◌∷◌, ◌++◌, length, Option, Some, None, true, false, IfOk, OnOk, OnErr, IfErr, IsOk, MatchResult, IsSome, IfSome, IsErrOf, is_some};
+ghost use Rattle.std.specs.Prelude.{◌≡◌, ◌≤◌, ◌<◌, ◌+◌, ◌*◌, ℕ, ◌⊎◌, ◌↔◌, List, [], ◌∷◌, ◌++◌, length, Option, Some, None, true, false, IfOk, OnOk, OnErr, IfErr, IsOk, MatchResult, IsSome, IfSome, IsErrOf};
+ghost use Rattle.std.specs.Option.{option_map};
 ghost use Rattle.apdu_core.specs.declared.header.Header.{Header};
 ghost use Rattle.apdu_core.specs.StatusWord.{StatusWord};
 ghost use Rattle.apdu_core.specs.HeaderBytes.{ins_is_valid};
@@ -7,7 +8,8 @@ ghost use Rattle.apdu_core.specs.CommandBytes.{HasSizes};
 ghost use Rattle.t0_core.specs.Front.{fresh};
 ghost use Rattle.t0_core.specs.HostSide.{HostStandsAt, IsRequest, turn_of};
 ghost use Rattle.t0_core.specs.HostMark.{HasOnly};
-ghost use Rattle.t0_core.specs.HostAnswer.{is_due, may_come, answer_fault, fails_with, Gives};
+ghost use Rattle.t0_core.specs.HostAnswer.{answer_fault, fails_with, Gives};
+ghost use Rattle.t0_core.specs.TpduBytes.{asked_of, due_by};
 ghost use Rattle.card_terminal.specs.ExchangeSide.{HostOpensBy, asks_card, response_limit};
 
 mod detached;
@@ -313,10 +315,7 @@ impl<'a, A: Allocator> Exchange<'a, A> {
     /// The whole TPDU that is due, for a transport of whole TPDUs, where none of its characters has
     /// gone. `None` where one has, and where the exchange is over or has failed.
     pub fn tpdu(&self) -> Option<WholeTpdu<'a>>
-        ensures due { is_some result ≡ is_due self.now.host }
-        ensures whole { IfSome result (λ t. (t.header ≡ self.now.host.header)
-            × (t.p3 ≡ self.now.host.p3) × (t.content.now ≡ self.now.host.content)
-            × (t.may_come ≡ may_come self.now.host.direction self.now.host.p3)) }
+        ensures due { option_map asked_of result ≡ due_by self.now.host }
         ensures begins { (c : spec.Command) (units : List UnitOf) (first : Option Dialogue)
             (front : Front) → UnderWay c self.now units first front
             → IsSome result ↔ (front ≡ fresh) }

@@ -1,5 +1,5 @@
 //! A terminal that a caller drives: an operation under way, over any line.
-ghost use Rattle.std.specs.Prelude.{◌≡◌, ◌≤◌, ◌<◌, ℕ, List, [], ◌∷◌, None, MatchResult, Some, true, false, IfSome, is_some};
+ghost use Rattle.std.specs.Prelude.{◌≡◌, ◌≤◌, ◌<◌, ℕ, List, [], ◌∷◌, None, MatchResult, Some, true, false};
 ghost use Rattle.std.specs.Option.{option_map};
 ghost use Rattle.apdu_core.specs.CommandBytes as spec;
 ghost use Rattle.object_card.specs.OneStep.{Select, Get, Put};
@@ -7,8 +7,8 @@ ghost use Rattle.card_terminal.specs.Talk.{AreCommandsOf};
 ghost use Rattle.card_terminal.specs.ExchangeSide.{response_limit};
 ghost use Rattle.card_terminal.specs.TerminalSide.{OperationOf, KeepsLimit, at_rest, is_going};
 ghost use Rattle.card_terminal.specs.Buffers.{IsTakingAll};
-ghost use Rattle.card_terminal.specs.TerminalSteps.{IsBeginning, IsTerminalTurn, IsTerminalHandingOut, IsTerminalTaking, IsTerminalAnswering, IsTerminalAnswer, is_tpdu_due, terminal_data};
-ghost use Rattle.t0_core.specs.HostAnswer.{may_come};
+ghost use Rattle.card_terminal.specs.TerminalSteps.{IsBeginning, IsTerminalTurn, IsTerminalHandingOut, IsTerminalTaking, IsTerminalAnswering, IsTerminalAnswer, terminal_due, terminal_data};
+ghost use Rattle.t0_core.specs.TpduBytes.{asked_of};
 
 mod begin_fault;
 mod operation;
@@ -223,11 +223,7 @@ impl<A: Allocator + Copy> Terminal<A> {
     /// The whole TPDU that is due, for a transport of whole TPDUs, as `Exchange::tpdu`; `None` also
     /// where no operation has begun.
     pub fn tpdu(&self) -> Option<WholeTpdu<'_>>
-        ensures due { is_some result ≡ is_tpdu_due self.now.operation }
-        ensures whole { IfSome result (λ t. IfSome self.now.operation
-            (λ o. (t.header ≡ o.exchange.host.header) × (t.p3 ≡ o.exchange.host.p3)
-            × (t.content.now ≡ o.exchange.host.content)
-            × (t.may_come ≡ may_come o.exchange.host.direction o.exchange.host.p3))) }
+        ensures { option_map asked_of result ≡ terminal_due self.now.operation }
     {
         match &self.operation {
             None => None,

@@ -12,7 +12,6 @@ pub mod HeaderReasons
 pub mod PutData
 pub mod PendingChain
 pub mod Builder
-pub mod AidForm
 pub mod ShownPuts
 pub mod CarryingOut
 pub mod Agreed

@@ -14,15 +14,16 @@ pub struct Aid {
 
 impl Model for Aid {
     ghost use Rattle.std.specs.Prelude.{List, ℕ, take, length};
-    ghost use Rattle.object_card.specs.AidForm.{IsPaddedAid, padded_aid};
+    ghost use Rattle.object_card.specs.Tables.{IsAid};
+    ghost use Rattle.tlv_core.specs.PaddedCells.{ArePadded, padded};
 
     ghost Value = { List ℕ };
 
     ghost view = { λ a. take a.len a.bytes };
 
-    ghost invariant = { λ a. IsPaddedAid a.bytes a.len };
+    ghost invariant = { λ a. ArePadded IsAid 16 a.bytes a.len };
 
-    ghost inverse = { λ bytes. record { bytes = padded_aid bytes; len = length bytes } };
+    ghost inverse = { λ bytes. record { bytes = padded 16 bytes; len = length bytes } };
 
     ghost inverse_ok = { λ a h i. record { bytes = h.is_padded i; len = h.has_len i } };
 }

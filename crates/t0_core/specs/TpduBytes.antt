@@ -6,7 +6,7 @@ use Rattle.apdu_core.specs.HeaderBytes.{header_bytes}
 use Rattle.apdu_core.specs.StatusWord.{count}
 use Rattle.t0_core.specs.declared.whole_tpdu.WholeTpdu.{WholeTpdu}
 use Rattle.t0_core.specs.HostSide.{Hosting}
-use Rattle.t0_core.specs.HostAnswer.{may_come}
+use Rattle.t0_core.specs.HostAnswer.{is_due, may_come}
 
 -- what a reader of whole TPDUs is asked
 pub record Asked : Type 0 where
@@ -40,6 +40,10 @@ asked_of t = asked_for t.header t.p3 t.content.now t.may_come
 abbrev pub asked_by : Hosting → Asked
 asked_by host =
     asked_for host.header host.p3 host.content (may_come host.direction host.p3)
+
+-- what it asks now: its TPDU, if none of the characters has gone
+abbrev pub due_by : Hosting → Option Asked
+due_by host = if is_due host then Some (asked_by host) else None
 
 -- P3 and the data, where any move
 abbrev pub p3_field : ℕ → List ℕ → ℕ → List ℕ

@@ -1,5 +1,6 @@
 //! The terminal's end of one TPDU, which opens it and follows the card's procedure bytes.
-ghost use Rattle.std.specs.Prelude.{◌≡◌, ℕ, ◌+◌, ◌≤◌, ◌<◌, List, [], ◌∷◌, ◌++◌, true, OnOk, OnErr, IfErr, IsErrOf, MatchResult, IsOk, length, take, drop, IfOk, is_ok, if◌then◌else◌, ◌⊎◌, ◌↔◌, Some, None, is_some, IfSome};
+ghost use Rattle.std.specs.Prelude.{◌≡◌, ℕ, ◌+◌, ◌≤◌, ◌<◌, List, [], ◌∷◌, ◌++◌, true, OnOk, OnErr, IfErr, IsErrOf, MatchResult, IsOk, length, take, drop, IfOk, is_ok, if◌then◌else◌, ◌⊎◌, ◌↔◌, Some, None};
+ghost use Rattle.std.specs.Option.{option_map};
 ghost use Rattle.std.specs.Result.{result_err};
 ghost use Rattle.apdu_core.specs.HeaderBytes.{ins_is_valid};
 ghost use Rattle.apdu_core.specs.StatusWord.{StatusWord, count};
@@ -8,8 +9,9 @@ ghost use Rattle.t0_core.specs.declared.direction.Direction.TheVariants.{ToCard,
 ghost use Rattle.t0_core.specs.HostSide.{IsInRange, IsStage, turn_of, data_turn, data_due, after_turn, moving, fault_of, data_fault, procedure_fault, step_of, after_fault, after_taking, data_in, gathered};
 ghost use Rattle.t0_core.specs.HostView.{host_of, direction_of, content_of};
 ghost use Rattle.t0_core.specs.HostMark.{HasOnly, with_data};
+ghost use Rattle.t0_core.specs.TpduBytes.{asked_by, asked_of, due_by};
 ghost use Rattle.t0_core.specs.Buffers.{HandsOut, IsDataTurn};
-ghost use Rattle.t0_core.specs.HostAnswer.{is_due, is_start, may_come, excess, answer_fault, after_answer_fault, Gives};
+ghost use Rattle.t0_core.specs.HostAnswer.{is_start, may_come, excess, answer_fault, after_answer_fault, Gives};
 
 use crate::answer_fault::AnswerFault;
 use crate::direction::Direction;
@@ -270,10 +272,7 @@ impl<'a> HostEnd<'a> {
 
     /// The whole TPDU, if none of its characters has gone.
     pub fn whole(&self) -> Option<WholeTpdu<'a>>
-        ensures due { is_some result ≡ is_due self.now }
-        ensures whole { IfSome result (λ t. (t.header ≡ self.now.header) × (t.p3 ≡ self.now.p3)
-            × (t.content.now ≡ self.now.content)
-            × (t.may_come ≡ may_come self.now.direction self.now.p3)) }
+        ensures { option_map asked_of result ≡ due_by self.now }
     {
         if is_at_start(self.stage) {
             Some(whole_of(self.request))

@@ -1,8 +1,7 @@
 pub mod TagForm
-pub mod TagCells
+pub mod PaddedCells
 pub mod FrontParts
 pub mod Length
-pub mod HeadCells
 pub mod Spelling
 pub mod Items
 pub mod ItemCodes

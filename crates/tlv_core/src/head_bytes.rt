@@ -12,18 +12,18 @@ pub struct Head {
 }
 
 impl Model for Head {
-    ghost use Rattle.std.specs.Prelude.{List, ℕ, take};
-    ghost use Rattle.tlv_core.specs.HeadCells.{IsPaddedHead};
+    ghost use Rattle.std.specs.Prelude.{List, ℕ, ◌≤◌, length, take};
+    ghost use Rattle.tlv_core.specs.PaddedCells.{ArePadded};
 
     ghost Value = { List ℕ };
 
     ghost view = { λ h. take h.len h.bytes };
 
-    ghost invariant = { λ h. IsPaddedHead h.bytes h.len };
+    ghost invariant = { λ h. ArePadded (λ bytes. length bytes ≤ 6) 6 h.bytes h.len };
 }
 
 impl Head {
-    ghost use Rattle.tlv_core.specs.HeadCells.{padded};
+    ghost use Rattle.tlv_core.specs.PaddedCells.{padded};
 
     /// The bytes: a tag and a length, two to six of them.
     pub fn bytes(&self) -> &[u8]
@@ -34,7 +34,7 @@ impl Head {
 
     /// The bytes, with `00` after them up to six, so that they can be copied all at once.
     pub fn padded(&self) -> [u8; 6]
-        ensures { result ≡ padded self.now }
+        ensures { result ≡ padded 6 self.now }
     {
         self.bytes
     }

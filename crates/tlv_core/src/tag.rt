@@ -17,21 +17,22 @@ pub struct Tag {
 
 impl Model for Tag {
     ghost use Rattle.std.specs.Prelude.{List, ℕ, take, length};
-    ghost use Rattle.tlv_core.specs.TagCells.{IsPaddedTag, padded};
+    ghost use Rattle.tlv_core.specs.PaddedCells.{ArePadded, padded};
+    ghost use Rattle.tlv_core.specs.TagForm.{IsTag};
 
     ghost Value = { List ℕ };
 
     ghost view = { λ t. take t.len t.bytes };
 
-    ghost invariant = { λ t. IsPaddedTag t.bytes t.len };
+    ghost invariant = { λ t. ArePadded IsTag 3 t.bytes t.len };
 
-    ghost inverse = { λ bytes. record { bytes = padded bytes; len = length bytes } };
+    ghost inverse = { λ bytes. record { bytes = padded 3 bytes; len = length bytes } };
 
     ghost inverse_ok = { λ t h i. record { bytes = h.is_padded i; len = h.has_len i } };
 }
 
 impl Tag {
-    ghost use Rattle.tlv_core.specs.TagCells.{padded};
+    ghost use Rattle.tlv_core.specs.PaddedCells.{padded};
 
     /// Reads the tag at the front of `bytes`, with its size in bytes.
     ///
@@ -75,7 +76,7 @@ impl Tag {
 
     /// The bytes of the tag, with `00` after them up to three.
     pub(crate) fn padded(&self) -> [u8; 3]
-        ensures { result ≡ padded self.now }
+        ensures { result ≡ padded 3 self.now }
     {
         self.bytes
     }

@@ -1,11 +1,11 @@
 //! An exchange without its command's data, which each call is given.
-ghost use Rattle.std.specs.Prelude.{◌≡◌, ◌≤◌, ℕ, List, [], None, Some, IfOk, IfSome, is_some};
+ghost use Rattle.std.specs.Prelude.{◌≡◌, ◌≤◌, ℕ, List, [], None, Some, IfOk, IfSome};
 ghost use Rattle.std.specs.Option.{option_map};
 ghost use Rattle.apdu_core.specs.StatusWord.{StatusWord};
 ghost use Rattle.t0_core.specs.Front.{fresh};
 ghost use Rattle.t0_core.specs.HostSide.{data_due};
 ghost use Rattle.t0_core.specs.HostMark.{HasOnly};
-ghost use Rattle.t0_core.specs.HostAnswer.{is_due, may_come};
+ghost use Rattle.t0_core.specs.TpduBytes.{asked_of, due_by};
 ghost use Rattle.card_terminal.specs.ExchangeSide.{UnderWay, exchange_turn, response_limit};
 ghost use Rattle.card_terminal.specs.ExchangeHistory.{ComesTo};
 ghost use Rattle.card_terminal.specs.Buffers.{IsHandingOut, IsTakingAll};
@@ -196,13 +196,7 @@ impl<A: Allocator + Copy> Detached<A> {
     /// The whole TPDU that is due, as `Exchange::tpdu`.
     pub fn tpdu<'c>(&self, content: &'c [u8]) -> Option<WholeTpdu<'c>>
         requires { IsSound (over_data self.now content.now) }
-        ensures due { is_some result ≡ is_due (over_data self.now content.now).host }
-        ensures whole { IfSome result
-            (λ t. (t.header ≡ (over_data self.now content.now).host.header)
-            × (t.p3 ≡ (over_data self.now content.now).host.p3)
-            × (t.content.now ≡ (over_data self.now content.now).host.content)
-            × (t.may_come ≡ may_come (over_data self.now content.now).host.direction
-            (over_data self.now content.now).host.p3)) }
+        ensures { option_map asked_of result ≡ due_by (over_data self.now content.now).host }
     {
         HostEnd::at(self.kept.mark, content).whole()
     }

@@ -1,8 +1,8 @@
 //! An exchange that can be kept between characters, since it borrows nothing.
-ghost use Rattle.std.specs.Prelude.{◌≡◌, ◌≤◌, ℕ, List, [], None, Some, IfOk, IfSome, IsSome, is_some, ◌↔◌, Option};
+ghost use Rattle.std.specs.Prelude.{◌≡◌, ◌≤◌, ℕ, List, [], None, Some, IfOk, IsSome, ◌↔◌, Option};
 ghost use Rattle.std.specs.Option.{option_map};
 ghost use Rattle.t0_core.specs.Front.{fresh};
-ghost use Rattle.t0_core.specs.HostAnswer.{is_due, may_come};
+ghost use Rattle.t0_core.specs.TpduBytes.{asked_of, due_by};
 ghost use Rattle.card_terminal.specs.ExchangeSide.{UnderWay, response_limit};
 ghost use Rattle.card_terminal.specs.ExchangeHistory.{ComesTo};
 ghost use Rattle.card_terminal.specs.Buffers.{IsHandingOut, IsTakingAll};
@@ -115,10 +115,7 @@ impl OwnedExchange {
 
     /// The whole TPDU that is due, as `Exchange::tpdu`.
     pub fn tpdu(&self) -> Option<WholeTpdu<'_>>
-        ensures due { is_some result ≡ is_due self.now.host }
-        ensures whole { IfSome result (λ t. (t.header ≡ self.now.host.header)
-            × (t.p3 ≡ self.now.host.p3) × (t.content.now ≡ self.now.host.content)
-            × (t.may_come ≡ may_come self.now.host.direction self.now.host.p3)) }
+        ensures due { option_map asked_of result ≡ due_by self.now.host }
         ensures begins { (c : spec.Command) (units : List UnitOf) (first : Option Dialogue)
             (front : Front) → UnderWay c self.now units first front
             → IsSome result ↔ (front ≡ fresh) }

@@ -1,12 +1,12 @@
 //! An operation that has begun: the exchange of one of its commands, and what is still to be put.
-ghost use Rattle.std.specs.Prelude.{◌≡◌, ◌⊎◌, ℕ, ◌≤◌, List, [], ◌∷◌, ◌++◌, length, drop, None, Some, Err, IfOk, MatchResult, OnOk, OnErr, true, false, IfSome, is_some};
+ghost use Rattle.std.specs.Prelude.{◌≡◌, ◌⊎◌, ℕ, ◌≤◌, List, [], ◌∷◌, ◌++◌, length, drop, None, Some, Err, IfOk, MatchResult, OnOk, OnErr, true, false};
 ghost use Rattle.std.specs.Option.{option_map};
 ghost use Rattle.apdu_core.specs.CommandBytes as spec;
 ghost use Rattle.object_card.specs.OneStep.{Put};
 ghost use Rattle.card_terminal.specs.Talk.{AreCommandsOf};
 ghost use Rattle.card_terminal.specs.ExchangeSide.{ExchangeOf, IsBounded, exchange_turn, response_limit};
 ghost use Rattle.t0_core.specs.HostSide.{data_due};
-ghost use Rattle.t0_core.specs.HostAnswer.{is_due, may_come};
+ghost use Rattle.t0_core.specs.TpduBytes.{asked_of, due_by};
 ghost use Rattle.apdu_core.specs.StatusWord.{ok};
 ghost use Rattle.card_terminal.specs.Buffers.{IsHandingOut, IsTakingAll};
 ghost use Rattle.card_terminal.specs.TerminalSteps.{IsTerminalTaking};
@@ -207,12 +207,7 @@ impl<A: Allocator + Copy> Operation<A> {
 
     /// The whole TPDU that is due, as `Exchange::tpdu`.
     pub fn tpdu(&self) -> Option<WholeTpdu<'_>>
-        ensures due { is_some result ≡ is_due self.now.exchange.host }
-        ensures whole { IfSome result (λ t. (t.header ≡ self.now.exchange.host.header)
-            × (t.p3 ≡ self.now.exchange.host.p3)
-            × (t.content.now ≡ self.now.exchange.host.content)
-            × (t.may_come ≡ may_come self.now.exchange.host.direction
-            self.now.exchange.host.p3)) }
+        ensures { option_map asked_of result ≡ due_by self.now.exchange.host }
     {
         self.exchange.tpdu(&self.content[self.from..self.until])
     }

@@ -1,8 +1,7 @@
 use Rattle.std.proofs.Common.{Option, ℤ, subst, sym}
-use Rattle.t0_core.specs.TpduBytes.{Asked}
-use Rattle.card_c.specs.TpduCalls.{TellsTpdu, due_of}
+use Rattle.t0_core.specs.TpduBytes.{Asked, due_by}
+use Rattle.card_c.specs.TpduCalls.{TellsTpdu}
 use Rattle.card_c.proofs.SessionLemmas.{as_it_is}
-use Rattle.card_c.proofs.TpduLemmas.{due_is}
 use Rattle.card_c.proofs.exchange_tpdu.due.Goals as goal
 
 pub returns : goal.returns
@@ -11,8 +10,7 @@ returns c =
     λ due. TellsTpdu due c.args.tpdu.now c.args.len.now c.args.most.now c.told.result
     c.told.new.tpdu c.told.new.len c.told.new.most in
     let Q : ℤ → Type 0 =
-    λ code. TellsTpdu (due_of c.args.side.now.exchange) c.args.tpdu.now c.args.len.now
+    λ code. TellsTpdu (due_by c.args.side.now.exchange.host) c.args.tpdu.now c.args.len.now
     c.args.most.now code c.told.new.tpdu c.told.new.len c.told.new.most in
     subst Q (sym (as_it_is c.told.result c.told.type_inv))
-    (subst P (due_is c.tpdu.result c.args.side.now.exchange.host c.tpdu.ensures.due
-    c.tpdu.ensures.whole) c.told.ensures)
+    (subst P c.tpdu.ensures.due c.told.ensures)

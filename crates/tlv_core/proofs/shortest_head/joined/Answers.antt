@@ -4,7 +4,7 @@ use Rattle.std.specs.Prelude.{slice_index_or}
 use Rattle.std.proofs.lemmas.List.{take_at, drop_at, drop-replicate, length-replicate, replicate-append-replicate}
 use borrow.Rule.Slice.PartMut.{put_mid}
 use Rattle.tlv_core.specs.TagForm.{IsTag}
-use Rattle.tlv_core.specs.HeadCells.{padded}
+use Rattle.tlv_core.specs.PaddedCells.{padded}
 use Rattle.tlv_core.proofs.shortest_head.joined.Goals as goal
 
 at_most_three : (tag : List ℕ) → IsTag tag → length tag ≤ 3
@@ -37,7 +37,7 @@ three (a ∷ b ∷ c ∷ d ∷ rest) long = absurd (omega (arith, long))
 
 -- three cells with the tag in front, and three more
 six : (tag : List ℕ) → length tag ≤ 3
-    → (tag ++ replicate (3 - length tag) 0) ++ replicate 3 0 ≡ padded tag
+    → (tag ++ replicate (3 - length tag) 0) ++ replicate 3 0 ≡ padded 6 tag
 six tag short =
     let e : 3 - length tag + 3 ≡ 6 - length tag = omega (arith, short) in
     append_assoc tag (replicate (3 - length tag) 0) (replicate 3 0)
@@ -45,7 +45,7 @@ six tag short =
     ∙ ap (λ n. replicate n 0) e)
 
 length_put : (tag size : List ℕ)
-    → put_mid (length tag) (length size) (padded tag) size ≡ padded (tag ++ size)
+    → put_mid (length tag) (length size) (padded 6 tag) size ≡ padded 6 (tag ++ size)
 length_put tag size =
     let left = replicate (6 - length tag) 0 in
     let n = length tag in
@@ -59,16 +59,16 @@ length_put tag size =
 -- all cells, once the length is put behind the tag
 cells : (tag size start rest p : List ℕ) (a k : ℕ) → IsTag tag
     → p ≡ tag ++ replicate (3 - length tag) 0 → a ≡ length tag → rest ≡ size → k ≡ length size
-    → start ≡ p ++ replicate 3 0 → put_mid a k start rest ≡ padded (tag ++ size)
+    → start ≡ p ++ replicate 3 0 → put_mid a k start rest ≡ padded 6 (tag ++ size)
 cells tag size start rest p a k is e_p e_a e_rest e_k e_start =
-    let whole : start ≡ padded tag = e_start ∙ ap (λ l. l ++ replicate 3 0) e_p
+    let whole : start ≡ padded 6 tag = e_start ∙ ap (λ l. l ++ replicate 3 0) e_p
     ∙ six tag (at_most_three tag is) in
     ap (λ n. put_mid n k start rest) e_a ∙ ap (λ n. put_mid (length tag) n start rest) e_k
     ∙ ap (λ xs. put_mid (length tag) (length size) xs rest) whole
-    ∙ ap (λ ys. put_mid (length tag) (length size) (padded tag) ys) e_rest
+    ∙ ap (λ ys. put_mid (length tag) (length size) (padded 6 tag) ys) e_rest
     ∙ length_put tag size
 
-view : (bytes all : List ℕ) (len : ℕ) → all ≡ padded bytes → length bytes ≡ len
+view : (bytes all : List ℕ) (len : ℕ) → all ≡ padded 6 bytes → length bytes ≡ len
     → take len all ≡ bytes
 view bytes all len e long = ap (take len) e
     ∙ take_at bytes (replicate (6 - length bytes) 0) len long
@@ -92,10 +92,13 @@ invariant_of-result c =
     let place : length c.bytes-place.result.now ≡ length tag =
     ap length c.bytes-place.ensures.bytes in
     let is = c.bytes-place.ensures.tag in
+    let long = length-append tag size in
+    let same = ap length (returns c) in
     record {
-      fits = omega (arith, place, at_most_three tag is, c.requires);
-      is_padded = cells tag size _ c.copy_from_slice.new.self c.padded.result _ _ is
+      holds = omega (arith, same, long, place, at_most_three tag is, c.requires);
+      has_len = same ∙ omega (arith, long, place);
+      is_padded = sym (cells tag size _ c.copy_from_slice.new.self c.padded.result _ _ is
           c.padded.ensures place c.copy_from_slice.ensures.after (omega arith)
           (three c.padded.result (three_long tag _ is c.padded.ensures))
-          ∙ ap padded (sym (returns c));
+          ∙ ap (padded 6) (sym (returns c)));
     }

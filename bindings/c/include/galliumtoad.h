@@ -287,9 +287,10 @@ typedef struct {
  *
  *   an exchange   112 and its limit on the response, which is 16,384 where none is given, and the
  *                 bytes of the command's data: at most 16,751
- *   a terminal    152, and with an operation its limit on a response, which is 16,384 where none is
- *                 given, and the bytes that it sends as data, of an identifier, a value or a
- *                 command. The last operation's are held until the next has begun
+ *   a terminal    152, and from the first operation on its limit on a response, which is 16,384
+ *                 where none is given, and the bytes that it has sent as data, of an identifier, a
+ *                 value or a command, in the operation with the most. Where one has more than any
+ *                 before, the copy of those is held until that of these is made
  *   a card        9,963 with one application and one object of 3 bytes, and 26,466 with an exchange
  *                 of SELECT or GET DATA with it; 4,240,592 with all that a card can hold
  *   a session     26,667 with that small card, for a select, a put of 3 bytes and a get; 116,584
@@ -638,7 +639,12 @@ static inline void gt_exchange_free(gt_exchange *e) {
  * An operation is several commands and many TPDUs: a terminal sends them one after another, and the
  * caller carries its characters, or its whole TPDUs, to a card and back. `gt_terminal_select`,
  * `_get`, `_put` and `_send` begin one; `gt_terminal_next` says when it is over, and
- * `gt_terminal_answer` tells its answer, the status and the data of its last command. */
+ * `gt_terminal_answer` tells its answer, the status and the data of its last command.
+ *
+ * The memory of an operation, room for a response and a copy of the data that go to the card, is
+ * kept for the next, which takes more only for more data than any before. `gt_terminal_reset` and
+ * `gt_terminal_free` give it back. Until then what went over the line stands there, secrets too,
+ * but for what a later operation has written over. */
 
 /* A terminal that has begun no operation, in a handle that holds nothing.
  *
@@ -658,15 +664,15 @@ static inline int32_t gt_terminal_new_within(gt_terminal *t, size_t limit) {
     return galliumtoad_terminal_new_within(t, limit);
 }
 
-/* Drops the operation that has begun, if any, wherever it is. The card is told nothing of it: reset
- * that, too. GT_OK. */
+/* Drops the operation that has begun, if any, wherever it is, and gives back the memory that was
+ * kept for the next. The card is told nothing of it: reset that, too. GT_OK. */
 static inline int32_t gt_terminal_reset(gt_terminal *t) {
     if (!t) return GT_NULL;
     return galliumtoad_terminal_reset(t);
 }
 
-/* Begins the selection of an application by its identifier. All memory that the operation needs is
- * taken here.
+/* Begins the selection of an application by its identifier. All memory that the operation needs,
+ * beside what an earlier one has left, is taken here.
  *
  * GT_OK: it has begun, and sends first. After a fault nothing has changed: GT_STATE: an operation
  * is under way. GT_ARGUMENT: the identifier has not 5 to 16 bytes. GT_MEMORY. */

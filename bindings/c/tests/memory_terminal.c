@@ -48,6 +48,50 @@ static void within(size_t limit, size_t alone) {
     CHECK(taken, 0);
 }
 
+/* The first operation of a terminal, of this kind, is over. */
+static void over(gt_terminal *t, int kind) {
+    refused = 0;
+    CHECK(gt_terminal_new(t), GT_OK);
+    CHECK(begin(t, kind), GT_OK);
+    CHECK(gt_terminal_answered(t, (const uint8_t *)"\x6A\x82", 2), GT_OK);
+}
+
+/* More data than any before take a block, and then that of the fewer is given back. */
+static void more_data(size_t alone) {
+    gt_terminal t = GT_INIT;
+    uint16_t status = 0;
+    size_t len = 0;
+    over(&t, 0);
+    refused = 1;
+    CHECK(begin(&t, 3), GT_MEMORY);
+    CHECK(requests, 1);
+    CHECK(taken, alone + 16384 + copies[0]);
+    /* want of memory leaves the answer */
+    CHECK(gt_terminal_answer(&t, &status, NULL, 0, &len), GT_OK);
+    CHECK(status, 0x6A82);
+    refused = 0;
+    peak = 0;
+    CHECK(begin(&t, 3), GT_OK);
+    CHECK(requests, 1);
+    CHECK(peak, alone + 16384 + copies[0] + copies[3]);
+    CHECK(taken, alone + 16384 + copies[3]);
+    gt_terminal_free(&t);
+    CHECK(taken, 0);
+}
+
+/* Fewer take nothing, and give nothing back. */
+static void fewer_data(size_t alone) {
+    gt_terminal t = GT_INIT;
+    over(&t, 3);
+    refused = 1;
+    CHECK(begin(&t, 0), GT_OK);
+    CHECK(requests, 0);
+    CHECK(taken, alone + 16384 + copies[3]);
+    refused = 0;
+    gt_terminal_free(&t);
+    CHECK(taken, 0);
+}
+
 int main(void) {
     static const size_t limits[] = { 0, 1, 255, 256, 16384 };
     gt_terminal t = GT_INIT;
@@ -82,21 +126,19 @@ int main(void) {
         CHECK(gt_terminal_answered(&t, (const uint8_t *)"\x6A\x82", 2), GT_OK);
         CHECK(gt_terminal_answer(&t, &status, NULL, 0, &len), GT_OK);
         CHECK(status, 0x6A82);
-        /* want of memory for the next leaves the answer */
-        CHECK(begin(&t, kind), GT_MEMORY);
-        CHECK(gt_terminal_answer(&t, &status, NULL, 0, &len), GT_OK);
-        /* the last one is given back once the next has begun */
-        refused = 0;
-        peak = 0;
+        /* nor does the next, which has no more data */
         CHECK(begin(&t, kind), GT_OK);
-        CHECK(peak, alone + 2 * (16384 + copies[kind]));
+        CHECK(requests, 0);
         CHECK(taken, alone + 16384 + copies[kind]);
+        refused = 0;
         CHECK(gt_terminal_reset(&t), GT_OK);
         CHECK(taken, alone);
     }
     CHECK(begin(&t, 2), GT_OK);
     gt_terminal_free(&t);
     CHECK(taken, 0);
+    more_data(alone);
+    fewer_data(alone);
     for (size_t i = 0; i < sizeof limits / sizeof *limits; i++) within(limits[i], alone);
     return check_result("memory_terminal");
 }

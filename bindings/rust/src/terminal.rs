@@ -24,6 +24,10 @@ pub enum Operation<'a> {
 /// to the card and what comes back to the terminal, until it has an [`answer`](Terminal::answer).
 /// [`run`](Terminal::run) does all of that with a [`Transport`](crate::Transport).
 ///
+/// The memory of an operation, room for a response and a copy of the data that go to the card, is
+/// kept for the next. What went over the line stands there, secrets too, but for what a later
+/// operation has written over, until [`reset`](Terminal::reset) or a drop gives it back.
+///
 /// ```
 /// use galliumtoad::{CardBuilder, Operation, Terminal};
 ///
@@ -62,7 +66,8 @@ impl Terminal {
         Ok(terminal)
     }
 
-    /// Begins an operation. All memory that it needs is taken here.
+    /// Begins an operation. All memory that it needs, beside what an earlier one has left, is taken
+    /// here.
     ///
     /// # Errors
     ///
@@ -169,7 +174,8 @@ impl Terminal {
         })
     }
 
-    /// Drops what is under way, so that the next operation may begin. The card is to be reset too.
+    /// Drops what is under way, so that the next operation may begin, and gives back the memory
+    /// that was kept for it. The card is to be reset too.
     pub fn reset(&mut self) -> Result<(), Error> {
         // SAFETY: a terminal's handle.
         told(unsafe { raw::galliumtoad_terminal_reset(self.0.at()) }).map(|_| ())

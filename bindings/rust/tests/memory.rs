@@ -154,6 +154,22 @@ fn a_terminal_gives_back_what_it_took() {
 }
 
 #[test]
+fn a_terminal_keeps_what_it_took_for_the_next_operation() {
+    let _heap = heap();
+    let mut terminal = Terminal::new().expect("a terminal");
+    terminal.begin(Operation::Select(&AID)).expect("begun");
+    terminal.answered(&[0x6A, 0x82]).expect("an answer");
+    let with_one = taken();
+    refuse(1);
+    terminal.begin(Operation::Get(0x5F20)).expect("begun");
+    terminal.answered(&[0x6A, 0x88]).expect("an answer");
+    let longer = Operation::Put(0x5F20, &[0; 8]);
+    assert_eq!(terminal.begin(longer), Err(Error::Memory));
+    assert_eq!(taken(), with_one);
+    assert_eq!(terminal.answer().expect("an answer").status, 0x6A88);
+}
+
+#[test]
 fn want_of_memory_is_told_by_what_is_made() {
     let _heap = heap();
     for number in 1..=3 {

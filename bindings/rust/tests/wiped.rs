@@ -2,7 +2,7 @@
 //! the program's place counts bytes, and looks for a secret in each block that comes back to it.
 #![cfg(feature = "heap")]
 
-use galliumtoad::{Card, CardBuilder, Exchange, Session};
+use galliumtoad::{Card, CardBuilder, Exchange, Operation, Session, Terminal};
 use std::alloc::{GlobalAlloc, Layout, System};
 use std::cell::Cell;
 use std::sync::atomic::{AtomicUsize, Ordering::SeqCst};
@@ -89,6 +89,24 @@ fn what_an_exchange_sends_is_wiped() {
     command[5..].copy_from_slice(&SECRET);
     let started = || drop(Exchange::start(&command).expect("memory"));
     assert_eq!(found(started), 0);
+}
+
+/// The copy of a value is given back for a longer one, and that with the terminal, also where the
+/// last value was shorter than the secret before it.
+#[test]
+fn what_a_terminal_keeps_is_wiped() {
+    let _one = ONE.lock();
+    let secret = [b"PIN ", SECRET.as_slice()].concat();
+    let puts = || {
+        let mut terminal = Terminal::new().expect("a terminal");
+        for value in [&secret, b"JOE".as_slice(), &[0; 40], &secret, b"ANN"] {
+            terminal
+                .begin(Operation::Put(0x5F20, value))
+                .expect("begun");
+            terminal.answered(&[0x90, 0x00]).expect("an answer");
+        }
+    };
+    assert_eq!(found(puts), 0);
 }
 
 /// The value of an object is replaced while the card is in use, and each block that grows on the

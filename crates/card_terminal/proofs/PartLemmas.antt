@@ -1,8 +1,8 @@
 -- The data of a command lie within those of its operation.
-use Rattle.std.proofs.Common.{◌≡◌, ◌≤◌, ◌+◌, ◌-◌, ◌*◌, arith, true, false, Bool, ℕ, List, [], ◌∷◌, ◌++◌, length, take, drop, sym, subst, ◌∙◌, ap, None, if◌then◌else◌, append-nil, length-append}
+use Rattle.std.proofs.Common.{◌≡◌, ◌≤◌, ◌+◌, ◌-◌, ◌*◌, arith, true, false, Bool, ℕ, List, [], ◌∷◌, ◌++◌, length, take, drop, sym, subst, ◌∙◌, ap, Option, None, Some, if◌then◌else◌, append-nil, length-append}
 use Rattle.std.specs.List.{concat, slice_range}
 use Rattle.std.proofs.Math.Seq.{drop-append_seam, take-append_seam}
-use Rattle.std.proofs.lemmas.List.{take_all, take_rest, drop-drop, length-drop}
+use Rattle.std.proofs.lemmas.List.{take_rest, drop-drop, length-drop}
 use Rattle.apdu_core.specs.declared.header.Header.{Header}
 use Rattle.apdu_core.specs.StatusWord.{ok}
 use Rattle.apdu_core.specs.CommandBytes.{Command}
@@ -18,8 +18,8 @@ use Rattle.card_terminal.specs.Talk.{AreCommandsOf}
 use Rattle.card_terminal.specs.ExchangeSide.{ExchangeOf, UnderWay, IsKept, IsBounded, exchange_turn}
 use Rattle.card_terminal.specs.ExchangeHistory.{ComesTo}
 use Rattle.card_terminal.specs.OwnedExchange.{DetachedOf, over_data, IsSound}
-use Rattle.card_terminal.specs.OperationRoom.{IsPart}
-use Rattle.card_terminal.specs.TerminalSide.{OperationOf, AreLeft, LeadsThrough, GoesToNext}
+use Rattle.card_terminal.specs.OperationRoom.{IsPart, BeginsWith}
+use Rattle.card_terminal.specs.TerminalSide.{OperationOf, AreLeft, LeadsTo, GoesToNext}
 use Rattle.card_terminal.proofs.PieceLemmas.{left_is, left_after}
 use Rattle.card_terminal.proofs.TurnLemmas.{opening_turn}
 use Rattle.card_terminal.proofs.TerminalLemmas.{one_begins, first_begins}
@@ -76,7 +76,7 @@ first_content h (a ∷ next ∷ pieces) c others e =
       ap (λ z. z ++ concat (next ∷ pieces)) (ap (λ (d : Command). d.content) head),
     )
 
-at_front : (h : Header) (value : List ℕ) (pieces : List (List ℕ)) (c : Command)
+pub at_front : (h : Header) (value : List ℕ) (pieces : List (List ℕ)) (c : Command)
     (others : List Command) → IsPieces value pieces → chain_commands h pieces ≡ c ∷ others
     → (more : List ℕ) × (value ≡ c.content ++ more)
 at_front h [] pieces c others are e =
@@ -94,27 +94,54 @@ part_of items content from until ex front sound = record {
   sound = subst (λ (bs : List ℕ). IsSound (over_data ex bs)) (sym front.slice) sound;
 }
 
--- ---- an operation of one command
+-- ---- an operation begins
 
-pub command_begins : (c : Command) (ex : DetachedOf) (items : List ℕ) (until : ℕ)
-    → items ≡ c.content → until ≡ length items → ComesTo c [] (over_data ex c.content)
-    → LeadsThrough (c ∷ []) [] (record {
+begins_by_sending : (c : Command) (ex : ExchangeOf) → UnderWay c ex [] None fresh
+    → (byte : ℕ) × (exchange_turn ex ≡ Sends byte)
+begins_by_sending c ex under = let (byte, is) = opening_turn ex.host under.stands in
+    (byte, ap (λ v. if v then Failed else turn_of ex.host) under.going ∙ is)
+
+pub opening_front : (value items : List ℕ) (until : ℕ) (content : List ℕ) → items ≡ value
+    → (more : List ℕ) × (value ≡ content ++ more) → until ≡ length content
+    → IsFrontOf items 0 until content
+opening_front value items until content copied (more, whole) is =
+    front_of items 0 until content more (omega arith) (copied ∙ whole) (omega (arith, is))
+
+pub begins_with : (first : Command) (value items : List ℕ) (ex : DetachedOf) (until p1 p2 : ℕ)
+    → items ≡ value → (more : List ℕ) × (value ≡ first.content ++ more)
+    → until ≡ length first.content → p1 ≡ first.header.p1 → p2 ≡ first.header.p2
+    → UnderWay first (over_data ex first.content) [] None fresh
+    → ComesTo first [] (over_data ex first.content) → BeginsWith first value (record {
       exchange = over_data ex (slice_range items 0 until);
-      p1 = 0;
-      p2 = 0;
+      p1 = p1;
+      p2 = p2;
       rest = drop until items;
     })
-command_begins c ex items until same is led =
-    let whole : slice_range items 0 until ≡ c.content =
-    take_all (until - 0) items (omega (arith, is)) ∙ same in
-    let none : drop until items ≡ [] = ap (λ n. drop n items) is
-    ∙ ap (λ z. drop (length items) z) (sym (append-nil items)) ∙ drop-append_seam items [] in
-    one_begins c (record {
-      exchange = over_data ex (slice_range items 0 until);
-      p1 = 0;
-      p2 = 0;
-      rest = drop until items;
-    }) none (subst (λ (bs : List ℕ). ComesTo c [] (over_data ex bs)) (sym whole) led)
+begins_with first value items ex until p1 p2 copied some is p1_is p2_is under led =
+    let front = opening_front value items until first.content copied some is in
+    let (byte, sends) = begins_by_sending first (over_data ex first.content) under in
+    let turn : exchange_turn (over_data ex (slice_range items 0 until)) ≡ Sends byte =
+    ap (λ (bs : List ℕ). exchange_turn (over_data ex bs)) front.slice ∙ sends in
+    record {
+      led = subst (λ (bs : List ℕ). ComesTo first [] (over_data ex bs)) (sym front.slice) led;
+      p1_is = p1_is;
+      p2_is = p2_is;
+      rest_is = ap (λ n. drop n items) is ∙ ap (λ z. drop (length first.content) z) copied;
+      settled = λ done. absurd (never byte (sym turn ∙ done));
+    }
+  where
+    never : (byte : ℕ) → Sends byte ≡ Done ok → ⊥
+    never byte e = absurd (cc)
+
+pub command_begins : (c : Command) (content : List ℕ) (o : OperationOf)
+    (new : Option OperationOf) → content ≡ c.content → new ≡ Some o → BeginsWith c content o
+    → LeadsTo (c ∷ []) [] new
+command_begins c content o new whole is begins =
+    let none : drop (length c.content) content ≡ [] =
+    ap (λ z. drop (length c.content) z) (whole ∙ sym (append-nil c.content))
+    ∙ drop-append_seam c.content [] in
+    subst (λ (n : Option OperationOf). LeadsTo (c ∷ []) [] n) (sym is)
+    (one_begins c o (begins.rest_is ∙ none) begins.led, begins.settled)
 
 -- ---- a put
 
@@ -124,42 +151,34 @@ chain_of : (header : Header) (p1 p2 : ℕ) (pieces : List (List ℕ)) (list othe
 chain_of header p1 p2 pieces list others c is same steps =
     ap (λ h. chain_commands h pieces) (sym is) ∙ sym same ∙ steps
 
-pub put_front : (value items : List ℕ) (until : ℕ) (header : Header) (pieces : List (List ℕ))
-    (list others : List Command) (c : Command) → items ≡ value → IsPieces value pieces
-    → list ≡ chain_commands header pieces → list ≡ c ∷ others → until ≡ length c.content
-    → IsFrontOf items 0 until c.content
-put_front value items until header pieces list others c copied are same steps is =
-    let (more, whole) = at_front header value pieces c others are (sym same ∙ steps) in
-    front_of items 0 until c.content more (omega arith) (copied ∙ whole) (omega (arith, is))
+-- the commands of a chain have its P1-P2
+first_names : (h : Header) (pieces : List (List ℕ)) (c : Command) (others : List Command)
+    → chain_commands h pieces ≡ c ∷ others → (c.header.p1 ≡ h.p1) × (c.header.p2 ≡ h.p2)
+first_names h [] c others e = absurd (cc)
+first_names h (a ∷ []) c others e = let head : link h a ≡ c = cc in
+    (ap (λ (d : Command). d.header.p1) (sym head), ap (λ (d : Command). d.header.p2) (sym head))
+first_names h (a ∷ next ∷ pieces) c others e = let head : link (with_more h) a ≡ c = cc in
+    (ap (λ (d : Command). d.header.p1) (sym head), ap (λ (d : Command). d.header.p2) (sym head))
 
-pub put_begins : (tag value items : List ℕ) (ex : DetachedOf) (p1 p2 until : ℕ) (header : Header)
-    (pieces : List (List ℕ)) (list others : List Command) (c : Command) → items ≡ value
+pub put_begins : (tag value : List ℕ) (p1 p2 : ℕ) (header : Header) (pieces : List (List ℕ))
+    (list others : List Command) (c : Command) (o : OperationOf) (new : Option OperationOf)
     → header ≡ put_header p1 p2 → NamesTag tag p1 p2 → IsPieces value pieces
-    → list ≡ chain_commands header pieces → list ≡ c ∷ others → until ≡ length c.content
-    → ComesTo c [] (over_data ex c.content)
-    → (commands : List Command) × AreCommandsOf (Put tag value) commands
-    × LeadsThrough commands [] (record {
-      exchange = over_data ex (slice_range items 0 until);
-      p1 = p1;
-      p2 = p2;
-      rest = drop until items;
-    })
-put_begins tag value items ex p1 p2 until header pieces list others c copied header_is names are
-    same steps is led =
+    → list ≡ chain_commands header pieces → list ≡ c ∷ others → new ≡ Some o
+    → BeginsWith c value o
+    → (commands : List Command) × AreCommandsOf (Put tag value) commands × LeadsTo commands [] new
+put_begins tag value p1 p2 header pieces list others c o new header_is names are same steps is
+    begins =
     let chain = chain_of header p1 p2 pieces list others c header_is same steps in
-    let front = put_front value items until header pieces list others c copied are same steps is in
-    let left : AreLeft p1 p2 (drop until items) others =
-    subst (λ z. AreLeft p1 p2 z others)
-    (ap (λ n. drop n value) (sym is) ∙ ap (λ z. drop until z) (sym copied))
-    (left_after p1 p2 value pieces c others are chain) in (
+    let (p1_is, p2_is) = first_names (put_header p1 p2) pieces c others chain in
+    let left : AreLeft o.p1 o.p2 o.rest others =
+    subst (λ n. AreLeft n o.p2 o.rest others) (sym (begins.p1_is ∙ p1_is))
+    (subst (λ n. AreLeft p1 n o.rest others) (sym (begins.p2_is ∙ p2_is))
+    (subst (λ bs. AreLeft p1 p2 bs others) (sym begins.rest_is)
+    (left_after p1 p2 value pieces c others are chain))) in (
       c ∷ others,
       (p1, p2, pieces, names, are, sym chain),
-      first_begins c others (record {
-        exchange = over_data ex (slice_range items 0 until);
-        p1 = p1;
-        p2 = p2;
-        rest = drop until items;
-      }) left (subst (λ (bs : List ℕ). ComesTo c [] (over_data ex bs)) (sym front.slice) led),
+      subst (λ (n : Option OperationOf). LeadsTo (c ∷ others) [] n) (sym is)
+          (first_begins c others o left begins.led, begins.settled),
     )
 
 -- ---- the next piece
@@ -178,11 +197,6 @@ next_front items seen until size header pieces list others c same_items are same
     (sym same ∙ steps) in
     front_of items until (until + size) c.content more few
     (sym (rest_seen items seen until same_items) ∙ whole) (ap (λ n. until + n) is)
-
-begins_by_sending : (c : Command) (ex : ExchangeOf) → UnderWay c ex [] None fresh
-    → (byte : ℕ) × (exchange_turn ex ≡ Sends byte)
-begins_by_sending c ex under = let (byte, is) = opening_turn ex.host under.stands in
-    (byte, ap (λ v. if v then Failed else turn_of ex.host) under.going ∙ is)
 
 pub next_begins : (old : OperationOf) (ex : ExchangeOf) (new : DetachedOf)
     (items seen : List ℕ) (until p1 p2 size : ℕ) (header : Header) (pieces : List (List ℕ))

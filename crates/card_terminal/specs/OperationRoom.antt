@@ -1,7 +1,10 @@
--- What a terminal keeps of an operation's data.
-use Rattle.std.specs.Prelude.{ℕ, ◌≤◌, List, length}
+-- What a terminal keeps of an operation's data, and how an operation begins.
+use Rattle.std.specs.Prelude.{◌≡◌, ℕ, ◌≤◌, List, [], length, drop}
+use Rattle.apdu_core.specs.CommandBytes.{Command}
 use Rattle.card_terminal.specs.ExchangeSide.{ExchangeOf}
+use Rattle.card_terminal.specs.ExchangeHistory.{ComesTo}
 use Rattle.card_terminal.specs.OwnedExchange.{IsSound}
+use Rattle.card_terminal.specs.TerminalSide.{OperationOf, IsSettled}
 
 -- the data of the command that came last lie within those of the operation, and its exchange can go
 -- on
@@ -9,3 +12,12 @@ pub record IsPart (content : List ℕ) (from until : ℕ) (ex : ExchangeOf) : Ty
   pub begin : from ≤ until
   pub within : until ≤ length content
   pub sound : IsSound ex
+
+-- The exchange of this command has begun, and what follows its data in all that goes to the card is
+-- still to be put, under its P1-P2.
+pub record BeginsWith (first : Command) (content : List ℕ) (o : OperationOf) : Type 0 where
+  pub led : ComesTo first [] o.exchange
+  pub p1_is : o.p1 ≡ first.header.p1
+  pub p2_is : o.p2 ≡ first.header.p2
+  pub rest_is : o.rest ≡ drop (length first.content) content
+  pub settled : IsSettled o

@@ -1,11 +1,12 @@
 //! A terminal that a caller drives: an operation under way, over any line.
-ghost use Rattle.std.specs.Prelude.{◌≡◌, ◌≤◌, ◌<◌, ℕ, List, [], ◌∷◌, None, MatchResult, Some, true, false};
+ghost use Rattle.std.specs.Prelude.{◌≡◌, ◌≤◌, ◌<◌, ℕ, List, [], ◌∷◌, ◌++◌, None, MatchResult, Some, true, false};
 ghost use Rattle.std.specs.Option.{option_map};
 ghost use Rattle.apdu_core.specs.CommandBytes as spec;
 ghost use Rattle.object_card.specs.OneStep.{Select, Get, Put};
 ghost use Rattle.card_terminal.specs.Talk.{AreCommandsOf};
 ghost use Rattle.card_terminal.specs.ExchangeSide.{response_limit};
 ghost use Rattle.card_terminal.specs.TerminalSide.{OperationOf, KeepsLimit, at_rest, is_going};
+ghost use Rattle.card_terminal.specs.OperationRoom.{BeginsWith};
 ghost use Rattle.card_terminal.specs.Buffers.{IsTakingAll};
 ghost use Rattle.card_terminal.specs.TerminalSteps.{IsBeginning, IsTerminalTurn, IsTerminalHandingOut, IsTerminalTaking, IsTerminalAnswering, IsTerminalAnswer, terminal_due, terminal_data};
 ghost use Rattle.t0_core.specs.TpduBytes.{asked_of};
@@ -13,16 +14,16 @@ ghost use Rattle.t0_core.specs.TpduBytes.{asked_of};
 mod begin_fault;
 mod operation;
 
-use crate::commands::{get_command, select_command};
+use crate::commands::{get_command, put_header, select_command};
 use crate::exchange::RESPONSE_LIMIT;
 use crate::handed_out::HandedOut;
 use crate::start_fault::StartFault;
 use crate::taken::Taken;
-use apdu_core::{Command, Status};
+use apdu_core::{Command, Status, pieces};
 pub use begin_fault::BeginFault;
 use object_card::Aid;
 use operation::Operation;
-use std::alloc::{Allocator, Global};
+use std::alloc::{AllocError, Allocator, Global};
 use std::marker::Model;
 use t0_core::{AnswerFault, HostTurn, LineFault, WholeTpdu};
 use tlv_core::ObjectTag;
@@ -35,6 +36,11 @@ use tlv_core::ObjectTag;
 /// next operation may begin once it is over, has failed or was dropped by `reset`. Contracts see a
 /// terminal as the most bytes that a response may have, and what it keeps of the operation that it
 /// has begun last, if any.
+///
+/// The memory of an operation, room for the response and a copy of the data, is kept for the next,
+/// which takes more only for longer data than any before. So what went over the line stands there,
+/// secrets too, but for what a later operation has written over, until `reset` or a drop gives it
+/// back.
 #[derive(Drop)]
 pub struct Terminal<A: Allocator + Copy = Global> {
     alloc: A,
@@ -87,7 +93,8 @@ impl<A: Allocator + Copy> Terminal<A> {
     ///
     /// `UnderWay` comes where an operation is under way, `OutOfMemory` where memory is wanting for
     /// the response (as many bytes as the terminal's limit) or the copy of the data that go to the
-    /// card. Neither changes anything. So it is with each operation.
+    /// card, and no earlier operation has left enough. Neither changes anything. So it is with each
+    /// operation.
     pub fn select(&mut self, aid: &Aid) -> Result<(), BeginFault>
         ensures begins { IsBeginning (AreCommandsOf (Select aid.now)) self.old.operation result
             self.new.operation }
@@ -115,7 +122,11 @@ impl<A: Allocator + Copy> Terminal<A> {
         if self.is_going() {
             return Err(BeginFault::UnderWay);
         }
-        self.operation = Some(Operation::of_put(self.alloc, self.limit, tag, value)?);
+        let (p1, p2) = tag.p1p2();
+        let Some(first) = pieces(put_header(p1, p2), value).next() else {
+            unreachable!()
+        };
+        self.begin(first, value)?;
         Ok(())
     }
 
@@ -128,7 +139,25 @@ impl<A: Allocator + Copy> Terminal<A> {
         if self.is_going() {
             return Err(BeginFault::UnderWay);
         }
-        self.operation = Some(Operation::of_command(self.alloc, self.limit, command)?);
+        let data = command.data();
+        self.begin(command, data)?;
+        Ok(())
+    }
+
+    /// Begins an operation whose first command is this one, with all that goes to the card, in the
+    /// memory of the last one where there is one. The error is want of memory, and then nothing has
+    /// changed.
+    fn begin(&mut self, first: Command<'_>, content: &[u8]) -> Result<(), AllocError>
+        requires front { (more : List ℕ) × (content.now ≡ first.content ++ more) }
+        ensures begins { MatchResult result (λ _. (o : OperationOf)
+            × (self.new.operation ≡ Some o) × BeginsWith first.entry content.now o)
+            (λ _. self.new ≡ self.old) }
+        ensures limit { KeepsLimit self.old self.new }
+    {
+        if let Some(operation) = &mut self.operation {
+            return operation.again(first, content);
+        }
+        self.operation = Some(Operation::start(self.alloc, self.limit, first, content)?);
         Ok(())
     }
 
@@ -260,7 +289,8 @@ impl<A: Allocator + Copy> Terminal<A> {
         }
     }
 
-    /// Drops the operation, wherever it is, and gives its memory back. Nothing is told to the card.
+    /// Drops the operation, wherever it is, and gives back the memory that was kept for the next.
+    /// Nothing is told to the card.
     pub fn reset(&mut self)
         ensures { self.new ≡ at_rest self.old.limit }
     {

@@ -1,9 +1,7 @@
 //! An operation that has begun: the exchange of one of its commands, and what is still to be put.
-ghost use Rattle.std.specs.Prelude.{◌≡◌, ◌⊎◌, ℕ, ◌≤◌, List, [], ◌∷◌, ◌++◌, length, drop, None, Some, Err, IfOk, MatchResult, OnOk, OnErr, true, false};
+ghost use Rattle.std.specs.Prelude.{◌≡◌, ◌⊎◌, ℕ, ◌≤◌, List, [], ◌∷◌, ◌++◌, length, None, Some, Err, IfOk, IsOk, is_ok, MatchResult, if◌then◌else◌, true, false, vec_capacity};
 ghost use Rattle.std.specs.Option.{option_map};
-ghost use Rattle.apdu_core.specs.CommandBytes as spec;
-ghost use Rattle.object_card.specs.OneStep.{Put};
-ghost use Rattle.card_terminal.specs.Talk.{AreCommandsOf};
+ghost use Rattle.card_terminal.specs.OperationRoom.{BeginsWith};
 ghost use Rattle.card_terminal.specs.ExchangeSide.{ExchangeOf, IsBounded, exchange_turn, response_limit};
 ghost use Rattle.t0_core.specs.HostSide.{data_due};
 ghost use Rattle.t0_core.specs.TpduBytes.{asked_of, due_by};
@@ -11,17 +9,16 @@ ghost use Rattle.apdu_core.specs.StatusWord.{ok};
 ghost use Rattle.card_terminal.specs.Buffers.{IsHandingOut, IsTakingAll};
 ghost use Rattle.card_terminal.specs.TerminalSteps.{IsTerminalTaking};
 ghost use Rattle.card_terminal.specs.ExchangeSteps.{IsTurn, IsTaking, IsAnswering, IsAnswer};
-ghost use Rattle.card_terminal.specs.TerminalSide.{OperationOf, LeadsThrough, GoesOver, GoesToNext, IsSettled, with_exchange};
+ghost use Rattle.card_terminal.specs.TerminalSide.{GoesOver, GoesToNext, IsSettled, with_exchange};
 
 use crate::commands::put_header;
 use crate::exchange::Detached;
 use crate::handed_out::HandedOut;
 use crate::taken::Taken;
-use apdu_core::{Command, Status, pieces};
+use apdu_core::{Command, Header, Status, pieces};
 use std::alloc::{AllocError, Allocator, Global};
 use std::marker::Model;
 use t0_core::{AnswerFault, HostTurn, LineFault, WholeTpdu};
-use tlv_core::ObjectTag;
 
 /// An operation that has begun.
 #[derive(Drop)]
@@ -58,52 +55,24 @@ impl<A: Allocator + Copy> Model for Operation<A> {
 }
 
 impl<A: Allocator + Copy> Operation<A> {
-    /// Begins an operation of one command. All memory is taken here: so much room for its response,
-    /// and room for its data; the error is want of it.
-    pub fn of_command(
+    /// Begins an operation whose first command is this one. The content is all that goes to the
+    /// card as data: what follows the first command's goes in more pieces of a put, under its
+    /// P1-P2. All memory is taken here: so much room for a response, and room for the content; the
+    /// error is want of it.
+    pub fn start(
         alloc: A,
         limit: usize,
-        command: Command<'_>,
+        first: Command<'_>,
+        content: &[u8],
     ) -> Result<Operation<A>, AllocError>
-        requires { limit ≤ response_limit }
-        ensures led { IfOk result (λ o. LeadsThrough (command.entry ∷ []) [] o) }
-        ensures settled { IfOk result (λ o. IsSettled o) }
+        requires room { limit ≤ response_limit }
+        requires front { (more : List ℕ) × (content.now ≡ first.content ++ more) }
+        ensures begins { IfOk result (λ o. BeginsWith first.entry content.now o) }
         ensures limit { IfOk result (λ o. o.exchange.gather.limit ≡ limit) }
     {
-        let data = command.data();
-        let until = data.len();
-        let content = Vec::from_slice(alloc, data)?;
-        let exchange = Detached::start(alloc, command, limit)?;
-        Ok(Operation {
-            exchange,
-            content,
-            from: 0,
-            until,
-            p1: 0,
-            p2: 0,
-        })
-    }
-
-    /// Begins a put. All memory is taken here: so much room for a response, and room for the value;
-    /// the error is want of it.
-    pub fn of_put(
-        alloc: A,
-        limit: usize,
-        tag: ObjectTag,
-        value: &[u8],
-    ) -> Result<Operation<A>, AllocError>
-        requires { limit ≤ response_limit }
-        ensures led { IfOk result (λ o. (commands : List spec.Command)
-            × AreCommandsOf (Put tag value.now) commands × LeadsThrough commands [] o) }
-        ensures settled { IfOk result (λ o. IsSettled o) }
-        ensures limit { IfOk result (λ o. o.exchange.gather.limit ≡ limit) }
-    {
-        let content = Vec::from_slice(alloc, value)?;
-        let (p1, p2) = tag.p1p2();
-        let Some(first) = pieces(put_header(p1, p2), value).next() else {
-            unreachable!()
-        };
+        let Header { p1, p2, .. } = first.header();
         let until = first.data().len();
+        let content = Vec::from_slice(alloc, content)?;
         let exchange = Detached::start(alloc, first, limit)?;
         Ok(Operation {
             exchange,
@@ -113,6 +82,25 @@ impl<A: Allocator + Copy> Operation<A> {
             p1,
             p2,
         })
+    }
+
+    /// Begins another operation in the place of this one, as `start`, in the memory of this one:
+    /// none is taken but for a longer content than any before. The error is want of it, and then
+    /// nothing has changed.
+    pub fn again(&mut self, first: Command<'_>, content: &[u8]) -> Result<(), AllocError>
+        requires front { (more : List ℕ) × (content.now ≡ first.content ++ more) }
+        ensures begins { MatchResult result (λ _. BeginsWith first.entry content.now self.new)
+            (λ _. self.new ≡ self.old) }
+        ensures limit { self.new.exchange.gather.limit ≡ self.old.exchange.gather.limit }
+    {
+        let Header { p1, p2, .. } = first.header();
+        copy_again(&mut self.content, content)?;
+        self.from = 0;
+        self.until = first.data().len();
+        self.p1 = p1;
+        self.p2 = p2;
+        self.exchange.again(first);
+        Ok(())
     }
 
     /// What `next` answers, which changes nothing here.
@@ -269,6 +257,20 @@ impl<A: Allocator + Copy> Operation<A> {
     {
         self.exchange.answer(&self.content[self.from..self.until])
     }
+}
+
+/// Makes a vector a copy of these bytes, in the room that it has where they fit there. The error is
+/// want of memory, and then its items stay.
+fn copy_again<A: Allocator>(copy: &mut Vec<u8, A>, bytes: &[u8]) -> Result<(), AllocError>
+    ensures items { copy.new.items ≡ (if is_ok result then bytes.now else copy.old.items) }
+    ensures room { length bytes.now ≤ vec_capacity copy.old → IsOk result }
+{
+    copy.reserve_exact(bytes.len().saturating_sub(copy.len()))?;
+    copy.clear();
+    if copy.extend_from_slice(bytes).is_err() {
+        unreachable!()
+    }
+    Ok(())
 }
 
 /// What is told of characters with which the next piece has begun: after them it is the terminal

@@ -16,11 +16,13 @@ const AID: &str = "A0000000031010";
 /// A card with one data object.
 pub const NAME: &str = "5F20 4A4F45";
 
-fn aid(rt: &(impl Abort + AllocGlobal), text: &str) -> Aid {
+/// An application's identifier.
+pub fn aid(rt: &(impl Abort + AllocGlobal), text: &str) -> Aid {
     Aid::new(&bytes(rt, text)).expect(rt, "an identifier")
 }
 
-fn tag(rt: &(impl Abort + AllocGlobal), text: &str) -> ObjectTag {
+/// The tag of a data object.
+pub fn tag(rt: &(impl Abort + AllocGlobal), text: &str) -> ObjectTag {
     let (tag, _) = Tag::read(&bytes(rt, text)).expect(rt, "a tag");
     ObjectTag::new(tag).expect(rt, "an address")
 }

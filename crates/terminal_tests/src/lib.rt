@@ -11,6 +11,8 @@ mod data_objects;
 #[cfg(test)]
 mod exchange_tests;
 #[cfg(test)]
+mod kept_memory_tests;
+#[cfg(test)]
 mod limit_tests;
 #[cfg(test)]
 mod long_run_tests;

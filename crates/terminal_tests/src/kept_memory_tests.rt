@@ -1,0 +1,209 @@
+//! The memory of a terminal's operation is kept for the next: the room for the response, and the
+//! copy of the data. Heaps of few bytes show what is taken.
+
+use super::data_objects::{aid, tag};
+use super::side::command;
+use super::trace::{bytes, word};
+use apdu_core::Status;
+use card_terminal::{BeginFault, Terminal};
+use linked_list_allocator::LocalHeap;
+use std::alloc::AllocGlobal;
+use std::process::Abort;
+
+/// The most bytes of a response.
+const LIMIT: usize = 256;
+
+/// What an operation with up to 32 bytes of data takes, and what a heap has of it.
+const SHORT: usize = 32 + LIMIT;
+
+/// What comes of beginning a put of this value, `-` for the empty one.
+fn put(
+    rt: &(impl Abort + AllocGlobal),
+    terminal: &mut Terminal<&LocalHeap>,
+    value: &str,
+) -> Option<BeginFault> {
+    let value = if value == "-" { "" } else { value };
+    terminal.put(tag(rt, "5F20"), &bytes(rt, value)).err()
+}
+
+/// What comes of beginning a reading.
+fn get(rt: &(impl Abort + AllocGlobal), terminal: &mut Terminal<&LocalHeap>) -> Option<BeginFault> {
+    terminal.get(tag(rt, "5F20")).err()
+}
+
+/// What comes of beginning a selection.
+fn select(
+    rt: &(impl Abort + AllocGlobal),
+    terminal: &mut Terminal<&LocalHeap>,
+) -> Option<BeginFault> {
+    terminal.select(&aid(rt, "A0000000031010")).err()
+}
+
+/// What comes of beginning the exchange of a command, given by its bytes.
+fn send(
+    rt: &(impl Abort + AllocGlobal),
+    terminal: &mut Terminal<&LocalHeap>,
+    of: &str,
+) -> Option<BeginFault> {
+    terminal.send(command(rt, &bytes(rt, of))).err()
+}
+
+/// These data and `9000` are taken as the answer to the TPDU that is due.
+fn is_told(rt: &(impl Abort + AllocGlobal), terminal: &mut Terminal<&LocalHeap>, data: &str) {
+    let status = Status::new(0x90, 0x00).expect(rt, "a status");
+    assert!(rt; terminal.answered(&bytes(rt, data), status).is_ok());
+}
+
+/// The data of the answer.
+fn answered(rt: &(impl Abort + AllocGlobal), terminal: &Terminal<&LocalHeap>) -> Vec<u8> {
+    let Some((status, data)) = terminal.answer() else {
+        panic!(rt; "no answer")
+    };
+    assert!(rt; word(status) == 0x9000);
+    Vec::from_slice(rt.alloc(), data).expect(rt, "memory")
+}
+
+/// The data that the TPDU that is due takes to the card.
+fn due(rt: &(impl Abort + AllocGlobal), terminal: &Terminal<&LocalHeap>) -> Vec<u8> {
+    let tpdu = terminal.tpdu().expect(rt, "a TPDU");
+    Vec::from_slice(rt.alloc(), tpdu.content).expect(rt, "memory")
+}
+
+/// Each TPDU of what has begun takes these data to the card, and is answered `9000`.
+fn goes(rt: &(impl Abort + AllocGlobal), terminal: &mut Terminal<&LocalHeap>, pieces: &str) {
+    for piece in pieces.split(';') {
+        assert!(rt; due(rt, terminal) == bytes(rt, piece), "{pieces}");
+        is_told(rt, terminal, "");
+    }
+    assert!(rt; !terminal.is_going());
+}
+
+/// A put over a heap that has no more than it needs, carried out.
+fn has_put<'a>(
+    rt: &(impl Abort + AllocGlobal),
+    heap: &'a LocalHeap,
+    value: &str,
+) -> Terminal<&'a LocalHeap> {
+    let mut terminal = Terminal::new_within(heap, LIMIT).expect(rt, "a limit");
+    assert!(rt; put(rt, &mut terminal, value).is_none());
+    goes(rt, &mut terminal, value);
+    terminal
+}
+
+fn heap_of(rt: &(impl Abort + AllocGlobal), size: usize) -> LocalHeap {
+    LocalHeap::new(rt.alloc(), size).expect(rt, "memory")
+}
+
+/// Each operation begins over a heap that is full by then, also after one that has failed.
+#[test]
+fn the_next_operation_takes_no_memory(rt: HostRuntime) {
+    let heap = heap_of(&rt, SHORT);
+    let mut terminal = has_put(&rt, &heap, "41*20");
+    assert!(rt; heap.used() == SHORT);
+    assert!(rt; select(&rt, &mut terminal).is_none());
+    goes(&rt, &mut terminal, "A0000000031010");
+    assert!(rt; get(&rt, &mut terminal).is_none());
+    assert!(rt; terminal.take_bytes(&bytes(&rt, "90")).count == 0);
+    assert!(rt; get(&rt, &mut terminal) == Some(BeginFault::UnderWay));
+    is_told(&rt, &mut terminal, "5F20034A4F45");
+    assert!(rt; answered(&rt, &terminal) == bytes(&rt, "5F20034A4F45"));
+    assert!(rt; send(&rt, &mut terminal, "80E2000014 42*20").is_none());
+    goes(&rt, &mut terminal, "42*20");
+    assert!(rt; heap.used() == SHORT);
+}
+
+#[test]
+fn nor_does_one_after_a_failure(rt: HostRuntime) {
+    let heap = heap_of(&rt, SHORT);
+    let mut terminal = has_put(&rt, &heap, "41*20");
+    assert!(rt; get(&rt, &mut terminal).is_none());
+    assert!(rt; terminal.next_bytes(&mut [0; 5]).is_some());
+    assert!(rt; terminal.take_bytes(&bytes(&rt, "01")).outcome.is_err());
+    assert!(rt; !terminal.is_going());
+    assert!(rt; put(&rt, &mut terminal, "43*20").is_none());
+    goes(&rt, &mut terminal, "43*20");
+    assert!(rt; heap.used() == SHORT);
+}
+
+/// Of longer and shorter values, one after another, nothing of an earlier one goes to the card.
+#[test]
+fn values_of_many_lengths(rt: HostRuntime) {
+    let heap = heap_of(&rt, 4_096);
+    let mut terminal = has_put(&rt, &heap, "41*20");
+    for (value, pieces) in [
+        ("42*3", "42*3"),
+        ("43*300", "43*255; 43*45"),
+        ("44*254", "44*254"),
+        ("-", ""),
+        ("45*255", "45*255"),
+        ("46*511", "46*255; 46*255; 46"),
+        ("47", "47"),
+    ] {
+        assert!(rt; put(&rt, &mut terminal, value).is_none(), "{value}");
+        goes(&rt, &mut terminal, pieces);
+    }
+}
+
+/// Nor is anything of an earlier response part of a later one.
+#[test]
+fn responses_of_many_lengths(rt: HostRuntime) {
+    let heap = heap_of(&rt, LIMIT);
+    let mut terminal = Terminal::new_within(&heap, LIMIT).expect(&rt, "a limit");
+    for data in ["41*20", "42*256", "43", "", "44*255"] {
+        assert!(rt; get(&rt, &mut terminal).is_none(), "{data}");
+        is_told(&rt, &mut terminal, data);
+        assert!(rt; answered(&rt, &terminal) == bytes(&rt, data), "{data}");
+    }
+}
+
+/// A longer value finds no room in a full heap: the old answer stays, and so does the room for a
+/// shorter one. A reset gives all back.
+#[test]
+fn no_memory_for_a_longer_value(rt: HostRuntime) {
+    let heap = heap_of(&rt, SHORT);
+    let mut terminal = has_put(&rt, &heap, "41*20");
+    assert!(rt; get(&rt, &mut terminal).is_none());
+    is_told(&rt, &mut terminal, "5F20034A4F45");
+    for value in ["42*21", "42*300"] {
+        assert!(rt;
+            put(&rt, &mut terminal, value) == Some(BeginFault::OutOfMemory),
+            "{value}"
+        );
+        assert!(rt;
+            answered(&rt, &terminal) == bytes(&rt, "5F20034A4F45"),
+            "{value}"
+        );
+    }
+    assert!(rt; put(&rt, &mut terminal, "43*20").is_none());
+    goes(&rt, &mut terminal, "43*20");
+    terminal.reset();
+    assert!(rt; heap.used() == 0);
+    assert!(rt; put(&rt, &mut terminal, "44*32").is_none());
+    assert!(rt; heap.used() == SHORT);
+}
+
+/// What comes of a put of 300 bytes after one of 20, over a heap of so many bytes. Where it has
+/// begun, the shorter copy was given back.
+fn longer_over(rt: &(impl Abort + AllocGlobal), size: usize) -> Option<BeginFault> {
+    let heap = heap_of(rt, size);
+    let mut terminal = has_put(rt, &heap, "41*20");
+    let fault = put(rt, &mut terminal, "42*300");
+    if fault.is_none() {
+        assert!(rt; heap.used() == LIMIT + 304);
+        goes(rt, &mut terminal, "42*255; 42*45");
+    }
+    fault
+}
+
+/// One growth is for the longer copy, beside the shorter one.
+#[test]
+fn memory_of_a_longer_value(rt: HostRuntime) {
+    let wanting = Some(BeginFault::OutOfMemory);
+    for (size, fault) in [
+        (SHORT, wanting),
+        (SHORT + 288, wanting),
+        (SHORT + 304, None),
+    ] {
+        assert!(rt; longer_over(&rt, size) == fault, "{size}");
+    }
+}

@@ -2,7 +2,6 @@
 
 use atr_core::{Atr, BuildFault, Convention, Group, Pps, PpsFault, TypedGroup, agreed};
 use std::process::Abort;
-use std::test::Fail;
 
 fn reads(rt: &impl Abort, bytes: &[u8], pps: Pps) {
     assert!(rt; Pps::read(bytes) == Ok(pps), "in {bytes:?}");
@@ -43,8 +42,8 @@ fn reads_and_writes_pps(rt: HostRuntime) {
 
 #[test]
 fn finds_the_fault_of_pps(rt: HostRuntime) {
-    let faults: [(&[u8], PpsFault); 9] = [
-        (b"", PpsFault::Cut),
+    for (bytes, fault) in &[
+        (b"".as_slice(), PpsFault::Cut),
         (b"\xFE", PpsFault::NoPpss),
         (b"\xFF", PpsFault::Cut),
         (b"\xFF\x80", PpsFault::Reserved),
@@ -53,9 +52,8 @@ fn finds_the_fault_of_pps(rt: HostRuntime) {
         (b"\xFF\x00\xFF\x00", PpsFault::Surplus),
         (b"\xFF\x00\xFE", PpsFault::CheckWrong),
         (b"\xFF\x10\x18\xF6", PpsFault::CheckWrong),
-    ];
-    for (bytes, fault) in faults {
-        assert!(&rt; Pps::read(bytes) == Err(fault), "in {bytes:?}");
+    ] {
+        assert!(&rt; Pps::read(bytes) == Err(*fault), "in {bytes:?}");
     }
 }
 
@@ -79,48 +77,68 @@ fn group(ta: Option<u8>) -> Group {
     }
 }
 
-fn is_made(rt: &impl Abort, first: Group, others: &[TypedGroup], historical: &[u8], bytes: &[u8]) {
-    let Ok(made) = Atr::new(Convention::Direct, first, others, historical) else {
+/// A group under this T, with nothing but a TA, if any.
+fn named(t: u8, ta: Option<u8>) -> TypedGroup {
+    TypedGroup {
+        t,
+        group: group(ta),
+    }
+}
+
+/// The answer of parts. Without a clause: what is proved of it is nothing that a test has to know,
+/// and costs each proof that has it at hand.
+fn made(
+    convention: Convention,
+    first: Group,
+    others: &[TypedGroup],
+    historical: &[u8],
+) -> Result<Atr, BuildFault> {
+    Atr::new(convention, first, others, historical)
+}
+
+fn is_made(
+    rt: &impl Abort,
+    ta: Option<u8>,
+    others: &[TypedGroup],
+    historical: &[u8],
+    bytes: &[u8],
+) {
+    let Ok(atr) = made(Convention::Direct, group(ta), others, historical) else {
         panic!(rt; "no answer to reset for {bytes:?}");
     };
-    assert!(rt; &made.write()[..] == bytes, "for {bytes:?}");
+    assert!(rt; &atr.write()[..] == bytes, "for {bytes:?}");
 }
 
 /// T0 is due always, TCK only where a T other than 0 is named.
 #[test]
 fn makes_answers_of_their_parts(rt: HostRuntime) {
-    is_made(&rt, group(None), &[], b"", b"\x3B\x00");
-    is_made(&rt, group(Some(0x18)), &[], b"\x80", b"\x3B\x11\x18\x80");
-    let one = TypedGroup {
-        t: 1,
-        group: group(None),
-    };
-    is_made(&rt, group(None), &[one], b"", b"\x3B\x80\x01\x81");
-    let zero = TypedGroup {
-        t: 0,
-        group: group(None),
-    };
-    is_made(&rt, group(None), &[zero], b"A", b"\x3B\x81\x00A");
+    is_made(&rt, None, &[], b"", b"\x3B\x00");
+    is_made(&rt, Some(0x18), &[], b"\x80", b"\x3B\x11\x18\x80");
+    is_made(&rt, None, &[named(1, None)], b"", b"\x3B\x80\x01\x81");
+    is_made(&rt, None, &[named(0, None)], b"A", b"\x3B\x81\x00A");
+}
+
+/// The fault of parts is this one, if any.
+fn is_refused(
+    rt: &impl Abort,
+    others: &[TypedGroup],
+    historical: &[u8],
+    fault: Option<BuildFault>,
+) {
+    let came = made(Convention::Inverse, group(None), others, historical).err();
+    assert!(rt; came == fault, "for {historical:?}");
 }
 
 #[test]
 fn refuses_parts_of_no_answer(rt: HostRuntime) {
-    let refused = |first: Group, others: &[TypedGroup], historical: &[u8]| {
-        Atr::new(Convention::Inverse, first, others, historical).err()
-    };
-    let named = |t: u8, ta: Option<u8>| TypedGroup {
-        t,
-        group: group(ta),
-    };
-    let none = group(None);
-    assert!(&rt; refused(none, &[], &[0; 15]).is_none());
-    assert!(&rt; refused(none, &[], &[0; 16]) == Some(BuildFault::TooManyHistorical));
+    is_refused(&rt, &[], &[0; 15], None);
+    is_refused(&rt, &[], &[0; 16], Some(BuildFault::TooManyHistorical));
     let fault = Some(BuildFault::OutOfOrder);
-    assert!(&rt; refused(none, &[named(15, None)], b"") == fault);
-    assert!(&rt; refused(none, &[named(1, None), named(0, None)], b"") == fault);
-    assert!(&rt; refused(none, &[named(16, None)], b"") == fault);
+    is_refused(&rt, &[named(15, None)], b"", fault);
+    is_refused(&rt, &[named(1, None), named(0, None)], b"", fault);
+    is_refused(&rt, &[named(16, None)], b"", fault);
     // T0, 15 TDs with TA each, TCK: 32 characters after TS, and one more is too much
     let long = [named(1, Some(0)); 15];
-    assert!(&rt; refused(none, &long, b"").is_none());
-    assert!(&rt; refused(none, &long, b"A") == Some(BuildFault::TooLong));
+    is_refused(&rt, &long, b"", None);
+    is_refused(&rt, &long, b"A", Some(BuildFault::TooLong));
 }

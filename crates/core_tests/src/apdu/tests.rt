@@ -2,6 +2,8 @@
 
 use apdu_core::{ApduFault, Chain, Command, Header, Status, TooLong, pieces};
 use linked_list_allocator::LocalHeap;
+use std::alloc::{AllocGlobal, Allocator};
+use std::process::Abort;
 
 const PUT: Header = Header {
     cla: 0x00,
@@ -10,95 +12,156 @@ const PUT: Header = Header {
     p2: 0x20,
 };
 
+/// The same in a chain that goes on.
+const PIECE: Header = Header { cla: 0x10, ..PUT };
+
 /// SELECT by an application identifier, with Le 256.
 const SELECT: [u8; 13] = [
     0x00, 0xA4, 0x04, 0x00, 0x07, 0xA0, 0x00, 0x00, 0x00, 0x03, 0x10, 0x10, 0x00,
 ];
 
+/// What is read of bytes, and made of parts. Without a clause: what is proved of it is nothing that
+/// a test has to know, and costs each proof that has it at hand.
+fn read<'a>(bytes: &'a [u8]) -> Result<Command<'a>, ApduFault> {
+    Command::read(bytes)
+}
+
+fn made<'a>(header: Header, content: &'a [u8], le: Option<u16>) -> Option<Command<'a>> {
+    Command::new(header, content, le)
+}
+
+/// The command is written in this memory behind what stands there, or not at all where there is no
+/// room.
+fn is_written<A: Allocator>(rt: &impl Abort, memory: A, command: &Command<'_>, written: &[u8]) {
+    let mut out = vec![in memory; 7].expect(rt, "memory");
+    assert!(rt; command.write(&mut out).is_ok() == !written.is_empty());
+    assert!(rt; out.split_first() == Some((&7, written)));
+}
+
+/// The bytes are a command with these data and this Le, and are written of it, and of its parts.
+fn is_command(rt: &(impl Abort + AllocGlobal), bytes: &[u8], content: &[u8], le: Option<u16>) {
+    let command = read(bytes).expect(rt, "a command");
+    assert!(rt; command.data() == content && command.le() == le);
+    is_written(rt, rt.alloc(), &command, bytes);
+    let again = made(command.header(), content, le).expect(rt, "a command");
+    is_written(rt, rt.alloc(), &again, bytes);
+}
+
 #[test]
 fn commands_are_read_and_written_back(rt: HostRuntime) {
-    let aid = &SELECT[5..12];
-    let cases: [(&[u8], &[u8], Option<u16>); 4] = [
-        (&[0x00, 0xA4, 0x04, 0x00], &[], None),
-        (&[0x00, 0xCA, 0x5F, 0x20, 0x00], &[], Some(256)),
-        (&[0x00, 0xDA, 0x5F, 0x20, 0x01, 0x41], &[0x41], None),
-        (&SELECT, aid, Some(256)),
-    ];
-    for (bytes, content, le) in cases {
-        let command = Command::read(bytes).expect(&rt, "a command");
-        assert!(rt; command.data() == content);
-        assert!(rt; command.le() == le);
+    for (bytes, content, le) in &[
+        (b"\x00\xA4\x04\x00".as_slice(), b"".as_slice(), None),
+        (b"\x00\xCA\x5F\x20\x00", b"", Some(256)),
+        (b"\x00\xDA\x5F\x20\x01\x41", b"\x41", None),
+        (&SELECT, &SELECT[5..12], Some(256)),
+    ] {
+        is_command(&rt, bytes, content, *le);
+    }
+}
 
-        let again = Command::new(command.header(), content, le).expect(&rt, "a command");
-        for written in [command, again] {
-            let mut out = vec![in rt.alloc(); 7].expect(&rt, "memory");
-            written.write(&mut out).expect(&rt, "memory");
-            assert!(rt; out.first() == Some(&7));
-            assert!(rt; &out[1..] == bytes);
-        }
+/// 255 bytes of data and an Le of 256: no command is longer.
+#[test]
+fn the_longest_command_is_written(rt: HostRuntime) {
+    let mut longest = [0x41; 261];
+    longest[..5].copy_from_slice(b"\x00\xDA\x5F\x20\xFF");
+    longest[260] = 0x00;
+    is_command(&rt, &longest, &[0x41; 255], Some(256));
+}
+
+/// The one growth of `write` is refused, and then granted.
+#[test]
+fn writing_is_all_or_nothing(rt: HostRuntime) {
+    let command = read(&SELECT).expect(&rt, "a command");
+    for (size, written) in &[(16, b"".as_slice()), (64, &SELECT)] {
+        let heap = LocalHeap::new(rt.alloc(), *size).expect(&rt, "memory");
+        is_written(&rt, &heap, &command, written);
     }
 }
 
 #[test]
 fn no_commands(rt: HostRuntime) {
-    let cases: [(&[u8], ApduFault); 6] = [
-        (&[], ApduFault::TooShort),
-        (&[0x00, 0xA4, 0x04], ApduFault::TooShort),
-        (&[0x00, 0xA4, 0x04, 0x00, 0x00, 0x00], ApduFault::BadLength),
-        (&[0x00, 0xDA, 0x5F, 0x20, 0x02, 0x41], ApduFault::BadLength),
-        (&[0x00, 0x60, 0x00, 0x00, 0x00], ApduFault::InvalidIns),
-        (&[0x00, 0x60, 0x00, 0x00, 0x02, 0x41], ApduFault::BadLength),
-    ];
-    for (bytes, fault) in cases {
-        assert!(rt; Command::read(bytes).err() == Some(fault), "{bytes:?}");
+    for (bytes, fault) in &[
+        (b"".as_slice(), ApduFault::TooShort),
+        (b"\x00\xA4\x04", ApduFault::TooShort),
+        (b"\x00\xA4\x04\x00\x00\x00", ApduFault::BadLength),
+        (b"\x00\xDA\x5F\x20\x02\x41", ApduFault::BadLength),
+        (b"\x00\x60\x00\x00\x00", ApduFault::InvalidIns),
+        (b"\x00\x60\x00\x00\x02\x41", ApduFault::BadLength),
+    ] {
+        assert!(rt; read(bytes).err() == Some(*fault), "{bytes:?}");
     }
-    let too_many = [0x41; 256];
-    assert!(rt; Command::new(PUT, &too_many, None).is_none());
-    assert!(rt; Command::new(PUT, &too_many[1..], None).is_some());
-    assert!(rt; Command::new(PUT, &[], Some(0)).is_none());
-    assert!(rt; Command::new(PUT, &[], Some(257)).is_none());
+}
+
+#[test]
+fn parts_of_no_command(rt: HostRuntime) {
+    for (size, le, is_made) in &[
+        (256, None, false),
+        (255, None, true),
+        (0, Some(0), false),
+        (0, Some(257), false),
+    ] {
+        let content = vec![in rt.alloc(); 0x41; *size].expect(&rt, "memory");
+        assert!(rt; made(PUT, &content, *le).is_some() == *is_made);
+    }
+}
+
+/// The text of a fault.
+fn says(rt: &(impl Abort + AllocGlobal), fault: ApduFault, text: &str) {
+    let said = format!(in rt.alloc(); "{fault}").expect(rt, "memory");
+    assert!(rt; said.as_str() == text, "{text}");
 }
 
 #[test]
 fn texts_of_faults(rt: HostRuntime) {
-    for (fault, text) in [
-        (ApduFault::TooShort, "command too short"),
-        (ApduFault::BadLength, "bad command length"),
-        (ApduFault::InvalidIns, "invalid INS"),
-    ] {
-        assert!(rt;
-            format!(in rt.alloc(); "{fault}")
-                .expect(&rt, "memory")
-                .as_str()
-                == text
-        );
-    }
-    assert!(rt;
-        format!(in rt.alloc(); "{TooLong}")
-            .expect(&rt, "memory")
-            .as_str()
-            == "chain too long"
-    );
+    says(&rt, ApduFault::TooShort, "command too short");
+    says(&rt, ApduFault::BadLength, "bad command length");
+    says(&rt, ApduFault::InvalidIns, "invalid INS");
+    let said = format!(in rt.alloc(); "{TooLong}").expect(&rt, "memory");
+    assert!(rt; said.as_str() == "chain too long");
+}
+
+/// What a status word announces and corrects, and whether it is `9000`.
+fn means(
+    rt: &impl Abort,
+    (sw1, sw2): (u8, u8),
+    announces: Option<u16>,
+    corrects: Option<u16>,
+    is_ok: bool,
+) {
+    let status = Status::new(sw1, sw2).expect(rt, "a status");
+    assert!(rt; (status.sw1(), status.sw2()) == (sw1, sw2));
+    assert!(rt; status.announces() == announces && status.corrects() == corrects);
+    assert!(rt; status.is_ok() == is_ok);
 }
 
 #[test]
 fn status_words(rt: HostRuntime) {
-    assert!(rt; Status::new(0x60, 0x00) == None);
-    assert!(rt; Status::new(0xA0, 0x00) == None);
-    let full = Status::new(0x61, 0x00).expect(&rt, "6100");
-    assert!(rt; full.announces() == Some(256));
-    let wrong_le = Status::new(0x6C, 0x06).expect(&rt, "6C06");
-    assert!(rt; wrong_le.corrects() == Some(6));
-    assert!(rt; wrong_le.announces() == None);
-    let done = Status::new(0x90, 0x00).expect(&rt, "9000");
-    assert!(rt; done.is_ok());
-    assert!(rt; (done.sw1(), done.sw2()) == (0x90, 0x00));
+    assert!(rt; Status::new(0x60, 0x00).is_none() && Status::new(0xA0, 0x00).is_none());
+    means(&rt, (0x61, 0x00), Some(256), None, false);
+    means(&rt, (0x6C, 0x06), None, Some(6), false);
+    means(&rt, (0x90, 0x00), None, None, true);
+}
+
+/// The value is cut into so many commands, of which the last has so many bytes.
+fn is_cut(rt: &impl Abort, value: &[u8], commands: usize, last: usize) {
+    let mut seen = 0;
+    for (number, command) in (1..=20).zip(pieces(PUT, value)) {
+        seen = number;
+        let (header, size) = if number == commands {
+            (PUT, last)
+        } else {
+            (PIECE, 255)
+        };
+        assert!(rt; command.header() == header && command.data().len() == size);
+        assert!(rt; command.le() == None);
+    }
+    assert!(rt; seen == commands);
 }
 
 #[test]
 fn sizes_of_pieces(rt: HostRuntime) {
     let value = [0x42; 4080];
-    for (size, commands, last) in [
+    for (size, commands, last) in &[
         (0, 1, 0),
         (255, 1, 255),
         (256, 2, 1),
@@ -106,85 +169,83 @@ fn sizes_of_pieces(rt: HostRuntime) {
         (2048, 9, 8),
         (4080, 16, 255),
     ] {
-        let mut seen = 0;
-        for (number, command) in (1..=20).zip(pieces(PUT, &value[..size])) {
-            seen = number;
-            let is_last = number == commands;
-            let cla = if is_last { 0x00 } else { 0x10 };
-            assert!(rt; command.header() == Header { cla, ..PUT });
-            assert!(rt; command.data().len() == if is_last { last } else { 255 });
-            assert!(rt; command.le() == None);
-        }
-        assert!(rt; seen == commands, "{size} bytes");
+        let value = value.get(..*size).expect(&rt, "a value");
+        is_cut(&rt, value, *commands, *last);
+    }
+}
+
+/// What a chain is asked or told, and what comes of it.
+#[derive(Clone, Copy)]
+enum Call<'a> {
+    /// It accepts a command with this header, or does not.
+    Accepts(Header, bool),
+    /// It accepts a command, and has room for its data or has not.
+    Add(Header, &'a [u8], bool),
+    KeepFirst(usize),
+    DropAll,
+    /// It is pending or not, with these bytes.
+    Has(bool, &'a [u8]),
+}
+
+/// Adds what is accepted.
+fn add(rt: &impl Abort, chain: &mut Chain, header: Header, content: &[u8]) -> bool {
+    assert!(rt; chain.accepts(header));
+    chain.add(header, content).is_ok()
+}
+
+fn keep_first(rt: &impl Abort, chain: &mut Chain, len: usize) {
+    assert!(rt; len <= chain.len());
+    chain.keep_first(len);
+}
+
+fn has(chain: &Chain, pending: bool, bytes: &[u8]) -> bool {
+    chain.is_pending() == pending && chain.len() == bytes.len() && chain.bytes() == bytes
+}
+
+fn answers(rt: &impl Abort, chain: &mut Chain, call: Call<'_>) {
+    match call {
+        Call::Accepts(header, accepted) => assert!(rt; chain.accepts(header) == accepted),
+        Call::Add(header, content, added) => assert!(rt; add(rt, chain, header, content) == added),
+        Call::KeepFirst(len) => keep_first(rt, chain, len),
+        Call::DropAll => chain.drop_all(),
+        Call::Has(pending, bytes) => assert!(rt; has(chain, pending, bytes)),
+    }
+}
+
+/// A new chain with so much room answers these calls.
+fn goes(rt: &(impl Abort + AllocGlobal), room: usize, calls: &[Call<'_>]) {
+    let mut chain = Chain::with_room(rt.alloc(), room).expect(rt, "memory");
+    for call in calls {
+        answers(rt, &mut chain, *call);
     }
 }
 
 #[test]
 fn a_chain_within_its_limit(rt: HostRuntime) {
-    let first = Header { cla: 0x10, ..PUT };
-    let mut chain = Chain::with_room(rt.alloc(), 4).expect(&rt, "memory");
-    assert!(rt; !chain.is_pending() && chain.accepts(first));
-    assert!(rt; chain.add(first, &[1, 2, 3]) == Ok(()));
-    for (header, accepted) in [
-        (PUT, true),
-        (first, true),
-        (Header { p2: 0x21, ..first }, false),
-        (Header { cla: 0x80, ..PUT }, false),
-    ] {
-        assert!(rt; chain.accepts(header) == accepted, "{header:?}");
-    }
-    assert!(rt; chain.accepts(PUT));
-    assert!(rt; chain.add(PUT, &[4, 5]) == Err(TooLong));
-    assert!(rt; chain.bytes() == [1, 2, 3].as_slice());
-    assert!(rt; chain.len() == 3);
-    chain.keep_first(1);
-    assert!(rt; chain.bytes() == [1].as_slice());
-    assert!(rt; chain.is_pending());
-    chain.drop_all();
-    assert!(rt; !chain.is_pending() && chain.len() == 0);
+    goes(
+        &rt,
+        4,
+        &[
+            Call::Has(false, &[]),
+            Call::Accepts(PIECE, true),
+            Call::Add(PIECE, &[1, 2, 3], true),
+            Call::Accepts(PUT, true),
+            Call::Accepts(PIECE, true),
+            Call::Accepts(Header { p2: 0x21, ..PIECE }, false),
+            Call::Accepts(Header { cla: 0x80, ..PUT }, false),
+            Call::Add(PUT, &[4, 5], false),
+            Call::Has(true, &[1, 2, 3]),
+            Call::KeepFirst(1),
+            Call::Has(true, &[1]),
+            Call::DropAll,
+            Call::Has(false, &[]),
+        ],
+    );
 }
 
 #[test]
 fn an_empty_chain_is_pending(rt: HostRuntime) {
-    let mut chain = Chain::with_room(rt.alloc(), 0).expect(&rt, "memory");
-    assert!(rt; chain.accepts(PUT));
-    assert!(rt; chain.add(PUT, &[]) == Ok(()));
-    assert!(rt; chain.is_pending() && chain.len() == 0);
-}
-
-/// The one growth of `write` is refused, and then granted.
-#[test]
-fn writing_is_all_or_nothing(rt: HostRuntime) {
-    let command = Command::read(&SELECT).expect(&rt, "a command");
-    for (size, written) in [(16, &[] as &[u8]), (64, &SELECT)] {
-        let heap = LocalHeap::new(rt.alloc(), size).expect(&rt, "memory");
-        let mut out = vec![in &heap; 7].expect(&rt, "memory");
-        assert!(rt; command.write(&mut out).is_ok() == !written.is_empty());
-        assert!(rt; out.first() == Some(&7));
-        assert!(rt; &out[1..] == written);
-    }
-}
-
-/// The one growth of `with_room` is refused, and then granted.
-#[test]
-fn no_room_for_a_chain(rt: HostRuntime) {
-    for (size, granted) in [(0, false), (48, false), (64, true)] {
-        let heap = LocalHeap::new(rt.alloc(), size).expect(&rt, "memory");
-        assert!(rt; Chain::with_room(&heap, 64).is_ok() == granted);
-    }
-}
-
-/// 255 bytes of data and an Le of 256: no command is longer.
-#[test]
-fn the_longest_command_is_written(rt: HostRuntime) {
-    let content = [0x41; 255];
-    let command = Command::new(PUT, &content, Some(256)).expect(&rt, "a command");
-    let mut out = Vec::new(rt.alloc());
-    command.write(&mut out).expect(&rt, "memory");
-    assert!(rt; out.len() == 261);
-    assert!(rt; &out[..5] == [0x00, 0xDA, 0x5F, 0x20, 0xFF].as_slice());
-    assert!(rt; &out[5..260] == content.as_slice());
-    assert!(rt; out[260] == 0x00);
+    goes(&rt, 0, &[Call::Add(PUT, &[], true), Call::Has(true, &[])]);
 }
 
 /// Room for the longest value of a card takes its pieces, and not one byte more.
@@ -193,10 +254,17 @@ fn a_chain_of_8192_bytes(rt: HostRuntime) {
     let value = [0x42; 8_192];
     let mut chain = Chain::with_room(rt.alloc(), 8_192).expect(&rt, "memory");
     for (_, command) in (0..33).zip(pieces(PUT, &value)) {
-        assert!(rt; chain.accepts(command.header()));
-        assert!(rt; chain.add(command.header(), command.data()) == Ok(()));
+        assert!(rt; add(&rt, &mut chain, command.header(), command.data()));
     }
-    assert!(rt; chain.bytes() == value.as_slice());
-    assert!(rt; chain.accepts(PUT));
-    assert!(rt; chain.add(PUT, &[0x42]) == Err(TooLong));
+    assert!(rt; has(&chain, true, &value));
+    assert!(rt; !add(&rt, &mut chain, PUT, &[0x42]));
+}
+
+/// The one growth of `with_room` is refused, and then granted.
+#[test]
+fn no_room_for_a_chain(rt: HostRuntime) {
+    for (size, granted) in &[(0, false), (48, false), (64, true)] {
+        let heap = LocalHeap::new(rt.alloc(), *size).expect(&rt, "memory");
+        assert!(rt; Chain::with_room(&heap, 64).is_ok() == *granted);
+    }
 }

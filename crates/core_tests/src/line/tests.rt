@@ -2,7 +2,7 @@
 
 use apdu_core::Header;
 use linked_list_allocator::LocalHeap;
-use std::alloc::{Allocator, Global};
+use std::alloc::{AllocGlobal, Allocator};
 use std::process::Abort;
 use t0_core::{End, Gather, HostEnd, HostTurn, LineFault, Recorder, Silent, Watch};
 
@@ -22,7 +22,31 @@ const PUT: Header = Header {
     p2: 0x00,
 };
 
-/// Passes these characters, run by run: a terminal's end hands out its own and takes the card's.
+/// What an end does next, and what it says to a character. Without a clause: what is proved of it is
+/// nothing that a test has to know, and costs each proof that has it at hand.
+fn turn(end: &mut HostEnd<'_>) -> HostTurn {
+    end.next()
+}
+
+fn said<A: Allocator>(
+    end: &mut HostEnd<'_>,
+    byte: u8,
+    gather: &mut Gather<A>,
+) -> Result<(), LineFault> {
+    end.take(byte, gather)
+}
+
+/// Whether one character passes: a terminal's end hands out its own and takes the card's.
+fn moves<A: Allocator>(end: &mut HostEnd<'_>, gather: &mut Gather<A>, from: End, byte: u8) -> bool {
+    let turn = turn(end);
+    if from == End::Terminal {
+        turn == HostTurn::Sends(byte)
+    } else {
+        turn == HostTurn::Listens && said(end, byte, gather).is_ok()
+    }
+}
+
+/// Passes these characters, run by run.
 fn pass<A: Allocator>(
     rt: &impl Abort,
     end: &mut HostEnd<'_>,
@@ -30,136 +54,136 @@ fn pass<A: Allocator>(
     runs: &[(End, &[u8])],
 ) {
     for (from, bytes) in runs {
-        for &byte in *bytes {
-            if *from == End::Terminal {
-                assert!(rt; end.next() == HostTurn::Sends(byte), "{bytes:?}");
-            } else {
-                assert!(rt; end.next() == HostTurn::Listens, "{bytes:?}");
-                assert!(rt; end.take(byte, gather) == Ok(()), "{bytes:?}");
-            }
+        for byte in *bytes {
+            assert!(rt; moves(end, gather, *from, *byte), "{bytes:?}");
         }
     }
 }
 
 /// The TPDU has ended with this status word.
 fn is_done(rt: &impl Abort, end: &mut HostEnd<'_>, word: u16) {
-    let HostTurn::Done(status) = end.next() else {
+    let HostTurn::Done(status) = turn(end) else {
         panic!(rt; "{word} was to come")
     };
     assert!(rt; u16::from_be_bytes([status.sw1(), status.sw2()]) == word);
 }
 
+/// The TPDU passes, ends with this status word, and brings these data.
+fn goes(
+    rt: &(impl Abort + AllocGlobal),
+    mut end: HostEnd<'_>,
+    runs: &[(End, &[u8])],
+    word: u16,
+    data: &[u8],
+) {
+    let mut gather = Gather::with_room(rt.alloc(), data.len()).expect(rt, "memory");
+    pass(rt, &mut end, &mut gather, runs);
+    is_done(rt, &mut end, word);
+    assert!(rt; gather.bytes() == data);
+}
+
 #[test]
 fn takes_data_under_each_procedure_byte(rt: HostRuntime) {
-    for (characters, data, word) in [
+    let opening = (End::Terminal, b"\x00\xCA\x00\x00\x02".as_slice());
+    for (characters, data, word) in &[
         (
             b"\xCA\x60\x60\x90\x00".as_slice(),
             b"\x60\x60".as_slice(),
             0x9000,
         ),
-        (
-            b"\xCA\x01\x02\xCA\x90\x00".as_slice(),
-            b"\x01\x02".as_slice(),
-            0x9000,
-        ),
-        (b"\x35\x90\x90\x00".as_slice(), b"\x90".as_slice(), 0x9000),
-        (b"\x60\x60\x6A\x88".as_slice(), b"".as_slice(), 0x6A88),
+        (b"\xCA\x01\x02\xCA\x90\x00", b"\x01\x02", 0x9000),
+        (b"\x35\x90\x90\x00", b"\x90", 0x9000),
+        (b"\x60\x60\x6A\x88", b"", 0x6A88),
     ] {
-        let mut gather = Gather::with_room(rt.alloc(), 2).expect(&rt, "memory");
-        let mut end = HostEnd::asking(GET, 2);
-        let opening = b"\x00\xCA\x00\x00\x02".as_slice();
-        pass(
-            &rt,
-            &mut end,
-            &mut gather,
-            &[(End::Terminal, opening), (End::Card, characters)],
-        );
-        is_done(&rt, &mut end, word);
-        assert!(rt; gather.bytes() == data);
+        let runs = [opening, (End::Card, *characters)];
+        goes(&rt, HostEnd::asking(GET, 2), &runs, *word, data);
     }
 }
 
 #[test]
 fn sends_data_under_each_procedure_byte(rt: HostRuntime) {
-    let mut gather = Gather::with_room(rt.alloc(), 0).expect(&rt, "memory");
-    for between in [b"\x60\xDA".as_slice(), b"\x25".as_slice()] {
-        let mut end = HostEnd::sending(PUT, b"\x41\x42");
+    for between in &[b"\x60\xDA".as_slice(), b"\x25"] {
         let runs = [
             (End::Terminal, b"\x00\xDA\x00\x00\x02".as_slice()),
-            (End::Card, b"\x25".as_slice()),
-            (End::Terminal, b"\x41".as_slice()),
-            (End::Card, between),
-            (End::Terminal, b"\x42".as_slice()),
-            (End::Card, b"\x90\x00".as_slice()),
+            (End::Card, b"\x25"),
+            (End::Terminal, b"\x41"),
+            (End::Card, *between),
+            (End::Terminal, b"\x42"),
+            (End::Card, b"\x90\x00"),
         ];
-        pass(&rt, &mut end, &mut gather, &runs);
-        is_done(&rt, &mut end, 0x9000);
+        goes(&rt, HostEnd::sending(PUT, b"\x41\x42"), &runs, 0x9000, b"");
     }
-
-    let mut end = HostEnd::sending(PUT, &[]);
     let runs = [
         (End::Terminal, b"\x00\xDA\x00\x00\x00".as_slice()),
-        (End::Card, b"\x60\x90\x00".as_slice()),
+        (End::Card, b"\x60\x90\x00"),
     ];
-    pass(&rt, &mut end, &mut gather, &runs);
-    is_done(&rt, &mut end, 0x9000);
+    goes(&rt, HostEnd::sending(PUT, &[]), &runs, 0x9000, b"");
+}
+
+/// After these characters just these data are handed out.
+fn hands_out<A: Allocator>(
+    rt: &impl Abort,
+    end: &mut HostEnd<'_>,
+    gather: &mut Gather<A>,
+    run: (End, &[u8]),
+    data: &[u8],
+) {
+    pass(rt, end, gather, &[run]);
+    for byte in data {
+        assert!(rt; end.next_data() == Some(*byte));
+    }
+    assert!(rt; end.next_data() == None);
 }
 
 #[test]
 fn hands_out_data_and_nothing_else(rt: HostRuntime) {
-    let mut gather = Gather::with_room(rt.alloc(), 1).expect(&rt, "memory");
+    let mut gather = Gather::with_room(rt.alloc(), 0).expect(&rt, "memory");
     let mut end = HostEnd::sending(PUT, b"\x41\x42\x43");
-    for (run, data) in [
-        ((End::Terminal, b"".as_slice()), b"".as_slice()),
-        (
-            (End::Terminal, b"\x00\xDA\x00\x00\x03".as_slice()),
-            b"".as_slice(),
-        ),
-        ((End::Card, b"\x60".as_slice()), b"".as_slice()),
-        ((End::Card, b"\x25".as_slice()), b"\x41".as_slice()),
-        ((End::Card, b"\xDA".as_slice()), b"\x42\x43".as_slice()),
-        ((End::Card, b"\x90".as_slice()), b"".as_slice()),
-        ((End::Card, b"\x00".as_slice()), b"".as_slice()),
+    for (from, bytes, data) in &[
+        (End::Terminal, b"".as_slice(), b"".as_slice()),
+        (End::Terminal, b"\x00\xDA\x00\x00\x03", b""),
+        (End::Card, b"\x60", b""),
+        (End::Card, b"\x25", b"\x41"),
+        (End::Card, b"\xDA", b"\x42\x43"),
+        (End::Card, b"\x90", b""),
+        (End::Card, b"\x00", b""),
     ] {
-        pass(&rt, &mut end, &mut gather, &[run]);
-        for &byte in data {
-            assert!(rt; end.next_data() == Some(byte));
-        }
-        assert!(rt; end.next_data() == None);
+        hands_out(&rt, &mut end, &mut gather, (*from, bytes), data);
     }
-    is_done(&rt, &mut end, 0x9000);
-
-    let mut end = HostEnd::asking(GET, 1);
-    let opening = b"\x00\xCA\x00\x00\x01".as_slice();
-    pass(
-        &rt,
-        &mut end,
-        &mut gather,
-        &[(End::Terminal, opening), (End::Card, b"\xCA")],
-    );
-    assert!(rt; end.next_data() == None);
-    pass(&rt, &mut end, &mut gather, &[(End::Card, b"\x41\x90\x00")]);
     is_done(&rt, &mut end, 0x9000);
 }
 
 #[test]
-fn hands_out_a_run_of_data(rt: HostRuntime) {
+fn hands_out_no_data_where_it_takes_some(rt: HostRuntime) {
     let mut gather = Gather::with_room(rt.alloc(), 1).expect(&rt, "memory");
+    let mut end = HostEnd::asking(GET, 1);
+    for (from, bytes) in &[
+        (End::Terminal, b"\x00\xCA\x00\x00\x01".as_slice()),
+        (End::Card, b"\xCA"),
+        (End::Card, b"\x41\x90\x00"),
+    ] {
+        hands_out(&rt, &mut end, &mut gather, (*from, bytes), b"");
+    }
+    is_done(&rt, &mut end, 0x9000);
+}
+
+/// So much of the room takes so many data, and holds these bytes then.
+fn fills(rt: &impl Abort, end: &mut HostEnd<'_>, room: &mut [u8], count: usize, held: &[u8]) {
+    assert!(rt; end.next_data_bytes(room) == count && *room == *held);
+}
+
+#[test]
+fn hands_out_a_run_of_data(rt: HostRuntime) {
+    let mut gather = Gather::with_room(rt.alloc(), 0).expect(&rt, "memory");
     let mut end = HostEnd::sending(PUT, b"\x41\x42\x43");
     let mut room = [0xEE; 4];
-    assert!(rt; end.next_data_bytes(&mut room) == 0);
-    let opening = b"\x00\xDA\x00\x00\x03".as_slice();
-    pass(
-        &rt,
-        &mut end,
-        &mut gather,
-        &[(End::Terminal, opening), (End::Card, b"\xDA")],
-    );
-    assert!(rt; end.next_data_bytes(&mut room[..2]) == 2);
+    fills(&rt, &mut end, &mut room, 0, b"\xEE\xEE\xEE\xEE");
+    let opening = (End::Terminal, b"\x00\xDA\x00\x00\x03".as_slice());
+    pass(&rt, &mut end, &mut gather, &[opening, (End::Card, b"\xDA")]);
+    fills(&rt, &mut end, &mut room[..2], 2, b"\x41\x42");
     assert!(rt; room == [0x41, 0x42, 0xEE, 0xEE]);
-    assert!(rt; end.next_data_bytes(&mut room) == 1);
-    assert!(rt; room == [0x43, 0x42, 0xEE, 0xEE]);
-    assert!(rt; end.next_data_bytes(&mut room) == 0);
+    fills(&rt, &mut end, &mut room, 1, b"\x43\x42\xEE\xEE");
+    fills(&rt, &mut end, &mut room, 0, b"\x43\x42\xEE\xEE");
     pass(&rt, &mut end, &mut gather, &[(End::Card, b"\x90\x00")]);
     is_done(&rt, &mut end, 0x9000);
 }
@@ -168,49 +192,59 @@ fn hands_out_a_run_of_data(rt: HostRuntime) {
 fn listens_to_nothing_while_it_sends(rt: HostRuntime) {
     let mut gather = Gather::with_room(rt.alloc(), 2).expect(&rt, "memory");
     let mut end = HostEnd::sending(PUT, b"\x41\x42");
-    for run in [
+    for (from, bytes) in &[
         (End::Terminal, b"\x00\xDA\x00\x00\x02".as_slice()),
-        (End::Card, b"\xDA".as_slice()),
-        (End::Terminal, b"\x41".as_slice()),
-        (End::Terminal, b"\x42".as_slice()),
-        (End::Card, b"\x90\x00".as_slice()),
+        (End::Card, b"\xDA"),
+        (End::Terminal, b"\x41"),
+        (End::Terminal, b"\x42"),
+        (End::Card, b"\x90\x00"),
     ] {
-        if run.0 == End::Terminal {
-            assert!(rt; end.take(0x90, &mut gather) == Err(LineFault::NotListening));
+        if *from == End::Terminal {
+            assert!(rt; said(&mut end, 0x90, &mut gather) == Err(LineFault::NotListening));
         }
-        pass(&rt, &mut end, &mut gather, &[run]);
+        pass(&rt, &mut end, &mut gather, &[(*from, bytes)]);
     }
     is_done(&rt, &mut end, 0x9000);
-    assert!(rt; gather.bytes().len() == 0);
+    assert!(rt; gather.bytes().is_empty());
+}
+
+/// After these characters another one is this fault, which ends the TPDU.
+fn fails<A: Allocator>(
+    rt: &impl Abort,
+    mut end: HostEnd<'_>,
+    gather: &mut Gather<A>,
+    runs: &[(End, &[u8])],
+    byte: u8,
+    fault: LineFault,
+) {
+    pass(rt, &mut end, gather, runs);
+    assert!(rt; said(&mut end, byte, gather) == Err(fault));
+    assert!(rt; said(&mut end, 0x90, gather) == Err(LineFault::AfterEnd));
+    assert!(rt; turn(&mut end) == HostTurn::Failed);
 }
 
 #[test]
 fn third_character_is_too_long_for_room_of_two(rt: HostRuntime) {
     let mut gather = Gather::with_room(rt.alloc(), 2).expect(&rt, "memory");
-    let mut end = HostEnd::asking(GET, 3);
     let runs = [
         (End::Terminal, b"\x00\xCA\x00\x00\x03".as_slice()),
-        (End::Card, b"\xCA\x01\x02".as_slice()),
+        (End::Card, b"\xCA\x01\x02"),
     ];
-    pass(&rt, &mut end, &mut gather, &runs);
-    assert!(rt; end.take(0x03, &mut gather) == Err(LineFault::TooLong));
-    assert!(rt; end.take(0x90, &mut gather) == Err(LineFault::AfterEnd));
-    assert!(rt; end.next() == HostTurn::Failed);
+    let end = HostEnd::asking(GET, 3);
+    fails(&rt, end, &mut gather, &runs, 0x03, LineFault::TooLong);
     assert!(rt; gather.bytes() == [0x01, 0x02].as_slice());
     gather.clear();
-    assert!(rt; gather.bytes().len() == 0);
+    assert!(rt; gather.bytes().is_empty());
 }
 
 #[test]
 fn no_procedure_bytes(rt: HostRuntime) {
     let mut gather = Gather::with_room(rt.alloc(), 256).expect(&rt, "memory");
-    for byte in [0x41, 0x70, 0x8F, 0xA0] {
-        let mut end = HostEnd::asking(GET, 256);
-        let opening = b"\x00\xCA\x00\x00\x00".as_slice();
-        pass(&rt, &mut end, &mut gather, &[(End::Terminal, opening)]);
-        assert!(rt; end.take(byte, &mut gather) == Err(LineFault::BadProcedure(byte)));
-        assert!(rt; end.take(0x90, &mut gather) == Err(LineFault::AfterEnd));
-        assert!(rt; end.next() == HostTurn::Failed);
+    let opening = (End::Terminal, b"\x00\xCA\x00\x00\x00".as_slice());
+    for byte in &[0x41, 0x70, 0x8F, 0xA0] {
+        let end = HostEnd::asking(GET, 256);
+        let fault = LineFault::BadProcedure(*byte);
+        fails(&rt, end, &mut gather, &[opening], *byte, fault);
     }
 }
 
@@ -220,9 +254,7 @@ fn recorder_notes_each_character(rt: HostRuntime) {
     recorder.seen(End::Terminal, 0x00);
     recorder.seen(End::Card, 0x90);
     assert!(rt; !recorder.lost());
-    assert!(rt; recorder.heard().len() == 2);
-    assert!(rt; recorder.heard()[1].0 == End::Card);
-    assert!(rt; recorder.heard()[1].1 == 0x90);
+    assert!(rt; recorder.heard() == [(End::Terminal, 0x00), (End::Card, 0x90)].as_slice());
     Silent.seen(End::Card, 0x90);
 }
 
@@ -230,22 +262,17 @@ fn recorder_notes_each_character(rt: HostRuntime) {
 #[test]
 fn recorder_notes_thousands(rt: HostRuntime) {
     let mut recorder = Recorder::new(rt.alloc());
-    for at in 0..6_000u16 {
-        recorder.seen(End::Card, at.to_be_bytes()[1]);
-    }
-    assert!(rt; !recorder.lost());
-    assert!(rt; recorder.heard().len() == 6_000);
-    for (at, character) in (0..6_000u16).zip(recorder.heard()) {
-        assert!(rt; character.0 == End::Card && character.1 == at.to_be_bytes()[1]);
-    }
+    hears(&mut recorder, 6_000);
+    assert!(rt; !recorder.lost() && recorder.heard().len() == 6_000);
+    has_noted(&rt, &recorder);
 }
 
 /// The one growth of `with_room` is refused, and then granted.
 #[test]
 fn no_room_for_a_gather(rt: HostRuntime) {
-    for (size, granted) in [(0, false), (240, false), (256, true)] {
-        let heap = LocalHeap::new(rt.alloc(), size).expect(&rt, "memory");
-        assert!(rt; Gather::with_room(&heap, 256).is_ok() == granted);
+    for (size, granted) in &[(0, false), (240, false), (256, true)] {
+        let heap = LocalHeap::new(rt.alloc(), *size).expect(&rt, "memory");
+        assert!(rt; Gather::with_room(&heap, 256).is_ok() == *granted);
     }
 }
 
@@ -282,21 +309,27 @@ fn has_noted<A: Allocator>(rt: &impl Abort, recorder: &Recorder<A>) {
     }
 }
 
+/// How many of 5,000 characters a recorder notes in so many bytes: it has lost the others.
+fn noted_in(rt: &(impl Abort + AllocGlobal), size: usize) -> usize {
+    let heap = LocalHeap::new(rt.alloc(), size).expect(rt, "memory");
+    let mut recorder = Recorder::new(&heap);
+    hears(&mut recorder, 5_000);
+    has_noted(rt, &recorder);
+    let noted = recorder.heard().len();
+    assert!(rt; recorder.lost() == (noted < 5_000));
+    noted
+}
+
 /// Each growth of the recorder is refused in turn: it keeps the front that it had noted until then.
 #[test]
 fn recorder_without_memory_has_lost_the_rest(rt: HostRuntime) {
     let mut longest = None;
-    for size in [
+    for size in &[
         0, 16, 32, 64, 128, 256, 512, 1_024, 2_048, 4_096, 8_192, 16_384, 32_768,
     ] {
-        let heap = LocalHeap::new(rt.alloc(), size).expect(&rt, "memory");
-        let mut recorder = Recorder::new(&heap);
-        hears(&mut recorder, 5_000);
-        has_noted(&rt, &recorder);
-        let noted = recorder.heard().len();
-        assert!(rt; recorder.lost() == (noted < 5_000));
-        assert!(rt; Some(noted) >= longest, "{noted} in {size} bytes");
-        longest = Some(noted);
+        let noted = Some(noted_in(&rt, *size));
+        assert!(rt; noted >= longest, "{size} bytes");
+        longest = noted;
     }
     assert!(rt; longest == Some(5_000));
 }

@@ -1,10 +1,10 @@
 //! The bytes of whole TPDUs, and how a card's end carries them out under a plan.
 
+use super::card_tests::plan;
 use super::test_card::TestCard;
 use apdu_core::Header;
-use std::alloc::AllocGlobal;
 use std::process::Abort;
-use t0_core::{CardEnd, Gather, HostEnd, Plan, Plans, Step, WholeTpdu};
+use t0_core::{CardEnd, Gather, HostEnd, Plans, Step, WholeTpdu};
 
 const GET: Header = Header {
     cla: 0x00,
@@ -48,7 +48,9 @@ fn a_terminal_writes_whole_tpdus(rt: HostRuntime) {
     is_written(&rt, &HostEnd::sending(PUT, &[0x41; 255]), &longest);
 }
 
-/// What is read of the bytes: P3, how many data there are, and how many may come back.
+/// What is read of the bytes: P3, how many data there are, and how many may come back. Without a
+/// clause: what is proved of it is nothing that a test has to know, and costs each proof that has it
+/// at hand.
 fn read(bytes: &[u8]) -> Option<(u8, usize, u16)> {
     match WholeTpdu::read(bytes) {
         Some(tpdu) => Some((tpdu.p3, tpdu.content.len(), tpdu.may_come)),
@@ -58,33 +60,40 @@ fn read(bytes: &[u8]) -> Option<(u8, usize, u16)> {
 
 #[test]
 fn whole_tpdus_are_read(rt: HostRuntime) {
-    assert!(rt; read(b"\x00\xA4\x04\x00") == Some((0x00, 0, 0)));
-    assert!(rt; read(b"\x00\xCA\x5F\x20\x00") == Some((0x00, 0, 256)));
-    assert!(rt; read(b"\x00\xCA\x5F\x20\xFF") == Some((0xFF, 0, 255)));
-    assert!(rt; read(b"\x00\xDA\x5F\x20\x02AB") == Some((0x02, 2, 0)));
-    assert!(rt; read(b"\x00\xDA\x5F\x20\x02A").is_none());
-    assert!(rt; read(b"\x00\xDA\x5F\x20\x00A").is_none());
-    assert!(rt; read(b"\x00\xA4\x04").is_none());
+    for (bytes, wanted) in &[
+        (b"\x00\xA4\x04\x00".as_slice(), Some((0x00, 0, 0))),
+        (b"\x00\xCA\x5F\x20\x00", Some((0x00, 0, 256))),
+        (b"\x00\xCA\x5F\x20\xFF", Some((0xFF, 0, 255))),
+        (b"\x00\xDA\x5F\x20\x02AB", Some((0x02, 2, 0))),
+        (b"\x00\xDA\x5F\x20\x02A", None),
+        (b"\x00\xDA\x5F\x20\x00A", None),
+        (b"\x00\xA4\x04", None),
+    ] {
+        assert!(rt; read(bytes) == *wanted, "{bytes:?}");
+    }
+}
+
+/// Whether the end carries out a TPDU, likewise without a clause.
+fn is_carried_out(
+    end: &mut CardEnd<TestCard>,
+    tpdu: &[u8],
+    plans: &mut Plans<'_>,
+    gather: &mut Gather,
+) -> bool {
+    end.tpdu(tpdu, plans, gather).is_ok()
 }
 
 /// NULLs and single bytes of the plan are not seen, and each TPDU takes the next plan.
 #[test]
 fn a_plan_is_not_seen(rt: HostRuntime) {
-    let steps = Vec::from_slice(rt.alloc(), &[Step::Null, Step::One]).expect(&rt, "memory");
-    let plans = [Plan::new(steps, 7).expect(&rt, "a plan")];
+    let plans = plan(&rt, &[Step::Null, Step::One], 7);
     let mut plans = Plans::over(&plans);
     let mut gather = Gather::with_room(rt.alloc(), 3).expect(&rt, "memory");
     let mut end = CardEnd::new(TestCard::new());
-    assert!(rt;
-        end.tpdu(b"\x00\xCA\x00\x00\x03", &mut plans, &mut gather)
-            .is_ok()
-    );
-    assert!(rt; gather.bytes() == b"\x01\x02\x03".as_slice());
-    assert!(rt; end.card().cut() == 7);
-    assert!(rt;
-        end.tpdu(b"\x00\xDA\x00\x00\x02AB", &mut plans, &mut gather)
-            .is_ok()
-    );
-    assert!(rt; end.card().cut() == 256);
-    assert!(rt; *end.held() == [0; 255]);
+    let get = b"\x00\xCA\x00\x00\x03";
+    assert!(rt; is_carried_out(&mut end, get, &mut plans, &mut gather));
+    assert!(rt; gather.bytes() == b"\x01\x02\x03".as_slice() && end.card().cut() == 7);
+    let put = b"\x00\xDA\x00\x00\x02AB";
+    assert!(rt; is_carried_out(&mut end, put, &mut plans, &mut gather));
+    assert!(rt; end.card().cut() == 256 && *end.held() == [0; 255]);
 }

@@ -1,114 +1,35 @@
 //! Forests that are built, read and written, at their limits too, and the fault of each refusal.
 
+use super::forests::{
+    SIXTEEN_LEVELS, forest, long, primitive, push, push_template, spells, tag, template,
+};
 use std::alloc::{AllocGlobal, Global};
 use std::process::Abort;
-use tlv_core::{BuildFault, Forest, ReadFault, Reason, Tag, TlvFault, Tree};
-
-/// Sixteen templates, each in the one before it.
-const SIXTEEN_LEVELS: &str = "701E701C701A70187016701470127010700E700C700A70087006700470027000";
-
-fn digit(rt: &impl Abort, text: u8) -> u8 {
-    match text {
-        b'0'..=b'9' => text - b'0',
-        b'A'..=b'F' => text - b'A' + 10,
-        _ => panic!(rt; "no digit"),
-    }
-}
-
-/// The bytes of a text in hexadecimal digits.
-fn bytes(rt: &(impl Abort + AllocGlobal), text: &str) -> Vec<u8> {
-    let mut bytes = Vec::new(rt.alloc());
-    for pair in text.as_bytes().as_chunks::<2>().0 {
-        let byte = (digit(rt, pair[0]) << 4) | digit(rt, pair[1]);
-        bytes.push(byte).expect(rt, "memory");
-    }
-    bytes
-}
-
-/// The tag of one byte.
-fn tag(rt: &impl Abort, byte: u8) -> Tag {
-    let (tag, _) = Tag::read(&[byte]).expect(rt, "a tag");
-    tag
-}
-
-/// The forest that a text spells. Without a clause: what is proved of it is nothing that a test has
-/// to know, and costs each proof that has it at hand.
-fn read(rt: &(impl Abort + AllocGlobal), text: &str) -> Forest<Global> {
-    Tree::read(rt.alloc(), &bytes(rt, text)).expect(rt, "a forest")
-}
-
-/// The forest is written as this text.
-fn spells(rt: &(impl Abort + AllocGlobal), forest: &Forest<Global>, text: &str) {
-    let written = forest.write().expect(rt, "memory");
-    assert!(rt; written == bytes(rt, text), "{text}");
-}
-
-/// What comes of a primitive or a template more, likewise without a clause.
-fn push(
-    rt: &impl Abort,
-    forest: &mut Forest<Global>,
-    name: u8,
-    value: Vec<u8>,
-) -> Result<(), BuildFault> {
-    forest.push_primitive(tag(rt, name), value)
-}
-
-fn push_template(
-    rt: &impl Abort,
-    forest: &mut Forest<Global>,
-    name: u8,
-    children: Forest<Global>,
-) -> Result<(), BuildFault> {
-    forest.push_template(tag(rt, name), children)
-}
-
-/// A forest of one primitive.
-fn primitive(rt: &(impl Abort + AllocGlobal), name: u8, value: Vec<u8>) -> Forest<Global> {
-    let mut forest = Forest::new(rt.alloc());
-    assert!(rt; push(rt, &mut forest, name, value).is_ok());
-    forest
-}
-
-/// A forest of one template.
-fn template(rt: &(impl Abort + AllocGlobal), name: u8, children: Forest<Global>) -> Forest<Global> {
-    let mut forest = Forest::new(rt.alloc());
-    assert!(rt; push_template(rt, &mut forest, name, children).is_ok());
-    forest
-}
+use tlv_core::{BuildFault, Forest};
 
 #[test]
 fn writes_what_was_added(rt: HostRuntime) {
-    let name = primitive(&rt, 0x84, bytes(&rt, "A0000000031010"));
-    spells(&rt, &template(&rt, 0x6F, name), "6F098407A0000000031010");
+    let name = b"\xA0\x00\x00\x00\x03\x10\x10";
+    let name = Vec::from_slice(rt.alloc(), name).expect(&rt, "memory");
+    let name = primitive(&rt, 0x84, name);
+    let written = b"\x6F\x09\x84\x07\xA0\x00\x00\x00\x03\x10\x10";
+    spells(&rt, &template(&rt, 0x6F, name), written);
     let empty = template(&rt, 0x70, Forest::new(rt.alloc()));
-    spells(&rt, &empty, "7000");
+    spells(&rt, &empty, b"\x70\x00");
 }
 
-/// So many bytes.
-fn long(rt: &(impl Abort + AllocGlobal), len: usize) -> Vec<u8> {
-    vec![in rt.alloc(); 0x41; len].expect(rt, "memory")
-}
-
-/// The longest value that a primitive takes is too long for a template with its head.
-#[test]
-fn writes_the_longest_value(rt: HostRuntime) {
-    let longest = primitive(&rt, 0x50, long(&rt, 65_535));
-    let written = longest.write().expect(&rt, "memory");
-    assert!(rt; written.len() == 65_539 && written.starts_with(&[0x50, 0x82, 0xFF, 0xFF]));
-    refuses(&rt, 0x70, longest, BuildFault::TooLong);
+/// An empty forest refuses a primitive of so many bytes, and stays empty.
+fn refuses_primitive(rt: &(impl Abort + AllocGlobal), name: u8, len: usize, fault: BuildFault) {
+    let mut forest = Forest::new(rt.alloc());
+    assert!(rt; push(rt, &mut forest, name, long(rt, len)) == Err(fault));
+    assert!(rt; forest.is_empty());
 }
 
 #[test]
 fn refuses_primitives(rt: HostRuntime) {
-    for (name, len, fault) in [
-        (0x70, 1, BuildFault::WrongKind),
-        (0x50, 65_536, BuildFault::TooLong),
-        (0x70, 65_536, BuildFault::WrongKind),
-    ] {
-        let mut forest = Forest::new(rt.alloc());
-        assert!(rt; push(&rt, &mut forest, name, long(&rt, len)) == Err(fault));
-        assert!(rt; forest.is_empty());
-    }
+    refuses_primitive(&rt, 0x70, 1, BuildFault::WrongKind);
+    refuses_primitive(&rt, 0x50, 65_536, BuildFault::TooLong);
+    refuses_primitive(&rt, 0x70, 65_536, BuildFault::WrongKind);
 }
 
 /// An empty forest refuses a template, and stays empty.
@@ -120,78 +41,72 @@ fn refuses(rt: &(impl Abort + AllocGlobal), name: u8, children: Forest<Global>, 
 
 #[test]
 fn refuses_templates(rt: HostRuntime) {
-    for (name, children, fault) in [
-        (0x50, "", BuildFault::WrongKind),
-        (0x70, SIXTEEN_LEVELS, BuildFault::TooDeep),
-        (0x50, SIXTEEN_LEVELS, BuildFault::WrongKind),
-    ] {
-        refuses(&rt, name, read(&rt, children), fault);
-    }
+    refuses(&rt, 0x50, forest(&rt, b""), BuildFault::WrongKind);
+    refuses(&rt, 0x70, forest(&rt, SIXTEEN_LEVELS), BuildFault::TooDeep);
+    refuses(
+        &rt,
+        0x50,
+        forest(&rt, SIXTEEN_LEVELS),
+        BuildFault::WrongKind,
+    );
+}
+
+/// The longest value that a primitive takes is too long for a template with its head.
+#[test]
+fn refuses_the_longest_value_in_a_template(rt: HostRuntime) {
+    let longest = primitive(&rt, 0x50, long(&rt, 65_535));
+    refuses(&rt, 0x70, longest, BuildFault::TooLong);
+}
+
+/// The bytes spell a forest, which is written so.
+fn is_written(rt: &(impl Abort + AllocGlobal), spelled: &[u8], written: &[u8]) {
+    spells(rt, &forest(rt, spelled), written);
 }
 
 #[test]
 fn reads_what_bytes_spell(rt: HostRuntime) {
-    for (spelled, written) in [
-        ("", ""),
-        ("00", ""),
-        ("5081014100", "500141"),
-        ("6F098407A0000000031010", "6F098407A0000000031010"),
-        ("00005A0112009F020200FF0000", "5A01129F020200FF"),
-        ("5000", "5000"),
-        ("7000", "7000"),
-        ("70020000", "7000"),
-        ("50020000", "50020000"),
-        ("50820001AA", "5001AA"),
-        ("DF81010142", "DF81010142"),
+    for (spelled, written) in &[
+        (b"".as_slice(), b"".as_slice()),
+        (b"\x00", b""),
+        (b"\x50\x81\x01\x41\x00", b"\x50\x01\x41"),
+        (
+            b"\x6F\x09\x84\x07\xA0\x00\x00\x00\x03\x10\x10",
+            b"\x6F\x09\x84\x07\xA0\x00\x00\x00\x03\x10\x10",
+        ),
+        (
+            b"\x00\x00\x5A\x01\x12\x00\x9F\x02\x02\x00\xFF\x00\x00",
+            b"\x5A\x01\x12\x9F\x02\x02\x00\xFF",
+        ),
+        (b"\x50\x00", b"\x50\x00"),
+        (b"\x70\x00", b"\x70\x00"),
+        (b"\x70\x02\x00\x00", b"\x70\x00"),
+        (b"\x50\x02\x00\x00", b"\x50\x02\x00\x00"),
+        (b"\x50\x82\x00\x01\xAA", b"\x50\x01\xAA"),
+        (b"\xDF\x81\x01\x01\x42", b"\xDF\x81\x01\x01\x42"),
         (SIXTEEN_LEVELS, SIXTEEN_LEVELS),
     ] {
-        spells(&rt, &read(&rt, spelled), written);
+        is_written(&rt, spelled, written);
     }
 }
 
 #[test]
 fn gives_the_objects_by_their_places(rt: HostRuntime) {
-    let forest = read(&rt, "005A01120070040051014100");
+    let forest = forest(&rt, b"\x00\x5A\x01\x12\x00\x70\x04\x00\x51\x01\x41\x00");
     assert!(rt; forest.len() == 2 && forest.get(2).is_none());
     let first = forest.get(0).expect(&rt, "a first object");
-    assert!(rt; first.tag() == tag(&rt, 0x5A) && first.children().is_none());
+    assert!(rt; first.tag() == tag(&rt, b"\x5A") && first.children().is_none());
     assert!(rt; first.value() == Some([0x12].as_slice()));
     let second = forest.get(1).expect(&rt, "a second object");
-    assert!(rt; second.tag() == tag(&rt, 0x70) && second.value().is_none());
-    spells(&rt, second.children().expect(&rt, "children"), "510141");
+    assert!(rt; second.tag() == tag(&rt, b"\x70") && second.value().is_none());
+    spells(
+        &rt,
+        second.children().expect(&rt, "children"),
+        b"\x51\x01\x41",
+    );
 }
 
 #[test]
 fn puts_what_was_read_into_a_template(rt: HostRuntime) {
-    let forest = template(&rt, 0x70, read(&rt, "5081014100"));
-    spells(&rt, &forest, "7003500141");
-}
-
-/// The text has this first fault.
-fn has_fault(rt: &(impl Abort + AllocGlobal), text: &str, fault: TlvFault) {
-    let refusal = Tree::read(rt.alloc(), &bytes(rt, text)).err();
-    assert!(rt; refusal == Some(ReadFault::Tlv(fault)), "{text}");
-}
-
-#[test]
-fn finds_the_first_fault(rt: HostRuntime) {
-    let seventeen_levels = "7020701E701C701A70187016701470127010700E700C700A70087006700470027000";
-    for (text, place, reason) in [
-        ("500541", 0, Reason::ValueCut),
-        ("70045002AA", 0, Reason::ValueCut),
-        ("70035002AA", 2, Reason::ValueCut),
-        ("9F", 0, Reason::TagCut),
-        ("9F81", 0, Reason::TagCut),
-        ("9F0000", 0, Reason::TagForm),
-        ("9F8000", 0, Reason::TagForm),
-        ("9F818000", 0, Reason::TagForm),
-        ("50", 0, Reason::LengthCut),
-        ("508201", 0, Reason::LengthCut),
-        ("5080", 0, Reason::LengthForm),
-        ("5083000001AA", 0, Reason::LengthForm),
-        ("50014100500241", 4, Reason::ValueCut),
-        (seventeen_levels, 32, Reason::TooDeep),
-    ] {
-        has_fault(&rt, text, TlvFault { place, reason });
-    }
+    let read = forest(&rt, b"\x50\x81\x01\x41\x00");
+    spells(&rt, &template(&rt, 0x70, read), b"\x70\x03\x50\x01\x41");
 }

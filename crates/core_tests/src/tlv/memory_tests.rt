@@ -1,18 +1,17 @@
 //! Each growth of each call is refused in turn, by heaps of ever more bytes.
 
+use super::forests::{PRIMITIVE, push, push_template, read, spells};
 use linked_list_allocator::LocalHeap;
-use std::alloc::{AllocGlobal, Allocator};
+use std::alloc::AllocGlobal;
 use std::process::Abort;
-use tlv_core::{BuildFault, Forest, ReadFault, Tag, Tree};
+use tlv_core::{BuildFault, Forest, ReadFault};
 
 /// The name of an application, `84`, in a template `6F`.
 const OBJECTS: [u8; 11] = [
     0x6F, 0x09, 0x84, 0x07, 0xA0, 0x00, 0x00, 0x00, 0x03, 0x10, 0x10,
 ];
 
-/// A primitive, four and five of them. Room for the fifth comes by a growth.
-const PRIMITIVE: &[u8] = b"\x50\x01\x41";
-
+/// Four primitives and five. Room for the fifth comes by a growth.
 const FOUR: &[u8] = b"\x50\x01\x41\x50\x01\x41\x50\x01\x41\x50\x01\x41";
 
 const FIVE: &[u8] = b"\x50\x01\x41\x50\x01\x41\x50\x01\x41\x50\x01\x41\x50\x01\x41";
@@ -70,18 +69,6 @@ fn serves_after_refusals(rt: &(impl Abort + AllocGlobal), call: Call) {
     panic!(rt; "no heap was large enough");
 }
 
-/// A forest that bytes spell. Without a clause: what is proved of it is nothing that a test has to
-/// know, and costs each proof that has it at hand.
-fn read<A: Allocator + Copy>(alloc: A, bytes: &[u8]) -> Result<Forest<A>, ReadFault> {
-    Tree::read(alloc, bytes)
-}
-
-/// The forest is written as these bytes.
-fn spells<A: Allocator + Clone>(rt: &impl Abort, forest: &Forest<A>, bytes: &[u8]) {
-    let written = forest.write().expect(rt, "memory");
-    assert!(rt; written.as_slice() == bytes);
-}
-
 fn is_read(rt: &impl Abort, heap: &LocalHeap) -> bool {
     let aside = set_aside(rt, heap);
     let answer = read(heap, &OBJECTS);
@@ -108,8 +95,8 @@ fn is_written(rt: &impl Abort, heap: &LocalHeap) -> bool {
     true
 }
 
-/// Adds a primitive, or a template that holds one, in this memory. Without a clause, as `read`.
-fn push<'a>(
+/// Adds a primitive, or a template that holds one, in this memory.
+fn add<'a>(
     rt: &impl Abort,
     forest: &mut Forest<&'a LocalHeap>,
     ample: &'a LocalHeap,
@@ -117,17 +104,11 @@ fn push<'a>(
 ) -> Result<(), BuildFault> {
     if template {
         let children = read(ample, PRIMITIVE).expect(rt, "memory");
-        forest.push_template(tag(rt, 0x70), children)
+        push_template(rt, forest, 0x70, children)
     } else {
         let value = Vec::from_slice(ample, &[0x41]).expect(rt, "memory");
-        forest.push_primitive(tag(rt, 0x50), value)
+        push(rt, forest, 0x50, value)
     }
-}
-
-/// The tag of one byte.
-fn tag(rt: &impl Abort, byte: u8) -> Tag {
-    let (tag, _) = Tag::read(&[byte]).expect(rt, "a tag");
-    tag
 }
 
 fn is_pushed(
@@ -140,7 +121,7 @@ fn is_pushed(
     let ample = LocalHeap::new(rt.alloc(), AMPLE).expect(rt, "memory");
     let mut forest = read(heap, before).expect(rt, "memory");
     let aside = set_aside(rt, heap);
-    let answer = push(rt, &mut forest, &ample, template);
+    let answer = add(rt, &mut forest, &ample, template);
     drop(aside);
     assert!(rt; matches!(answer, Ok(()) | Err(BuildFault::OutOfMemory)));
     spells(rt, &forest, if answer.is_ok() { after } else { before });

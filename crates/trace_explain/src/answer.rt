@@ -1,39 +1,37 @@
 //! What is told of an answer to reset, in plain words.
 
-use crate::layout::{Head, Kind, Layout, Side};
+use crate::draft::Draft;
+use crate::layout::{Kind, Side};
 use crate::mask::Mask;
 use crate::opening::{is_direct, is_short};
+use crate::page::Page;
 use crate::preface::Preface;
-use crate::tree::{hex_lines, text_lines};
+use crate::tree::{push_hex_lines, push_lines};
 use atr_core::{Atr, AtrFault, Category, Fi, di};
-use std::alloc::{AllocError, Global};
 
 /// Adds the box of an answer: all of it, or how far it came. What is none may be data of which the
 /// front was not heard, and is then not shown where something is not.
-pub fn tell_answer(
-    alloc: Global,
-    layout: Layout,
-    mask: &Mask,
-    preface: &Preface,
-    out: &mut String,
-) -> Result<(), AllocError> {
+pub fn tell_answer(mask: &Mask, preface: &Preface, page: &mut Page) {
     let read = Atr::read(preface.answer());
-    let head = Head::new(kind_of(&read), "answer to reset", preface.line());
-    layout.open(out, head)?;
-    let mut characters = hex_lines(alloc, preface.answer())?;
+    page.open_titled(kind_of(&read), "answer to reset", preface.line());
     if read.is_err() {
-        characters = mask.or_hidden(alloc, characters)?;
+        mask.push_unknown(&mut page.lines, preface.answer());
+    } else {
+        push_hex_lines(&mut page.lines, preface.answer());
     }
-    layout.row(out, Side::Card, "characters", characters.as_str())?;
+    page.row(Side::Card, "characters");
     if !is_direct(preface.turned()) {
         let turned = "by the direct convention, which shows TS as 03; here all are turned\n";
-        layout.row(out, Side::Told, "read", turned)?;
+        page.told("read", turned);
     }
     match read {
-        Ok(answer) => tell_values(alloc, layout, &answer, out)?,
-        Err(fault) => tell_fault(alloc, layout, fault, out)?,
+        Ok(answer) => tell_values(&answer, page),
+        Err(fault) => {
+            writeln!(page.lines, "{fault}, where TS is at 0");
+            page.row(Side::Told, "fault");
+        }
     }
-    layout.close(out)
+    page.close();
 }
 
 /// Whether an answer is whole.
@@ -45,57 +43,38 @@ fn kind_of(read: &Result<Atr, AtrFault>) -> Kind {
     }
 }
 
-/// Adds what is wrong with an answer, and where.
-fn tell_fault(
-    alloc: Global,
-    layout: Layout,
-    fault: AtrFault,
-    out: &mut String,
-) -> Result<(), AllocError> {
-    let text = format!(in alloc; "{fault}, where TS is at 0\n")?;
-    layout.row(out, Side::Told, "fault", text.as_str())
-}
-
 /// Adds what a whole answer says.
-fn tell_values(
-    alloc: Global,
-    layout: Layout,
-    answer: &Atr,
-    out: &mut String,
-) -> Result<(), AllocError> {
-    let convention = format!(in alloc; "{}\n", answer.convention())?;
-    layout.row(out, Side::Told, "convention", convention.as_str())?;
-    let protocols = protocols(alloc, answer)?;
-    layout.row(out, Side::Told, "protocols", protocols.as_str())?;
-    let mut rate = String::new(alloc);
-    push_rate(&mut rate, answer.rate_code())?;
-    rate.push('\n')?;
-    layout.row(out, Side::Told, "rate", rate.as_str())?;
-    let guard_times = guard_times(alloc, answer)?;
-    layout.row(out, Side::Told, "guard time", guard_times.as_str())?;
-    tell_waiting_time(alloc, layout, answer, out)?;
-    let historical = historical(alloc, answer)?;
-    layout.row(out, Side::Told, "historical", historical.as_str())
+fn tell_values(answer: &Atr, page: &mut Page) {
+    writeln!(page.lines, "{}", answer.convention());
+    page.row(Side::Told, "convention");
+    push_protocols(&mut page.lines, answer);
+    page.row(Side::Told, "protocols");
+    push_rate(&mut page.lines, answer.rate_code());
+    page.told("rate", "\n");
+    push_guard_times(&mut page.lines, answer);
+    page.row(Side::Told, "guard time");
+    push_waiting_time(&mut page.lines, answer);
+    page.row(Side::Told, "waiting");
+    push_lines(&mut page.lines, answer.historical());
+    page.told("historical", form_of(answer));
 }
 
-/// The protocols, in the order in which they are offered.
-fn protocols(alloc: Global, answer: &Atr) -> Result<String, AllocError> {
-    let mut text = String::new(alloc);
+/// Adds the protocols, in the order in which they are offered.
+fn push_protocols(text: &mut Draft, answer: &Atr) {
     for t in &answer.protocols() {
         if !text.is_empty() {
-            text.push_str(", ")?;
+            text.push_str(", ");
         }
-        write!(text, "T={t}")?;
+        write!(text, "T={t}");
     }
-    text.push('\n')?;
-    Ok(text)
+    text.push('\n');
 }
 
 /// Adds Fi with its clock frequency, and Di, by their code in TA1 or PPS1.
-pub fn push_rate(text: &mut String, code: u8) -> Result<(), AllocError> {
+pub fn push_rate(text: &mut Draft, code: u8) {
     match Fi::of(code) {
-        Ok(fi) => write!(text, "Fi {fi}; ")?,
-        Err(rfu) => write!(text, "Fi {rfu}; ")?,
+        Ok(fi) => write!(text, "Fi {fi}; "),
+        Err(rfu) => write!(text, "Fi {rfu}; "),
     }
     match di(code) {
         Ok(di) => write!(text, "Di {di}"),
@@ -103,42 +82,32 @@ pub fn push_rate(text: &mut String, code: u8) -> Result<(), AllocError> {
     }
 }
 
-/// The guard time of each protocol.
-fn guard_times(alloc: Global, answer: &Atr) -> Result<String, AllocError> {
-    let mut text = String::new(alloc);
+/// Adds the guard time of each protocol.
+fn push_guard_times(text: &mut Draft, answer: &Atr) {
     for t in &answer.protocols() {
-        writeln!(text, "T={t}: {}", answer.guard_time(*t))?;
+        writeln!(text, "T={t}: {}", answer.guard_time(*t));
     }
-    Ok(text)
 }
 
 /// Adds the waiting time, which T=0 alone has.
-fn tell_waiting_time(
-    alloc: Global,
-    layout: Layout,
-    answer: &Atr,
-    out: &mut String,
-) -> Result<(), AllocError> {
+fn push_waiting_time(text: &mut Draft, answer: &Atr) {
     if !answer.protocols().contains(&0) {
-        return Ok(());
+        return;
     }
-    let text = match answer.waiting_time() {
-        Ok(cycles) => format!(in alloc; "T=0: {cycles} clock cycles\n")?,
-        Err(rfu) => format!(in alloc; "T=0: {rfu}\n")?,
-    };
-    layout.row(out, Side::Told, "waiting", text.as_str())
+    match answer.waiting_time() {
+        Ok(cycles) => writeln!(text, "T=0: {cycles} clock cycles"),
+        Err(rfu) => writeln!(text, "T=0: {rfu}"),
+    }
 }
 
-/// The historical bytes, and which form they have.
-fn historical(alloc: Global, answer: &Atr) -> Result<String, AllocError> {
-    let mut text = text_lines(alloc, answer.historical())?;
-    text.push_str(match answer.category() {
+/// Which form the historical bytes have.
+fn form_of(answer: &Atr) -> &'static str {
+    match answer.category() {
         Category::Absent => "none\n",
         Category::StatusBehind => "objects in COMPACT-TLV, and a status of three bytes\n",
         Category::DirReference => "a reference to EF.DIR\n",
         Category::Objects => "objects in COMPACT-TLV\n",
         Category::Reserved => "a form that is reserved\n",
         Category::Proprietary => "a form of the maker's own\n",
-    })?;
-    Ok(text)
+    }
 }

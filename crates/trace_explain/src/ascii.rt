@@ -1,7 +1,6 @@
 //! Bytes that are text.
 
-use crate::tree::push_hex;
-use std::alloc::{AllocError, Global};
+use crate::draft::Draft;
 
 /// The least bytes that are taken for text.
 const LEAST: usize = 3;
@@ -18,11 +17,11 @@ pub fn is_text(bytes: &[u8]) -> bool {
 }
 
 /// Adds bytes of text as digits, and the text in quotes beside them.
-pub fn push_text(alloc: Global, text: &mut String, bytes: &[u8]) -> Result<(), AllocError> {
-    push_hex(alloc, text, bytes)?;
-    text.push_str(" \"")?;
+pub fn push_text(text: &mut Draft, bytes: &[u8]) {
+    text.push_hex(bytes);
+    text.push_str(" \"");
     for &byte in bytes {
-        text.push(char::from(byte))?;
+        text.push(char::from(byte));
     }
-    text.push('"')
+    text.push('"');
 }

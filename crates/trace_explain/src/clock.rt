@@ -1,5 +1,6 @@
 //! When the TPDUs of a trace began, by the times before the signs of its lines.
 
+use crate::draft::Draft;
 use std::alloc::{AllocError, Global};
 use std::mem;
 
@@ -10,7 +11,7 @@ const SECOND: u64 = 1_000_000_000;
 const DAY: u64 = 86_400_000_000_000;
 
 /// What a time is counted from.
-#[derive(Clone, Copy, Debug, PartialEq, Eq)]
+#[derive(Clone, Copy, PartialEq, Eq)]
 enum Measure {
     /// Midnight, as `12:34:56.789`.
     Day,
@@ -23,7 +24,7 @@ enum Measure {
 }
 
 /// A time, in nanoseconds; a shift counts from the first one.
-#[derive(Clone, Copy, Debug, PartialEq, Eq)]
+#[derive(Clone, Copy)]
 struct Moment {
     measure: Measure,
     nanos: u64,
@@ -104,30 +105,30 @@ impl Clock {
 
     /// Adds when the TPDU under way began, and how long after the one before it: nothing, where its
     /// line has no time.
-    pub fn push_begin(&self, text: &mut String) -> Result<(), AllocError> {
+    pub fn push_begin(&self, text: &mut Draft) {
         if self.shown.is_empty() {
-            return Ok(());
+            return;
         }
         for &byte in self.shown.as_slice() {
-            text.push(char::from(byte))?;
+            text.push(char::from(byte));
         }
         if let Some(nanos) = self.since {
-            push_span(text, nanos)?;
+            push_span(text, nanos);
         }
-        text.push('\n')
+        text.push('\n');
     }
 
     /// Adds how long it is from the first line of characters with a time to the last: nothing,
     /// where none has one.
-    pub fn push_whole(&self, text: &mut String) -> Result<(), AllocError> {
+    pub fn push_whole(&self, text: &mut Draft) {
         if self.heard.is_none() {
-            return Ok(());
+            return;
         }
         match self.whole {
-            Some(nanos) => push_duration(text, nanos)?,
-            None => text.push_str("not known, as times go back or are of two kinds")?,
+            Some(nanos) => push_duration(text, nanos),
+            None => text.push_str("not known, as times go back or are of two kinds"),
         }
-        text.push('\n')
+        text.push('\n');
     }
 }
 
@@ -230,20 +231,20 @@ fn sum(one: Option<u64>, other: Option<u64>) -> Option<u64> {
 }
 
 /// Adds how long after another one a TPDU began.
-fn push_span(text: &mut String, nanos: u64) -> Result<(), AllocError> {
-    text.push_str(", ")?;
-    push_duration(text, nanos)?;
-    text.push_str(" later")
+fn push_span(text: &mut Draft, nanos: u64) {
+    text.push_str(", ");
+    push_duration(text, nanos);
+    text.push_str(" later");
 }
 
 /// Adds how long something took.
-fn push_duration(text: &mut String, nanos: u64) -> Result<(), AllocError> {
+fn push_duration(text: &mut Draft, nanos: u64) {
     let micros = nanos / 1_000;
     if nanos < SECOND {
         let (whole, rest) = (micros / 1_000, micros % 1_000);
-        write!(text, "{whole}.{rest:03} ms")
+        write!(text, "{whole}.{rest:03} ms");
     } else {
         let (whole, rest) = (micros / 1_000_000, micros % 1_000_000);
-        write!(text, "{whole}.{rest:06} s")
+        write!(text, "{whole}.{rest:06} s");
     }
 }

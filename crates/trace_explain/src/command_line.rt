@@ -12,7 +12,7 @@ use std::alloc::{AllocError, Global};
 use t0_core::Direction;
 
 /// What the words ask for.
-#[derive(Debug, Drop)]
+#[derive(Drop)]
 pub struct Request<'a> {
     /// How the explanation is laid out.
     pub layout: Layout,
@@ -30,35 +30,53 @@ pub struct Request<'a> {
 /// a call for help, a mistake in the words, or want of memory.
 pub fn parsed<'a>(alloc: Global, words: &'a [String]) -> Result<Request<'a>, Error> {
     let matches = command(alloc)?.try_get_matches_from(words)?;
-    let medium = if matches.get_flag("html") {
-        Medium::Html
-    } else {
-        Medium::Text
-    };
-    let mask = match matches.get_str("mask") {
-        None => Mask::none(alloc),
-        Some(tags) => masked(alloc, tags)?,
-    };
-    let unsigned = unsigned(alloc, &matches)?;
-    let compared = match matches.get_strs("diff") {
-        Some([a, b]) => Some((*a, *b)),
-        _ => None,
-    };
+    let reading = reading(alloc, &matches)?;
+    let mask = mask(alloc, &matches)?;
     Ok(Request {
         mask,
-        compared,
-        layout: Layout {
-            medium,
-            is_summary: matches.get_flag("summary"),
-        },
+        reading,
+        layout: layout(&matches),
         resumes: matches.get_flag("resume"),
-        reading: Reading {
-            form: matches.get_str("form").and_then(Form::of_name),
-            swaps: matches.get_flag("swap"),
-            unsigned,
-            of_tpdus: matches.get_flag("tpdu"),
-        },
+        compared: compared(&matches),
     })
+}
+
+/// How the explanation is laid out.
+fn layout(matches: &ArgMatches<'_>) -> Layout {
+    Layout {
+        medium: if matches.get_flag("html") {
+            Medium::Html
+        } else {
+            Medium::Text
+        },
+        is_summary: matches.get_flag("summary"),
+    }
+}
+
+/// The files of two traces that are compared, if any are.
+fn compared<'a>(matches: &ArgMatches<'a>) -> Option<(&'a str, &'a str)> {
+    match matches.get_strs("diff") {
+        Some([a, b]) => Some((*a, *b)),
+        _ => None,
+    }
+}
+
+/// How the lines of the trace are read; the error says what is wrong with the ways of instructions.
+fn reading(alloc: Global, matches: &ArgMatches<'_>) -> Result<Reading, Error> {
+    Ok(Reading {
+        form: matches.get_str("form").and_then(Form::of_name),
+        swaps: matches.get_flag("swap"),
+        unsigned: unsigned(alloc, matches)?,
+        of_tpdus: matches.get_flag("tpdu"),
+    })
+}
+
+/// What is not shown; the error says what is wrong with the tags.
+fn mask(alloc: Global, matches: &ArgMatches<'_>) -> Result<Mask, Error> {
+    match matches.get_str("mask") {
+        None => Ok(Mask::none(alloc)),
+        Some(tags) => masked(alloc, tags),
+    }
 }
 
 /// What is not shown where these tags are given; the error says what is wrong with them.
@@ -100,26 +118,13 @@ fn unsigned(alloc: Global, matches: &ArgMatches<'_>) -> Result<Option<Ways>, Err
 
 /// The program with its options.
 fn command<'a>(alloc: Global) -> Result<Command<'a>, AllocError> {
-    let diff = Arg::new(alloc, "diff")
-        .long("diff")
-        .value_names(["A", "B"].as_slice())
-        .num_args(2..=2)
-        .help(help::DIFF)
-        .conflicts_with("html")?
-        .conflicts_with("summary")?;
-    let mask = Arg::new(alloc, "mask")
-        .long("mask")
-        .value_name("TAGS")
-        .num_args(0..=1)
-        .default_missing_value("")
-        .help(help::MASK);
     Command::new(alloc, "trace_explain")
         .version(help::VERSION)
         .about(help::PROGRAM)
         .after_help(help::TRACE)
-        .arg(diff)?
+        .arg(diff_flag(alloc)?)?
         .arg(flag(alloc, "html", help::HTML))?
-        .arg(mask)?
+        .arg(mask_flag(alloc))?
         .arg(flag(alloc, "resume", help::RESUME))?
         .arg(form(alloc))?
         .arg(flag(alloc, "swap", help::SWAP))?
@@ -128,6 +133,27 @@ fn command<'a>(alloc: Global) -> Result<Command<'a>, AllocError> {
         .arg(way(alloc, "from-card", help::FROM_CARD)?)?
         .arg(flag(alloc, "summary", help::SUMMARY))?
         .arg(tpdu(alloc)?)
+}
+
+/// The option that takes two files to compare.
+fn diff_flag<'a>(alloc: Global) -> Result<Arg<'a>, AllocError> {
+    Arg::new(alloc, "diff")
+        .long("diff")
+        .value_names(["A", "B"].as_slice())
+        .num_args(2..=2)
+        .help(help::DIFF)
+        .conflicts_with("html")?
+        .conflicts_with("summary")
+}
+
+/// The option that says what is not shown.
+fn mask_flag<'a>(alloc: Global) -> Arg<'a> {
+    Arg::new(alloc, "mask")
+        .long("mask")
+        .value_name("TAGS")
+        .num_args(0..=1)
+        .default_missing_value("")
+        .help(help::MASK)
 }
 
 /// The option that says the form of the lines.

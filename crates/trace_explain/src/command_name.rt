@@ -1,17 +1,16 @@
 //! Commands by their names, with what their P1-P2 say.
 
+use crate::draft::Draft;
 use crate::instructions::{instruction, is_interindustry};
 use crate::parts;
-use crate::tree::push_hex;
 use apdu_core::Header;
-use std::alloc::{AllocError, Global};
 use tlv_core::ObjectTag;
 
 /// The class of a SIM card, whose files and records are named as those of ISO/IEC 7816-4.
 const SIM: u8 = 0xA0;
 
 /// What P1 and P2 of a command say (ISO/IEC 7816-4, 7).
-#[derive(Debug, Drop)]
+#[derive(Drop)]
 enum Parts {
     /// What is selected, and which of several.
     Selected,
@@ -65,41 +64,31 @@ impl Parts {
 
 /// Adds the name of a command with this header and these data of the terminal, with its parts, and
 /// its class where that says more.
-pub fn push_command(
-    alloc: Global,
-    text: &mut String,
-    header: Header,
-    sent: &[u8],
-) -> Result<(), AllocError> {
+pub fn push_command(text: &mut Draft, header: Header, sent: &[u8]) {
     match instruction(header) {
         Some(name) => {
-            text.push_str(name)?;
-            push_parts(alloc, text, header, sent)?;
+            text.push_str(name);
+            push_parts(text, header, sent);
         }
         None => {
             let ins = header.ins;
-            write!(text, "INS {ins:02X}")?;
-            parts::push_parameters(text, header)?;
+            write!(text, "INS {ins:02X}");
+            parts::push_parameters(text, header);
         }
     }
     match header.cla {
-        0x00 | 0x10 => Ok(()),
+        0x00 | 0x10 => {}
         cla => write!(text, ", class {cla:02X}"),
     }
 }
 
 /// Adds what P1 and P2 say.
-fn push_parts(
-    alloc: Global,
-    text: &mut String,
-    header: Header,
-    sent: &[u8],
-) -> Result<(), AllocError> {
+fn push_parts(text: &mut Draft, header: Header, sent: &[u8]) {
     match Parts::of(header) {
-        Parts::Selected => parts::push_selected(alloc, text, header, sent),
+        Parts::Selected => parts::push_selected(text, header, sent),
         Parts::Object(tag) => {
-            text.push_str(" of ")?;
-            push_hex(alloc, text, tag.tag().bytes())
+            text.push_str(" of ");
+            text.push_hex(tag.tag().bytes());
         }
         Parts::Place => parts::push_place(text, header),
         Parts::Records => parts::push_records(text, header),

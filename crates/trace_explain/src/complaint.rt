@@ -9,7 +9,7 @@ pub const ASTRAY: &str = "the trace may begin within a TPDU";
 
 /// A character with which no dialogue that a tap reads goes on: where it stands, what was due, and
 /// what came.
-#[derive(Clone, Copy, Debug, PartialEq, Eq)]
+#[derive(Clone, Copy, Debug)]
 pub struct Complaint {
     /// The line, counted from 1.
     pub line: u64,
@@ -32,7 +32,7 @@ impl fmt::Display for Complaint {
 }
 
 /// A complaint of which is told all but the character that came.
-#[derive(Clone, Copy, Debug, PartialEq, Eq)]
+#[derive(Clone, Copy)]
 pub struct Masked(pub Complaint);
 
 impl fmt::Display for Masked {
@@ -47,22 +47,40 @@ impl Complaint {
         let line = self.line;
         let character = self.place.saturating_add(1);
         let due = due_text(self.due);
+        let came = Came {
+            byte: self.byte,
+            hides,
+        };
+        let from = end_text(self.from);
+        let (or, astray) = if self.is_astray {
+            ("; ", ASTRAY)
+        } else {
+            ("", "")
+        };
         write!(
             f,
-            "line {line}, character {character}: no dialogue that it reads: {due} was due, and "
-        )?;
-        if hides {
-            f.write_str(HIDDEN)?;
-        } else {
-            write!(f, "{:02X}", self.byte)?;
+            "line {line}, character {character}: no dialogue that it reads: {due} was due, and \
+             {came} of the {from} came{or}{astray}"
+        )
+    }
+}
+
+/// The character that came, as far as it is shown.
+#[derive(Clone, Copy)]
+pub struct Came {
+    /// The character.
+    pub byte: u8,
+    /// Whether it is not shown.
+    pub hides: bool,
+}
+
+impl fmt::Display for Came {
+    fn fmt<W: fmt::Write>(&self, f: &mut fmt::Formatter<W>) -> fmt::Result {
+        if self.hides {
+            return f.write_str(HIDDEN);
         }
-        let from = end_text(self.from);
-        write!(f, " of the {from} came")?;
-        if self.is_astray {
-            f.write_str("; ")?;
-            f.write_str(ASTRAY)?;
-        }
-        Ok(())
+        let byte = self.byte;
+        write!(f, "{byte:02X}")
     }
 }
 

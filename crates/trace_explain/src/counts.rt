@@ -1,8 +1,10 @@
 //! What is counted over a whole trace, and told in its last block.
 
 use crate::clock::Clock;
+use crate::draft::Draft;
 use crate::instructions::instruction;
-use crate::layout::{Layout, Side};
+use crate::layout::Side;
+use crate::page::Page;
 use crate::story::{header_of, status_of};
 use crate::tpdu::Tpdu;
 use std::alloc::{AllocError, Global};
@@ -92,70 +94,57 @@ impl Counts {
     }
 
     /// Adds the last block, with how long it all took by this clock.
-    pub fn tell(
-        &self,
-        alloc: Global,
-        layout: Layout,
-        clock: &Clock,
-        out: &mut String,
-    ) -> Result<(), AllocError> {
-        let layout = layout.of_block();
-        layout.open_block(out, "summary")?;
-        let tpdus = self.tpdu_text(alloc)?;
-        layout.row(out, Side::Told, "TPDUs", tpdus.as_str())?;
-        let commands = self.command_lines(alloc)?;
-        layout.row(out, Side::Told, "commands", commands.as_str())?;
-        let statuses = self.status_lines(alloc)?;
-        layout.row(out, Side::Told, "statuses", statuses.as_str())?;
-        let complaints = format!(in alloc; "{}\n", self.complaints)?;
-        layout.row(out, Side::Told, "complaints", complaints.as_str())?;
-        let mut time = String::new(alloc);
-        clock.push_whole(&mut time)?;
-        layout.row(out, Side::Told, "time", time.as_str())?;
-        layout.complaint_links(out, self.complaint_lines.as_slice(), self.complaints)?;
-        layout.status_links(out, self.first_unwell.as_slice(), self.unwell)?;
-        layout.close_block(out)
+    pub fn tell(&self, clock: &Clock, page: &mut Page) {
+        page.open_block("summary");
+        self.push_tpdus(&mut page.lines);
+        page.row(Side::Told, "TPDUs");
+        self.push_commands(&mut page.lines);
+        page.row(Side::Told, "commands");
+        self.push_statuses(&mut page.lines);
+        page.row(Side::Told, "statuses");
+        writeln!(page.lines, "{}", self.complaints);
+        page.row(Side::Told, "complaints");
+        clock.push_whole(&mut page.lines);
+        page.row(Side::Told, "time");
+        page.complaint_links(self.complaint_lines.as_slice(), self.complaints);
+        page.status_links(self.first_unwell.as_slice(), self.unwell);
+        page.close_block();
     }
 
-    /// How many TPDUs came, and how many of them were cut off, if any was.
-    fn tpdu_text(&self, alloc: Global) -> Result<String, AllocError> {
-        let mut text = format!(in alloc; "{}", self.tpdus)?;
+    /// Adds how many TPDUs came, and how many of them were cut off, if any was.
+    fn push_tpdus(&self, text: &mut Draft) {
+        write!(text, "{}", self.tpdus);
         if self.cut_off > 0 {
-            write!(text, " (cut off: {})", self.cut_off)?;
+            write!(text, " (cut off: {})", self.cut_off);
         }
-        text.push('\n')?;
-        Ok(text)
+        text.push('\n');
     }
 
-    /// A line for each command: those with a name, by their names; the others, by INS; and headers
-    /// that did not come whole.
-    fn command_lines(&self, alloc: Global) -> Result<String, AllocError> {
-        let mut text = String::new(alloc);
+    /// Adds a line for each command: those with a name, by their names; the others, by INS; and
+    /// headers that did not come whole.
+    fn push_commands(&self, text: &mut Draft) {
         for (name, count) in &self.named {
-            writeln!(text, "{name}: {count}")?;
+            writeln!(text, "{name}: {count}");
         }
         for (ins, count) in &self.unnamed {
-            writeln!(text, "INS {ins:02X}: {count}")?;
+            writeln!(text, "INS {ins:02X}: {count}");
         }
         if self.parts > 0 {
-            writeln!(text, "part of a header: {}", self.parts)?;
+            writeln!(text, "part of a header: {}", self.parts);
         }
         if text.is_empty() {
-            text.push_str("none\n")?;
+            text.push_str("none\n");
         }
-        Ok(text)
     }
 
-    /// A line for each status other than `9000`, in the order of the words.
-    fn status_lines(&self, alloc: Global) -> Result<String, AllocError> {
-        let mut text = String::new(alloc);
+    /// Adds a line for each status other than `9000`, in the order of the words.
+    fn push_statuses(&self, text: &mut Draft) {
         for (word, count) in &self.statuses {
-            writeln!(text, "{word:04X}: {count}")?;
+            writeln!(text, "{word:04X}: {count}");
         }
         if text.is_empty() {
-            text.push_str("none other than 9000\n")?;
+            text.push_str("none other than 9000\n");
         }
-        Ok(text)
     }
 }
 

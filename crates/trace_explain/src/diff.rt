@@ -1,11 +1,13 @@
 //! Two traces compared, TPDU by TPDU.
 
 use crate::diff_fault::{DiffFault, Which};
+use crate::draft::Draft;
 use crate::explain::{CHUNK, TRACE_LIMIT, explain_chunk, explain_last};
 use crate::explain_fault::ExplainFault;
 use crate::explainer::Explainer;
 use crate::layout::{Layout, Medium};
 use crate::mask::Mask;
+use crate::page::Page;
 use crate::reading::Reading;
 use crate::tpdu::Tpdu;
 use std::alloc::{AllocError, Global};
@@ -19,7 +21,7 @@ const LAYOUT: Layout = Layout {
 };
 
 /// A TPDU, and the box that tells of it.
-#[derive(Debug, Drop)]
+#[derive(Drop)]
 pub struct Kept {
     /// The TPDU.
     pub tpdu: Tpdu,
@@ -36,7 +38,7 @@ struct Trace<'r, R: Read> {
     size: usize,
     line: Vec<u8>,
     /// What else is told, which nobody asks for here.
-    text: String,
+    page: Page,
     /// How many of the TPDUs that are kept were compared.
     passed: usize,
     is_over: bool,
@@ -58,9 +60,20 @@ pub fn diff<R: Read, S: Read, W: Write>(
     let other = mask.copied(alloc)?;
     let mut a = Trace::new(alloc, Which::A, other, resumes, reading, reader_a);
     let mut b = Trace::new(alloc, Which::B, mask, resumes, reading, reader_b);
-    let mut text = String::new(alloc);
-    let alike = compare(&mut a, &mut b, &mut text)?;
-    match writer.write_all(text.as_bytes()) {
+    let mut text = Draft::new(alloc);
+    let outcome = compare(&mut a, &mut b, &mut text);
+    written(outcome, &mut text, writer)
+}
+
+/// Writes what a comparison with this outcome has told, if it came to an end.
+fn written<W: Write>(
+    outcome: Result<bool, DiffFault>,
+    text: &mut Draft,
+    writer: &mut W,
+) -> Result<bool, DiffFault> {
+    let alike = outcome?;
+    text.outcome()?;
+    match writer.write_all(text.as_str().as_bytes()) {
         Ok(()) => Ok(alike),
         Err(error) if error.kind() == io::ErrorKind::BrokenPipe => Ok(alike),
         Err(_) => Err(DiffFault::Write),
@@ -71,20 +84,26 @@ pub fn diff<R: Read, S: Read, W: Write>(
 fn compare<R: Read, S: Read>(
     a: &mut Trace<'_, R>,
     b: &mut Trace<'_, S>,
-    out: &mut String,
+    out: &mut Draft,
 ) -> Result<bool, DiffFault> {
     for number in 1..u64::MAX {
         let before = number - 1;
         match (a.front()?, b.front()?) {
             (None, None) => {
                 let unit = if before == 1 { "TPDU" } else { "TPDUs" };
-                writeln!(out, "alike: {before} {unit}")?;
+                writeln!(out, "alike: {before} {unit}");
                 return Ok(true);
             }
-            (Some(kept), None) => return only(out, Which::B, before, kept),
-            (None, Some(kept)) => return only(out, Which::A, before, kept),
+            (Some(kept), None) => {
+                push_only(out, Which::B, before, kept);
+                return Ok(false);
+            }
+            (None, Some(kept)) => {
+                push_only(out, Which::A, before, kept);
+                return Ok(false);
+            }
             (Some(one), Some(other)) => {
-                if differ(out, number, one, other)? {
+                if differ(out, number, one, other) {
                     return Ok(false);
                 }
             }
@@ -96,19 +115,18 @@ fn compare<R: Read, S: Read>(
 }
 
 /// Tells that this trace has no more TPDUs, and which is the next of the other.
-fn only(out: &mut String, which: Which, before: u64, next: &Kept) -> Result<bool, DiffFault> {
+fn push_only(out: &mut Draft, which: Which, before: u64, next: &Kept) {
     let unit = if before == 1 { "TPDU" } else { "TPDUs" };
     let other = which.other();
     writeln!(
         out,
         "{which} ends after {before} {unit}, and {other} goes on:"
-    )?;
-    out.push_str(next.text.as_str())?;
-    Ok(false)
+    );
+    out.push_str(next.text.as_str());
 }
 
 /// Whether two TPDUs differ; then it tells of them, and in what.
-fn differ(out: &mut String, number: u64, a: &Kept, b: &Kept) -> Result<bool, AllocError> {
+fn differ(out: &mut Draft, number: u64, a: &Kept, b: &Kept) -> bool {
     let parts = [
         ("header", a.tpdu.header == b.tpdu.header),
         (
@@ -124,21 +142,21 @@ fn differ(out: &mut String, number: u64, a: &Kept, b: &Kept) -> Result<bool, All
     for (name, is_same) in parts {
         if !is_same {
             if is_first {
-                write!(out, "TPDU {number} differs: {name}")?;
+                write!(out, "TPDU {number} differs: {name}");
             } else {
-                write!(out, ", {name}")?;
+                write!(out, ", {name}");
             }
             is_first = false;
         }
     }
     if is_first {
-        return Ok(false);
+        return false;
     }
-    out.push_str("\nA:\n")?;
-    out.push_str(a.text.as_str())?;
-    out.push_str("B:\n")?;
-    out.push_str(b.text.as_str())?;
-    Ok(true)
+    out.push_str("\nA:\n");
+    out.push_str(a.text.as_str());
+    out.push_str("B:\n");
+    out.push_str(b.text.as_str());
+    true
 }
 
 impl<'r, R: Read> Trace<'r, R> {
@@ -151,7 +169,7 @@ impl<'r, R: Read> Trace<'r, R> {
         reading: Reading,
         reader: &'r mut R,
     ) -> Trace<'r, R> {
-        let mut explainer = Explainer::new(alloc, LAYOUT, mask, resumes, reading);
+        let mut explainer = Explainer::new(alloc, mask, resumes, reading);
         explainer.keep();
         Trace {
             which,
@@ -159,7 +177,7 @@ impl<'r, R: Read> Trace<'r, R> {
             explainer,
             size: 0,
             line: Vec::new(alloc),
-            text: String::new(alloc),
+            page: Page::new(alloc, LAYOUT),
             passed: 0,
             is_over: false,
             fault: None,
@@ -175,7 +193,7 @@ impl<'r, R: Read> Trace<'r, R> {
             }
             self.explainer.forget_kept();
             self.passed = 0;
-            self.text.clear();
+            self.page.clear();
             self.read()?;
         }
         if self.passed >= self.explainer.kept().len()
@@ -199,7 +217,7 @@ impl<'r, R: Read> Trace<'r, R> {
             Err(fault) => self.fault = Some(fault),
         }
         self.is_over = true;
-        self.explainer.end(&mut self.text)
+        self.explainer.end(&mut self.page)
     }
 
     /// Explains what ends in a chunk more; it answers whether there was one.
@@ -207,7 +225,7 @@ impl<'r, R: Read> Trace<'r, R> {
         let mut chunk = [0; CHUNK];
         match self.reader.read(&mut chunk) {
             Ok(0) => {
-                explain_last(&mut self.explainer, self.line.as_slice(), &mut self.text)?;
+                explain_last(&mut self.explainer, self.line.as_slice(), &mut self.page)?;
                 self.explainer.outcome()?;
                 Ok(false)
             }
@@ -217,7 +235,7 @@ impl<'r, R: Read> Trace<'r, R> {
                     return Err(ExplainFault::InputTooLong);
                 }
                 let bytes = &chunk[..count];
-                explain_chunk(&mut self.explainer, bytes, &mut self.line, &mut self.text)?;
+                explain_chunk(&mut self.explainer, bytes, &mut self.line, &mut self.page)?;
                 Ok(true)
             }
             Err(_) => Err(ExplainFault::Read),

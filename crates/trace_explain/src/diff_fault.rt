@@ -6,7 +6,7 @@ use std::fmt;
 use thiserror::Error;
 
 /// One of the two traces.
-#[derive(Clone, Copy, Debug, PartialEq, Eq)]
+#[derive(Clone, Copy, Debug)]
 pub enum Which {
     A,
     B,
@@ -55,7 +55,7 @@ impl From<AllocError> for DiffFault {
 }
 
 /// A fault of which is told all but characters of a trace.
-#[derive(Debug, Drop)]
+#[derive(Drop)]
 pub struct MaskedDiffFault<'a>(pub &'a DiffFault);
 
 impl fmt::Display for MaskedDiffFault<'_> {

@@ -10,7 +10,7 @@ use std::fmt;
 use t0_core::Direction;
 
 /// Why a command and its answer are not told as a TPDU.
-#[derive(Clone, Copy, Debug, PartialEq, Eq)]
+#[derive(Clone, Copy, Debug)]
 pub enum BadExchange {
     /// The command has fewer bytes than CLA INS P1 P2.
     Short,

@@ -11,6 +11,7 @@ use crate::explain_fault::ExplainFault;
 use crate::explainer::Explainer;
 use crate::layout::Layout;
 use crate::mask::Mask;
+use crate::page::Page;
 use crate::reading::Reading;
 use std::alloc::{AllocError, Global};
 use std::io::{Read, Write};
@@ -40,12 +41,12 @@ pub fn explain<R: Read, W: Write>(
         IfSome (R.remaining reader.old) (λ bytes. StopsIn reading (lines_of bytes) fault)) }
     ensures limited { IfSome (R.remaining reader.old) (λ bytes. KeepsLimit bytes result) }
 {
-    let mut explainer = Explainer::new(alloc, layout, mask, resumes, reading);
-    let mut text = String::new(alloc);
-    explainer.begin(&mut text)?;
-    let outcome = explain_chunks(alloc, &mut explainer, reader, writer, &mut text);
-    explainer.end(&mut text)?;
-    write_text(&mut text, writer)?;
+    let mut explainer = Explainer::new(alloc, mask, resumes, reading);
+    let mut page = Page::new(alloc, layout);
+    page.begin();
+    let outcome = explain_chunks(alloc, &mut explainer, reader, writer, &mut page);
+    explainer.end(&mut page)?;
+    write_page(&mut page, writer)?;
     outcome?;
     explainer.outcome()
 }
@@ -56,7 +57,7 @@ fn explain_chunks<R: Read, W: Write>(
     explainer: &mut Explainer,
     reader: &mut R,
     writer: &mut W,
-    text: &mut String,
+    page: &mut Page,
 ) -> Result<(), ExplainFault>
     ensures explained { (reading : Reading) → HasExplained [] [] explainer.old →
         standing_of explainer.old ≡ first_of_all reading → explainer.old.line ≡ 0 →
@@ -73,11 +74,11 @@ fn explain_chunks<R: Read, W: Write>(
     let mut size: usize = 0;
     'reading: while size <= TRACE_LIMIT {
         match reader.read(&mut chunk) {
-            Ok(0) => return explain_last(explainer, line.as_slice(), text),
+            Ok(0) => return explain_last(explainer, line.as_slice(), page),
             Ok(count) => {
                 size += count;
-                explain_chunk(explainer, &chunk[..count], &mut line, text)?;
-                write_text(text, writer)?;
+                explain_chunk(explainer, &chunk[..count], &mut line, page)?;
+                write_page(page, writer)?;
             }
             Err(_) => return Err(ExplainFault::Read),
         }
@@ -90,7 +91,7 @@ pub fn explain_chunk(
     explainer: &mut Explainer,
     chunk: &[u8],
     line: &mut Vec<u8>,
-    text: &mut String,
+    page: &mut Page,
 ) -> Result<(), ExplainFault>
     ensures explained { (reading : Reading) (all : List (List ℕ)) (left : List ℕ) →
         HasCome reading all line.old.items (chunk.now ++ left) explainer.old →
@@ -102,7 +103,7 @@ pub fn explain_chunk(
 {
     for &byte in chunk {
         if byte == b'\n' {
-            explainer.line(without_return(line.as_slice()), text)?;
+            explainer.line(without_return(line.as_slice()), page)?;
             line.clear();
         } else if line.len() < LINE_LIMIT {
             push(line, byte)?;
@@ -126,7 +127,7 @@ fn push(line: &mut Vec<u8>, byte: u8) -> Result<(), AllocError>
 pub fn explain_last(
     explainer: &mut Explainer,
     line: &[u8],
-    text: &mut String,
+    page: &mut Page,
 ) -> Result<(), ExplainFault>
     ensures explained { (reading : Reading) (all : List (List ℕ)) →
         HasCome reading all line.now [] explainer.old →
@@ -138,7 +139,7 @@ pub fn explain_last(
     if line.is_empty() {
         return Ok(());
     }
-    explainer.line(line, text)
+    explainer.line(line, page)
 }
 
 /// The line without the CR at its end, if it has one.
@@ -151,12 +152,12 @@ fn without_return(line: &[u8]) -> &[u8]
     }
 }
 
-/// Writes the text, and empties it.
-fn write_text<W: Write>(text: &mut String, writer: &mut W) -> Result<(), ExplainFault>
+/// Writes what is told, and empties the page.
+fn write_page<W: Write>(page: &mut Page, writer: &mut W) -> Result<(), ExplainFault>
     ensures { IfErr result IsOfWriting }
 {
-    let outcome = writer.write_all(text.as_bytes());
-    text.clear();
+    let outcome = writer.write_all(page.as_str().as_bytes());
+    page.clear();
     match outcome {
         Ok(()) => Ok(()),
         Err(error) => Err(ExplainFault::of_writing(&error)),

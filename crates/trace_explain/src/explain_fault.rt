@@ -90,7 +90,7 @@ pub enum ExplainFault {
 }
 
 /// A fault of which is told all but characters of the trace.
-#[derive(Debug, Drop)]
+#[derive(Drop)]
 pub struct MaskedFault<'a>(pub &'a ExplainFault);
 
 impl fmt::Display for MaskedFault<'_> {

@@ -14,48 +14,41 @@ ghost use Rattle.trace_explain.specs.Openings.{begins_answer, opened, opening_of
 ghost use Rattle.trace_explain.specs.Told.{Told};
 ghost use Rattle.trace_explain.specs.Turns.{turn_at};
 
-use crate::answer::tell_answer;
 use crate::clock::Clock;
-use crate::complaint::{ASTRAY, Complaint, due_text, end_text};
+use crate::complaint::Complaint;
+use crate::complaint_box::{tell_bad_exchange, tell_complaint};
 use crate::counts::Counts;
 use crate::diff::Kept;
 use crate::exchange::{BadExchange, commanded, exchanged};
 use crate::explain_fault::ExplainFault;
-use crate::layout::{Anchor, Head, Kind, Layout, Side};
-use crate::links::{Link, Links, Whole};
+use crate::layout::{Anchor, Head, Side};
+use crate::links::Links;
 use crate::listener::Listener;
 use crate::log::{Log, Logged};
 use crate::log_line::time_of;
-use crate::mask::{HIDDEN, Mask, Origin};
-use crate::meaning::{push_meaning, waiting};
-use crate::opening::{Role, Stage, begins_answer};
-use crate::phrases;
-use crate::pps::tell_exchange;
+use crate::mask::Mask;
+use crate::notes::{Passed, tell_bytes, tell_note, tell_passed};
+use crate::opening::begins_answer;
+use crate::page::Page;
 use crate::preface::Preface;
+use crate::preface_box::{tell_after, tell_before, tell_part};
 use crate::reading::Reading;
 use crate::refusal::Refusal;
-use crate::story::{Story, header_of, status_of};
+use crate::story::Story;
 use crate::time::{cut_clock, cut_time};
 use crate::tpdu::Tpdu;
+use crate::tpdu_box::{kind_of, push_title, tell_rows};
 use crate::trace_line::{BadLine, TraceLine, read_line};
-use crate::tree::{hex_lines, push_hex};
 use crate::turn::{NoTurn, turn_before, turn_within};
 use crate::unsigned_line::{UnsignedLine, read_unsigned};
 use crate::ways::Ways;
 use std::alloc::{AllocError, Global};
-use t0_core::{Direction, End};
-
-/// How many bytes of a note stand in a line.
-const NOTE_BYTES: usize = 96;
-
-/// The same where some are told by their numbers, in four columns each.
-const ODD_BYTES: usize = 24;
+use t0_core::End;
 
 /// Explains the lines of a trace, one after another.
 #[derive(Drop)]
 pub struct Explainer {
     alloc: Global,
-    layout: Layout,
     mask: Mask,
     resumes: bool,
     reading: Reading,
@@ -78,27 +71,10 @@ pub struct Explainer {
     kept: Vec<Kept>,
 }
 
-/// What is passed over after a character with which no dialogue goes on.
-#[derive(Clone, Copy, Debug, PartialEq, Eq)]
-struct Passed {
-    /// The line of that character, counted from 1.
-    line: u64,
-    /// Its place in the line, counted from 0.
-    place: usize,
-    /// The last line of which characters are passed over.
-    last: u64,
-}
-
 impl Explainer {
     /// No line has come, and lines are read so. Where it resumes, it goes on after a character with
     /// which no dialogue does.
-    pub fn new(
-        alloc: Global,
-        layout: Layout,
-        mask: Mask,
-        resumes: bool,
-        reading: Reading,
-    ) -> Explainer
+    pub fn new(alloc: Global, mask: Mask, resumes: bool, reading: Reading) -> Explainer
         ensures explained { resumes ≡ false → reading.of_tpdus ≡ false →
             HasExplained [] [] result }
         ensures standing { standing_of result ≡ first_of_all reading }
@@ -106,7 +82,6 @@ impl Explainer {
     {
         Explainer {
             alloc,
-            layout,
             mask,
             resumes,
             reading,
@@ -151,11 +126,6 @@ impl Explainer {
         self.kept.clear();
     }
 
-    /// Adds what comes before the first line.
-    pub fn begin(&self, out: &mut String) -> Result<(), AllocError> {
-        self.layout.begin(out)
-    }
-
     /// Explains the next line.
     ///
     /// `BadHex` is a line of characters that are not of their form, or of a log that can't be read,
@@ -164,7 +134,7 @@ impl Explainer {
     /// and `NoTurn` a character of which it can't be known which end sends it. `NoDialogue` is a
     /// character with which no dialogue goes on, where it does not resume. `OutOfMemory` may come
     /// after a part of the line.
-    pub fn line(&mut self, line: &[u8], out: &mut String) -> Result<(), ExplainFault>
+    pub fn line(&mut self, line: &[u8], page: &mut Page) -> Result<(), ExplainFault>
         ensures explained { (events : List Event) (before : List Told) →
             HasExplained events before self.old →
             OnOk result (ExplainsLine line.now events before self.old self.new) }
@@ -175,14 +145,14 @@ impl Explainer {
         ensures of_lines { IfErr result IsOfLines }
     {
         if self.reading.of_tpdus {
-            self.log_line(line, out)
+            self.log_line(line, page)
         } else {
-            self.line_of_characters(line, out)
+            self.line_of_characters(line, page)
         }
     }
 
     /// Explains the next line of a trace of characters.
-    fn line_of_characters(&mut self, line: &[u8], out: &mut String) -> Result<(), ExplainFault>
+    fn line_of_characters(&mut self, line: &[u8], page: &mut Page) -> Result<(), ExplainFault>
         ensures explained { (events : List Event) (before : List Told) →
             HasExplained events before self.old →
             OnOk result (ExplainsLine line.now events before self.old self.new) }
@@ -193,8 +163,8 @@ impl Explainer {
         ensures of_lines { IfErr result IsOfLines }
     {
         match self.reading.unsigned {
-            None => self.signed_line(line, out),
-            Some(ways) => self.unsigned_line(&ways, line, out),
+            None => self.signed_line(line, page),
+            Some(ways) => self.unsigned_line(&ways, line, page),
         }
     }
 
@@ -203,7 +173,7 @@ impl Explainer {
         &mut self,
         ways: &Ways,
         line: &[u8],
-        out: &mut String,
+        page: &mut Page,
     ) -> Result<(), ExplainFault>
         ensures explained { (events : List Event) (before : List Told) →
             HasExplained events before self.old →
@@ -218,13 +188,13 @@ impl Explainer {
         let (time, _) = cut_clock(line);
         self.clock.pass(time)?;
         match read_unsigned(self.alloc, line) {
-            Ok(UnsignedLine::Characters(bytes)) => self.unsigned(ways, bytes.as_slice(), out),
+            Ok(UnsignedLine::Characters(bytes)) => self.unsigned(ways, bytes.as_slice(), page),
             Ok(UnsignedLine::Reset) => {
-                self.reset(out)?;
+                self.reset(page)?;
                 Ok(())
             }
             Ok(UnsignedLine::Note(note)) => {
-                self.note(note, out)?;
+                self.note(note, page)?;
                 Ok(())
             }
             Err(why) => Err(refused(self.line, why)),
@@ -233,7 +203,7 @@ impl Explainer {
 
     /// Explains characters of which no sign says who sent them: each is of the end that has the
     /// turn.
-    fn unsigned(&mut self, ways: &Ways, bytes: &[u8], out: &mut String) -> Result<(), ExplainFault>
+    fn unsigned(&mut self, ways: &Ways, bytes: &[u8], page: &mut Page) -> Result<(), ExplainFault>
         ensures explained { (events : List Event) (before : List Told) →
             HasExplained events before self.old →
             OnOk result (ExplainsInTurn ways.now bytes.now events before self.old self.new) }
@@ -249,7 +219,7 @@ impl Explainer {
                 return Ok(());
             }
             match self.turn(ways, bytes[place]) {
-                Ok(from) => self.characters(from, &bytes[place..place + 1], place, out)?,
+                Ok(from) => self.characters(from, &bytes[place..place + 1], place, page)?,
                 Err(why) => return self.stop_unsent(place, why),
             }
         }
@@ -288,7 +258,7 @@ impl Explainer {
     }
 
     /// Explains the next line of a trace with signs.
-    fn signed_line(&mut self, line: &[u8], out: &mut String) -> Result<(), ExplainFault>
+    fn signed_line(&mut self, line: &[u8], page: &mut Page) -> Result<(), ExplainFault>
         ensures explained { (events : List Event) (before : List Told) →
             HasExplained events before self.old →
             OnOk result (ExplainsSigned line.now events before self.old self.new) }
@@ -304,14 +274,14 @@ impl Explainer {
         match read_line(self.alloc, self.reading.form, line) {
             Ok(TraceLine::Characters(form, from, bytes)) => {
                 self.reading = self.reading.of_form(form);
-                self.characters(self.reading.sender(from), bytes.as_slice(), 0, out)
+                self.characters(self.reading.sender(from), bytes.as_slice(), 0, page)
             }
             Ok(TraceLine::Reset) => {
-                self.reset(out)?;
+                self.reset(page)?;
                 Ok(())
             }
             Ok(TraceLine::Note(note)) => {
-                self.note(note, out)?;
+                self.note(note, page)?;
                 Ok(())
             }
             Err(why) => Err(refused(self.line, why)),
@@ -319,7 +289,7 @@ impl Explainer {
     }
 
     /// Explains the next line of a log of TPDUs.
-    fn log_line(&mut self, line: &[u8], out: &mut String) -> Result<(), ExplainFault>
+    fn log_line(&mut self, line: &[u8], page: &mut Page) -> Result<(), ExplainFault>
         ensures counts { OnOk result (self.new.line ≡ next_line self.old) }
         ensures of_lines { IfErr result IsOfLines }
     {
@@ -328,7 +298,7 @@ impl Explainer {
         let mut logged = Vec::new(self.alloc);
         let taken = self.log.take(line, &mut logged);
         self.came = self.came || self.log.has_come();
-        self.tell_all_logged(logged.as_slice(), line, out)?;
+        self.tell_all_logged(logged.as_slice(), line, page)?;
         match taken {
             Ok(()) => Ok(()),
             Err(BadLine::OutOfMemory) => Err(ExplainFault::OutOfMemory),
@@ -341,49 +311,58 @@ impl Explainer {
         &mut self,
         logged: &[Logged],
         line: &[u8],
-        out: &mut String,
+        page: &mut Page,
     ) -> Result<(), AllocError>
         ensures { OnOk result (self.new.line ≡ self.old.line) }
     {
         for one in logged {
             if one.is_reset() {
-                self.reset(out)?;
+                self.reset(page)?;
             } else {
-                self.tell_logged(one, line, out)?;
+                self.tell_logged(one, line, page)?;
             }
         }
-        Ok(())
+        page.outcome()
     }
 
     /// Tells one thing that came of a line of a log, and is no reset.
-    fn tell_logged(&mut self, one: &Logged, line: &[u8], out: &mut String) -> Result<(), AllocError>
+    fn tell_logged(&mut self, one: &Logged, line: &[u8], page: &mut Page) -> Result<(), AllocError>
         ensures { OnOk result (KeepsAll self.old self.new) }
+    {
+        match one {
+            Logged::Exchange(command, answer) => {
+                self.clock.hear();
+                self.exchange(command.as_slice(), Some(answer.as_slice()), page)
+            }
+            Logged::Unanswered(command) => self.exchange(command.as_slice(), None, page),
+            other => {
+                self.tell_other(other, line, page);
+                Ok(())
+            }
+        }
+    }
+
+    /// Tells one thing that came of a line of a log, and is neither a reset nor a command with its
+    /// answer.
+    fn tell_other(&mut self, one: &Logged, line: &[u8], page: &mut Page)
+        ensures { KeepsAll self.old self.new }
     {
         match one {
             Logged::Begins => {
                 self.began = self.line;
                 self.clock.hear();
                 self.clock.begin();
-                Ok(())
             }
-            Logged::Exchange(command, answer) => {
-                self.clock.hear();
-                self.exchange(command.as_slice(), Some(answer.as_slice()), out)
-            }
-            Logged::Unanswered(command) => self.exchange(command.as_slice(), None, out),
             Logged::Stray(bytes) => {
                 self.story.lose_some();
-                self.tell_bytes("before a command, from the card:\n", bytes.as_slice(), out)
+                let what = "before a command, from the card:\n";
+                tell_bytes(what, bytes.as_slice(), &self.mask, page);
             }
             Logged::Part(from, bytes) => {
-                let what = match from {
-                    End::Terminal => "a part of a command:\n",
-                    End::Card => "a part of an answer:\n",
-                };
-                self.tell_bytes(what, bytes.as_slice(), out)
+                tell_bytes(part_of(*from), bytes.as_slice(), &self.mask, page);
             }
-            Logged::Reset => Ok(()),
-            Logged::Note => self.note(line, out),
+            Logged::Note => tell_note(line, &self.mask, page),
+            _ => {}
         }
     }
 
@@ -392,7 +371,7 @@ impl Explainer {
         &mut self,
         command: &[u8],
         answer: Option<&[u8]>,
-        out: &mut String,
+        page: &mut Page,
     ) -> Result<(), AllocError>
         ensures { OnOk result (KeepsAll self.old self.new) }
     {
@@ -400,62 +379,45 @@ impl Explainer {
             Some(bytes) => exchanged(self.alloc, command, bytes),
             None => commanded(self.alloc, command),
         };
-        let why = match outcome {
-            Ok(tpdu) => {
-                self.tell_one(&tpdu, out)?;
-                if answer.is_none() {
-                    self.story.lose_some();
-                }
-                return Ok(());
-            }
-            Err(BadExchange::OutOfMemory) => return Err(AllocError),
-            Err(why) => why,
-        };
-        self.story.lose_some();
-        self.counts.complain(self.began)?;
-        self.first_bad = Some(self.first_bad.unwrap_or((self.began, why)));
-        self.complain_exchange(why, command, answer, out)
+        match outcome {
+            Ok(tpdu) => self.tell_exchange(&tpdu, answer.is_some(), page),
+            Err(BadExchange::OutOfMemory) => Err(AllocError),
+            Err(why) => self.complain(why, command, answer, page),
+        }
     }
 
-    /// Adds a box for a command and its answer that are no TPDU.
-    fn complain_exchange(
-        &self,
+    /// Tells of a TPDU of a log, and whether the log has its answer.
+    fn tell_exchange(
+        &mut self,
+        tpdu: &Tpdu,
+        is_answered: bool,
+        page: &mut Page,
+    ) -> Result<(), AllocError>
+        ensures { OnOk result (KeepsAll self.old self.new) }
+    {
+        self.tell_one(tpdu, page)?;
+        if !is_answered {
+            self.story.lose_some();
+        }
+        Ok(())
+    }
+
+    /// Tells a command with its answer, or without one, that are no TPDU for this reason.
+    fn complain(
+        &mut self,
         why: BadExchange,
         command: &[u8],
         answer: Option<&[u8]>,
-        out: &mut String,
-    ) -> Result<(), AllocError> {
-        let head = Head {
-            anchor: Anchor::Complaint(self.counts.complaints()),
-            ..Head::new(Kind::Complaint, "no exchange that it reads", self.began)
-        };
-        self.layout.open(out, head)?;
-        let fault = format!(in self.alloc; "{why}\n")?;
-        self.layout.row(out, Side::Told, "fault", fault.as_str())?;
-        let sent = self
-            .mask
-            .or_hidden(self.alloc, hex_lines(self.alloc, command)?)?;
-        self.layout
-            .row(out, Side::Terminal, "command", sent.as_str())?;
-        let came = match answer {
-            Some(bytes) => self
-                .mask
-                .or_hidden(self.alloc, hex_lines(self.alloc, bytes)?)?,
-            None => format!(in self.alloc; "none\n")?,
-        };
-        self.layout.row(out, Side::Card, "answer", came.as_str())?;
-        self.layout.close(out)
-    }
-
-    /// Tells bytes that are of no TPDU, behind what they are.
-    fn tell_bytes(&self, what: &str, bytes: &[u8], out: &mut String) -> Result<(), AllocError> {
-        let mut lines = String::new(self.alloc);
-        lines.push_str(what)?;
-        let digits = self
-            .mask
-            .or_hidden(self.alloc, hex_lines(self.alloc, bytes)?)?;
-        lines.push_str(digits.as_str())?;
-        self.layout.note(out, lines.as_str())
+        page: &mut Page,
+    ) -> Result<(), AllocError>
+        ensures { OnOk result (KeepsAll self.old self.new) }
+    {
+        self.story.lose_some();
+        self.counts.complain(self.began)?;
+        self.first_bad = Some(self.first_bad.unwrap_or((self.began, why)));
+        let number = self.counts.complaints();
+        tell_bad_exchange(number, self.began, why, command, answer, &self.mask, page);
+        Ok(())
     }
 
     /// Explains characters of a line, behind so many others, if they are not passed over.
@@ -464,7 +426,7 @@ impl Explainer {
         from: End,
         bytes: &[u8],
         ahead: usize,
-        out: &mut String,
+        page: &mut Page,
     ) -> Result<(), ExplainFault>
         requires within { ahead + length bytes.now < 2 ^ 64 }
         ensures explained { (events : List Event) (before : List Told) →
@@ -482,20 +444,20 @@ impl Explainer {
         }
         self.came = came_after(self.came, bytes);
         let begun = self.preface.stage().has_begun();
-        let start = self.open(from, bytes, out)?;
-        match self.hear(from, &bytes[start..], out)? {
+        let start = self.open(from, bytes, page)?;
+        match self.hear(from, &bytes[start..], page)? {
             None => Ok(()),
             Some(place) if begun && self.answers_again(from, bytes[start + place]) => {
-                self.answer_again(&bytes[start + place..], out)?;
+                self.answer_again(&bytes[start + place..], page)?;
                 Ok(())
             }
-            Some(place) => self.stop(from, bytes, start + place, ahead, out),
+            Some(place) => self.stop(from, bytes, start + place, ahead, page),
         }
     }
 
     /// Takes the characters of an opening, and tells of its parts that end; it answers how many
     /// characters come before the first of the dialogue.
-    fn open(&mut self, from: End, bytes: &[u8], out: &mut String) -> Result<usize, AllocError>
+    fn open(&mut self, from: End, bytes: &[u8], page: &mut Page) -> Result<usize, AllocError>
         ensures opens { IfOk result (λ start. OpensUpTo start (opening_of self.old.preface) from
             bytes.now (opening_of self.new.preface)) }
         ensures keeps { OnOk result (KeepsHeard self.old self.new) }
@@ -503,56 +465,16 @@ impl Explainer {
         let mut tells_strays = true;
         for place in 0..bytes.len() {
             let role = self.preface.role_of(from, bytes[place]);
-            tells_strays = self.tell_before(role, tells_strays, &bytes[place..], out)?;
+            let rest = &bytes[place..];
+            tells_strays = tell_before(role, tells_strays, rest, &self.preface, &self.mask, page);
             self.preface.take(role, bytes[place], self.line)?;
             if role.is_dialogue() {
                 return Ok(place);
             }
             self.is_led = true;
-            self.tell_after(role, out)?;
+            tell_after(role, &self.preface, &self.mask, page);
         }
         Ok(bytes.len())
-    }
-
-    /// Tells what comes before a character that is this: a part that goes on no more; and, with the
-    /// first in a line that is the card's and of no part, all of those that follow in the line,
-    /// which are too. It answers whether those are still to be told.
-    fn tell_before(
-        &self,
-        role: Role,
-        tells_strays: bool,
-        bytes: &[u8],
-        out: &mut String,
-    ) -> Result<bool, AllocError> {
-        let stage = self.preface.stage();
-        if !role.goes_on() {
-            self.tell_part(stage, out)?;
-        }
-        if role != Role::Stray || !tells_strays {
-            return Ok(tells_strays);
-        }
-        self.before_header(bytes, out)?;
-        Ok(false)
-    }
-
-    /// Tells the part that is over with a character that was this.
-    fn tell_after(&self, role: Role, out: &mut String) -> Result<(), AllocError> {
-        match (role, self.preface.stage()) {
-            (Role::Answer, Stage::Ready | Stage::Astray) => self.tell_part(Stage::Answer, out),
-            (Role::Response, Stage::Ready) => self.tell_part(Stage::Response, out),
-            _ => Ok(()),
-        }
-    }
-
-    /// Tells the part that is under way in this stage, if one is.
-    fn tell_part(&self, stage: Stage, out: &mut String) -> Result<(), AllocError> {
-        match stage {
-            Stage::Answer => tell_answer(self.alloc, self.layout, &self.mask, &self.preface, out),
-            Stage::Request | Stage::Asked | Stage::Response => {
-                tell_exchange(self.alloc, self.layout, &self.mask, &self.preface, out)
-            }
-            Stage::Ready | Stage::Astray | Stage::Begun => Ok(()),
-        }
     }
 
     /// Whether the card answers again with this character, with which no dialogue goes on.
@@ -564,7 +486,7 @@ impl Explainer {
     }
 
     /// Takes these characters of the card as those behind a reset of which no line says.
-    fn answer_again(&mut self, bytes: &[u8], out: &mut String) -> Result<(), AllocError>
+    fn answer_again(&mut self, bytes: &[u8], page: &mut Page) -> Result<(), AllocError>
         ensures explained { (events : List Event) (before : List Told) →
             HasExplained events before self.old →
             OnOk result (ExplainsReset events before self.new) }
@@ -579,9 +501,10 @@ impl Explainer {
         } else {
             "reset, though no line says so, as the card answers\n"
         };
-        self.layout.note(out, note)?;
+        page.note_line(note);
         self.preface.reset();
-        self.open(End::Card, bytes, out)?;
+        self.open(End::Card, bytes, page)?;
+        page.outcome()?;
         Ok(())
     }
 
@@ -595,8 +518,10 @@ impl Explainer {
             self.passes_over = false;
         }
         if self.passes_over {
-            let last = self.line;
-            self.passed = self.passed.map(|passed| Passed { last, ..passed });
+            if let Some(passed) = self.passed {
+                let last = self.line;
+                self.passed = Some(Passed { last, ..passed });
+            }
         }
         self.passes_over
     }
@@ -613,7 +538,7 @@ impl Explainer {
         &mut self,
         from: End,
         bytes: &[u8],
-        out: &mut String,
+        page: &mut Page,
     ) -> Result<Option<usize>, ExplainFault>
         ensures explained { (events : List Event) (before : List Told) →
             HasExplained events before self.old →
@@ -625,11 +550,11 @@ impl Explainer {
         ensures within { IfOk result (λ stop. IfSome stop (λ place. place < length bytes.now)) }
         ensures wants { IfErr result (λ fault. fault ≡ ExplainFault.OutOfMemory) }
     {
-        self.tell_passed(out)?;
+        tell_passed(self.passed, page);
         self.note_beginning(from, bytes);
         let mut told = Vec::new(self.alloc);
         let heard = self.listener.hear_all(from, bytes, &mut told);
-        self.tell_all(told.as_slice(), out)?;
+        self.tell_all(told.as_slice(), page)?;
         self.note_next(told.is_empty());
         match heard {
             Ok(()) => Ok(None),
@@ -663,30 +588,25 @@ impl Explainer {
         }
     }
 
-    /// Tells of the TPDUs that ended.
-    fn tell_all(&mut self, told: &[Tpdu], out: &mut String) -> Result<(), AllocError>
+    /// Tells of the TPDUs that ended. The error is want of memory for anything told so far.
+    fn tell_all(&mut self, told: &[Tpdu], page: &mut Page) -> Result<(), AllocError>
         ensures { OnOk result (KeepsAll self.old self.new) }
     {
         for tpdu in told {
-            self.tell_one(tpdu, out)?;
+            self.tell_one(tpdu, page)?;
             self.is_led = true;
         }
+        page.outcome()?;
         Ok(())
     }
 
     /// Tells of a TPDU, which is counted, and what it is among those before it.
-    fn tell_one(&mut self, tpdu: &Tpdu, out: &mut String) -> Result<(), AllocError>
+    fn tell_one(&mut self, tpdu: &Tpdu, page: &mut Page) -> Result<(), AllocError>
         ensures { OnOk result (KeepsAll self.old self.new) }
     {
         self.counts.take(tpdu)?;
         let links = self.story.tell(tpdu)?;
-        self.tell(tpdu, links, out)
-    }
-
-    /// Tells characters of the card that come before the dialogue, and are of no answer or
-    /// response: the end of what was not heard, or what stands behind an answer's first fault.
-    fn before_header(&self, bytes: &[u8], out: &mut String) -> Result<(), AllocError> {
-        self.tell_bytes("before a header, from the card:\n", bytes, out)
+        self.tell(tpdu, links, page)
     }
 
     /// Tells of a character at this place, behind so many others of its line, with which no
@@ -697,7 +617,7 @@ impl Explainer {
         bytes: &[u8],
         place: usize,
         ahead: usize,
-        out: &mut String,
+        page: &mut Page,
     ) -> Result<(), ExplainFault>
         requires within { ahead + place < 2 ^ 64 }
         ensures stopped { self.old.resumes ≡ false → Stopped result (record {
@@ -719,10 +639,11 @@ impl Explainer {
             byte: bytes.get(place).copied().unwrap_or(0),
             is_astray: self.reading.unsigned.is_some() && !self.is_led,
         };
-        self.cut_off(out)?;
+        self.cut_off(page)?;
         self.story.lose_some();
         self.counts.complain(self.line)?;
-        self.complain(complaint, out)?;
+        tell_complaint(self.counts.complaints(), complaint, self.mask.hides(), page);
+        page.outcome()?;
         if !self.resumes {
             return Err(ExplainFault::NoDialogue(complaint));
         }
@@ -769,60 +690,8 @@ impl Explainer {
         }
     }
 
-    /// Tells what has been passed over, if anything has.
-    fn tell_passed(&self, out: &mut String) -> Result<(), AllocError> {
-        let Some(Passed { line, place, last }) = self.passed else {
-            return Ok(());
-        };
-        let character = place.saturating_add(1);
-        let mut text = format!(in self.alloc;
-            "passed over: line {line} from character {character}"
-        )?;
-        if last > line {
-            write!(text, ", to line {last}")?;
-        }
-        text.push('\n')?;
-        self.layout.note(out, text.as_str())
-    }
-
-    /// Adds a box for a complaint.
-    fn complain(&self, complaint: Complaint, out: &mut String) -> Result<(), AllocError> {
-        let Complaint {
-            line,
-            place,
-            due,
-            from,
-            byte,
-            is_astray,
-        } = complaint;
-        let number = self.counts.complaints();
-        let head = Head {
-            anchor: Anchor::Complaint(number),
-            ..Head::new(Kind::Complaint, "no dialogue that it reads", line)
-        };
-        self.layout.open(out, head)?;
-        let character = place.saturating_add(1);
-        let stands = format!(in self.alloc; "line {line}, character {character}\n")?;
-        self.layout.row(out, Side::Told, "place", stands.as_str())?;
-        let due = due_text(due);
-        let wanted = format!(in self.alloc; "{due}\n")?;
-        self.layout.row(out, Side::Told, "due", wanted.as_str())?;
-        let from = end_text(from);
-        let came = if self.mask.hides() {
-            format!(in self.alloc; "{HIDDEN} of the {from}\n")?
-        } else {
-            format!(in self.alloc; "{byte:02X} of the {from}\n")?
-        };
-        self.layout.row(out, Side::Told, "came", came.as_str())?;
-        if is_astray {
-            let astray = format!(in self.alloc; "{ASTRAY}\n")?;
-            self.layout.row(out, Side::Told, "or", astray.as_str())?;
-        }
-        self.layout.close(out)
-    }
-
     /// Explains a reset.
-    fn reset(&mut self, out: &mut String) -> Result<(), AllocError>
+    fn reset(&mut self, page: &mut Page) -> Result<(), AllocError>
         ensures explained { (events : List Event) (before : List Told) →
             HasExplained events before self.old →
             OnOk result (ExplainsMore (Reset ∷ []) (record (standing_of self.old) {
@@ -830,25 +699,26 @@ impl Explainer {
             }) events before self.new) }
         ensures counts { OnOk result (self.new.line ≡ self.old.line) }
     {
-        self.tell_passed(out)?;
+        tell_passed(self.passed, page);
         self.passed = None;
         self.passes_over = false;
         self.is_led = true;
-        self.tell_part(self.preface.stage(), out)?;
+        tell_part(self.preface.stage(), &self.preface, &self.mask, page);
         self.preface.reset();
-        self.cut_off(out)?;
+        self.cut_off(page)?;
         let drops = self.story.reset();
         let note = if drops {
             "reset: the chain is dropped\n"
         } else {
             "reset\n"
         };
-        self.layout.note(out, note)?;
+        page.note_line(note);
+        page.outcome()?;
         Ok(())
     }
 
     /// Tells what was under way, if anything was, and drops it.
-    fn cut_off(&mut self, out: &mut String) -> Result<(), AllocError>
+    fn cut_off(&mut self, page: &mut Page) -> Result<(), AllocError>
         ensures cut_off { (events : List Event) (before : List Told) →
             HasExplained events before self.old →
             OnOk result (ExplainsReset events before self.new) }
@@ -861,21 +731,13 @@ impl Explainer {
         if part.is_empty() {
             return Ok(());
         }
-        self.tell_one(&part, out)
+        self.tell_one(&part, page)
     }
 
-    /// Keeps a line that is none of characters.
-    fn note(&self, note: &[u8], out: &mut String) -> Result<(), AllocError> {
-        if note.is_empty() {
-            return Ok(());
-        }
-        let mut text = String::new(self.alloc);
-        for piece in note.chunks(note_width(note)) {
-            push_printable(&mut text, piece)?;
-            text.push('\n')?;
-        }
-        let text = self.mask.or_hidden(self.alloc, text)?;
-        self.layout.note(out, text.as_str())
+    /// Tells a line that is none of characters.
+    fn note(&self, note: &[u8], page: &mut Page) -> Result<(), AllocError> {
+        tell_note(note, &self.mask, page);
+        page.outcome()
     }
 
     /// Whether all of it was a dialogue, in which some character came.
@@ -902,163 +764,75 @@ impl Explainer {
 
     /// Explains what is under way where the trace ends, and adds the last block; nothing where what
     /// was told ends within a line, since memory was wanting there.
-    pub fn end(&mut self, out: &mut String) -> Result<(), AllocError>
+    pub fn end(&mut self, page: &mut Page) -> Result<(), AllocError>
         ensures { OnOk result (standing_of self.new ≡ standing_of self.old) }
     {
-        if ends_within_line(out.as_str()) {
+        if ends_within_line(page.as_str()) {
             return Ok(());
         }
-        self.end_log(out)?;
-        self.tell_passed(out)?;
-        self.tell_part(self.preface.stage(), out)?;
-        self.cut_off(out)?;
-        self.counts.tell(self.alloc, self.layout, &self.clock, out)?;
-        self.layout.end(out)
+        self.end_log(page)?;
+        tell_passed(self.passed, page);
+        tell_part(self.preface.stage(), &self.preface, &self.mask, page);
+        self.cut_off(page)?;
+        self.counts.tell(&self.clock, page);
+        page.end();
+        page.outcome()
     }
 
     /// Tells what is open where a log ends.
-    fn end_log(&mut self, out: &mut String) -> Result<(), AllocError>
+    fn end_log(&mut self, page: &mut Page) -> Result<(), AllocError>
         ensures { OnOk result (KeepsAll self.old self.new) }
     {
         let mut logged = Vec::new(self.alloc);
         self.log.end(&mut logged)?;
         for one in logged.as_slice() {
-            self.tell_logged(one, &[], out)?;
+            self.tell_logged(one, &[], page)?;
         }
         Ok(())
     }
 
     /// Tells of a TPDU, or keeps it.
-    fn tell(&mut self, tpdu: &Tpdu, links: Links, out: &mut String) -> Result<(), AllocError>
+    fn tell(&mut self, tpdu: &Tpdu, links: Links, page: &mut Page) -> Result<(), AllocError>
         ensures { OnOk result (KeepsAll self.old self.new) }
     {
-        if !self.keeps {
-            return self.tell_box(tpdu, links, out);
+        if self.keeps {
+            let kept = self.kept_of(tpdu, links, page.another(self.alloc))?;
+            return push(&mut self.kept, kept);
         }
-        let mut text = String::new(self.alloc);
-        self.tell_box(tpdu, links, &mut text)?;
+        self.tell_box(tpdu, links, page);
+        Ok(())
+    }
+
+    /// A TPDU with what is told of it on an empty page.
+    fn kept_of(&self, tpdu: &Tpdu, links: Links, empty: Page) -> Result<Kept, AllocError> {
+        let mut page = empty;
+        self.tell_box(tpdu, links, &mut page);
+        let text = page.into_text()?;
         let tpdu = tpdu.copied(self.alloc)?;
-        push(&mut self.kept, Kept { tpdu, text })
+        Ok(Kept { tpdu, text })
     }
 
     /// Adds the box of a TPDU.
-    fn tell_box(&self, tpdu: &Tpdu, links: Links, out: &mut String) -> Result<(), AllocError> {
-        let number = links.number;
-        let name = phrases::title(self.alloc, tpdu)?;
-        let mut title = format!(in self.alloc; "#{number} {name}")?;
-        phrases::push_links(&mut title, links)?;
-        let head = Head {
+    fn tell_box(&self, tpdu: &Tpdu, links: Links, page: &mut Page) {
+        push_title(tpdu, links, page);
+        page.open(Head {
+            kind: kind_of(tpdu),
+            line: self.began,
             status: tpdu.status.as_slice(),
-            anchor: Anchor::Tpdu(number),
-            ..Head::new(kind_of(tpdu), title.as_str(), self.began)
-        };
-        self.layout.open(out, head)?;
-        self.tell_time(out)?;
-        if links.drops_before {
-            self.layout
-                .row(out, Side::Told, "before", "the chain is dropped\n")?;
-        }
-        self.tell_rows(tpdu, links, out)?;
-        if links.drops_after {
-            self.layout
-                .row(out, Side::Told, "after", "the chain is dropped\n")?;
-        }
-        self.tell_whole(tpdu, links, out)?;
-        self.layout.close(out)
+            anchor: Anchor::Tpdu(links.number),
+        });
+        self.clock.push_begin(&mut page.lines);
+        page.row(Side::Told, "time");
+        tell_rows(tpdu, links, &self.story, &self.mask, page);
+        page.close();
     }
+}
 
-    /// Adds the row of when the TPDU began, where its line has a time.
-    fn tell_time(&self, out: &mut String) -> Result<(), AllocError> {
-        let mut text = String::new(self.alloc);
-        self.clock.push_begin(&mut text)?;
-        self.layout.row(out, Side::Told, "time", text.as_str())
-    }
-
-    /// Adds the rows of what went over the line.
-    fn tell_rows(&self, tpdu: &Tpdu, links: Links, out: &mut String) -> Result<(), AllocError> {
-        let header = hex_lines(self.alloc, tpdu.header.as_slice())?;
-        self.layout.header(out, header.as_str())?;
-        let procedure = phrases::procedure(self.alloc, tpdu.tally)?;
-        self.layout
-            .row(out, Side::Card, "procedure", procedure.as_str())?;
-        self.tell_data(tpdu, links, out)?;
-        self.tell_status(tpdu, out)
-    }
-
-    /// Adds the row of the data: as a tree where they may be objects, and are some.
-    fn tell_data(&self, tpdu: &Tpdu, links: Links, out: &mut String) -> Result<(), AllocError> {
-        let Some(way) = tpdu.way else {
-            return Ok(());
-        };
-        let (side, is_tree) = match way {
-            Direction::ToCard => (Side::Terminal, may_be_objects(tpdu, links)),
-            Direction::FromCard => (Side::Card, true),
-        };
-        let Some(origin) = Origin::of(tpdu, links, way) else {
-            return Ok(());
-        };
-        let moved = tpdu.moved.as_slice();
-        let lines = self.mask.data_lines(self.alloc, origin, is_tree, moved)?;
-        self.layout.row(out, side, "data", lines.as_str())?;
-        self.tell_answer_data(tpdu, links, out)
-    }
-
-    /// Adds the rows of what a command APDU has behind its data, and of the data that came in
-    /// answer to it.
-    fn tell_answer_data(
-        &self,
-        tpdu: &Tpdu,
-        links: Links,
-        out: &mut String,
-    ) -> Result<(), AllocError> {
-        if let Some(le) = tpdu.le {
-            let most = phrases::most(self.alloc, le)?;
-            self.layout.row(out, Side::Terminal, "Le", most.as_str())?;
-        }
-        let Some(origin) = Origin::of_answer(tpdu, links) else {
-            return Ok(());
-        };
-        let bytes = tpdu.answer.as_slice();
-        if bytes.is_empty() {
-            return Ok(());
-        }
-        let lines = self.mask.data_lines(self.alloc, origin, true, bytes)?;
-        self.layout.row(out, Side::Card, "data", lines.as_str())
-    }
-
-    /// Adds the row of the status, or that the TPDU was cut off.
-    fn tell_status(&self, tpdu: &Tpdu, out: &mut String) -> Result<(), AllocError> {
-        let mut lines = String::new(self.alloc);
-        push_hex(self.alloc, &mut lines, tpdu.status.as_slice())?;
-        let (Some(status), Some((header, _))) = (status_of(tpdu), header_of(tpdu)) else {
-            phrases::push_cut_off(&mut lines, tpdu)?;
-            return self.layout.row(out, Side::Told, "status", lines.as_str());
-        };
-        lines.push(' ')?;
-        push_meaning(&mut lines, header, status)?;
-        lines.push('\n')?;
-        self.layout.row(out, Side::Card, "status", lines.as_str())
-    }
-
-    /// Adds the row of what has come together.
-    fn tell_whole(&self, tpdu: &Tpdu, links: Links, out: &mut String) -> Result<(), AllocError> {
-        let way = match links.whole {
-            Whole::None => return Ok(()),
-            Whole::Value(_) => Direction::ToCard,
-            Whole::Response(_) => Direction::FromCard,
-        };
-        let bytes = self.story.whole(links.whole);
-        let Some(origin) = Origin::of(tpdu, links, way) else {
-            return Ok(());
-        };
-        if bytes.is_empty() {
-            return Ok(());
-        }
-        let origin = origin.of_all();
-        let mut lines = phrases::whole(self.alloc, links.whole, bytes.len())?;
-        let data = self.mask.data_lines(self.alloc, origin, true, bytes)?;
-        lines.push_str(data.as_str())?;
-        self.layout.row(out, Side::Told, "together", lines.as_str())
+/// What a part of a command or of an answer is called, where a log ends.
+fn part_of(from: End) -> &'static str {
+    match from {
+        End::Terminal => "a part of a command:\n",
+        End::Card => "a part of an answer:\n",
     }
 }
 
@@ -1085,34 +859,6 @@ fn push(all: &mut Vec<Kept>, kept: Kept) -> Result<(), AllocError> {
     all.push(kept).map_err(AllocError::from)
 }
 
-/// How a TPDU went: by its status, where it came whole.
-fn kind_of(tpdu: &Tpdu) -> Kind {
-    let (Some(status), Some((header, _))) = (status_of(tpdu), header_of(tpdu)) else {
-        return Kind::CutOff;
-    };
-    match status.sw1() {
-        _ if status.is_ok() || waiting(header, status).is_some() => Kind::Well,
-        0x6C => Kind::Well,
-        0x62 | 0x63 => Kind::Warning,
-        _ => Kind::Failed,
-    }
-}
-
-/// Whether the data of the terminal may be objects: not where they are a piece of a chain, a name
-/// or a path, or reference data (ISO/IEC 7816-4, 7.1.1 and 7.5.6 to 7.5.10).
-fn may_be_objects(tpdu: &Tpdu, links: Links) -> bool {
-    let is_whole = matches!(
-        links.link,
-        Link::None | Link::AskedAgain(_) | Link::Fetches(_) | Link::FetchesMore(_)
-    );
-    match header_of(tpdu) {
-        Some((header, _)) => {
-            is_whole && !matches!(header.ins, 0xA4 | 0x20 | 0x24 | 0x26 | 0x28 | 0x2C)
-        }
-        None => false,
-    }
-}
-
 /// Whether a character has come by then.
 fn came_after(came: bool, bytes: &[u8]) -> bool
     ensures { result ≡ came_after came bytes.now }
@@ -1123,27 +869,4 @@ fn came_after(came: bool, bytes: &[u8]) -> bool
 /// Whether these can be the five characters of a header, alone in a line.
 fn is_header(from: End, bytes: &[u8]) -> bool {
     from == End::Terminal && bytes.len() == 5
-}
-
-/// How many bytes of this note stand in a line.
-fn note_width(note: &[u8]) -> usize
-    ensures { 0 < result }
-{
-    for &byte in note {
-        if !matches!(byte, b' '..=b'~') {
-            return ODD_BYTES;
-        }
-    }
-    NOTE_BYTES
-}
-
-/// Adds the bytes of a note, those that are no printable ASCII by their numbers.
-fn push_printable(text: &mut String, bytes: &[u8]) -> Result<(), AllocError> {
-    for &byte in bytes {
-        match byte {
-            b' '..=b'~' => text.push(char::from(byte))?,
-            _ => write!(text, "\\x{byte:02X}")?,
-        }
-    }
-    Ok(())
 }

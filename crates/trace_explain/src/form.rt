@@ -80,7 +80,7 @@ impl fmt::Display for Form {
 }
 
 /// A sign: of which form it is, and which end's characters stand behind it.
-#[derive(Clone, Copy, Debug, PartialEq, Eq)]
+#[derive(Clone, Copy)]
 pub struct Sign {
     /// Its form.
     pub form: Form,

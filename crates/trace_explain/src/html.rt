@@ -1,10 +1,10 @@
 //! An explanation as one page of HTML, which needs nothing else: no script, and no network.
 
+use crate::draft::Draft;
 use crate::layout::{Anchor, Head, Kind, Side};
-use std::alloc::AllocError;
 
 /// Up to the first box.
-const HEAD: &str = "\
+pub const BEGIN: &str = "\
 <!DOCTYPE html>
 <html lang=\"en\">
 <head>
@@ -81,34 +81,33 @@ pre.note { margin: .4rem 0; padding: 0 .8rem; color: var(--soft);
 <div class=\"ends\"><span>Terminal</span><span>Card</span></div><div>
 ";
 
-/// Adds the head of the page.
-pub fn begin(out: &mut String) -> Result<(), AllocError> {
-    out.push_str(HEAD)
-}
+/// Behind all boxes, and the last block.
+pub const END: &str = "</main>\n</body>\n</html>\n";
 
-/// Adds the end of the page.
-pub fn end(out: &mut String) -> Result<(), AllocError> {
-    out.push_str("</main>\n</body>\n</html>\n")
-}
+/// Behind the rows of a box.
+pub const BOX_END: &str = "</details>\n";
+
+/// Behind the rows of the last block.
+pub const BLOCK_END: &str = "</section>\n";
 
 /// Opens a box that can be folded, and is where it tells of what went well.
-pub fn open(out: &mut String, head: Head<'_>) -> Result<(), AllocError> {
+pub fn open(out: &mut Draft, title: &str, head: Head<'_>) {
     let class = class_of(head.kind);
-    write!(out, "<details class=\"{class}\"")?;
+    write!(out, "<details class=\"{class}\"");
     match head.anchor {
         Anchor::None => {}
-        Anchor::Tpdu(number) => write!(out, " id=\"t{number}\"")?,
-        Anchor::Complaint(number) => write!(out, " id=\"c{number}\"")?,
+        Anchor::Tpdu(number) => write!(out, " id=\"t{number}\""),
+        Anchor::Complaint(number) => write!(out, " id=\"c{number}\""),
     }
     if head.kind != Kind::Well {
-        out.push_str(" open")?;
+        out.push_str(" open");
     }
-    out.push_str("><summary>")?;
-    push_escaped(out, head.title)?;
+    out.push_str("><summary>");
+    push_escaped(out, title);
     if let [sw1, sw2] = head.status {
-        write!(out, " <b class=\"{class}\">{sw1:02X}{sw2:02X}</b>")?;
+        write!(out, " <b class=\"{class}\">{sw1:02X}{sw2:02X}</b>");
     }
-    writeln!(out, " <small>line {}</small></summary>", head.line)
+    writeln!(out, " <small>line {}</small></summary>", head.line);
 }
 
 /// The style of a box, and of the status in its title.
@@ -123,102 +122,91 @@ fn class_of(kind: Kind) -> &'static str {
 }
 
 /// Adds the row of a header, with each of its characters behind its name.
-pub fn header(out: &mut String, digits: &str) -> Result<(), AllocError> {
-    out.push_str("<div class=\"m t\"><b>header</b><pre>")?;
+pub fn header(out: &mut Draft, digits: &str) {
+    out.push_str("<div class=\"m t\"><b>header</b><pre>");
     let mut names = ["CLA ", "  INS ", "  P1 ", "  P2 ", "  P3 "].iter();
     let mut is_first = true;
     for digit in digits.trim_end().chars() {
         if is_first && let Some(name) = names.next() {
-            out.push_str(name)?;
+            out.push_str(name);
         }
         is_first = !is_first;
-        out.push(digit)?;
+        out.push(digit);
     }
-    out.push_str("</pre><i></i></div>\n")
+    out.push_str("</pre><i></i></div>\n");
 }
 
 /// Adds links to complaints, which stand in these lines and are the first of so many.
-pub fn complaint_links(out: &mut String, lines: &[u64], all: u64) -> Result<(), AllocError> {
+pub fn complaint_links(out: &mut Draft, lines: &[u64], all: u64) {
     if lines.is_empty() {
-        return Ok(());
+        return;
     }
-    out.push_str("<p>complaints in")?;
+    out.push_str("<p>complaints in");
     let mut number: u64 = 0;
     for line in lines {
         number = number.saturating_add(1);
-        write!(out, " <a href=\"#c{number}\">line {line}</a>")?;
+        write!(out, " <a href=\"#c{number}\">line {line}</a>");
     }
-    push_more(out, all.saturating_sub(number))
+    push_more(out, all.saturating_sub(number));
 }
 
 /// Adds links to TPDUs, which have these numbers and statuses and are the first of so many.
-pub fn status_links(out: &mut String, tpdus: &[(u64, u16)], all: u64) -> Result<(), AllocError> {
+pub fn status_links(out: &mut Draft, tpdus: &[(u64, u16)], all: u64) {
     if tpdus.is_empty() {
-        return Ok(());
+        return;
     }
-    out.push_str("<p>statuses other than 9000, 61XX and 6CXX:")?;
+    out.push_str("<p>statuses other than 9000, 61XX and 6CXX:");
     let mut told: u64 = 0;
     for (number, word) in tpdus {
         told = told.saturating_add(1);
-        write!(out, " <a href=\"#t{number}\">#{number} {word:04X}</a>")?;
+        write!(out, " <a href=\"#t{number}\">#{number} {word:04X}</a>");
     }
-    push_more(out, all.saturating_sub(told))
+    push_more(out, all.saturating_sub(told));
 }
 
 /// Adds how many more there are, and ends the links.
-fn push_more(out: &mut String, more: u64) -> Result<(), AllocError> {
+fn push_more(out: &mut Draft, more: u64) {
     if more > 0 {
-        write!(out, " and {more} more")?;
+        write!(out, " and {more} more");
     }
-    out.push_str("</p>\n")
+    out.push_str("</p>\n");
 }
 
 /// Adds a row: an arrow from the end that says it to the other, or a line between the two.
-pub fn row(out: &mut String, side: Side, label: &str, lines: &str) -> Result<(), AllocError> {
+pub fn row(out: &mut Draft, side: Side, label: &str, lines: &str) {
     if lines.is_empty() {
-        return Ok(());
+        return;
     }
     let (class, arrow) = match side {
         Side::Terminal => ("t", "<i></i>"),
         Side::Card => ("c", "<i></i>"),
         Side::Told => ("n", ""),
     };
-    write!(out, "<div class=\"m {class}\"><b>{label}</b><pre>")?;
-    push_escaped(out, lines.trim_end())?;
-    writeln!(out, "</pre>{arrow}</div>")
-}
-
-/// Closes the box.
-pub fn close(out: &mut String) -> Result<(), AllocError> {
-    out.push_str("</details>\n")
+    write!(out, "<div class=\"m {class}\"><b>{label}</b><pre>");
+    push_escaped(out, lines.trim_end());
+    writeln!(out, "</pre>{arrow}</div>");
 }
 
 /// Opens the last block, which stands first on the page.
-pub fn open_block(out: &mut String, title: &str) -> Result<(), AllocError> {
-    writeln!(out, "</div><section><h2>{title}</h2>")
-}
-
-/// Closes the last block.
-pub fn close_block(out: &mut String) -> Result<(), AllocError> {
-    out.push_str("</section>\n")
+pub fn open_block(out: &mut Draft, title: &str) {
+    writeln!(out, "</div><section><h2>{title}</h2>");
 }
 
 /// Adds a line that stands alone.
-pub fn note(out: &mut String, note: &str) -> Result<(), AllocError> {
-    out.push_str("<pre class=\"note\">")?;
-    push_escaped(out, note)?;
-    out.push_str("</pre>\n")
+pub fn note(out: &mut Draft, note: &str) {
+    out.push_str("<pre class=\"note\">");
+    push_escaped(out, note);
+    out.push_str("</pre>\n");
 }
 
 /// Adds text, in which nothing is markup.
-fn push_escaped(out: &mut String, text: &str) -> Result<(), AllocError> {
+fn push_escaped(out: &mut Draft, text: &str) {
     for letter in text.chars() {
         match letter {
-            '<' => out.push_str("&lt;")?,
-            '>' => out.push_str("&gt;")?,
-            '&' => out.push_str("&amp;")?,
-            _ => out.push(letter)?,
+            '<' => out.push_str("&lt;"),
+            '>' => out.push_str("&gt;"),
+            '&' => out.push_str("&amp;"),
+            _ => out.push(letter),
         }
     }
-    Ok(())
 }

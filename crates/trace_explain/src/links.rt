@@ -3,7 +3,7 @@
 use apdu_core::Header;
 
 /// How a command goes on with those before it.
-#[derive(Clone, Copy, Debug, PartialEq, Eq)]
+#[derive(Clone, Copy, PartialEq, Eq)]
 pub enum Link {
     /// It stands alone.
     None,
@@ -24,7 +24,7 @@ pub enum Link {
 }
 
 /// What has come together with a TPDU.
-#[derive(Clone, Copy, Debug, PartialEq, Eq)]
+#[derive(Clone, Copy)]
 pub enum Whole {
     /// Nothing, or all of it in this TPDU.
     None,
@@ -35,7 +35,7 @@ pub enum Whole {
 }
 
 /// What a TPDU is among the others.
-#[derive(Clone, Copy, Debug, PartialEq, Eq)]
+#[derive(Clone, Copy)]
 pub struct Links {
     /// The number of the TPDU, counted from 1.
     pub number: u64,

@@ -25,7 +25,7 @@ pub struct Listener {
 }
 
 /// The character of a line, counted from 0, that was not taken, and why.
-#[derive(Clone, Copy, Debug, PartialEq, Eq)]
+#[derive(Clone, Copy)]
 pub struct Stop {
     /// The character's place in the line.
     pub place: usize,

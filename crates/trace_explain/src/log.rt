@@ -11,7 +11,7 @@ use std::mem;
 use t0_core::End;
 
 /// What comes of a line, in turn.
-#[derive(Debug, Drop)]
+#[derive(Drop)]
 pub enum Logged {
     /// A command begins.
     Begins,
@@ -37,7 +37,7 @@ impl Logged {
 }
 
 /// What the next line may go on with.
-#[derive(Clone, Copy, Debug, PartialEq, Eq)]
+#[derive(Clone, Copy)]
 pub enum Open {
     /// Nothing.
     Nothing,

@@ -15,7 +15,7 @@ const ROW: usize = 16;
 const ESC: u8 = 0x1B;
 
 /// What a line is, by how it begins.
-#[derive(Clone, Copy, Debug, PartialEq, Eq)]
+#[derive(Clone, Copy)]
 pub enum LineKind {
     /// A command.
     Command,
@@ -34,7 +34,7 @@ pub enum LineKind {
 }
 
 /// What a line says.
-#[derive(Debug, Drop)]
+#[derive(Drop)]
 pub enum LogLine {
     /// A command.
     Command(Vec<u8>),
@@ -51,7 +51,7 @@ pub enum LogLine {
 }
 
 /// What a line says that goes on with an answer.
-#[derive(Debug, Drop)]
+#[derive(Drop)]
 pub enum Rest {
     /// Nothing of it: the answer has ended before.
     None,

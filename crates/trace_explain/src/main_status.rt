@@ -88,7 +88,10 @@ fn diff_files<D: Files, W: Write>(
 
 /// The file that has a trace.
 fn opened<D: Files>(files: &D, path: &str, which: Which) -> Result<D::File, DiffFault> {
-    File::open(files, path).map_err(|_| DiffFault::Open(which))
+    match File::open(files, path) {
+        Ok(file) => Ok(file),
+        Err(_) => Err(DiffFault::Open(which)),
+    }
 }
 
 /// The status of a comparison: 0 where the traces are alike, and else 1, also for a fault, which is

@@ -1,9 +1,10 @@
 //! What of a trace is not shown: a trace gets passed around.
 
+use crate::draft::Draft;
 use crate::links::Links;
 use crate::story::header_of;
 use crate::tpdu::Tpdu;
-use crate::tree::{text_lines, tree_of};
+use crate::tree::{push_hex_lines, push_lines, push_tree};
 use apdu_core::Header;
 use std::alloc::{AllocError, Global};
 use t0_core::Direction;
@@ -13,14 +14,14 @@ use tlv_core::{ObjectTag, Tag};
 pub const HIDDEN: &str = "**";
 
 /// What is not shown.
-#[derive(Debug, Drop)]
+#[derive(Drop)]
 pub struct Mask {
     hides: bool,
     tags: Vec<Tag>,
 }
 
 /// Why words are no list of tags.
-#[derive(Clone, Copy, Debug, PartialEq, Eq)]
+#[derive(Clone, Copy)]
 pub enum BadTags {
     /// One of them is no tag of one to three bytes.
     Form,
@@ -35,7 +36,7 @@ impl From<AllocError> for BadTags {
 }
 
 /// Whose data a TPDU moves.
-#[derive(Clone, Copy, Debug, PartialEq, Eq)]
+#[derive(Clone, Copy)]
 pub struct Origin {
     /// The header of the command: of the first one, where a response comes in parts.
     pub header: Header,
@@ -78,7 +79,7 @@ impl Origin {
 }
 
 /// What of data is shown.
-#[derive(Clone, Copy, Debug, PartialEq, Eq)]
+#[derive(Clone, Copy)]
 enum Shown {
     All,
     /// Objects, but for the values of those that are not shown.
@@ -165,35 +166,30 @@ impl Mask {
         }
     }
 
-    /// Data as lines: as a tree where they may be objects and are some, and else as digits, with
-    /// text beside them.
-    pub fn data_lines(
-        &self,
-        alloc: Global,
-        origin: Origin,
-        may_be_objects: bool,
-        bytes: &[u8],
-    ) -> Result<String, AllocError> {
+    /// Adds data as lines: as a tree where they may be objects and are some, and else as digits,
+    /// with text beside them.
+    pub fn push_data(&self, text: &mut Draft, origin: Origin, may_be_objects: bool, bytes: &[u8]) {
         match self.shown(origin) {
-            Shown::All if may_be_objects => match tree_of(alloc, bytes, self)? {
-                Some(tree) => Ok(tree),
-                None => text_lines(alloc, bytes),
-            },
-            Shown::All => text_lines(alloc, bytes),
-            Shown::Objects if may_be_objects => match tree_of(alloc, bytes, self)? {
-                Some(tree) => Ok(tree),
-                None => hidden_line(alloc),
-            },
-            Shown::Objects | Shown::Nothing => hidden_line(alloc),
+            Shown::All => {
+                if !may_be_objects || !push_tree(text, bytes, self) {
+                    push_lines(text, bytes);
+                }
+            }
+            Shown::Objects => {
+                if !may_be_objects || !push_tree(text, bytes, self) {
+                    push_hidden_line(text);
+                }
+            }
+            Shown::Nothing => push_hidden_line(text),
         }
     }
 
-    /// These lines, or one that shows nothing where something is not shown.
-    pub fn or_hidden(&self, alloc: Global, lines: String) -> Result<String, AllocError> {
+    /// Adds bytes of which it can't be known what they are, as lines of digits.
+    pub fn push_unknown(&self, text: &mut Draft, bytes: &[u8]) {
         if self.hides {
-            hidden_line(alloc)
+            push_hidden_line(text);
         } else {
-            Ok(lines)
+            push_hex_lines(text, bytes);
         }
     }
 }
@@ -234,10 +230,7 @@ fn push(tags: &mut Vec<Tag>, tag: Tag) -> Result<(), AllocError> {
     tags.push(tag).map_err(AllocError::from)
 }
 
-/// A line that shows nothing.
-fn hidden_line(alloc: Global) -> Result<String, AllocError> {
-    let mut text = String::new(alloc);
-    text.push_str(HIDDEN)?;
-    text.push('\n')?;
-    Ok(text)
+/// Adds a line that shows nothing.
+pub fn push_hidden_line(text: &mut Draft) {
+    writeln!(text, "{HIDDEN}");
 }

@@ -1,10 +1,10 @@
 //! What is said of a status word (ISO/IEC 7816-4, 5.1.3).
 
+use crate::draft::Draft;
 use crate::instructions::counts_tries;
 use crate::phrases::unit_of;
 use crate::statuses::{KINDS, WORDS};
 use apdu_core::{Header, Status, count};
-use std::alloc::AllocError;
 
 /// The class of a SIM card, in which `9FXX` announces data (3GPP TS 51.011, 9.4.1).
 const SIM: u8 = 0xA0;
@@ -20,7 +20,7 @@ pub fn waiting(header: Header, status: Status) -> Option<u16> {
 }
 
 /// Adds what the status of a command means.
-pub fn push_meaning(text: &mut String, header: Header, status: Status) -> Result<(), AllocError> {
+pub fn push_meaning(text: &mut Draft, header: Header, status: Status) {
     if let Some(bytes) = waiting(header, status) {
         return push_waiting(text, status, bytes);
     }
@@ -37,7 +37,7 @@ pub fn push_meaning(text: &mut String, header: Header, status: Status) -> Result
 }
 
 /// Adds how many bytes wait: `6100` says that they are 256 or more (ISO/IEC 7816-3, 12).
-fn push_waiting(text: &mut String, status: Status, bytes: u16) -> Result<(), AllocError> {
+fn push_waiting(text: &mut Draft, status: Status, bytes: u16) {
     let least = if status.sw1() == 0x61 && bytes == 256 {
         "at least "
     } else {
@@ -48,11 +48,11 @@ fn push_waiting(text: &mut String, status: Status, bytes: u16) -> Result<(), All
     } else {
         ("bytes", "wait")
     };
-    write!(text, "{least}{bytes} {unit} of the response {verb}")
+    write!(text, "{least}{bytes} {unit} of the response {verb}");
 }
 
 /// Adds what `63CX` says: the tries that are left, where the command has such a counter.
-fn push_counter(text: &mut String, header: Header, left: u8) -> Result<(), AllocError> {
+fn push_counter(text: &mut Draft, header: Header, left: u8) {
     if !counts_tries(header) {
         return write!(text, "a warning: a counter stands at {left}");
     }
@@ -64,8 +64,8 @@ fn push_counter(text: &mut String, header: Header, left: u8) -> Result<(), Alloc
 }
 
 /// Adds that the card has a question of so many bytes.
-fn push_query(text: &mut String, kind: &str, bytes: u8) -> Result<(), AllocError> {
-    write!(text, "{kind}: the card has a query of {bytes} bytes")
+fn push_query(text: &mut Draft, kind: &str, bytes: u8) {
+    write!(text, "{kind}: the card has a query of {bytes} bytes");
 }
 
 /// What a status word means that counts nothing.

@@ -14,7 +14,7 @@ pub const PPSS: u8 = 0xFF;
 const TURNED_TS: u8 = 0x03;
 
 /// How far the characters are that came since the trace began or the card was reset.
-#[derive(Clone, Copy, Debug, PartialEq, Eq)]
+#[derive(Clone, Copy)]
 pub enum Stage {
     /// An answer may begin: nothing has come, or an answer or a response is over.
     Ready,
@@ -34,7 +34,7 @@ pub enum Stage {
 }
 
 /// What a character is.
-#[derive(Clone, Copy, Debug, PartialEq, Eq)]
+#[derive(Clone, Copy, PartialEq, Eq)]
 pub enum Role {
     /// TS of an answer, which is turned by this convention.
     Ts(Convention),

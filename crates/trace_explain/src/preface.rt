@@ -10,7 +10,7 @@ use std::alloc::{AllocError, Global};
 use t0_core::End;
 
 /// What has come since the trace began or the card was reset, until the dialogue begins.
-#[derive(Debug, Drop)]
+#[derive(Drop)]
 pub struct Preface {
     stage: Stage,
     turned: Convention,

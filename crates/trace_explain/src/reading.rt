@@ -9,7 +9,7 @@ use crate::ways::Ways;
 use t0_core::End;
 
 /// How the lines of a trace are read: what the words say of it, and the lines before.
-#[derive(Clone, Copy, Debug)]
+#[derive(Clone, Copy)]
 pub struct Reading {
     /// The form of the lines, where it is known.
     pub form: Option<Form>,

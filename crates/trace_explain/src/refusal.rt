@@ -4,7 +4,7 @@ use std::alloc::AllocError;
 use t0_core::Unheard;
 
 /// Why a character was not taken.
-#[derive(Clone, Copy, Debug, PartialEq, Eq)]
+#[derive(Clone, Copy)]
 pub enum Refusal {
     /// No dialogue goes on with it.
     NoDialogue(Unheard),

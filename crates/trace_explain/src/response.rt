@@ -9,7 +9,7 @@ use std::alloc::{AllocError, Global};
 pub const UNTOLD_SIZE: usize = 65_536;
 
 /// What the last status asks of the terminal.
-#[derive(Clone, Copy, Debug, PartialEq, Eq)]
+#[derive(Clone, Copy)]
 enum Asked {
     Nothing,
     /// `61XX`, or `9FXX` of a SIM card: a GET RESPONSE.

@@ -5,7 +5,7 @@ ghost use Rattle.std.specs.Prelude.{◌≡◌};
 use t0_core::Step;
 
 /// How many procedure bytes of each kind have come, up to the greatest number that it can hold.
-#[derive(Clone, Copy, Debug, PartialEq, Eq)]
+#[derive(Clone, Copy)]
 pub struct Tally {
     /// NULLs.
     pub nulls: u64,

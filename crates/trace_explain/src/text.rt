@@ -1,7 +1,7 @@
 //! An explanation as lines of text, of at most 100 columns.
 
+use crate::draft::Draft;
 use crate::layout::Side;
-use std::alloc::AllocError;
 
 /// The most columns of a line.
 const COLUMNS: usize = 100;
@@ -10,24 +10,24 @@ const COLUMNS: usize = 100;
 const ROW_INDENT: usize = 15;
 
 /// Adds the title of a box.
-pub fn open(out: &mut String, title: &str, line: u64) -> Result<(), AllocError> {
-    let column = push_words(out, title, 0, "    ")?;
+pub fn open(out: &mut Draft, title: &str, line: u64) {
+    let column = push_words(out, title, 0, "    ");
     let width = "  (line )".len().saturating_add(digits(line));
     if column.saturating_add(width) > COLUMNS {
-        writeln!(out, "\n    (line {line})")
+        writeln!(out, "\n    (line {line})");
     } else {
-        writeln!(out, "  (line {line})")
+        writeln!(out, "  (line {line})");
     }
 }
 
 /// Adds the title of the last block.
-pub fn open_block(out: &mut String, title: &str) -> Result<(), AllocError> {
-    writeln!(out, "{title}")
+pub fn open_block(out: &mut Draft, title: &str) {
+    writeln!(out, "{title}");
 }
 
 /// Adds a row: a sign for the end that says it, and the label, before the first line, and spaces
 /// before the others.
-pub fn row(out: &mut String, side: Side, label: &str, lines: &str) -> Result<(), AllocError> {
+pub fn row(out: &mut Draft, side: Side, label: &str, lines: &str) {
     let sign = match side {
         Side::Terminal => ">",
         Side::Card => "<",
@@ -36,35 +36,28 @@ pub fn row(out: &mut String, side: Side, label: &str, lines: &str) -> Result<(),
     let mut is_first = true;
     for line in lines.lines() {
         if is_first {
-            write!(out, "  {sign} {label:<10} ")?;
+            write!(out, "  {sign} {label:<10} ");
         } else {
-            out.push_str("               ")?;
+            out.push_str("               ");
         }
-        push_words(out, line, ROW_INDENT, "               ")?;
-        out.push('\n')?;
+        push_words(out, line, ROW_INDENT, "               ");
+        out.push('\n');
         is_first = false;
     }
-    Ok(())
 }
 
 /// Adds a line that stands alone.
-pub fn note(out: &mut String, note: &str) -> Result<(), AllocError> {
+pub fn note(out: &mut Draft, note: &str) {
     for line in note.lines() {
-        out.push_str("| ")?;
-        push_words(out, line, 2, "|   ")?;
-        out.push('\n')?;
+        out.push_str("| ");
+        push_words(out, line, 2, "|   ");
+        out.push('\n');
     }
-    Ok(())
 }
 
 /// Adds words that begin in this column, counted from 0, and go on behind an indent in a new line
 /// where there are too many; it answers the column behind them.
-fn push_words(
-    out: &mut String,
-    words: &str,
-    begins: usize,
-    indent: &str,
-) -> Result<usize, AllocError> {
+fn push_words(out: &mut Draft, words: &str, begins: usize, indent: &str) -> usize {
     let mut column = begins;
     let mut is_first = true;
     for word in words.split(' ') {
@@ -72,17 +65,17 @@ fn push_words(
         if is_first {
             column = behind;
         } else if behind < COLUMNS {
-            out.push(' ')?;
+            out.push(' ');
             column = behind.saturating_add(1);
         } else {
-            out.push('\n')?;
-            out.push_str(indent)?;
+            out.push('\n');
+            out.push_str(indent);
             column = indent.len().saturating_add(word.len());
         }
-        out.push_str(word)?;
+        out.push_str(word);
         is_first = false;
     }
-    Ok(column)
+    column
 }
 
 /// How many decimal digits a number has.

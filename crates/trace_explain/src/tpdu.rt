@@ -10,7 +10,7 @@ use std::alloc::{AllocError, Global};
 use t0_core::{Direction, Heard};
 
 /// What was heard of a TPDU: all of it, or how far it came.
-#[derive(Debug, Drop)]
+#[derive(Drop)]
 pub struct Tpdu {
     /// CLA INS P1 P2 P3, as many as have come.
     pub header: Vec<u8>,
@@ -47,14 +47,19 @@ impl Tpdu {
     /// The same once more. The error is want of memory.
     pub fn copied(&self, alloc: Global) -> Result<Tpdu, AllocError> {
         let mut other = Tpdu::new(alloc);
-        other.header.extend_from_slice(self.header.as_slice())?;
+        self.copy_to(&mut other)?;
+        Ok(other)
+    }
+
+    /// Makes an empty one the same.
+    fn copy_to(&self, other: &mut Tpdu) -> Result<(), AllocError> {
         other.tally = self.tally;
         other.way = self.way;
+        other.le = self.le;
+        other.header.extend_from_slice(self.header.as_slice())?;
         other.moved.extend_from_slice(self.moved.as_slice())?;
         other.status.extend_from_slice(self.status.as_slice())?;
-        other.le = self.le;
-        other.answer.extend_from_slice(self.answer.as_slice())?;
-        Ok(other)
+        other.answer.extend_from_slice(self.answer.as_slice())
     }
 
     /// Notes one more character, which was this. The error is want of memory.

@@ -10,7 +10,7 @@ use std::alloc::{AllocError, Global};
 use t0_core::End;
 
 /// What a line of a trace is.
-#[derive(Debug, Drop)]
+#[derive(Drop)]
 pub enum TraceLine<'a> {
     /// Characters, behind the sign of an end in some form, and a time or none before it.
     Characters(Form, End, Vec<u8>),
@@ -21,7 +21,7 @@ pub enum TraceLine<'a> {
 }
 
 /// Why a line is refused.
-#[derive(Clone, Copy, Debug, PartialEq, Eq)]
+#[derive(Clone, Copy)]
 pub enum BadLine {
     /// It begins with a sign, and behind that there is no space with digits of bytes.
     Hex,

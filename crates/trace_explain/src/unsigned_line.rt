@@ -8,7 +8,7 @@ use crate::trace_line::{BadLine, is_signed};
 use std::alloc::Global;
 
 /// What a line of a trace without signs is.
-#[derive(Debug, Drop)]
+#[derive(Drop)]
 pub enum UnsignedLine<'a> {
     /// Characters of either end, behind a time or none.
     Characters(Vec<u8>),

@@ -7,14 +7,14 @@ use std::fmt;
 use t0_core::Direction;
 
 /// What the words say of the ways of instructions, in every class.
-#[derive(Clone, Copy, Debug)]
+#[derive(Clone, Copy)]
 pub struct Ways {
     /// The way of each INS.
     pub said: [Option<Direction>; 256],
 }
 
 /// Why the ways of instructions can't be said so.
-#[derive(Clone, Copy, Debug, PartialEq, Eq)]
+#[derive(Clone, Copy)]
 pub enum BadWays {
     /// The words are not two digits for each instruction, with commas between them.
     Form,

@@ -1,12 +1,11 @@
 -- What lines of a log say, and which TPDU a command and its answer are: worked rows, computed from
 -- the definitions, and near misses.
-use Rattle.std.proofs.Common.{◌≡◌, ℕ, List, [], ◌∷◌, codes, refl, Some, None, true, false}
+use Rattle.std.proofs.Common.{◌≡◌, [], ◌∷◌, codes, refl, Some, None, true, false}
 use Rattle.t0_core.specs.declared.end.End.TheVariants as end
 use Rattle.t0_core.specs.declared.direction.Direction.TheVariants.{ToCard, FromCard}
 use Rattle.trace_explain.specs.declared.log.Open.TheVariants as going
 use Rattle.trace_explain.specs.declared.log_line.LineKind.TheVariants as kind
 use Rattle.trace_explain.specs.Exchanges.{beside, command_in, data_in, is_extended, moved_of, status_in, way_of}
-use Rattle.trace_explain.specs.Lines.{bytes_in}
 use Rattle.trace_explain.specs.LogLines.{cut_line, dumped_in, number_in, rest_in, size_in}
 use Rattle.trace_explain.specs.Logs.{LogAt, Unanswered, Begins, Stray, Exchange, Part, answered, at_first, begun, ended, gone_on}
 use Rattle.trace_explain.specs.Noted.{are_status}

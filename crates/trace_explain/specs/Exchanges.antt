@@ -6,7 +6,7 @@ use Rattle.trace_explain.specs.declared.exchange.BadExchange.{BadExchange}
 use Rattle.trace_explain.specs.declared.exchange.BadExchange.TheVariants as bad
 use Rattle.trace_explain.specs.declared.tpdu.Tpdu.{Tpdu}
 use Rattle.trace_explain.specs.Noted.{are_status}
-use Rattle.trace_explain.specs.Told.{Told, told_by, uncounted}
+use Rattle.trace_explain.specs.Told.{told_by, uncounted}
 
 -- A short command (ISO/IEC 7816-4, 5.1): CLA INS P1 P2 and P3, data of the terminal, and Le behind
 -- them, where it stands there.

@@ -1,5 +1,5 @@
 -- The lines of a log of whole TPDUs or APDUs, and what each says.
-use Rattle.std.specs.Prelude.{◌≡◌, ℕ, ◌+◌, ◌-◌, ◌*◌, min, List, [], ◌∷◌, take, drop, codes, length, Option, Some, None, Bool, true, false, not, nat_le, nat_lt, ◌==◌, ◌&&◌, ◌||◌, if◌then◌else◌}
+use Rattle.std.specs.Prelude.{◌≡◌, ℕ, ◌+◌, ◌-◌, ◌*◌, min, List, [], ◌∷◌, take, drop, codes, length, Option, Some, None, Bool, true, false, not, nat_lt, ◌==◌, ◌&&◌, ◌||◌, if◌then◌else◌}
 use Rattle.t0_core.specs.declared.end.End.TheVariants as end
 use Rattle.trace_explain.specs.declared.log_line.LineKind.{LineKind}
 use Rattle.trace_explain.specs.declared.log_line.LineKind.TheVariants as kind

@@ -1,5 +1,5 @@
 -- Whose turn it is, where no sign says who sent a character.
-use Rattle.std.specs.Prelude.{ℕ, List, Option, Some, None, Bool, true, false, ◌==◌, nat_lt, not, length, get_or, is_some, if◌then◌else◌, Result, Ok, Err}
+use Rattle.std.specs.Prelude.{ℕ, Option, Some, None, Bool, true, false, ◌==◌, nat_lt, length, get_or, is_some, if◌then◌else◌, Result, Ok, Err}
 use Rattle.atr_core.specs.Conventions.{convention_of}
 use Rattle.t0_core.specs.declared.direction.Direction.{Direction}
 use Rattle.t0_core.specs.declared.direction.Direction.TheVariants.{ToCard, FromCard}

@@ -1,5 +1,5 @@
 -- The lines of a trace without signs, and what is heard of each.
-use Rattle.std.specs.Prelude.{◌≡◌, ◌≢◌, ℕ, List, [], ◌∷◌, ◌++◌, codes, Option, Some, None, true, false, Result, Ok}
+use Rattle.std.specs.Prelude.{◌≡◌, ◌≢◌, ℕ, List, [], ◌∷◌, ◌++◌, codes, Option, Some, None, true, false, Ok}
 use Rattle.t0_core.specs.declared.end.End.{End}
 use Rattle.t0_core.specs.History as history
 use Rattle.t0_core.specs.History.{Event}

@@ -1,5 +1,5 @@
 -- Which way the data of an instruction go, where no sign says who sent them.
-use Rattle.std.specs.Prelude.{◌≡◌, ℕ, List, [], ◌∷◌, ◌++◌, Option, Some, None, Bool, false, ◌==◌, ◌||◌, nat_lt, if◌then◌else◌, get_or}
+use Rattle.std.specs.Prelude.{ℕ, List, [], ◌∷◌, Option, Some, None, Bool, false, ◌==◌, ◌||◌, nat_lt, if◌then◌else◌, get_or}
 use Rattle.t0_core.specs.declared.direction.Direction.{Direction}
 use Rattle.t0_core.specs.declared.direction.Direction.TheVariants.{ToCard, FromCard}
 use Rattle.trace_explain.specs.declared.ways.Ways.{Ways}

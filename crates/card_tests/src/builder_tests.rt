@@ -1,6 +1,6 @@
 //! What a builder takes, and what it refuses, in the order of its refusals.
 
-use super::trace::{add, add_object, aid, built, bytes, entries, full, holds, tag};
+use super::trace::{add, add_object, aid, built, bytes, entries, full, holds, is_locked, tag};
 use object_card::{BuilderFault, ObjectCard, VALUE_LIMIT};
 use std::alloc::AllocGlobal;
 use std::process::Abort;
@@ -21,11 +21,11 @@ fn lists(
     objects: &[(&str, u8, bool)],
 ) {
     let aid = aid(rt, application);
-    let mut entries = card.entries(&aid).expect(rt, "an application");
+    let mut entries = entries(rt, card, &aid);
     for (name, byte, locked) in objects {
         let name = tag(rt, name);
-        assert!(rt; entries.next() == Some((name, [*byte].as_slice())));
-        assert!(rt; card.is_locked(&aid, name) == *locked);
+        let is_next = entries.next() == Some((name, [*byte].as_slice()));
+        assert!(rt; is_next && is_locked(card, &aid, name) == *locked);
     }
     assert!(rt; entries.next().is_none());
 }
@@ -72,19 +72,19 @@ fn refuses(rt: &(impl Abort + AllocGlobal), table: &str, line: &str, fault: Buil
 fn refuses_applications(rt: HostRuntime) {
     let eight = "app A000000003; app A000000012; app A000000013; app A000000014; app A000000015; \
                  app A000000016; app A000000017; app A000000018";
-    for (table, line, fault) in [
+    for (table, line, fault) in &[
         (FIRST, FIRST, BuilderFault::Twice),
         (eight, "app A000000004", BuilderFault::TooManyApps),
         (eight, FIRST, BuilderFault::Twice),
     ] {
-        refuses(&rt, table, line, fault);
+        refuses(&rt, table, line, *fault);
     }
 }
 
 #[test]
 fn refuses_objects(rt: HostRuntime) {
     let longest = "app A000000003; object 50 41*8192";
-    for (table, line, fault) in [
+    for (table, line, fault) in &[
         ("", "object 50 41", BuilderFault::NoApp),
         ("", "locked 50 41*8193", BuilderFault::NoApp),
         (FIRST, "object 50 41*8193", BuilderFault::ValueTooLong),
@@ -92,7 +92,7 @@ fn refuses_objects(rt: HostRuntime) {
         (longest, "object 50 41*8193", BuilderFault::ValueTooLong),
         (FIRST, "object 70 500541", BuilderFault::NotObjects),
     ] {
-        refuses(&rt, table, line, fault);
+        refuses(&rt, table, line, *fault);
     }
 }
 
@@ -100,7 +100,7 @@ fn refuses_objects(rt: HostRuntime) {
 /// `821F31`.
 fn longest_template(rt: &(impl Abort + AllocGlobal)) -> Vec<u8> {
     let mut value = bytes(rt, "5081C8");
-    for part in ["41*200", "51821F31", "42*7985"] {
+    for part in &["41*200", "51821F31", "42*7985"] {
         value
             .extend_from_slice(&bytes(rt, part))
             .expect(rt, "memory");
@@ -124,15 +124,16 @@ fn takes_a_template_of_8192_bytes(rt: HostRuntime) {
 #[test]
 fn refuses_one_object_more(rt: HostRuntime) {
     let table = full(&rt, 0x00);
-    for (line, fault) in [
+    for (line, fault) in &[
         ("object 50 41", BuilderFault::Full),
         ("locked 50 41", BuilderFault::Full),
         ("object 70 500541", BuilderFault::NotObjects),
     ] {
-        refuses(&rt, &table, line, fault);
+        refuses(&rt, &table, line, *fault);
     }
     let mut builder = built(&rt, rt.alloc(), &table);
     assert!(rt; add(&rt, &mut builder, "locked DF01 41").is_ok());
-    let after = format!(in rt.alloc(); "{table}; locked DF01 41").expect(&rt, "memory");
+    let mut after = table;
+    after.push_str("; locked DF01 41").expect(&rt, "memory");
     holds(&rt, &builder.finish().expect(&rt, "memory"), &after);
 }

@@ -45,11 +45,6 @@ fn answers(rt: &(impl Abort + AllocGlobal), table: &str, of: &str, trace: &str, 
     holds(rt, end.card(), after);
 }
 
-/// The same without plans, where no entry changes.
-fn answers_alone(rt: &(impl Abort + AllocGlobal), table: &str, trace: &str) {
-    answers(rt, table, "", trace, table);
-}
-
 #[test]
 fn a_select_brings_the_control_information(rt: HostRuntime) {
     let mut end = end_over(&rt, rt.alloc(), NAMED);
@@ -64,51 +59,64 @@ fn a_select_brings_the_control_information(rt: HostRuntime) {
 
 #[test]
 fn an_object_is_sent_whole(rt: HostRuntime) {
-    for (object, of, trace) in [
+    for (table, of, trace) in &[
         (
-            "5F20 4A4F45",
+            NAMED,
             "",
             "> 00CA5F2000 < 6C06 > 00CA5F2006 < CA 5F20034A4F45 9000",
         ),
         (
-            "5F20 4A4F45",
+            NAMED,
             "-:256 nona:256",
             "> 00CA5F2000 < 6C06 > 00CA5F2006 < 60 35 5F 60 CA 20034A4F45 9000",
         ),
-        ("50 41*253", "", "> 00CA005000 < CA 5081FD 41*253 9000"),
         (
-            "50 41*254",
+            "app A0000000031010; object 50 41*253",
+            "",
+            "> 00CA005000 < CA 5081FD 41*253 9000",
+        ),
+        (
+            "app A0000000031010; object 50 41*254",
             "",
             "> 00CA005000 < CA 5081FE 41*253 6101 > 00C0000001 < C0 41 9000",
         ),
         (
-            "50 41*596",
+            "app A0000000031010; object 50 41*596",
             "-:1 -:100 -:256",
             "> 00CA005000 < CA 50820254 41*252 6101 > 00C0000001 < C0 41 6164 \
              > 00C0000064 < C0 41*100 61F3 > 00C00000F3 < C0 41*243 9000",
         ),
         (
-            "50 41*596",
+            "app A0000000031010; object 50 41*596",
             "",
             "> 00CA005000 < CA 50820254 41*252 6100 > 00C0000000 < C0 41*256 6158 \
              > 00C0000058 < C0 41*88 9000",
         ),
         (
-            "70 005081014100",
+            "app A0000000031010; object 70 005081014100",
             "",
             "> 00CA007000 < 6C08 > 00CA007008 < CA 7006005081014100 9000",
         ),
     ] {
-        let table = format!(in rt.alloc(); "app A0000000031010; object {object}").expect(
-            &rt, "memory",
-        );
-        answers(&rt, &table, of, trace, &table);
+        answers(&rt, table, of, trace, table);
     }
+}
+
+/// An application with two objects, of which the first has this value, and another one.
+fn two_apps(rt: &(impl Abort + AllocGlobal), value: &str) -> String {
+    let others = "object 50 41; app A0000000041010; object 5F20 43";
+    format!(in rt.alloc(); "app A0000000031010; object 5F20 {value}; {others}").expect(rt, "memory")
+}
+
+/// The value `4A4F45` is replaced by this one.
+fn replaces(rt: &(impl Abort + AllocGlobal), of: &str, trace: &str, value: &str) {
+    let before = two_apps(rt, "4A4F45");
+    answers(rt, &before, of, trace, &two_apps(rt, value));
 }
 
 #[test]
 fn a_put_replaces_the_value(rt: HostRuntime) {
-    for (value, of, trace) in [
+    for (value, of, trace) in &[
         (
             "-",
             "",
@@ -133,19 +141,13 @@ fn a_put_replaces_the_value(rt: HostRuntime) {
         ),
         ("4142", "oo:256", "> 00DA5F2002 < 25 > 41 < 25 > 42 < 9000"),
     ] {
-        let others = "object 50 41; app A0000000041010; object 5F20 43";
-        let before = format!(in rt.alloc(); "{NAMED}; {others}").expect(&rt, "memory");
-        let after = format!(in rt.alloc();
-            "app A0000000031010; object 5F20 {value}; {others}"
-        ).expect(&rt, "memory");
-        answers(&rt, &before, of, trace, &after);
+        replaces(&rt, of, trace, value);
     }
 }
 
 #[test]
 fn a_put_of_a_template_is_of_objects(rt: HostRuntime) {
-    let stored = format!(in rt.alloc(); "{NAMED}; object 70 005081014100").expect(&rt, "memory");
-    for (trace, after) in [
+    for (trace, after) in &[
         ("> 00DA007003 < DA > 500541 < 6A80", NAMED),
         (
             "> 00DA007020 < DA > 701E701C701A70187016701470127010700E700C700A70087006700470027000 \
@@ -160,7 +162,7 @@ fn a_put_of_a_template_is_of_objects(rt: HostRuntime) {
         (
             "> 00DA007006 < DA > 005081014100 < 9000 \
              > 00CA007000 < 6C08 > 00CA007008 < CA 7006005081014100 9000",
-            stored.as_str(),
+            "app A0000000031010; object 5F20 4A4F45; object 70 005081014100",
         ),
     ] {
         answers(&rt, NAMED, "", trace, after);
@@ -180,9 +182,19 @@ fn headers_are_refused_under_a_plan(rt: HostRuntime) {
     answers(&rt, NAMED, "nna:256", trace, NAMED);
 }
 
+/// The traces pass, one after the other, and no entry changes.
+fn go_over(rt: &(impl Abort + AllocGlobal), before: &str, trace: &str, after: &str) {
+    let mut end = selected(rt, NAMED);
+    passes_alone(rt, &mut end, before);
+    passes_alone(rt, &mut end, trace);
+    passes_alone(rt, &mut end, after);
+    is_over(rt, &mut end, trace);
+    holds(rt, end.card(), NAMED);
+}
+
 #[test]
 fn headers_are_refused_in_order(rt: HostRuntime) {
-    for trace in [
+    for trace in &[
         "> 01CA5F2000 < 6E00",
         "> FFB0000000 < 6E00",
         "> 80DA5F2001 < 6E00",
@@ -203,41 +215,50 @@ fn headers_are_refused_in_order(rt: HostRuntime) {
         "> 00A4040007 < A4 > A0000000041010 < 6A82",
         "> 00CA5F2007 < 6C06",
     ] {
-        let read = "A5F2006 < CA 5F20034A4F45 9000";
-        let trace = format!(in rt.alloc(); "> 00C{read} {trace} > 80C{read}").expect(&rt, "memory");
-        answers_alone(&rt, NAMED, &trace);
+        let after = "> 80CA5F2006 < CA 5F20034A4F45 9000";
+        go_over(&rt, "> 00CA5F2006 < CA 5F20034A4F45 9000", trace, after);
     }
 }
 
 /// After each piece of a chain the trace passes and ends it.
-fn ends_a_chain(rt: &(impl Abort + AllocGlobal), end: &mut CardEnd<ObjectCard>, trace: &str) {
-    for piece in ["> 10DA5F2001 < DA > AA < 9000", "> 10DA5F2000 < 9000"] {
-        passes_alone(rt, end, piece);
-        assert!(rt; !end.card().is_idle());
-        passes_alone(rt, end, trace);
-        assert!(rt; end.card().is_idle());
-        passes_alone(rt, end, "> 00C0000000 < 6985");
+fn ends_a_chain(rt: &(impl Abort + AllocGlobal), trace: &str) {
+    let mut end = selected(rt, NAMED);
+    for piece in &["> 10DA5F2001 < DA > AA < 9000", "> 10DA5F2000 < 9000"] {
+        is_chained(rt, &mut end, piece, trace);
     }
+    holds(rt, end.card(), NAMED);
+}
+
+/// A piece begins a chain, and the trace ends it.
+fn is_chained(
+    rt: &(impl Abort + AllocGlobal),
+    end: &mut CardEnd<ObjectCard>,
+    piece: &str,
+    trace: &str,
+) {
+    passes_alone(rt, end, piece);
+    assert!(rt; !end.card().is_idle());
+    passes_alone(rt, end, trace);
+    assert!(rt; end.card().is_idle());
+    passes_alone(rt, end, "> 00C0000000 < 6985");
 }
 
 #[test]
 fn a_chain_expects_its_last_command(rt: HostRuntime) {
-    for trace in [
+    for trace in &[
         "> 00CA5F2000 < 6883",
         "> FF60000000 < 6883",
         "> 10DA9F3601 < 6883",
         "> 80DA5F2001 < 6883",
         "> 00C0000000 < 6883",
     ] {
-        let mut end = selected(&rt, NAMED);
-        ends_a_chain(&rt, &mut end, trace);
-        holds(&rt, end.card(), NAMED);
+        ends_a_chain(&rt, trace);
     }
 }
 
 #[test]
 fn what_keeps_a_response_and_what_drops_it(rt: HostRuntime) {
-    for trace in [
+    for trace in &[
         "> 00C00000FF < 6C04 > 00C0000004 < C0 034A4F45 9000 > 00C0000001 < 6985",
         "> 00C0000001 < C0 03 6103 > 00C0000003 < C0 4A4F45 9000",
         "> 00A4040007 < A4 > A0000000031010 < 610B > 00C000000B < C0 6F098407A0000000031010 9000",
@@ -248,60 +269,59 @@ fn what_keeps_a_response_and_what_drops_it(rt: HostRuntime) {
         "> 10DA5F2001 < DA > AA < 9000 > 00C0000004 < 6883 > 00C0000004 < 6985",
         "> 00CA5F2006 < CA 5F20034A4F45 9000 > 00C0000004 < 6985",
     ] {
-        let trace = format!(in rt.alloc(); "> 00CA5F2002 < CA 5F20 6104 {trace}").expect(
-            &rt, "memory",
-        );
-        answers_alone(&rt, NAMED, &trace);
+        go_over(&rt, "> 00CA5F2002 < CA 5F20 6104", trace, "");
     }
 }
 
 #[test]
 fn what_is_cut_off_changes_no_entry(rt: HostRuntime) {
-    for (trace, after) in [
-        ("> 00DA5F2002 < DA > BB", "object 5F20 4A4F45"),
-        ("> 00DA5F2001 < DA > BB < 90 reset", "object 5F20 4A4F45"),
-        ("> 00DA5F2001 < DA > BB < 9000 reset", "object 5F20 BB"),
-        ("> 10DA5F2001 < DA > AA < 9000 reset", "object 5F20 4A4F45"),
+    for (trace, after) in &[
+        ("> 00DA5F2002 < DA > BB", NAMED),
+        ("> 00DA5F2001 < DA > BB < 90 reset", NAMED),
+        (
+            "> 00DA5F2001 < DA > BB < 9000 reset",
+            "app A0000000031010; object 5F20 BB",
+        ),
+        ("> 10DA5F2001 < DA > AA < 9000 reset", NAMED),
         (
             "> 10DA5F2001 < DA > AA < 9000 > 00DA5F2001 < DA > BB < 90 reset",
-            "object 5F20 4A4F45",
+            NAMED,
         ),
         (
             "> 10DA5F2001 < DA > AA < 9000 > 10DA9F3601 < 6883 > 00DA5F2001 < DA > CC < 9000",
-            "object 5F20 CC",
+            "app A0000000031010; object 5F20 CC",
         ),
         (
             "> 10DA5F2001 < DA > AA < 9000 reset > 00A4040007 < A4 > A0000000031010 < 610B \
              > 00DA5F2001 < DA > BB < 9000",
-            "object 5F20 BB",
+            "app A0000000031010; object 5F20 BB",
         ),
         (
             "> 00DA9F3601 < DA > 01 < 90 reset > 00A4040007 < A4 > A0000000031010 < 610B \
              > 00DA005001 < DA > 02 < 9000",
-            "object 5F20 4A4F45; object 50 02",
+            "app A0000000031010; object 5F20 4A4F45; object 50 02",
         ),
         (
             "> 00CA reset > 00CA5F2000 < 6985 > 00A4040007 < A4 > A0000000031010 < 610B",
-            "object 5F20 4A4F45",
+            NAMED,
         ),
     ] {
-        let after = format!(in rt.alloc(); "app A0000000031010; {after}").expect(&rt, "memory");
-        answers(&rt, NAMED, "", trace, &after);
+        answers(&rt, NAMED, "", trace, after);
     }
 }
 
 #[test]
 fn locked_entries_are_read_alone(rt: HostRuntime) {
-    let table = format!(in rt.alloc(); "{NAMED}; locked 50 41; locked 70 -").expect(&rt, "memory");
-    let mut end = end_over(&rt, rt.alloc(), &table);
+    let table = "app A0000000031010; object 5F20 4A4F45; locked 50 41; locked 70 -";
+    let mut end = end_over(&rt, rt.alloc(), table);
     passes_alone(&rt, &mut end, "> 00DA005001 < 6985");
-    for trace in [
+    for trace in &[
         "> 00DA005001 < 6982",
         "> 10DA0050FF < 6982",
         "> 00DA007003 < 6982",
         "> 00CA005000 < 6C03 > 00CA005003 < CA 500141 9000",
     ] {
-        answers_alone(&rt, &table, trace);
+        answers(&rt, table, "", trace, table);
     }
 }
 
@@ -321,30 +341,49 @@ fn takes_pieces(
     passes_alone(rt, end, last);
 }
 
+/// The card has taken so many pieces and the last one, and holds the other table then.
+fn is_taken_whole(rt: &(impl Abort + AllocGlobal), pieces: usize, last: &str, after: &str) {
+    let mut end = selected(rt, NAMED);
+    takes_pieces(rt, &mut end, pieces, last);
+    assert!(rt; end.card().is_idle());
+    holds(rt, end.card(), after);
+}
+
 #[test]
 fn a_value_has_so_many_bytes(rt: HostRuntime) {
-    for (pieces, last, value) in [
-        (1, "> 00DA5F20FF < DA > 42*255 < 9000", "42*510"),
-        (8, "> 00DA5F2008 < DA > 42*8 < 9000", "42*2048"),
-        (8, "> 00DA5F2009 < DA > 42*9 < 9000", "42*2049"),
-        (32, "> 00DA5F2020 < DA > 42*32 < 9000", "42*8192"),
-        (32, "> 00DA5F2021 < 6700", "4A4F45"),
-        (32, "> 10DA5F20FF < 6700", "4A4F45"),
+    for (pieces, last, after) in &[
+        (
+            1,
+            "> 00DA5F20FF < DA > 42*255 < 9000",
+            "app A0000000031010; object 5F20 42*510",
+        ),
+        (
+            8,
+            "> 00DA5F2008 < DA > 42*8 < 9000",
+            "app A0000000031010; object 5F20 42*2048",
+        ),
+        (
+            8,
+            "> 00DA5F2009 < DA > 42*9 < 9000",
+            "app A0000000031010; object 5F20 42*2049",
+        ),
+        (
+            32,
+            "> 00DA5F2020 < DA > 42*32 < 9000",
+            "app A0000000031010; object 5F20 42*8192",
+        ),
+        (32, "> 00DA5F2021 < 6700", NAMED),
+        (32, "> 10DA5F20FF < 6700", NAMED),
     ] {
-        let mut end = selected(&rt, NAMED);
-        takes_pieces(&rt, &mut end, pieces, last);
-        assert!(rt; end.card().is_idle());
-        let after = format!(in rt.alloc(); "app A0000000031010; object 5F20 {value}").expect(
-            &rt, "memory",
-        );
-        holds(&rt, end.card(), &after);
+        is_taken_whole(&rt, *pieces, last, after);
     }
 }
 
 #[test]
 fn a_full_table_takes_no_new_tag(rt: HostRuntime) {
     let table = full(&rt, 0x00);
-    let after = format!(in rt.alloc(); "{table}; object DF01 02").expect(&rt, "memory");
+    let mut after = full(&rt, 0x00);
+    after.push_str("; object DF01 02").expect(&rt, "memory");
     let trace = "> 00DADF4101 < DA > 01 < 6A84 > 00DA007003 < DA > 500541 < 6A80 \
                  > 00DADF0101 < DA > 02 < 9000";
     answers(&rt, &table, "", trace, &after);

@@ -236,7 +236,7 @@ fn takes_no_memory(rt: &(impl Abort + AllocGlobal), table: &str, trace: &str) {
 #[test]
 fn only_a_put_that_is_not_refused_takes_memory(rt: HostRuntime) {
     let table = "app A0000000031010; object 5F20 4A4F45; locked 50 41";
-    for trace in [
+    for trace in &[
         "> 00C000000B < C0 6F098407A0000000031010 9000 > 00CA5F2002 < CA 5F20 6104 \
          > 00C0000004 < C0 034A4F45 9000",
         "> 10DA9F36FF < DA > 42*255 < 9000 > 10DA9F3600 < 9000",
@@ -254,15 +254,20 @@ fn only_a_put_that_is_not_refused_takes_memory(rt: HostRuntime) {
 fn empties(rt: &(impl Abort + AllocGlobal), last: u8) -> String {
     let mut table = format!(in rt.alloc(); "app A0000000031010").expect(rt, "memory");
     for byte in 0x01..=last {
-        push_empty(rt, &mut table, byte);
+        push_object(rt, &mut table, byte, "-");
     }
     table
 }
 
-/// Appends an empty data object to a table.
-fn push_empty(rt: &(impl Abort + AllocGlobal), table: &mut String, last: u8) {
-    let object = format!(in rt.alloc(); "; object DF{last:02X} -").expect(rt, "memory");
+/// Appends a data object to a table.
+fn push_object(rt: &(impl Abort + AllocGlobal), table: &mut String, last: u8, value: &str) {
+    let object = format!(in rt.alloc(); "; object DF{last:02X} {value}").expect(rt, "memory");
     table.push_str(&object).expect(rt, "memory");
+}
+
+/// A put of 16 bytes.
+fn put_of(rt: &(impl Abort + AllocGlobal), last: u8) -> String {
+    format!(in rt.alloc(); "> 00DADF{last:02X}10 < DA > 42*16 < 9000").expect(rt, "memory")
 }
 
 /// The put passes where 16 bytes are left.
@@ -279,13 +284,12 @@ fn passes_in_its_place(
 
 /// A put of 16 bytes under the last tag of a table, where as many are left, is served in its place.
 fn is_put_in_its_place(rt: &(impl Abort + AllocGlobal), last: u8) {
+    let mut table = empties(rt, last);
     let heap = LocalHeap::new(rt.alloc(), 2 * ASIDE).expect(rt, "memory");
-    let before = empties(rt, last);
-    let put = format!(in rt.alloc(); "> 00DADF{last:02X}10 < DA > 42*16 < 9000");
-    let mut end = selected(rt, &heap, &before);
-    passes_in_its_place(rt, &heap, &mut end, &put.expect(rt, "memory"));
-    let after = format!(in rt.alloc(); "{before}; object DF{last:02X} 42*16");
-    holds(rt, end.card(), &after.expect(rt, "memory"));
+    let mut end = selected(rt, &heap, &table);
+    passes_in_its_place(rt, &heap, &mut end, &put_of(rt, last));
+    push_object(rt, &mut table, last, "42*16");
+    holds(rt, end.card(), &table);
 }
 
 #[test]

@@ -54,7 +54,7 @@ fn a_terminal_uses_the_simulator(rt: HostRuntime) -> Result<(), Fail> {
     let name = tag(&rt, "5F20");
     let mut end = card(rt.alloc(), aid(&rt, "A0000000031010"), name)?;
     let mut plans = Plans::over(&[]);
-    for (sent, wanted) in [
+    for (sent, wanted) in &[
         ("00A4040007", "A4"),
         ("A0000000031010", "610B"),
         ("00CA5F2006", "CA5F20034A4F459000"),

@@ -114,7 +114,7 @@ fn both_ends_would_wait(rt: HostRuntime) {
 fn bytes_that_are_not_carried_out(rt: HostRuntime) {
     let mut end = end_over(&rt, rt.alloc(), TABLE);
     are_answered(&rt, &mut end, &[("00A4040007A0000000031010", 0, "610B")]);
-    for tpdu in [
+    for tpdu in &[
         "",
         "00CA5F",
         "00DA5F200241",
@@ -138,16 +138,11 @@ fn bytes_that_are_not_carried_out(rt: HostRuntime) {
 fn the_longest_tpdus(rt: HostRuntime) {
     let mut end = end_over(&rt, rt.alloc(), TABLE);
     are_answered(&rt, &mut end, &[("00A4040007A0000000031010", 0, "610B")]);
-    let mut put = bytes(&rt, "00DA0050FF");
-    put.extend_from_slice(&bytes(&rt, "42*255"))
-        .expect(&rt, "memory");
-    let ok = bytes(&rt, "9000");
-    let mut whole = bytes(&rt, "50");
-    whole.extend_from_slice(&[0x81, 0xFF]).expect(&rt, "memory");
-    whole
-        .extend_from_slice(&bytes(&rt, "42*253"))
-        .expect(&rt, "memory");
-    whole.extend_from_slice(&[0x61, 0x02]).expect(&rt, "memory");
-    assert!(rt; is_answered(&rt, &mut end, &put, 0, &ok));
-    assert!(rt; is_answered(&rt, &mut end, &bytes(&rt, "00CA005000"), 256, &whole));
+    let mut put = [0x42; 260];
+    put[..5].copy_from_slice(b"\x00\xDA\x00\x50\xFF");
+    assert!(rt; is_answered(&rt, &mut end, &put, 0, b"\x90\x00"));
+    let mut whole = [0x42; 258];
+    whole[..3].copy_from_slice(b"\x50\x81\xFF");
+    whole[256..].copy_from_slice(b"\x61\x02");
+    assert!(rt; is_answered(&rt, &mut end, b"\x00\xCA\x00\x50\x00", 256, &whole));
 }

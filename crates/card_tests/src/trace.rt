@@ -129,7 +129,7 @@ pub fn entries<'a, A: Allocator + Copy>(
 }
 
 /// Whether an entry is locked, likewise.
-fn is_locked<A: Allocator + Copy>(card: &ObjectCard<A>, aid: &Aid, tag: ObjectTag) -> bool {
+pub fn is_locked<A: Allocator + Copy>(card: &ObjectCard<A>, aid: &Aid, tag: ObjectTag) -> bool {
     card.is_locked(aid, tag)
 }
 
@@ -218,7 +218,10 @@ pub fn passes<A: Allocator + Copy, B: Allocator>(
             ">" => from = End::Terminal,
             "<" => from = End::Card,
             "reset" => end.reset(),
-            _ => assert!(rt; move_all(end, plans, from, &bytes(rt, word)), "{trace}"),
+            _ => {
+                let passed = move_all(end, plans, from, &bytes(rt, word));
+                assert!(rt; passed, "{trace}");
+            }
         }
     }
 }

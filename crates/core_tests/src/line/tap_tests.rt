@@ -5,8 +5,8 @@ use std::alloc::AllocGlobal;
 use std::process::Abort;
 use t0_core::{Direction, Due, End, Heard, Said, Step, Tap, Unheard};
 
-/// What a tap says to a character. Without a clause: what is proved of it is nothing that a test has
-/// to know, and costs each proof that has it at hand.
+/// What a tap says to a character. Without a clause: what is proved of it is nothing that a test
+/// has to know, and costs each proof that has it at hand.
 fn said(tap: &mut Tap, from: End, byte: u8) -> Result<Heard, Unheard> {
     tap.hear(from, byte)
 }
@@ -59,8 +59,8 @@ const OUT: Heard = Heard::Data(Direction::FromCard);
 
 const SW1: Heard = Heard::FirstStatus;
 
-/// The tap hears SW2 `00` after `90`, under this header and after so many data characters that moved
-/// this way.
+/// The tap hears SW2 `00` after `90`, under this header and after so many data characters that
+/// moved this way.
 fn ends(rt: &impl Abort, tap: &mut Tap, header: [u8; 5], direction: Option<Direction>, moved: u16) {
     let [cla, ins, p1, p2, p3] = header;
     let header = Header { cla, ins, p1, p2 };

@@ -22,8 +22,8 @@ const PUT: Header = Header {
     p2: 0x00,
 };
 
-/// What an end does next, and what it says to a character. Without a clause: what is proved of it is
-/// nothing that a test has to know, and costs each proof that has it at hand.
+/// What an end does next, and what it says to a character. Without a clause: what is proved of it
+/// is nothing that a test has to know, and costs each proof that has it at hand.
 fn turn(end: &mut HostEnd<'_>) -> HostTurn {
     end.next()
 }

@@ -49,8 +49,8 @@ fn a_terminal_writes_whole_tpdus(rt: HostRuntime) {
 }
 
 /// What is read of the bytes: P3, how many data there are, and how many may come back. Without a
-/// clause: what is proved of it is nothing that a test has to know, and costs each proof that has it
-/// at hand.
+/// clause: what is proved of it is nothing that a test has to know, and costs each proof that has
+/// it at hand.
 fn read(bytes: &[u8]) -> Option<(u8, usize, u16)> {
     match WholeTpdu::read(bytes) {
         Some(tpdu) => Some((tpdu.p3, tpdu.content.len(), tpdu.may_come)),

@@ -14,5 +14,8 @@ mod TextVectors
 mod ScriptVectors
 mod CommandLineVectors
 mod ScriptFaultLemmas
+mod ScriptLoopLemmas
 mod PlayLemmas
+mod OpeningLemmas
+mod PlanQueueLemmas
 mod CardLemmas

@@ -1,9 +1,5 @@
 -- What a player does, line after line.
-use Rattle.std.proofs.Common.{true≢false, MatchOption, Result, IfErr, IfSome, inl, inr, ◌≡◌, ◌<◌, ◌+◌, ◌-◌, ◌^◌, min, ℕ, List, [], ◌∷◌, ◌++◌, length, Option, Some, None, true, false, refl, sym, ap, subst, ◌∙◌, append-nil, arith, slice_get}
-use Rattle.std.specs.Str.Lines.{lines}
-use Rattle.std.specs.Io.KnownBytes.{Appends}
-use Rattle.std.proofs.KnownBytes.{Appends-nil, Appends-trans}
-use Rattle.std.proofs.lemmas.List.{length-append}
+use Rattle.std.proofs.Common.{true≢false, inr, ◌≡◌, ◌+◌, ℕ, List, [], ◌∷◌, ◌++◌, length, Some, true, false, refl, sym, ap, subst, ◌∙◌, arith, slice_get}
 use Rattle.t0_core.specs.Character.{Character}
 use Rattle.t0_core.specs.Plan.{Course}
 use Rattle.t0_core.specs.Watch.{Hearing, Hears}
@@ -25,17 +21,10 @@ use Rattle.card_trace.specs.ScriptPlay.{PlayMeaning, Adds, Plan, Run, Send, Rese
 use Rattle.card_trace.specs.declared.script.play_line.PlayLine.{PlayLine}
 use Rattle.card_trace.specs.declared.script.play_line.PlayLine.TheVariants as line
 use Rattle.card_trace.specs.declared.script.table_line.TableLine.{TableLine}
-use Rattle.card_trace.specs.Scripts.{PlayState, Building, Running, section_of, card_in, plans_in, IsAdded, IsRun, talks, is_busy, Plays, PlaysLine, PlaysAll, PlayWrites, RefusesPlayLine, PlayStops}
+use Rattle.card_trace.specs.Scripts.{PlayState, Building, Running, section_of, card_in, plans_in, IsAdded, IsRun, talks, is_busy, Plays, RefusesPlayLine}
 use Rattle.card_trace.specs.Playing.{state_of, RefusesSaid}
 use Rattle.card_trace.specs.ScriptWords.{words_of}
 use Rattle.card_trace.specs.declared.script.reason.Reason.{Reason}
-use Rattle.card_trace.specs.declared.script.section.Section.{Section}
-use Rattle.card_trace.specs.declared.play_fault.PlayFault.{PlayFault}
-use Rattle.card_trace.specs.declared.play_fault.PlayFault.TheVariants.{Script, Read, Write, InputTooLong, OutOfMemory}
-use Rattle.card_trace.specs.ScriptFaults.{SaysNothing, IsRefusedAt, IsLeftAfter}
-use Rattle.card_trace.specs.LineFaults.{IsFaultOfLine}
-use Rattle.card_trace.proofs.ScriptLineLemmas.{done_both, done_one}
-use Rattle.card_trace.proofs.ScriptFaultLemmas.{of_script, next_number, cut_behind, faults_more, of_line_more}
 
 pub added : {A : Type 0} (self : Player A) (before after : List Application) (addition : Addition)
     → self ≡ player.Building before → IsAdded before addition after
@@ -95,128 +84,8 @@ ran card after plans used rest left op ops before given r since now ops_are used
     (subst (λ h. IsRun card plans (operation_of op) (operation_text h r) (Running after []))
     (sym heard) (talks r after rest line idle of))
 
--- ---- lines one after another
-
--- Lines are played up to some place, so many, and those that are left are still to come.
-pub record ArePlayed (all : List (List ℕ)) (old new : Option (List ℕ)) (state : PlayState)
-    (left : List (List ℕ)) (number : ℕ) : Type 0 where
-  pub before : List (List ℕ)
-  pub text : List ℕ
-  pub is_cut : all ≡ before ++ left
-  pub is_number : number ≡ length before
-  pub appends : Appends old new text
-  pub plays : PlaysAll (Building []) before text state
-
-pub none_played : (all left : List (List ℕ)) (old : Option (List ℕ)) (state : PlayState)
-    (number : ℕ) → state ≡ Building [] → left ≡ all → number ≡ 0
-    → ArePlayed all old old state left number
-none_played all left old state number is same zero_is = record {
-  before = [];
-  text = [];
-  is_cut = sym same;
-  is_number = zero_is;
-  appends = Appends-nil old;
-  plays = (refl, is);
-}
-
-pub one_more_played : (all left others : List (List ℕ)) (line more : List ℕ)
-    (old mid new : Option (List ℕ)) (state next : PlayState) (m number : ℕ)
-    → ArePlayed all old mid state left m → left ≡ line ∷ others → length all < 2 ^ 63
-    → number ≡ min (m + 1) (2 ^ 64 - 1) → Appends mid new more → PlaysLine state line more next
-    → ArePlayed all old new next others number
-one_more_played all left others line more old mid new state next m number so_far is few saturated
-    adds
-    plays =
-    let cut : all ≡ so_far.before ++ line ∷ others =
-    so_far.is_cut ∙ ap (λ l. so_far.before ++ l) is in
-    let counted = next_number all so_far.before others line m number cut so_far.is_number few
-    saturated in
-    let both = length-append so_far.before (line ∷ []) in record {
-      before = so_far.before ++ line ∷ [];
-      text = so_far.text ++ more;
-      is_cut = cut_behind all so_far.before others line cut;
-      is_number = counted ∙ sym both;
-      appends = Appends-trans old mid new so_far.text more so_far.appends adds;
-      plays = done_both PlaysLine (Building []) state next so_far.before
-          (line ∷ []) so_far.text more
-          so_far.plays (done_one PlaysLine state next line more plays);
-    }
-
--- at the end all are played
-pub all_played : (all left : List (List ℕ)) (old new : Option (List ℕ)) (state : PlayState)
-    (number : ℕ) (script : Option (List ℕ)) (items : List ℕ)
-    → IfSome script (λ bytes. items ≡ bytes) → all ≡ lines items → left ≡ []
-    → ArePlayed all old new state left number → PlayWrites script old new
-all_played all left old new state number script items read is none so_far =
-    let whole : lines items ≡ so_far.before =
-    sym is ∙ so_far.is_cut ∙ ap (λ l. so_far.before ++ l) none ∙ append-nil so_far.before in (
-      so_far.text,
-      so_far.appends,
-      of_script script items (λ bytes. (end : PlayState)
-          × PlaysAll (Building []) (lines bytes) so_far.text end)
-          read (
-            state,
-            subst (λ ls. PlaysAll (Building []) ls so_far.text state)
-                (sym whole) so_far.plays,
-          ),
-    )
-
--- where a line is not played, those before it are
-pub stops_at : (all left others : List (List ℕ)) (line : List ℕ) (old mid new : Option (List ℕ))
-    (state : PlayState) (m number : ℕ) (script : Option (List ℕ)) (items : List ℕ)
-    (fault : PlayFault) → IfSome script (λ bytes. items ≡ bytes) → all ≡ lines items
-    → ArePlayed all old mid state left m → left ≡ line ∷ others → length all < 2 ^ 63
-    → number ≡ min (m + 1) (2 ^ 64 - 1)
-    → IsFaultOfLine (RefusesPlayLine state line) number mid new fault
-    → PlayStops script old new fault
-stops_at all left others line old mid new state m number script items
-    (Script n reason) read is so_far
-    at_line few saturated (same, refuses, unwritten) =
-    let cut : all ≡ so_far.before ++ line ∷ others =
-    so_far.is_cut ∙ ap (λ l. so_far.before ++ l) at_line in (
-      so_far.text,
-      subst (λ w. Appends old w so_far.text) (sym unwritten) so_far.appends,
-      of_script script items
-          (λ bytes. IsRefusedAt (PlaysAll (Building [])) RefusesPlayLine
-          (lines bytes) so_far.text n reason)
-          read
-          (record {
-            before = so_far.before;
-            line = line;
-            others = others;
-            is_cut = sym is ∙ cut;
-            is_number = same ∙ next_number all so_far.before others line m number cut
-                so_far.is_number few saturated;
-            state = state;
-            does = so_far.plays;
-            refuses = refuses;
-          }),
-    )
-stops_at all left others line old mid new state m number script items OutOfMemory read is so_far
-    at_line few saturated unwritten = (
-      so_far.text,
-      subst (λ w. Appends old w so_far.text) (sym unwritten) so_far.appends,
-      of_script script items (λ bytes. IsLeftAfter (PlaysAll (Building []))
-          (lines bytes) so_far.text) read
-          (record {
-            before = so_far.before;
-            others = left;
-            is_cut = sym is ∙ so_far.is_cut;
-            state = state;
-            does = so_far.plays;
-          }),
-    )
-stops_at all left others line old mid new state m number script items Write read is so_far at_line
-    few
-    saturated unknown = tt
-stops_at all left others line old mid new state m number script items Read read is so_far at_line
-    few
-    saturated never = absurd never
-stops_at all left others line old mid new state m number script items InputTooLong read is so_far
-    at_line few saturated never = absurd never
-
 -- what is refused of what a line says is refused of the line
-said_refused : (state : PlayState) (line : List ℕ) (meaning : PlayMeaning) (reason : Reason)
+pub said_refused : (state : PlayState) (line : List ℕ) (meaning : PlayMeaning) (reason : Reason)
     → IsPlayLine (section_of state) (words_of line) meaning → RefusesSaid state meaning reason
     → RefusesPlayLine state line reason
 said_refused (Building tables) line (Adds addition) reason is refused =
@@ -228,23 +97,6 @@ said_refused state line (Plan plan) reason is refused = absurd refused
 said_refused state line (Run operation) reason is refused = absurd refused
 said_refused state line Reset reason is refused = absurd refused
 said_refused state line Table reason is refused = absurd refused
-
-pub line_refused : {T : Type 0} (r : Result T PlayFault) (state : PlayState) (line : List ℕ)
-    (meaning : PlayMeaning) (number : ℕ) (old new : Option (List ℕ)) (section : Section)
-    → section ≡ section_of state → IsPlayLine section (words_of line) meaning
-    → IfErr r (IsFaultOfLine (RefusesSaid state meaning) number old new)
-    → IfErr r (IsFaultOfLine (RefusesPlayLine state line) number old new)
-line_refused r state line meaning number old new section same is faults =
-    let here = subst (λ s. IsPlayLine s (words_of line) meaning) same is in
-    faults_more r _ _
-    (λ f. of_line_more (RefusesSaid state meaning) (RefusesPlayLine state line) number old new f
-    (λ reason. said_refused state line meaning reason here)) faults
-
-pub says_nothing : (state : PlayState) (line : List ℕ) (section : Section) (reason : Reason)
-    → section ≡ section_of state → SaysNothing (IsPlayLine section) line
-    → RefusesPlayLine state line reason
-says_nothing state line section reason same nothing =
-    inl (subst (λ s. SaysNothing (IsPlayLine s) line) same nothing)
 
 pub plays_as : (old new : PlayState) (a b : PlayMeaning) (text : List ℕ) → b ≡ a
     → Plays old a text new → Plays old b text new
@@ -294,7 +146,3 @@ run_refuses old running (Run op) reason late refused = refused
 run_refuses old running (Send bytes) reason late refused = refused
 run_refuses old running Reset reason late refused = refused
 run_refuses old running Table reason late refused = refused
-
-pub when_none : {X : Type 0} (o : Option X) (P : Type 0) (Q : X → Type 0) → o ≡ None
-    → MatchOption o P Q → P
-when_none o P Q is holds = subst (λ x. MatchOption x P Q) is holds

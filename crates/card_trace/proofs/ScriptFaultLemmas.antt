@@ -15,8 +15,8 @@ use Rattle.card_trace.specs.declared.script.refusal.Refusal.{Refusal}
 use Rattle.card_trace.specs.declared.script.refusal.Refusal.TheVariants.{Line, OutOfMemory as NoMemory}
 use Rattle.card_trace.specs.ScriptReasons.{fault_at, OnReason}
 use Rattle.card_trace.specs.ScriptReading.{IsReadingFault}
-use Rattle.card_trace.specs.ScriptFaults.{IsRefusedAt, IsLeftAfter, Stops, IsNotBegun}
-use Rattle.card_trace.specs.LineFaults.{LinesStop, IsFaultOfLine, IsWritingFault}
+use Rattle.card_trace.specs.ScriptFaults.{IsLeftAfter, Stops, IsNotBegun}
+use Rattle.card_trace.specs.LineFaults.{IsFaultOfLine, IsWritingFault}
 
 -- of bytes that are the script's
 pub of_script : (script : Option (List ℕ)) (items : List ℕ) (P : List ℕ → Type 0)
@@ -40,25 +40,16 @@ lines_fit bytes =
     let count = length-slice_split (λ (b : ℕ). b == 10) bytes in
     let few = count_by-le-length (λ (b : ℕ). b == 10) bytes in omega (arith, parts, count, few)
 
--- the number of the next line, behind those that are passed, which is not too large
-pub next_behind : (all before others : List (List ℕ)) (line : List ℕ) (passed m number : ℕ)
-    → all ≡ before ++ line ∷ others → m ≡ length before + passed → length all + passed < 2 ^ 63
-    → number ≡ min (m + 1) (2 ^ 64 - 1) → number ≡ length before + 1 + passed
-next_behind all before others line passed m number cut is few next =
-    let whole : length all ≡ length before + length (line ∷ others) =
-    ap length cut ∙ length-append before (line ∷ others) in
-    let within : m + 1 ≤ 2 ^ 64 - 1 = omega (arith, whole, is, few) in
-    let one_more : m + 1 ≡ length before + 1 + passed = omega (arith, is) in
-    next ∙ min-eq_left within ∙ one_more
-
+-- the number of the next line, which is not too large
 pub next_number : (all before others : List (List ℕ)) (line : List ℕ) (m number : ℕ)
     → all ≡ before ++ line ∷ others → m ≡ length before → length all < 2 ^ 63
     → number ≡ min (m + 1) (2 ^ 64 - 1) → number ≡ length before + 1
 next_number all before others line m number cut is few next =
-    let counted : m ≡ length before + 0 = omega (arith, is) in
-    let few_behind : length all + 0 < 2 ^ 63 = omega (arith, few) in
-    let at = next_behind all before others line 0 m number cut counted few_behind next in
-    omega (arith, at)
+    let whole : length all ≡ length before + length (line ∷ others) =
+    ap length cut ∙ length-append before (line ∷ others) in
+    let within : m + 1 ≤ 2 ^ 64 - 1 = omega (arith, whole, is, few) in
+    let one_more : m + 1 ≡ length before + 1 = omega (arith, is) in
+    next ∙ min-eq_left within ∙ one_more
 
 -- one line more stands before the others
 pub cut_behind : (all before others : List (List ℕ)) (line : List ℕ) → all ≡ before ++ line ∷ others
@@ -148,30 +139,6 @@ pub within_limit : (script : Option (List ℕ)) (items : List ℕ) (P : Type 0)
 within_limit script items P read fits =
     of_script script items (λ bytes. SCRIPT_LIMIT < length bytes → P) read
     (λ long. absurd (omega (arith, long, fits)))
-
--- lines that stop are those of the script
-pub script_stops : {State : Type 0} (Does : List (List ℕ) → List ℕ → State → Type 0)
-    (Refuses : State → List ℕ → Reason → Type 0) (script : Option (List ℕ)) (items : List ℕ)
-    (old new : Option (List ℕ)) (fault : PlayFault) → IfSome script (λ bytes. items ≡ bytes)
-    → LinesStop Does Refuses (lines items) 0 old new fault → Stops Does Refuses script old new fault
-script_stops Does Refuses script items old new (Script n reason) read
-    (text, appends, number, is, refused) = (
-      text,
-      appends,
-      of_script script items (λ bytes. IsRefusedAt Does Refuses (lines bytes) text n reason) read
-          (subst (λ k. IsRefusedAt Does Refuses (lines items) text k reason)
-          (same_number number n is) refused),
-    ) where
-      same_number : (k m : ℕ) → m ≡ k + 0 → k ≡ m
-      same_number k m e = omega (arith, e)
-script_stops Does Refuses script items old new OutOfMemory read (text, appends, left) = (
-  text,
-  appends,
-  of_script script items (λ bytes. IsLeftAfter Does (lines bytes) text) read left,
-)
-script_stops Does Refuses script items old new Write read unknown = tt
-script_stops Does Refuses script items old new Read read never = absurd never
-script_stops Does Refuses script items old new InputTooLong read never = absurd never
 
 -- a writer that fails
 pub write_fails : {T : Type 0} (r : Result T PlayFault) (old new : Option (List ℕ))

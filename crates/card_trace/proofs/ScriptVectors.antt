@@ -149,7 +149,7 @@ no_late_app : (words : List (List ℕ)) (aid : List ℕ)
 no_late_app words aid h = absurd (true≢false h.stands)
 
 an_object : IsCardLine section.Building (words_of (codes "object 5F20 41*3"))
-    (card.Adds (Object (0x5F ∷ 0x20 ∷ []) (0x41 ∷ 0x41 ∷ 0x41 ∷ [])))
+    (card.Builds (card.Adds (Object (0x5F ∷ 0x20 ∷ []) (0x41 ∷ 0x41 ∷ 0x41 ∷ []))))
 an_object = record {
   fields = codes "5F20" ∷ codes "41*3" ∷ [];
   is_line = refl;
@@ -196,7 +196,7 @@ a_plan_line = record {
 
 -- plans of `card` stand before its first run line
 no_late_plan : (words : List (List ℕ)) (plan : Course)
-    → ¬ IsCardLine section.Running words (card.Plan plan)
+    → ¬ IsCardLine section.Running words (card.Builds (card.Plan plan))
 no_late_plan words plan h = absurd (true≢false h.stands)
 
 a_select : IsPlayLine section.Running (words_of (codes "select A000000003"))
@@ -245,11 +245,11 @@ no_reset h =
     let one : 2 ≡ suc (length h.fields) = ap length h.is_line in
     omega (arith, none, one)
 
-a_table : IsCardLine section.Running (words_of (codes "table")) card.Table
+a_table : IsCardLine section.Running (words_of (codes "table")) (card.Runs card.Table)
 a_table = record { fields = []; is_line = refl; are_fields = refl; stands = refl }
 
 some_characters : IsCardLine section.Running (words_of (codes "> 5f2A"))
-    (card.Take (0x5F ∷ 0x2A ∷ []))
+    (card.Runs (card.Take (0x5F ∷ 0x2A ∷ [])))
 some_characters = record {
   fields = codes "5f2A"
       ∷ [];
@@ -258,10 +258,11 @@ some_characters = record {
   stands = refl;
 }
 
-all_that_come : IsCardLine section.Running (words_of (codes "<")) (card.HandOut None)
+all_that_come : IsCardLine section.Running (words_of (codes "<")) (card.Runs (card.HandOut None))
 all_that_come = record { fields = []; is_line = refl; are_fields = refl; stands = refl }
 
-so_many : IsCardLine section.Running (words_of (codes "< 256")) (card.HandOut (Some 256))
+so_many : IsCardLine section.Running (words_of (codes "< 256"))
+    (card.Runs (card.HandOut (Some 256)))
 so_many = record {
   fields = codes "256" ∷ [];
   is_line = refl;

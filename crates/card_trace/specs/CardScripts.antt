@@ -1,19 +1,17 @@
 -- What a script of `card` stands for: its lines are carried out in order on the card alone, its
 -- answer to reset and its end, and print text.
-use Rattle.std.specs.Prelude.{◌≡◌, ◌≢◌, ◌≤◌, ◌+◌, ◌⊎◌, ℕ, List, [], ◌∷◌, ◌++◌, length, Option, Some, None, true, false}
-use Rattle.std.specs.Io.KnownBytes.{Appends}
+use Rattle.std.specs.Prelude.{◌≡◌, ◌≢◌, ◌≤◌, ◌⊎◌, ℕ, List, [], ◌∷◌, ◌++◌, length, Option, Some, None, true, false}
 use Rattle.t0_core.specs.declared.end.End.TheVariants.{Terminal, Card}
 use Rattle.t0_core.specs.Character.{Character, sent_by}
 use Rattle.t0_core.specs.Meaning.{Prepared}
-use Rattle.t0_core.specs.Plan.{Course, Cursor, plain, plan_kept}
+use Rattle.t0_core.specs.Plan.{Course, plain}
 use Rattle.t0_core.specs.History as history
 use Rattle.t0_core.specs.History.{Event, passed}
-use Rattle.t0_core.specs.CardSide.{Stage, EndOf, listens}
-use Rattle.t0_core.specs.CardHistory.{Leads, LeadsUnder, under_way, IsTakenLast}
+use Rattle.t0_core.specs.CardSide.{Stage, listens}
+use Rattle.t0_core.specs.CardHistory.{Leads, LeadsUnder}
 use Rattle.object_card.specs.Tables.{Application}
 use Rattle.object_card.specs.State.{CardState, after_reset}
 use Rattle.object_card.specs.CardMeaning.{Does}
-use Rattle.object_card.specs.CardView.{CardView}
 use Rattle.object_card.specs.Builder.{new_card}
 use Rattle.card_trace.specs.declared.fixed_line.FixedLine.TheVariants as fixed
 use Rattle.card_trace.specs.declared.play_fault.PlayFault.{PlayFault}
@@ -25,8 +23,7 @@ use Rattle.card_trace.specs.AnswerToReset.{AnswerToReset, at_first, characters_o
 use Rattle.card_trace.specs.FixedText.{fixed_text}
 use Rattle.card_trace.specs.TableText.{table_text}
 use Rattle.card_trace.specs.TraceText.{handed_out_text}
-use Rattle.card_trace.specs.ScriptWords.{words_of}
-use Rattle.card_trace.specs.ScriptCard.{CardMeaning, Adds, Atr, Plan, Take, HandOut, Reset, Table, is_card_table_line, IsCardLine}
+use Rattle.card_trace.specs.ScriptCard.{Part, Adds, Atr, Plan, Act, Take, HandOut, Reset, Table, CardMeaning, Builds, Runs, IsCardLine}
 use Rattle.card_trace.specs.ScriptFaults.{Stops}
 use Rattle.card_trace.specs.ScriptLines.{IsDone, AreDone, ScriptWrites, RefusesLine}
 use Rattle.card_trace.specs.Scripts.{IsAdded, IsNotAdded}
@@ -65,16 +62,20 @@ TakeInTurn [] (plan ∷ taken) still_left = (plan ≡ plain) × TakeInTurn [] ta
 TakeInTurn (next ∷ left) (plan ∷ taken) still_left =
     (plan ≡ next) × TakeInTurn left taken still_left
 
+-- A card that runs: what of its answer to reset is to come, and its end.
+pub record RunningCard : Type 0 where
+  pub answer : AnswerToReset
+  pub end : RunningEnd
+
 -- Before the first run line there are the tables of the card that is built, the plans, and the
--- answer to reset, where the script has one; from then on what of that is to come, and the card's
--- end.
+-- answer to reset, where the script has one; from then on the card that runs.
 pub data CardRun : Type 0 where
   Building : (tables : List Application) (plans : List Course) (answer : Option (List ℕ)) → CardRun
-  Running : (answer : AnswerToReset) (end : RunningEnd) → CardRun
+  Running : (card : RunningCard) → CardRun
 
 abbrev pub section_of : CardRun → Section
 section_of (Building tables plans answer) = section.Building
-section_of (Running answer end) = section.Running
+section_of (Running card) = section.Running
 
 -- with these characters, for which these plans were taken
 abbrev pub heard : Past → List Character → List Course → Past
@@ -137,39 +138,29 @@ pub record HandsOut (old : RunningEnd) (most : Option ℕ) (text : List ℕ) (ne
 
 -- What a `>` line does: the card's end takes its characters, but none before the last character of
 -- the answer to reset is handed out.
-pub data Takes (answer : AnswerToReset) (old : RunningEnd) (bytes text : List ℕ) (new : RunningEnd)
-    : Type 0 where
-  listens_now : answer.left ≡ [] → TakesCharacters old bytes text new
-      → Takes answer old bytes text new
-  answers_first : answer.left ≢ [] → new ≡ old → text ≡ fixed_text fixed.NotListening
-      → Takes answer old bytes text new
+pub data Takes (old : RunningCard) (bytes text : List ℕ) (new : RunningCard) : Type 0 where
+  listens_now : old.answer.left ≡ [] → TakesCharacters old.end bytes text new.end
+      → new.answer ≡ old.answer → Takes old bytes text new
+  answers_first : old.answer.left ≢ [] → new ≡ old → text ≡ fixed_text fixed.NotListening
+      → Takes old bytes text new
 
 -- What a `<` line does: what is left of the answer to reset is handed out, or so many characters
 -- of it; and where nothing is left, those of the card's end.
-pub data HandsOutNext (answer : AnswerToReset) (old : RunningEnd) (most : Option ℕ) (text : List ℕ)
-    (after : AnswerToReset) (new : RunningEnd) : Type 0 where
-  of_answer : answer.left ≢ [] → text ≡ handed_out_text (up_to most answer.left)
-      → after ≡ without most answer → new ≡ old → HandsOutNext answer old most text after new
-  of_end : answer.left ≡ [] → HandsOut old most text new → after ≡ answer
-      → HandsOutNext answer old most text after new
+pub data HandsOutNext (old : RunningCard) (most : Option ℕ) (text : List ℕ) (new : RunningCard)
+    : Type 0 where
+  of_answer : old.answer.left ≢ [] → text ≡ handed_out_text (up_to most old.answer.left)
+      → new ≡ record old { answer = without most old.answer } → HandsOutNext old most text new
+  of_end : old.answer.left ≡ [] → HandsOut old.end most text new.end → new.answer ≡ old.answer
+      → HandsOutNext old most text new
 
 -- a run line is carried out on the card, and prints this text
-abbrev pub RunsLine : AnswerToReset → RunningEnd → CardMeaning → List ℕ → AnswerToReset
-    → RunningEnd → Type 0
-RunsLine answer old (Adds addition) text after new = ⊥
-RunsLine answer old (Atr bytes) text after new = ⊥
-RunsLine answer old (Plan plan) text after new = ⊥
-RunsLine answer old (Take bytes) text after new = Takes answer old bytes text new × (after ≡ answer)
-RunsLine answer old (HandOut most) text after new = HandsOutNext answer old most text after new
-RunsLine answer old Reset text after new =
-    IsReset old new × (after ≡ at_first answer.all) × (text ≡ fixed_text fixed.Reset)
-RunsLine answer old Table text after new =
-    (new ≡ old) × (after ≡ answer) × (text ≡ table_text old.standing.applications)
-
--- where it leads
-abbrev pub RunsTo : AnswerToReset → RunningEnd → CardMeaning → List ℕ → CardRun → Type 0
-RunsTo answer old meaning text new = (after : AnswerToReset) × (next : RunningEnd)
-    × RunsLine answer old meaning text after next × (new ≡ Running after next)
+abbrev pub RunsLine : RunningCard → Act → List ℕ → RunningCard → Type 0
+RunsLine old (Take bytes) text new = Takes old bytes text new
+RunsLine old (HandOut most) text new = HandsOutNext old most text new
+RunsLine old Reset text new = IsReset old.end new.end
+    × (new.answer ≡ at_first old.answer.all) × (text ≡ fixed_text fixed.Reset)
+RunsLine old Table text new =
+    (new ≡ old) × (text ≡ table_text old.end.standing.applications)
 
 -- nothing has come to a card in this state
 abbrev pub no_past : CardState → Past
@@ -181,19 +172,27 @@ pub record IsFresh (tables : List Application) (plans : List Course) (e : Runnin
   pub all_left : e.left ≡ plans
   pub is_led : IsLed e
 
+-- the card that runs, at the first run line that which has been built
+abbrev pub IsUnderWay : CardRun → RunningCard → Type 0
+IsUnderWay (Building tables plans answer) card =
+    (card.answer ≡ at_first (characters_of answer)) × IsFresh tables plans card.end
+IsUnderWay (Running now) card = card ≡ now
+
+-- the card that is built, with what a table line says
+abbrev pub IsBuilt : CardRun → Part → CardRun → Type 0
+IsBuilt (Building tables plans answer) (Adds addition) new = (after : List Application)
+    × IsAdded tables addition after × (new ≡ Building after plans answer)
+IsBuilt (Building tables plans answer) (Atr bytes) new =
+    (answer ≡ None) × AreOfAnswer bytes × (new ≡ Building tables plans (Some bytes))
+IsBuilt (Building tables plans answer) (Plan plan) new =
+    new ≡ Building tables (plans ++ plan ∷ []) answer
+IsBuilt (Running card) part new = ⊥
+
 -- a line is carried out, and prints this text
 abbrev pub DoesLine : CardRun → CardMeaning → List ℕ → CardRun → Type 0
-DoesLine (Building tables plans answer) (Adds addition) text new =
-    (text ≡ []) × (after : List Application) × IsAdded tables addition after
-    × (new ≡ Building after plans answer)
-DoesLine (Building tables plans answer) (Atr bytes) text new =
-    (text ≡ []) × (answer ≡ None) × AreOfAnswer bytes × (new ≡ Building tables plans (Some bytes))
-DoesLine (Building tables plans answer) (Plan plan) text new =
-    (text ≡ []) × (new ≡ Building tables (plans ++ plan ∷ []) answer)
-DoesLine (Building tables plans answer) meaning text new =
-    (first : RunningEnd) × IsFresh tables plans first
-    × RunsTo (at_first (characters_of answer)) first meaning text new
-DoesLine (Running answer end) meaning text new = RunsTo answer end meaning text new
+DoesLine old (Builds part) text new = (text ≡ []) × IsBuilt old part new
+DoesLine old (Runs act) text new = (card next : RunningCard) × IsUnderWay old card
+    × RunsLine card act text next × (new ≡ Running next)
 
 -- the line says something that is carried out, or it is passed over
 abbrev pub DoesOrPasses : CardRun → List ℕ → List ℕ → CardRun → Type 0
@@ -203,29 +202,21 @@ DoesOrPasses = IsDone section_of IsCardLine DoesLine
 abbrev pub DoesAll : CardRun → List (List ℕ) → List ℕ → CardRun → Type 0
 DoesAll = AreDone DoesOrPasses
 
--- the first run line, behind those that build the card, and which it is; the others are behind it
-pub record IsFirstRunLine (old new : CardRun) (all others : List (List ℕ)) (passed number : ℕ)
-    (meaning : CardMeaning) : Type 0 where
-  pub before : List (List ℕ)
-  pub line : List ℕ
-  pub is_cut : all ≡ before ++ line ∷ others
-  pub is_number : number ≡ length before + 1 + passed
-  pub does : DoesAll old before [] new
-  pub is_line : IsCardLine section.Building (words_of line) meaning
-  pub is_run_line : is_card_table_line meaning ≡ false
-
 -- what `card` writes for the bytes that it reads
 abbrev pub CardWrites : Option (List ℕ) → Option (List ℕ) → Option (List ℕ) → Type 0
 CardWrites = ScriptWrites (DoesAll (Building [] [] None))
 
--- what a line says is refused for this reason: what a table line adds, by the builder, and what is
--- no answer to reset, or the second one
-abbrev pub RefusesMeaning : CardRun → CardMeaning → Reason → Type 0
-RefusesMeaning (Building tables plans answer) (Adds addition) reason =
+-- what a table line says is refused for this reason: by the builder, or as it is no answer to
+-- reset, or the second one
+abbrev pub IsNotBuilt : CardRun → Part → Reason → Type 0
+IsNotBuilt (Building tables plans answer) (Adds addition) reason =
     IsNotAdded tables addition (Line reason)
-RefusesMeaning (Building tables plans answer) (Atr bytes) reason =
-    RefusesAnswer answer bytes reason
-RefusesMeaning state meaning reason = ⊥
+IsNotBuilt (Building tables plans answer) (Atr bytes) reason = RefusesAnswer answer bytes reason
+IsNotBuilt state part reason = ⊥
+
+abbrev pub RefusesMeaning : CardRun → CardMeaning → Reason → Type 0
+RefusesMeaning state (Builds part) reason = IsNotBuilt state part reason
+RefusesMeaning state (Runs act) reason = ⊥
 
 -- a line is refused for this reason
 abbrev pub RefusesCardLine : CardRun → List ℕ → Reason → Type 0
@@ -235,44 +226,3 @@ RefusesCardLine = RefusesLine section_of IsCardLine RefusesMeaning
 abbrev pub CardStops : Option (List ℕ) → Option (List ℕ) → Option (List ℕ) → PlayFault → Type 0
 CardStops script old new fault =
     Stops (DoesAll (Building [] [] None)) RefusesCardLine script old new fault
-
--- a card's end, and the cursor over the plans that it is given
-abbrev pub AtWork : Type 0
-AtWork = EndOf CardView × Cursor
-
--- the card's end as it is, after this
-abbrev pub end_at : Past → AtWork → RunningEnd
-end_at past now = record {
-  past = past;
-  left = now.1.rest;
-  standing = now.0.card.state;
-  prepared = now.0.card.prepared;
-  stage = now.0.stage;
-}
-
--- this led to the end as it is, and the cursor keeps the plan of the TPDU under way, if that has
--- one
-pub record IsReady (past : Past) (now : AtWork) : Type 0 where
-  pub led : IsLed (end_at past now)
-  pub keeps : (plan : Course) → under_way now.0.stage plan ≡ plan ∷ [] →
-      IsTakenLast (plan_kept now.1) past.taken
-
--- with these characters the end is as it is, and the next of the plans were taken
-abbrev pub IsReadyBy : Past → List Course → List Character → AtWork → Type 0
-IsReadyBy past left characters now =
-    (taken : List Course) × TakeInTurn left taken now.1.rest
-    × IsReady (heard past characters taken) now
-
--- whatever led to the end as it was, these characters lead on to it as it is
-abbrev pub LeadOn : AtWork → List Character → AtWork → Type 0
-LeadOn old characters new =
-    (past : Past) → IsReady past old → IsReadyBy past old.1.rest characters new
-
--- Whatever led to the end as it was, more of it leads to it as it is, and the text between the two
--- is written.
-abbrev pub Writes : (RunningEnd → List ℕ → RunningEnd → Type 0) → AtWork → AtWork
-    → Option (List ℕ) → Option (List ℕ) → Type 0
-Writes Between old new before after =
-    (past : Past) → IsReady past old →
-    (text : List ℕ) × (more : Past) × IsReady more new
-    × Between (end_at past old) text (end_at more new) × Appends before after text

@@ -21,4 +21,4 @@ pub mod ScriptPlay
 pub mod ScriptCard
 pub mod Playing
 pub mod CardScripts
-pub mod BuiltTable
+pub mod CardPlaying

@@ -2,16 +2,18 @@
 #![tactic(auto)]
 
 mod card;
-mod card_run;
+mod card_player;
 mod card_table;
 mod command_line;
 mod ending;
 mod fixed_line;
 mod help;
+mod lone_card;
 mod main_status;
 mod objects;
 mod objects_fault;
 mod opening;
+mod plan_queue;
 mod play;
 mod play_fault;
 mod player;

@@ -1,62 +1,90 @@
 //! The answer to reset that a card hands out before it listens.
 ghost use Rattle.std.specs.Prelude.{◌≡◌, ◌↔◌, [], IsTrue};
-ghost use Rattle.card_trace.specs.AnswerToReset.{at_first, up_to, without};
+ghost use Rattle.card_trace.specs.AnswerToReset.{at_first, characters_of, up_to, without};
 
+use card_terminal::Bytes;
+use std::alloc::Allocator;
 use std::marker::Model;
 
 /// The answer to reset of a card, and what of it is still to come. A card without one has no
 /// characters here.
-#[derive(Debug, Drop)]
-pub struct Opening<'a> {
-    all: &'a [u8],
-    left: &'a [u8],
+#[derive(Drop)]
+pub struct Opening<A: Allocator> {
+    answer: Option<Bytes<A>>,
+    /// How many characters have been handed out.
+    handed: usize,
 }
 
-impl<'a> Model for Opening<'a> {
-    ghost use Rattle.card_trace.specs.AnswerToReset.{AnswerToReset};
+impl<A: Allocator> Model for Opening<A> {
+    ghost use Rattle.std.specs.Prelude.{◌≤◌, length, drop};
+    ghost use Rattle.card_trace.specs.AnswerToReset.{AnswerToReset, characters_of};
 
     ghost Value = { AnswerToReset };
 
-    ghost view = { λ o. record { all = o.all.now; left = o.left.now } };
+    ghost view = { λ o. record {
+      all = characters_of o.answer;
+      left = drop o.handed (characters_of o.answer);
+    } };
+
+    ghost invariant = { λ o. o.handed ≤ length (characters_of o.answer) };
 }
 
-impl<'a> Opening<'a> {
+impl<A: Allocator> Opening<A> {
     /// All of this answer is still to come.
-    pub fn of(answer: &'a [u8]) -> Opening<'a>
-        ensures { result ≡ at_first answer.now }
+    pub fn of(answer: Option<Bytes<A>>) -> Opening<A>
+        ensures { result ≡ at_first (characters_of answer) }
     {
-        Opening {
-            all: answer,
-            left: answer,
+        Opening { answer, handed: 0 }
+    }
+
+    /// All its characters.
+    fn all(&self) -> &[u8]
+        ensures { result.now ≡ self.now.all }
+    {
+        match &self.answer {
+            None => &[],
+            Some(answer) => answer.bytes(),
         }
+    }
+
+    /// Those that are still to come.
+    fn left(&self) -> &[u8]
+        ensures { result.now ≡ self.now.left }
+    {
+        &self.all()[self.handed..]
     }
 
     /// Whether the card has handed all of it out.
     pub fn is_over(&self) -> bool
         ensures { IsTrue result ↔ (self.now.left ≡ []) }
     {
-        self.left.is_empty()
+        self.left().is_empty()
     }
 
-    /// The next characters, which are handed out: all that are left, or at most so many where it is
-    /// said.
-    pub fn next_characters(&mut self, most: Option<u16>) -> &'a [u8]
-        ensures handed { result.now ≡ up_to most self.old.left }
-        ensures left { self.new ≡ without most self.old }
+    /// The next characters: all that are left, or at most so many where it is said.
+    pub fn next_characters(&self, most: Option<u16>) -> &[u8]
+        ensures { result.now ≡ up_to most self.now.left }
     {
-        let count = match most {
-            None => self.left.len(),
-            Some(most) => usize::from(most).min(self.left.len()),
-        };
-        let (handed, left) = self.left.split_at(count);
-        self.left = left;
-        handed
+        let left = self.left();
+        match most {
+            None => left,
+            Some(most) => &left[..usize::from(most).min(left.len())],
+        }
+    }
+
+    /// The next characters have been handed out.
+    pub fn pass(&mut self, most: Option<u16>)
+        ensures { self.new ≡ without most self.old }
+    {
+        let next = self.next_characters(most).len();
+        let still_left = self.left().len().saturating_sub(next);
+        self.handed = self.all().len().saturating_sub(still_left);
     }
 
     /// The card is reset: all of it is still to come.
     pub fn begin_anew(&mut self)
         ensures { self.new ≡ at_first self.old.all }
     {
-        self.left = self.all;
+        self.handed = 0;
     }
 }

@@ -1,10 +1,10 @@
 //! The lines of `card`.
-ghost use Rattle.std.specs.Prelude.{◌≡◌, ◌≢◌, ℕ, List, [], Option, IfOk, IfErr, MatchOption, false};
+ghost use Rattle.std.specs.Prelude.{◌≡◌, ◌≢◌, ℕ, List, [], Option, IfOk, IfErr, MatchOption};
 ghost use Rattle.card_trace.specs.ScriptReasons.{OnReason};
 ghost use Rattle.card_trace.specs.ScriptFields.{IsHexText};
 ghost use Rattle.card_trace.specs.ScriptTable.{OneField};
 ghost use Rattle.card_trace.specs.ScriptWords.{words_in, words_of};
-ghost use Rattle.card_trace.specs.ScriptCard.{CardMeaning, card_meaning, IsMostText, card_keyword, AreCardFields, is_card_table_line, IsCardLine};
+ghost use Rattle.card_trace.specs.ScriptCard.{Part, Act, CardMeaning, part_of, act_of, card_meaning, IsMostText, part_keyword, act_keyword, ArePartFields, AreActFields, IsCardLine};
 
 use crate::script::fields::{read_hex, read_number, read_plan};
 use crate::script::keyword::Keyword;
@@ -20,12 +20,26 @@ use t0_core::Plan;
 /// What a line of a script of `card` says.
 #[derive(Drop)]
 pub enum CardLine<A: Allocator = Global> {
+    /// A table line: a part of the card.
+    Builds(CardPart<A>),
+    /// A run line: what is done with the card.
+    Runs(CardAct<A>),
+}
+
+/// What a table line of `card` says.
+#[derive(Drop)]
+pub enum CardPart<A: Allocator = Global> {
     /// Adds to the table.
     Adds(TableLine<A>),
     /// The characters of the answer to reset, which are not read yet.
     Atr(Bytes<A>),
     /// A plan for the TPDUs of the script, in turn.
     Plan(Plan<A>),
+}
+
+/// What a run line of `card` says.
+#[derive(Drop)]
+pub enum CardAct<A: Allocator = Global> {
     /// The card end takes these characters.
     Take(Bytes<A>),
     /// The card end hands out characters until it listens, at most so many where it is said.
@@ -54,47 +68,54 @@ pub fn read_card_line<A: Allocator + Copy>(
     };
     let keyword = Keyword::of(word).ok_or(Reason::UnknownWord)?;
     let said = match keyword {
-        Keyword::Adds(word) => {
+        Keyword::Adds(_) | Keyword::Atr | Keyword::Plan => {
             section.takes_table_line()?;
-            CardLine::Adds(read_table_line(alloc, word, rest)?)
+            CardLine::Builds(read_part(alloc, keyword, rest)?)
         }
-        Keyword::Atr => {
-            section.takes_table_line()?;
-            CardLine::Atr(read_characters(alloc, rest)?)
-        }
-        Keyword::Plan => {
-            section.takes_table_line()?;
-            let (steps, cut) = two_words(rest)?;
-            CardLine::Plan(read_plan(alloc, steps, cut)?)
-        }
-        _ => read_run_line(alloc, keyword, rest)?,
+        _ => CardLine::Runs(read_act(alloc, keyword, rest)?),
     };
     Ok(Some(said))
 }
 
-/// What a run line of `card` with this first word says, of which this is left.
-fn read_run_line<A: Allocator>(
+/// The part of the card with this first word, of which this is left.
+fn read_part<A: Allocator + Copy>(
     alloc: A,
     keyword: Keyword,
     rest: &[u8],
-) -> Result<CardLine<A>, Refusal>
-    ensures ok { IfOk result (λ line. (card_keyword (card_meaning line) ≡ keyword)
-        × AreCardFields (card_meaning line) (words_in rest.now)
-        × (is_card_table_line (card_meaning line) ≡ false)) }
+) -> Result<CardPart<A>, Refusal>
+    ensures ok { IfOk result (λ part. (part_keyword (part_of part) ≡ keyword)
+        × ArePartFields (part_of part) (words_in rest.now)) }
     ensures refused { IfErr result (λ refusal. OnReason refusal (λ _.
-        (meaning : CardMeaning) → card_keyword meaning ≡ keyword →
-        is_card_table_line meaning ≡ false → ¬ AreCardFields meaning (words_in rest.now))) }
+        (part : Part) → part_keyword part ≡ keyword → ¬ ArePartFields part (words_in rest.now))) }
 {
     match keyword {
-        Keyword::Take => Ok(CardLine::Take(read_characters(alloc, rest)?)),
-        Keyword::HandOut => Ok(CardLine::HandOut(read_most(rest)?)),
+        Keyword::Adds(word) => Ok(CardPart::Adds(read_table_line(alloc, word, rest)?)),
+        Keyword::Atr => Ok(CardPart::Atr(read_characters(alloc, rest)?)),
+        Keyword::Plan => {
+            let (steps, cut) = two_words(rest)?;
+            Ok(CardPart::Plan(read_plan(alloc, steps, cut)?))
+        }
+        _ => Err(Refusal::Line(Reason::UnknownWord)),
+    }
+}
+
+/// What a run line of `card` with this first word says, of which this is left.
+fn read_act<A: Allocator>(alloc: A, keyword: Keyword, rest: &[u8]) -> Result<CardAct<A>, Refusal>
+    ensures ok { IfOk result (λ act. (act_keyword (act_of act) ≡ keyword)
+        × AreActFields (act_of act) (words_in rest.now)) }
+    ensures refused { IfErr result (λ refusal. OnReason refusal (λ _.
+        (act : Act) → act_keyword act ≡ keyword → ¬ AreActFields act (words_in rest.now))) }
+{
+    match keyword {
+        Keyword::Take => Ok(CardAct::Take(read_characters(alloc, rest)?)),
+        Keyword::HandOut => Ok(CardAct::HandOut(read_most(rest)?)),
         Keyword::Reset => {
             no_word(rest)?;
-            Ok(CardLine::Reset)
+            Ok(CardAct::Reset)
         }
         Keyword::Table => {
             no_word(rest)?;
-            Ok(CardLine::Table)
+            Ok(CardAct::Table)
         }
         _ => Err(Refusal::Line(Reason::UnknownWord)),
     }

@@ -1,9 +1,58 @@
-use Rattle.std.proofs.Common.{◌≡◌, ℕ, List, [], Err, None, IfSome, refl, sym, ap, subst}
-use Rattle.card_trace.specs.CardScripts.{Building, DoesAll, RefusesCardLine, CardStops}
-use Rattle.card_trace.proofs.ScriptFaultLemmas.{fault_passed, faults_more, stops_unread, not_begun, within_limit, script_stops}
-use Rattle.card_trace.proofs.ScriptLineLemmas.{on_ok}
-use Rattle.card_trace.proofs.CardLemmas.{writes_read}
+use Rattle.std.proofs.Common.{[], None, Err, refl, ap, ◌≡◌, ◌∙◌}
+use Rattle.std.specs.Str.Lines.{lines}
+use Rattle.card_trace.specs.CardScripts.{Building, DoesOrPasses, DoesAll, RefusesCardLine, CardStops}
+use Rattle.card_trace.proofs.ScriptFaultLemmas.{few_lines, fault_passed, stops_unread, not_begun, within_limit}
+use Rattle.card_trace.proofs.ScriptLoopLemmas.{none_yet, one_more, all_done, stops_at}
 use Rattle.card_trace.proofs.card.card_lines.Goals as goal
+
+pub loop-line-init : goal.loop-line-init
+loop-line-init g c =
+    let start = Building [] [] None in
+    (start, c.new-player.ensures, none_yet DoesOrPasses start start _ _ _ _ refl refl refl)
+
+pub loop-line-preserved : goal.loop-line-preserved
+loop-line-preserved g c =
+    let items = c.in_ok-script.script.items in
+    let are_lines : c.into_iter-line-iterator.result ≡ lines items =
+    c.into_iter-line-iterator.ensures.into_iter_gives ∙ c.of-line-items.ensures
+    ∙ ap lines c.as_slice.ensures.value in
+    let (state, stands, so_far) = c.loop-line.invariant in
+    let (text, next, now, appends, does) = c.in_ok-player.ensures.played state stands in (
+      next,
+      now,
+      one_more DoesOrPasses (Building [] [] None) state next _ _ _ c.in-Some.line.now text _ _ _ _
+          _ so_far c.in-Some.ensures.steps
+          (few_lines _ items are_lines c.in_ok-script.ensures.fits)
+          c.saturating_add-number.ensures appends does,
+    )
+
+pub returns-clause-written : goal.returns-clause-written
+returns-clause-written g c =
+    let items = c.in_ok-script.script.items in
+    let are_lines : c.into_iter-line-iterator.result ≡ lines items =
+    c.into_iter-line-iterator.ensures.into_iter_gives ∙ c.of-line-items.ensures
+    ∙ ap lines c.as_slice.ensures.value in
+    all_done DoesOrPasses (Building [] [] None) _ _ _ _ _ _ _ items c.in_ok-script.ensures.whole
+    are_lines c.in-None.ensures.steps.0 c.loop-line.invariant.2
+
+pub returns-in_err-player-clause-stops : goal.returns-in_err-player-clause-stops
+returns-in_err-player-clause-stops g c =
+    let items = c.in_ok-script.script.items in
+    let are_lines : c.into_iter-line-iterator.result ≡ lines items =
+    c.into_iter-line-iterator.ensures.into_iter_gives ∙ c.of-line-items.ensures
+    ∙ ap lines c.as_slice.ensures.value in
+    let script = g.R.Read.remaining c.args.reader.now in
+    let old = g.W.Write.contents c.args.writer.now in
+    let new = g.W.Write.contents c.play.new.writer in
+    let (state, stands, so_far) = c.loop-line.invariant in
+    fault_passed c.from_residual-in_err-player.result c.in_err-player.field-0.0
+    (CardStops script old new)
+    c.from_residual-in_err-player.ensures.1
+    (stops_at DoesOrPasses RefusesCardLine (Building [] [] None) state _ _ _ c.in-Some.line.now old
+    _ new _ _ script items c.in_err-player.field-0.0
+    c.in_ok-script.ensures.whole are_lines so_far c.in-Some.ensures.steps
+    (few_lines _ items are_lines c.in_ok-script.ensures.fits) c.saturating_add-number.ensures
+    (c.in_err-player.ensures.fault state stands))
 
 pub returns-in_err-script-clause-stops : goal.returns-in_err-script-clause-stops
 returns-in_err-script-clause-stops g c =
@@ -16,28 +65,15 @@ returns-in_err-script-clause-stops g c =
     c.in_err-script.field-0.0 c.in_err-script.ensures.fault
     (λ same. c.in_err-script.ensures.too_long (ap (λ f. Err f) same)))
 
-pub returns-clause-written : goal.returns-clause-written
-returns-clause-written g c =
-    on_ok c.carry_out_lines.result _ _
-    (writes_read _ c.in_ok-script.script.items c.as_slice.result.now _ _
-    c.in_ok-script.ensures.whole
-    c.as_slice.ensures.value)
-    c.carry_out_lines.ensures.written
-
-pub returns-clause-stops : goal.returns-clause-stops
-returns-clause-stops g c =
-    let shown = c.as_slice.result.now in
-    let read = subst (λ (l : List ℕ). IfSome (g.R.Read.remaining c.args.reader.now)
-    (λ bytes. l ≡ bytes))
-    (sym c.as_slice.ensures.value) c.in_ok-script.ensures.whole in
-    faults_more c.carry_out_lines.result _ _
-    (λ fault. script_stops (DoesAll (Building [] [] None)) RefusesCardLine _ shown _ _ fault read)
-    c.carry_out_lines.ensures.stops
-
 pub returns-in_err-script-clause-limited : goal.returns-in_err-script-clause-limited
 returns-in_err-script-clause-limited g c =
     not_begun c.from_residual.result c.in_err-script.field-0.0 _ _ c.from_residual.ensures.1
     c.in_err-script.ensures.fault
+
+pub returns-in_err-player-clause-limited : goal.returns-in_err-player-clause-limited
+returns-in_err-player-clause-limited g c =
+    within_limit _ c.in_ok-script.script.items _ c.in_ok-script.ensures.whole
+    c.in_ok-script.ensures.fits
 
 pub returns-clause-limited : goal.returns-clause-limited
 returns-clause-limited g c =

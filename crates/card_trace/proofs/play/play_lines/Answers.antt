@@ -1,13 +1,13 @@
 use Rattle.std.proofs.Common.{[], Err, refl, ap, ◌≡◌, ◌∙◌}
 use Rattle.std.specs.Str.Lines.{lines}
-use Rattle.card_trace.specs.Scripts.{Building, PlaysAll, RefusesPlayLine, PlayStops}
+use Rattle.card_trace.specs.Scripts.{Building, PlaysLine, PlaysAll, RefusesPlayLine, PlayStops}
 use Rattle.card_trace.proofs.ScriptFaultLemmas.{few_lines, fault_passed, stops_unread, not_begun, within_limit}
-use Rattle.card_trace.proofs.PlayLemmas.{none_played, one_more_played, all_played, stops_at}
+use Rattle.card_trace.proofs.ScriptLoopLemmas.{none_yet, one_more, all_done, stops_at}
 use Rattle.card_trace.proofs.play.play_lines.Goals as goal
 
 pub loop-line-init : goal.loop-line-init
 loop-line-init g c =
-    none_played _ _ _ _ _ c.new-player.ensures refl refl
+    none_yet PlaysLine (Building []) _ _ _ _ _ c.new-player.ensures refl refl
 
 pub loop-line-preserved : goal.loop-line-preserved
 loop-line-preserved g c =
@@ -16,8 +16,9 @@ loop-line-preserved g c =
     c.into_iter-line-iterator.ensures.into_iter_gives ∙ c.of-line-items.ensures
     ∙ ap lines c.as_slice.ensures.value in
     let (text, appends, plays) = c.in_ok-player.ensures.played in
-    one_more_played _ _ _ c.in-Some.line.now text _ _ _ _ _ _ _ c.loop-line.invariant
-    c.in-Some.ensures.steps (few_lines _ items are_lines c.in_ok-script.ensures.fits)
+    one_more PlaysLine (Building []) _ _ _ _ _ c.in-Some.line.now text _ _ _ _ _
+    c.loop-line.invariant c.in-Some.ensures.steps
+    (few_lines _ items are_lines c.in_ok-script.ensures.fits)
     c.saturating_add-number.ensures appends plays
 
 pub returns-clause-written : goal.returns-clause-written
@@ -26,8 +27,8 @@ returns-clause-written g c =
     let are_lines : c.into_iter-line-iterator.result ≡ lines items =
     c.into_iter-line-iterator.ensures.into_iter_gives ∙ c.of-line-items.ensures
     ∙ ap lines c.as_slice.ensures.value in
-    all_played _ _ _ _ _ _ _ items c.in_ok-script.ensures.whole are_lines c.in-None.ensures.steps.0
-    c.loop-line.invariant
+    all_done PlaysLine (Building []) _ _ _ _ _ _ _ items c.in_ok-script.ensures.whole are_lines
+    c.in-None.ensures.steps.0 c.loop-line.invariant
 
 pub returns-in_err-player-clause-stops : goal.returns-in_err-player-clause-stops
 returns-in_err-player-clause-stops g c =
@@ -41,7 +42,8 @@ returns-in_err-player-clause-stops g c =
     fault_passed c.from_residual-in_err-player.result c.in_err-player.field-0.0
     (PlayStops script old new)
     c.from_residual-in_err-player.ensures.1
-    (stops_at _ _ _ c.in-Some.line.now old _ new _ _ _ script items c.in_err-player.field-0.0
+    (stops_at PlaysLine RefusesPlayLine (Building []) _ _ _ _ c.in-Some.line.now old _ new _ _
+    script items c.in_err-player.field-0.0
     c.in_ok-script.ensures.whole are_lines c.loop-line.invariant c.in-Some.ensures.steps
     (few_lines _ items are_lines c.in_ok-script.ensures.fits) c.saturating_add-number.ensures
     c.in_err-player.ensures.fault)

@@ -1,0 +1,63 @@
+use Rattle.std.proofs.Common.{◌<◌, [], length, take, drop, inl, inr, refl, sym, ◌∙◌, append-nil, arith}
+use Rattle.std.proofs.KnownBytes.{Appends-nil}
+use Rattle.std.proofs.lemmas.List.{take-append-drop, take_all}
+use Rattle.t0_core.specs.declared.end.End.TheVariants.{Terminal}
+use Rattle.t0_core.specs.Character.{sent_by}
+use Rattle.card_trace.specs.declared.fixed_line.FixedLine.TheVariants as fixed
+use Rattle.card_trace.specs.FixedText.{fixed_text}
+use Rattle.card_trace.specs.CardScripts.{Takes, listens_now}
+use Rattle.card_trace.proofs.ScriptLineLemmas.{on_ok}
+use Rattle.card_trace.proofs.CardLemmas.{lead_take, lead_taken, writes_led, some_left, silent_then}
+use Rattle.card_trace.proofs.lone_card.LoneCard.take.Goals as goal
+
+pub returns-then-take_bytes-characters-clause-written :
+    goal.returns-then-take_bytes-characters-clause-written
+returns-then-take_bytes-characters-clause-written g c =
+    let now = c.args.self.now in
+    let bytes = c.args.characters.now in
+    let count = c.take_bytes.result in
+    let new = c.take_bytes.new.self in
+    let over = c.is_over.ensures.0 c.if-not-is_over.false in
+    let fewer : count < length bytes = omega (arith, c.if-take_bytes-characters.true) in
+    let led = lead_taken _ now.plans
+    (λ old b next t. lead_take old next b t.taken t.led t.led_under now.plans)
+    now.end new (take count bytes) c.take_bytes.ensures.taken in
+    on_ok c.write_fixed-then-take_bytes-characters.result _ _
+    (writes_led (λ o text n. Takes o bytes text n) now.opening (now.end, now.plans)
+    (new, now.plans) (sent_by Terminal (take count bytes)) (fixed_text fixed.NotListening) _ _ led
+    (λ past more goes. listens_now over
+    (record {
+      taken = take count bytes;
+      refused = drop count bytes;
+      all = sym (take-append-drop count bytes);
+      goes_on = goes;
+      prints = inr (
+        some_left count bytes fewer,
+        silent_then count (length bytes) _ c.take_bytes.ensures.all fewer,
+        refl,
+      );
+    }) refl))
+    c.write_fixed-then-take_bytes-characters.ensures.written
+
+pub returns-clause-written : goal.returns-clause-written
+returns-clause-written g c =
+    let now = c.args.self.now in
+    let bytes = c.args.characters.now in
+    let count = c.take_bytes.result in
+    let new = c.take_bytes.new.self in
+    let over = c.is_over.ensures.0 c.if-not-is_over.false in
+    let whole = take_all count bytes (omega (arith, c.if-take_bytes-characters.false)) in
+    let led = lead_taken _ now.plans
+    (λ old b next t. lead_take old next b t.taken t.led t.led_under now.plans)
+    now.end new (take count bytes) c.take_bytes.ensures.taken in
+    writes_led (λ o text n. Takes o bytes text n) now.opening (now.end, now.plans)
+    (new, now.plans) (sent_by Terminal (take count bytes)) [] _ _ led
+    (λ past more goes. listens_now over
+    (record {
+      taken = take count bytes;
+      refused = [];
+      all = sym (append-nil (take count bytes) ∙ whole);
+      goes_on = goes;
+      prints = inl (refl, refl);
+    }) refl)
+    (Appends-nil _)

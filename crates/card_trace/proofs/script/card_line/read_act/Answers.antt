@@ -1,0 +1,24 @@
+-- A run line is its keyword and its fields.
+use Rattle.std.proofs.Common.{◌≡◌, ◌∙◌, ℕ, List}
+use Rattle.card_trace.specs.declared.script.reason.Reason.{Reason}
+use Rattle.card_trace.specs.ScriptWords.{words_in}
+use Rattle.card_trace.specs.ScriptFields.{IsHexText}
+use Rattle.card_trace.specs.ScriptTable.{OneField}
+use Rattle.card_trace.specs.ScriptCard.{Act, act_keyword, AreActFields}
+use Rattle.card_trace.proofs.ScriptCardLemmas.{take_says}
+use Rattle.card_trace.proofs.ScriptRefusalLemmas.{passed_on}
+use Rattle.card_trace.proofs.script.card_line.read_act.Goals as goal
+
+pub returns-in_err-read_characters-in-Take-clause-refused :
+    goal.returns-in_err-read_characters-in-Take-clause-refused
+returns-in_err-read_characters-in-Take-clause-refused g c =
+    let rest = words_in c.args.rest.now in
+    let P : Reason → Type 0 = λ _. (bytes : List ℕ)
+    → OneField rest (λ text. IsHexText text bytes) → ⊥ in
+    let Q : Reason → Type 0 = λ _. (act : Act) → act_keyword act ≡ c.args.keyword
+    → AreActFields act rest → ⊥ in
+    passed_on c.from_residual.result c.in_err-read_characters-in-Take.field-0.0 P Q
+    c.from_residual.ensures.1
+    (λ _ none act is fields. let said = take_says act rest (is ∙ c.in-Take.is) fields in
+    none said.0 said.1)
+    c.in_err-read_characters-in-Take.ensures.refused

@@ -1,0 +1,43 @@
+-- A table line is its keyword and its fields.
+use Rattle.std.proofs.Common.{◌≡◌, ◌∙◌, ℕ, List}
+use Rattle.t0_core.specs.Plan.{Course}
+use Rattle.card_trace.specs.declared.script.reason.Reason.{Reason}
+use Rattle.card_trace.specs.ScriptWords.{words_in}
+use Rattle.card_trace.specs.ScriptFields.{IsHexText, IsPlanText}
+use Rattle.card_trace.specs.ScriptTable.{OneField}
+use Rattle.card_trace.specs.ScriptCard.{Part, part_keyword, ArePartFields}
+use Rattle.card_trace.proofs.ScriptTableLemmas.{plan_texts}
+use Rattle.card_trace.proofs.ScriptCardLemmas.{plan_says, atr_says}
+use Rattle.card_trace.proofs.ScriptRefusalLemmas.{passed_on}
+use Rattle.card_trace.proofs.script.card_line.read_part.Goals as goal
+
+pub returns-in_err-read_characters-in-Atr-clause-refused :
+    goal.returns-in_err-read_characters-in-Atr-clause-refused
+returns-in_err-read_characters-in-Atr-clause-refused g c =
+    let rest = words_in c.args.rest.now in
+    let P : Reason → Type 0 = λ _. (bytes : List ℕ)
+    → OneField rest (λ text. IsHexText text bytes) → ⊥ in
+    let Q : Reason → Type 0 = λ _. (part : Part) → part_keyword part ≡ c.args.keyword
+    → ArePartFields part rest → ⊥ in
+    passed_on c.from_residual-in_err-read_characters-in-Atr.result
+    c.in_err-read_characters-in-Atr.field-0.0 P Q
+    c.from_residual-in_err-read_characters-in-Atr.ensures.1
+    (λ _ none part is fields. let said = atr_says part rest (is ∙ c.in-Atr.is) fields in
+    none said.0 said.1)
+    c.in_err-read_characters-in-Atr.ensures.refused
+
+pub returns-in_err-read_plan-in-Plan-clause-refused :
+    goal.returns-in_err-read_plan-in-Plan-clause-refused
+returns-in_err-read_plan-in-Plan-clause-refused g c =
+    let rest = words_in c.args.rest.now in
+    let a = c.in_ok-steps-in-Plan.steps.now in
+    let b = c.in_ok-steps-in-Plan.cut.now in
+    let P : Reason → Type 0 = λ _. (plan : Course) → IsPlanText a b plan → ⊥ in
+    let Q : Reason → Type 0 = λ _. (part : Part) → part_keyword part ≡ c.args.keyword
+    → ArePartFields part rest → ⊥ in
+    passed_on c.from_residual-in_err-read_plan-in-Plan.result
+    c.in_err-read_plan-in-Plan.field-0.0 P Q
+    c.from_residual-in_err-read_plan-in-Plan.ensures.1
+    (λ _ none part is fields. let said = plan_says part rest (is ∙ c.in-Plan.is) fields in
+    none said.0 (plan_texts rest a b said.0 c.in_ok-steps-in-Plan.ensures said.1))
+    c.in_err-read_plan-in-Plan.ensures.refused

@@ -1,6 +1,6 @@
 -- Laws of where a card's end stands.
 use Rattle.std.proofs.Common.{◌≡◌, ℕ, ◌+◌, ◌<◌, List, [], ◌∷◌, length, refl, sym, ◌∙◌, ap, arith, inl, inr, lit<, true, false, ◌&&◌, nat_lt, length-append, eq-eqb}
-use Rattle.std.proofs.lemmas.Bool.{eqb-true, ltb-true, ltb-false, ne_eqb}
+use Rattle.std.proofs.lemmas.Bool.{eqb-true, ltb-true, ltb-false}
 use Rattle.t0_core.specs.declared.end.End.TheVariants.{Terminal, Card}
 use Rattle.t0_core.specs.declared.direction.Direction.{Direction}
 use Rattle.t0_core.specs.declared.direction.Direction.TheVariants.{ToCard, FromCard}
@@ -58,14 +58,7 @@ pub taken_stays : (stage : Stage) (plan : Course) (byte : ℕ)
 taken_stays (Taking_header bytes) plan byte = refl
 taken_stays _ _ _ = refl
 
--- where a card's end listens, no plan is taken next
-pub no_plan_yet : (stage : Stage) → listens stage ≡ true → takes_plan stage ≡ false
-no_plan_yet (Taking_header bytes) listening =
-    let few : length bytes < 5 = ltb-true (length bytes) 5 listening in
-    ne_eqb (length bytes) 5 (λ e. absurd (omega (arith, few, e)))
-no_plan_yet _ _ = refl
-
--- what is to go where one is
+-- what is to go where a plan is taken next
 pub before_plan : (stage : Stage) (plan : Course) → takes_plan stage ≡ true
     → still_to_go stage plan ≡ length plan.steps + 300
 before_plan (Taking_header bytes) plan e = let five : length bytes ≡ 5 =

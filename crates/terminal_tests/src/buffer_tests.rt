@@ -56,9 +56,10 @@ fn hands_out<S: Side>(
     stop: Option<HostTurn>,
 ) {
     let handed = after_handing(rt, side, room);
-    assert!(rt; handed.buffer == in_room(rt, sent, room), "{room}: {sent}");
-    assert!(rt; handed.count == bytes(rt, sent).len(), "{room}: {sent}");
-    assert!(rt; handed.stop == stop, "{room}: {sent}");
+    let is_wanted = handed.stop == stop
+        && handed.count == bytes(rt, sent).len()
+        && handed.buffer == in_room(rt, sent, room);
+    assert!(rt; is_wanted, "{room}: {sent}");
 }
 
 /// So many of these characters are taken, and the next is this fault, if any.
@@ -70,13 +71,15 @@ fn takes<S: Side>(
     fault: Option<LineFault>,
 ) {
     let taken = side.take_in(&bytes(rt, from_card));
-    assert!(rt; taken.count == count, "{from_card}");
-    assert!(rt; taken.outcome.err() == fault, "{from_card}");
+    assert!(rt;
+        taken.count == count && taken.outcome.err() == fault,
+        "{from_card}"
+    );
 }
 
 /// The five characters of a header, in rooms that are too small, just right and larger.
 fn hands_out_a_header<S: Side>(rt: &(impl Abort + AllocGlobal)) {
-    for (room, sent, stop) in [
+    for (room, sent, stop) in &[
         (0, "", None),
         (1, "00", None),
         (4, "00CA5F20", None),
@@ -85,7 +88,7 @@ fn hands_out_a_header<S: Side>(rt: &(impl Abort + AllocGlobal)) {
         (300, "00CA5F2000", Some(HostTurn::Listens)),
     ] {
         let mut side: S = begun(rt, GET);
-        hands_out(rt, &mut side, room, sent, stop);
+        hands_out(rt, &mut side, *room, sent, *stop);
     }
 }
 
@@ -290,17 +293,21 @@ fn talks<S: Side>(rt: &(impl Abort + AllocGlobal), row: Talk, sizes: Sizes) {
     let mut side: S = begun(rt, row.of);
     passes(rt, &mut side, row.trace, sizes);
     let (status, data) = side.answer_of(rt);
-    assert!(rt; status == row.status, "{}", row.trace);
-    assert!(rt; data == bytes(rt, row.data), "{}", row.trace);
+    let is_wanted = status == row.status && data == bytes(rt, row.data);
+    assert!(rt; is_wanted, "{}", row.trace);
 }
 
 /// Each run of characters passes in a first buffer of each size, from none to all of it and more,
 /// and then in buffers of some size. What passes is the same.
 fn talks_in_each_cut<S: Side>(rt: &(impl Abort + AllocGlobal)) {
-    for row in TALKS {
+    for row in &TALKS {
         for first in 0..=16 {
-            for others in [1, 2, 3, 300] {
-                talks::<S>(rt, row, Sizes { first, others });
+            for others in &[1, 2, 3, 300] {
+                let sizes = Sizes {
+                    first,
+                    others: *others,
+                };
+                talks::<S>(rt, *row, sizes);
             }
         }
     }
@@ -373,13 +380,13 @@ fn hands_out_nothing(rt: &(impl Abort + AllocGlobal), terminal: &mut Terminal, s
 #[test]
 fn no_operation(rt: HostRuntime) {
     let mut terminal = Terminal::new(rt.alloc());
-    for (size, fault) in [
+    for (size, fault) in &[
         (0, None),
         (1, Some(LineFault::AfterEnd)),
         (2, Some(LineFault::AfterEnd)),
     ] {
-        hands_out_nothing(&rt, &mut terminal, size);
-        let taken = taken_by(&mut terminal, &in_room(&rt, "", size));
-        assert!(rt; taken.count == 0 && taken.outcome.err() == fault);
+        hands_out_nothing(&rt, &mut terminal, *size);
+        let taken = taken_by(&mut terminal, &in_room(&rt, "", *size));
+        assert!(rt; taken.count == 0 && taken.outcome.err() == *fault);
     }
 }

@@ -27,14 +27,14 @@ struct Row<'a> {
 
 /// A call that carries out a command.
 #[derive(Clone, Copy)]
-enum Call {
+pub enum Call {
     Transmit,
     Send,
 }
 
 /// The answer to a command that is agreed with the card. Without a clause: what is proved of it is
 /// nothing that a test has to know, and costs each proof that has it at hand.
-fn answer_by(
+pub fn answer_by(
     rt: &(impl Abort + AllocGlobal),
     session: &mut Session<ObjectCard>,
     call: Call,
@@ -59,6 +59,11 @@ fn answer_by(
     }
 }
 
+/// Whether the answer is that of the row.
+fn is_answered(rt: &(impl Abort + AllocGlobal), answer: &Answer, row: &Row<'_>) -> bool {
+    word(answer.status()) == row.status && answer.data() == bytes(rt, row.data).as_slice()
+}
+
 /// The command of a row is carried out so, with its characters and its answer.
 fn carries_out(
     rt: &(impl Abort + AllocGlobal),
@@ -73,25 +78,22 @@ fn carries_out(
     let mut cursor = Plans::over(&plans);
     let answer = answer_by(rt, session, call, command, &mut cursor, &mut recorder);
     let heard = row.heard;
-    assert!(rt;
-        recorder.heard() == repeated(rt, heard).as_slice(),
-        "{heard}"
-    );
-    assert!(rt; word(answer.status()) == row.status, "{heard}");
-    assert!(rt; answer.data() == bytes(rt, row.data).as_slice(), "{heard}");
+    assert!(rt; is_answered(rt, &answer, row), "{heard}");
+    let is_heard = recorder.heard() == repeated(rt, heard).as_slice();
+    assert!(rt; is_heard, "{heard}");
 }
 
 /// Either call carries it out so.
 fn is_carried_out(rt: &(impl Abort + AllocGlobal), row: &Row<'_>) {
-    for call in [Call::Transmit, Call::Send] {
+    for call in &[Call::Transmit, Call::Send] {
         let mut session = selected(rt, rt.alloc(), row.objects);
-        carries_out(rt, &mut session, call, row);
+        carries_out(rt, &mut session, *call, row);
     }
 }
 
 #[test]
 fn commands_of_each_case(rt: HostRuntime) {
-    for row in [
+    for row in &[
         Row {
             objects: NAME,
             plans: "",
@@ -151,7 +153,7 @@ fn commands_of_each_case(rt: HostRuntime) {
             data: "",
         },
     ] {
-        is_carried_out(&rt, &row);
+        is_carried_out(&rt, row);
     }
 }
 
@@ -159,7 +161,7 @@ fn commands_of_each_case(rt: HostRuntime) {
 /// TPDUs, but for the last three.
 #[test]
 fn long_plans(rt: HostRuntime) {
-    for row in [
+    for row in &[
         Row {
             objects: "50 41*253",
             plans: "no*2000:256",
@@ -179,6 +181,6 @@ fn long_plans(rt: HostRuntime) {
             data: "50820254 41*596",
         },
     ] {
-        is_carried_out(&rt, &row);
+        is_carried_out(&rt, row);
     }
 }

@@ -56,8 +56,8 @@ fn answer_to(rt: &(impl Abort + AllocGlobal), of: &[u8], trace: &str) -> Answer 
 /// The exchange of a command, given by its bytes, has these characters, and then this answer.
 fn answers(rt: &(impl Abort + AllocGlobal), of: &str, trace: &str, status: u16, data: &str) {
     let answer = answer_to(rt, &bytes(rt, of), trace);
-    assert!(rt; word(answer.status()) == status, "{trace}");
-    assert!(rt; answer.data() == bytes(rt, data).as_slice(), "{trace}");
+    let is_wanted = word(answer.status()) == status && answer.data() == bytes(rt, data).as_slice();
+    assert!(rt; is_wanted, "{trace}");
 }
 
 /// How to drive an exchange over a reader's characters: ask what it does, and hand in what the card
@@ -84,8 +84,8 @@ fn driven(
 
 /// The answer is `9000` with the object.
 fn is_name(rt: &(impl Abort + AllocGlobal), answer: &Answer) {
-    assert!(rt; answer.status().is_ok());
-    assert!(rt; answer.data() == bytes(rt, "5F20034A4F45").as_slice());
+    let is_wanted = answer.data() == bytes(rt, "5F20034A4F45").as_slice();
+    assert!(rt; is_wanted && answer.status().is_ok());
 }
 
 /// Begin it, drive it, and read the answer.
@@ -100,7 +100,7 @@ fn driven_by_hand(rt: HostRuntime) {
 
 #[test]
 fn each_case_of_a_command(rt: HostRuntime) {
-    for (of, trace, (status, data)) in [
+    for (of, trace, (status, data)) in &[
         (
             "00A4040007A000000003101000",
             "> 00A4040007 < A4 > A0000000031010 < 610B \
@@ -127,13 +127,13 @@ fn each_case_of_a_command(rt: HostRuntime) {
         ("00CA5F2000", "> 00CA5F2000 < 9123", (0x9123, "")),
         ("00CA5F2000", "> 00CA5F2000 < 60*1000 6A88", (0x6A88, "")),
     ] {
-        answers(&rt, of, trace, status, data);
+        answers(&rt, of, trace, *status, data);
     }
 }
 
 #[test]
 fn correction_is_followed_once_and_up_to_what_is_wanted(rt: HostRuntime) {
-    for (of, trace, (status, data)) in [
+    for (of, trace, (status, data)) in &[
         ("00CA5F2004", "> 00CA5F2004 < 6C06", (0x6C06, "")),
         (
             "00CA5F2004",
@@ -173,13 +173,13 @@ fn correction_is_followed_once_and_up_to_what_is_wanted(rt: HostRuntime) {
         ),
         ("00CA5F2006", "> 00CA5F2006 < 355F 6C06", (0x6C06, "5F")),
     ] {
-        answers(&rt, of, trace, status, data);
+        answers(&rt, of, trace, *status, data);
     }
 }
 
 #[test]
 fn fetches_what_is_announced_of_what_is_wanted(rt: HostRuntime) {
-    for (of, trace, (status, data)) in [
+    for (of, trace, (status, data)) in &[
         (
             "00CA5F2002",
             "> 00CA5F2002 < 6105 > 00C0000002 < C001026103",
@@ -214,15 +214,15 @@ fn fetches_what_is_announced_of_what_is_wanted(rt: HostRuntime) {
             (0x9000, "50820254 41*596"),
         ),
     ] {
-        answers(&rt, of, trace, status, data);
+        answers(&rt, of, trace, *status, data);
     }
 }
 
 /// A fault has ended it: whatever comes is after the end, and there is no answer.
 fn has_failed(rt: &(impl Abort + AllocGlobal), mut exchange: Exchange<'_>) {
-    for byte in [0x41, 0x90, 0x00, 0xCA] {
+    for byte in &[0x41, 0x90, 0x00, 0xCA] {
         assert!(rt; turn(&mut exchange) == HostTurn::Failed);
-        assert!(rt; said(&mut exchange, byte) == Some(LineFault::AfterEnd));
+        assert!(rt; said(&mut exchange, *byte) == Some(LineFault::AfterEnd));
     }
     assert!(rt; exchange.into_answer().is_none());
 }
@@ -259,7 +259,7 @@ fn listens_to_nothing_while_it_sends(rt: HostRuntime) {
 
 #[test]
 fn no_answer_before_the_end(rt: HostRuntime) {
-    for front in [
+    for front in &[
         "",
         "> 00CA",
         "> 00CA5F2000",
@@ -276,7 +276,7 @@ fn no_answer_before_the_end(rt: HostRuntime) {
 /// of its status.
 #[test]
 fn fetch_that_brings_nothing_stalls(rt: HostRuntime) {
-    for (of, trace) in [
+    for (of, trace) in &[
         ("00CA5F2000", "> 00CA5F2000 < 6105 > 00C0000005 < 61"),
         (
             "00CA5F2000",
@@ -345,14 +345,14 @@ fn is_object(rt: &(impl Abort + AllocGlobal), answer: &Answer) -> bool {
 
 #[test]
 fn object_is_all_the_data(rt: HostRuntime) {
-    for (of, trace, wanted) in [
+    for (of, trace, wanted) in &[
         ("00CA005003", "> 00CA005003 < CA 500141 9000", true),
         ("00CA005004", "> 00CA005004 < CA 50014100 9000", false),
         ("00CA005004", "> 00CA005004 < CA 00500141 9000", false),
         ("00CA005006", "> 00CA005006 < CA 500141510142 9000", false),
     ] {
         let answer = answer_to(&rt, &bytes(&rt, of), trace);
-        assert!(rt; is_object(&rt, &answer) == wanted, "{trace}");
+        assert!(rt; is_object(&rt, &answer) == *wanted, "{trace}");
     }
 }
 
@@ -375,18 +375,41 @@ fn told(
     exchange.answered(&bytes(rt, data), status).err()
 }
 
+/// A TPDU that is due, if any, the answer to it, as data and status, and what is said to that.
+type Answered<'a> = (
+    Option<(u8, usize, u16)>,
+    &'a str,
+    (u8, u8),
+    Option<AnswerFault>,
+);
+
+/// The exchange goes through these, one after the other.
+fn is_told(rt: &(impl Abort + AllocGlobal), exchange: &mut Exchange<'_>, rows: &[Answered<'_>]) {
+    for (tpdu, data, status, fault) in rows {
+        assert!(rt; due(exchange) == *tpdu, "{data}");
+        assert!(rt; told(rt, exchange, data, *status) == *fault, "{data}");
+    }
+}
+
 #[test]
 fn driven_by_whole_tpdus(rt: HostRuntime) {
     let mut exchange = begun(&rt, GET);
-    assert!(rt; due(&exchange) == Some((0x00, 0, 256)));
-    assert!(rt; told(&rt, &mut exchange, "", (0x6C, 0x06)).is_none());
-    assert!(rt; due(&exchange) == Some((0x06, 0, 6)));
-    assert!(rt;
-        told(&rt, &mut exchange, "00000000000000", (0x90, 0x00)) == Some(AnswerFault::TooMany)
+    let repeated = Some((0x06, 0, 6));
+    is_told(
+        &rt,
+        &mut exchange,
+        &[
+            (Some((0x00, 0, 256)), "", (0x6C, 0x06), None),
+            (
+                repeated,
+                "00000000000000",
+                (0x90, 0x00),
+                Some(AnswerFault::TooMany),
+            ),
+            (repeated, "5F20034A4F45", (0x90, 0x00), None),
+            (None, "", (0x90, 0x00), Some(AnswerFault::NotDue)),
+        ],
     );
-    assert!(rt; told(&rt, &mut exchange, "5F20034A4F45", (0x90, 0x00)).is_none());
-    assert!(rt; due(&exchange).is_none());
-    assert!(rt; told(&rt, &mut exchange, "", (0x90, 0x00)) == Some(AnswerFault::NotDue));
     is_name(&rt, &answer_of(&rt, exchange));
 }
 
@@ -394,19 +417,28 @@ fn driven_by_whole_tpdus(rt: HostRuntime) {
 fn whole_tpdus_with_data_to_the_card(rt: HostRuntime) {
     let of = bytes(&rt, "00A4040007A000000003101000");
     let mut exchange = begun(&rt, &of);
-    assert!(rt; due(&exchange) == Some((0x07, 7, 0)));
-    assert!(rt; told(&rt, &mut exchange, "6F", (0x90, 0x00)) == Some(AnswerFault::NotAsked));
-    assert!(rt; told(&rt, &mut exchange, "", (0x61, 0x0B)).is_none());
-    assert!(rt; due(&exchange) == Some((0x0B, 0, 11)));
-    assert!(rt; told(&rt, &mut exchange, "", (0x61, 0x0B)) == Some(AnswerFault::Stalled));
-    assert!(rt; matches!(turn(&mut exchange), HostTurn::Failed));
-    assert!(rt; due(&exchange).is_none());
+    let sent = Some((0x07, 7, 0));
+    is_told(
+        &rt,
+        &mut exchange,
+        &[
+            (sent, "6F", (0x90, 0x00), Some(AnswerFault::NotAsked)),
+            (sent, "", (0x61, 0x0B), None),
+            (
+                Some((0x0B, 0, 11)),
+                "",
+                (0x61, 0x0B),
+                Some(AnswerFault::Stalled),
+            ),
+        ],
+    );
+    assert!(rt; turn(&mut exchange) == HostTurn::Failed && due(&exchange).is_none());
 }
 
 #[test]
 fn no_answer_in_mid_tpdu(rt: HostRuntime) {
     let mut exchange = begun(&rt, GET);
     let _ = turn(&mut exchange);
-    assert!(rt; due(&exchange).is_none());
-    assert!(rt; told(&rt, &mut exchange, "", (0x90, 0x00)) == Some(AnswerFault::NotDue));
+    let not_due = Some(AnswerFault::NotDue);
+    is_told(&rt, &mut exchange, &[(None, "", (0x90, 0x00), not_due)]);
 }

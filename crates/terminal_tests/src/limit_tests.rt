@@ -161,11 +161,11 @@ fn many_whole_answers<S: Side>(rt: &(impl Abort + AllocGlobal), limit: usize) {
 }
 
 fn each_whole_answer<S: Side>(rt: &(impl Abort + AllocGlobal)) {
-    for limit in [0, 1, 254, 255] {
-        whole_answers::<S>(rt, limit);
+    for limit in &[0, 1, 254, 255] {
+        whole_answers::<S>(rt, *limit);
     }
-    for limit in [256, 512, RESPONSE_LIMIT] {
-        many_whole_answers::<S>(rt, limit);
+    for limit in &[256, 512, RESPONSE_LIMIT] {
+        many_whole_answers::<S>(rt, *limit);
     }
 }
 
@@ -189,7 +189,7 @@ fn is_over<S: Side>(rt: &(impl Abort + AllocGlobal), limit: usize) -> bool {
 
 #[test]
 fn limits_over_the_most_are_refused(rt: HostRuntime) {
-    for (limit, over) in [
+    for (limit, over) in &[
         (0, false),
         (RESPONSE_LIMIT - 1, false),
         (RESPONSE_LIMIT, false),
@@ -197,9 +197,12 @@ fn limits_over_the_most_are_refused(rt: HostRuntime) {
         (2 * RESPONSE_LIMIT, true),
         (usize::MAX, true),
     ] {
-        assert!(rt; is_over::<Exchange<'static>>(&rt, limit) == over, "{limit}");
-        assert!(rt; is_over::<OwnedExchange>(&rt, limit) == over, "{limit}");
-        assert!(rt; is_over::<Terminal>(&rt, limit) == over, "{limit}");
+        let each = [
+            is_over::<Exchange<'static>>(&rt, *limit),
+            is_over::<OwnedExchange>(&rt, *limit),
+            is_over::<Terminal>(&rt, *limit),
+        ];
+        assert!(rt; each == [*over; 3], "{limit}");
     }
 }
 
@@ -213,7 +216,7 @@ fn begun_over(rt: &(impl Abort + AllocGlobal), size: usize, limit: usize) -> Opt
 /// The one growth is as much as the limit says; a limit that is refused asks for none.
 #[test]
 fn memory_of_a_limited_exchange(rt: HostRuntime) {
-    for (limit, size, fault) in [
+    for (limit, size, fault) in &[
         (0, 0, None),
         (1, 16, None),
         (255, 240, Some(StartFault::OutOfMemory)),
@@ -224,7 +227,10 @@ fn memory_of_a_limited_exchange(rt: HostRuntime) {
         (16_384, 16_384, None),
         (16_385, 0, Some(StartFault::OverLimit)),
     ] {
-        assert!(rt; begun_over(&rt, size, limit) == fault, "{limit} in {size}");
+        assert!(rt;
+            begun_over(&rt, *size, *limit) == *fault,
+            "{limit} in {size}"
+        );
     }
 }
 
@@ -241,7 +247,7 @@ fn put_over(rt: &(impl Abort + AllocGlobal), size: usize, limit: usize) -> Optio
 /// One growth is for the copy of the data, and one for as much as the limit says.
 #[test]
 fn memory_of_a_limited_terminal(rt: HostRuntime) {
-    for (limit, size, begins) in [
+    for (limit, size, begins) in &[
         (0, 0, false),
         (0, 32, true),
         (1, 32, false),
@@ -253,8 +259,8 @@ fn memory_of_a_limited_terminal(rt: HostRuntime) {
         (16_384, 16_416, true),
     ] {
         let wanting = Some(BeginFault::OutOfMemory);
-        let fault = if begins { None } else { wanting };
-        assert!(rt; put_over(&rt, size, limit) == fault, "{limit} in {size}");
+        let fault = if *begins { None } else { wanting };
+        assert!(rt; put_over(&rt, *size, *limit) == fault, "{limit} in {size}");
     }
 }
 

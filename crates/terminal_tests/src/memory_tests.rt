@@ -26,9 +26,9 @@ fn has_room(heap: &LocalHeap) -> bool {
 /// The one growth of `start` is refused, and then granted.
 #[test]
 fn no_room_for_an_exchange(rt: HostRuntime) {
-    for (size, granted) in [(0, false), (16_368, false), (16_384, true)] {
-        let heap = LocalHeap::new(rt.alloc(), size).expect(&rt, "memory");
-        assert!(rt; has_room(&heap) == granted, "{size} bytes");
+    for (size, granted) in &[(0, false), (16_368, false), (16_384, true)] {
+        let heap = LocalHeap::new(rt.alloc(), *size).expect(&rt, "memory");
+        assert!(rt; has_room(&heap) == *granted, "{size} bytes");
     }
 }
 

@@ -1,13 +1,14 @@
 //! Operations over the card of data objects, with what goes over the line.
 
+use super::command_tests::{Call, answer_by};
 use super::data_objects::{NAME, are_answered, holds, operations, ran, selected, session_over};
 use super::trace::{characters, plans, repeated, word};
-use apdu_core::{Command, Header};
+use apdu_core::Command;
 use card_terminal::{Answer, Answers, Op, Session};
 use object_card::{DataCard, ObjectCard};
 use std::alloc::{AllocGlobal, Global};
 use std::process::Abort;
-use t0_core::{Plans, Recorder, Silent};
+use t0_core::{Plans, Recorder};
 
 /// What a session has before it, and what it is asked.
 #[derive(Clone, Copy)]
@@ -37,10 +38,8 @@ fn passes<C: DataCard>(
     let mut out = Answers::new(rt.alloc());
     let ended = ran(rt, session, rt.alloc(), ops, plans, &mut recorder, &mut out);
     assert!(rt; ended.is_ok() && !recorder.lost());
-    assert!(rt;
-        recorder.heard() == repeated(rt, trace).as_slice(),
-        "{trace}"
-    );
+    let is_heard = recorder.heard() == repeated(rt, trace).as_slice();
+    assert!(rt; is_heard, "{trace}");
     are_answered(rt, &out, answers);
 }
 
@@ -81,45 +80,29 @@ fn operations_in_turn(rt: HostRuntime) {
 }
 
 /// GET DATA of the first two bytes of `5F20`.
-fn first_part(
-    rt: &(impl Abort + AllocGlobal),
-    session: &mut Session<ObjectCard>,
-    recorder: &mut Recorder,
-) -> Answer {
-    let get = Header {
-        cla: 0x00,
-        ins: 0xCA,
-        p1: 0x5F,
-        p2: 0x20,
-    };
-    let command = Command::new(get, &[], Some(2)).unwrap();
-    let mut plans = Plans::<Global>::over(&[]);
-    let ended = session.transmit(rt.alloc(), command, &mut plans, recorder);
-    ended.expect(rt, "an answer")
-}
+const FIRST_PART: &[u8] = &[0x00, 0xCA, 0x5F, 0x20, 0x02];
 
 /// GET RESPONSE of more than is left.
-fn other_part(
+const OTHER_PART: &[u8] = &[0x00, 0xC0, 0x00, 0x00, 0xFF];
+
+/// The piece `AA` of a chain for `5F20`.
+const PIECE: &[u8] = &[0x10, 0xDA, 0x5F, 0x20, 0x01, 0xAA];
+
+/// The answer to one command, given by its bytes.
+fn answer_to(
     rt: &(impl Abort + AllocGlobal),
     session: &mut Session<ObjectCard>,
+    of: &[u8],
     recorder: &mut Recorder,
 ) -> Answer {
-    let rest = Header {
-        cla: 0x00,
-        ins: 0xC0,
-        p1: 0x00,
-        p2: 0x00,
-    };
-    let command = Command::new(rest, &[], Some(255)).unwrap();
+    let command = Command::read(of).expect(rt, "a command");
     let mut plans = Plans::<Global>::over(&[]);
-    let ended = session.transmit(rt.alloc(), command, &mut plans, recorder);
-    ended.expect(rt, "an answer")
+    answer_by(rt, session, Call::Transmit, command, &mut plans, recorder)
 }
 
 /// The answer has this status and these data.
 fn says(rt: &(impl Abort + AllocGlobal), answer: &Answer, status: u16, data: &[u8]) {
-    assert!(rt; word(answer.status()) == status);
-    assert!(rt; answer.data() == data);
+    assert!(rt; word(answer.status()) == status && answer.data() == data);
 }
 
 /// Two commands bring the two parts of an object. The second, a GET RESPONSE of its own, is
@@ -128,32 +111,20 @@ fn says(rt: &(impl Abort + AllocGlobal), answer: &Answer, status: u16, data: &[u
 fn an_object_in_two_parts(rt: HostRuntime) {
     let mut session = selected(&rt, rt.alloc(), NAME);
     let mut recorder = Recorder::new(rt.alloc());
-    let first = first_part(&rt, &mut session, &mut recorder);
+    let first = answer_to(&rt, &mut session, FIRST_PART, &mut recorder);
     says(&rt, &first, 0x6104, &[0x5F, 0x20]);
-    let other = other_part(&rt, &mut session, &mut recorder);
+    let other = answer_to(&rt, &mut session, OTHER_PART, &mut recorder);
     says(&rt, &other, 0x9000, &[0x03, 0x4A, 0x4F, 0x45]);
     let heard = "> 00CA5F2002 < CA5F206104 > 00C00000FF < 6C04 > 00C0000004 < C0034A4F459000";
     assert!(rt; recorder.heard() == characters(&rt, heard).as_slice());
 }
 
-/// The session sends the piece `AA` of a chain for `5F20`.
-fn send_piece(rt: &(impl Abort + AllocGlobal), session: &mut Session<ObjectCard>) -> Answer {
-    let piece = Header {
-        cla: 0x10,
-        ins: 0xDA,
-        p1: 0x5F,
-        p2: 0x20,
-    };
-    let command = Command::new(piece, &[0xAA], None).unwrap();
-    let mut cursor = Plans::<Global>::over(&[]);
-    let ended = session.transmit(rt.alloc(), command, &mut cursor, &mut Silent);
-    ended.expect(rt, "an answer")
-}
-
 /// The card has taken a piece of a chain, and is busy.
 fn with_a_chain(rt: &(impl Abort + AllocGlobal)) -> Session<ObjectCard> {
     let mut session = selected(rt, rt.alloc(), NAME);
-    says(rt, &send_piece(rt, &mut session), 0x9000, &[]);
+    let mut recorder = Recorder::new(rt.alloc());
+    let taken = answer_to(rt, &mut session, PIECE, &mut recorder);
+    says(rt, &taken, 0x9000, &[]);
     assert!(rt; !session.is_idle());
     session
 }
@@ -163,7 +134,7 @@ fn with_a_chain(rt: &(impl Abort + AllocGlobal)) -> Session<ObjectCard> {
 fn a_chain_is_pending(rt: HostRuntime) {
     let mut session = with_a_chain(&rt);
     let mut recorder = Recorder::new(rt.alloc());
-    let refused = first_part(&rt, &mut session, &mut recorder);
+    let refused = answer_to(&rt, &mut session, FIRST_PART, &mut recorder);
     says(&rt, &refused, 0x6883, &[]);
     assert!(rt; session.is_idle());
     holds(&rt, session.card(), NAME);
@@ -187,7 +158,7 @@ fn a_chain_does_not_outlive_a_reset(rt: HostRuntime) {
 
 #[test]
 fn gets(rt: HostRuntime) {
-    for row in [
+    for row in &[
         Row {
             objects: NAME,
             plans: "",
@@ -241,13 +212,13 @@ fn gets(rt: HostRuntime) {
             answers: "6A88; 6A82; 9000 5F20034A4F45",
         },
     ] {
-        is_run(&rt, &row);
+        is_run(&rt, row);
     }
 }
 
 #[test]
 fn puts(rt: HostRuntime) {
-    for row in [
+    for row in &[
         Row {
             objects: NAME,
             plans: "",
@@ -295,14 +266,14 @@ fn puts(rt: HostRuntime) {
             answers: "9000",
         },
     ] {
-        is_run(&rt, &row);
+        is_run(&rt, row);
     }
 }
 
 /// The piece that passes what the card holds is refused, and no other follows.
 #[test]
 fn long_values(rt: HostRuntime) {
-    for row in [
+    for row in &[
         Row {
             objects: NAME,
             plans: "",
@@ -356,6 +327,6 @@ fn long_values(rt: HostRuntime) {
             answers: "6700; 6700; 9000 5F20034A4F45",
         },
     ] {
-        is_run(&rt, &row);
+        is_run(&rt, row);
     }
 }

@@ -95,11 +95,11 @@ fn text_of(rt: &(impl Abort + AllocGlobal), fault: SessionFault) -> String {
 
 #[test]
 fn texts_of_faults(rt: HostRuntime) {
-    for (fault, text) in [
+    for (fault, text) in &[
         (SessionFault::OutOfMemory, "out of memory"),
         (SessionFault::Line(LineFault::TooLong), "response too long"),
         (SessionFault::Line(LineFault::Stalled), "response stalled"),
     ] {
-        assert!(rt; text_of(&rt, fault).as_str() == text, "{text}");
+        assert!(rt; text_of(&rt, *fault).as_str() == *text, "{text}");
     }
 }

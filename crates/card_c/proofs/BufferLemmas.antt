@@ -1,10 +1,7 @@
 -- Characters of a card that pass by a buffer: one more, and all.
-use Rattle.std.proofs.Common.{◌≡◌, ◌<◌, ◌+◌, ◌++◌, ℕ, List, [], ◌∷◌, length, take, drop, set, get_or, refl, sym, subst, ap, ◌∙◌, arith}
-use Rattle.std.proofs.lemmas.List.{take_more, take_more_set, drop-set-lt, drop-drop}
-use Rattle.t0_core.specs.CardSide.{EndOf}
-use Rattle.object_card.specs.CardView.{CardView}
+use Rattle.std.proofs.Common.{◌≡◌, ◌<◌, ◌+◌, ◌++◌, ℕ, List, [], ◌∷◌, length, take, drop, set, refl, sym, subst, ap, ◌∙◌, arith}
+use Rattle.std.proofs.lemmas.List.{take_more_set, drop-set-lt, drop-drop}
 use Rattle.t0_core.specs.Buffers.{Steps, HandsOut}
-use Rattle.card_c.specs.CardCalls.{TakesCharacter}
 use Rattle.card_c.specs.BufferCalls.{Driven, HandsOutOne}
 
 module _ {State : Type 0} (Step : State → ℕ → State → Type 0) where
@@ -27,10 +24,10 @@ one_handed old s next before after at b below same handed step = record {
       ∙ ap (λ bs. drop 1 bs) handed.behind ∙ drop-drop 1 at before;
 }
 
--- one more is taken
-pub one_taken : (old s next : EndOf CardView) (bytes : List ℕ) (at : ℕ) → at < length bytes
-    → Steps TakesCharacter old (take at bytes) s → TakesCharacter s (get_or bytes at 0) next
-    → Steps TakesCharacter old (take (at + 1) bytes) next
-one_taken old s next bytes at below steps step =
-    subst (λ bs. Steps TakesCharacter old bs next) (sym (take_more bytes at 0 below))
-    (one_more TakesCharacter (take at bytes) old s next (get_or bytes at 0) steps step)
+-- each step is also one that says less
+pub steps_as : {State : Type 0} (Step Less : State → ℕ → State → Type 0)
+    → ((s t : State) (b : ℕ) → Step s b t → Less s b t) → (bs : List ℕ) (s last : State)
+    → Steps Step s bs last → Steps Less s bs last
+steps_as Step Less less [] s last same = same
+steps_as Step Less less (b ∷ bs) s last (next, step, steps) =
+    (next, less s next b step, steps_as Step Less less bs next last steps)

@@ -100,10 +100,5 @@ fn receive(side: &mut CardSide, bytes: &[u8], count: &mut usize) -> i32
 fn take_all(end: &mut CardEnd<ObjectCard>, bytes: &[u8]) -> usize
     ensures { TakesAll end.old bytes.now result end.new }
 {
-    for (at, byte) in bytes.iter().enumerate() {
-        let Ok(()) = end.take(*byte) else {
-            return at;
-        };
-    }
-    bytes.len()
+    end.take_bytes(bytes)
 }

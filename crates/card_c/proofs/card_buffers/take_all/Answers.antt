@@ -1,9 +1,12 @@
-use Rattle.std.proofs.Common.{sym}
-use Rattle.card_c.proofs.BufferLemmas.{one_taken}
+use Rattle.std.proofs.Common.{take}
+use Rattle.card_c.specs.CardCalls.{TakesCharacter}
+use Rattle.card_c.proofs.BufferLemmas.{steps_as}
 use Rattle.card_c.proofs.card_buffers.take_all.Goals as goal
 
-pub loop-at-preserved : goal.loop-at-preserved
-loop-at-preserved c =
-    let e = c.in-Ok.ensures in
-    one_taken c.args.end.now c.loop-at.end c.take.new.self c.args.bytes.now c.loop-at.at
-    c.loop-at-test.true c.loop-at.invariant (sym e.listening, e.taken, e.led, e.led_under)
+pub returns : goal.returns
+returns c = (
+  steps_as _ TakesCharacter (λ s t b is. (is.listening, is.taken, is.led, is.led_under))
+      (take c.take_bytes.result c.args.bytes.now) c.args.end.now c.take_bytes.new.self
+      c.take_bytes.ensures.taken,
+  c.take_bytes.ensures.all,
+)

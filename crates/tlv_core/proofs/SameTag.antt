@@ -23,7 +23,7 @@ pub tags_same : (s t : List ℕ) → false
     ≡ not (pointwise nat_eq (padded 3 s) (padded 3 t) && nat_eq (length s) (length t)) → s ≡ t
 tags_same s t e =
     let b = both_true (pointwise nat_eq (padded 3 s) (padded 3 t))
-        (nat_eq (length s) (length t)) e in
+    (nat_eq (length s) (length t)) e in
     (fronts_agree s t (replicate (3 - length s) 0) (replicate (3 - length t) 0)
     (eqb-true (length s) (length t) b.1) (same_text (padded 3 s) (padded 3 t) (sym b.0))).0
 

@@ -322,7 +322,7 @@ no_data_characters ins d e (s ∷ segments) n m =
     (ap (λ cs. (Card, procedure_byte ins s) ∷ cs)
     (no_data_characters ins d e segments (n - moves s n) (m - moves s m)))
 
-pub same_characters : (b : Body) (way : Direction) → b.moved ≡ []
+same_characters : (b : Body) (way : Direction) → b.moved ≡ []
     → body_characters (turned_body way b) ≡ body_characters b
 same_characters b way none =
     let same : segment_characters b.header.ins way b.segments (foreseen way b.p3) b.moved

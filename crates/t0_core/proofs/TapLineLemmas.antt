@@ -5,22 +5,23 @@ use Rattle.std.specs.List.{AllByRecursion, flat_map}
 use Rattle.apdu_core.specs.declared.header.Header.{Header}
 use Rattle.t0_core.specs.declared.end.End.{End}
 use Rattle.t0_core.specs.declared.plan.Step.{Step}
-use Rattle.t0_core.specs.declared.plan.Step.TheVariants.{Null, One, All}
+use Rattle.t0_core.specs.declared.plan.Step.TheVariants.{Null}
 use Rattle.t0_core.specs.declared.heard.Heard.{Heard}
 use Rattle.t0_core.specs.declared.heard.Heard.TheVariants as heard
 use Rattle.t0_core.specs.Character.{Character}
 use Rattle.t0_core.specs.Dialogue.{Dialogue, IsDialogue, characters, foreseen}
 use Rattle.t0_core.specs.Plan.{Course, plain, segments_of, Follows, FollowInTurn}
-use Rattle.t0_core.specs.Front.{Front, In_header, In_body, After_first, Ends, GoesThrough, fresh}
+use Rattle.t0_core.specs.Front.{Front, In_header, In_body, After_first, GoesOn, Ends, GoesThrough, fresh}
 use Rattle.t0_core.specs.FrontLaws.{all_moves-within}
 use Rattle.t0_core.specs.WholeLaws.{goes_through}
 use Rattle.t0_core.specs.History.{IsByteEvent, passed}
 use Rattle.t0_core.specs.TapSide.{Place, In_opening, Between, In_data, After_sw1, TapStandsAt, IsRead, IsReadFront, Makes, Concludes, afresh, unheard_at, heard_at, after_hearing}
 use Rattle.t0_core.specs.TapLine.{HearsInTurn, AreTold}
-use Rattle.t0_core.proofs.TapLemmas.{HasByte, takes_all}
+use Rattle.t0_core.proofs.PlanLemmas.{nulls_where_none_left}
+use Rattle.t0_core.proofs.TapLemmas.{TapTook, HasByte, takes_all}
 
 -- the front is one of a dialogue with this header, in the tap's reading
-abbrev IsOf : Front → Dialogue → Type 0
+abbrev pub IsOf : Front → Dialogue → Type 0
 IsOf (In_header bytes) d = Unit {0}
 IsOf (In_body b) d = (b.header ≡ d.body.header) × IsRead b
 IsOf (After_first b sw1) d = (b.header ≡ d.body.header) × IsRead b
@@ -30,7 +31,7 @@ all_before : (segments : List Step) (s : Step) → AllByRecursion (λ t. t ≡ N
 all_before [] s all = tt
 all_before (t ∷ segments) s all = (all.0, all_before segments s all.1)
 
-is_of : (cs : List Character) (front : Front) (d : Dialogue) → IsRead d.body
+pub is_of : (cs : List Character) (front : Front) (d : Dialogue) → IsRead d.body
     → GoesThrough front cs d → IsOf front d
 is_of [] front d read through = absurd through
 is_of (c ∷ cs) (In_header bytes) d read through = tt
@@ -56,7 +57,7 @@ of_read (In_header bytes) d is = tt
 of_read (In_body b) d is = is.1
 of_read (After_first b sw1) d is = is.1
 
-has_its_byte : (place : Place) (front : Front) (d : Dialogue) → TapStandsAt place front
+pub has_its_byte : (place : Place) (front : Front) (d : Dialogue) → TapStandsAt place front
     → IsOf front d → d.body.header.ins < 256 → HasByte place
 has_its_byte (Between said) (In_body b) d at is small =
     let P : Header → Type 0 = λ h. h.ins < 256 in subst P (sym is.0 ∙ at.0.header_is) small
@@ -64,13 +65,20 @@ has_its_byte (Between said) (In_header bytes) d at is small = absurd at
 has_its_byte (Between said) (After_first b sw1) d at is small = absurd at
 has_its_byte _ _ _ _ _ _ = tt
 
+-- a tap takes each character with which such a dialogue goes on
+pub takes_on : (cs : List Character) (place : Place) (front new : Front) (c : Character)
+    (d : Dialogue) → HasByte place → TapStandsAt place front → GoesOn front c new
+    → GoesThrough new cs d → IsRead d.body → TapTook place c.0 c.1 front new
+takes_on cs place front new c d small at goes on read =
+    takes_all place c.0 c.1 front new small at goes (of_read new d (is_of cs new d read on))
+
 -- the end of a dialogue
-record Closes (place : Place) (from : End) (byte : ℕ) (d : Dialogue) : Type 0 where
+pub record Closes (place : Place) (from : End) (byte : ℕ) (d : Dialogue) : Type 0 where
   pub none : unheard_at place from byte ≡ None
   pub concludes : Concludes (heard_at place from byte) d
   pub after : after_hearing place from byte ≡ afresh
 
-closes : (place : Place) (from : End) (byte : ℕ) (front : Front) (d : Dialogue)
+pub closes : (place : Place) (from : End) (byte : ℕ) (front : Front) (d : Dialogue)
     → TapStandsAt place front → Ends front (from, byte) d → Closes place from byte d
 closes (After_sw1 said sw1) from byte (After_first b first) d at ends = record {
   none = rw (ends.0) refl;
@@ -106,9 +114,8 @@ hears_through (c ∷ cs) place front d at (inl (ends, none)) read small =
     )
 hears_through (c ∷ cs) place front d at (inr (new, goes, through)) read small =
     let here = is_of (c ∷ cs) front d read (inr (new, goes, through)) in
-    let later = is_of cs new d read through in
-    let took = takes_all place c.0 c.1 front new (has_its_byte place front d at here small) at goes
-    (of_read new d later) in
+    let took = takes_on cs place front new c d (has_its_byte place front d at here small) at goes
+    through read in
     let rest = hears_through cs (after_hearing place c.0 c.1) new d took.stands through read
     small in (
       heard_at place c.0 c.1 ∷ rest.0,
@@ -139,13 +146,7 @@ told_both (heard.Data direction ∷ told) more ds es one two = told_both told mo
 told_both (heard.FirstStatus ∷ told) more ds es one two = told_both told more ds es one two
 
 -- what follows a plan begins no segment in vain
-only_nulls : (steps : List Step) → AllByRecursion (λ s. s ≡ Null) (segments_of steps 0)
-only_nulls [] = tt
-only_nulls (Null ∷ steps) = (refl, only_nulls steps)
-only_nulls (One ∷ steps) = only_nulls steps
-only_nulls (All ∷ steps) = only_nulls steps
-
-follows_read : (d : Dialogue) (plan : Course) → IsDialogue d → Follows d plan → IsRead d.body
+pub follows_read : (d : Dialogue) (plan : Course) → IsDialogue d → Follows d plan → IsRead d.body
 follows_read d plan is follows to none =
     let within = all_moves-within d.body.segments (foreseen d.body.direction d.body.p3) in
     let foreseen_none : foreseen d.body.direction d.body.p3 ≡ 0 = rw (to, none) refl in
@@ -153,7 +154,8 @@ follows_read d plan is follows to none =
     omega (arith, is.moved_by_segments, within, foreseen_none) in
     let Nulls : List Step → Type 0 = λ x. AllByRecursion (λ s. s ≡ Null) x in
     subst Nulls
-    (sym (follows.step_by_step ∙ ap (segments_of plan.steps) nothing)) (only_nulls plan.steps)
+    (sym (follows.step_by_step ∙ ap (segments_of plan.steps) nothing))
+    (nulls_where_none_left plan.steps)
 
 bytes_after : (cs ds : List Character) → AllByRecursion IsByteEvent (passed (cs ++ ds))
     → AllByRecursion IsByteEvent (passed ds)

@@ -32,7 +32,7 @@ pub byte_is : (from : End) (a b : ℕ) → let x : Character = (from, a) in
     let y : Character = (from, b) in x ≡ y → a ≡ b
 byte_is from a b e = ap (λ (c : Character). c.1) e
 
-pub stripped : (c : Character) (r s : List Character) → c ∷ r ≡ c ∷ s → r ≡ s
+stripped : (c : Character) (r s : List Character) → c ∷ r ≡ c ∷ s → r ≡ s
 stripped c r s e = cc
 
 -- ---- a front goes on in one way
@@ -111,10 +111,10 @@ on_way (In_body b) (c ∷ cs) d (inr (new, goes, on)) =
 on_way (After_first b sw1) (c ∷ cs) d (inr (new, goes, on)) = absurd goes
 
 -- procedure bytes and SW1 are apart, whether or not INS is an instruction
-abbrev pub IsAllowed : ℕ → Step → Type 0
+abbrev IsAllowed : ℕ → Step → Type 0
 IsAllowed ins s = ins_is_valid ins ≡ false → s ≡ Null
 
-pub all_apart : (ins : ℕ) → ins < 256 → Apart ins (IsAllowed ins)
+all_apart : (ins : ℕ) → ins < 256 → Apart ins (IsAllowed ins)
 all_apart ins small = by (ins_is_valid ins) refl
   where
     by : (v : Bool) → ins_is_valid ins ≡ v → Apart ins (IsAllowed ins)

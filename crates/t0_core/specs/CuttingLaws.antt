@@ -1,9 +1,9 @@
 -- Laws: where a dialogue has come to a front, its next character is settled; and dialogues that are
 -- opened alike have one cutting.
-use Rattle.std.proofs.Common.{◌≡◌, ℕ, zero, suc, ◌+◌, ◌<◌, ◌≤◌, List, [], ◌∷◌, ◌++◌, length, take, refl, sym, subst, ◌∙◌, ap, arith, inl, inr, ◌⊎◌, true, false, Bool, Some, None, ◌==◌, slice_index, if◌then◌else◌, append-nil, append_assoc, length-append}
+use Rattle.std.proofs.Common.{◌≡◌, ℕ, suc, ◌+◌, ◌<◌, ◌≤◌, List, [], ◌∷◌, ◌++◌, length, take, refl, sym, subst, ◌∙◌, ap, arith, inl, inr, ◌⊎◌, true, false, Bool, Some, None, ◌==◌, slice_index, if◌then◌else◌, append-nil, append_assoc, length-append}
 use Rattle.std.proofs.Math.Seq.{get_or-append_seam}
 use Rattle.std.proofs.lemmas.Bool.{ne_eqb}
-use Rattle.std.proofs.lemmas.List.{get_or-take}
+use Rattle.std.proofs.lemmas.List.{get_or-take, append_cancel_left}
 use Rattle.apdu_core.specs.declared.header.Header.{Header}
 use Rattle.apdu_core.specs.HeaderBytes.{header_bytes, ins_is_valid}
 use Rattle.t0_core.specs.declared.end.End.{End}
@@ -23,17 +23,9 @@ use Rattle.t0_core.specs.Room.{Room}
 use Rattle.t0_core.specs.Front.{Front, In_header, In_body, After_first, IsFront, front_characters, from_card, fresh, GoesOn, GoesOnInHeader, GoesThrough, Ends, IsBetween, header_only, with_segment, with_moved}
 use Rattle.t0_core.specs.HostSide.{Hosting, HostStandsAt, HasRoom, IsOpenedBy, IsRequest, AreOwn, at_stage, turn_of, data_turn, fault_of, data_fault, procedure_fault, step_of}
 use Rattle.t0_core.specs.WholeLaws.{GoesTo, reached, goes_through, whole_front}
+use Rattle.t0_core.specs.DialogueLaws.{header_next}
 use Rattle.t0_core.specs.ProcedureLaws.{Apart, apart_where_valid, apart_where_invalid, step_is, status_is_no_step}
 use Rattle.t0_core.specs.FrontLaws.{begins_between}
-
--- ---- lists
-
-pub byte_is : (from : End) (a b : ℕ) → let x : Character = (from, a) in
-    let y : Character = (from, b) in x ≡ y → a ≡ b
-byte_is from a b e = ap (λ (c : Character). c.1) e
-
-stripped : (c : Character) (r s : List Character) → c ∷ r ≡ c ∷ s → r ≡ s
-stripped c r s e = cc
 
 -- ---- a front goes on in one way
 
@@ -255,44 +247,19 @@ abbrev pub HasNext : Hosting → Front → Dialogue → List Character → Type 
 HasNext host front d rest =
     (c : Character) × (cs : List Character) × (rest ≡ c ∷ cs) × Suits host front d c cs
 
-header_next : (h : Header) (p3 : ℕ) (cs : List Character) (sent : ℕ) (rest : List Character)
-    → sent < 5
-    → (Terminal, h.cla) ∷ (Terminal, h.ins) ∷ (Terminal, h.p1) ∷ (Terminal, h.p2) ∷ (Terminal, p3)
-    ∷ cs ≡ sent_by Terminal (take sent (header_bytes h ++ p3 ∷ [])) ++ rest
-    → (more : List Character)
-    × (rest ≡ (Terminal, slice_index (header_bytes h ++ p3 ∷ []) sent) ∷ more)
-header_next h p3 cs zero rest lt e = (_, sym e)
-header_next h p3 cs (suc zero) rest lt e = (_, sym (stripped _ _ _ e))
-header_next h p3 cs (suc (suc zero)) rest lt e = (_, sym (stripped _ _ _ (stripped _ _ _ e)))
-header_next h p3 cs (suc (suc (suc zero))) rest lt e =
-    (_, sym (stripped _ _ _ (stripped _ _ _ (stripped _ _ _ e))))
-header_next h p3 cs (suc (suc (suc (suc zero)))) rest lt e =
-    (_, sym (stripped _ _ _ (stripped _ _ _ (stripped _ _ _ (stripped _ _ _ e)))))
-header_next h p3 cs (suc (suc (suc (suc (suc n))))) rest lt e = absurd (omega (arith, lt))
-
 in_header : (host : Hosting) (sent : ℕ) (bytes : List ℕ) (d : Dialogue) (r rest : List Character)
     → sent < 5 → bytes ≡ take sent (header_bytes host.header ++ host.p3 ∷ [])
     → IsOpenedBy host d.body → characters d ++ r ≡ sent_by Terminal bytes ++ rest
     → HasNext (at_stage host (SendingHeader sent)) (In_header bytes) d rest
 in_header host sent bytes d r rest lt is opened e =
-    let P : Header → ℕ → Type 0 = λ h q. characters d ++ r
-    ≡ sent_by Terminal (take sent (header_bytes h ++ q ∷ [])) ++ rest in
-    let one : P host.header host.p3 = e ∙ ap (λ z. sent_by Terminal z ++ rest) is in
-    let two : P d.body.header host.p3 = let Q : Header → Type 0 = λ h. P h host.p3 in
-    subst Q (sym opened.0) one in
-    let three : P d.body.header d.body.p3 = let Q : ℕ → Type 0 = λ q. P d.body.header q in
-    subst Q (sym opened.1) two in
-    let next = header_next d.body.header d.body.p3 _ sent rest lt three in
-    let byte = slice_index (header_bytes d.body.header ++ d.body.p3 ∷ []) sent in (
-      (Terminal, byte),
+    let all = header_bytes d.body.header ++ d.body.p3 ∷ [] in
+    let same : all ≡ header_bytes host.header ++ host.p3 ∷ [] = rw (opened.0, opened.1) refl in
+    let next = header_next d.body.header d.body.p3 sent _ lt in (
+      (Terminal, slice_index all sent),
       next.0,
-      next.1,
-      inl (
-        refl,
-        ap (λ h. Sends (slice_index (header_bytes h ++ host.p3 ∷ []) sent)) (sym opened.0)
-            ∙ ap (λ q. Sends (slice_index (header_bytes d.body.header ++ q ∷ []) sent))
-            (sym opened.1),
-      ),
+      append_cancel_left (sent_by Terminal (take sent all)) rest _
+          (ap (λ bs. sent_by Terminal bs ++ rest) (ap (take sent) same ∙ sym is) ∙ sym e ∙ next.1),
+      inl (refl, ap (λ bs. Sends (slice_index bs sent)) (sym same)),
     )
 
 -- the character after so much of the data

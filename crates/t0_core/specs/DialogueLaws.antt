@@ -1,7 +1,10 @@
 -- Dialogues one after another: one more of them, and what holds of them all.
-use Rattle.std.proofs.Common.{◌≡◌, ℕ, ◌+◌, List, [], ◌∷◌, ◌++◌, length, length-append, arith, refl, sym, subst, ◌∙◌, ap, append-nil, append_assoc}
+use Rattle.std.proofs.Common.{◌≡◌, ℕ, suc, ◌+◌, ◌<◌, List, [], ◌∷◌, ◌++◌, length, take, slice_index, length-append, arith, refl, sym, subst, ◌∙◌, ap, append-nil, append_assoc}
 use Rattle.std.specs.List.{AllByRecursion, flat_map}
-use Rattle.t0_core.specs.declared.end.End.TheVariants.{Card}
+use Rattle.apdu_core.specs.declared.header.Header.{Header}
+use Rattle.apdu_core.specs.HeaderBytes.{header_bytes}
+use Rattle.t0_core.specs.declared.end.End.TheVariants.{Terminal, Card}
+use Rattle.t0_core.specs.Character.{Character, sent_by}
 use Rattle.t0_core.specs.Dialogue.{Dialogue, body_characters, characters}
 use Rattle.t0_core.specs.Plan.{Course, Follows, FollowInTurn}
 use Rattle.t0_core.specs.Meaning.{Tpdu, tpdu_of, Runs}
@@ -59,6 +62,13 @@ pub all_more : {A : Type 0} (P : A → Type 0) (whole : List A) (d : A) → AllB
     → AllByRecursion P (whole ++ d ∷ [])
 all_more P [] d all this = (this, tt)
 all_more P (e ∷ whole) d all this = (all.0, all_more P whole d all.1 this)
+
+-- the header and P3 go byte by byte
+pub header_next : (h : Header) (p3 n : ℕ) (cs : List Character) → n < 5
+    → let all = header_bytes h ++ p3 ∷ [] in (rest : List Character) × (sent_by Terminal all ++ cs
+    ≡ sent_by Terminal (take n all) ++ (Terminal, slice_index all n) ∷ rest)
+header_next h p3 (suc (suc (suc (suc (suc n))))) cs lt = absurd (omega (arith, lt))
+header_next _ _ _ _ _ = (_, refl)
 
 -- the characters of a dialogue that ends
 pub ends_with : (front : Front) (byte : ℕ) (d : Dialogue) → Ends front (Card, byte) d

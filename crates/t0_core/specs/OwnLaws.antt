@@ -1,6 +1,6 @@
 -- Law: the front at which the terminal's end stands is that of a dialogue that this end opens, with
 -- its own data.
-use Rattle.std.proofs.Common.{◌≡◌, ℕ, suc, ◌+◌, ◌-◌, ◌<◌, List, [], ◌∷◌, ◌++◌, length, take, refl, sym, ◌∙◌, ap, arith, lit<, length-append}
+use Rattle.std.proofs.Common.{◌≡◌, ℕ, ◌+◌, ◌-◌, ◌<◌, List, [], ◌∷◌, ◌++◌, length, take, refl, sym, ◌∙◌, ap, arith, lit<, length-append}
 use Rattle.std.specs.Prelude.{slice_index}
 use Rattle.std.proofs.lemmas.List.{take_more}
 use Rattle.apdu_core.specs.HeaderBytes.{header_bytes}
@@ -14,7 +14,7 @@ use Rattle.t0_core.specs.Dialogue.{Body, Dialogue, IsDialogue, characters, fores
 use Rattle.t0_core.specs.Front.{Front, In_header, In_body, After_first, IsFront, IsBegun, front_characters, header_only}
 use Rattle.t0_core.specs.HostSide.{Hosting, HostStandsAt, IsOpenedBy, IsRequest, AreOwn, AreForeseen, at_stage}
 use Rattle.t0_core.specs.WholeLaws.{Supplies, longer, closes, closed, owes}
-use Rattle.t0_core.specs.DialogueLaws.{ends_with}
+use Rattle.t0_core.specs.DialogueLaws.{ends_with, header_next}
 
 -- a dialogue that this end opened begins with the front, and more of it is to come
 abbrev pub BeginsOwn : Hosting → Front → Type 0
@@ -56,20 +56,15 @@ in_header : (host : Hosting) (sent : ℕ) (bytes : List ℕ) → sent < 5
     → bytes ≡ take sent (header_bytes host.header ++ host.p3 ∷ [])
     → BeginsOwn host (In_header bytes)
 in_header host sent bytes lt is =
-    let more = rest_of sent lt in (
+    let more = header_next host.header host.p3 sent _ lt in
+    let c : Character = (Terminal, slice_index (header_bytes host.header ++ host.p3 ∷ []) sent) in (
       closed (header_only host.header host.p3 host.direction),
+      c,
       more.0,
-      more.1,
       fresh_is host,
       opened_fresh host,
-      more.2 ∙ ap (λ bs. sent_by Terminal bs ++ more.0 ∷ more.1) (sym is),
+      more.1 ∙ ap (λ bs. sent_by Terminal bs ++ c ∷ more.0) (sym is),
     )
-  where
-    rest_of : (n : ℕ) → n < 5 → (c : Character) × (rest : List Character)
-        × (characters (closed (header_only host.header host.p3 host.direction)) ≡ sent_by Terminal
-        (take n (header_bytes host.header ++ host.p3 ∷ [])) ++ c ∷ rest)
-    rest_of (suc (suc (suc (suc (suc n))))) lt = absurd (omega (arith, lt))
-    rest_of _ _ = (_, _, refl)
 
 in_body : (host : Hosting) (b : Body) → IsRequest host → IsOpenedBy host b → IsBegun b
     → BeginsOwn host (In_body b)

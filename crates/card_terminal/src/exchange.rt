@@ -1,5 +1,5 @@
 //! The exchange of one command: its TPDUs in turn, and the data that they bring.
-ghost use Rattle.std.specs.Prelude.{◌≡◌, ◌≤◌, ◌<◌, ◌+◌, ◌*◌, ℕ, ◌⊎◌, ◌↔◌, List, [], ◌∷◌, ◌++◌, length, Option, Some, None, true, false, IfOk, OnOk, OnErr, IfErr, IsOk, MatchResult, IsSome, IfSome, IsErrOf};
+ghost use Rattle.std.specs.Prelude.{◌≡◌, ◌≤◌, ◌<◌, ◌+◌, ◌*◌, ℕ, ◌⊎◌, ◌↔◌, List, [], ◌∷◌, ◌++◌, length, Option, Some, None, true, false, IfOk, IfErr, IsOk, MatchResult, IsSome, IfSome};
 ghost use Rattle.std.specs.Option.{option_map};
 ghost use Rattle.apdu_core.specs.declared.header.Header.{Header};
 ghost use Rattle.apdu_core.specs.StatusWord.{StatusWord};
@@ -75,16 +75,16 @@ impl<'a, A: Allocator> Model for Exchange<'a, A> {
 
 impl<'a, A: Allocator> Exchange<'a, A> {
     ghost use Rattle.apdu_core.specs.CommandBytes as spec;
-    ghost use Rattle.t0_core.specs.declared.end.End.TheVariants.{Terminal, Card};
+    ghost use Rattle.t0_core.specs.declared.end.End.TheVariants.{Terminal};
     ghost use Rattle.t0_core.specs.Dialogue.{Dialogue, characters};
-    ghost use Rattle.t0_core.specs.Front.{Front, GoesOn, Ends, brought};
-    ghost use Rattle.t0_core.specs.HostSide.{fault_of, data_due};
+    ghost use Rattle.t0_core.specs.Front.{Front, GoesOn};
+    ghost use Rattle.t0_core.specs.HostSide.{data_due};
     ghost use Rattle.card_terminal.specs.Buffers.{IsHandingOut, IsTakingAll};
     ghost use Rattle.card_terminal.specs.ExchangeSteps.{IsTurn, IsTaking, IsLimited};
     ghost use Rattle.card_terminal.specs.Gathered.{UnitOf, Gathers};
     ghost use Rattle.card_terminal.specs.ExchangeHistory.{ComesTo, ComesTooFar, unit_characters};
     ghost use Rattle.t0_core.specs.Character.{Character};
-    ghost use Rattle.card_terminal.specs.ExchangeSide.{UnderWay, IsKept, IsBounded, IsAtEnd, Continues, Stall, exchange_turn, ended_with, is_final};
+    ghost use Rattle.card_terminal.specs.ExchangeSide.{UnderWay, IsKept, IsBounded, Continues, Stall, exchange_turn, ended_with};
 
     /// Begins the exchange of a command. The room for the response, `RESPONSE_LIMIT` bytes, is
     /// taken here; the error is want of memory.
@@ -174,28 +174,13 @@ impl<'a, A: Allocator> Exchange<'a, A> {
     /// anything.
     #[inline(always)]
     pub fn next(&mut self) -> HostTurn
-        ensures turn { result ≡ exchange_turn self.old }
-        ensures stays { ((byte : ℕ) → result ≡ HostTurn.Sends byte → ⊥) → self.new ≡ self.old }
-        ensures bounds { IsBounded self.new }
-        ensures limit { self.new.gather.limit ≡ self.old.gather.limit }
+        ensures turn { IsTurn self.old result self.new }
         ensures data { (content : List ℕ) → HasOnly content self.old.host
             → HasOnly content self.new.host }
 
         // It brings no exchange to its end.
         ensures over { (status : StatusWord) → exchange_turn self.new ≡ HostTurn.Done status
             → self.new ≡ self.old }
-
-        // With it the dialogue under way goes on.
-        ensures goes_on { (c : spec.Command) (units : List UnitOf) (first : Option Dialogue)
-            (front : Front) (byte : ℕ) →
-            UnderWay c self.old units first front → result ≡ HostTurn.Sends byte →
-            (new : Front) × GoesOn front (Terminal, byte) new
-            × UnderWay c self.new units first new }
-
-        // Whatever led to the exchange leads to it with this character.
-        ensures led { (c : spec.Command) (came : List Character) (byte : ℕ)
-            → ComesTo c came self.old → result ≡ HostTurn.Sends byte →
-            ComesTo c (came ++ (Terminal, byte) ∷ []) self.new }
     {
         if self.stalled {
             return HostTurn::Failed;
@@ -231,49 +216,9 @@ impl<'a, A: Allocator> Exchange<'a, A> {
     /// or has failed, `NotListening` where it has characters to send: these change nothing.
     #[inline(always)]
     pub fn take(&mut self, byte: u8) -> Result<(), LineFault>
-        ensures fault { MatchResult result (λ _. fault_of self.old.host self.old.gather byte ≡ None)
-            (λ fault. (fault_of self.old.host self.old.gather byte ≡ Some fault)
-            ⊎ ((fault ≡ LineFault.Stalled)
-            × (fault_of self.old.host self.old.gather byte ≡ None))) }
-        ensures bounds { IsBounded self.new }
-        ensures limit { self.new.gather.limit ≡ self.old.gather.limit }
+        ensures taking { IsTaking self.old byte result self.new }
         ensures data { (content : List ℕ) → HasOnly content self.old.host
             → HasOnly content self.new.host }
-        ensures after_end { IsAtEnd self.old → IsErrOf result LineFault.AfterEnd }
-        ensures unchanged { IfErr result (λ fault. is_final fault ≡ false → self.new ≡ self.old) }
-        ensures failed { IfErr result
-            (λ fault. is_final fault ≡ true → exchange_turn self.new ≡ HostTurn.Failed) }
-
-        // It takes each dialogue that it opened, where there is room for the data.
-        ensures goes_on { (c : spec.Command) (units : List UnitOf) (first : Option Dialogue)
-            (front new : Front) →
-            UnderWay c self.old units first front → GoesOn front (Card, byte) new →
-            MatchResult result (λ _. UnderWay c self.new units first new)
-            (λ fault. fault ≡ LineFault.TooLong) }
-        ensures full { (c : spec.Command) (units : List UnitOf) (first : Option Dialogue)
-            (front new : Front) →
-            UnderWay c self.old units first front → GoesOn front (Card, byte) new →
-            OnErr result ((length self.old.gather.bytes ≡ self.old.gather.limit)
-            × (brought new ≡ brought front ++ byte ∷ [])) }
-        ensures came { (c : spec.Command) (units : List UnitOf) (first : Option Dialogue)
-            (front : Front) →
-            UnderWay c self.old units first front → OnOk result (
-            ((new : Front) × GoesOn front (Card, byte) new)
-            ⊎ ((d : Dialogue) × Ends front (Card, byte) d)) }
-
-        // With the end of a dialogue the next is begun, or the exchange is over, or has stalled.
-        ensures ends { (c : spec.Command) (units : List UnitOf) (first : Option Dialogue)
-            (front : Front) (d : Dialogue) →
-            UnderWay c self.old units first front → Ends front (Card, byte) d →
-            MatchResult result (λ _. Continues c self.new units first d)
-            (λ fault. (fault ≡ LineFault.Stalled) × Stall c (units ++ ended_with first d ∷ [])) }
-
-        // Whatever led to the exchange leads to it with this character, also with one that ends it
-        // by a fault.
-        ensures led { (c : spec.Command) (came : List Character) → ComesTo c came self.old
-            → MatchResult result
-            (λ _. ComesTo c (came ++ (Card, byte) ∷ []) self.new)
-            (λ fault. is_final fault ≡ true → ComesTo c (came ++ (Card, byte) ∷ []) self.new) }
     {
         taken_by(
             &mut self.end,

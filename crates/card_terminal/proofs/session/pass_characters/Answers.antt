@@ -11,8 +11,8 @@ unwrap-requires g c =
     let l = line c.args.exchange.now c.args.end.now c.args.plans.now
     (g.W.Watch.hearing c.args.watch.now) in
     let byte = c.in-Sends.byte in
-    let under = still_sending g.C.TpduCard s l byte began c.in-Sends.ensures.turn in
-    let goes = c.in-Sends.ensures.goes_on s.command under.units under.tried under.front byte
+    let under = still_sending g.C.TpduCard s l byte began c.in-Sends.ensures.turn.turn_is in
+    let goes = c.in-Sends.ensures.turn.goes_on s.command under.units under.tried under.front byte
     under.terminal refl in
     (c.take.ensures.goes_on (next_plan under.before.rest).cut under.front goes.0 under.stands.0
     goes.1).0
@@ -25,9 +25,9 @@ returns-in-Sends g c = λ s began.
     let l = line c.args.exchange.now c.args.end.now plans (hearing c.args.watch.now) in
     let step = terminal_passed g.C.TpduCard s l
     (line c.next.new.self c.take.new.self plans (hearing c.seen.new.self)) byte
-    (still_sending g.C.TpduCard s l byte began c.in-Sends.ensures.turn)
-    (λ units tried front way. c.in-Sends.ensures.goes_on s.command units tried front byte way refl)
-    c.in-Sends.ensures.limit refl
+    (still_sending g.C.TpduCard s l byte began c.in-Sends.ensures.turn.turn_is)
+    (λ units tried front way. c.in-Sends.ensures.turn.goes_on s.command units tried front byte way
+    refl) c.in-Sends.ensures.turn.limit refl
     (on_ok c.take.result _ c.unwrap.result c.unwrap.ensures c.take.ensures.taken)
     (on_ok c.take.result _ c.unwrap.result c.unwrap.ensures c.take.ensures.falls)
     (λ cut front later stands goes.
@@ -40,18 +40,18 @@ pass_from_card-requires-clause-under_way g c =
     let hearing = g.W.Watch.hearing in
     let l = line c.args.exchange.now c.args.end.now c.args.plans.now (hearing c.args.watch.now) in
     let (s, began) = c.requires in
-    let same = c.in-Listens.ensures.stays listening_sends_nothing in (
+    let same = c.in-Listens.ensures.turn.stays listening_sends_nothing in (
       s,
       still_going g.C.TpduCard s
           (line c.next.new.self c.args.end.now c.args.plans.now (hearing c.args.watch.now))
           (on_too g.C.TpduCard s l _ same began)
-          (ap exchange_turn same ∙ sym c.in-Listens.ensures.turn),
+          (ap exchange_turn same ∙ sym c.in-Listens.ensures.turn.turn_is),
     )
 
 pub pass_from_card-requires-clause-listens : goal.pass_from_card-requires-clause-listens
 pass_from_card-requires-clause-listens g c =
-    ap exchange_turn (c.in-Listens.ensures.stays listening_sends_nothing)
-    ∙ sym c.in-Listens.ensures.turn
+    ap exchange_turn (c.in-Listens.ensures.turn.stays listening_sends_nothing)
+    ∙ sym c.in-Listens.ensures.turn.turn_is
 
 pub pass_data-requires : goal.pass_data-requires
 pass_data-requires g c =
@@ -61,14 +61,15 @@ pass_data-requires g c =
       s,
       c.pass_from_card.new.plans,
       (c.in_ok-pass_from_card-in-Listens.ensures s
-          (on_too g.C.TpduCard s l _ (c.in-Listens.ensures.stays listening_sends_nothing) began)).1,
+          (on_too g.C.TpduCard s l _ (c.in-Listens.ensures.turn.stays listening_sends_nothing)
+          began)).1,
     )
 
 pub returns-in_ok-pass_from_card-in-Listens : goal.returns-in_ok-pass_from_card-in-Listens
 returns-in_ok-pass_from_card-in-Listens g c = λ s began.
     let l = line c.args.exchange.now c.args.end.now c.args.plans.now
     (g.W.Watch.hearing c.args.watch.now) in
-    let same = c.in-Listens.ensures.stays listening_sends_nothing in
+    let same = c.in-Listens.ensures.turn.stays listening_sends_nothing in
     let passed = c.in_ok-pass_from_card-in-Listens.ensures s (on_too g.C.TpduCard s l _ same began)
     in
     let more = c.pass_data.ensures c.pass_from_card.new.plans s passed.1 in (
@@ -80,5 +81,5 @@ pub returns-in-Done : goal.returns-in-Done
 returns-in-Done g c = λ s began.
     let l = line c.args.exchange.now c.args.end.now c.args.plans.now
     (g.W.Watch.hearing c.args.watch.now) in
-    still_over g.C.TpduCard s l c.next.new.self c.in-Done.field-0 began c.in-Done.ensures.turn
-    c.in-Done.ensures.stays
+    still_over g.C.TpduCard s l c.next.new.self c.in-Done.field-0 began
+    c.in-Done.ensures.turn.turn_is c.in-Done.ensures.turn.stays

@@ -19,22 +19,22 @@ returns g c = λ s began.
     elim (turned card s l c.turn.new.self c.turn.new.plans byte under has turn.permitted
     (λ cut front. turn.advances byte cut front refl)) [
       | inl goes ↦
-          let taken = c.in_ok-take.ensures.goes_on s.command under.units under.tried under.front
-          goes.0 under.terminal goes.1 in (
+          let taken = c.in_ok-take.ensures.taking.goes_on s.command under.units under.tried
+          under.front goes.0 under.terminal goes.1 in (
             card_falls card s.command l new under.units under.tried under.before under.front
                 goes.0 byte under.terminal taken has (turn.falls byte refl) goes.1 goes.2.0,
             inl (passed card s l new (Card, byte) goes.0 under goes.1 taken
-                c.in_ok-take.ensures.limit goes.2 goes.3 c.seen.ensures),
+                c.in_ok-take.ensures.taking.limit goes.2 goes.3 c.seen.ensures),
           )
       | inr ends ↦
-          let taken = c.in_ok-take.ensures.ends s.command under.units under.tried under.front
+          let taken = c.in_ok-take.ensures.taking.ends s.command under.units under.tried under.front
           ends.0 under.terminal ends.1 in
           let gone = gone_more card s l new ends.0 byte under ends.1 ends.2 ends.3 ends.4 has
           c.seen.ensures in (
             end_falls s.command l new under.units under.tried under.before under.front ends.0
-                under.terminal taken c.in_ok-take.ensures.bounds has ends.5,
+                under.terminal taken c.in_ok-take.ensures.taking.bounds has ends.5,
             continues card s new under.units under.tried ends.0 under.agreed ends.5
-                (c.in_ok-take.ensures.limit ∙ under.room) gone taken,
+                (c.in_ok-take.ensures.taking.limit ∙ under.room) gone taken,
           )
     ]
 
@@ -53,16 +53,16 @@ returns-in_err-take g c = λ s began.
     rw (p.1, p.2) (elim (turned card s l c.turn.new.self c.turn.new.plans byte under has
     turn.permitted (λ cut front. turn.advances byte cut front refl)) [
       | inl goes ↦
-          let long = c.in_err-take.ensures.goes_on s.command under.units under.tried under.front
-          goes.0 under.terminal goes.1 in
+          let long = c.in_err-take.ensures.taking.goes_on s.command under.units under.tried
+          under.front goes.0 under.terminal goes.1 in
           inr (
             long,
             has_overflown card s l new goes.0 byte c.in_err-take.field-0.0 under goes.1 goes.2
-                goes.3 long c.in_err-take.ensures.fault c.seen.ensures,
+                goes.3 long c.in_err-take.ensures.taking.fault c.seen.ensures,
           )
       | inr ends ↦
-          let stall = c.in_err-take.ensures.ends s.command under.units under.tried under.front
-          ends.0 under.terminal ends.1 in
+          let stall = c.in_err-take.ensures.taking.ends s.command under.units under.tried
+          under.front ends.0 under.terminal ends.1 in
           inl (
             stall.0,
             has_stalled card s new under.units under.tried ends.0

@@ -10,7 +10,7 @@ returns-in-Ok-clause-ends g c = λ command units first d under gives.
     let sw = c.args.status in
     let arm = c.in_ok-take_up_to_sw2.ensures in
     let went = took _ _ _ c.args.bytes.now sw c.self.invariant arm.fault arm.taken arm.stands in
-    c.in-Ok.ensures.ends command units first (After_first d.body sw.0) d
+    c.in-Ok.ensures.taking.ends command units first (After_first d.body sw.0) d
     (under_took command _ _ _ _ units first c.args.bytes.now sw d c.self.view_is went gives under)
     (ends_took _ d c.args.bytes.now sw c.sw2.result c.sw2.ensures.value gives)
 
@@ -21,7 +21,7 @@ returns-in-Ok-clause-led g c = λ command came d leads gives.
     let went = took _ _ _ c.args.bytes.now sw c.self.invariant arm.fault arm.taken arm.stands in
     leads_all command came c.take.new.self _ d c.args.bytes.now sw c.sw2.result c.sw2.ensures.value
     gives
-    (c.in-Ok.ensures.led command _
+    (c.in-Ok.ensures.taking.led command _
     (leads_took command came _ _ _ _ c.args.bytes.now sw d c.self.view_is went gives leads))
 
 pub returns-in-Err-clause-ends : goal.returns-in-Err-clause-ends
@@ -29,7 +29,7 @@ returns-in-Err-clause-ends g c = λ command units first d under gives.
     let sw = c.args.status in
     let arm = c.in_ok-take_up_to_sw2.ensures in
     let went = took _ _ _ c.args.bytes.now sw c.self.invariant arm.fault arm.taken arm.stands in
-    let ended = c.in-Err.ensures.ends command units first (After_first d.body sw.0) d
+    let ended = c.in-Err.ensures.taking.ends command units first (After_first d.body sw.0) d
     (under_took command _ _ _ _ units first c.args.bytes.now sw d c.self.view_is went gives under)
     (ends_took _ d c.args.bytes.now sw c.sw2.result c.sw2.ensures.value gives) in
     inl (refl, ended.1)
@@ -40,10 +40,10 @@ returns-in-Err-clause-led g c = λ command came d leads gives.
     let arm = c.in_ok-take_up_to_sw2.ensures in
     let went = took _ _ _ c.args.bytes.now sw c.self.invariant arm.fault arm.taken arm.stands in
     let at = front_took command came _ _ _ _ c.args.bytes.now sw c.self.view_is went leads in
-    let ended = c.in-Err.ensures.ends command at.0 at.1 (After_first d.body sw.0) d
+    let ended = c.in-Err.ensures.taking.ends command at.0 at.1 (After_first d.body sw.0) d
     (under_took command _ _ _ _ at.0 at.1 c.args.bytes.now sw d c.self.view_is went gives at.2)
     (ends_took _ d c.args.bytes.now sw c.sw2.result c.sw2.ensures.value gives) in
-    let led = c.in-Err.ensures.led command _
+    let led = c.in-Err.ensures.taking.led command _
     (leads_took command came _ _ _ _ c.args.bytes.now sw d c.self.view_is went gives leads)
     (ap is_final ended.0) in
     inl (

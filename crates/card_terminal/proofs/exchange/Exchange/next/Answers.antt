@@ -1,8 +1,8 @@
-use Rattle.std.proofs.Common.{◌≡◌, sym, ◌∙◌}
-use Rattle.t0_core.specs.declared.host_end.HostTurn.TheVariants.{Sends}
-use Rattle.card_terminal.specs.ExchangeSide.{exchange_turn}
-use Rattle.card_terminal.proofs.ExchangeLemmas.{seen_under_way, sends_further, tells}
-use Rattle.card_terminal.proofs.ComesToLemmas.{next_leads}
+use Rattle.std.proofs.Common.{subst}
+use Rattle.card_terminal.specs.ExchangeSide.{ExchangeOf}
+use Rattle.card_terminal.specs.ExchangeSteps.{IsTurn}
+use Rattle.card_terminal.specs.OwnedExchange.{of_parts}
+use Rattle.card_terminal.proofs.OwnedLemmas.{turned}
 use Rattle.card_terminal.proofs.TurnLemmas.{over_by_turn}
 use Rattle.card_terminal.proofs.exchange.Exchange.next.Goals as goal
 
@@ -10,16 +10,11 @@ pub returns-clause-over : goal.returns-clause-over
 returns-clause-over g c = λ status done.
     over_by_turn _ _ c.next.new.self status c.self.view_is c.if-self.false c.next.ensures.after done
 
-pub returns-clause-goes_on : goal.returns-clause-goes_on
-returns-clause-goes_on g c = λ command units first front byte seen sends.
-    let under = seen_under_way command _ _ units first front c.self.view_is seen in
-    sends_further command _ c.next.new.self units first front byte under c.next.ensures.after
-    c.next.ensures.keeps (c.next.ensures.goes_on front byte under.stands sends)
-
-pub returns-clause-led : goal.returns-clause-led
-returns-clause-led g c = λ command came byte leads sends.
-    let turn : exchange_turn c.args.self.now ≡ Sends byte =
-    tells _ _ (Sends byte) c.self.view_is c.if-self.false (sym c.next.ensures.turn ∙ sends) in
-    next_leads command came c.args.self.now _ byte turn
-    (λ units first front under. returns-clause-goes_on g c command units first front byte
-    under sends) leads
+pub returns-clause-turn : goal.returns-clause-turn
+returns-clause-turn g c =
+    let e = c.self.inside in
+    let P : ExchangeOf → Type 0 = λ ex. IsTurn ex c.next.result
+    (of_parts c.next.new.self e.gather e.attempt e.wanted e.stalled) in
+    subst P c.self.view_is (turned _ c.next.result c.next.new.self c.self.invariant
+    c.if-self.false c.next.ensures.turn c.next.ensures.after c.next.ensures.keeps
+    c.next.ensures.stays c.next.ensures.goes_on)

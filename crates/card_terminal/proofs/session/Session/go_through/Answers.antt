@@ -28,7 +28,7 @@ unreachable-requires g c =
     let (command, agreed, way) = c.requires.begun in
     let over = when_ok c.converse.result c.unwrap.result _ _ c.unwrap.ensures
     (c.converse.ensures command (agreed, way, c.requires.room)) in
-    c.in_default.not-Done over.status (c.next.ensures.turn
+    c.in_default.not-Done over.status (c.next.ensures.turn.turn_is
     ∙ over_turn command c.converse.new.exchange over.units over.status over.terminal)
 
 pub invariant_of-self : goal.invariant_of-self
@@ -49,8 +49,8 @@ returns-clause-over g c = λ command agreed way.
       over.units,
       over_then command c.converse.new.exchange c.next.new.self over.units over.status
           c.in-Done.status over.terminal
-          (c.in-Done.ensures.stays (λ byte. done_is_no_character c.in-Done.status byte))
-          c.in-Done.ensures.turn,
+          (c.in-Done.ensures.turn.stays (λ byte. done_is_no_character c.in-Done.status byte))
+          c.in-Done.ensures.turn.turn_is,
       gone_from card.Does (point first plans.rest now) _ _ _
           (ap (λ x. point (card.standing x) plans.rest now) c.self.view_is) over.gone,
     )
@@ -75,4 +75,4 @@ returns-clause-room g c =
     let (command, agreed, way) = c.requires.begun in
     let over = when_ok c.converse.result c.unwrap.result _ _ c.unwrap.ensures
     (c.converse.ensures command (agreed, way, c.requires.room)) in
-    c.next.ensures.limit ∙ over.room
+    c.next.ensures.turn.limit ∙ over.room

@@ -26,7 +26,7 @@ use Rattle.trace_explain.specs.Told.{Told, told_by, TellsFront}
 use Rattle.trace_explain.specs.Openings.{Opening, begins_answer, dialogue_in, has_begun, opened, opening_of, unopened}
 use Rattle.trace_explain.specs.Lines.{AreOver, Standing, after_characters, came_after, heard_in, SpellsCharacters, Suits, Says, IsBadLine, TakesCharacters, TakesLine, sender}
 use Rattle.trace_explain.specs.Noted.{HasNoted, NoneGoesOn}
-use Rattle.trace_explain.specs.Explained.{HasExplained, ExplainsMore, ExplainsReset, ExplainsCharacters, ExplainsLine, ExplainsSigned, HearsUpTo, IsRight, StopsRightly, StopsAtLine, StopsAtSigned, StopsBy, Stopped, answers_again, at_place, next_line, refused, standing_of}
+use Rattle.trace_explain.specs.Explained.{HasExplained, ExplainsMore, ExplainsReset, ExplainsCharacters, ExplainsLine, ExplainsSigned, HearsUpTo, IsRight, KeepsAll, StopsRightly, StopsAtLine, StopsAtSigned, StopsBy, Stopped, answers_again, at_place, next_line, refused, standing_of}
 use Rattle.trace_explain.specs.Unsigned.{IsHeard}
 use Rattle.trace_explain.specs.UnderWay.{OpensUpTo}
 use Rattle.trace_explain.proofs.OpeningLemmas.{dialogue_is}
@@ -78,6 +78,12 @@ explained_on events before old mid new h same listener resumes passes_over readi
       hears = ap (λ (r : Reading). r.of_tpdus) reading ∙ still.hears;
     }
 
+-- all that is heard and told stays
+pub keeps_explained : (events : List Event) (before : List Told) (old new : Explainer)
+    → KeepsAll old new → HasExplained events before old → HasExplained events before new
+keeps_explained events before old new k h =
+    explained_on events before old old new h refl k.listener k.resumes k.passes_over k.reading
+
 pub same_standing : (o p : Opening) (c d : Bool) (r s : Reading) → o ≡ p → c ≡ d → r ≡ s
     → ◌≡◌ {A = Standing} (record { opening = o; came = c; reading = r })
     (record { opening = p; came = d; reading = s })
@@ -86,6 +92,11 @@ same_standing o p c d r s o_is c_is r_is =
     let by : Bool → Standing = λ x. record { opening = p; came = x; reading = r } in
     let so : Reading → Standing = λ x. record { opening = p; came = d; reading = x } in
     ap at o_is ∙ ap by c_is ∙ ap so r_is
+
+pub keeps_standing : (old new : Explainer) → KeepsAll old new → standing_of new ≡ standing_of old
+keeps_standing old new k =
+    same_standing (opening_of new.preface) (opening_of old.preface) new.came old.came new.reading
+    old.reading (ap opening_of k.preface) k.came k.reading
 
 -- the characters of a line that are of the dialogue have been heard
 pub explains_heard : (start : ℕ) (after : Opening) (from : End) (bytes heard : List ℕ)

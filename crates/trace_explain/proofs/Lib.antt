@@ -8,3 +8,6 @@ pub mod BareLemmas
 pub mod LogVectors
 pub mod LogLemmas
 pub mod ExchangeLemmas
+pub mod SheetLemmas
+pub mod RowLemmas
+pub mod BoxLemmas

@@ -18,9 +18,10 @@ use Rattle.trace_explain.specs.declared.ways.Ways.{Ways}
 use Rattle.trace_explain.specs.Told.{Told}
 use Rattle.trace_explain.specs.Lines.{Standing, first_of_all}
 use Rattle.trace_explain.specs.Unsigned.{IsHeard}
-use Rattle.trace_explain.specs.Explained.{HasExplained, ExplainsLine, StopsAtLine, StopsBy, next_line, standing_of}
+use Rattle.trace_explain.specs.Explained.{HasExplained, ExplainsLine, KeepsAll, StopsAtLine, StopsBy, next_line, standing_of}
 use Rattle.trace_explain.specs.Trace.{lines_from, lines_of, IsBadFor, IsRightAt, IsUnsentAt, IsReached, IsOfEnd, SayInTurn, SayAll, IsExplained, IsWhole, IsOver, KeepsLimit, StopsIn}
 use Rattle.trace_explain.specs.UnderWay.{HasCome, IsOfLines}
+use Rattle.trace_explain.proofs.ExplainedLemmas.{keeps_explained, keeps_standing}
 
 -- one line more says its events behind the others
 say_more : (so_far : List Event) (at mid after : Standing) (before : List (List ℕ))
@@ -413,6 +414,23 @@ all_comes reading (Some bytes) line e none h at first = record {
   told = [];
   explained = h;
 }
+
+-- what stays of an explainer is still to come
+pub still_comes : (reading : Reading) (a b : Option (List ℕ)) (line : List ℕ) (old new : Explainer)
+    → KeepsAll old new → StillComes reading a b line old → StillComes reading a b line new
+still_comes reading None b line old new k come = tt
+still_comes reading (Some bytes) None line old new k come = absurd come
+still_comes reading (Some bytes) (Some left) line old new k come =
+    let P : Standing → Type 0 = λ s. SayAll reading come.before come.events s in
+    record {
+      before = come.before;
+      is_cut = come.is_cut;
+      number_is = ap (λ n. min (n + 1) (2 ^ 64 - 1)) k.line ∙ come.number_is;
+      events = come.events;
+      says = subst P (sym (keeps_standing old new k)) come.says;
+      told = come.told;
+      explained = keeps_explained come.events come.told old new k come.explained;
+    }
 
 -- a chunk was read, and explained
 pub chunk_comes : (reading : Reading) (a b c : Option (List ℕ)) (chunk line next : List ℕ)

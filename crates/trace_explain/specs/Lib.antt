@@ -12,3 +12,7 @@ pub mod Logs
 pub mod Explained
 pub mod Trace
 pub mod UnderWay
+pub mod Secrets
+pub mod Written
+pub mod Sheets
+pub mod Boxes

@@ -1,5 +1,8 @@
 //! Bytes that are text.
 
+ghost use Rattle.std.specs.Prelude.{◌≡◌};
+ghost use Rattle.trace_explain.specs.Written.{are_printable, is_text};
+
 use crate::draft::Draft;
 
 /// The least bytes that are taken for text.
@@ -7,13 +10,22 @@ const LEAST: usize = 3;
 
 /// Whether the bytes are taken for text: at least three, each of printable ASCII (this project's
 /// profile).
-pub fn is_text(bytes: &[u8]) -> bool {
+pub fn is_text(bytes: &[u8]) -> bool
+    ensures { result ≡ is_text bytes.now }
+{
+    bytes.len() >= LEAST && are_printable(bytes)
+}
+
+/// Whether each of the bytes is printable ASCII.
+fn are_printable(bytes: &[u8]) -> bool
+    ensures { result ≡ are_printable bytes.now }
+{
     for &byte in bytes {
         if !matches!(byte, b' '..=b'~') {
             return false;
         }
     }
-    bytes.len() >= LEAST
+    true
 }
 
 /// Adds bytes of text as digits, and the text in quotes beside them.

@@ -7,7 +7,6 @@ use crate::explain_fault::ExplainFault;
 use crate::explainer::Explainer;
 use crate::layout::{Layout, Medium};
 use crate::mask::Mask;
-use crate::page::Page;
 use crate::reading::Reading;
 use crate::tpdu::Tpdu;
 use std::alloc::{AllocError, Global};
@@ -37,8 +36,6 @@ struct Trace<'r, R: Read> {
     explainer: Explainer,
     size: usize,
     line: Vec<u8>,
-    /// What else is told, which nobody asks for here.
-    page: Page,
     /// How many of the TPDUs that are kept were compared.
     passed: usize,
     is_over: bool,
@@ -169,7 +166,7 @@ impl<'r, R: Read> Trace<'r, R> {
         reading: Reading,
         reader: &'r mut R,
     ) -> Trace<'r, R> {
-        let mut explainer = Explainer::new(alloc, mask, resumes, reading);
+        let mut explainer = Explainer::new(alloc, LAYOUT, mask, resumes, reading);
         explainer.keep();
         Trace {
             which,
@@ -177,7 +174,6 @@ impl<'r, R: Read> Trace<'r, R> {
             explainer,
             size: 0,
             line: Vec::new(alloc),
-            page: Page::new(alloc, LAYOUT),
             passed: 0,
             is_over: false,
             fault: None,
@@ -193,7 +189,7 @@ impl<'r, R: Read> Trace<'r, R> {
             }
             self.explainer.forget_kept();
             self.passed = 0;
-            self.page.clear();
+            self.explainer.output.clear();
             self.read()?;
         }
         if self.passed >= self.explainer.kept().len()
@@ -217,7 +213,7 @@ impl<'r, R: Read> Trace<'r, R> {
             Err(fault) => self.fault = Some(fault),
         }
         self.is_over = true;
-        self.explainer.end(&mut self.page)
+        self.explainer.end()
     }
 
     /// Explains what ends in a chunk more; it answers whether there was one.
@@ -225,7 +221,7 @@ impl<'r, R: Read> Trace<'r, R> {
         let mut chunk = [0; CHUNK];
         match self.reader.read(&mut chunk) {
             Ok(0) => {
-                explain_last(&mut self.explainer, self.line.as_slice(), &mut self.page)?;
+                explain_last(&mut self.explainer, self.line.as_slice())?;
                 self.explainer.outcome()?;
                 Ok(false)
             }
@@ -235,7 +231,7 @@ impl<'r, R: Read> Trace<'r, R> {
                     return Err(ExplainFault::InputTooLong);
                 }
                 let bytes = &chunk[..count];
-                explain_chunk(&mut self.explainer, bytes, &mut self.line, &mut self.page)?;
+                explain_chunk(&mut self.explainer, bytes, &mut self.line)?;
                 Ok(true)
             }
             Err(_) => Err(ExplainFault::Read),

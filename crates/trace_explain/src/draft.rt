@@ -81,13 +81,4 @@ impl Draft {
             Ok(())
         }
     }
-
-    /// The whole text.
-    pub fn into_text(self) -> Result<String, AllocError> {
-        if self.is_cut {
-            Err(AllocError)
-        } else {
-            Ok(self.text)
-        }
-    }
 }

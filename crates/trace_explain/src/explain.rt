@@ -2,7 +2,7 @@
 ghost use Rattle.std.specs.Prelude.{◌≡◌, ◌++◌, ◌∷◌, List, [], ℕ, false, IfErr, IfSome, OnOk};
 ghost use Rattle.std.specs.Str.Lines.{strip_carriage_return};
 ghost use Rattle.trace_explain.specs.declared.reading.Reading.{Reading};
-ghost use Rattle.trace_explain.specs.Explained.{HasExplained, standing_of};
+ghost use Rattle.trace_explain.specs.Explained.{HasExplained, KeepsAll, standing_of};
 ghost use Rattle.trace_explain.specs.Lines.{first_of_all};
 ghost use Rattle.trace_explain.specs.Trace.{IsExplained, IsOfWriting, IsWhole, KeepsLimit, StopsIn, lines_of};
 ghost use Rattle.trace_explain.specs.UnderWay.{HasCome, IsOfLines};
@@ -11,7 +11,6 @@ use crate::explain_fault::ExplainFault;
 use crate::explainer::Explainer;
 use crate::layout::Layout;
 use crate::mask::Mask;
-use crate::page::Page;
 use crate::reading::Reading;
 use std::alloc::{AllocError, Global};
 use std::io::{Read, Write};
@@ -41,12 +40,10 @@ pub fn explain<R: Read, W: Write>(
         IfSome (R.remaining reader.old) (λ bytes. StopsIn reading (lines_of bytes) fault)) }
     ensures limited { IfSome (R.remaining reader.old) (λ bytes. KeepsLimit bytes result) }
 {
-    let mut explainer = Explainer::new(alloc, mask, resumes, reading);
-    let mut page = Page::new(alloc, layout);
-    page.begin();
-    let outcome = explain_chunks(alloc, &mut explainer, reader, writer, &mut page);
-    explainer.end(&mut page)?;
-    write_page(&mut page, writer)?;
+    let mut explainer = Explainer::new(alloc, layout, mask, resumes, reading);
+    let outcome = explain_chunks(alloc, &mut explainer, reader, writer);
+    explainer.end()?;
+    write_output(&mut explainer, writer)?;
     outcome?;
     explainer.outcome()
 }
@@ -57,7 +54,6 @@ fn explain_chunks<R: Read, W: Write>(
     explainer: &mut Explainer,
     reader: &mut R,
     writer: &mut W,
-    page: &mut Page,
 ) -> Result<(), ExplainFault>
     ensures explained { (reading : Reading) → HasExplained [] [] explainer.old →
         standing_of explainer.old ≡ first_of_all reading → explainer.old.line ≡ 0 →
@@ -74,11 +70,11 @@ fn explain_chunks<R: Read, W: Write>(
     let mut size: usize = 0;
     'reading: while size <= TRACE_LIMIT {
         match reader.read(&mut chunk) {
-            Ok(0) => return explain_last(explainer, line.as_slice(), page),
+            Ok(0) => return explain_last(explainer, line.as_slice()),
             Ok(count) => {
                 size += count;
-                explain_chunk(explainer, &chunk[..count], &mut line, page)?;
-                write_page(page, writer)?;
+                explain_chunk(explainer, &chunk[..count], &mut line)?;
+                write_output(explainer, writer)?;
             }
             Err(_) => return Err(ExplainFault::Read),
         }
@@ -91,7 +87,6 @@ pub fn explain_chunk(
     explainer: &mut Explainer,
     chunk: &[u8],
     line: &mut Vec<u8>,
-    page: &mut Page,
 ) -> Result<(), ExplainFault>
     ensures explained { (reading : Reading) (all : List (List ℕ)) (left : List ℕ) →
         HasCome reading all line.old.items (chunk.now ++ left) explainer.old →
@@ -103,7 +98,7 @@ pub fn explain_chunk(
 {
     for &byte in chunk {
         if byte == b'\n' {
-            explainer.line(without_return(line.as_slice()), page)?;
+            explainer.line(without_return(line.as_slice()))?;
             line.clear();
         } else if line.len() < LINE_LIMIT {
             push(line, byte)?;
@@ -124,11 +119,7 @@ fn push(line: &mut Vec<u8>, byte: u8) -> Result<(), AllocError>
 }
 
 /// Explains the last line, where it has no LF.
-pub fn explain_last(
-    explainer: &mut Explainer,
-    line: &[u8],
-    page: &mut Page,
-) -> Result<(), ExplainFault>
+pub fn explain_last(explainer: &mut Explainer, line: &[u8]) -> Result<(), ExplainFault>
     ensures explained { (reading : Reading) (all : List (List ℕ)) →
         HasCome reading all line.now [] explainer.old →
         OnOk result (IsExplained reading all (standing_of explainer.new)) }
@@ -139,7 +130,7 @@ pub fn explain_last(
     if line.is_empty() {
         return Ok(());
     }
-    explainer.line(line, page)
+    explainer.line(line)
 }
 
 /// The line without the CR at its end, if it has one.
@@ -152,12 +143,13 @@ fn without_return(line: &[u8]) -> &[u8]
     }
 }
 
-/// Writes what is told, and empties the page.
-fn write_page<W: Write>(page: &mut Page, writer: &mut W) -> Result<(), ExplainFault>
-    ensures { IfErr result IsOfWriting }
+/// Writes what is told, and forgets it.
+fn write_output<W: Write>(explainer: &mut Explainer, writer: &mut W) -> Result<(), ExplainFault>
+    ensures keeps { KeepsAll explainer.old explainer.new }
+    ensures fault { IfErr result IsOfWriting }
 {
-    let outcome = writer.write_all(page.as_str().as_bytes());
-    page.clear();
+    let outcome = writer.write_all(explainer.output.as_str().as_bytes());
+    explainer.output.clear();
     match outcome {
         Ok(()) => Ok(()),
         Err(error) => Err(ExplainFault::of_writing(&error)),

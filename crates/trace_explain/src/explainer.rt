@@ -21,7 +21,7 @@ use crate::counts::Counts;
 use crate::diff::Kept;
 use crate::exchange::{BadExchange, commanded, exchanged};
 use crate::explain_fault::ExplainFault;
-use crate::layout::{Anchor, Head, Side};
+use crate::layout::Layout;
 use crate::links::Links;
 use crate::listener::Listener;
 use crate::log::{Log, Logged};
@@ -29,7 +29,7 @@ use crate::log_line::time_of;
 use crate::mask::Mask;
 use crate::notes::{Passed, tell_bytes, tell_note, tell_passed};
 use crate::opening::begins_answer;
-use crate::page::Page;
+use crate::output::Output;
 use crate::preface::Preface;
 use crate::preface_box::{tell_after, tell_before, tell_part};
 use crate::reading::Reading;
@@ -37,7 +37,7 @@ use crate::refusal::Refusal;
 use crate::story::Story;
 use crate::time::{cut_clock, cut_time};
 use crate::tpdu::Tpdu;
-use crate::tpdu_box::{kind_of, push_title, tell_rows};
+use crate::tpdu_box::tell_box;
 use crate::trace_line::{BadLine, TraceLine, read_line};
 use crate::turn::{NoTurn, turn_before, turn_within};
 use crate::unsigned_line::{UnsignedLine, read_unsigned};
@@ -69,12 +69,20 @@ pub struct Explainer {
     passed: Option<Passed>,
     keeps: bool,
     kept: Vec<Kept>,
+    /// What is written.
+    pub output: Output,
 }
 
 impl Explainer {
     /// No line has come, and lines are read so. Where it resumes, it goes on after a character with
     /// which no dialogue does.
-    pub fn new(alloc: Global, mask: Mask, resumes: bool, reading: Reading) -> Explainer
+    pub fn new(
+        alloc: Global,
+        layout: Layout,
+        mask: Mask,
+        resumes: bool,
+        reading: Reading,
+    ) -> Explainer
         ensures explained { resumes ≡ false → reading.of_tpdus ≡ false →
             HasExplained [] [] result }
         ensures standing { standing_of result ≡ first_of_all reading }
@@ -101,6 +109,7 @@ impl Explainer {
             passed: None,
             keeps: false,
             kept: Vec::new(alloc),
+            output: Output::begun(alloc, layout),
         }
     }
 
@@ -134,7 +143,7 @@ impl Explainer {
     /// and `NoTurn` a character of which it can't be known which end sends it. `NoDialogue` is a
     /// character with which no dialogue goes on, where it does not resume. `OutOfMemory` may come
     /// after a part of the line.
-    pub fn line(&mut self, line: &[u8], page: &mut Page) -> Result<(), ExplainFault>
+    pub fn line(&mut self, line: &[u8]) -> Result<(), ExplainFault>
         ensures explained { (events : List Event) (before : List Told) →
             HasExplained events before self.old →
             OnOk result (ExplainsLine line.now events before self.old self.new) }
@@ -145,14 +154,14 @@ impl Explainer {
         ensures of_lines { IfErr result IsOfLines }
     {
         if self.reading.of_tpdus {
-            self.log_line(line, page)
+            self.log_line(line)
         } else {
-            self.line_of_characters(line, page)
+            self.line_of_characters(line)
         }
     }
 
     /// Explains the next line of a trace of characters.
-    fn line_of_characters(&mut self, line: &[u8], page: &mut Page) -> Result<(), ExplainFault>
+    fn line_of_characters(&mut self, line: &[u8]) -> Result<(), ExplainFault>
         ensures explained { (events : List Event) (before : List Told) →
             HasExplained events before self.old →
             OnOk result (ExplainsLine line.now events before self.old self.new) }
@@ -163,18 +172,13 @@ impl Explainer {
         ensures of_lines { IfErr result IsOfLines }
     {
         match self.reading.unsigned {
-            None => self.signed_line(line, page),
-            Some(ways) => self.unsigned_line(&ways, line, page),
+            None => self.signed_line(line),
+            Some(ways) => self.unsigned_line(&ways, line),
         }
     }
 
     /// Explains the next line of a trace without signs.
-    fn unsigned_line(
-        &mut self,
-        ways: &Ways,
-        line: &[u8],
-        page: &mut Page,
-    ) -> Result<(), ExplainFault>
+    fn unsigned_line(&mut self, ways: &Ways, line: &[u8]) -> Result<(), ExplainFault>
         ensures explained { (events : List Event) (before : List Told) →
             HasExplained events before self.old →
             OnOk result (ExplainsUnsigned ways.now line.now events before self.old self.new) }
@@ -188,13 +192,13 @@ impl Explainer {
         let (time, _) = cut_clock(line);
         self.clock.pass(time)?;
         match read_unsigned(self.alloc, line) {
-            Ok(UnsignedLine::Characters(bytes)) => self.unsigned(ways, bytes.as_slice(), page),
+            Ok(UnsignedLine::Characters(bytes)) => self.unsigned(ways, bytes.as_slice()),
             Ok(UnsignedLine::Reset) => {
-                self.reset(page)?;
+                self.reset()?;
                 Ok(())
             }
             Ok(UnsignedLine::Note(note)) => {
-                self.note(note, page)?;
+                self.note(note)?;
                 Ok(())
             }
             Err(why) => Err(refused(self.line, why)),
@@ -203,7 +207,7 @@ impl Explainer {
 
     /// Explains characters of which no sign says who sent them: each is of the end that has the
     /// turn.
-    fn unsigned(&mut self, ways: &Ways, bytes: &[u8], page: &mut Page) -> Result<(), ExplainFault>
+    fn unsigned(&mut self, ways: &Ways, bytes: &[u8]) -> Result<(), ExplainFault>
         ensures explained { (events : List Event) (before : List Told) →
             HasExplained events before self.old →
             OnOk result (ExplainsInTurn ways.now bytes.now events before self.old self.new) }
@@ -219,7 +223,7 @@ impl Explainer {
                 return Ok(());
             }
             match self.turn(ways, bytes[place]) {
-                Ok(from) => self.characters(from, &bytes[place..place + 1], place, page)?,
+                Ok(from) => self.characters(from, &bytes[place..place + 1], place)?,
                 Err(why) => return self.stop_unsent(place, why),
             }
         }
@@ -258,7 +262,7 @@ impl Explainer {
     }
 
     /// Explains the next line of a trace with signs.
-    fn signed_line(&mut self, line: &[u8], page: &mut Page) -> Result<(), ExplainFault>
+    fn signed_line(&mut self, line: &[u8]) -> Result<(), ExplainFault>
         ensures explained { (events : List Event) (before : List Told) →
             HasExplained events before self.old →
             OnOk result (ExplainsSigned line.now events before self.old self.new) }
@@ -274,14 +278,14 @@ impl Explainer {
         match read_line(self.alloc, self.reading.form, line) {
             Ok(TraceLine::Characters(form, from, bytes)) => {
                 self.reading = self.reading.of_form(form);
-                self.characters(self.reading.sender(from), bytes.as_slice(), 0, page)
+                self.characters(self.reading.sender(from), bytes.as_slice(), 0)
             }
             Ok(TraceLine::Reset) => {
-                self.reset(page)?;
+                self.reset()?;
                 Ok(())
             }
             Ok(TraceLine::Note(note)) => {
-                self.note(note, page)?;
+                self.note(note)?;
                 Ok(())
             }
             Err(why) => Err(refused(self.line, why)),
@@ -289,7 +293,7 @@ impl Explainer {
     }
 
     /// Explains the next line of a log of TPDUs.
-    fn log_line(&mut self, line: &[u8], page: &mut Page) -> Result<(), ExplainFault>
+    fn log_line(&mut self, line: &[u8]) -> Result<(), ExplainFault>
         ensures counts { OnOk result (self.new.line ≡ next_line self.old) }
         ensures of_lines { IfErr result IsOfLines }
     {
@@ -298,7 +302,7 @@ impl Explainer {
         let mut logged = Vec::new(self.alloc);
         let taken = self.log.take(line, &mut logged);
         self.came = self.came || self.log.has_come();
-        self.tell_all_logged(logged.as_slice(), line, page)?;
+        self.tell_all_logged(logged.as_slice(), line)?;
         match taken {
             Ok(()) => Ok(()),
             Err(BadLine::OutOfMemory) => Err(ExplainFault::OutOfMemory),
@@ -307,36 +311,31 @@ impl Explainer {
     }
 
     /// Tells what came of a line of a log.
-    fn tell_all_logged(
-        &mut self,
-        logged: &[Logged],
-        line: &[u8],
-        page: &mut Page,
-    ) -> Result<(), AllocError>
+    fn tell_all_logged(&mut self, logged: &[Logged], line: &[u8]) -> Result<(), AllocError>
         ensures { OnOk result (self.new.line ≡ self.old.line) }
     {
         for one in logged {
             if one.is_reset() {
-                self.reset(page)?;
+                self.reset()?;
             } else {
-                self.tell_logged(one, line, page)?;
+                self.tell_logged(one, line)?;
             }
         }
-        page.outcome()
+        self.output.outcome()
     }
 
     /// Tells one thing that came of a line of a log, and is no reset.
-    fn tell_logged(&mut self, one: &Logged, line: &[u8], page: &mut Page) -> Result<(), AllocError>
+    fn tell_logged(&mut self, one: &Logged, line: &[u8]) -> Result<(), AllocError>
         ensures { OnOk result (KeepsAll self.old self.new) }
     {
         match one {
             Logged::Exchange(command, answer) => {
                 self.clock.hear();
-                self.exchange(command.as_slice(), Some(answer.as_slice()), page)
+                self.exchange(command.as_slice(), Some(answer.as_slice()))
             }
-            Logged::Unanswered(command) => self.exchange(command.as_slice(), None, page),
+            Logged::Unanswered(command) => self.exchange(command.as_slice(), None),
             other => {
-                self.tell_other(other, line, page);
+                self.tell_other(other, line);
                 Ok(())
             }
         }
@@ -344,7 +343,7 @@ impl Explainer {
 
     /// Tells one thing that came of a line of a log, and is neither a reset nor a command with its
     /// answer.
-    fn tell_other(&mut self, one: &Logged, line: &[u8], page: &mut Page)
+    fn tell_other(&mut self, one: &Logged, line: &[u8])
         ensures { KeepsAll self.old self.new }
     {
         match one {
@@ -356,23 +355,23 @@ impl Explainer {
             Logged::Stray(bytes) => {
                 self.story.lose_some();
                 let what = "before a command, from the card:\n";
-                tell_bytes(what, bytes.as_slice(), &self.mask, page);
+                tell_bytes(what, bytes.as_slice(), &self.mask, &mut self.output.page);
             }
             Logged::Part(from, bytes) => {
-                tell_bytes(part_of(*from), bytes.as_slice(), &self.mask, page);
+                tell_bytes(
+                    part_of(*from),
+                    bytes.as_slice(),
+                    &self.mask,
+                    &mut self.output.page,
+                );
             }
-            Logged::Note => tell_note(line, &self.mask, page),
+            Logged::Note => tell_note(line, &self.mask, &mut self.output.page),
             _ => {}
         }
     }
 
     /// Tells a command with its answer, or without one: as a TPDU, or why it is none that it reads.
-    fn exchange(
-        &mut self,
-        command: &[u8],
-        answer: Option<&[u8]>,
-        page: &mut Page,
-    ) -> Result<(), AllocError>
+    fn exchange(&mut self, command: &[u8], answer: Option<&[u8]>) -> Result<(), AllocError>
         ensures { OnOk result (KeepsAll self.old self.new) }
     {
         let outcome = match answer {
@@ -380,22 +379,17 @@ impl Explainer {
             None => commanded(self.alloc, command),
         };
         match outcome {
-            Ok(tpdu) => self.tell_exchange(&tpdu, answer.is_some(), page),
+            Ok(tpdu) => self.tell_exchange(&tpdu, answer.is_some()),
             Err(BadExchange::OutOfMemory) => Err(AllocError),
-            Err(why) => self.complain(why, command, answer, page),
+            Err(why) => self.complain(why, command, answer),
         }
     }
 
     /// Tells of a TPDU of a log, and whether the log has its answer.
-    fn tell_exchange(
-        &mut self,
-        tpdu: &Tpdu,
-        is_answered: bool,
-        page: &mut Page,
-    ) -> Result<(), AllocError>
+    fn tell_exchange(&mut self, tpdu: &Tpdu, is_answered: bool) -> Result<(), AllocError>
         ensures { OnOk result (KeepsAll self.old self.new) }
     {
-        self.tell_one(tpdu, page)?;
+        self.tell_one(tpdu)?;
         if !is_answered {
             self.story.lose_some();
         }
@@ -408,7 +402,6 @@ impl Explainer {
         why: BadExchange,
         command: &[u8],
         answer: Option<&[u8]>,
-        page: &mut Page,
     ) -> Result<(), AllocError>
         ensures { OnOk result (KeepsAll self.old self.new) }
     {
@@ -416,18 +409,20 @@ impl Explainer {
         self.counts.complain(self.began)?;
         self.first_bad = Some(self.first_bad.unwrap_or((self.began, why)));
         let number = self.counts.complaints();
-        tell_bad_exchange(number, self.began, why, command, answer, &self.mask, page);
+        tell_bad_exchange(
+            number,
+            self.began,
+            why,
+            command,
+            answer,
+            &self.mask,
+            &mut self.output.page,
+        );
         Ok(())
     }
 
     /// Explains characters of a line, behind so many others, if they are not passed over.
-    fn characters(
-        &mut self,
-        from: End,
-        bytes: &[u8],
-        ahead: usize,
-        page: &mut Page,
-    ) -> Result<(), ExplainFault>
+    fn characters(&mut self, from: End, bytes: &[u8], ahead: usize) -> Result<(), ExplainFault>
         requires within { ahead + length bytes.now < 2 ^ 64 }
         ensures explained { (events : List Event) (before : List Told) →
             HasExplained events before self.old →
@@ -444,20 +439,20 @@ impl Explainer {
         }
         self.came = came_after(self.came, bytes);
         let begun = self.preface.stage().has_begun();
-        let start = self.open(from, bytes, page)?;
-        match self.hear(from, &bytes[start..], page)? {
+        let start = self.open(from, bytes)?;
+        match self.hear(from, &bytes[start..])? {
             None => Ok(()),
             Some(place) if begun && self.answers_again(from, bytes[start + place]) => {
-                self.answer_again(&bytes[start + place..], page)?;
+                self.answer_again(&bytes[start + place..])?;
                 Ok(())
             }
-            Some(place) => self.stop(from, bytes, start + place, ahead, page),
+            Some(place) => self.stop(from, bytes, start + place, ahead),
         }
     }
 
     /// Takes the characters of an opening, and tells of its parts that end; it answers how many
     /// characters come before the first of the dialogue.
-    fn open(&mut self, from: End, bytes: &[u8], page: &mut Page) -> Result<usize, AllocError>
+    fn open(&mut self, from: End, bytes: &[u8]) -> Result<usize, AllocError>
         ensures opens { IfOk result (λ start. OpensUpTo start (opening_of self.old.preface) from
             bytes.now (opening_of self.new.preface)) }
         ensures keeps { OnOk result (KeepsHeard self.old self.new) }
@@ -466,13 +461,20 @@ impl Explainer {
         for place in 0..bytes.len() {
             let role = self.preface.role_of(from, bytes[place]);
             let rest = &bytes[place..];
-            tells_strays = tell_before(role, tells_strays, rest, &self.preface, &self.mask, page);
+            tells_strays = tell_before(
+                role,
+                tells_strays,
+                rest,
+                &self.preface,
+                &self.mask,
+                &mut self.output.page,
+            );
             self.preface.take(role, bytes[place], self.line)?;
             if role.is_dialogue() {
                 return Ok(place);
             }
             self.is_led = true;
-            tell_after(role, &self.preface, &self.mask, page);
+            tell_after(role, &self.preface, &self.mask, &mut self.output.page);
         }
         Ok(bytes.len())
     }
@@ -486,7 +488,7 @@ impl Explainer {
     }
 
     /// Takes these characters of the card as those behind a reset of which no line says.
-    fn answer_again(&mut self, bytes: &[u8], page: &mut Page) -> Result<(), AllocError>
+    fn answer_again(&mut self, bytes: &[u8]) -> Result<(), AllocError>
         ensures explained { (events : List Event) (before : List Told) →
             HasExplained events before self.old →
             OnOk result (ExplainsReset events before self.new) }
@@ -501,10 +503,10 @@ impl Explainer {
         } else {
             "reset, though no line says so, as the card answers\n"
         };
-        page.note_line(note);
+        self.output.page.note_line(note);
         self.preface.reset();
-        self.open(End::Card, bytes, page)?;
-        page.outcome()?;
+        self.open(End::Card, bytes)?;
+        self.output.outcome()?;
         Ok(())
     }
 
@@ -534,12 +536,7 @@ impl Explainer {
 
     /// Hears characters of the dialogue, and tells of the TPDUs that end; it answers the place of
     /// the first with which none goes on, counted from 0.
-    fn hear(
-        &mut self,
-        from: End,
-        bytes: &[u8],
-        page: &mut Page,
-    ) -> Result<Option<usize>, ExplainFault>
+    fn hear(&mut self, from: End, bytes: &[u8]) -> Result<Option<usize>, ExplainFault>
         ensures explained { (events : List Event) (before : List Told) →
             HasExplained events before self.old →
             IfOk result (λ stop. HearsUpTo stop from bytes.now events before self.new) }
@@ -550,11 +547,11 @@ impl Explainer {
         ensures within { IfOk result (λ stop. IfSome stop (λ place. place < length bytes.now)) }
         ensures wants { IfErr result (λ fault. fault ≡ ExplainFault.OutOfMemory) }
     {
-        tell_passed(self.passed, page);
+        tell_passed(self.passed, &mut self.output.page);
         self.note_beginning(from, bytes);
         let mut told = Vec::new(self.alloc);
         let heard = self.listener.hear_all(from, bytes, &mut told);
-        self.tell_all(told.as_slice(), page)?;
+        self.tell_all(told.as_slice())?;
         self.note_next(told.is_empty());
         match heard {
             Ok(()) => Ok(None),
@@ -589,24 +586,24 @@ impl Explainer {
     }
 
     /// Tells of the TPDUs that ended. The error is want of memory for anything told so far.
-    fn tell_all(&mut self, told: &[Tpdu], page: &mut Page) -> Result<(), AllocError>
+    fn tell_all(&mut self, told: &[Tpdu]) -> Result<(), AllocError>
         ensures { OnOk result (KeepsAll self.old self.new) }
     {
         for tpdu in told {
-            self.tell_one(tpdu, page)?;
+            self.tell_one(tpdu)?;
             self.is_led = true;
         }
-        page.outcome()?;
+        self.output.outcome()?;
         Ok(())
     }
 
     /// Tells of a TPDU, which is counted, and what it is among those before it.
-    fn tell_one(&mut self, tpdu: &Tpdu, page: &mut Page) -> Result<(), AllocError>
+    fn tell_one(&mut self, tpdu: &Tpdu) -> Result<(), AllocError>
         ensures { OnOk result (KeepsAll self.old self.new) }
     {
         self.counts.take(tpdu)?;
         let links = self.story.tell(tpdu)?;
-        self.tell(tpdu, links, page)
+        self.tell(tpdu, links)
     }
 
     /// Tells of a character at this place, behind so many others of its line, with which no
@@ -617,7 +614,6 @@ impl Explainer {
         bytes: &[u8],
         place: usize,
         ahead: usize,
-        page: &mut Page,
     ) -> Result<(), ExplainFault>
         requires within { ahead + place < 2 ^ 64 }
         ensures stopped { self.old.resumes ≡ false → Stopped result (record {
@@ -639,11 +635,16 @@ impl Explainer {
             byte: bytes.get(place).copied().unwrap_or(0),
             is_astray: self.reading.unsigned.is_some() && !self.is_led,
         };
-        self.cut_off(page)?;
+        self.cut_off()?;
         self.story.lose_some();
         self.counts.complain(self.line)?;
-        tell_complaint(self.counts.complaints(), complaint, self.mask.hides(), page);
-        page.outcome()?;
+        tell_complaint(
+            self.counts.complaints(),
+            complaint,
+            self.mask.hides(),
+            &mut self.output.page,
+        );
+        self.output.outcome()?;
         if !self.resumes {
             return Err(ExplainFault::NoDialogue(complaint));
         }
@@ -691,7 +692,7 @@ impl Explainer {
     }
 
     /// Explains a reset.
-    fn reset(&mut self, page: &mut Page) -> Result<(), AllocError>
+    fn reset(&mut self) -> Result<(), AllocError>
         ensures explained { (events : List Event) (before : List Told) →
             HasExplained events before self.old →
             OnOk result (ExplainsMore (Reset ∷ []) (record (standing_of self.old) {
@@ -699,26 +700,31 @@ impl Explainer {
             }) events before self.new) }
         ensures counts { OnOk result (self.new.line ≡ self.old.line) }
     {
-        tell_passed(self.passed, page);
+        tell_passed(self.passed, &mut self.output.page);
         self.passed = None;
         self.passes_over = false;
         self.is_led = true;
-        tell_part(self.preface.stage(), &self.preface, &self.mask, page);
+        tell_part(
+            self.preface.stage(),
+            &self.preface,
+            &self.mask,
+            &mut self.output.page,
+        );
         self.preface.reset();
-        self.cut_off(page)?;
+        self.cut_off()?;
         let drops = self.story.reset();
         let note = if drops {
             "reset: the chain is dropped\n"
         } else {
             "reset\n"
         };
-        page.note_line(note);
-        page.outcome()?;
+        self.output.page.note_line(note);
+        self.output.outcome()?;
         Ok(())
     }
 
     /// Tells what was under way, if anything was, and drops it.
-    fn cut_off(&mut self, page: &mut Page) -> Result<(), AllocError>
+    fn cut_off(&mut self) -> Result<(), AllocError>
         ensures cut_off { (events : List Event) (before : List Told) →
             HasExplained events before self.old →
             OnOk result (ExplainsReset events before self.new) }
@@ -731,13 +737,15 @@ impl Explainer {
         if part.is_empty() {
             return Ok(());
         }
-        self.tell_one(&part, page)
+        self.tell_one(&part)
     }
 
     /// Tells a line that is none of characters.
-    fn note(&self, note: &[u8], page: &mut Page) -> Result<(), AllocError> {
-        tell_note(note, &self.mask, page);
-        page.outcome()
+    fn note(&mut self, note: &[u8]) -> Result<(), AllocError>
+        ensures { KeepsAll self.old self.new }
+    {
+        tell_note(note, &self.mask, &mut self.output.page);
+        self.output.outcome()
     }
 
     /// Whether all of it was a dialogue, in which some character came.
@@ -764,67 +772,75 @@ impl Explainer {
 
     /// Explains what is under way where the trace ends, and adds the last block; nothing where what
     /// was told ends within a line, since memory was wanting there.
-    pub fn end(&mut self, page: &mut Page) -> Result<(), AllocError>
+    pub fn end(&mut self) -> Result<(), AllocError>
         ensures { OnOk result (standing_of self.new ≡ standing_of self.old) }
     {
-        if ends_within_line(page.as_str()) {
+        self.output.join();
+        if ends_within_line(self.output.as_str()) {
             return Ok(());
         }
-        self.end_log(page)?;
-        tell_passed(self.passed, page);
-        tell_part(self.preface.stage(), &self.preface, &self.mask, page);
-        self.cut_off(page)?;
-        self.counts.tell(&self.clock, page);
-        page.end();
-        page.outcome()
+        self.end_log()?;
+        tell_passed(self.passed, &mut self.output.page);
+        tell_part(
+            self.preface.stage(),
+            &self.preface,
+            &self.mask,
+            &mut self.output.page,
+        );
+        self.cut_off()?;
+        self.counts.tell(&self.clock, &mut self.output.page);
+        self.output.page.end();
+        self.output.outcome()
     }
 
     /// Tells what is open where a log ends.
-    fn end_log(&mut self, page: &mut Page) -> Result<(), AllocError>
+    fn end_log(&mut self) -> Result<(), AllocError>
         ensures { OnOk result (KeepsAll self.old self.new) }
     {
         let mut logged = Vec::new(self.alloc);
         self.log.end(&mut logged)?;
         for one in logged.as_slice() {
-            self.tell_logged(one, &[], page)?;
+            self.tell_logged(one, &[])?;
         }
         Ok(())
     }
 
     /// Tells of a TPDU, or keeps it.
-    fn tell(&mut self, tpdu: &Tpdu, links: Links, page: &mut Page) -> Result<(), AllocError>
+    fn tell(&mut self, tpdu: &Tpdu, links: Links) -> Result<(), AllocError>
         ensures { OnOk result (KeepsAll self.old self.new) }
     {
         if self.keeps {
-            let kept = self.kept_of(tpdu, links, page.another(self.alloc))?;
+            let kept = self.kept_of(tpdu, links, self.output.another(self.alloc))?;
             return push(&mut self.kept, kept);
         }
-        self.tell_box(tpdu, links, page);
+        let began = self.began;
+        tell_box(
+            tpdu,
+            links,
+            began,
+            &self.clock,
+            &self.story,
+            &self.mask,
+            &mut self.output,
+        );
         Ok(())
     }
 
-    /// A TPDU with what is told of it on an empty page.
-    fn kept_of(&self, tpdu: &Tpdu, links: Links, empty: Page) -> Result<Kept, AllocError> {
-        let mut page = empty;
-        self.tell_box(tpdu, links, &mut page);
-        let text = page.into_text()?;
+    /// A TPDU with what is told of it as the only thing that is written.
+    fn kept_of(&self, tpdu: &Tpdu, links: Links, empty: Output) -> Result<Kept, AllocError> {
+        let mut output = empty;
+        tell_box(
+            tpdu,
+            links,
+            self.began,
+            &self.clock,
+            &self.story,
+            &self.mask,
+            &mut output,
+        );
+        let text = output.into_text()?;
         let tpdu = tpdu.copied(self.alloc)?;
         Ok(Kept { tpdu, text })
-    }
-
-    /// Adds the box of a TPDU.
-    fn tell_box(&self, tpdu: &Tpdu, links: Links, page: &mut Page) {
-        push_title(tpdu, links, page);
-        page.open(Head {
-            kind: kind_of(tpdu),
-            line: self.began,
-            status: tpdu.status.as_slice(),
-            anchor: Anchor::Tpdu(links.number),
-        });
-        self.clock.push_begin(&mut page.lines);
-        page.row(Side::Told, "time");
-        tell_rows(tpdu, links, &self.story, &self.mask, page);
-        page.close();
     }
 }
 

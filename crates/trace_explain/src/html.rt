@@ -90,8 +90,15 @@ pub const BOX_END: &str = "</details>\n";
 /// Behind the rows of the last block.
 pub const BLOCK_END: &str = "</section>\n";
 
-/// Opens a box that can be folded, and is where it tells of what went well.
+/// Opens a box.
 pub fn open(out: &mut Draft, title: &str, head: Head<'_>) {
+    begin(out, head);
+    push_title(out, title, head);
+    writeln!(out, "<small>line {}</small></summary>", head.line);
+}
+
+/// Begins a box that can be folded, and is where it tells of what went well.
+pub fn begin(out: &mut Draft, head: Head<'_>) {
     let class = class_of(head.kind);
     write!(out, "<details class=\"{class}\"");
     match head.anchor {
@@ -103,11 +110,16 @@ pub fn open(out: &mut Draft, title: &str, head: Head<'_>) {
         out.push_str(" open");
     }
     out.push_str("><summary>");
+}
+
+/// Adds the title of a box, with a status behind it, and goes on to where its line is told.
+pub fn push_title(out: &mut Draft, title: &str, head: Head<'_>) {
     push_escaped(out, title);
     if let [sw1, sw2] = head.status {
+        let class = class_of(head.kind);
         write!(out, " <b class=\"{class}\">{sw1:02X}{sw2:02X}</b>");
     }
-    writeln!(out, " <small>line {}</small></summary>", head.line);
+    out.push(' ');
 }
 
 /// The style of a box, and of the status in its title.
@@ -119,21 +131,6 @@ fn class_of(kind: Kind) -> &'static str {
         Kind::CutOff => "cut",
         Kind::Complaint => "complaint",
     }
-}
-
-/// Adds the row of a header, with each of its characters behind its name.
-pub fn header(out: &mut Draft, digits: &str) {
-    out.push_str("<div class=\"m t\"><b>header</b><pre>");
-    let mut names = ["CLA ", "  INS ", "  P1 ", "  P2 ", "  P3 "].iter();
-    let mut is_first = true;
-    for digit in digits.trim_end().chars() {
-        if is_first && let Some(name) = names.next() {
-            out.push_str(name);
-        }
-        is_first = !is_first;
-        out.push(digit);
-    }
-    out.push_str("</pre><i></i></div>\n");
 }
 
 /// Adds links to complaints, which stand in these lines and are the first of so many.
@@ -184,6 +181,16 @@ pub fn row(out: &mut Draft, side: Side, label: &str, lines: &str) {
     };
     write!(out, "<div class=\"m {class}\"><b>{label}</b><pre>");
     push_escaped(out, lines.trim_end());
+    writeln!(out, "</pre>{arrow}</div>");
+}
+
+/// Adds what a row says behind its first digits, and ends it.
+pub fn push_rest(out: &mut Draft, side: Side, lines: &str) {
+    push_escaped(out, lines.trim_end());
+    let arrow = match side {
+        Side::Terminal | Side::Card => "<i></i>",
+        Side::Told => "",
+    };
     writeln!(out, "</pre>{arrow}</div>");
 }
 

@@ -1,5 +1,9 @@
 //! What of a trace is not shown: a trace gets passed around.
 
+ghost use Rattle.std.specs.Prelude.{◌≡◌, false, get_or, length, true, IfSome, IsSome};
+ghost use Rattle.t0_core.specs.declared.direction.Direction.TheVariants.{ToCard};
+ghost use Rattle.trace_explain.specs.Secrets.{is_secret};
+
 use crate::draft::Draft;
 use crate::links::Links;
 use crate::story::header_of;
@@ -48,7 +52,11 @@ pub struct Origin {
 
 impl Origin {
     /// That of the data that go this way in a TPDU; `None` where no whole header came.
-    pub fn of(tpdu: &Tpdu, links: Links, way: Direction) -> Option<Origin> {
+    pub fn of(tpdu: &Tpdu, links: Links, way: Direction) -> Option<Origin>
+        ensures own { IfSome result (λ origin. way ≡ ToCard →
+            origin.header.ins ≡ get_or tpdu.now.header.items 1 0) }
+        ensures whole { length tpdu.now.header.items ≡ 5 → IsSome result }
+    {
         let (header, _) = header_of(tpdu)?;
         let header = match way {
             Direction::ToCard => header,
@@ -80,10 +88,12 @@ impl Origin {
 
 /// What of data is shown.
 #[derive(Clone, Copy)]
-enum Shown {
+pub enum Shown {
+    /// All of them.
     All,
     /// Objects, but for the values of those that are not shown.
     Objects,
+    /// None of them.
     Nothing,
 }
 
@@ -135,7 +145,11 @@ impl Mask {
     }
 
     /// What of these data is shown.
-    fn shown(&self, origin: Origin) -> Shown {
+    pub fn shown(&self, origin: Origin) -> Shown
+        ensures all { self.now.hides ≡ false → result ≡ Shown.All }
+        ensures secret { self.now.hides ≡ true → is_secret origin.header.ins ≡ true →
+            result ≡ Shown.Nothing }
+    {
         if !self.hides {
             return Shown::All;
         }
@@ -196,7 +210,9 @@ impl Mask {
 
 /// Whether the data of a command are secret, or may be: VERIFY, CHANGE REFERENCE DATA, DISABLE and
 /// ENABLE VERIFICATION REQUIREMENT, RESET RETRY COUNTER, of any class.
-fn is_secret(header: Header) -> bool {
+fn is_secret(header: Header) -> bool
+    ensures { result ≡ is_secret header.ins }
+{
     matches!(header.ins, 0x20 | 0x21 | 0x24 | 0x26 | 0x28 | 0x2C)
 }
 

@@ -25,11 +25,6 @@ impl Page {
         }
     }
 
-    /// Another one of the same layout, to which nothing has been added.
-    pub fn another(&self, alloc: Global) -> Page {
-        Page::new(alloc, self.layout)
-    }
-
     /// What has been added since the last call of `clear`.
     pub fn as_str(&self) -> &str {
         self.out.as_str()
@@ -48,12 +43,9 @@ impl Page {
         lines
     }
 
-    /// All that has been added.
-    pub fn into_text(self) -> Result<String, AllocError> {
-        if self.lines.is_cut() {
-            return Err(AllocError);
-        }
-        self.out.into_text()
+    /// Whether memory was wanting.
+    pub fn is_cut(&self) -> bool {
+        self.out.is_cut() || self.lines.is_cut()
     }
 
     /// Whether what is told now is added.
@@ -105,16 +97,35 @@ impl Page {
         });
     }
 
-    /// Adds the row of a header, whose digits the lines are, on a page with each of its characters
-    /// apart.
-    pub fn header(&mut self) {
-        match self.layout.medium {
-            Medium::Html if self.tells() => {
-                html::header(&mut self.out, self.lines.as_str());
-                self.lines.clear();
-            }
-            _ => self.row(Side::Terminal, "header"),
+    /// Begins the box of a TPDU.
+    pub fn begin_numbered(&mut self, head: Head<'_>) {
+        if self.tells() && matches!(self.layout.medium, Medium::Html) {
+            html::begin(&mut self.out, head);
         }
+    }
+
+    /// Adds the title of a TPDU behind its number: the lines are its words.
+    pub fn push_numbered(&mut self, number: u64, head: Head<'_>) {
+        if self.tells() {
+            let title = self.lines.as_str();
+            match self.layout.medium {
+                Medium::Text => text::push_numbered(&mut self.out, title, number, head.line),
+                Medium::Html => html::push_title(&mut self.out, title, head),
+            }
+        }
+        self.lines.clear();
+    }
+
+    /// Adds what a row says behind so many digits, and ends it: the lines are its words.
+    pub fn push_rest(&mut self, side: Side, digits: usize) {
+        if self.tells() {
+            let lines = self.lines.as_str();
+            match self.layout.medium {
+                Medium::Text => text::push_rest(&mut self.out, digits, lines),
+                Medium::Html => html::push_rest(&mut self.out, side, lines),
+            }
+        }
+        self.lines.clear();
     }
 
     /// Adds a row with this label: nothing where there are no lines.

@@ -69,7 +69,7 @@ pub fn push_most(text: &mut Draft, le: u8) {
 /// Adds how far a TPDU came that was cut off: behind SW1, or within its header, or after how many
 /// of the bytes that P3 foresees, where some have come.
 pub fn push_cut_off(text: &mut Draft, tpdu: &Tpdu) {
-    if !text.is_empty() {
+    if !tpdu.status.is_empty() {
         text.push_str(" cut off\n");
         return;
     }

@@ -1,5 +1,8 @@
 //! What goes over several TPDUs: their numbers, chains, and responses in parts.
 
+ghost use Rattle.std.specs.Prelude.{◌≡◌, get_or, length, IfOk, IfSome, IsSome};
+ghost use Rattle.trace_explain.specs.Told.{one_more};
+
 use crate::chain::{ChainHeard, VALUE_LIMIT};
 use crate::links::{Link, Links, Whole};
 use crate::response::{ResponseHeard, UNTOLD_SIZE};
@@ -18,7 +21,9 @@ pub struct Story {
 
 impl Story {
     /// No TPDU has come.
-    pub fn new(alloc: Global) -> Story {
+    pub fn new(alloc: Global) -> Story
+        ensures { result.number ≡ 0 }
+    {
         Story {
             number: 0,
             chain: ChainHeard::new(alloc),
@@ -27,7 +32,10 @@ impl Story {
     }
 
     /// What this TPDU is among those before it. The error is want of memory.
-    pub fn tell(&mut self, tpdu: &Tpdu) -> Result<Links, AllocError> {
+    pub fn tell(&mut self, tpdu: &Tpdu) -> Result<Links, AllocError>
+        ensures next { self.new.number ≡ one_more self.old.number }
+        ensures number { IfOk result (λ links. links.number ≡ self.new.number) }
+    {
         self.number = self.number.saturating_add(1);
         match (header_of(tpdu), status_of(tpdu)) {
             (Some((header, p3)), Some(status)) => self.tell_whole(tpdu, header, p3, status),
@@ -43,7 +51,10 @@ impl Story {
         header: Header,
         p3: u8,
         status: Status,
-    ) -> Result<Links, AllocError> {
+    ) -> Result<Links, AllocError>
+        ensures stays { self.new.number ≡ self.old.number }
+        ensures number { IfOk result (λ links. links.number ≡ self.old.number) }
+    {
         let drops_before = self.chain.is_pending() && !self.chain.goes_on_with(header);
         let piece = self.chain.link_of(header);
         let le = le_of(tpdu, p3);
@@ -69,7 +80,9 @@ impl Story {
 
     /// How a TPDU with this header, and this P3 or Le, goes on with those before it, and its data
     /// with theirs.
-    fn linked(&self, tpdu: &Tpdu, header: Header, le: u8) -> Links {
+    fn linked(&self, tpdu: &Tpdu, header: Header, le: u8) -> Links
+        ensures { result.number ≡ self.now.number }
+    {
         let is_asked = self.response.link_of(header, le) != Link::None;
         let asker = if is_asked {
             self.response.asker()
@@ -113,13 +126,17 @@ impl Story {
 
     /// Some of what came was not heard: a response under way ends, and of a chain it is not known
     /// which piece comes next.
-    pub fn lose_some(&mut self) {
+    pub fn lose_some(&mut self)
+        ensures { self.new.number ≡ self.old.number }
+    {
         self.response.drop_all();
         self.chain.lose_some();
     }
 
     /// A reset came; it answers whether it drops a chain.
-    pub fn reset(&mut self) -> bool {
+    pub fn reset(&mut self) -> bool
+        ensures { self.new.number ≡ self.old.number }
+    {
         let drops = self.chain.is_pending();
         self.chain.drop_all();
         self.response.drop_all();
@@ -136,7 +153,9 @@ impl Story {
     }
 
     /// A TPDU that goes on so with those before it, and does nothing else to them.
-    fn with(&self, link: Link) -> Links {
+    fn with(&self, link: Link) -> Links
+        ensures { result.number ≡ self.now.number }
+    {
         Links {
             number: self.number,
             link,
@@ -151,7 +170,10 @@ impl Story {
 }
 
 /// The whole header of a TPDU, and P3.
-pub fn header_of(tpdu: &Tpdu) -> Option<(Header, u8)> {
+pub fn header_of(tpdu: &Tpdu) -> Option<(Header, u8)>
+    ensures ins { IfSome result (λ found. found.0.ins ≡ get_or tpdu.now.header.items 1 0) }
+    ensures whole { length tpdu.now.header.items ≡ 5 → IsSome result }
+{
     match tpdu.header.as_slice() {
         [cla, ins, p1, p2, p3] => {
             let header = Header {

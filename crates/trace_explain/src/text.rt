@@ -11,12 +11,23 @@ const ROW_INDENT: usize = 15;
 
 /// Adds the title of a box.
 pub fn open(out: &mut Draft, title: &str, line: u64) {
-    let column = push_words(out, title, 0, "    ");
+    push_title(out, title, 0, line);
+    writeln!(out, "(line {line})");
+}
+
+/// Adds the title of a TPDU's box behind its number, and goes on to where its line is told.
+pub fn push_numbered(out: &mut Draft, title: &str, number: u64, line: u64) {
+    push_title(out, title, "#".len().saturating_add(digits(number)), line);
+}
+
+/// Adds a title that begins in this column, and goes on to where its line is told.
+fn push_title(out: &mut Draft, title: &str, begins: usize, line: u64) {
+    let column = push_words(out, title, begins, "    ");
     let width = "  (line )".len().saturating_add(digits(line));
     if column.saturating_add(width) > COLUMNS {
-        writeln!(out, "\n    (line {line})");
+        out.push_str("\n    ");
     } else {
-        writeln!(out, "  (line {line})");
+        out.push_str("  ");
     }
 }
 
@@ -43,6 +54,19 @@ pub fn row(out: &mut Draft, side: Side, label: &str, lines: &str) {
         push_words(out, line, ROW_INDENT, "               ");
         out.push('\n');
         is_first = false;
+    }
+}
+
+/// Adds what a row says behind so many digits, and ends it.
+pub fn push_rest(out: &mut Draft, digits: usize, lines: &str) {
+    let mut begins = ROW_INDENT.saturating_add(digits);
+    for line in lines.lines() {
+        if begins == 0 {
+            out.push_str("               ");
+        }
+        push_words(out, line, begins.max(ROW_INDENT), "               ");
+        out.push('\n');
+        begins = 0;
     }
 }
 

@@ -1,6 +1,7 @@
 //! Objects as lines.
-ghost use Rattle.std.specs.Prelude.{◌≡◌, ◌+◌};
+ghost use Rattle.std.specs.Prelude.{◌≡◌, ◌+◌, true};
 ghost use Rattle.tlv_core.specs.Object.{IsObjectList};
+ghost use Rattle.tlv_core.specs.Spelling.{AreObjects};
 
 use crate::ascii::{is_text, push_text};
 use crate::draft::Draft;
@@ -23,7 +24,9 @@ const VALUE_TEXT: usize = 15;
 /// Adds bytes as objects: a line for each, two spaces further in for each level below the first,
 /// and more lines for a long value, but for values that are not shown. Nothing where they are no
 /// list of objects, or hold none; it answers whether they are one.
-pub fn push_tree(text: &mut Draft, bytes: &[u8], mask: &Mask) -> bool {
+pub fn push_tree(text: &mut Draft, bytes: &[u8], mask: &Mask) -> bool
+    ensures { result ≡ true → AreObjects bytes.now 1 }
+{
     match Objects::over(bytes) {
         Ok(objects) => {
             let before = text.len();

@@ -1,6 +1,6 @@
 use Rattle.std.proofs.Common.{◌≡◌, ◌<◌, arith, length, length-take}
 use Rattle.trace_explain.specs.Explained.{standing_of}
-use Rattle.trace_explain.proofs.TraceLemmas.{all_comes, chunk_comes, chunk_stops, none_comes, none_has_come, more_has_come, limit_kept, limit_passed, known_explained, known_stops}
+use Rattle.trace_explain.proofs.TraceLemmas.{all_comes, chunk_comes, chunk_stops, none_comes, none_has_come, more_has_come, limit_kept, limit_passed, known_explained, known_stops, still_comes}
 use Rattle.trace_explain.proofs.explain.explain_chunks.Goals as goal
 
 pub reading-init : goal.reading-init
@@ -12,10 +12,13 @@ reading-init g c = (
 pub reading-preserved : goal.reading-preserved
 reading-preserved g c = (
   λ reading fresh begins first.
-      chunk_comes reading _ _ _ _ c.reading.line.items c.explain_chunk.new.line.items
+      still_comes reading (g.R.Read.remaining c.args.reader.now)
+      (g.R.Read.remaining c.read.new.self) c.explain_chunk.new.line.items
+      c.explain_chunk.new.explainer c.write_output.new.explainer c.write_output.ensures.keeps
+      (chunk_comes reading _ _ _ _ c.reading.line.items c.explain_chunk.new.line.items
       c.reading.explainer
       c.explain_chunk.new.explainer (c.reading.invariant.0 reading fresh begins first)
-      c.in-Ok.ensures.bytes.0 (c.in_ok-explain_chunk-in-Ok.ensures.explained reading),
+      c.in-Ok.ensures.bytes.0 (c.in_ok-explain_chunk-in-Ok.ensures.explained reading)),
   more_has_come _ _ _ _ _ _ c.reading.invariant.1 c.in-Ok.ensures.bytes.0
       (omega (arith, length-take c.in-Ok.count c.read.new.buf, c.in-Ok.ensures.bound)),
 )

@@ -6,7 +6,7 @@ use Rattle.trace_explain.specs.declared.trace_line.TraceLine.TheVariants as said
 use Rattle.trace_explain.specs.Explained.{StopsRightly, standing_of}
 use Rattle.trace_explain.specs.Lines.{Says, TakesCharacters, sender}
 use Rattle.trace_explain.specs.Openings.{opening_of}
-use Rattle.trace_explain.proofs.ExplainedLemmas.{explains_nothing, as_line, line_refused, line_stops}
+use Rattle.trace_explain.proofs.ExplainedLemmas.{explains_nothing, as_line, line_refused, line_stops, keeps_explained, keeps_standing}
 use Rattle.trace_explain.proofs.explainer.Explainer.signed_line.Goals as goal
 
 pub returns-in-Ok-Characters-clause-explained : goal.returns-in-Ok-Characters-clause-explained
@@ -70,13 +70,13 @@ returns-in_ok-note-in-Ok-Note-clause-explained c = λ events before h.
       [],
       standing_of c.args.self.now,
       (refl, refl),
-      explains_nothing events before (standing_of c.args.self.now) _
-          (record {
+      explains_nothing events before (standing_of c.args.self.now) c.note.new.self
+          (keeps_explained events before _ c.note.new.self c.note.ensures (record {
             noted = h.noted;
             resumes = h.resumes;
             passes_over = h.passes_over;
             hears = h.hears;
-          }) refl,
+          })) (keeps_standing _ c.note.new.self c.note.ensures),
     )
 
 pub returns-in-Err-clause-stops : goal.returns-in-Err-clause-stops

@@ -3,7 +3,7 @@ use Rattle.trace_explain.specs.declared.unsigned_line.UnsignedLine.{UnsignedLine
 use Rattle.trace_explain.specs.declared.unsigned_line.UnsignedLine.TheVariants as said
 use Rattle.trace_explain.specs.Explained.{standing_of}
 use Rattle.trace_explain.specs.Unsigned.{SaysUnsigned, TakesInTurn}
-use Rattle.trace_explain.proofs.ExplainedLemmas.{explains_nothing}
+use Rattle.trace_explain.proofs.ExplainedLemmas.{explains_nothing, keeps_explained, keeps_standing}
 use Rattle.trace_explain.proofs.TurnLemmas.{unsigned_refused, unsigned_so, unsigned_stops}
 use Rattle.trace_explain.proofs.explainer.Explainer.unsigned_line.Goals as goal
 
@@ -52,13 +52,13 @@ returns-in_ok-note-in-Ok-Note-clause-explained c = λ events before h.
       [],
       standing_of c.args.self.now,
       (refl, refl),
-      explains_nothing events before (standing_of c.args.self.now) _
-          (record {
+      explains_nothing events before (standing_of c.args.self.now) c.note.new.self
+          (keeps_explained events before _ c.note.new.self c.note.ensures (record {
             noted = h.noted;
             resumes = h.resumes;
             passes_over = h.passes_over;
             hears = h.hears;
-          }) refl,
+          })) (keeps_standing _ c.note.new.self c.note.ensures),
     )
 
 pub returns-in-Err-clause-stops : goal.returns-in-Err-clause-stops

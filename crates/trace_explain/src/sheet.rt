@@ -1,0 +1,140 @@
+//! A text of which it is proved what is added to it.
+
+ghost use Rattle.std.specs.Prelude.{◌≡◌, [], false, OnOk};
+ghost use Rattle.std.specs.String.{string_bytes};
+ghost use Rattle.std.specs.Char.{encode_utf8};
+ghost use Rattle.std.specs.Fmt.{decimal};
+ghost use Rattle.hex.specs.Hex.{encode_upper};
+ghost use Rattle.trace_explain.specs.Sheets.{Adds, Joins};
+
+use crate::layout::Layout;
+use std::alloc::{AllocError, Global};
+use std::mem;
+
+/// A text to which more is added. Once memory was wanting, nothing more is, until that is asked.
+#[derive(Drop)]
+pub struct Sheet {
+    alloc: Global,
+    layout: Layout,
+    text: String,
+    is_cut: bool,
+}
+
+impl Sheet {
+    /// Nothing has been added.
+    pub fn new(alloc: Global, layout: Layout) -> Sheet
+        ensures layout { result.layout ≡ layout }
+        ensures text { string_bytes result.text ≡ [] }
+    {
+        Sheet {
+            alloc,
+            layout,
+            text: String::new(alloc),
+            is_cut: false,
+        }
+    }
+
+    /// How it is laid out.
+    pub fn layout(&self) -> Layout
+        ensures { result ≡ self.now.layout }
+    {
+        self.layout
+    }
+
+    /// Adds words.
+    pub fn push_str(&mut self, words: &str)
+        ensures { Adds self.old words.now self.new }
+    {
+        if self.is_cut {
+            return;
+        }
+        match self.text.push_str(words) {
+            Ok(()) => {}
+            Err(_) => self.is_cut = true,
+        }
+    }
+
+    /// Adds a letter.
+    pub fn push(&mut self, letter: char)
+        ensures { Adds self.old (encode_utf8 letter) self.new }
+    {
+        if self.is_cut {
+            return;
+        }
+        match self.text.push(letter) {
+            Ok(()) => {}
+            Err(_) => self.is_cut = true,
+        }
+    }
+
+    /// Adds a number in decimal digits.
+    pub fn push_number(&mut self, number: u64)
+        ensures { Adds self.old (decimal number) self.new }
+    {
+        if self.is_cut {
+            return;
+        }
+        match write!(self.text, "{number}") {
+            Ok(()) => {}
+            Err(_) => self.is_cut = true,
+        }
+    }
+
+    /// Adds bytes as hexadecimal digits in upper case.
+    pub fn push_hex(&mut self, bytes: &[u8])
+        ensures { Adds self.old (encode_upper bytes.now) self.new }
+    {
+        match hex::encode_upper(self.alloc, bytes) {
+            Ok(digits) => self.push_str(digits.as_str()),
+            Err(_) => self.is_cut = true,
+        }
+    }
+
+    /// Adds words from elsewhere, and whether memory was wanting there.
+    pub fn join(&mut self, words: &str, is_cut: bool)
+        ensures { Joins self.old self.new }
+    {
+        self.push_str(words);
+        if is_cut {
+            self.is_cut = true;
+        }
+    }
+
+    /// What has been added since the last call of `clear`.
+    pub fn as_str(&self) -> &str
+        ensures { result.now ≡ string_bytes self.now.text }
+    {
+        self.text.as_str()
+    }
+
+    /// Forgets what has been added, as it was written.
+    pub fn clear(&mut self)
+        ensures text { string_bytes self.new.text ≡ [] }
+        ensures layout { self.new.layout ≡ self.old.layout }
+        ensures is_cut { self.new.is_cut ≡ self.old.is_cut }
+    {
+        self.text.clear();
+    }
+
+    /// Whether all that was added is there. The error is want of memory, of which it tells once.
+    pub fn outcome(&mut self) -> Result<(), AllocError>
+        ensures layout { self.new.layout ≡ self.old.layout }
+        ensures whole { OnOk result ((self.old.is_cut ≡ false) × (self.new.is_cut ≡ false)) }
+        ensures text { string_bytes self.new.text ≡ string_bytes self.old.text }
+    {
+        if mem::replace(&mut self.is_cut, false) {
+            Err(AllocError)
+        } else {
+            Ok(())
+        }
+    }
+
+    /// The whole text.
+    pub fn into_text(self) -> Result<String, AllocError> {
+        if self.is_cut {
+            Err(AllocError)
+        } else {
+            Ok(self.text)
+        }
+    }
+}

@@ -27,14 +27,21 @@ use Rattle.trace_explain.specs.Openings.{Opening, begins_answer, dialogue_in, ha
 use Rattle.trace_explain.specs.Lines.{AreOver, Standing, after_characters, came_after, heard_in, SpellsCharacters, Suits, Says, IsBadLine, TakesCharacters, TakesLine, sender}
 use Rattle.trace_explain.specs.Noted.{HasNoted, NoneGoesOn}
 use Rattle.trace_explain.specs.Explained.{HasExplained, ExplainsMore, ExplainsReset, ExplainsCharacters, ExplainsLine, ExplainsSigned, HearsUpTo, IsRight, KeepsAll, StopsRightly, StopsAtLine, StopsAtSigned, StopsBy, Stopped, answers_again, at_place, next_line, refused, standing_of}
+use Rattle.trace_explain.specs.Account.{AddsBoxes}
 use Rattle.trace_explain.specs.Unsigned.{IsHeard}
 use Rattle.trace_explain.specs.UnderWay.{OpensUpTo}
+use Rattle.trace_explain.proofs.AccountLemmas.{boxes_both}
 use Rattle.trace_explain.proofs.OpeningLemmas.{dialogue_is}
 
 -- what follows where it went well
 pub on_ok_too : {T E : Type 0} (r : Result T E) (P Q : Type 0) → OnOk r P → (P → Q) → OnOk r Q
 on_ok_too (Ok x) P Q h next = next h
 on_ok_too (Err e) P Q h next = tt
+
+pub on_ok_both : {T E : Type 0} (r : Result T E) (P Q R : Type 0) → OnOk r P → OnOk r Q
+    → (P → Q → R) → OnOk r R
+on_ok_both (Ok x) P Q R h k next = next h k
+on_ok_both (Err e) P Q R h k next = tt
 
 -- what is told before a line stays told
 pub noted_none : (events : List Event) (before : List Told) (none : List Tpdu) (l m : Listener)
@@ -45,22 +52,43 @@ noted_none events before none l m is same h =
     let R : Listener → Type 0 = λ x. HasNoted events (before ++ map told_by none) x in
     subst R (sym same) (subst Q (sym is) (subst P (sym (append-nil before)) h))
 
-pub explains_reset : (events : List Event) (before : List Told) (at : Standing) (e : Explainer)
-    → ExplainsReset events before e → standing_of e ≡ at
-    → ExplainsMore (Reset ∷ []) at events before e
-explains_reset events before at e (told, h) is =
-    record { told = told; explained = h; standing_is = is }
+pub explains_reset : (events : List Event) (before : List Told) (at : Standing)
+    (old e : Explainer) → ExplainsReset events before old e → standing_of e ≡ at
+    → ExplainsMore (Reset ∷ []) at events before old e
+explains_reset events before at old e (told, h, boxes) is =
+    record { told = told; explained = h; standing_is = is; boxes = boxes }
 
-pub explains_nothing : (events : List Event) (before : List Told) (at : Standing) (e : Explainer)
-    → HasExplained events before e → standing_of e ≡ at → ExplainsMore [] at events before e
-explains_nothing events before at e h is =
+pub explains_nothing : (events : List Event) (before : List Told) (at : Standing)
+    (old e : Explainer) → HasExplained events before e → standing_of e ≡ at → AddsBoxes [] old e
+    → ExplainsMore [] at events before old e
+explains_nothing events before at old e h is boxes =
     let P : List Event → Type 0 = λ es. HasExplained es (before ++ []) e in
     let Q : List Told → Type 0 = λ ts. HasExplained events ts e in
     record {
       told = [];
       explained = subst P (sym (append-nil events)) (subst Q (sym (append-nil before)) h);
       standing_is = is;
+      boxes = boxes;
     }
+
+-- what was written before it stays
+pub explains_from : (more : List Event) (at : Standing) (events : List Event) (before : List Told)
+    (old mid new : Explainer) → AddsBoxes [] old mid → ExplainsMore more at events before mid new
+    → ExplainsMore more at events before old new
+explains_from more at events before old mid new begins h = record {
+  told = h.told;
+  explained = h.explained;
+  standing_is = h.standing_is;
+  boxes = boxes_both [] h.told old mid new begins h.boxes;
+}
+
+pub hears_from : (stop : Option ℕ) (from : End) (bytes : List ℕ) (events : List Event)
+    (before : List Told) (old mid e : Explainer) → AddsBoxes [] old mid
+    → HearsUpTo stop from bytes events before mid e → HearsUpTo stop from bytes events before old e
+hears_from None from bytes events before old mid e begins (told, h, boxes) =
+    (told, h, boxes_both [] told old mid e begins boxes)
+hears_from (Some place) from bytes events before old mid e begins (told, h, within, none, boxes) =
+    (told, h, within, none, boxes_both [] told old mid e begins boxes)
 
 -- an explainer that has heard and told what it had before
 pub explained_on : (events : List Event) (before : List Told) (old mid new : Explainer)
@@ -102,11 +130,11 @@ keeps_standing old new k =
 pub explains_heard : (start : ℕ) (after : Opening) (from : End) (bytes heard : List ℕ)
     (events : List Event) (before : List Told) (old new : Explainer)
     → OpensUpTo start (opening_of old.preface) from bytes after → heard ≡ drop start bytes
-    → HearsUpTo None from heard events before new → opening_of new.preface ≡ after
+    → HearsUpTo None from heard events before old new → opening_of new.preface ≡ after
     → new.came ≡ came_after old.came bytes → new.reading ≡ old.reading
     → ExplainsCharacters from bytes events before old new
-explains_heard start after from bytes heard events before old new opens heard_is (told, explained)
-    opening_is came_is reading_is =
+explains_heard start after from bytes heard events before old new opens heard_is
+    (told, explained, boxes) opening_is came_is reading_is =
     let o : Opening = opening_of old.preface in
     let P : List ℕ → Type 0 = λ hs. HasExplained (events ++ passed (sent_by from hs))
     (before ++ told) new in (
@@ -120,6 +148,7 @@ explains_heard start after from bytes heard events before old new opens heard_is
             (came_after old.came bytes) new.reading old.reading (opening_is ∙ opens.after_is)
             came_is
             reading_is;
+        boxes = boxes;
       },
     )
 
@@ -180,16 +209,16 @@ others_fail true b c e = e
 pub explains_again : (start place : ℕ) (mid : Opening) (from : End) (bytes heard again : List ℕ)
     (events : List Event) (before : List Told) (old at new : Explainer)
     → OpensUpTo start (opening_of old.preface) from bytes mid → heard ≡ drop start bytes
-    → has_begun old.preface.stage ≡ true → HearsUpTo (Some place) from heard events before at
+    → has_begun old.preface.stage ≡ true → HearsUpTo (Some place) from heard events before old at
     → begins_answer from (get_or bytes (start + place) 0) ≡ true
     → (length (told_by at.listener.under_way).header == 0) ≡ true
-    → ((es : List Event) (ts : List Told) → HasExplained es ts at → ExplainsReset es ts new)
+    → ((es : List Event) (ts : List Told) → HasExplained es ts at → ExplainsReset es ts at new)
     → again ≡ drop (start + place) bytes
     → opening_of new.preface ≡ opened unopened Card again
     → new.came ≡ came_after old.came bytes → new.reading ≡ old.reading
     → ExplainsCharacters from bytes events before old new
 explains_again start place mid from bytes heard again events before old at new opens heard_is begun
-    (told, explained, within, none) begins nothing resets again_is opening_is came_is reading_is =
+    (told, explained, within, none, boxes) begins nothing resets again_is opening_is came_is reading_is =
     let first : start ≡ 0 = opens.begun begun in
     let all : heard ≡ bytes = heard_is ∙ ap (λ n. drop n bytes) first in
     let inside : place < length bytes = omega (arith, within, ap length all) in
@@ -205,7 +234,7 @@ explains_again start place mid from bytes heard again events before old at new o
     let R : ℕ → Type 0 = λ n. begins_answer from (get_or bytes n 0) ≡ true in
     let is : begins_answer from ts ≡ true = subst R here begins in
     let heard_so : HasExplained (events ++ so_far) (before ++ told) at = subst P all explained in
-    let (more, reset_so) = resets (events ++ so_far) (before ++ told) heard_so in
+    let (more, reset_so, again_boxes) = resets (events ++ so_far) (before ++ told) heard_so in
     let Q : List Event → Type 0 = λ es. HasExplained es (before ++ (told ++ more)) new in
     let T : List Told → Type 0 = λ ts. HasExplained (events ++ so_far ++ Reset ∷ []) ts new in
     let opened_so : opening_of new.preface ≡ opened unopened from (ts ∷ behind) =
@@ -239,6 +268,7 @@ explains_again start place mid from bytes heard again events before old at new o
             new.came true new.reading old.reading opened_so
             (came_is ∙ ap (came_after old.came) cut
             ∙ came_with old.came (take place bytes) ts behind) reading_is;
+        boxes = boxes_both told more old at new boxes again_boxes;
       },
     )
 
@@ -265,12 +295,12 @@ complains_rightly : (c : Complaint) (start place n : ℕ) (astray : Bool) (mid :
       is_astray = astray;
     }
     → OpensUpTo start (opening_of old.preface) from bytes mid → heard ≡ drop start bytes
-    → HearsUpTo (Some place) from heard events before at
+    → HearsUpTo (Some place) from heard events before old at
     → answers_again (opening_of old.preface) at.listener from (get_or bytes (start + place) 0)
     ≡ false
     → IsRight c (opening_of old.preface) from bytes events before
 complains_rightly c start place n astray mid from bytes heard events before old at is opens heard_is
-    (told, explained, within, none) not_again =
+    (told, explained, within, none, boxes) not_again =
     let o : Opening = opening_of old.preface in
     let P : Complaint → Type 0 = λ x. IsRight x (opening_of old.preface) from bytes events before in
     let inside : place < length (drop start bytes) = omega (arith, within, ap length heard_is) in
@@ -302,7 +332,7 @@ pub stops_rightly : {T : Type 0} (result : Result T ExplainFault) (start place a
       is_astray = astray;
     })
     → n ≡ line → OpensUpTo start (opening_of old.preface) from bytes mid
-    → heard ≡ drop start bytes → HearsUpTo (Some place) from heard events before at
+    → heard ≡ drop start bytes → HearsUpTo (Some place) from heard events before old at
     → answers_again (opening_of old.preface) at.listener from (get_or bytes (start + place) 0)
     ≡ false
     → IfErr result (λ f. StopsRightly f line ahead (opening_of old.preface) from bytes events
@@ -369,11 +399,19 @@ pub as_line : {T : Type 0} (result : Result T ExplainFault) (line : List ℕ) (s
     → ((more : List Event) (at : Standing)
     → TakesCharacters events (standing_of mid) from given more at
     → TakesLine events (standing_of old) said more at)
+    → AddsBoxes [] old mid
     → OnOk result (ExplainsCharacters from given events before mid new)
     → OnOk result (ExplainsSigned line events before old new)
-as_line (Err e) line said from given events before old mid new says is h = tt
-as_line (Ok x) line said from given events before old mid new says is (more, at, takes, explains) =
-    (said, says, more, at, is more at takes, explains)
+as_line (Err e) line said from given events before old mid new says is begins h = tt
+as_line (Ok x) line said from given events before old mid new says is begins
+    (more, at, takes, explains) = (
+      said,
+      says,
+      more,
+      at,
+      is more at takes,
+      explains_from more at events before old mid new begins explains,
+    )
 
 -- the complaint is at its own place
 at_its_place : (c : Complaint) (place : ℕ) → c.place ≡ 0 + place → at_place c place ≡ c

@@ -11,3 +11,4 @@ pub mod ExchangeLemmas
 pub mod SheetLemmas
 pub mod RowLemmas
 pub mod BoxLemmas
+pub mod AccountLemmas

@@ -18,7 +18,9 @@ use Rattle.trace_explain.specs.Times.{behind_clock}
 use Rattle.trace_explain.specs.Turns.{turn_at}
 use Rattle.trace_explain.specs.Unsigned.{IsBadUnsigned, IsHeard, IsSent, SaysUnsigned, TakesInTurn, TakesUnsigned}
 use Rattle.trace_explain.specs.Explained.{HasExplained, ExplainsCharacters, ExplainsInTurn, ExplainsUnsigned, ExplainsLine, IsReachedInTurn, IsRight, StopsRightly, StopsInTurn, StopsAtLine, StopsAtUnsigned, StopsBy, at_place, next_line, refused, standing_of}
-use Rattle.trace_explain.proofs.ExplainedLemmas.{explains_nothing}
+use Rattle.trace_explain.specs.Account.{AddsBoxes}
+use Rattle.trace_explain.proofs.AccountLemmas.{boxes_both, boxes_stay}
+use Rattle.trace_explain.proofs.ExplainedLemmas.{explains_from, explains_nothing}
 
 -- one character more is taken behind the others
 in_turn_more : (ways : Ways) (so_far : List Event) (at mid after : Standing) (front : List ℕ)
@@ -64,7 +66,7 @@ in_turn_more ways so_far at mid after (one ∷ front) b from events more
 pub in_turn_none : (ways : Ways) (events : List Event) (before : List Told) (e : Explainer)
     → HasExplained events before e → ExplainsInTurn ways [] events before e e
 in_turn_none ways events before e h =
-    ([], standing_of e, (refl, refl), explains_nothing events before (standing_of e) e h refl)
+    ([], standing_of e, (refl, refl), explains_nothing events before (standing_of e) e e h refl (boxes_stay e e refl refl refl refl))
 
 -- the one at this place
 pub alone_at : (bytes : List ℕ) (place : ℕ) → place < length bytes
@@ -90,6 +92,7 @@ in_turn_on ways bytes given place from events before old mid here new within sam
     let (first, next, first_takes, goes) =
     explains (events ++ more) told (subst E (sym same) explained.explained) in
     let at_is : standing_of here ≡ at = ap standing_of same ∙ explained.standing_is in
+    let G : Explainer → Type 0 = λ e. AddsBoxes goes.told e new in
     let O : Standing → Type 0 = λ s. turn_at ways s.opening here.listener b ≡ Ok from in
     let L : Explainer → Type 0 = λ e. turn_at ways at.opening e.listener b ≡ Ok from in
     let T : List ℕ → Type 0 = λ bs. TakesCharacters (events ++ more) (standing_of here) from bs
@@ -115,6 +118,8 @@ in_turn_on ways bytes given place from events before old mid here new within sam
         explained = subst Y (append_assoc before explained.told goes.told)
             (subst X (append_assoc events more first) goes.explained);
         standing_is = goes.standing_is;
+        boxes = boxes_both explained.told goes.told old mid new explained.boxes
+            (subst G same goes.boxes);
       },
     )
 
@@ -245,12 +250,19 @@ pub unsigned_so : {T : Type 0} (result : Result T ExplainFault) (ways : Ways) (l
     (old mid new : Explainer) → SaysUnsigned line said
     → ((more : List Event) (at : Standing) → TakesInTurn ways events (standing_of mid) given more at
     → TakesUnsigned ways events (standing_of old) said more at)
+    → AddsBoxes [] old mid
     → OnOk result (ExplainsInTurn ways given events before mid new)
     → OnOk result (ExplainsUnsigned ways line events before old new)
-unsigned_so (Err e) ways line said given events before old mid new says is h = tt
-unsigned_so (Ok x) ways line said given events before old mid new says is
-    (more, at, takes, explains) =
-    (said, says, more, at, is more at takes, explains)
+unsigned_so (Err e) ways line said given events before old mid new says is begins h = tt
+unsigned_so (Ok x) ways line said given events before old mid new says is begins
+    (more, at, takes, explains) = (
+      said,
+      says,
+      more,
+      at,
+      is more at takes,
+      explains_from more at events before old mid new begins explains,
+    )
 
 pub unsigned_stops : {T : Type 0} (result : Result T ExplainFault) (ways : Ways) (line : List ℕ)
     (n : ℕ) (bytes given : List ℕ) (events : List Event) (before : List Told) (old : Explainer)

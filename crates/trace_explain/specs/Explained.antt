@@ -18,6 +18,7 @@ use Rattle.trace_explain.specs.declared.trace_line.TraceLine.{TraceLine}
 use Rattle.trace_explain.specs.declared.turn.NoTurn.{NoTurn}
 use Rattle.trace_explain.specs.declared.unsigned_line.UnsignedLine.{UnsignedLine}
 use Rattle.trace_explain.specs.declared.ways.Ways.{Ways}
+use Rattle.trace_explain.specs.Account.{AddsBoxes}
 use Rattle.trace_explain.specs.Lines.{SpellsCharacters, Suits, Says, IsBadLine, Standing, TakesCharacters, TakesLine, bytes_in, heard_in, sender}
 use Rattle.trace_explain.specs.Noted.{HasNoted, NoneGoesOn}
 use Rattle.trace_explain.specs.Openings.{Opening, begins_answer, dialogue_in, has_begun, opening_of}
@@ -38,37 +39,40 @@ abbrev pub standing_of : Explainer → Standing
 standing_of e =
     record { opening = opening_of e.preface; came = e.came; reading = e.reading }
 
--- With these events more it has told so many dialogues more, and stands here.
+-- With these events more it has told so many dialogues more, has added their boxes, and stands
+-- here.
 pub record ExplainsMore (more : List Event) (at : Standing) (events : List Event)
-    (before : List Told) (new : Explainer) : Type 0 where
+    (before : List Told) (old new : Explainer) : Type 0 where
   pub told : List Told
   pub explained : HasExplained (events ++ more) (before ++ told) new
   pub standing_is : standing_of new ≡ at
+  pub boxes : AddsBoxes told old new
 
 -- a reset has come, with which a dialogue may have ended
-abbrev pub ExplainsReset : List Event → List Told → Explainer → Type 0
-ExplainsReset events before new =
+abbrev pub ExplainsReset : List Event → List Told → Explainer → Explainer → Type 0
+ExplainsReset events before old new =
     (told : List Told) × HasExplained (events ++ history.Reset ∷ []) (before ++ told) new
+    × AddsBoxes told old new
 
 -- and these are the events of characters
 abbrev pub ExplainsCharacters : End → List ℕ → List Event → List Told → Explainer → Explainer
     → Type 0
 ExplainsCharacters from bytes events before old new = (more : List Event) × (at : Standing)
     × TakesCharacters events (standing_of old) from bytes more at
-    × ExplainsMore more at events before new
+    × ExplainsMore more at events before old new
 
 -- or of those of which each is of the end whose turn it is
 abbrev pub ExplainsInTurn : Ways → List ℕ → List Event → List Told → Explainer → Explainer → Type 0
 ExplainsInTurn ways bytes events before old new = (more : List Event) × (at : Standing)
     × TakesInTurn ways events (standing_of old) bytes more at
-    × ExplainsMore more at events before new
+    × ExplainsMore more at events before old new
 
 -- or of a line with signs
 abbrev pub ExplainsSigned : List ℕ → List Event → List Told → Explainer → Explainer → Type 0
 ExplainsSigned line events before old new = (said : TraceLine) × Says old.reading.form line said
     × (more : List Event) × (at : Standing)
     × TakesLine events (standing_of old) said more at
-    × ExplainsMore more at events before new
+    × ExplainsMore more at events before old new
 
 -- or without
 abbrev pub ExplainsUnsigned : Ways → List ℕ → List Event → List Told → Explainer → Explainer
@@ -76,13 +80,13 @@ abbrev pub ExplainsUnsigned : Ways → List ℕ → List Event → List Told →
 ExplainsUnsigned ways line events before old new = (said : UnsignedLine) × SaysUnsigned line said
     × (more : List Event) × (at : Standing)
     × TakesUnsigned ways events (standing_of old) said more at
-    × ExplainsMore more at events before new
+    × ExplainsMore more at events before old new
 
 -- or of any line, as lines are read
 abbrev pub ExplainsLine : List ℕ → List Event → List Told → Explainer → Explainer → Type 0
 ExplainsLine line events before old new = (more : List Event) × (at : Standing)
     × IsHeard old.reading.unsigned events (standing_of old) line more at
-    × ExplainsMore more at events before new
+    × ExplainsMore more at events before old new
 
 -- the card answers again with this character
 abbrev pub answers_again : Opening → Listener → End → ℕ → Bool
@@ -249,12 +253,15 @@ Stopped result c = IsErrAnd result (λ f. IsStop f c)
 
 -- It has heard these characters of the dialogue, and told what ended with them; or those before
 -- this place, and none goes on with the one there.
-abbrev pub HearsUpTo : Option ℕ → End → List ℕ → List Event → List Told → Explainer → Type 0
-HearsUpTo None from bytes events before e = (told : List Told)
+abbrev pub HearsUpTo : Option ℕ → End → List ℕ → List Event → List Told → Explainer → Explainer
+    → Type 0
+HearsUpTo None from bytes events before old e = (told : List Told)
     × HasExplained (events ++ passed (sent_by from bytes)) (before ++ told) e
-HearsUpTo (Some place) from bytes events before e = (told : List Told)
+    × AddsBoxes told old e
+HearsUpTo (Some place) from bytes events before old e = (told : List Told)
     × HasExplained (events ++ passed (sent_by from (take place bytes))) (before ++ told) e
     × (place < length bytes) × NoneGoesOn e.listener (from, get_or bytes place 0)
+    × AddsBoxes told old e
 
 -- all that is heard and told stays
 pub record KeepsAll (old new : Explainer) : Type 0 where
@@ -274,3 +281,4 @@ pub record KeepsHeard (old new : Explainer) : Type 0 where
   pub came : new.came ≡ old.came
   pub reading : new.reading ≡ old.reading
   pub line : new.line ≡ old.line
+  pub boxes : AddsBoxes [] old new

@@ -16,3 +16,4 @@ pub mod Secrets
 pub mod Written
 pub mod Sheets
 pub mod Boxes
+pub mod Account

@@ -1,17 +1,18 @@
 //! Explains a trace line by line: hears its characters, and tells of each TPDU once it has ended.
 
-ghost use Rattle.std.specs.Prelude.{◌≡◌, ◌<◌, ◌+◌, ◌^◌, ◌∷◌, ◌++◌, ◌==◌, ◌&&◌, List, [], true, false, get_or, length, OnOk, IfErr, IfOk, IfSome};
+ghost use Rattle.std.specs.Prelude.{◌≡◌, ◌<◌, ◌+◌, ◌^◌, ◌∷◌, ◌++◌, ◌==◌, ◌&&◌, List, [], true, false, get_or, length, map, Bool, if◌then◌else◌, OnOk, IfErr, IfOk, IfSome};
 ghost use Rattle.std.specs.Result.{IsErrAnd};
 ghost use Rattle.t0_core.specs.declared.end.End.TheVariants.{Card};
 ghost use Rattle.t0_core.specs.Character.{sent_by};
 ghost use Rattle.t0_core.specs.History.{Event, Reset, passed};
 ghost use Rattle.t0_core.specs.TapSide.{due_at};
 ghost use Rattle.trace_explain.specs.Explained.{HasExplained, ExplainsCharacters, ExplainsMore, ExplainsReset, ExplainsLine, ExplainsSigned, ExplainsUnsigned, ExplainsInTurn, HearsUpTo, StopsRightly, StopsAtLine, StopsAtSigned, StopsAtUnsigned, StopsInTurn, Stopped, KeepsAll, KeepsHeard, is_astray, next_line, refused, standing_of};
+ghost use Rattle.trace_explain.specs.Account.{AddsBox, AddsBoxes, StaysWritten};
 ghost use Rattle.trace_explain.specs.Trace.{IsOfEnd};
 ghost use Rattle.trace_explain.specs.UnderWay.{IsOfLines, OpensUpTo};
 ghost use Rattle.trace_explain.specs.Lines.{came_after, first_of_all};
 ghost use Rattle.trace_explain.specs.Openings.{begins_answer, opened, opening_of, unopened};
-ghost use Rattle.trace_explain.specs.Told.{Told};
+ghost use Rattle.trace_explain.specs.Told.{Told, told_by};
 ghost use Rattle.trace_explain.specs.Turns.{turn_at};
 
 use crate::clock::Clock;
@@ -490,8 +491,9 @@ impl Explainer {
     /// Takes these characters of the card as those behind a reset of which no line says.
     fn answer_again(&mut self, bytes: &[u8]) -> Result<(), AllocError>
         ensures explained { (events : List Event) (before : List Told) →
+            (length self.old.listener.under_way.header.items == 0) ≡ true →
             HasExplained events before self.old →
-            OnOk result (ExplainsReset events before self.new) }
+            OnOk result (ExplainsReset events before self.old self.new) }
         ensures opened { OnOk result
             (opening_of self.new.preface ≡ opened unopened Card bytes.now) }
         ensures keeps { OnOk result ((self.new.came ≡ self.old.came)
@@ -539,7 +541,7 @@ impl Explainer {
     fn hear(&mut self, from: End, bytes: &[u8]) -> Result<Option<usize>, ExplainFault>
         ensures explained { (events : List Event) (before : List Told) →
             HasExplained events before self.old →
-            IfOk result (λ stop. HearsUpTo stop from bytes.now events before self.new) }
+            IfOk result (λ stop. HearsUpTo stop from bytes.now events before self.old self.new) }
         ensures keeps { OnOk result ((self.new.resumes ≡ self.old.resumes)
             × (self.new.passes_over ≡ self.old.passes_over)
             × (self.new.preface ≡ self.old.preface) × (self.new.came ≡ self.old.came)
@@ -565,7 +567,8 @@ impl Explainer {
     /// Notes the line in which a TPDU begins, where none is under way and the terminal sends, that
     /// nothing is passed over, and the time.
     fn note_beginning(&mut self, from: End, bytes: &[u8])
-        ensures { KeepsAll self.old self.new }
+        ensures keeps { KeepsAll self.old self.new }
+        ensures stays { StaysWritten self.old self.new }
     {
         self.passed = None;
         self.clock.hear();
@@ -577,7 +580,8 @@ impl Explainer {
 
     /// Notes the line in which what is under way begins, where a TPDU has ended in it.
     fn note_next(&mut self, none_ended: bool)
-        ensures { KeepsAll self.old self.new }
+        ensures keeps { KeepsAll self.old self.new }
+        ensures stays { StaysWritten self.old self.new }
     {
         if !none_ended && !self.listener.under_way().is_empty() {
             self.began = self.line;
@@ -587,7 +591,8 @@ impl Explainer {
 
     /// Tells of the TPDUs that ended. The error is want of memory for anything told so far.
     fn tell_all(&mut self, told: &[Tpdu]) -> Result<(), AllocError>
-        ensures { OnOk result (KeepsAll self.old self.new) }
+        ensures keeps { OnOk result (KeepsAll self.old self.new) }
+        ensures boxes { OnOk result (AddsBoxes (map told_by told.now) self.old self.new) }
     {
         for tpdu in told {
             self.tell_one(tpdu)?;
@@ -599,7 +604,9 @@ impl Explainer {
 
     /// Tells of a TPDU, which is counted, and what it is among those before it.
     fn tell_one(&mut self, tpdu: &Tpdu) -> Result<(), AllocError>
-        ensures { OnOk result (KeepsAll self.old self.new) }
+        ensures keeps { OnOk result (KeepsAll self.old self.new) }
+        ensures boxes { (whole : Bool) → OnOk result
+            (AddsBoxes (if whole then told_by tpdu.now ∷ [] else []) self.old self.new) }
     {
         self.counts.take(tpdu)?;
         let links = self.story.tell(tpdu)?;
@@ -697,7 +704,7 @@ impl Explainer {
             HasExplained events before self.old →
             OnOk result (ExplainsMore (Reset ∷ []) (record (standing_of self.old) {
               opening = unopened;
-            }) events before self.new) }
+            }) events before self.old self.new) }
         ensures counts { OnOk result (self.new.line ≡ self.old.line) }
     {
         tell_passed(self.passed, &mut self.output.page);
@@ -727,7 +734,7 @@ impl Explainer {
     fn cut_off(&mut self) -> Result<(), AllocError>
         ensures cut_off { (events : List Event) (before : List Told) →
             HasExplained events before self.old →
-            OnOk result (ExplainsReset events before self.new) }
+            OnOk result (ExplainsReset events before self.old self.new) }
         ensures keeps { OnOk result ((self.new.preface ≡ self.old.preface)
             × (self.new.came ≡ self.old.came)
             × (self.new.resumes ≡ self.old.resumes)
@@ -742,7 +749,8 @@ impl Explainer {
 
     /// Tells a line that is none of characters.
     fn note(&mut self, note: &[u8]) -> Result<(), AllocError>
-        ensures { KeepsAll self.old self.new }
+        ensures keeps { KeepsAll self.old self.new }
+        ensures boxes { OnOk result (AddsBoxes [] self.old self.new) }
     {
         tell_note(note, &self.mask, &mut self.output.page);
         self.output.outcome()
@@ -807,7 +815,9 @@ impl Explainer {
 
     /// Tells of a TPDU, or keeps it.
     fn tell(&mut self, tpdu: &Tpdu, links: Links) -> Result<(), AllocError>
-        ensures { OnOk result (KeepsAll self.old self.new) }
+        ensures keeps { OnOk result (KeepsAll self.old self.new) }
+        ensures shows { OnOk result
+            (AddsBox links.number (told_by tpdu.now) self.old self.new) }
     {
         if self.keeps {
             let kept = self.kept_of(tpdu, links, self.output.another(self.alloc))?;

@@ -6,14 +6,17 @@ use Rattle.trace_explain.specs.declared.reading.Reading.{Reading}
 use Rattle.trace_explain.specs.declared.refusal.Refusal.{Refusal}
 use Rattle.trace_explain.specs.Noted.{HasNoted, NoneGoesOn, StopsWith}
 use Rattle.trace_explain.specs.Told.{told_by}
+use Rattle.trace_explain.proofs.AccountLemmas.{boxes_as, boxes_from, boxes_to}
 use Rattle.trace_explain.proofs.ExplainedLemmas.{noted_none}
 use Rattle.trace_explain.proofs.explainer.Explainer.hear.Goals as goal
 
 pub returns-in-Ok-clause-explained : goal.returns-in-Ok-clause-explained
 returns-in-Ok-clause-explained c = λ events before h.
-    let kept = c.note_beginning.ensures in
-    let told = c.in_ok-tell_all.ensures in
-    let next = c.note_next.ensures in
+    let kept = c.note_beginning.ensures.keeps in
+    let told = c.in_ok-tell_all.ensures.keeps in
+    let next = c.note_next.ensures.keeps in
+    let stays = c.note_beginning.ensures.stays in
+    let after = c.note_next.ensures.stays in
     let P : Listener → Type 0 = λ l.
     HasNoted (events ++ passed (sent_by c.args.from c.args.bytes.now))
     (before ++ map told_by c.hear_all-heard.new.told.items) l in (
@@ -27,13 +30,23 @@ returns-in-Ok-clause-explained c = λ events before h.
         hears = ap (λ (r : Reading). r.of_tpdus) (next.reading ∙ told.reading ∙ kept.reading)
             ∙ h.hears;
       },
+      boxes_to (map told_by c.hear_all-heard.new.told.items) c.args.self.now c.tell_all.new.self
+          c.note_next.new.self
+          (boxes_from (map told_by c.hear_all-heard.new.told.items) c.args.self.now _
+          c.tell_all.new.self stays.keeps stays.mask stays.counted stays.sheet
+          (boxes_as (map told_by c.as_slice.result.now)
+          (map told_by c.hear_all-heard.new.told.items) _ c.tell_all.new.self
+          (ap (map told_by) c.as_slice.ensures.value) c.in_ok-tell_all.ensures.boxes)) after.keeps after.mask
+          after.counted after.sheet,
     )
 
 pub returns-in-NoDialogue-clause-explained : goal.returns-in-NoDialogue-clause-explained
 returns-in-NoDialogue-clause-explained c = λ events before h.
-    let kept = c.note_beginning.ensures in
-    let told = c.in_ok-tell_all.ensures in
-    let next = c.note_next.ensures in
+    let kept = c.note_beginning.ensures.keeps in
+    let told = c.in_ok-tell_all.ensures.keeps in
+    let next = c.note_next.ensures.keeps in
+    let stays = c.note_beginning.ensures.stays in
+    let after = c.note_next.ensures.stays in
     let place = c.in-Err.stop.place in
     let bytes = c.args.bytes.now in
     let P : Listener → Type 0 = λ l. HasNoted
@@ -55,4 +68,12 @@ returns-in-NoDialogue-clause-explained c = λ events before h.
       },
       stops.0,
       subst N (sym (next.listener ∙ told.listener)) stops.2,
+      boxes_to (map told_by c.hear_all-heard.new.told.items) c.args.self.now c.tell_all.new.self
+          c.note_next.new.self
+          (boxes_from (map told_by c.hear_all-heard.new.told.items) c.args.self.now _
+          c.tell_all.new.self stays.keeps stays.mask stays.counted stays.sheet
+          (boxes_as (map told_by c.as_slice.result.now)
+          (map told_by c.hear_all-heard.new.told.items) _ c.tell_all.new.self
+          (ap (map told_by) c.as_slice.ensures.value) c.in_ok-tell_all.ensures.boxes)) after.keeps after.mask
+          after.counted after.sheet,
     )

@@ -1,7 +1,22 @@
-use Rattle.std.proofs.Common.{◌<◌, ◌≤◌, ◌∙◌, arith, length, refl, sym}
+use Rattle.std.proofs.Common.{[], ◌<◌, ◌≤◌, ◌∙◌, arith, length, refl, rules, sym}
 use Rattle.trace_explain.specs.Openings.{opening_of}
+use Rattle.trace_explain.proofs.AccountLemmas.{boxes_stay, boxes_to}
 use Rattle.trace_explain.proofs.OpeningLemmas.{opens_all, opens_up_to, passes_more}
 use Rattle.trace_explain.proofs.explainer.Explainer.open.Goals as goal
+
+pub loop-place-init : goal.loop-place-init
+loop-place-init c = (
+  search rules,
+  record {
+    listener = refl;
+    resumes = refl;
+    passes_over = refl;
+    came = refl;
+    reading = refl;
+    line = refl;
+    boxes = boxes_stay c.args.self.now c.args.self.now refl refl refl refl;
+  },
+)
 
 pub loop-place-preserved : goal.loop-place-preserved
 loop-place-preserved c =
@@ -19,6 +34,7 @@ loop-place-preserved c =
         came = kept.came;
         reading = kept.reading;
         line = kept.line;
+        boxes = boxes_to [] c.args.self.now c.loop-place.self _ kept.boxes refl refl refl refl;
       },
     )
 
@@ -41,6 +57,7 @@ returns-then-is_dialogue-clause-keeps c =
       came = kept.came;
       reading = kept.reading;
       line = kept.line;
+      boxes = boxes_to [] c.args.self.now c.loop-place.self _ kept.boxes refl refl refl refl;
     }
 
 pub returns-clause-opens : goal.returns-clause-opens

@@ -1,0 +1,11 @@
+use Rattle.std.proofs.Common.{refl}
+use Rattle.trace_explain.specs.Told.{told_by}
+use Rattle.trace_explain.proofs.AccountLemmas.{boxes_one}
+use Rattle.trace_explain.proofs.ExplainedLemmas.{on_ok_too}
+use Rattle.trace_explain.proofs.explainer.Explainer.tell_one.Goals as goal
+
+pub returns-clause-boxes : goal.returns-clause-boxes
+returns-clause-boxes c = λ whole.
+    on_ok_too c.tell-2.result _ _ c.tell-2.ensures.shows
+    (λ h. boxes_one whole (told_by c.args.tpdu.now) c.in_ok-links.links.number c.args.self.now _
+    c.tell-2.new.self refl refl refl c.tell.ensures.next c.in_ok-links.ensures.number h)

@@ -1,0 +1,80 @@
+-- The boxes that are added, in turn, where TPDUs are told.
+use Rattle.std.specs.Prelude.{◌≡◌, ℕ, List, [], ◌∷◌, ◌++◌, Bool, false, if◌then◌else◌}
+use Rattle.std.specs.String.{string_bytes}
+use Rattle.trace_explain.specs.declared.explainer.Explainer.{Explainer}
+use Rattle.trace_explain.specs.declared.layout.Medium.{Medium}
+use Rattle.trace_explain.specs.declared.sheet.Sheet.{Sheet}
+use Rattle.trace_explain.specs.Boxes.{IsBox, PutsBox}
+use Rattle.trace_explain.specs.Told.{Told, one_more}
+use Rattle.trace_explain.specs.Written.{InTurn}
+
+-- a box: of a TPDU that is whole, or of what came of one
+pub record Boxed : Type 0 where
+  pub told : Told
+  pub is_whole : Bool
+  pub line : ℕ
+  pub parts : List (List ℕ)
+
+-- behind so many, each has the next number, and shows its TPDU
+abbrev pub AreBoxes : Medium → Bool → ℕ → List Boxed → Type 0
+AreBoxes m hides n [] = Unit {0}
+AreBoxes m hides n (b ∷ boxes) =
+    IsBox m hides (one_more n) b.line b.told b.parts × AreBoxes m hides (one_more n) boxes
+
+abbrev pub number_after : ℕ → List Boxed → ℕ
+number_after n [] = n
+number_after n (b ∷ boxes) = number_after (one_more n) boxes
+
+-- the whole TPDUs of boxes
+abbrev pub told_in : List Boxed → List Told
+told_in [] = []
+told_in (b ∷ boxes) = (if b.is_whole then b.told ∷ [] else []) ++ told_in boxes
+
+abbrev pub parts_in : List Boxed → List (List ℕ)
+parts_in [] = []
+parts_in (b ∷ boxes) = b.parts ++ parts_in boxes
+
+-- Behind so many boxes a text has others, one after another, with any words between: they show
+-- these whole TPDUs, in turn.
+pub record ShowsTold (m : Medium) (hides : Bool) (number : ℕ) (told : List Told) (text : List ℕ)
+    (after : ℕ) : Type 0 where
+  pub boxes : List Boxed
+  pub are : AreBoxes m hides number boxes
+  pub told_is : told ≡ told_in boxes
+  pub after_is : after ≡ number_after number boxes
+  pub has : InTurn (parts_in boxes) text
+
+-- such a text was added
+pub record AddsText (m : Medium) (hides : Bool) (number : ℕ) (told : List Told) (after : ℕ)
+    (old new : Sheet) : Type 0 where
+  pub whole : old.is_cut ≡ false
+  pub more : List ℕ
+  pub text_is : string_bytes new.text ≡ string_bytes old.text ++ more
+  pub shows : ShowsTold m hides number told more after
+
+-- An explainer that writes what it tells, and no summary alone, has added the boxes of these whole
+-- TPDUs in turn, where memory was not wanting.
+pub record AddsBoxes (told : List Told) (old new : Explainer) : Type 0 where
+  pub keeps : new.keeps ≡ old.keeps
+  pub mask : new.mask ≡ old.mask
+  pub layout : new.output.sheet.layout ≡ old.output.sheet.layout
+  pub adds : old.keeps ≡ false → old.output.sheet.layout.is_summary ≡ false
+      → new.output.sheet.is_cut ≡ false
+      → AddsText old.output.sheet.layout.medium old.mask.hides old.story.number told
+      new.story.number old.output.sheet new.output.sheet
+
+-- the same of one box with this number, which is counted already
+pub record AddsBox (number : ℕ) (t : Told) (old new : Explainer) : Type 0 where
+  pub keeps : new.keeps ≡ old.keeps
+  pub mask : new.mask ≡ old.mask
+  pub layout : new.output.sheet.layout ≡ old.output.sheet.layout
+  pub counted : new.story.number ≡ old.story.number
+  pub box : old.keeps ≡ false → old.output.sheet.layout.is_summary ≡ false
+      → PutsBox old.mask.hides number old.began t old.output.sheet new.output.sheet
+
+-- what is written stays
+pub record StaysWritten (old new : Explainer) : Type 0 where
+  pub keeps : new.keeps ≡ old.keeps
+  pub mask : new.mask ≡ old.mask
+  pub counted : new.story.number ≡ old.story.number
+  pub sheet : new.output.sheet ≡ old.output.sheet

@@ -218,7 +218,8 @@ pub explains_again : (start place : ℕ) (mid : Opening) (from : End) (bytes hea
     → new.came ≡ came_after old.came bytes → new.reading ≡ old.reading
     → ExplainsCharacters from bytes events before old new
 explains_again start place mid from bytes heard again events before old at new opens heard_is begun
-    (told, explained, within, none, boxes) begins nothing resets again_is opening_is came_is reading_is =
+    (told, explained, within, none, boxes) begins nothing resets again_is opening_is came_is
+    reading_is =
     let first : start ≡ 0 = opens.begun begun in
     let all : heard ≡ bytes = heard_is ∙ ap (λ n. drop n bytes) first in
     let inside : place < length bytes = omega (arith, within, ap length all) in

@@ -66,7 +66,12 @@ in_turn_more ways so_far at mid after (one ∷ front) b from events more
 pub in_turn_none : (ways : Ways) (events : List Event) (before : List Told) (e : Explainer)
     → HasExplained events before e → ExplainsInTurn ways [] events before e e
 in_turn_none ways events before e h =
-    ([], standing_of e, (refl, refl), explains_nothing events before (standing_of e) e e h refl (boxes_stay e e refl refl refl refl))
+    let stays = boxes_stay e e refl refl refl refl in (
+      [],
+      standing_of e,
+      (refl, refl),
+      explains_nothing events before (standing_of e) e e h refl stays,
+    )
 
 -- the one at this place
 pub alone_at : (bytes : List ℕ) (place : ℕ) → place < length bytes

@@ -73,7 +73,8 @@ returns-in_ok-answer_again-in-Some-clause-explained c = λ events before h.
     (ap (λ (e : Explainer). has_begun e.preface.stage) (sym same)
     ∙ ap has_begun (sym c.stage.ensures) ∙ sym c.has_begun-begun.ensures ∙ c.if-begun.true)
     (subst Q c.in-Some.is hears)
-    both.0 both.1 (λ es ts. again.explained es ts both.1) (take_rest bytes (start + place)) again.opened
+    both.0 both.1 (λ es ts. again.explained es ts both.1) (take_rest bytes (start + place))
+    again.opened
     (again.keeps.0 ∙ kept.3 ∙ opened.came ∙ c.came_after-self.ensures
     ∙ ap (λ (e : Explainer). came_after e.came bytes) same)
     (again.keeps.2 ∙ kept.5 ∙ opened.reading ∙ ap (λ (e : Explainer). e.reading) same)

@@ -36,8 +36,8 @@ returns-in-Ok-clause-explained c = λ events before h.
           c.tell_all.new.self stays.keeps stays.mask stays.counted stays.sheet
           (boxes_as (map told_by c.as_slice.result.now)
           (map told_by c.hear_all-heard.new.told.items) _ c.tell_all.new.self
-          (ap (map told_by) c.as_slice.ensures.value) c.in_ok-tell_all.ensures.boxes)) after.keeps after.mask
-          after.counted after.sheet,
+          (ap (map told_by) c.as_slice.ensures.value) c.in_ok-tell_all.ensures.boxes))
+          after.keeps after.mask after.counted after.sheet,
     )
 
 pub returns-in-NoDialogue-clause-explained : goal.returns-in-NoDialogue-clause-explained
@@ -74,6 +74,6 @@ returns-in-NoDialogue-clause-explained c = λ events before h.
           c.tell_all.new.self stays.keeps stays.mask stays.counted stays.sheet
           (boxes_as (map told_by c.as_slice.result.now)
           (map told_by c.hear_all-heard.new.told.items) _ c.tell_all.new.self
-          (ap (map told_by) c.as_slice.ensures.value) c.in_ok-tell_all.ensures.boxes)) after.keeps after.mask
-          after.counted after.sheet,
+          (ap (map told_by) c.as_slice.ensures.value) c.in_ok-tell_all.ensures.boxes))
+          after.keeps after.mask after.counted after.sheet,
     )

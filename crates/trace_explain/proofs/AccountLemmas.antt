@@ -1,17 +1,19 @@
 -- Boxes added behind others.
-use Rattle.std.proofs.Common.{◌≡◌, ℕ, ◌+◌, ◌<◌, ◌≤◌, List, [], ◌∷◌, ◌++◌, ◌∙◌, ap, append-nil, append_assoc, Bool, true, false, if◌then◌else◌, map, take, length, get_or, slice_index, arith, ◌==◌, ◌&&◌, refl, subst, sym}
+use Rattle.std.proofs.Common.{◌≡◌, ℕ, ◌+◌, ◌<◌, ◌≤◌, List, [], ◌∷◌, ◌++◌, ◌∙◌, ap, append-nil, append_assoc, Bool, true, false, if◌then◌else◌, Option, Some, None, map, take, length, get_or, slice_index, arith, ◌==◌, ◌&&◌, refl, subst, sym}
 use Rattle.std.proofs.lemmas.List.{length-append, map-append, take_all, take_more}
+use Rattle.std.specs.Io.KnownBytes.{Appends}
 use Rattle.std.specs.String.{string_bytes}
 use Rattle.trace_explain.specs.declared.explainer.Explainer.{Explainer}
 use Rattle.trace_explain.specs.declared.layout.Layout.{Layout}
 use Rattle.trace_explain.specs.declared.layout.Medium.{Medium}
 use Rattle.trace_explain.specs.declared.mask.Mask.{Mask}
 use Rattle.trace_explain.specs.declared.output.Output.{Output}
+use Rattle.trace_explain.specs.declared.reading.Reading.{Reading}
 use Rattle.trace_explain.specs.declared.sheet.Sheet.{Sheet}
 use Rattle.trace_explain.specs.declared.tpdu.Tpdu.{Tpdu}
 use Rattle.apdu_core.specs.HeaderBytes.{header_bytes}
 use Rattle.t0_core.specs.Front.{Front, In_header, In_body, After_first}
-use Rattle.trace_explain.specs.Account.{AddsBox, AddsBoxes, AddsText, AreBoxes, Boxed, ShowsTold, number_after, parts_in, told_in}
+use Rattle.trace_explain.specs.Account.{AddsBox, AddsBoxes, AddsText, AreBoxes, Boxed, HasWritten, Out, ShowsTold, WritesOut, WritesTold, number_after, out_with, parts_in, told_in}
 use Rattle.trace_explain.specs.Boxes.{PutsBox}
 use Rattle.trace_explain.specs.Noted.{as_ended, bared, ended_by, is_bare}
 use Rattle.trace_explain.specs.Sheets.{Joins}
@@ -247,3 +249,90 @@ boxes_same ts a b c d same keeps mask number sheet h =
 pub boxes_as : (ts us : List Told) (a b : Explainer) → ts ≡ us → AddsBoxes ts a b
     → AddsBoxes us a b
 boxes_as ts us a b e h = let P : List Told → Type 0 = λ x. AddsBoxes x a b in subst P e h
+
+-- more is written
+pub written_more : (front : Out) (ts us : List Told) (a b : Explainer)
+    → b.reading.of_tpdus ≡ false → HasWritten front ts a → AddsBoxes us a b
+    → HasWritten front (ts ++ us) b
+written_more front ts us a b hears h k = record {
+  hears = hears;
+  keeps = k.keeps ∙ h.keeps;
+  layout = k.layout ∙ h.layout;
+  hides = ap (λ (m : Mask). m.hides) k.mask ∙ h.hides;
+  shows = λ writes all w.
+      let next = k.adds (h.keeps ∙ writes) (ap (λ (l : Layout). l.is_summary) h.layout ∙ all) w in
+      let first = h.shows writes all next.whole in
+      let P : List ℕ → Type 0 = λ x. ShowsTold front.layout.medium front.hides 0 (ts ++ us) x
+      b.story.number in
+      let Q : Layout → Type 0 = λ l. ShowsTold l.medium a.mask.hides a.story.number us next.more
+      b.story.number in
+      let R : Bool → Type 0 = λ v. ShowsTold front.layout.medium v a.story.number us next.more
+      b.story.number in
+      subst P (append_assoc front.text (string_bytes a.output.sheet.text) next.more
+      ∙ ap (λ x. front.text ++ x) (sym next.text_is))
+      (shows_both front.layout.medium front.hides 0 a.story.number b.story.number ts us
+      (front.text ++ string_bytes a.output.sheet.text) next.more first
+      (subst R h.hides (subst Q h.layout next.shows)));
+}
+
+-- and written out
+pub written_out : (front : Out) (ts : List Told) (a b : Explainer) → b.reading ≡ a.reading
+    → WritesOut a b → HasWritten front ts a
+    → HasWritten (out_with front (string_bytes a.output.sheet.text)) ts b
+written_out front ts a b reading k h = record {
+  hears = ap (λ (r : Reading). r.of_tpdus) reading ∙ h.hears;
+  keeps = k.keeps ∙ h.keeps;
+  layout = k.layout ∙ h.layout;
+  hides = ap (λ (m : Mask). m.hides) k.mask ∙ h.hides;
+  shows = λ writes all w.
+      let first = h.shows writes all (sym k.is_cut ∙ w) in
+      let text : List ℕ = front.text ++ string_bytes a.output.sheet.text in
+      let P : List ℕ → Type 0 = λ x. ShowsTold front.layout.medium front.hides 0 ts x
+      a.story.number in
+      let S : ℕ → Type 0 = λ n. ShowsTold front.layout.medium front.hides 0 ts
+      (text ++ string_bytes b.output.sheet.text) n in
+      subst S (sym k.counted)
+      (subst P (sym (append-nil text) ∙ ap (λ x. text ++ x) (sym k.text)) first);
+}
+
+-- what a writer gets
+pub appends_none : (a : Option (List ℕ)) → Appends a a []
+appends_none None = tt
+appends_none (Some xs) = sym (append-nil xs)
+
+pub appends_both : (a b c : Option (List ℕ)) (x y : List ℕ) → Appends a b x → Appends b c y
+    → Appends a c (x ++ y)
+appends_both None b c x y h k = tt
+appends_both (Some xs) None c x y h k = absurd h
+appends_both (Some xs) (Some ys) None x y h k = absurd k
+appends_both (Some xs) (Some ys) (Some zs) x y h k =
+    k ∙ ap (λ t. t ++ y) h ∙ append_assoc xs x y
+
+-- at the end of a trace
+pub writes_told : (front : Out) (told : List Told) (layout : Layout) (hides : Bool)
+    (old mid new : Option (List ℕ)) (a b : Explainer) → front.keeps ≡ false
+    → front.layout ≡ layout → front.hides ≡ hides → Appends old mid front.text
+    → Appends mid new (string_bytes b.output.sheet.text) → HasWritten front told a
+    → (a.reading.of_tpdus ≡ false → AddsBoxes [] a b) → b.output.sheet.is_cut ≡ false
+    → b.reading.of_tpdus ≡ a.reading.of_tpdus → WritesTold layout hides old new told
+writes_told front told layout hides old mid new a b keeps layout_is hides_is first next h adds whole
+    reads = λ all.
+    let last = written_more front told [] a b (reads ∙ h.hears) h (adds h.hears) in
+    let shows = last.shows keeps (ap (λ (l : Layout). l.is_summary) layout_is ∙ all) whole in
+    let text : List ℕ = front.text ++ string_bytes b.output.sheet.text in
+    let P : List Told → Type 0 = λ ts. ShowsTold front.layout.medium front.hides 0 ts text
+    b.story.number in
+    let Q : Layout → Type 0 = λ l. ShowsTold l.medium front.hides 0 told text b.story.number in
+    let R : Bool → Type 0 = λ v. ShowsTold layout.medium v 0 told text b.story.number in (
+      text,
+      b.story.number,
+      appends_both old mid new front.text (string_bytes b.output.sheet.text) first next,
+      subst R hides_is (subst Q layout_is (subst P (append-nil told) shows)),
+    )
+
+-- nothing is written out yet
+pub none_out : (first : Out) (told : List Told) (e : Explainer) → HasWritten first told e
+    → HasWritten (out_with first []) told e
+none_out first told e h =
+    let P : List ℕ → Type 0 = λ x. HasWritten (record first { text = x }) told e in
+    subst P (sym (append-nil first.text)) h

@@ -1,7 +1,9 @@
 -- The boxes that are added, in turn, where TPDUs are told.
-use Rattle.std.specs.Prelude.{◌≡◌, ℕ, List, [], ◌∷◌, ◌++◌, Bool, false, if◌then◌else◌}
+use Rattle.std.specs.Prelude.{◌≡◌, ℕ, List, [], ◌∷◌, ◌++◌, Bool, false, if◌then◌else◌, Option}
+use Rattle.std.specs.Io.KnownBytes.{Appends}
 use Rattle.std.specs.String.{string_bytes}
 use Rattle.trace_explain.specs.declared.explainer.Explainer.{Explainer}
+use Rattle.trace_explain.specs.declared.layout.Layout.{Layout}
 use Rattle.trace_explain.specs.declared.layout.Medium.{Medium}
 use Rattle.trace_explain.specs.declared.sheet.Sheet.{Sheet}
 use Rattle.trace_explain.specs.Boxes.{IsBox, PutsBox}
@@ -78,3 +80,42 @@ pub record StaysWritten (old new : Explainer) : Type 0 where
   pub mask : new.mask ≡ old.mask
   pub counted : new.story.number ≡ old.story.number
   pub sheet : new.output.sheet ≡ old.output.sheet
+
+-- how an explainer writes, and what of it is written out already
+pub record Out : Type 0 where
+  pub keeps : Bool
+  pub layout : Layout
+  pub hides : Bool
+  pub text : List ℕ
+
+-- What was written has shown these whole TPDUs, since the explainer was made; it reads characters.
+pub record HasWritten (out : Out) (told : List Told) (e : Explainer) : Type 0 where
+  pub hears : e.reading.of_tpdus ≡ false
+  pub keeps : e.keeps ≡ out.keeps
+  pub layout : e.output.sheet.layout ≡ out.layout
+  pub hides : e.mask.hides ≡ out.hides
+  pub shows : out.keeps ≡ false → out.layout.is_summary ≡ false → e.output.sheet.is_cut ≡ false
+      → ShowsTold out.layout.medium out.hides 0 told
+      (out.text ++ string_bytes e.output.sheet.text) e.story.number
+
+-- the same with more written out
+abbrev pub out_with : Out → List ℕ → Out
+out_with out more = record out { text = out.text ++ more }
+
+abbrev pub first_out : Layout → Bool → Out
+first_out layout hides = record { keeps = false; layout = layout; hides = hides; text = [] }
+
+-- What a writer got, behind what it had, shows these whole TPDUs in turn, where it is known and no
+-- summary alone is asked for.
+abbrev pub WritesTold : Layout → Bool → Option (List ℕ) → Option (List ℕ) → List Told → Type 0
+WritesTold layout hides old new told = layout.is_summary ≡ false → (text : List ℕ) × (number : ℕ)
+    × Appends old new text × ShowsTold layout.medium hides 0 told text number
+
+-- all of it is written out
+pub record WritesOut (old new : Explainer) : Type 0 where
+  pub keeps : new.keeps ≡ old.keeps
+  pub mask : new.mask ≡ old.mask
+  pub counted : new.story.number ≡ old.story.number
+  pub layout : new.output.sheet.layout ≡ old.output.sheet.layout
+  pub is_cut : new.output.sheet.is_cut ≡ old.output.sheet.is_cut
+  pub text : string_bytes new.output.sheet.text ≡ []

@@ -44,17 +44,21 @@ abbrev pub SayAll : Reading → List (List ℕ) → List Event → Standing → 
 SayAll reading lines events after = SayInTurn [] (first_of_all reading) lines events after
 
 -- All events of these lines have been heard, and each whole dialogue in them was told, in turn;
--- behind them the trace stands here.
-pub record IsExplained (reading : Reading) (all : List (List ℕ)) (at : Standing) : Type 0 where
+-- behind them the trace stands here. Of those that were told this holds: what is written shows
+-- them.
+pub record IsExplained (IsShown : List Told → Type 0) (reading : Reading) (all : List (List ℕ))
+    (at : Standing) : Type 0 where
   pub events : List Event
   pub says : SayAll reading all events at
   pub told : List Told
   pub listener : Listener
   pub noted : HasNoted events told listener
+  pub is_shown : IsShown told
 
 -- and at least one of them had a character
-abbrev pub IsWhole : Reading → List (List ℕ) → Type 0
-IsWhole reading all = (at : Standing) × IsExplained reading all at × (at.came ≡ true)
+abbrev pub IsWhole : (List Told → Type 0) → Reading → List (List ℕ) → Type 0
+IsWhole IsShown reading all =
+    (at : Standing) × IsExplained IsShown reading all at × (at.came ≡ true)
 
 -- no line of these has a character of either end
 abbrev pub SayNoCharacters : Reading → List (List ℕ) → Type 0

@@ -6,15 +6,16 @@ use Rattle.trace_explain.specs.declared.explain_fault.ExplainFault.{ExplainFault
 use Rattle.trace_explain.specs.declared.explain_fault.ExplainFault.TheVariants as fault
 use Rattle.trace_explain.specs.declared.explainer.Explainer.{Explainer}
 use Rattle.trace_explain.specs.declared.reading.Reading.{Reading}
+use Rattle.trace_explain.specs.Account.{HasWritten, Out}
 use Rattle.trace_explain.specs.Explained.{HasExplained, next_line, standing_of}
 use Rattle.trace_explain.specs.Openings.{Opening, dialogue_in, has_begun, opened}
 use Rattle.trace_explain.specs.Told.{Told}
 use Rattle.trace_explain.specs.Trace.{SayAll, lines_from, number_behind}
 
 -- Of all lines those so far are explained; of the next this much has come, and these bytes are
--- left.
-pub record HasCome (reading : Reading) (all : List (List ℕ)) (line left : List ℕ) (e : Explainer)
-    : Type 0 where
+-- left. This much is written out.
+pub record HasCome (front : Out) (reading : Reading) (all : List (List ℕ))
+    (line left : List ℕ) (e : Explainer) : Type 0 where
   pub before : List (List ℕ)
   pub is_cut : all ≡ before ++ lines_from line left
   pub number_is : next_line e ≡ number_behind before
@@ -22,6 +23,7 @@ pub record HasCome (reading : Reading) (all : List (List ℕ)) (line left : List
   pub says : SayAll reading before events (standing_of e)
   pub told : List Told
   pub explained : HasExplained events told e
+  pub written : HasWritten front told e
 
 -- faults that lines and their characters have
 abbrev pub IsOfLines : ExplainFault → Type 0

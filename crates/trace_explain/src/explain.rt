@@ -1,7 +1,10 @@
 //! A whole trace.
 ghost use Rattle.std.specs.Prelude.{◌≡◌, ◌++◌, ◌∷◌, List, [], ℕ, false, IfErr, IfSome, OnOk};
+ghost use Rattle.std.specs.Io.KnownBytes.{Appends};
+ghost use Rattle.std.specs.String.{string_bytes};
 ghost use Rattle.std.specs.Str.Lines.{strip_carriage_return};
 ghost use Rattle.trace_explain.specs.declared.reading.Reading.{Reading};
+ghost use Rattle.trace_explain.specs.Account.{HasWritten, Out, WritesOut, WritesTold, out_with};
 ghost use Rattle.trace_explain.specs.Explained.{HasExplained, KeepsAll, standing_of};
 ghost use Rattle.trace_explain.specs.Lines.{first_of_all};
 ghost use Rattle.trace_explain.specs.Trace.{IsExplained, IsOfWriting, IsWhole, KeepsLimit, StopsIn, lines_of};
@@ -35,7 +38,9 @@ pub fn explain<R: Read, W: Write>(
     writer: &mut W,
 ) -> Result<(), ExplainFault>
     ensures explained { resumes ≡ false → reading.of_tpdus ≡ false →
-        OnOk result (IfSome (R.remaining reader.old) (λ bytes. IsWhole reading (lines_of bytes))) }
+        OnOk result (IfSome (R.remaining reader.old) (λ bytes. IsWhole
+        (WritesTold layout mask.hides (W.contents writer.old) (W.contents writer.new)) reading
+        (lines_of bytes))) }
     ensures stops { resumes ≡ false → reading.of_tpdus ≡ false → IfErr result (λ fault.
         IfSome (R.remaining reader.old) (λ bytes. StopsIn reading (lines_of bytes) fault)) }
     ensures limited { IfSome (R.remaining reader.old) (λ bytes. KeepsLimit bytes result) }
@@ -45,6 +50,7 @@ pub fn explain<R: Read, W: Write>(
     explainer.end()?;
     write_output(&mut explainer, writer)?;
     outcome?;
+    explainer.is_written()?;
     explainer.outcome()
 }
 
@@ -55,13 +61,18 @@ fn explain_chunks<R: Read, W: Write>(
     reader: &mut R,
     writer: &mut W,
 ) -> Result<(), ExplainFault>
-    ensures explained { (reading : Reading) → HasExplained [] [] explainer.old →
+    ensures explained { (first : Out) (reading : Reading) →
+        HasExplained [] [] explainer.old →
         standing_of explainer.old ≡ first_of_all reading → explainer.old.line ≡ 0 →
-        OnOk result (IfSome (R.remaining reader.old) (λ bytes.
-        IsExplained reading (lines_of bytes) (standing_of explainer.new))) }
-    ensures stops { (reading : Reading) → HasExplained [] [] explainer.old →
+        HasWritten first [] explainer.old →
+        OnOk result (IfSome (R.remaining reader.old) (λ bytes. IsExplained
+        (λ told. (more : List ℕ) × Appends (W.contents writer.old) (W.contents writer.new) more
+        × HasWritten (out_with first more) told explainer.new)
+        reading (lines_of bytes) (standing_of explainer.new))) }
+    ensures stops { (first : Out) (reading : Reading) →
+        HasExplained [] [] explainer.old →
         standing_of explainer.old ≡ first_of_all reading → explainer.old.line ≡ 0 →
-        IfErr result (λ fault.
+        HasWritten first [] explainer.old → IfErr result (λ fault.
         IfSome (R.remaining reader.old) (λ bytes. StopsIn reading (lines_of bytes) fault)) }
     ensures limited { IfSome (R.remaining reader.old) (λ bytes. KeepsLimit bytes result) }
 {
@@ -88,11 +99,11 @@ pub fn explain_chunk(
     chunk: &[u8],
     line: &mut Vec<u8>,
 ) -> Result<(), ExplainFault>
-    ensures explained { (reading : Reading) (all : List (List ℕ)) (left : List ℕ) →
-        HasCome reading all line.old.items (chunk.now ++ left) explainer.old →
-        OnOk result (HasCome reading all line.new.items left explainer.new) }
-    ensures stops { (reading : Reading) (all : List (List ℕ)) (left : List ℕ) →
-        HasCome reading all line.old.items (chunk.now ++ left) explainer.old →
+    ensures explained { (front : Out) (reading : Reading) (all : List (List ℕ)) (left : List ℕ) →
+        HasCome front reading all line.old.items (chunk.now ++ left) explainer.old →
+        OnOk result (HasCome front reading all line.new.items left explainer.new) }
+    ensures stops { (front : Out) (reading : Reading) (all : List (List ℕ)) (left : List ℕ) →
+        HasCome front reading all line.old.items (chunk.now ++ left) explainer.old →
         IfErr result (StopsIn reading all) }
     ensures of_lines { IfErr result IsOfLines }
 {
@@ -120,11 +131,12 @@ fn push(line: &mut Vec<u8>, byte: u8) -> Result<(), AllocError>
 
 /// Explains the last line, where it has no LF.
 pub fn explain_last(explainer: &mut Explainer, line: &[u8]) -> Result<(), ExplainFault>
-    ensures explained { (reading : Reading) (all : List (List ℕ)) →
-        HasCome reading all line.now [] explainer.old →
-        OnOk result (IsExplained reading all (standing_of explainer.new)) }
-    ensures stops { (reading : Reading) (all : List (List ℕ)) →
-        HasCome reading all line.now [] explainer.old → IfErr result (StopsIn reading all) }
+    ensures explained { (front : Out) (reading : Reading) (all : List (List ℕ)) →
+        HasCome front reading all line.now [] explainer.old →
+        OnOk result (IsExplained (λ told. HasWritten front told explainer.new) reading all
+        (standing_of explainer.new)) }
+    ensures stops { (front : Out) (reading : Reading) (all : List (List ℕ)) →
+        HasCome front reading all line.now [] explainer.old → IfErr result (StopsIn reading all) }
     ensures of_lines { IfErr result IsOfLines }
 {
     if line.is_empty() {
@@ -146,6 +158,9 @@ fn without_return(line: &[u8]) -> &[u8]
 /// Writes what is told, and forgets it.
 fn write_output<W: Write>(explainer: &mut Explainer, writer: &mut W) -> Result<(), ExplainFault>
     ensures keeps { KeepsAll explainer.old explainer.new }
+    ensures out { WritesOut explainer.old explainer.new }
+    ensures written { OnOk result (Appends (W.contents writer.old) (W.contents writer.new)
+        (string_bytes explainer.old.output.sheet.text)) }
     ensures fault { IfErr result IsOfWriting }
 {
     let outcome = writer.write_all(explainer.output.as_str().as_bytes());

@@ -7,7 +7,7 @@ ghost use Rattle.t0_core.specs.Character.{sent_by};
 ghost use Rattle.t0_core.specs.History.{Event, Reset, passed};
 ghost use Rattle.t0_core.specs.TapSide.{due_at};
 ghost use Rattle.trace_explain.specs.Explained.{HasExplained, ExplainsCharacters, ExplainsMore, ExplainsReset, ExplainsLine, ExplainsSigned, ExplainsUnsigned, ExplainsInTurn, HearsUpTo, StopsRightly, StopsAtLine, StopsAtSigned, StopsAtUnsigned, StopsInTurn, Stopped, KeepsAll, KeepsHeard, is_astray, next_line, refused, standing_of};
-ghost use Rattle.trace_explain.specs.Account.{AddsBox, AddsBoxes, StaysWritten};
+ghost use Rattle.trace_explain.specs.Account.{AddsBox, AddsBoxes, HasWritten, StaysWritten, first_out};
 ghost use Rattle.trace_explain.specs.Trace.{IsOfEnd};
 ghost use Rattle.trace_explain.specs.UnderWay.{IsOfLines, OpensUpTo};
 ghost use Rattle.trace_explain.specs.Lines.{came_after, first_of_all};
@@ -86,6 +86,8 @@ impl Explainer {
     ) -> Explainer
         ensures explained { resumes ≡ false → reading.of_tpdus ≡ false →
             HasExplained [] [] result }
+        ensures blank { reading.of_tpdus ≡ false →
+            HasWritten (first_out layout mask.hides) [] result }
         ensures standing { standing_of result ≡ first_of_all reading }
         ensures line { result.line ≡ 0 }
     {
@@ -735,6 +737,7 @@ impl Explainer {
         ensures cut_off { (events : List Event) (before : List Told) →
             HasExplained events before self.old →
             OnOk result (ExplainsReset events before self.old self.new) }
+        ensures shown { OnOk result (AddsBoxes [] self.old self.new) }
         ensures keeps { OnOk result ((self.new.preface ≡ self.old.preface)
             × (self.new.came ≡ self.old.came)
             × (self.new.resumes ≡ self.old.resumes)
@@ -778,10 +781,19 @@ impl Explainer {
         }
     }
 
+    /// Whether all that was told was written. The error is want of memory.
+    pub fn is_written(&self) -> Result<(), AllocError>
+        ensures { OnOk result (self.now.output.sheet.is_cut ≡ false) }
+    {
+        self.output.is_whole()
+    }
+
     /// Explains what is under way where the trace ends, and adds the last block; nothing where what
     /// was told ends within a line, since memory was wanting there.
     pub fn end(&mut self) -> Result<(), AllocError>
-        ensures { OnOk result (standing_of self.new ≡ standing_of self.old) }
+        ensures stands { OnOk result (standing_of self.new ≡ standing_of self.old) }
+        ensures adds { self.old.reading.of_tpdus ≡ false →
+            OnOk result (AddsBoxes [] self.old self.new) }
     {
         self.output.join();
         if ends_within_line(self.output.as_str()) {
@@ -801,10 +813,14 @@ impl Explainer {
         self.output.outcome()
     }
 
-    /// Tells what is open where a log ends.
+    /// Tells what is open where a log ends: nothing in a trace of characters.
     fn end_log(&mut self) -> Result<(), AllocError>
-        ensures { OnOk result (KeepsAll self.old self.new) }
+        ensures keeps { OnOk result (KeepsAll self.old self.new) }
+        ensures none { self.old.reading.of_tpdus ≡ false → self.new ≡ self.old }
     {
+        if !self.reading.of_tpdus {
+            return Ok(());
+        }
         let mut logged = Vec::new(self.alloc);
         self.log.end(&mut logged)?;
         for one in logged.as_slice() {

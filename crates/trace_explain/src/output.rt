@@ -70,6 +70,13 @@ impl Output {
         self.sheet.clear();
     }
 
+    /// Whether all is there that is joined. The error is want of memory.
+    pub fn is_whole(&self) -> Result<(), AllocError>
+        ensures { OnOk result (self.now.sheet.is_cut ≡ false) }
+    {
+        self.sheet.is_whole()
+    }
+
     /// Joins the words, and answers whether all is there. The error is want of memory, of which it
     /// tells once.
     pub fn outcome(&mut self) -> Result<(), AllocError>

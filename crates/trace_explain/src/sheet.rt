@@ -116,6 +116,13 @@ impl Sheet {
         self.text.clear();
     }
 
+    /// Whether all is there. The error is want of memory.
+    pub fn is_whole(&self) -> Result<(), AllocError>
+        ensures { OnOk result (self.now.is_cut ≡ false) }
+    {
+        if self.is_cut { Err(AllocError) } else { Ok(()) }
+    }
+
     /// Whether all that was added is there. The error is want of memory, of which it tells once.
     pub fn outcome(&mut self) -> Result<(), AllocError>
         ensures layout { self.new.layout ≡ self.old.layout }

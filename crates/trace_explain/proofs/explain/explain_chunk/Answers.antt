@@ -7,34 +7,35 @@ use Rattle.trace_explain.proofs.explain.explain_chunk.Goals as goal
 use Rattle.trace_explain.proofs.explain.explain_chunk.Goals.{then-byte-eq10+in_ok-line, else-byte-eq10+then-len-lt-LINE_LIMIT+in_ok-push}
 
 pub returns-in_err-line-clause-stops : goal.returns-in_err-line-clause-stops
-returns-in_err-line-clause-stops c = λ reading all left come.
+returns-in_err-line-clause-stops c = λ front reading all left come.
     let i = c.loop-byte.byte-index in
-    fed_stops reading c.from_residual.result c.in_err-line.field-0.0 all c.loop-byte.line.items
+    fed_stops front reading c.from_residual.result c.in_err-line.field-0.0 all
+    c.loop-byte.line.items
     c.without_return.result.now (drop (i + 1) c.args.chunk.now ++ left) _ _ c.loop-byte.explainer
-    c.from_residual.ensures.1 (c.loop-byte.invariant reading all left come)
+    c.from_residual.ensures.1 (c.loop-byte.invariant front reading all left come)
     (next_byte c.args.chunk.now left i c.loop-byte-test.true) c.if-byte-eq10.true
     (c.without_return.ensures ∙ ap strip_carriage_return c.as_slice.ensures.value)
     c.in_err-line.ensures.stops
 
 pub loop-byte-preserved : goal.loop-byte-preserved
-loop-byte-preserved c = λ reading all left come.
+loop-byte-preserved c = λ front reading all left come.
     let i = c.loop-byte.byte-index in
-    let before = c.loop-byte.invariant reading all left come in
+    let before = c.loop-byte.invariant front reading all left come in
     let next = next_byte c.args.chunk.now left i c.loop-byte-test.true in
     elim c.if-byte-eq10.branch [
       | then-byte-eq10+in_ok-line w ↦
-          let P : List ℕ → Type 0 = λ line. HasCome reading all line
+          let P : List ℕ → Type 0 = λ line. HasCome front reading all line
           (drop (i + 1) c.args.chunk.now ++ left)
           w.line.new.self in
           rw (w.explainer-is) (subst P (sym (ap (λ r. r.items) w.line-is ∙ w.clear.ensures.items))
-          (line_fed reading all c.loop-byte.line.items w.without_return.result.now
+          (line_fed front reading all c.loop-byte.line.items w.without_return.result.now
           (drop (i + 1) c.args.chunk.now ++ left) _ _ c.loop-byte.explainer w.line.new.self before
           w.in_ok-line.ensures.counts next
           w.if-byte-eq10.true
           (w.without_return.ensures ∙ ap strip_carriage_return w.as_slice.ensures.value)
           w.in_ok-line.ensures.explained))
       | else-byte-eq10+then-len-lt-LINE_LIMIT+in_ok-push w ↦
-          rw (w.explainer-is) (byte_more reading all c.loop-byte.line.items
+          rw (w.explainer-is) (byte_more front reading all c.loop-byte.line.items
           c.if-byte-eq10.line.items
           (drop (i + 1) c.args.chunk.now ++ left) _ _ c.loop-byte.explainer before next
           (ne_eqb _ 10 w.if-byte-eq10.false)
@@ -42,14 +43,15 @@ loop-byte-preserved c = λ reading all left come.
     ]
 
 pub returns-clause-explained : goal.returns-clause-explained
-returns-clause-explained c = λ reading all left come.
-    none_of_chunk reading all c.loop-byte.line.items c.args.chunk.now left c.loop-byte.byte-index
-    c.loop-byte.explainer c.loop-byte-test.false (c.loop-byte.invariant reading all left come)
+returns-clause-explained c = λ front reading all left come.
+    none_of_chunk front reading all c.loop-byte.line.items c.args.chunk.now left
+    c.loop-byte.byte-index
+    c.loop-byte.explainer c.loop-byte-test.false (c.loop-byte.invariant front reading all left come)
 
 pub returns-else-len-lt-LINE_LIMIT-clause-stops : goal.returns-else-len-lt-LINE_LIMIT-clause-stops
-returns-else-len-lt-LINE_LIMIT-clause-stops c = λ reading all left come.
+returns-else-len-lt-LINE_LIMIT-clause-stops c = λ front reading all left come.
     let i = c.loop-byte.byte-index in
-    too_long reading all c.loop-byte.line.items _ (drop (i + 1) c.args.chunk.now ++ left) _
-    c.next_line.result c.loop-byte.explainer (c.loop-byte.invariant reading all left come)
+    too_long front reading all c.loop-byte.line.items _ (drop (i + 1) c.args.chunk.now ++ left) _
+    c.next_line.result c.loop-byte.explainer (c.loop-byte.invariant front reading all left come)
     (next_byte c.args.chunk.now left i c.loop-byte-test.true) (ne_eqb _ 10 c.if-byte-eq10.false)
     (omega (arith, c.if-len-lt-LINE_LIMIT.false, c.len.ensures)) c.next_line.ensures

@@ -3,17 +3,18 @@ use Rattle.trace_explain.proofs.TraceLemmas.{none_is_left, last_explained, last_
 use Rattle.trace_explain.proofs.explain.explain_last.Goals as goal
 
 pub returns-then-is_empty-clause-explained : goal.returns-then-is_empty-clause-explained
-returns-then-is_empty-clause-explained c = λ reading all come.
-    none_is_left reading all c.args.line.now c.args.explainer.now
+returns-then-is_empty-clause-explained c = λ front reading all come.
+    none_is_left front reading all c.args.line.now c.args.explainer.now
     (sym c.is_empty.ensures ∙ c.if-is_empty.true) come
 
 pub returns-clause-explained : goal.returns-clause-explained
-returns-clause-explained c = λ reading all come.
-    last_explained reading c.line.result all c.args.line.now c.args.explainer.now c.line.new.self
+returns-clause-explained c = λ front reading all come.
+    last_explained front reading c.line.result all c.args.line.now c.args.explainer.now
+    c.line.new.self
     (sym c.is_empty.ensures ∙ c.if-is_empty.false) come c.line.ensures.counts
     c.line.ensures.explained
 
 pub returns-clause-stops : goal.returns-clause-stops
-returns-clause-stops c = λ reading all come.
-    last_stops reading c.line.result all c.args.line.now c.args.explainer.now
+returns-clause-stops c = λ front reading all come.
+    last_stops front reading c.line.result all c.args.line.now c.args.explainer.now
     (sym c.is_empty.ensures ∙ c.if-is_empty.false) come c.line.ensures.stops

@@ -1,4 +1,4 @@
-use Rattle.std.proofs.Common.{List, ◌++◌, ◌∷◌, [], ◌∙◌, ap, refl, subst, sym, length}
+use Rattle.std.proofs.Common.{List, ◌++◌, ◌∷◌, [], ◌∙◌, ap, refl, subst, sym, length, false}
 use Rattle.std.proofs.lemmas.Bool.{eqb-true}
 use Rattle.t0_core.specs.History as history
 use Rattle.trace_explain.specs.declared.listener.Listener.{Listener}
@@ -7,7 +7,7 @@ use Rattle.trace_explain.specs.Account.{AddsBoxes}
 use Rattle.trace_explain.specs.Noted.{HasNoted, ended_by, is_bare}
 use Rattle.trace_explain.specs.Told.{Told, told_by}
 use Rattle.trace_explain.proofs.AccountLemmas.{boxes_ended, boxes_from, boxes_stay, none_ended}
-use Rattle.trace_explain.proofs.ExplainedLemmas.{on_ok_both}
+use Rattle.trace_explain.proofs.ExplainedLemmas.{on_ok_both, on_ok_too}
 use Rattle.trace_explain.proofs.explainer.Explainer.cut_off.Goals as goal
 
 pub returns-then-is_empty-clause-cut_off : goal.returns-then-is_empty-clause-cut_off
@@ -49,3 +49,7 @@ returns-clause-cut_off c = λ events before h.
           (boxes_ended t (told_by c.reset-part.result) _ c.tell_one.new.self
           c.reset-part.ensures.part boxes),
     ))
+
+pub returns-clause-shown : goal.returns-clause-shown
+returns-clause-shown c = on_ok_too c.tell_one.result _ _ (c.tell_one.ensures.boxes false)
+    (λ h. boxes_from [] c.args.self.now _ c.tell_one.new.self refl refl refl refl h)

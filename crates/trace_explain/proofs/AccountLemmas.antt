@@ -22,10 +22,10 @@ use Rattle.trace_explain.specs.Written.{InTurn}
 use Rattle.trace_explain.proofs.BoxLemmas.{in_turn_both}
 use Rattle.trace_explain.proofs.SheetLemmas.{adds_nothing}
 
-are_both : (m : Medium) (hides : Bool) (n : ℕ) (xs ys : List Boxed) → AreBoxes m hides n xs
-    → AreBoxes m hides (number_after n xs) ys → AreBoxes m hides n (xs ++ ys)
-are_both m hides n [] ys h k = k
-are_both m hides n (x ∷ xs) ys (is, h) k = (is, are_both m hides (one_more n) xs ys h k)
+are_both : (m : Medium) (mask : Mask) (n : ℕ) (xs ys : List Boxed) → AreBoxes m mask n xs
+    → AreBoxes m mask (number_after n xs) ys → AreBoxes m mask n (xs ++ ys)
+are_both m mask n [] ys h k = k
+are_both m mask n (x ∷ xs) ys (is, h) k = (is, are_both m mask (one_more n) xs ys h k)
 
 number_both : (n : ℕ) (xs ys : List Boxed)
     → number_after n (xs ++ ys) ≡ number_after (number_after n xs) ys
@@ -43,15 +43,15 @@ parts_both [] ys = refl
 parts_both (x ∷ xs) ys = ap (λ t. x.parts ++ t) (parts_both xs ys)
     ∙ sym (append_assoc x.parts (parts_in xs) (parts_in ys))
 
-shows_both : (m : Medium) (hides : Bool) (n k l : ℕ) (ts us : List Told) (x y : List ℕ)
-    → ShowsTold m hides n ts x k → ShowsTold m hides k us y l
-    → ShowsTold m hides n (ts ++ us) (x ++ y) l
-shows_both m hides n k l ts us x y h i =
-    let P : ℕ → Type 0 = λ z. AreBoxes m hides z i.boxes in
+shows_both : (m : Medium) (mask : Mask) (n k l : ℕ) (ts us : List Told) (x y : List ℕ)
+    → ShowsTold m mask n ts x k → ShowsTold m mask k us y l
+    → ShowsTold m mask n (ts ++ us) (x ++ y) l
+shows_both m mask n k l ts us x y h i =
+    let P : ℕ → Type 0 = λ z. AreBoxes m mask z i.boxes in
     let Q : List (List ℕ) → Type 0 = λ ps. InTurn ps (x ++ y) in
     record {
       boxes = h.boxes ++ i.boxes;
-      are = are_both m hides n h.boxes i.boxes h.are (subst P h.after_is i.are);
+      are = are_both m mask n h.boxes i.boxes h.are (subst P h.after_is i.are);
       told_is = ap (λ t. t ++ us) h.told_is ∙ ap (λ t. told_in h.boxes ++ t) i.told_is
           ∙ sym (told_both h.boxes i.boxes);
       after_is = i.after_is ∙ ap (λ z. number_after z i.boxes) h.after_is
@@ -68,9 +68,9 @@ boxes_both ts us a b c h k = record {
   mask = k.mask ∙ h.mask;
   layout = k.layout ∙ h.layout;
   adds = λ writes all w.
-      let P : Layout → Type 0 = λ l. AddsText l.medium b.mask.hides b.story.number us c.story.number
+      let P : Layout → Type 0 = λ l. AddsText l.medium b.mask b.story.number us c.story.number
       b.output.sheet c.output.sheet in
-      let Q : Mask → Type 0 = λ m. AddsText a.output.sheet.layout.medium m.hides b.story.number us
+      let Q : Mask → Type 0 = λ m. AddsText a.output.sheet.layout.medium m b.story.number us
       c.story.number b.output.sheet c.output.sheet in
       let next = subst Q h.mask (subst P h.layout (k.adds (h.keeps ∙ writes)
       (ap (λ (l : Layout). l.is_summary) h.layout ∙ all) w)) in
@@ -80,7 +80,7 @@ boxes_both ts us a b c h k = record {
         more = first.more ++ next.more;
         text_is = next.text_is ∙ ap (λ t. t ++ next.more) first.text_is
             ∙ append_assoc (string_bytes a.output.sheet.text) first.more next.more;
-        shows = shows_both a.output.sheet.layout.medium a.mask.hides a.story.number b.story.number
+        shows = shows_both a.output.sheet.layout.medium a.mask a.story.number b.story.number
             c.story.number ts us first.more next.more first.shows next.shows;
       };
 }
@@ -110,11 +110,11 @@ boxes_one whole t number a b c keeps mask output counted number_is h = record {
   mask = h.mask ∙ mask;
   layout = h.layout ∙ ap (λ (o : Output). o.sheet.layout) output;
   adds = λ writes all w.
-      let P : Output → Type 0 = λ o. PutsBox b.mask.hides number b.began t o.sheet
+      let P : Output → Type 0 = λ o. PutsBox b.mask number b.began t o.sheet
       c.output.sheet in
-      let Q : Mask → Type 0 = λ m. PutsBox m.hides number b.began t a.output.sheet
+      let Q : Mask → Type 0 = λ m. PutsBox m number b.began t a.output.sheet
       c.output.sheet in
-      let R : ℕ → Type 0 = λ n. PutsBox a.mask.hides n b.began t a.output.sheet c.output.sheet in
+      let R : ℕ → Type 0 = λ n. PutsBox a.mask n b.began t a.output.sheet c.output.sheet in
       let (parts, is_box, puts) = subst R (number_is ∙ counted) (subst Q mask (subst P output
       (h.box (keeps ∙ writes)
       (ap (λ (o : Output). o.sheet.layout.is_summary) output ∙ all)))) in
@@ -258,21 +258,21 @@ written_more front ts us a b hears h k = record {
   hears = hears;
   keeps = k.keeps ∙ h.keeps;
   layout = k.layout ∙ h.layout;
-  hides = ap (λ (m : Mask). m.hides) k.mask ∙ h.hides;
+  mask = k.mask ∙ h.mask;
   shows = λ writes all w.
       let next = k.adds (h.keeps ∙ writes) (ap (λ (l : Layout). l.is_summary) h.layout ∙ all) w in
       let first = h.shows writes all next.whole in
-      let P : List ℕ → Type 0 = λ x. ShowsTold front.layout.medium front.hides 0 (ts ++ us) x
+      let P : List ℕ → Type 0 = λ x. ShowsTold front.layout.medium front.mask 0 (ts ++ us) x
       b.story.number in
-      let Q : Layout → Type 0 = λ l. ShowsTold l.medium a.mask.hides a.story.number us next.more
+      let Q : Layout → Type 0 = λ l. ShowsTold l.medium a.mask a.story.number us next.more
       b.story.number in
-      let R : Bool → Type 0 = λ v. ShowsTold front.layout.medium v a.story.number us next.more
+      let R : Mask → Type 0 = λ v. ShowsTold front.layout.medium v a.story.number us next.more
       b.story.number in
       subst P (append_assoc front.text (string_bytes a.output.sheet.text) next.more
       ∙ ap (λ x. front.text ++ x) (sym next.text_is))
-      (shows_both front.layout.medium front.hides 0 a.story.number b.story.number ts us
+      (shows_both front.layout.medium front.mask 0 a.story.number b.story.number ts us
       (front.text ++ string_bytes a.output.sheet.text) next.more first
-      (subst R h.hides (subst Q h.layout next.shows)));
+      (subst R h.mask (subst Q h.layout next.shows)));
 }
 
 -- and written out
@@ -283,13 +283,13 @@ written_out front ts a b reading k h = record {
   hears = ap (λ (r : Reading). r.of_tpdus) reading ∙ h.hears;
   keeps = k.keeps ∙ h.keeps;
   layout = k.layout ∙ h.layout;
-  hides = ap (λ (m : Mask). m.hides) k.mask ∙ h.hides;
+  mask = k.mask ∙ h.mask;
   shows = λ writes all w.
       let first = h.shows writes all (sym k.is_cut ∙ w) in
       let text : List ℕ = front.text ++ string_bytes a.output.sheet.text in
-      let P : List ℕ → Type 0 = λ x. ShowsTold front.layout.medium front.hides 0 ts x
+      let P : List ℕ → Type 0 = λ x. ShowsTold front.layout.medium front.mask 0 ts x
       a.story.number in
-      let S : ℕ → Type 0 = λ n. ShowsTold front.layout.medium front.hides 0 ts
+      let S : ℕ → Type 0 = λ n. ShowsTold front.layout.medium front.mask 0 ts
       (text ++ string_bytes b.output.sheet.text) n in
       subst S (sym k.counted)
       (subst P (sym (append-nil text) ∙ ap (λ x. text ++ x) (sym k.text)) first);
@@ -309,25 +309,25 @@ appends_both (Some xs) (Some ys) (Some zs) x y h k =
     k ∙ ap (λ t. t ++ y) h ∙ append_assoc xs x y
 
 -- at the end of a trace
-pub writes_told : (front : Out) (told : List Told) (layout : Layout) (hides : Bool)
+pub writes_told : (front : Out) (told : List Told) (layout : Layout) (mask : Mask)
     (old mid new : Option (List ℕ)) (a b : Explainer) → front.keeps ≡ false
-    → front.layout ≡ layout → front.hides ≡ hides → Appends old mid front.text
+    → front.layout ≡ layout → front.mask ≡ mask → Appends old mid front.text
     → Appends mid new (string_bytes b.output.sheet.text) → HasWritten front told a
     → (a.reading.of_tpdus ≡ false → AddsBoxes [] a b) → b.output.sheet.is_cut ≡ false
-    → b.reading.of_tpdus ≡ a.reading.of_tpdus → WritesTold layout hides old new told
-writes_told front told layout hides old mid new a b keeps layout_is hides_is first next h adds whole
+    → b.reading.of_tpdus ≡ a.reading.of_tpdus → WritesTold layout mask old new told
+writes_told front told layout mask old mid new a b keeps layout_is mask_is first next h adds whole
     reads = λ all.
     let last = written_more front told [] a b (reads ∙ h.hears) h (adds h.hears) in
     let shows = last.shows keeps (ap (λ (l : Layout). l.is_summary) layout_is ∙ all) whole in
     let text : List ℕ = front.text ++ string_bytes b.output.sheet.text in
-    let P : List Told → Type 0 = λ ts. ShowsTold front.layout.medium front.hides 0 ts text
+    let P : List Told → Type 0 = λ ts. ShowsTold front.layout.medium front.mask 0 ts text
     b.story.number in
-    let Q : Layout → Type 0 = λ l. ShowsTold l.medium front.hides 0 told text b.story.number in
-    let R : Bool → Type 0 = λ v. ShowsTold layout.medium v 0 told text b.story.number in (
+    let Q : Layout → Type 0 = λ l. ShowsTold l.medium front.mask 0 told text b.story.number in
+    let R : Mask → Type 0 = λ v. ShowsTold layout.medium v 0 told text b.story.number in (
       text,
       b.story.number,
       appends_both old mid new front.text (string_bytes b.output.sheet.text) first next,
-      subst R hides_is (subst Q layout_is (subst P (append-nil told) shows)),
+      subst R mask_is (subst Q layout_is (subst P (append-nil told) shows)),
     )
 
 -- nothing is written out yet

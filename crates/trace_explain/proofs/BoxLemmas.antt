@@ -1,16 +1,18 @@
 -- Parts of a box, one after another.
-use Rattle.std.proofs.Common.{◌≡◌, ℕ, List, [], ◌∷◌, ◌++◌, ◌∙◌, ap, append-nil, append_assoc, Bool, false, inl, refl, subst, sym}
+use Rattle.std.proofs.Common.{◌≡◌, ℕ, List, [], ◌∷◌, ◌++◌, ◌∙◌, ap, append-nil, append_assoc, Bool, true, false, inl, inr, refl, subst, sym}
 use Rattle.std.specs.String.{string_bytes}
 use Rattle.trace_explain.specs.declared.layout.Layout.{Layout}
 use Rattle.trace_explain.specs.declared.layout.Medium.{Medium}
 use Rattle.trace_explain.specs.declared.layout.Side.{Side}
+use Rattle.trace_explain.specs.declared.mask.Mask.{Mask}
 use Rattle.trace_explain.specs.declared.mask.Shown.{Shown}
 use Rattle.trace_explain.specs.declared.mask.Shown.TheVariants.{All, Objects, Nothing}
 use Rattle.trace_explain.specs.declared.sheet.Sheet.{Sheet}
-use Rattle.trace_explain.specs.Boxes.{DataParts, Puts, PutsBox, PutsData, PutsDataOf, PutsPlain, PutsTree, status_side}
-use Rattle.trace_explain.specs.Sheets.{Adds, Joins}
+use Rattle.trace_explain.specs.Boxes.{DataParts, IsTree, MayBeTree, Puts, PutsBox, PutsData, PutsDataOf, PutsPlain, PutsTree, status_side}
+use Rattle.trace_explain.specs.Sheets.{Adds, Joins, PutsTreeRow}
 use Rattle.trace_explain.specs.Told.{Told}
-use Rattle.trace_explain.specs.Written.{InTurn, data_row, header_row, hidden, line_text, number_text, status_text}
+use Rattle.trace_explain.specs.Written.{InTurn, IsRow, data_row, header_row, hidden, line_text, number_text, status_text}
+use Rattle.trace_explain.proofs.SheetLemmas.{adds_both}
 
 -- words more before
 ahead : (parts : List (List ℕ)) (text more : List ℕ) → InTurn parts text
@@ -63,24 +65,58 @@ puts_less ps a b h = record {
   text = λ w. let (x, is, has) = h.text w in (x, is, tt);
 }
 
-pub puts_plain : (shown : Shown) (s : Side) (may : Bool) (bytes : List ℕ) (a b c : Sheet)
-    → PutsTree false shown may bytes a b → PutsPlain shown s bytes b c
-    → PutsData shown s may bytes a c
-puts_plain shown s may bytes a b c same h =
-    let P : Sheet → Type 0 = λ x. PutsPlain shown s bytes x c in of_kind shown (subst P same h)
+pub puts_plain : (shown : Shown) (tags : List (List ℕ)) (s : Side) (may : Bool) (bytes : List ℕ)
+    (a b c : Sheet) → PutsTree false shown tags s may bytes a b → PutsPlain shown s bytes b c
+    → PutsData shown tags s may bytes a c
+puts_plain shown tags s may bytes a b c none h = of_kind shown h
   where
-    of_kind : (shown : Shown) → PutsPlain shown s bytes a c → PutsData shown s may bytes a c
-    of_kind All (text, row, h) = (text ∷ [], inl (text, row, refl), puts_one text a c h)
-    of_kind Objects h = (
-      data_row a.layout.medium s (hidden ∷ []) ∷ [],
-      inl refl,
-      puts_one (data_row a.layout.medium s (hidden ∷ [])) a c h,
-    )
-    of_kind Nothing h = (
-      data_row a.layout.medium s (hidden ∷ []) ∷ [],
-      refl,
-      puts_one (data_row a.layout.medium s (hidden ∷ [])) a c h,
-    )
+    same : b.layout.medium ≡ a.layout.medium
+    same = ap (λ (x : Layout). x.medium) none.layout
+
+    row : Adds b (data_row b.layout.medium s (hidden ∷ [])) c
+        → Puts (data_row a.layout.medium s (hidden ∷ []) ∷ []) a c
+    row h =
+        let P : Medium → Type 0 = λ m. Adds b (data_row m s (hidden ∷ [])) c in
+        puts_one (data_row a.layout.medium s (hidden ∷ [])) a c
+        (adds_both [] (data_row a.layout.medium s (hidden ∷ [])) a b c none (subst P same h))
+
+    of_kind : (shown : Shown) → PutsPlain shown s bytes b c → PutsData shown tags s may bytes a c
+    of_kind All (text, row, h) =
+        let P : Medium → Type 0 = λ m. IsRow m s bytes text in (
+          text ∷ [],
+          inl (text, subst P same row, refl),
+          puts_one text a c (adds_both [] text a b c none h),
+        )
+    of_kind Objects h = (data_row a.layout.medium s (hidden ∷ []) ∷ [], inl refl, row h)
+    of_kind Nothing h = (data_row a.layout.medium s (hidden ∷ []) ∷ [], refl, row h)
+
+pub tree_put : (r : Bool) (shown : Shown) (tags : List (List ℕ)) (s : Side) (may : Bool)
+    (bytes : List ℕ) (a b : Sheet) → MayBeTree shown may → PutsTreeRow r tags s bytes a b
+    → PutsTree r shown tags s may bytes a b
+tree_put true shown tags s may bytes a b may_be h = (may_be, h)
+tree_put false shown tags s may bytes a b may_be h = h
+
+pub puts_tree : (shown : Shown) (tags : List (List ℕ)) (s : Side) (may : Bool) (bytes : List ℕ)
+    (a b : Sheet) → PutsTree true shown tags s may bytes a b → PutsData shown tags s may bytes a b
+puts_tree shown tags s may bytes a b (may_be, (lines, some, are, shows, h)) = of_kind shown may_be
+  where
+    parts : List (List ℕ)
+    parts = data_row a.layout.medium s lines ∷ []
+
+    tree : may ≡ true → IsTree a.layout.medium tags s may bytes parts
+    tree is = record {
+      may_be = is;
+      are_objects = are;
+      lines = lines;
+      some = some;
+      shows = shows;
+      parts_are = refl;
+    }
+
+    of_kind : (shown : Shown) → MayBeTree shown may → PutsData shown tags s may bytes a b
+    of_kind All is = (parts, inr (tree is), puts_one (data_row a.layout.medium s lines) a b h)
+    of_kind Objects is = (parts, inr (tree is), puts_one (data_row a.layout.medium s lines) a b h)
+    of_kind Nothing never = absurd never
 
 same_medium : (a b : Sheet) → b.layout ≡ a.layout → b.layout.medium ≡ a.layout.medium
 same_medium a b e = ap (λ (x : Layout). x.medium) e
@@ -104,14 +140,14 @@ titled n l a b c d e h i j k =
     puts_both (number_text n ∷ []) (line_text a.layout.medium l ∷ []) a c e first
     (subst P (same_medium a c first.layout) next)
 
-pub boxed : (hides : Bool) (number line : ℕ) (t : Told) (given : List ℕ)
+pub boxed : (mask : Mask) (number line : ℕ) (t : Told) (given : List ℕ)
     (a b c d e f g h i : Sheet)
     → Puts (number_text number ∷ line_text a.layout.medium line ∷ []) a b → Joins b c
     → Adds c (header_row c.layout.medium given) d → given ≡ t.header → Joins d e
-    → PutsDataOf hides t.way t.header t.moved e f → Puts [] f g
+    → PutsDataOf mask t.way t.header t.moved e f → Puts [] f g
     → Puts (status_text g.layout.medium (status_side t.header t.status) t.status ∷ []) g h
-    → Joins h i → PutsBox hides number line t a i
-boxed hides number line t given a b c d e f g h i title time header given_is procedure
+    → Joins h i → PutsBox mask number line t a i
+boxed mask number line t given a b c d e f g h i title time header given_is procedure
     (parts, shows, moved) answer status end =
     let G : List ℕ → Type 0 = λ x. Adds c (header_row c.layout.medium x) d in
     let header_so : Puts (header_row b.layout.medium t.header ∷ []) b d =
@@ -144,7 +180,7 @@ boxed hides number line t given a b c d e f g h i title time header given_is pro
     let g_is : g.layout.medium ≡ a.layout.medium = same_medium e g to_g.layout ∙ e_is in
     let flat : ((parts ++ []) ++ status_part) ++ [] ≡ parts ++ status_part =
     append-nil ((parts ++ []) ++ status_part) ∙ ap (λ p. p ++ status_part) (append-nil parts) in
-    let P : Medium → Type 0 = λ m. DataParts m hides t.way t.header t.moved parts in
+    let P : Medium → Type 0 = λ m. DataParts m mask t.way t.header t.moved parts in
     let Q : List (List ℕ) → Type 0 = λ p. Puts (number_text number ∷ line_text a.layout.medium line
     ∷ header_row b.layout.medium t.header ∷ p) a i in
     let R : Medium → Type 0 = λ m. Puts (number_text number ∷ line_text a.layout.medium line

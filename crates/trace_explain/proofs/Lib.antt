@@ -9,6 +9,7 @@ pub mod LogVectors
 pub mod LogLemmas
 pub mod ExchangeLemmas
 pub mod SheetLemmas
+mod TreeLemmas
 pub mod RowLemmas
 pub mod BoxLemmas
 pub mod AccountLemmas

@@ -14,6 +14,7 @@ pub mod Trace
 pub mod UnderWay
 pub mod Secrets
 pub mod Written
+pub mod Trees
 pub mod Sheets
 pub mod Boxes
 pub mod Account

@@ -1,9 +1,11 @@
 -- What is added to a sheet.
-use Rattle.std.specs.Prelude.{◌≡◌, ℕ, List, ◌++◌, false}
+use Rattle.std.specs.Prelude.{◌≡◌, ◌<◌, ℕ, List, [], ◌∷◌, ◌++◌, length, Bool, true, false}
 use Rattle.std.specs.String.{string_bytes}
+use Rattle.tlv_core.specs.Spelling.{AreObjects}
 use Rattle.trace_explain.specs.declared.layout.Side.{Side}
 use Rattle.trace_explain.specs.declared.sheet.Sheet.{Sheet}
-use Rattle.trace_explain.specs.Written.{IsRow}
+use Rattle.trace_explain.specs.Trees.{AreFurther, AreTree, AreValueLines}
+use Rattle.trace_explain.specs.Written.{IsRow, data_row, lines_text}
 
 -- Where memory was not wanting, exactly this was added.
 pub record Adds (old : Sheet) (more : List ℕ) (new : Sheet) : Type 0 where
@@ -19,3 +21,34 @@ Joins old new = (more : List ℕ) × Adds old more new
 abbrev pub PutsRow : Sheet → Side → List ℕ → Sheet → Type 0
 PutsRow old side bytes new = (text : List ℕ) × IsRow old.layout.medium side bytes text
     × Adds old text new
+
+-- the lines of an object with this value were added
+abbrev pub PutsValue : Side → Bool → ℕ → List ℕ → List ℕ → Sheet → Sheet → Type 0
+PutsValue side is_first level tag value old new = (lines : List (List ℕ))
+    × AreValueLines old.layout.medium level tag value lines
+    × Adds old (lines_text old.layout.medium side is_first lines) new
+
+-- and those of what is left of it behind the first line
+abbrev pub PutsFurther : Side → ℕ → Bool → List ℕ → Sheet → Sheet → Type 0
+PutsFurther side level in_text bytes old new = (lines : List (List ℕ))
+    × AreFurther old.layout.medium in_text level bytes lines
+    × Adds old (lines_text old.layout.medium side false lines) new
+
+-- whether the line behind these is the first of its row
+abbrev pub still_first : Bool → List (List ℕ) → Bool
+still_first is_first [] = is_first
+still_first is_first (line ∷ lines) = false
+
+-- the lines of these objects were added
+abbrev pub PutsObjects : List (List ℕ) → Side → Bool → List ℕ → ℕ → Sheet → Bool → Sheet → Type 0
+PutsObjects tags side is_first bytes level old next_is_first new = (lines : List (List ℕ))
+    × AreTree old.layout.medium tags bytes level lines
+    × Adds old (lines_text old.layout.medium side is_first lines) new
+    × (next_is_first ≡ still_first is_first lines)
+
+-- the row of these objects was added, or nothing
+abbrev pub PutsTreeRow : Bool → List (List ℕ) → Side → List ℕ → Sheet → Sheet → Type 0
+PutsTreeRow true tags side bytes old new = (lines : List (List ℕ)) × (0 < length lines)
+    × AreObjects bytes 1 × AreTree old.layout.medium tags bytes 1 lines
+    × Adds old (data_row old.layout.medium side lines) new
+PutsTreeRow false tags side bytes old new = Adds old [] new

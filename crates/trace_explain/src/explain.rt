@@ -39,7 +39,7 @@ pub fn explain<R: Read, W: Write>(
 ) -> Result<(), ExplainFault>
     ensures explained { resumes ≡ false → reading.of_tpdus ≡ false →
         OnOk result (IfSome (R.remaining reader.old) (λ bytes. IsWhole
-        (WritesTold layout mask.hides (W.contents writer.old) (W.contents writer.new)) reading
+        (WritesTold layout mask (W.contents writer.old) (W.contents writer.new)) reading
         (lines_of bytes))) }
     ensures stops { resumes ≡ false → reading.of_tpdus ≡ false → IfErr result (λ fault.
         IfSome (R.remaining reader.old) (λ bytes. StopsIn reading (lines_of bytes) fault)) }

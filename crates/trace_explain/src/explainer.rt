@@ -87,7 +87,7 @@ impl Explainer {
         ensures explained { resumes ≡ false → reading.of_tpdus ≡ false →
             HasExplained [] [] result }
         ensures blank { reading.of_tpdus ≡ false →
-            HasWritten (first_out layout mask.hides) [] result }
+            HasWritten (first_out layout mask) [] result }
         ensures standing { standing_of result ≡ first_of_all reading }
         ensures line { result.line ≡ 0 }
     {

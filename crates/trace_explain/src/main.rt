@@ -53,6 +53,7 @@ mod tpdu;
 mod tpdu_box;
 mod trace_line;
 mod tree;
+mod tree_row;
 mod turn;
 mod unsigned_line;
 mod ways;

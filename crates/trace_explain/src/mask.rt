@@ -1,6 +1,7 @@
 //! What of a trace is not shown: a trace gets passed around.
 
-ghost use Rattle.std.specs.Prelude.{◌≡◌, false, get_or, length, true, IfSome, IsSome};
+ghost use Rattle.std.specs.Prelude.{◌≡◌, ◌↔◌, false, get_or, length, true, IfSome, IsSome, IsTrue};
+ghost use Rattle.std.specs.List.{Contains};
 ghost use Rattle.t0_core.specs.declared.direction.Direction.TheVariants.{ToCard};
 ghost use Rattle.trace_explain.specs.Secrets.{is_secret};
 
@@ -135,9 +136,11 @@ impl Mask {
     }
 
     /// Whether an object with this tag is not shown.
-    pub fn has(&self, tag: Tag) -> bool {
+    pub fn has(&self, tag: Tag) -> bool
+        ensures { IsTrue result ↔ Contains self.now.tags.items tag }
+    {
         for other in &self.tags {
-            if *other == tag {
+            if is_same(*other, tag) {
                 return true;
             }
         }
@@ -206,6 +209,13 @@ impl Mask {
             push_hex_lines(text, bytes);
         }
     }
+}
+
+/// Whether these are one tag.
+fn is_same(tag: Tag, other: Tag) -> bool
+    ensures { IsTrue result ↔ (tag ≡ other) }
+{
+    tag.bytes() == other.bytes()
 }
 
 /// Whether the data of a command are secret, or may be: VERIFY, CHANGE REFERENCE DATA, DISABLE and

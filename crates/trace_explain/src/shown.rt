@@ -181,7 +181,7 @@ fn width(is_text: bool) -> usize
 }
 
 /// The first bytes, so many if there are, and the others.
-fn cut(bytes: &[u8], width: usize) -> (&[u8], &[u8])
+pub fn cut(bytes: &[u8], width: usize) -> (&[u8], &[u8])
     ensures front { result.0.now ≡ take width bytes.now }
     ensures back { result.1.now ≡ drop width bytes.now }
     ensures fewer { 0 < width → 0 < length bytes.now → length result.1.now < length bytes.now }
@@ -206,7 +206,7 @@ fn push_data_line(sheet: &mut Sheet, side: Side, is_first: bool, is_text: bool, 
 }
 
 /// Adds what stands in a line of data.
-fn push_content(sheet: &mut Sheet, is_text: bool, line: &[u8])
+pub fn push_content(sheet: &mut Sheet, is_text: bool, line: &[u8])
     ensures { Adds sheet.old (content sheet.old.layout.medium is_text line.now) sheet.new }
 {
     if is_text {
@@ -248,7 +248,7 @@ fn push_letter(sheet: &mut Sheet, byte: u8)
 }
 
 /// What stands before a line of data.
-fn data_before(medium: Medium, side: Side, is_first: bool) -> &'static str
+pub fn data_before(medium: Medium, side: Side, is_first: bool) -> &'static str
     ensures { result.now ≡ data_before medium side is_first }
 {
     match (is_first, medium, side) {
@@ -264,7 +264,7 @@ fn data_before(medium: Medium, side: Side, is_first: bool) -> &'static str
 }
 
 /// What ends a line of data.
-fn line_end(medium: Medium) -> &'static str
+pub fn line_end(medium: Medium) -> &'static str
     ensures { result.now ≡ line_end medium }
 {
     match medium {
@@ -274,7 +274,7 @@ fn line_end(medium: Medium) -> &'static str
 }
 
 /// What ends a row of data.
-fn data_end(medium: Medium, side: Side) -> &'static str
+pub fn data_end(medium: Medium, side: Side) -> &'static str
     ensures { result.now ≡ data_end medium side }
 {
     match (medium, side) {

@@ -18,7 +18,7 @@ use crate::sheet::Sheet;
 use crate::shown::{push_header, push_hidden, push_line, push_lines, push_number, push_status};
 use crate::story::{Story, header_of, status_of};
 use crate::tpdu::{Tpdu, are_status};
-use crate::tree::push_tree;
+use crate::tree_row::push_tree;
 use t0_core::Direction;
 
 /// Adds the box of a TPDU that began in this line, of which this is known among those before it.
@@ -33,7 +33,7 @@ pub fn tell_box(
 )
     ensures layout { output.new.sheet.layout ≡ output.old.sheet.layout }
     ensures puts { output.old.sheet.layout.is_summary ≡ false →
-        PutsBox mask.now.hides links.number began (told_by tpdu.now) output.old.sheet
+        PutsBox mask.now links.number began (told_by tpdu.now) output.old.sheet
         output.new.sheet }
 {
     if output.sheet.layout().is_summary {
@@ -112,7 +112,7 @@ fn tell_procedure(tpdu: &Tpdu, output: &mut Output)
 
 /// Adds the rows of the data: as trees where they may be objects, and are some.
 fn tell_data(tpdu: &Tpdu, links: Links, mask: &Mask, output: &mut Output)
-    ensures { PutsDataOf mask.now.hides tpdu.now.way tpdu.now.header.items tpdu.now.moved.items
+    ensures { PutsDataOf mask.now tpdu.now.way tpdu.now.header.items tpdu.now.moved.items
         output.old.sheet output.new.sheet }
 {
     let Some(way) = tpdu.way else {
@@ -129,7 +129,7 @@ fn tell_data(tpdu: &Tpdu, links: Links, mask: &Mask, output: &mut Output)
         may_be_objects,
         bytes,
         mask,
-        output,
+        &mut output.sheet,
     );
 }
 
@@ -151,12 +151,13 @@ fn tell_shown(
     may_be_objects: bool,
     bytes: &[u8],
     mask: &Mask,
-    output: &mut Output,
+    sheet: &mut Sheet,
 )
-    ensures { PutsData shown side may_be_objects bytes.now output.old.sheet output.new.sheet }
+    ensures { PutsData shown mask.now.tags.items side may_be_objects bytes.now
+        sheet.old sheet.new }
 {
-    if !tell_tree(shown, side, may_be_objects, bytes, mask, output) {
-        tell_plain(shown, side, bytes, &mut output.sheet);
+    if !tell_tree(shown, side, may_be_objects, bytes, mask, sheet) {
+        tell_plain(shown, side, bytes, sheet);
     }
 }
 
@@ -168,16 +169,12 @@ fn tell_tree(
     may_be_objects: bool,
     bytes: &[u8],
     mask: &Mask,
-    output: &mut Output,
+    sheet: &mut Sheet,
 ) -> bool
-    ensures { PutsTree result shown may_be_objects bytes.now output.old.sheet output.new.sheet }
+    ensures { PutsTree result shown mask.now.tags.items side may_be_objects bytes.now sheet.old
+        sheet.new }
 {
-    if !may_be_tree(shown, may_be_objects) || !push_tree(&mut output.page.lines, bytes, mask) {
-        return false;
-    }
-    output.page.row(side, "data");
-    output.join();
-    true
+    may_be_tree(shown, may_be_objects) && push_tree(sheet, side, bytes, mask)
 }
 
 /// Whether data, as far as they are shown, may stand as a tree.
@@ -238,7 +235,7 @@ fn tell_answer_data(tpdu: &Tpdu, links: Links, mask: &Mask, output: &mut Output)
             true,
             tpdu.answer.as_slice(),
             mask,
-            output,
+            &mut output.sheet,
         );
     }
 }

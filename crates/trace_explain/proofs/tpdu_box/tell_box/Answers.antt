@@ -4,7 +4,7 @@ use Rattle.trace_explain.proofs.tpdu_box.tell_box.Goals as goal
 
 pub returns-clause-puts : goal.returns-clause-puts
 returns-clause-puts c = λ whole.
-    boxed c.args.mask.now.hides c.args.links.number c.args.began (told_by c.args.tpdu.now)
+    boxed c.args.mask.now c.args.links.number c.args.began (told_by c.args.tpdu.now)
     c.as_slice.result.now
     c.args.output.now.sheet c.tell_title.new.output.sheet c.tell_time.new.output.sheet
     c.push_header.new.sheet c.tell_procedure.new.output.sheet c.tell_data.new.output.sheet

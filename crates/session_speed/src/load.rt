@@ -1,4 +1,4 @@
-//! What a session is asked again and again. The session by hand (`compare/`) is asked the same.
+//! What a session is asked again and again. The session by hand (`bench/`) is asked the same.
 
 /// A data object of the card: its tag, and how many bytes its value has.
 #[derive(Clone, Copy)]

@@ -1,0 +1,403 @@
+"""The cases of `trace_explain`: what it is given, and what it must say.
+
+- checks/explain/cases/NAME.trace with NAME.out, NAME.args and NAME.err, and those in its folder
+  captures/: all that is written.
+- statuses.txt: `HEADER STATUS SENTENCE`, what is said of a status after such a command.
+- titles.txt: `HEADER TITLE`, `HEADER > DATA TITLE` (data of the terminal) or `HEADER < DATA TITLE`
+  (data of the card), where TITLE stands behind `| `: how a command is named.
+- secrets_told.py: traces that have a secret, which must not be told.
+- long_traces.py: traces in which what is to be told comes late.
+- stories.cases: several TPDUs. Behind `in` stand the lines of the trace, behind `with` those of the
+  other one of `--diff`, behind `out` the lines that are written, without the rows of headers,
+  procedure bytes, data and statuses, but with a mask or `--diff`; behind `err` what standard error
+  tells, behind `time` how long it took by the last block, and behind `$` the words. `\\xHH` in a
+  line is that byte. Of a page only what stands below its head is compared.
+- lines.cases: what lines say; times.cases: the times before their signs; bare.cases: commands
+  without data whose card repeats INS; unsigned.cases: lines without signs; logs.cases: logs of
+  whole TPDUs; all in the same words, with all that is written above the last block.
+
+The last block of text is told nowhere but in cases/: it has to count what stands above it
+(`block_of`). In the eight tables `#` begins a line that is passed over."""
+
+import re
+from collections import Counter
+from dataclasses import dataclass, field
+from itertools import zip_longest
+from pathlib import Path
+
+import long_traces
+import secrets_told as secrets
+
+HERE = Path(__file__).resolve().parent
+CASES = HERE / "cases"
+TITLE = re.compile(r"#\d+ (.*)  \(line \d+\)$")
+STATUS = re.compile(r"  < status     ([0-9A-F]{4} .*)$")
+# a name is of words in capitals; what SELECT selects may be, too
+COMMAND = re.compile(r"#\d+ (INS [0-9A-F]{2}|SELECT|part of a header|[A-Z]+(?:[ /][A-Z]+)*)\b")
+TIME = re.compile(r"^    time       (.*)$", re.MULTILINE)
+COMPLAINTS = ("no dialogue that it reads  (", "no exchange that it reads  (")
+BLOCK = "summary"
+HEX = re.compile(r"\b(?:[0-9A-F]{2})+\b")
+ENDS = '<div class="ends"><span>Terminal</span><span>Card</span></div><div>'
+ODD = re.compile(rb"\\x([0-9A-F]{2})")
+# a sign behind a time or none, and a count before one
+SIGNED = re.compile(
+    rb"^((?:\[ *[\d:.]+\] *|\+[\d:.]+ +[mu]?s +|\d+[:.][\d:.]* +)?)"
+    rb"(?:>>?|<<?|->|<-|=>|<=|[TR][Xx]:|[TR]X|[TC]:|IFD:?|ICC:?)(?: +|(?=\r?$))",
+    re.M,
+)
+COUNTED = re.compile(rb"^\d+ +[^\d ]", re.M)
+SPEAK_OF_SIGNS = {"--form", "--swap", "--unsigned", "--tpdu"}
+# the ways of instructions that no table has
+WAYS = ["--to-card", "50,82,A8,AE,E2"]
+# what signs alone tell, in which cases
+TOLD_BY_SIGNS = {
+    # where a trace begins within a TPDU
+    "a trace that begins within a dialogue with a character that may be TS: none is lost",
+    "what is told before a header is no answer, whatever comes next",
+    # what follows an answer at fault, or the first characters of a PPS request or response
+    "a page of answers and an exchange",
+    "answers_at_fault",
+    "pps",
+    # an answer that begins with `03` behind a TPDU
+    "answers_again",
+    # the same bytes, the other way
+    "two traces whose data go another way, and of which one is cut off",
+    # characters of the card where a header may begin, and a sign with none behind it
+    "characters of the card behind a reset that begin no answer, in two lines",
+    "no TPDU begins with a sign alone, whose line has a time",
+    # digits that are notes
+    "digits without a sign are notes behind a line that has one",
+    "a sign without characters is one, too",
+    "a time before a reset, and before a note",
+}
+ROW = re.compile(r"  [ <>] (header|procedure|data|status) ")
+
+
+@dataclass
+class Case:
+    """What is given, with which words, and what must be said."""
+
+    name: str
+    given: bytes
+    wanted: list
+    words: list = field(default_factory=list)
+    error: str = ""
+    part: str = "all"
+    secret: bytes = b""
+    other: bytes = b""
+    time: str = ""
+
+    def fault(self, out, err):
+        """What is wrong with what was said; empty where nothing is."""
+        if self.secret:
+            return self.leak(out, err)
+        if err != self.error:
+            return f"{self.name}: on standard error {err!r}, and not {self.error!r}"
+        lines = out.splitlines()
+        if self.part != "page" and not {"--summary", "--diff"} & set(self.words):
+            lines, block = without_block(lines)
+            for wanted, line in zip_longest(block_of(lines, self.time), block):
+                if wanted != line:
+                    return f"{self.name}: in the last block {line!r}, and not {wanted!r}"
+        if self.part == "all":
+            lines = out.splitlines()
+        said = PARTS[self.part](lines)
+        for wanted, line in zip(self.wanted, said):
+            if wanted != line:
+                return f"{self.name}: {line!r}, and not {wanted!r}"
+        if len(said) != len(self.wanted):
+            return f"{self.name}: {len(said)} lines, and not {len(self.wanted)}"
+        wide = [it for it in out.splitlines() if len(it) > 100 and self.part != "page"]
+        return f"{self.name}: more than 100 columns: {wide[0]!r}" if wide else ""
+
+    def leak(self, out, err):
+        """Where a byte of the secret is told, as digits or as text; empty where none is."""
+        body = out.partition(ENDS)[2] if "--html" in self.words else out
+        for line in (body + err).splitlines():
+            for digits in HEX.findall(line):
+                if any(byte in self.secret for byte in bytes.fromhex(digits)):
+                    return f"{self.name} {self.words}: {line!r} tells of the secret"
+            if any(pair in line for pair in ("Qz", "zx", "xv", "vT")):
+                return f"{self.name} {self.words}: {line!r} tells of the secret"
+        if "**" in body or "--summary" in self.words:
+            return ""
+        return f"{self.name}: nothing is hidden"
+
+
+def without_block(lines):
+    """The lines above the last block, and its own."""
+    begins = len(lines) - lines[::-1].index(BLOCK) - 1 if BLOCK in lines else len(lines)
+    return lines[:begins], lines[begins:]
+
+
+def block_of(lines, time):
+    """The last block behind these lines: what stands in them, counted, and how long it took."""
+    names = [it[1] for line in lines if (it := COMMAND.match(line))]
+    commands = Counter(name.replace("RECORDS", "RECORD") for name in names)
+    came = [it[1] for line in lines if (it := STATUS.match(line))]
+    statuses = Counter(line.split()[0] for line in came if not line.startswith("9000 "))
+    cut_off = commands.total() - len(came)
+    of_them = f" (cut off: {cut_off})" if cut_off else ""
+    return [
+        BLOCK,
+        *row("TPDUs", [f"{commands.total()}{of_them}"]),
+        *row("commands", counted(commands, rank) or ["none"]),
+        *row("statuses", counted(statuses, str) or ["none other than 9000"]),
+        *row("complaints", [str(sum(line.startswith(COMPLAINTS) for line in lines))]),
+        *(row("time", [time]) if time else []),
+    ]
+
+
+def counted(counts, order):
+    """A line for each that is counted."""
+    return [f"{it}: {counts[it]}" for it in sorted(counts, key=order)]
+
+
+def rank(command):
+    """Commands stand by their names, behind them those without one, and parts of headers last."""
+    return command.startswith("part"), command.startswith("INS "), command
+
+
+def row(label, lines):
+    """The lines of a row of the last block."""
+    return [f"    {label:<10} {lines[0]}", *(" " * 15 + line for line in lines[1:])]
+
+
+def titles_in(lines):
+    """The titles of the TPDUs."""
+    return [found[1] for line in lines if (found := TITLE.match(line))]
+
+
+def statuses_in(lines):
+    """The statuses with their sentences, where a sentence may go on in the next lines."""
+    said = []
+    open_row = False
+    for line in lines:
+        found = STATUS.match(line)
+        if found:
+            said.append(found[1])
+        elif open_row and line.startswith(" " * 15):
+            said[-1] += " " + line.strip()
+        open_row = bool(found) or (open_row and line.startswith(" " * 15))
+    return said
+
+
+def page_in(lines):
+    """What stands below the head of a page, up to its end."""
+    return lines[lines.index(ENDS) + 1 : lines.index("</main>")]
+
+
+def story_in(lines):
+    """All lines but the rows that stand in other tables."""
+    said = []
+    within = False
+    for line in lines:
+        within = bool(ROW.match(line)) or (within and line.startswith(" " * 15))
+        if not within:
+            said.append(line)
+    return said
+
+
+PARTS = {
+    "all": lambda lines: lines,
+    "titles": titles_in,
+    "statuses": statuses_in,
+    "story": story_in,
+    "page": page_in,
+    "shown": lambda lines: lines,
+}
+
+
+def rows(name):
+    """The lines of a table, without those that are passed over."""
+    lines = (HERE / name).read_text(encoding="utf-8").splitlines()
+    return [line for line in lines if line.strip() and not line.startswith("#")]
+
+
+def status_case():
+    """Each status after its command, with a reset behind it, in one trace."""
+    given, wanted = [], []
+    for line in rows("statuses.txt"):
+        header, status, _ = line.split(" ", 2)
+        given += [f"> {header}", f"< {status}", "reset"]
+        wanted.append(line.split(" ", 1)[1])
+    return Case("statuses", lines_of(given), wanted, part="statuses")
+
+
+def title_case():
+    """Each command, whole, with a reset behind it, in one trace."""
+    given, wanted = [], []
+    for line in rows("titles.txt"):
+        before, title = line.split("| ", 1)
+        header, *data = before.split()
+        given.append(f"> {header}")
+        if data:
+            sign, digits = data
+            given += [f"< {header[2:4]}", f"{sign} {digits}"]
+        given += ["< 6F00", "reset"]
+        wanted.append(title)
+    return Case("titles", lines_of(given), wanted, part="titles")
+
+
+def story_cases(name, part):
+    """The cases of a file, of whose output this part stands there."""
+    found = []
+    for line in rows(name):
+        word, _, rest = line.partition(" ")
+        if word == "case":
+            found.append(Case(rest, b"", [], part=part))
+        elif word == "in":
+            given = ODD.sub(lambda it: bytes([int(it[1], 16)]), rest.encode())
+            found[-1].given += given + b"\n"
+        elif word == "with":
+            found[-1].other += rest.encode() + b"\n"
+        elif word == "out":
+            found[-1].wanted.append(rest)
+        elif word == "err":
+            found[-1].error += rest + "\n"
+        elif word == "time":
+            found[-1].time = rest
+        elif word == "$":
+            found[-1].words = rest.split()
+            if "--html" in rest:
+                found[-1].part = "page"
+            elif "--mask" in rest or "--diff" in rest:
+                found[-1].part = "shown"
+            else:
+                found[-1].part = part
+        else:
+            raise ValueError(f"{name}: {line}")
+    return found
+
+
+def secret_cases(ways):
+    """Each trace or log with a secret, explained in each of these ways with a mask; a log is not
+    resumed."""
+    for name, tags, lines in secrets.traces():
+        for words in ways:
+            masked = [*words, "--mask", *tags]
+            yield Case(name, lines_of(lines), [], masked, secret=secrets.BYTES)
+    for name, tags, lines in secrets.of_logs():
+        for words in ways:
+            words = [word for word in words if word != "--resume"]
+            masked = ["--tpdu", *words, "--mask", *tags]
+            yield Case(name, lines_of(lines), [], masked, secret=secrets.BYTES)
+
+
+def link_cases():
+    """So many complaints, and so many statuses, that not all have links on the page."""
+    for count, more in ((1000, ""), (1001, " and 1 more"), (1003, " and 3 more")):
+        given = ["> 00CA5F2000", "< 6A88"] * count
+        links = [f'<a href="#t{it}">#{it} 6A88</a>' for it in range(1, 1001)]
+        wanted = f"<p>statuses other than 9000, 61XX and 6CXX: {' '.join(links)}{more}</p>"
+        block = page_block(count, "", f"6A88: {count}", 0, wanted)
+        words = ["--html", "--summary"]
+        yield Case(f"{count} statuses", lines_of(given), block, words, part="page")
+        given = ["> 00CA5F2000", "< 55"] * count
+        links = [f'<a href="#c{it}">line {2 * it}</a>' for it in range(1, 1001)]
+        wanted = f"<p>complaints in {' '.join(links)}{more}</p>"
+        block = page_block(count, f" (cut off: {count})", "none other than 9000", count, wanted)
+        error = (
+            "line 2, character 1: no dialogue that it reads: a procedure byte or SW1 of the card "
+            f"was due, and 55 of the card came (complaints: {count})\n"
+        )
+        words = ["--html", "--summary", "--resume"]
+        yield Case(f"{count} complaints", lines_of(given), block, words, error, part="page")
+
+
+def page_block(count, cut_off, statuses, complaints, links):
+    """The last block of a page about so many GET DATA."""
+    rows = {
+        "TPDUs": f"{count}{cut_off}",
+        "commands": f"GET DATA: {count}",
+        "statuses": statuses,
+        "complaints": complaints,
+    }
+    told = [f'<div class="m n"><b>{it}</b><pre>{rows[it]}</pre></div>' for it in rows]
+    return ["</div><section><h2>summary</h2>", *told, links, "</section>"]
+
+
+def long_cases(traces):
+    """Long traces; where rows are wanted, all lines are compared."""
+    for name, words, given, wanted, error in traces:
+        other = []
+        if "--diff" in words:
+            given, other = given
+        part = "shown" if any(ROW.match(line) for line in wanted) else "story"
+        yield Case(name, lines_of(given), wanted, words, error, part, other=lines_of(other))
+
+
+def whole_cases():
+    """The cases of checks/explain/cases, whose output stands there whole."""
+    for trace in sorted(CASES.rglob("*.trace")):
+        text = {kind: there(trace.with_suffix(f".{kind}")) for kind in ("out", "args", "err")}
+        time = TIME.search(text["out"].rpartition(f"{BLOCK}\n")[2])
+        yield Case(
+            trace.stem,
+            trace.read_bytes(),
+            text["out"].splitlines(),
+            text["args"].split(),
+            text["err"],
+            time=time[1] if time else "",
+        )
+
+
+def unsigned_cases(signed):
+    """The same cases with their signs taken off, but where these alone tell who sent what."""
+    for case in signed:
+        words = {word for word in case.words if word.startswith("--")}
+        if case.error or words & SPEAK_OF_SIGNS or case.name in TOLD_BY_SIGNS:
+            continue
+        given, other = (SIGNED.sub(rb"\1", it) for it in (case.given, case.other))
+        if given != case.given and not COUNTED.search(case.given + case.other):
+            name = f"{case.name}, without signs"
+            said = [*case.words, "--unsigned", *WAYS]
+            yield Case(
+                name, given, case.wanted, said, part=case.part, other=other, time=case.time
+            )
+
+
+def there(path):
+    """The text of a file, empty where it is not there."""
+    return path.read_text(encoding="utf-8") if path.exists() else ""
+
+
+def lines_of(lines):
+    """The bytes of lines."""
+    return "".join(f"{line}\n" for line in lines).encode()
+
+
+def tables():
+    """The cases of the eight tables, those of secrets, and the long ones."""
+    ways = [], ["--html"], ["--resume"], ["--summary", "--resume"]
+    long = long_cases([*long_traces.traces(), *long_traces.at_limits()])
+    return [*rows_and_stories(), *secret_cases(ways), *long]
+
+
+def rows_and_stories():
+    """The cases of the eight tables, those with signs also without."""
+    signed = table_cases()
+    return [*signed, *unsigned_cases([*signed, *whole_cases()])]
+
+
+def table_cases():
+    """The cases of the eight tables."""
+    return [
+        status_case(),
+        title_case(),
+        *story_cases("stories.cases", "story"),
+        *story_cases("lines.cases", "shown"),
+        *story_cases("times.cases", "shown"),
+        *story_cases("bare.cases", "shown"),
+        *story_cases("unsigned.cases", "shown"),
+        *story_cases("logs.cases", "shown"),
+        *link_cases(),
+    ]
+
+
+def all_cases():
+    """All cases, the small ones first, those of secrets in one way alone."""
+    secret = secret_cases([["--resume"]])
+    long = long_cases(long_traces.traces())
+    return [*rows_and_stories(), *secret, *whole_cases(), *long]

@@ -1,0 +1,75 @@
+"""Files that stand in the wrong folder, and what each file has to keep to: laws are files of
+`specs/`, a file of `specs/` is needed by a clause, by a crate above, or by another such file, code
+has 100 columns, and a source file says first what is in it."""
+
+import re
+
+from findings import Finding
+from sources import IN_CODE, code_without_comments, crate_of
+
+COLUMNS = 100
+LONG_LINES = (".rt", ".antt", ".c", ".h", ".rs", ".py")
+# Lines that rt fmt joins, however long they get: imports and attributes.
+JOINED = re.compile(r"\s*(?:(?:ghost|pub|pub\(crate\)) )*use |\s*#!?\[")
+
+
+def is_of_specs(path):
+    return path is not None and "/specs/" in path
+
+
+def needed(repository):
+    """The files of `specs/` that code needs, or a crate above, and those that these need."""
+    left = []
+    for path, text in repository.code():
+        own = f"crates/{crate_of(path)}/specs/"
+        for found in repository.imports.get(path, {}).values():
+            targets = {repository.path_of(it.module) for it in found}
+            left += [
+                it for it in targets
+                if is_of_specs(it) and (path.endswith(".rt") or not it.startswith(own))
+            ]
+        if path.endswith(".rt"):
+            for it in IN_CODE.finditer(code_without_comments(text)):
+                module = f"Rattle.{crate_of(path)}.{it[1].replace('::', '.')}"
+                left.append(repository.path_of(module))
+    seen = set()
+    while left:
+        path = left.pop()
+        if path in seen or not is_of_specs(path):
+            continue
+        seen.add(path)
+        for found in repository.imports.get(path, {}).values():
+            left += [repository.path_of(it.module) for it in found]
+    return seen
+
+
+def of_folders(repository):
+    wanted = needed(repository)
+    for path, _ in repository.code(".antt"):
+        name = path.rpartition("/")[2].removesuffix(".antt")
+        if "/proofs/" in path and name.endswith("Laws"):
+            yield Finding("place", path, 1, name, "laws are files of specs/, for crates above")
+        if "/specs/" in path and name != "Lib" and path not in wanted:
+            what = "no clause, no crate above and no other such file of specs/ needs it"
+            yield Finding("place", path, 1, name, what)
+
+
+def of_lines(repository):
+    for path, text in repository.texts.items():
+        if not (path.endswith(LONG_LINES) or text.startswith("#!")):
+            continue
+        for number, line in enumerate(text.split("\n"), 1):
+            if len(line) > COLUMNS and not (path.endswith((".rt", ".antt")) and JOINED.match(line)):
+                yield Finding("long", path, number, "", f"{len(line)} columns")
+
+
+def of_first_lines(repository):
+    for path, text in repository.code(".rt"):
+        if not text.startswith("//! "):
+            yield Finding("first", path, 1, "", "no //! line says first what is in it")
+
+
+def findings(repository):
+    yield from of_folders(repository)
+    yield from of_lines(repository)
+    yield from of_first_lines(repository)

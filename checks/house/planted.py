@@ -1,0 +1,127 @@
+"""A repository of a few lines in which nothing is wrong, and for each kind of fault an edit of it
+that the check has to find, at a file and a line: so the check itself is tried."""
+
+from sources import Repository
+
+LIST = "checks/house/stays.txt"
+
+SOUND = {
+    "crates.txt": "low:\nhigh: low\n",
+    LIST: "# nothing has to stay\n",
+    "docs/RULES.md": "# Rules\n\n## Lamps\n\n- A lamp is lit or dark. (`IsLit`)\n",
+    "crates/low/src/lib.rt": (
+        "//! Lamps.\n\nmod lamp;\nmod wire;\n\npub use lamp::Lamp;\n\npub struct Shade;\n"
+    ),
+    "crates/low/src/wire.rt": "//! What a lamp hangs on.\n\nstruct Wire {\n    length: u8,\n}\n",
+    "crates/low/src/lamp.rt": """\
+//! A lamp.
+ghost use Rattle.low.specs.Lamp.{IsLit};
+
+pub struct Lamp;
+
+impl Lamp {
+    /// Lights it.
+    pub fn light(&mut self) -> bool
+        ensures { IsLit self.new }
+    {
+        true
+    }
+}
+""",
+    "crates/low/specs/Lamp.antt": """\
+use Rattle.low.specs.declared.wire.Wire.{Wire}
+use Rattle.low.specs.LampLaws.{lit}
+
+-- what a lamp hangs on
+pub data Hanging : Type 0 where
+  On_wire : (wire : Wire) → Hanging
+  On_nothing : Hanging
+
+abbrev pub IsLit : Hanging → Type 0
+IsLit h = lit h
+""",
+    "crates/low/specs/LampLaws.antt": "pub lit : Hanging → Type 0\nlit h = ⊤\n",
+    "crates/low/proofs/Lamps.antt": "pub burns : Type 0\nburns = ⊤\n",
+    "crates/low/proofs/lamp/light/Answers.antt": (
+        "use Rattle.low.proofs.Lamps.{burns}\n\npub ensures : burns\n"
+    ),
+    "crates/high/src/lib.rt": (
+        "//! A house of lamps.\nghost use Rattle.high.specs.House.{IsDark};\n\n"
+        "fn enter()\n    ensures { IsDark }\n{}\n"
+    ),
+    "crates/high/specs/House.antt": """\
+use Rattle.low.specs.Lamp.{Hanging, On_nothing}
+
+abbrev pub IsDark : Hanging → Type 0
+IsDark On_nothing = ⊤
+""",
+}
+
+HOUSE = "crates/high/specs/House.antt"
+LAMP = "crates/low/src/lamp.rt"
+NAMED = "IsDark On_nothing = ⊤"
+IMPORTED = "{Hanging, On_nothing}"
+ON_WIRE = "{Hanging, On_nothing, On_wire}"
+LONG = "x" * 101
+
+# What is planted: the kind of the finding, the file and the line of it, and an edit: a file with an
+# old text and a new one, or a file that is new.
+FAULTS = [
+    ("private", HOUSE, 1, [(HOUSE, "use Rattle.low.specs.Lamp.", "use Rattle.low.proofs.Lamps.")]),
+    ("private", HOUSE, 1, [
+        (HOUSE, "use Rattle.low", "use Rattle.low.specs.declared.wire.Wire.{Wire}\nuse Rattle.low"),
+    ]),
+    ("cases", HOUSE, 4, [(HOUSE, NAMED, "IsDark (On_wire w) = ⊤"), (HOUSE, IMPORTED, ON_WIRE)]),
+    ("looks", HOUSE, 5, [
+        (HOUSE, NAMED, "IsDark (On_wire w) =\n    w.length ≡ 0"), (HOUSE, IMPORTED, ON_WIRE),
+    ]),
+    ("unreached", HOUSE, 6, [(HOUSE, NAMED, f"{NAMED}\n\nlost : Type 0\nlost = ⊤")]),
+    ("place", "crates/low/proofs/LampLaws.antt", 1, [
+        ("crates/low/proofs/LampLaws.antt", None, ""),
+    ]),
+    ("place", "crates/low/specs/Bulb.antt", 1, [("crates/low/specs/Bulb.antt", None, "")]),
+    ("long", HOUSE, 4, [(HOUSE, NAMED, f"{NAMED} -- {LONG}")]),
+    ("long", "checks/lamps", 2, [("checks/lamps", None, f"#!/bin/sh\n# {LONG}\n")]),
+    ("long", "bindings/lamp.h", 1, [("bindings/lamp.h", None, f"/* {LONG} */\n")]),
+    ("first", LAMP, 1, [(LAMP, "//! A lamp.\n", "// A lamp.\n")]),
+    ("rule", "docs/RULES.md", 6, [
+        ("docs/RULES.md", "(`IsLit`)\n", "(`IsLit`)\n- A lamp is `warm`.\n"),
+    ]),
+    ("rule", "docs/RULES.md", 5, [("docs/RULES.md", "(`IsLit`)", "(`IsLit`, `IsDim`)")]),
+    ("unruled", "crates/low/specs/Lamp.antt", 9, [
+        ("docs/RULES.md", "(`IsLit`)", "(`Hanging`)"),
+    ]),
+    ("list", LIST, 2, [(LIST, "stay\n", "stay\nlong crates/low/src/lamp.rt: it was long once\n")]),
+    ("list", LIST, 2, [(LIST, "stay\n", "stay\nlong crates/low/src/lamp.rt\n")]),
+]
+
+# What the list lets stay: a fault, and the entry for it.
+LETS_STAY = [
+    (LAMP, "//! A lamp.\n", "// A lamp.\n"),
+    (LIST, "stay\n", "stay\nfirst crates/low/src/lamp.rt: it is dark\n"),
+]
+
+
+def edited(edits):
+    texts = dict(SOUND)
+    for path, old, new in edits:
+        if old is None:
+            texts[path] = new
+            continue
+        if old not in texts[path]:
+            raise ValueError(f"{path} has no {old!r}")
+        texts[path] = texts[path].replace(old, new, 1)
+    return texts
+
+
+def tried(find):
+    """For each fault whether it is found as what it is, where it is, and nothing else of its kind;
+    that nothing is found where none is; and that the list lets stay what it names."""
+    rows = [("nothing is wrong", find(Repository(SOUND)), None)]
+    rows += [("what the list lets stay", find(Repository(edited(LETS_STAY))), None)]
+    for kind, path, line, edits in FAULTS:
+        found = [it for it in find(Repository(edited(edits))) if it.kind == kind]
+        rows.append((f"a planted fault: {kind} in {path}", found, (path, line)))
+    for title, found, place in rows:
+        is_well = [(it.path, it.line) for it in found] == ([place] if place else [])
+        yield title, is_well, found

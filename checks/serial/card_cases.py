@@ -1,0 +1,326 @@
+"""serial_card, with a terminal that is played by hand at the other end of its line.
+
+What is expected comes from the rules of the line (ISO/IEC 7816-3) and of the card, and from what
+bindings/c/README.md says of the program."""
+
+import os
+import signal
+import tempfile
+import time
+from dataclasses import dataclass, field
+from pathlib import Path
+
+from lines import Line, Other, play, trace_of
+from programs import TABLE, Program
+from terminal_cases import GET_WORDS, SELECT_WORDS, look, rate_of
+
+USAGE = (
+    "\nUsage: serial_card [OPTIONS] TTY TABLE"
+    "\n       serial_card [OPTIONS] --pty TABLE\n"
+    "\nFor more information, try '--help'.\n"
+)
+APP = "app A0000000031010\nobject 5F20 4A4F45\n"
+GONE = "the line is gone\n"
+PUT_WORDS = "> 00DA5F2003 < DA > 414E4E < 9000 "
+# the first of a dialogue that tells whether a card still answers
+ASK_WORDS = "> 00CA5F2000 < 6985 "
+
+
+@dataclass
+class Case:
+    """A dialogue that the other end plays, and what the card says of it after."""
+
+    title: str
+    dialogue: str
+    answer: str = "3B00"
+    options: list = field(default_factory=list)
+    echo: bool = True
+    inverse: bool = False
+    heaps: bool = False
+    fault: str = GONE
+    output: str = ""
+    # no character of the card comes after the dialogue
+    mute: bool = False
+    # the rate of the tty after the dialogue
+    baud: int = 9600
+
+
+def table(folder, text):
+    """A file of lines."""
+    path = Path(folder) / "card.table"
+    path.write_text(text, encoding="utf-8")
+    return path
+
+
+def run(case):
+    """Plays a case; what is wrong with it is an error."""
+    line = Line()
+    with tempfile.TemporaryDirectory() as folder:
+        path = table(folder, f"atr {case.answer}\n{APP}")
+        options = case.options if case.echo else ["--no-echo", *case.options]
+        program = Program("serial_card", ["--slack", "5000", *options, line.name, path])
+        other = Other(line, case.echo, case.inverse, case.heaps)
+        played = ""
+        try:
+            play(other, case.dialogue, card=False)
+            if case.mute:
+                other.take_nothing(0.3)
+            if other.held:
+                line.write(other.held)
+            if program.process.poll() is None:
+                assert rate_of(line) == case.baud, f"the tty runs at {rate_of(line)} baud"
+        except AssertionError as why:
+            played = f": {why}"
+        line.close()
+        look(program, program.end(), case.output, case.fault, 1, played)
+
+
+def sessions():
+    """The same dialogue in each convention, with and without echo, byte by byte and in heaps."""
+    dialogue = SELECT_WORDS + GET_WORDS + PUT_WORDS
+    for inverse in (False, True):
+        ts = "3F" if inverse else "3B"
+        for echo in (True, False):
+            for heaps in (True, False):
+                whole = f"< {ts}00 {dialogue}"
+                yield Case(f"a card's session, TS {ts}, echo {echo}, heaps {heaps}", whole,
+                           f"{ts}00", ["-v"], echo, inverse, heaps, output=trace_of(whole))
+
+
+def pps():
+    """A card takes the rate that it offers, and that of a reset; the rest of a request it leaves
+    out. To one that is none, or asks for another protocol, it says nothing."""
+    offers, own = "3B1095", 111600
+    for title, request, response, baud in (
+        ("its own rate", "FF10957A", "FF10957A", own),
+        ("the rate of a reset", "FF1011FE", "FF1011FE", 9600),
+        ("another rate", "FF109679", "FF00FF", 9600),
+        ("no rate", "FF00FF", "FF00FF", 9600),
+        ("its own rate, and PPS2", "FF3095015B", "FF10957A", own),
+        ("PPS2 and PPS3 alone", "FF6000009F", "FF00FF", 9600),
+        ("a PPS2 that is as TA1", "FF20954A", "FF00FF", 9600),
+    ):
+        yield Case(f"PPS for {title}", f"< {offers} > {request} < {response} {ASK_WORDS}", offers,
+                   baud=baud)
+    yield Case("PPS for its own rate, inverse", f"< 3F1095 > FF10957A < FF10957A {ASK_WORDS}",
+               "3F1095", inverse=True, baud=own)
+    trace = "reset\n< 3B1095\npps > FF10957A\npps < FF10957A\n> 00CA5F2000\n< 6985\n"
+    yield Case("a card's trace of PPS", f"< {offers} > FF10957A < FF10957A {ASK_WORDS}", offers,
+               ["-v"], output=trace, baud=own)
+    fault = "a PPS request has come that the card does not answer\n"
+    for title, request in (
+        ("a wrong PCK", "FF10957B"),
+        ("T=1", "FF11957B"),
+        ("a reserved bit", "FF807F"),
+    ):
+        yield Case(f"PPS with {title}", f"< {offers} > {request} ", offers, mute=True,
+                   fault=fault)
+    yield Case("a card's line of a reset, at a pseudo terminal", f"< {offers} {ASK_WORDS}", offers,
+               ["--reset", "cts"])
+    yield Case("FF that is no PPS", f"< {offers} {ASK_WORDS} > FFCA5F2000 < 6E00 {ASK_WORDS}",
+               offers)
+    yield Case("a card in specific mode", f"< 3B90951000 > FFCA5F2000 < 6E00 {ASK_WORDS}",
+               "3B90951000", baud=own)
+    yield Case("PPS of a card at another rate at the reset",
+               f"< {offers} > FF10957A < FF10957A {ASK_WORDS}", offers, ["--baud", "38400"],
+               baud=446400)
+
+
+def plans():
+    """Plans of procedure bytes, one for each TPDU in turn."""
+    yield Case(
+        "plans",
+        "< 3B00 > 00A4040007 < 60A4 > A0000000031010 < 610B "
+        "> 00C000000B < 3F6F603F09C08407A00000000310109000 > 00CA5F2006 < CA5F20034A4F459000 ",
+        options=["--plan", "n", "--plan", "ono"],
+    )
+
+
+def all_cases():
+    """The cases that are a dialogue each."""
+    return [case for part in (sessions, pps, plans) for case in part()]
+
+
+def wrong_echo():
+    """A card's echo that is another, and one that does not come."""
+    for echo, fault in (
+        ("55", "another echo has come back than what was sent\n"),
+        ("", "no echo has come back\n"),
+    ):
+        line = Line()
+        try:
+            program = Program("serial_card", ["--slack", "1000", line.name, TABLE])
+            other = Other(line, echo=False)
+            other.take("3B")
+            if echo:
+                other.send(echo)
+            look(program, program.end(), "", fault, 1)
+            assert line.is_put_back(), "the tty is not set as it was before"
+        finally:
+            line.close()
+
+
+def is_slow():
+    """A card waits for its terminal as long as that takes, within a TPDU too."""
+    line = Line()
+    program = Program("serial_card", ["--slack", "5000", line.name, TABLE])
+    try:
+        play(Other(line), "< 3B00 > 00CA5F ~ 1.5 > 2000 < 6985", card=False)
+    finally:
+        line.close()
+    look(program, program.end(), "", GONE, 1)
+
+
+def puts_back():
+    """A signal ends a card, and its tty is as it was."""
+    line = Line()
+    try:
+        program = Program("serial_card", ["--slack", "5000", line.name, TABLE])
+        play(Other(line), "< 3B00 > 00CA5F", card=False)
+        assert not line.is_put_back(), "the tty was not set"
+        program.kill(signal.SIGTERM)
+        look(program, program.end(), "", "", -signal.SIGTERM)
+        assert line.is_put_back(), "the tty is not set as it was before"
+    finally:
+        line.close()
+
+
+class Far:
+    """A card that makes its own line, and the near end of that as a terminal opens it."""
+
+    def __init__(self, *words):
+        self.program = Program("serial_card", ["--pty", *words])
+        self.name = self.program.first_line()
+
+    def opened(self, echo=True):
+        """The near end, as the other end by hand; it is to be closed."""
+        near = Line.__new__(Line)
+        near.far, near.near = os.open(self.name, os.O_RDWR | os.O_NOCTTY), -1
+        return near, Other(near, echo=False)
+
+    def end(self, output="", fault=""):
+        self.program.kill(signal.SIGTERM)
+        look(self.program, self.program.end(), output, fault, -signal.SIGTERM)
+
+
+def opening_is_the_reset():
+    """Each opening of a card's own line is a reset: it answers, and nothing is selected; what was
+    under way is dropped, and what was on the way is not there."""
+    far = Far("--no-echo", TABLE)
+    for dialogue in (
+        "< 3B00 " + SELECT_WORDS + "> 00DA5F2003 < DA > 41",
+        "< 3B00 " + ASK_WORDS + SELECT_WORDS + "> 00CA5F2006 < CA5F20034A4F459000",
+        "< 3B00 " + SELECT_WORDS + PUT_WORDS + "> 00CA5F2006",
+        "",
+        "< 3B00 " + ASK_WORDS + SELECT_WORDS + "> 00CA5F2006 < CA5F2003414E4E9000",
+    ):
+        near, other = far.opened()
+        play(other, dialogue, card=False)
+        near.close()
+        time.sleep(0.3)
+    far.end()
+
+
+def gives_the_echo():
+    """A card's own line gives the terminal its echo, before the card says anything."""
+    far = Far(TABLE)
+    near, other = far.opened()
+    play(other, "< 3B00 > 00 < 00 > CA < CA > 5F < 5F > 20 < 20 > 00 < 006985", card=False)
+    near.close()
+    far.end()
+
+
+def is_not_read():
+    """A terminal that reads nothing does not stop the card: it waits for the next one."""
+    words = ["--no-echo", "--baud", "1000000", "--plan", "n" * 100000, TABLE]
+    far = Far(*words)
+    near, other = far.opened()
+    play(other, "< 3B00 > 00CA5F2000", card=False)
+    told = far.program.first_fault(15)
+    near.close()
+    time.sleep(0.3)
+    near, other = far.opened()
+    play(other, "< 3B00 " + ASK_WORDS, card=False)
+    near.close()
+    far.end()
+    assert told == "the tty takes no more characters\n", f"it tells {told!r}"
+
+
+def mute_until_reset():
+    """A card that does not answer a PPS request is mute until the next reset, and tells why."""
+    far = Far("--no-echo", TABLE)
+    near, other = far.opened()
+    play(other, "< 3B00 > FF11FE00", card=False)
+    other.send("00CA5F2000")
+    other.take_nothing(0.3)
+    near.close()
+    time.sleep(0.3)
+    near, other = far.opened()
+    play(other, "< 3B00 " + ASK_WORDS, card=False)
+    near.close()
+    far.end(fault="a PPS request has come that the card does not answer\n")
+
+
+def tables():
+    """Tables that are refused, and answers to reset by which no T=0 is offered."""
+    none = "the table's answer to reset is none: "
+    no_t0 = "the table's answer to reset does not offer T=0 at a rate that it tells\n"
+    for text, fault in (
+        ("app A000\n", "line 1: bad argument\n"),
+        ("# a name\nobject 5F20 41\n", "line 2: no app\n"),
+        ("atr 3B80018F\n", none + "wrong check byte, at byte 4\n"),
+        ("atr 5500\n", none + "no TS, at byte 1\n"),
+        ("atr 3B6500\n", none + "answer to reset cut, at byte 4\n"),
+        ("atr 3B800181\n", no_t0),
+        ("atr 3B90951001\n", no_t0),
+        ("atr 3B90951010\n", no_t0),
+        ("atr 3B909F1000\n", no_t0),
+    ):
+        with tempfile.TemporaryDirectory() as folder:
+            program = Program("serial_card", ["--pty", table(folder, text)])
+            look(program, program.end(), "", fault, 1)
+
+
+def words():
+    """Words of a card that are refused, and what can't be opened."""
+    for given, why in (
+        ([], "no tty or no table was provided"),
+        (["x"], "no tty or no table was provided"),
+        (["x", "y", "z"], "there are too many words"),
+        (["--pty"], "no tty or no table was provided"),
+        (["--pty", "x", "y"], "there are too many words"),
+        (["--pps", "x", "y"], "'--pps' is no option"),
+        (["--reset", "rts", "x", "y"], "'rts' is no line of '--reset'"),
+        (["--plan", "nx", "x", TABLE], "a plan has the letters n, o and a"),
+        (["--plan", "n"] * 65 + ["x", TABLE], "'--plan' is used too often"),
+    ):
+        program = Program("serial_card", given)
+        look(program, program.end(), "", f"error: {why}\n{USAGE}", 2)
+    for given, fault in (
+        (["/nowhere/tty", TABLE], "the tty can not be opened: No such file or directory\n"),
+        (["/dev/null", TABLE], "it is no tty\n"),
+        (["--pty", "/nowhere/table"], "the table can not be read\n"),
+    ):
+        program = Program("serial_card", given)
+        look(program, program.end(), "", fault, 1)
+
+
+def helps():
+    """A card's help fits a terminal; its version is the header's."""
+    for word in ("-h", "--help"):
+        program = Program("serial_card", [word])
+        assert program.end() == 0 and program.faults == "", program.faults
+        lines = program.output.splitlines()
+        assert max(map(len, lines)) <= 80, "a line of more than 80 columns"
+        assert "Usage: serial_card [OPTIONS] TTY TABLE" in lines, lines[:4]
+    for word in ("-V", "--version"):
+        program = Program("serial_card", [word])
+        look(program, program.end(), "serial_card 0.1.0\n", "", 0)
+
+
+def tests():
+    """Each test of this part: its title, and a function that is wrong by an error."""
+    yield from ((case.title, lambda case=case: run(case)) for case in all_cases())
+    for test in (wrong_echo, is_slow, puts_back, opening_is_the_reset, gives_the_echo, is_not_read,
+                 mute_until_reset, tables, words, helps):
+        yield (f"card: {test.__name__}", test)

@@ -1,0 +1,181 @@
+"""serial_terminal and serial_card against each other, over two lines and a wire between them, and
+over the line that the card makes."""
+
+import signal
+import subprocess
+import tempfile
+import time
+
+from card_cases import APP, GONE, Far, table
+from lines import Line, Wire, trace_of
+from programs import TABLE, TOP, Program, Skipped
+from terminal_cases import GET_WORDS, SELECT_WORDS, look, rate_of
+
+EXPLAIN = TOP / "crates/trace_explain/out/trace_explain"
+SLACK = ["--slack", "8000"]
+VALUE = bytes(range(256)) * 2 + b"\xff\xff\x00\x60\x03"
+WORDS = ["select", "A0000000031010", "get", "5F20", "put", "DF01", VALUE.hex(), "get", "DF01",
+         "get", "50"]
+# tag, length and value of the long one: 517 bytes
+ANSWERS = (
+    "= 9000 6F098407A0000000031010\n= 9000 5F20034A4F45\n= 9000\n"
+    f"= 9000 DF01820205{VALUE.hex().upper()}\n= 6A88\n"
+)
+
+# what is behind TS, what the terminal is asked for beside, and the rate then
+RATES = (
+    ("no other rate", "00", [], 9600),
+    ("a rate by PPS", "1095", ["--pps"], 111600),
+    ("a rate in specific mode", "90951000", [], 111600),
+)
+
+
+def both(answer, echo, heaps, options):
+    """The two programs over a wire, to the end of both: the terminal, its status, and the rate of
+    the card's tty."""
+    ends = Line(), Line()
+    wire = Wire(*ends, echo=echo, heaps=heaps)
+    wire.start()
+    no_echo = [] if echo else ["--no-echo"]
+    rate = None
+    try:
+        with tempfile.TemporaryDirectory() as folder:
+            path = table(folder, f"atr {answer}\n{APP}")
+            card = Program("serial_card", [*SLACK, *no_echo, ends[1].name, path])
+            terminal = Program(
+                "serial_terminal", [*SLACK, *no_echo, *options, ends[0].name, *WORDS]
+            )
+            while terminal.process.poll() is None:
+                rate = rate_of(ends[1])
+                time.sleep(0.02)
+            status = terminal.end()
+            is_put_back = ends[0].is_put_back()
+    finally:
+        wire.cut()
+        for end in ends:
+            end.close()
+    look(card, card.end(), "", GONE, 1)
+    assert is_put_back, "the terminal's tty is not set as it was before"
+    return terminal, status, rate
+
+
+def pairs():
+    """Each convention, with and without echo, byte by byte and in heaps, at each kind of rate."""
+    for inverse in (False, True):
+        for echo in (True, False):
+            for heaps in (True, False):
+                for title, rest, options, rate in RATES:
+                    yield (inverse, echo, heaps, title, rest, options, rate)
+
+
+def run(inverse, echo, heaps, rest, options, rate):
+    terminal, status, found = both(("3F" if inverse else "3B") + rest, echo, heaps, options)
+    look(terminal, status, ANSWERS, "", 1)
+    assert found == rate, f"the card's tty runs at {found} baud"
+
+
+def own_line(inverse, echo):
+    """A terminal at the line that a card makes, twice; and the traces of both ends are the same."""
+    whole = f"< {'3F' if inverse else '3B'}00 " + SELECT_WORDS + GET_WORDS
+    answers = "= 9000 6F098407A0000000031010\n", "= 9000 5F20034A4F45\n"
+    trace = trace_of(whole)
+    cut = trace.index("> 00CA5F2000")
+    wanted = trace[:cut] + answers[0] + trace[cut:] + answers[1]
+    no_echo = [] if echo else ["--no-echo"]
+    with tempfile.TemporaryDirectory() as folder:
+        path = table(folder, f"atr {whole[2:6]}\n{APP}")
+        far = Far("-v", *no_echo, path)
+        for _ in range(2):
+            terminal = Program(
+                "serial_terminal", [*SLACK, *no_echo, "-v", far.name, *WORDS[:4]]
+            )
+            look(terminal, terminal.end(), wanted, "", 0)
+            time.sleep(0.3)
+        far.end(2 * trace)
+
+
+def is_explained():
+    """trace_explain reads the trace of a terminal, PPS with it, and finds nothing wrong."""
+    if not EXPLAIN.exists():
+        raise Skipped("a trace of a serial line, since trace_explain is not built")
+    with tempfile.TemporaryDirectory() as folder:
+        far = Far(table(folder, f"atr 3B1095\n{APP}"))
+        words = [*SLACK, "-v", "--pps", far.name, *WORDS[:4]]
+        terminal = Program("serial_terminal", words)
+        assert terminal.end() == 0 and not terminal.faults, terminal.faults
+        far.end()
+    found = subprocess.run(
+        [EXPLAIN], input=terminal.output.encode(), capture_output=True, check=False
+    )
+    assert found.returncode == 0 and not found.stderr, found.stderr
+    titles = [line.split("  ")[0] for line in found.stdout.decode().splitlines() if line[0] == "#"]
+    assert titles == [
+        "#1 SELECT A0000000031010",
+        "#2 GET RESPONSE, fetches 11",
+        "#3 GET DATA of 5F20",
+        "#4 GET DATA of 5F20, asked again for 6 bytes",
+    ], titles
+
+
+def comes_back():
+    """A terminal that is killed within a long put, and comes back, finds the value of before."""
+    far = Far("--no-echo", TABLE)
+    words = [*SLACK, "--no-echo", far.name, "select", "A0000000031010"]
+    for number in (signal.SIGKILL, signal.SIGTERM):
+        killed = Program("serial_terminal", [*words, "put", "5F20", "41*8000"])
+        time.sleep(1.0)
+        killed.kill(number)
+        look(killed, killed.end(), "= 9000 6F098407A0000000031010\n", "", -number)
+        time.sleep(0.2)
+        back = Program("serial_terminal", [*words, "get", "5F20", "get", "50"])
+        look(back, back.end(), "= 9000 6F098407A0000000031010\n= 9000 5F20034A4F45\n"
+             "= 9000 500456495341\n", "", 0)
+        time.sleep(0.3)
+    far.end()
+
+
+def comes_back_soon():
+    """A terminal that is killed while the card sends, and comes back before that has ended, gets an
+    answer to reset, and nothing of what was left."""
+    with tempfile.TemporaryDirectory() as folder:
+        path = table(folder, f"{APP}object 50 {'41' * 8000}\n")
+        far = Far("--no-echo", "--plan", "", "--plan", "", "--plan", "n" * 5000, path)
+        words = [*SLACK, "--no-echo", far.name, "select", "A0000000031010", "get"]
+        for long in ("5F20", "50"):
+            killed = Program("serial_terminal", [*words, long])
+            time.sleep(1.0)
+            killed.kill(signal.SIGKILL)
+            killed.end()
+            time.sleep(0.2)
+            back = Program("serial_terminal", [*words, "5F20"])
+            look(back, back.end(), "= 9000 6F098407A0000000031010\n= 9000 5F20034A4F45\n", "", 0)
+            time.sleep(0.3)
+        far.end()
+
+
+def keeps_values():
+    """What one terminal has stored the next one finds, over the line that a card makes."""
+    far = Far(TABLE)
+    select = ["select", "A0000000031010"]
+    answer = "= 9000 6F098407A0000000031010\n"
+    for words, output in (
+        (["put", "5F20", "FF60FF"], "= 9000\n"),
+        (["get", "5F20"], "= 9000 5F2003FF60FF\n"),
+    ):
+        terminal = Program("serial_terminal", [*SLACK, far.name, *select, *words])
+        look(terminal, terminal.end(), answer + output, "", 0)
+        time.sleep(0.3)
+    far.end()
+
+
+def tests():
+    """Each test of this part: its title, and a function that is wrong by an error."""
+    for inverse, echo, heaps, title, *rest in pairs():
+        yield (f"both ends, inverse {inverse}, echo {echo}, heaps {heaps}, {title}",
+               lambda of=(inverse, echo, heaps, *rest): run(*of))
+    for inverse in (False, True):
+        for echo in (True, False):
+            yield (f"the card's own line, inverse {inverse}, echo {echo}",
+                   lambda of=(inverse, echo): own_line(*of))
+    for test in (is_explained, comes_back, comes_back_soon, keeps_values):
+        yield (f"both: {test.__name__}", test)

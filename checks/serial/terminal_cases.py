@@ -1,0 +1,514 @@
+"""serial_terminal, with a card that is played by hand at the other end of its line.
+
+What is expected comes from the rules of the line (ISO/IEC 7816-3) and of the card, and from what
+bindings/c/README.md says of the program."""
+
+import fcntl
+import os
+import signal
+import struct
+import time
+from dataclasses import dataclass, field
+
+from lines import Line, Other, play, trace_of
+from programs import Program
+
+USAGE = (
+    "\nUsage: serial_terminal [OPTIONS] TTY OPERATION..\n"
+    "\nFor more information, try '--help'.\n"
+)
+TCGETS2 = 0x802C542A
+
+SELECT = ["select", "A0000000031010"]
+SELECT_WORDS = (
+    "> 00A4040007 < A4 > A0000000031010 < 610B > 00C000000B < C06F098407A00000000310109000 "
+)
+SELECTED = "= 9000 6F098407A0000000031010\n"
+GET = ["get", "5F20"]
+GET_WORDS = "> 00CA5F2000 < 6C06 > 00CA5F2006 < CA5F20034A4F459000 "
+GOT = "= 9000 5F20034A4F45\n"
+DONE = "< 9000 "
+SHORT = ["send", "00200000"]
+SHORT_WORDS = "> 0020000000 "
+# how much later than it should a program may end where the machine is busy
+LATE = 4.0
+
+
+@dataclass
+class Case:
+    """A dialogue that the other end plays, and what the program is to say of it."""
+
+    title: str
+    dialogue: str
+    words: list
+    output: str = ""
+    fault: str = ""
+    status: int = 0
+    options: list = field(default_factory=list)
+    given: bytes = b""
+    echo: bool = True
+    inverse: bool = False
+    heaps: bool = False
+    # in milliseconds; None is what the program takes by itself, 200
+    slack: int = 600
+    # the least time without slack from the last character on, after which the program ends
+    waits: float = None
+    # the rate of the tty before the last of the dialogue
+    baud: int = None
+    # the least time before each of the terminal's characters
+    gap: float = 0.0
+
+
+def rate_of(line):
+    """The rate that a line is set to."""
+    return struct.unpack("4I20s2I", fcntl.ioctl(line.near, TCGETS2, bytes(44)))[-1]
+
+
+def run(case):
+    """Plays a case; what is wrong with it is an error."""
+    line = Line()
+    try:
+        options = [] if case.slack is None else ["--slack", case.slack]
+        options += case.options if case.echo else ["--no-echo", *case.options]
+        other = Other(line, case.echo, case.inverse, case.heaps)
+        *most, sign, last_word = ["", "", *case.dialogue.split()]
+        played, baud = "", None
+        # what the card says of itself is there when the line is opened, which is its reset
+        first = most[:4] if most[2:3] == ["<"] and len(most) > 4 else []
+        play(other, " ".join(first), card=True)
+        program = Program("serial_terminal", [*options, line.name, *case.words], case.given)
+        other.sent_at = program.began
+        try:
+            play(other, " ".join(most[len(first):]), card=True)
+            baud = rate_of(line)
+            play(other, f"{sign} {last_word}", card=True)
+        except AssertionError as why:
+            played = f": {why}"
+        last = other.sent_at
+        status = program.end()
+        look(program, status, case.output, case.fault, case.status, played)
+        waited = program.began + program.seconds - last
+        least = 0 if case.waits is None else case.waits + (case.slack or 200) / 1000
+        assert least <= waited < least + LATE, f"it ends after {waited:.2f} s"
+        assert line.is_put_back(), "the tty is not set as it was before"
+        assert case.baud in (None, baud), f"the tty runs at {baud} baud"
+        assert not other.gaps or min(other.gaps) >= case.gap, f"{min(other.gaps)} s between two"
+    finally:
+        line.close()
+
+
+def look(program, status, output, fault, wanted, played=""):
+    """Compares what a program has said with what it should say."""
+    told = f"{program.faults[-2000:]!r}{played}"
+    assert program.faults == fault, f"standard error: {told}, and not {fault!r}"
+    found = program.output
+    assert found == output, f"standard output: {found!r}, and not {output!r}{played}"
+    assert status == wanted, f"status {status}, and not {wanted}{played}"
+    assert not played, played
+
+
+def sessions():
+    """The same dialogue in each convention, with and without echo, byte by byte and in heaps."""
+    put = ["put", "5F20", "414E4E"]
+    dialogue = SELECT_WORDS + GET_WORDS + "> 00DA5F2003 < DA > 414E4E " + DONE
+    parts = [trace_of("< TS00 " + SELECT_WORDS) + SELECTED, trace_of(GET_WORDS)[6:] + GOT]
+    parts.append(trace_of("> 00DA5F2003 < DA > 414E4E < 9000")[6:] + "= 9000\n")
+    for inverse in (False, True):
+        ts = "3F" if inverse else "3B"
+        for echo in (True, False):
+            for heaps in (True, False):
+                yield Case(
+                    f"a session, TS {ts}, echo {echo}, heaps {heaps}",
+                    f"< {ts}00 {dialogue}",
+                    ["-v", *SELECT, *GET, *put],
+                    "".join(parts).replace("TS", ts),
+                    echo=echo,
+                    inverse=inverse,
+                    heaps=heaps,
+                    slack=5000,
+                    options=["-v"],
+                    baud=9600,
+                )
+
+
+def of_session(case):
+    """Options stand before the tty."""
+    case.words = [word for word in case.words if word != "-v"]
+    return case
+
+
+def statuses():
+    """A status other than 9000 ends it with 1; -k goes on."""
+    refused = "> 00CA5F2000 < 6985 "
+    yield Case("a status", "< 3B00 " + refused, [*GET, *SELECT], "= 6985\n", status=1)
+    yield Case("a status, and -k", "< 3B00 " + refused + SELECT_WORDS, [*GET, *SELECT],
+               "= 6985\n" + SELECTED, status=1, options=["-k"])
+    yield Case("operations of standard input", "< 3B00 " + SELECT_WORDS + GET_WORDS, [],
+               SELECTED + GOT, given=b"# a name\nselect A0000000031010\nget 5F20\n",
+               options=["-f", "-"])
+    yield Case("a fault in a file is told by its line", "< 3B00 " + SELECT_WORDS + "> 00CA5F2000 ",
+               [], SELECTED, "line 3: the card is silent\n", 1,
+               given=b"# a name\nselect A0000000031010\nget 5F20\n", options=["-f", "-"], waits=1.0)
+    yield Case("a command of one's own", "< 3B00 > 0020000102 < 20 > 1234 < 63C2 ",
+               ["send", "00200001021234"], "= 63C2\n", status=1)
+    yield Case("values of FF", "< 3B00 > 00DA5F2003 < DA > FFFF00 < 9000 > 00CA5F2000 "
+               "< CA5F20FBFF00FF" + "FF" * 250 + "9000 ",
+               ["put", "5F20", "FFFF00", "get", "5F20"],
+               "= 9000\n= 9000 5F20FBFF00FF" + "FF" * 250 + "\n")
+
+
+def answers():
+    """Answers to reset that are none, or that say what this terminal does not do."""
+    none = "the answer to reset is none: "
+    for title, answer, fault, waits in (
+        ("silent from the reset on", "", "the card does not answer to reset", 0.011),
+        ("an answer of TS alone", "< 3B", "the answer to reset stops after byte 1", 1.0),
+        ("an answer that is cut", "< 3B6500", "the answer to reset stops after byte 3", 1.0),
+        ("no check byte comes", "< 3B8001", "the answer to reset stops after byte 3", 1.0),
+        ("a wrong check byte", "< 3B80018F", none + "wrong check byte, at byte 4", None),
+        ("a wrong check byte, T=0 first", "< 3B80800102", none + "wrong check byte, at byte 5",
+         None),
+        ("noise for an answer", "< 55", none + "no TS, at byte 1", None),
+        ("TS of the other convention, turned", "< 3F", none + "no TS, at byte 1", None),
+        ("T out of order", "< 3B8081801F", none + "T out of order, at byte 4", None),
+        ("an answer of more than 33 bytes", "< 3BF0" + "000000F0" * 7 + "000000",
+         "the answer to reset is too long", None),
+        ("T=1 alone", "< 3B800181", "the card does not talk T=0", None),
+        ("specific mode with T=1", "< 3B90951001", "the card does not talk T=0", None),
+        ("specific mode with implicit values", "< 3B90951010",
+         "the card goes on at a rate that it does not tell", None),
+        ("specific mode at a reserved rate", "< 3B909F1000",
+         "the card goes on at a rate that is reserved", None),
+        ("a reserved waiting time", "< 3B804000", "the card's waiting time is reserved", None),
+    ):
+        yield Case(title, answer, SHORT, fault=f"{fault}\n", status=1, waits=waits)
+    for inverse in (False, True):
+        ts = "3F" if inverse else "3B"
+        yield Case(f"historical bytes and a check byte, TS {ts}", f"< {ts}84800141FF00FF44 "
+                   + SHORT_WORDS + DONE, SHORT, "= 9000\n", inverse=inverse)
+
+
+def waiting():
+    """Each wait lasts as long as the rules have it, and the slack; and no longer."""
+    fault = "operation 1: the card is silent\n"
+    # 2 * 960 * 372 cycles at 3.5712 MHz are 0.2 s, and with Fi = 512 0.275 s
+    quick, slow = "< 3B804002 ", "< 3B90954002 "
+    for title, dialogue, waits in (
+        ("silent after a header", quick + SHORT_WORDS, 0.2),
+        ("silent after a header, with Fi 512", slow + SHORT_WORDS, 0.275),
+        ("silent after a header, with WI 10", "< 3B00 " + SHORT_WORDS, 1.0),
+        ("silent after SW1", quick + SHORT_WORDS + "< 90 ", 0.2),
+        ("silent after a NULL", quick + SHORT_WORDS + "< 60 ", 0.2),
+    ):
+        yield Case(title, dialogue, SHORT, fault=fault, status=1, waits=waits)
+    yield Case("silent within data", quick + "> 00CA5F2003 < CA5F20", ["send", "00CA5F2003"],
+               fault=fault, status=1, waits=0.2)
+    yield Case("silent after a header, at 4,800 baud", quick + SHORT_WORDS, SHORT, fault=fault,
+               status=1, options=["--baud", "4800"], waits=0.4)
+    yield Case("a longer slack", quick + SHORT_WORDS, SHORT, fault=fault, status=1, slack=1200,
+               waits=0.2)
+    yield Case("the slack where nothing is said", "< 3B00 ", SHORT, echo=True, slack=None, status=1,
+               fault="operation 1: no echo has come back\n", waits=0.0)
+    yield Case("a card that takes its slack", quick + SHORT_WORDS + "~ 0.5 " + DONE, SHORT,
+               "= 9000\n", slack=1500)
+    yield Case("an answer that takes its time", "~ 0.2 < 3B ~ 1.2 < 80 ~ 0.5 < 4002 " + SHORT_WORDS
+               + DONE, SHORT, "= 9000\n", slack=1500)
+    yield Case("NULLs for ten waiting times", quick + SHORT_WORDS + "~ 0.25 < 60 " * 10 + DONE,
+               SHORT, "= 9000\n", slack=1000)
+    yield Case("NULLs before data", quick + "> 00CA5F2006 < 6060CA5F20034A4F4560 ~ 0.1 < 609000 ",
+               ["send", "00CA5F2006"], "= 9000 5F20034A4F45\n")
+    yield Case("NULLs with data between them", "< 3B00 > 00CA5F2006 < 60 ~ 0.7 < CA5F20034A4F45 "
+               "~ 0.7 < 609000 ", ["send", "00CA5F2006"], "= 9000 5F20034A4F45\n", slack=3000,
+               options=["--patience", "1"])
+    yield Case("NULLs before data in heaps", "< 3B00 > 00CA5F2006 < 60 ~ 0.7 < 60CA5F20034A4F45 "
+               "~ 0.7 < 609000 ", ["send", "00CA5F2006"], "= 9000 5F20034A4F45\n", slack=3000,
+               options=["--patience", "1"], heaps=True)
+    yield Case("a trace that a fault cuts", quick + SHORT_WORDS + "< 60 ", SHORT,
+               "reset\n< 3B804002\n> 0020000000\n< 60\n", fault, 1, options=["-v"], waits=0.2)
+
+
+def noise():
+    """What is no dialogue."""
+    yield Case("noise for a procedure byte", "< 3B00 " + SHORT_WORDS + "< 55 ", SHORT,
+               fault="operation 1: bad procedure byte\n", status=1)
+    yield Case("more data than asked for", "< 3B00 > 00CA5F2001 < CA5F2055 ",
+               ["send", "00CA5F2001"], fault="operation 1: bad procedure byte\n", status=1)
+    for heaps in (True, False):
+        # what stands behind the fault is not looked at
+        yield Case(f"noise among data, heaps {heaps}", "< 3B00 > 00CA5F2001 < CA5F2055 ",
+                   ["send", "00CA5F2001"], "reset\n< 3B00\n> 00CA5F2001\n< CA5F20\n",
+                   "operation 1: bad procedure byte\n", 1, options=["-v"], heaps=heaps)
+        yield Case(f"a character behind SW2, heaps {heaps}", "< 3B00 > 00CA5F2000 < 6C0655 ", GET,
+                   fault="operation 1: another echo has come back than what was sent\n", status=1,
+                   heaps=heaps)
+        yield Case(f"a character behind an answer, heaps {heaps}", "< 3B00 > 00CA5F2000 < 698555 ",
+                   GET, "= 6985\n", status=1, heaps=heaps)
+        yield Case(f"a character before a next operation, heaps {heaps}",
+                   "< 3B00 > 00CA5F2000 < 698555 ", [*GET, *GET], "= 6985\n",
+                   "operation 2: another echo has come back than what was sent\n", 1, ["-k"],
+                   heaps=heaps)
+    # what stays on the line is read in turn, as an echo too
+    yield Case("all of the rest before its time",
+               "< 3B00 > 00CA5F2000 < 6C0600CA5F2006CA5F20034A4F459000 ", GET, GOT, heaps=True)
+    yield Case("a NULL among others", "< 3B00 " + SHORT_WORDS + "< 6060609000 ", SHORT,
+               "reset\n< 3B00\n> 0020000000\n< 6060609000\n= 9000\n", options=["-v"], heaps=True)
+    yield Case("no echo", "< 3B00 ", SHORT, fault="operation 1: no echo has come back\n",
+               status=1, waits=0.0)
+    yield Case("another echo", "< 3B0055 ", SHORT, status=1,
+               fault="operation 1: another echo has come back than what was sent\n")
+    yield Case("GET RESPONSE that brings nothing",
+               "< 3B00 > 00CA5F2000 < 6105 > 00C0000005 < 6105 ", GET,
+               fault="operation 1: stalled\n", status=1)
+
+
+def pps():
+    """What PPS asks for, and what the card makes of it. 9,600 baud are a 372nd of the clock, and
+    with Fi 512 and Di 16 it runs at 111,600."""
+    answer, request, rest = "< 3B1095 ", "> FF10957A ", SHORT_WORDS + DONE
+    own = ["--pps"]
+    yield Case("PPS", answer + request + "< FF10957A " + rest, SHORT, "= 9000\n", options=own,
+               baud=111600)
+    yield Case("PPS, in the inverse convention", "< 3F1095 " + request + "< FF10957A " + rest,
+               SHORT, "= 9000\n", options=own, baud=111600, inverse=True, heaps=True)
+    yield Case("PPS, without echo", answer + request + "< FF10957A " + rest, SHORT, "= 9000\n",
+               options=own, baud=111600, echo=False)
+    yield Case("no PPS where it is not asked for", answer + rest, SHORT, "= 9000\n", baud=9600)
+    yield Case("no PPS where there is no other rate", "< 3B1011 " + rest, SHORT, "= 9000\n",
+               options=own, baud=9600)
+    yield Case("no PPS where the rate is reserved", "< 3B101F " + rest, SHORT, "= 9000\n",
+               options=own, baud=9600)
+    yield Case("PPS that leaves the rate out", answer + request + "< FF00FF " + rest, SHORT,
+               "= 9000\n", options=own, baud=9600)
+    yield Case("a trace of PPS", answer + request + "< FF10957A " + rest, SHORT,
+               "reset\n< 3B1095\npps > FF10957A\npps < FF10957A\n> 0020000000\n< 9000\n= 9000\n",
+               options=["-v", "--pps"])
+    refused = "the card does not accept what PPS asks for\n"
+    for title, response in (
+        ("another rate", "FF1011FE"),
+        ("another protocol", "FF11957B"),
+        ("a wrong PCK", "FF10957B"),
+        ("PPS2 that was not asked for", "FF309500 5A".replace(" ", "")),
+        ("no PPSS", "FE10957B"),
+    ):
+        yield Case(f"PPS that is answered by {title}", f"{answer}{request}< {response} ", SHORT,
+                   fault=refused, status=1, options=own)
+    mute = "the card does not answer to PPS\n"
+    yield Case("PPS that is not answered", answer + request, SHORT, fault=mute, status=1,
+               options=own, waits=1.0)
+    yield Case("PPS that is answered by half", answer + request + "< FF1095 ", SHORT,
+               "reset\n< 3B1095\npps > FF10957A\npps < FF1095\n", mute, 1, options=["-v", "--pps"],
+               waits=1.0)
+    yield Case("specific mode", "< 3B90951000 " + rest, SHORT, "= 9000\n", options=own, baud=111600)
+    yield Case("specific mode at the rate of a reset", "< 3B801000 " + rest, SHORT, "= 9000\n",
+               baud=9600)
+    yield Case("another rate at the reset", answer + request + "< FF10957A " + rest, SHORT,
+               "= 9000\n", options=["--baud", "38400", *own], baud=446400)
+
+
+def gaps():
+    """The least time between characters: 12 + N etu from one of the terminal's to the next, and 16
+    from one of the card's. At 1,200 baud an etu is 0.83 ms."""
+    slow = ["--baud", "1200"]
+    yield Case("extra guard time", "< 3B4014 " + SHORT_WORDS + DONE, SHORT, "= 9000\n",
+               options=slow, slack=5000, gap=0.005)
+    yield Case("no extra guard time", "< 3B40FF " + SHORT_WORDS + DONE, SHORT, "= 9000\n",
+               options=slow, slack=5000)
+
+
+def all_cases():
+    """The cases that are a dialogue each."""
+    parts = (sessions, statuses, answers, waiting, noise, pps, gaps)
+    return [of_session(case) for part in parts for case in part()]
+
+
+def guard_time():
+    """Each character comes 12 + N etu after the one before, with N = 100 93.3 ms; and as long after
+    where the answer names T=15, as Fi/Di cycles are an etu here. With N = 255, which is the least
+    guard time, nothing near 12 + 255 etu passes."""
+    found = {}
+    for answer in ("3B4064", "3BC064801F0338", "3B40FF"):
+        line = Line()
+        try:
+            words = ["--baud", "1200", "--slack", "5000", line.name, *SHORT]
+            program = Program("serial_terminal", words)
+            other = Other(line)
+            play(other, f"< {answer} " + SHORT_WORDS + DONE, card=True)
+            look(program, program.end(), "= 9000\n", "", 0)
+            found[answer] = other.gaps
+        finally:
+            line.close()
+    # four times, less what this program is late in seeing the first
+    for answer in ("3B4064", "3BC064801F0338"):
+        assert 4 * 0.0933 - 0.02 <= sum(found[answer][1:]), f"{answer}: {found[answer]}"
+    assert sum(found["3B40FF"][1:]) < 0.5, f"N = 255: {found['3B40FF']}"
+
+
+def puts_back(number):
+    """A signal ends it, and the tty is as it was; before that it was set for the line."""
+    line = Line()
+    try:
+        program = Program("serial_terminal", ["--slack", "60000", line.name, *SHORT])
+        other = Other(line)
+        play(other, "< 3B00 " + SHORT_WORDS, card=True)
+        assert not line.is_put_back(), "the tty was not set"
+        program.kill(number)
+        status = program.end()
+        assert status == -number, f"status {status}: {program.faults}"
+        assert line.is_put_back(), "the tty is not set as it was before"
+    finally:
+        line.close()
+
+
+def passes_over_a_signal():
+    """Who starts it with SIGHUP passed over, as nohup does, is not ended by that."""
+    line = Line()
+    try:
+        program = Program("serial_terminal", ["--slack", "5000", line.name, *SHORT],
+                          passed_over="HUP")
+        other = Other(line)
+        play(other, "< 3B00 " + SHORT_WORDS, card=True)
+        program.kill(signal.SIGHUP)
+        time.sleep(0.2)
+        other.send("9000")
+        look(program, program.end(), "= 9000\n", "", 0)
+    finally:
+        line.close()
+
+
+def line_gone():
+    """A line that goes while a card is awaited, and one that goes before."""
+    for dialogue, fault in (
+        ("< 3B00 " + SHORT_WORDS, "operation 1: the line is gone\n"),
+        ("< 3B", "the line is gone\n"),
+    ):
+        line = Line()
+        program = Program("serial_terminal", ["--slack", "5000", line.name, *SHORT])
+        play(Other(line), dialogue, card=True)
+        time.sleep(0.3)
+        line.close()
+        look(program, program.end(), "", fault, 1)
+
+
+def nulls_for_ever():
+    """A card that sends nothing but NULLs is given up after the time of --patience."""
+    line = Line()
+    try:
+        words = ["--patience", "1", "--slack", "2000", line.name, *SHORT]
+        program = Program("serial_terminal", words)
+        other = Other(line)
+        play(other, "< 3B00 " + SHORT_WORDS, card=True)
+        began = time.monotonic()
+        while program.process.poll() is None and time.monotonic() < began + 10:
+            other.send("60")
+            time.sleep(0.05)
+        ended = time.monotonic() - began
+        look(program, program.end(), "", "operation 1: the card sends nothing but NULLs\n", 1)
+        assert 1.0 <= ended < 4, f"it ends after {ended:.2f} s"
+    finally:
+        line.close()
+
+
+def settings():
+    """What the tty is set to while the terminal talks: raw, 8 bits, 2 stop bits. A pseudo terminal
+    has no parity."""
+    line = Line()
+    try:
+        program = Program("serial_terminal", ["--slack", "5000", line.name, *SHORT])
+        other = Other(line)
+        play(other, "< 3B00 " + SHORT_WORDS, card=True)
+        input_flags, output_flags, control, local, *_ = line.settings()
+        other.send("9000")
+        look(program, program.end(), "= 9000\n", "", 0)
+        found = (input_flags, output_flags, local, control & 0o160)
+        assert found == (0, 0, 0, 0o160), f"flags {found}"
+    finally:
+        line.close()
+
+
+def full_device():
+    """An answer that can't be printed is a fault, and the tty is put back."""
+    for options in ([], ["-v"]):
+        line = Line()
+        try:
+            with open("/dev/full", "wb") as full:
+                words = ["--slack", "2000", *options, line.name, *SHORT]
+                program = Program("serial_terminal", words, stdout=full)
+            play(Other(line), "< 3B00 " + SHORT_WORDS + DONE, card=True)
+            look(program, program.end(), "", "operation 1: write fault\n", 1)
+            assert line.is_put_back(), "the tty is not set as it was before"
+        finally:
+            line.close()
+
+
+def nobody_reads():
+    """Where nobody reads what it prints, a signal ends it, and the tty is put back."""
+    line = Line()
+    try:
+        reads, writes = os.pipe()
+        os.close(reads)
+        line.write(b"\x3b\x00")
+        program = Program("serial_terminal", ["-v", "--slack", "2000", line.name, *SHORT],
+                          stdout=writes)
+        os.close(writes)
+        look(program, program.end(), "", "", -signal.SIGPIPE)
+        assert line.is_put_back(), "the tty is not set as it was before"
+    finally:
+        line.close()
+
+
+def words():
+    """Words that are refused before anything is opened, and ttys that can't be opened."""
+    for given, why in (
+        ([], "no tty was provided"),
+        (["x"], "no operation was provided"),
+        (["-f", "y", "x", *GET], "operations stand either in words or in FILE"),
+        (["--walk", "x", *GET], "'--walk' is no option"),
+        (["--pty", "x", *GET], "'--pty' is no option"),
+        (["--baud"], "'--baud' needs a value"),
+        (["--baud", "1199", "x", *GET], "'--baud' takes a number from 1200 to 1000000"),
+        (["--baud", "1000001", "x", *GET], "'--baud' takes a number from 1200 to 1000000"),
+        (["--baud", "9600x", "x", *GET], "'--baud' takes a number from 1200 to 1000000"),
+        (["--baud", "-1", "x", *GET], "'--baud' takes a number from 1200 to 1000000"),
+        (["--slack", "60001", "x", *GET], "'--slack' takes a number from 0 to 60000"),
+        (["--slack", "", "x", *GET], "'--slack' takes a number from 0 to 60000"),
+        (["--patience", "0", "x", *GET], "'--patience' takes a number from 1 to 86400"),
+        (["--reset", "cts", "x", *GET], "'cts' is no line of '--reset'"),
+        (["--held-by", "high", "x", *GET], "'high' is neither 'on' nor 'off'"),
+        (["x", "walk"], "operation 1: unknown word"),
+        (["x", *GET, "get"], "operation 2: wrong number of words"),
+        (["x", *GET, "get", "3E"], "operation 2: bad tag"),
+    ):
+        program = Program("serial_terminal", given)
+        look(program, program.end(), "", f"error: {why}\n{USAGE}", 2)
+    for given, fault in (
+        (["/nowhere/tty", *GET], "the tty can not be opened: No such file or directory\n"),
+        (["/dev/null", *GET], "it is no tty\n"),
+        (["-f", "/nowhere/file", "/dev/null"], "read fault\n"),
+    ):
+        program = Program("serial_terminal", given)
+        look(program, program.end(), "", fault, 1)
+
+
+def helps():
+    """Help fits a terminal and names each option; the version is the header's."""
+    for word in ("-h", "--help"):
+        program = Program("serial_terminal", [word])
+        assert program.end() == 0 and program.faults == "", program.faults
+        lines = program.output.splitlines()
+        assert max(map(len, lines)) <= 80, "a line of more than 80 columns"
+        assert "Usage: serial_terminal [OPTIONS] TTY OPERATION.." in lines, lines[:4]
+    for word in ("-V", "--version"):
+        program = Program("serial_terminal", [word])
+        look(program, program.end(), "serial_terminal 0.1.0\n", "", 0)
+
+
+def tests():
+    """Each test of this part: its title, and a function that is wrong by an error."""
+    yield from ((case.title, lambda case=case: run(case)) for case in all_cases())
+    yield from (
+        (f"signal {number.name}", lambda number=number: puts_back(number))
+        for number in (signal.SIGTERM, signal.SIGINT, signal.SIGHUP, signal.SIGQUIT)
+    )
+    for test in (guard_time, passes_over_a_signal, line_gone, nulls_for_ever, settings, full_device,
+                 nobody_reads, words, helps):
+        yield (f"terminal: {test.__name__}", test)

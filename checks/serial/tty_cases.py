@@ -1,0 +1,390 @@
+"""Both programs at a stand-in for a real tty (bindings/c/tests/standin/tty.c): its settings, its
+other lines and the parity of characters, none of which a pseudo terminal has. It notes each call
+that sets something, and refuses what it is told to."""
+
+import tempfile
+import time
+from pathlib import Path
+
+from card_cases import APP, GONE, table
+from lines import Line, Other, play
+from programs import Program
+from terminal_cases import DONE, LATE, SHORT, SHORT_WORDS, look
+
+SET = "set {} baud, 8 bits, {} parity with marks, 2 stop bits"
+EVEN, ODD = SET.format(9600, "even"), SET.format(9600, "odd")
+# what the pseudo terminal was set to before
+BEFORE = "set 38400 baud, 8 bits, no parity, 1 stop bit"
+END = ["drop what has not gone", BEFORE]
+PARITY = "a character has come with a wrong parity\n"
+
+
+class Tty:
+    """A line whose near end the stand-in makes a tty of, and what it notes."""
+
+    def __init__(self, folder, refuses=""):
+        self.line = Line()
+        self.log = Path(folder) / "log"
+        self.inputs = Path(folder) / "inputs"
+        self.log.write_text("", encoding="utf-8")
+        self.switch("")
+        self.environment = {
+            "STANDIN_TTY": str(self.log),
+            "STANDIN_INPUTS": str(self.inputs),
+            "STANDIN_REFUSES": refuses,
+        }
+
+    def switch(self, words):
+        """The lines of the other end that are on, from now on, all at once."""
+        new = self.inputs.with_suffix(".new")
+        new.write_text(words, encoding="utf-8")
+        new.replace(self.inputs)
+
+    def noted(self):
+        return self.log.read_text(encoding="utf-8").splitlines()
+
+    def await_note(self, note, seconds=20):
+        """Waits until this has been noted; when that was seen."""
+        until = time.monotonic() + seconds
+        while note not in self.noted():
+            if time.monotonic() > until:
+                raise AssertionError(f"no '{note}' in {self.noted()}")
+            time.sleep(0.001)
+        return time.monotonic()
+
+
+class Marking(Other):
+    """The other end of a tty: of what it sends, FF stands twice, and before a byte with another
+    parity FF 00. With `marks` all have it; `sends_marked` sends some that do."""
+
+    def __init__(self, line, echo=True, inverse=False):
+        super().__init__(line, echo, inverse)
+        self.marks = False
+
+    def send(self, digits):
+        for byte in self.raw(bytes.fromhex(digits)):
+            self.put(byte, self.marks)
+
+    def put(self, byte, is_marked):
+        self.sent_at = time.monotonic()
+        self.line.write(
+            bytes([0xFF, 0, byte]) if is_marked else bytes([byte] * (2 if byte == 0xFF else 1))
+        )
+
+    def sends_marked(self, digits):
+        for byte in self.raw(bytes.fromhex(digits)):
+            self.put(byte, True)
+
+    def take(self, digits):
+        if not self.echo:
+            return super().take(digits)
+        self.echo = False
+        for byte in bytes.fromhex(digits):
+            super().take(f"{byte:02x}")
+            self.put(self.raw(bytes([byte]))[0], False)
+        self.echo = True
+
+
+def terminal(dialogue, noted, fault="", refuses="", options=(), output="= 9000\n", play_it=None,
+             reset="rts off", inverse=False, waits=0.0):
+    """A terminal at a tty: the card answers once it is no longer held in reset."""
+    with tempfile.TemporaryDirectory() as folder:
+        tty = Tty(folder, refuses)
+        try:
+            words = ["--slack", "1200", *options, tty.line.name, *SHORT]
+            program = Program("serial_terminal", words, environment=tty.environment)
+            other = Marking(tty.line, inverse=inverse)
+            if reset:
+                tty.await_note(reset)
+            other.sent_at = time.monotonic()
+            (play_it or (lambda it: play(it, dialogue, card=True)))(other)
+            status = program.end()
+            waited = program.began + program.seconds - other.sent_at
+            look(program, status, output, fault, 0 if not fault else 1)
+            assert tty.noted() == noted, f"noted {tty.noted()}, and not {noted}"
+            assert tty.line.is_put_back(), "the tty is not set as it was before"
+            assert waits <= waited < waits + LATE, f"it ends after {waited:.2f} s"
+        finally:
+            tty.line.close()
+
+
+def resets():
+    """The line of the reset: it holds the card, what has come till then is dropped, and it lets the
+    card go. Then come the settings for the answer's convention and rate."""
+    whole = f"< 3B00 {SHORT_WORDS}{DONE}"
+    for options, first, last in (
+        ([], "rts on", "rts off"),
+        (["--reset", "dtr"], "dtr on", "dtr off"),
+        (["--held-by", "off"], "rts off", "rts on"),
+        (["--reset", "dtr", "--held-by", "off"], "dtr off", "dtr on"),
+    ):
+        yield (f"reset, {first} and {last}", lambda of=(options, first, last): terminal(
+            whole, [EVEN, of[1], "drop what has come", of[2], EVEN, *END], options=of[0],
+            reset=of[2]))
+    yield ("no line for the reset", lambda: terminal(
+        "~ 1.5 " + whole, [EVEN, EVEN, *END], options=["--reset", "none"], reset=EVEN))
+    yield ("no line for the reset, and nobody does it", lambda: terminal(
+        "", [EVEN, *END], "the card does not answer to reset\n", reset=EVEN, output="",
+        options=["--reset", "none", "--patience", "1"], waits=0.9))
+    yield ("silent after a reset", lambda: terminal(
+        "", [EVEN, "rts on", "drop what has come", "rts off", *END],
+        "the card does not answer to reset\n", output="", waits=1.2))
+
+
+def is_held():
+    """How long the card is held in reset: about 50 ms, and at least 400 cycles."""
+    with tempfile.TemporaryDirectory() as folder:
+        tty = Tty(folder)
+        try:
+            program = Program("serial_terminal", ["--slack", "5000", tty.line.name, *SHORT],
+                              environment=tty.environment)
+            tty.line.write(b"\x55\x55")
+            began = tty.await_note("rts on")
+            held = tty.await_note("rts off") - began
+            play(Marking(tty.line), f"< 3B00 {SHORT_WORDS}{DONE}", card=True)
+            look(program, program.end(), "= 9000\n", "", 0)
+            assert 0.03 <= held < 3, f"held for {held:.3f} s"
+        finally:
+            tty.line.close()
+
+
+def rates():
+    """Rates and parities that the answer and PPS lead to."""
+    reset = [EVEN, "rts on", "drop what has come", "rts off"]
+    pps = "< 3B1095 > FF10957A < FF10957A "
+    yield ("a tty's settings after PPS", lambda: terminal(
+        pps + SHORT_WORDS + DONE, [*reset, EVEN, SET.format(111600, "even"), *END],
+        options=["--pps"]))
+    yield ("a tty's settings in specific mode", lambda: terminal(
+        "< 3B90951000 " + SHORT_WORDS + DONE, [*reset, SET.format(111600, "even"), *END]))
+    yield ("a tty's settings at 38,400 baud", lambda: terminal(
+        "< 3B00 " + SHORT_WORDS + DONE, [SET.format(38400, "even"), *reset[1:],
+        SET.format(38400, "even"), *END], options=["--baud", "38400"]))
+    yield ("a tty that does not run so fast", lambda: terminal(
+        pps, [*reset, EVEN, SET.format(111600, "even"), *END],
+        "the tty does not run at 111600 baud\n", "fast", ["--pps"], ""))
+
+
+def refusals():
+    """What a tty refuses, with an error or without."""
+    reset = [EVEN, "rts on", "drop what has come", "rts off"]
+    form = "the tty does not take 8 bits, even parity and 2 stop bits\n"
+    early = [EVEN, *END]
+    for refuses, noted, fault in (
+        ("get", ["drop what has not gone"],
+         "the tty does not tell its settings: Input/output error\n"),
+        ("set", early, "the tty refuses its settings: Invalid argument\n"),
+        ("bits", early, form),
+        ("stop", early, form),
+        ("parity", early, form),
+        ("baud", early, "the tty does not run at 9600 baud\n"),
+        ("lines", [EVEN, "rts on", *END], "the tty does not set its RTS: Input/output error\n"),
+        ("on", [EVEN, "rts on", *END], "the tty does not set its RTS: Input/output error\n"),
+        ("off", [*reset, *END], "the tty does not set its RTS: Input/output error\n"),
+        ("stuck", [*reset, *END], "the tty does not set its RTS\n"),
+    ):
+        yield (f"a tty that refuses: {refuses}", lambda of=(noted, fault, refuses): terminal(
+            "", *of, output="", reset=""))
+    yield ("a tty that has no DTR", lambda: terminal(
+        "", [EVEN, "dtr on", *END], "the tty does not set its DTR: Input/output error\n", "on",
+        ["--reset", "dtr"], "", reset=""))
+    yield ("a tty that refuses to be set again", lambda: terminal(
+        "< 3B00", [*reset, EVEN, *END], "the tty refuses its settings: Invalid argument\n",
+        "set_again", output=""))
+    yield ("a tty that takes no characters", lambda: terminal(
+        "< 3B00", [*reset, EVEN, *END], "operation 1: the tty takes no more characters\n", "write",
+        output="", waits=1.2))
+    yield ("a tty without lines, where none is needed", lambda: terminal(
+        f"< 3B00 {SHORT_WORDS}{DONE}", [EVEN, EVEN, *END], refuses="lines",
+        options=["--reset", "none"], reset=EVEN))
+
+
+def inverse_odd():
+    """By the inverse convention parity is odd for the tty, from the end of the answer on: till then
+    each character of the card has another parity than the one that is set."""
+    def play_it(other):
+        other.marks = True
+        other.send("3F02FF00")
+        other.marks = False
+        play(other, SHORT_WORDS + DONE, card=True)
+
+    reset = [EVEN, "rts on", "drop what has come", "rts off"]
+    terminal("", [*reset, ODD, *END], play_it=play_it, inverse=True)
+    terminal("", [*reset, ODD, *END], inverse=True, refuses="odd", output="",
+             play_it=lambda other: other.sends_marked("3F00"),
+             fault="the tty does not take 8 bits, odd parity and 2 stop bits\n")
+
+
+def parities():
+    """Characters with a wrong parity."""
+    reset = [EVEN, "rts on", "drop what has come", "rts off"]
+
+    def then_marked(dialogue, digits):
+        def play_it(other):
+            play(other, dialogue, card=True)
+            other.sends_marked(digits)
+        return play_it
+
+    for title, dialogue, digits, inverse, noted, fault in (
+        ("of TS", "", "3B", False, [], PARITY),
+        ("of TS, inverse", "< 3F", "", True, [], PARITY),
+        ("of T0", "< 3B", "00", False, [], PARITY),
+        ("of a status", "< 3B00 " + SHORT_WORDS, "90", False, [EVEN], "operation 1: " + PARITY),
+        ("of FF", "< 3B00 " + SHORT_WORDS, "FF", False, [EVEN], "operation 1: " + PARITY),
+    ):
+        yield (f"a wrong parity {title}", lambda of=(dialogue, digits, inverse, noted, fault):
+               terminal("", [*reset, *of[3], *END], of[4], output="", inverse=of[2],
+                        play_it=then_marked(of[0], of[1])))
+
+    # the first character of a heap is well, and the second is not
+    def heap_with_mark(other):
+        play(other, "< 3B00 " + SHORT_WORDS, card=True)
+        other.line.write(b"\x90\xff\x00\x00")
+
+    yield ("a wrong parity within a heap", lambda: terminal(
+        "", [*reset, EVEN, *END], "operation 1: " + PARITY, output="", play_it=heap_with_mark))
+
+    def unmarked_t0(other):
+        other.sends_marked("3F")
+        other.send("00")
+
+    yield ("a wrong parity of T0, inverse", lambda: terminal(
+        "", [*reset, *END], PARITY, output="", inverse=True, play_it=unmarked_t0))
+
+    def marked_echo(other):
+        play(other, "< 3B00", card=True)
+        other.echo = False
+        other.take("00")
+        other.sends_marked("00")
+
+    yield ("an echo with a wrong parity", lambda: terminal(
+        "", [*reset, EVEN, *END], output="", play_it=marked_echo,
+        fault="operation 1: another echo has come back than what was sent\n"))
+    yield ("FF is no mark", ff_is_no_mark)
+
+
+def ff_is_no_mark():
+    """FF in an answer, as a procedure byte and among data, and its echo."""
+    with tempfile.TemporaryDirectory() as folder:
+        tty = Tty(folder)
+        try:
+            words = ["send", "00CA5F2002", "put", "51", "FF00FFFF"]
+            words = ["--slack", "5000", tty.line.name, *words]
+            program = Program("serial_terminal", words, environment=tty.environment)
+            other = Marking(tty.line)
+            tty.await_note("rts off")
+            play(other, "< 3B41FFFF > 00CA5F2002 < CAFFFF9000 > 00DA005104 < DA > FF00FFFF < 9000",
+                 card=True)
+            look(program, program.end(), "= 9000 FFFF\n= 9000\n", "", 0)
+        finally:
+            tty.line.close()
+
+
+def card(play_it, options=(), answer="3B00", refuses="", fault=GONE, inverse=False, noted=None):
+    """A card at a tty, with the lines of the other end switched by hand."""
+    with tempfile.TemporaryDirectory() as folder:
+        tty = Tty(folder, refuses)
+        path = table(folder, f"atr {answer}\n{APP}")
+        words = ["--slack", "5000", *options, tty.line.name, path]
+        try:
+            program = Program("serial_card", words, environment=tty.environment)
+            play_it(tty, Marking(tty.line, inverse=inverse))
+        finally:
+            tty.line.close()
+        look(program, program.end(), "", fault, 1)
+        assert noted is None or tty.noted()[: len(noted)] == noted, f"noted {tty.noted()}"
+
+
+def pulse(tty, held, released=""):
+    tty.switch(held)
+    time.sleep(0.4)
+    tty.switch(released)
+
+
+def card_resets():
+    """A card that is reset by a line of its terminal, in any state, and by no other line."""
+    ask = "> 00CA5F2000 < 6985"
+
+    def play_it(held, released, others):
+        def session(tty, other):
+            tty.await_note(EVEN)
+            other.take_nothing(0.2)
+            pulse(tty, held, released)
+            play(other, f"< 3B00 {ask} > 00CA", card=False)
+            tty.switch(others)
+            time.sleep(0.3)
+            play(other, "> 5F2000 < 6985 > 00CA5F", card=False)
+            tty.switch(held)
+            other.take_nothing(0.4)
+            tty.switch(released)
+            play(other, f"< 3B00 {ask}", card=False)
+        return session
+
+    for option, held, released, others in (
+        (["--reset", "cts"], "cts", "", "dsr dcd"),
+        (["--reset", "dsr"], "dsr", "cts", "cts dcd"),
+        (["--reset", "dcd"], "dcd dsr", "", "cts dsr"),
+        (["--reset", "cts", "--held-by", "off"], "", "cts", "cts dsr dcd"),
+    ):
+        if "off" in option:
+            # it is held as it begins, so that the first pulse is the end of that
+            yield (f"a card that is reset by {' '.join(option)}",
+                   lambda of=(held, released, others), option=option: card(
+                       held_first(*of, ask), option))
+        else:
+            yield (f"a card that is reset by {' '.join(option)}",
+                   lambda of=(held, released, others), option=option: card(play_it(*of), option))
+
+
+def held_first(held, released, others, ask):
+    """A card that is held in reset as it begins."""
+    def session(tty, other):
+        tty.await_note(EVEN)
+        other.take_nothing(0.2)
+        tty.switch(released)
+        play(other, f"< 3B00 {ask} > 00CA", card=False)
+        tty.switch(others)
+        time.sleep(0.3)
+        play(other, "> 5F2000 < 6985 > 00CA5F", card=False)
+        pulse(tty, held, released)
+        play(other, f"< 3B00 {ask}", card=False)
+    return session
+
+
+def card_settings():
+    """A card's tty: parity by its convention, and what it refuses."""
+    ask = "> 00CA5F2000 < 6985"
+
+    def asked(ts):
+        return lambda tty, other: play(other, f"< {ts}00 {ask}", card=False)
+
+    yield ("a card's tty, direct", lambda: card(asked("3B"), noted=[EVEN, EVEN]))
+    yield ("a card's tty, inverse", lambda: card(asked("3F"), answer="3F00", inverse=True,
+                                                 noted=[EVEN, ODD]))
+    yield ("a card's tty that takes no odd parity", lambda: card(
+        lambda tty, other: time.sleep(0.5), answer="3F00", inverse=True, refuses="odd",
+        fault="the tty does not take 8 bits, odd parity and 2 stop bits\n"))
+    yield ("a card's tty that does not tell its lines", lambda: card(
+        lambda tty, other: time.sleep(0.5), ["--reset", "dsr"], refuses="lines",
+        fault="the tty does not tell its DSR: Inappropriate ioctl for device\n"))
+
+    def wrong_parity(tty, other):
+        tty.await_note(EVEN)
+        pulse(tty, "cts")
+        play(other, "< 3B00 > 00", card=False)
+        other.sends_marked("CA")
+        other.send("5F2000")
+        other.take_nothing(0.3)
+        pulse(tty, "cts")
+        play(other, f"< 3B00 {ask}", card=False)
+
+    yield ("a character to a card with a wrong parity", lambda: card(
+        wrong_parity, ["--reset", "cts"], fault=PARITY + GONE))
+
+
+def tests():
+    """Each test of this part: its title, and a function that is wrong by an error."""
+    for part in (resets, rates, refusals, parities, card_resets, card_settings):
+        yield from part()
+    for test in (is_held, inverse_odd):
+        yield (f"tty: {test.__name__}", test)

@@ -1,6 +1,7 @@
 mod ByteFacts
 mod CommandForms
 mod CommandFacts
+mod ChainLemmas
 mod ListFacts
 mod PieceLemmas
 mod PieceFacts

@@ -1,5 +1,5 @@
 //! The bytes of a chain of commands, as they come together at the card.
-ghost use Rattle.std.specs.Prelude.{◌≡◌, ◌+◌, ◌<◌, ◌≤◌, ◌↔◌, [], length, take, None, IsTrue, IsSome, IsErr, IfOk, OnOk, OnErr};
+ghost use Rattle.std.specs.Prelude.{◌≡◌, ◌+◌, ◌-◌, ◌<◌, ◌≤◌, ◌↔◌, ◌++◌, [], length, take, drop, replicate, None, IsTrue, IsSome, IsErr, IfOk, OnOk, OnErr};
 ghost use Rattle.apdu_core.specs.Chaining as spec;
 ghost use Rattle.apdu_core.specs.Chaining.{Accepts, IsChain, added, idle};
 
@@ -25,26 +25,36 @@ impl fmt::Display for TooLong {
 
 impl Error for TooLong {}
 
-/// The bytes of the chain that is pending, if any, in room that was taken beforehand.
+/// The bytes of the chain that is pending, if any, in room that was taken beforehand. The rest of
+/// the room holds zeros: bytes that leave the chain are overwritten.
 #[derive(Debug, Drop)]
 pub struct Chain<A: Allocator = Global> {
-    bytes: Vec<u8, A>,
-    limit: usize,
+    room: Vec<u8, A>,
+    len: usize,
     pending: Option<Header>,
 }
 
 impl<A: Allocator> Model for Chain<A> {
-    ghost use Rattle.std.specs.Prelude.{◌≤◌, vec_capacity};
+    ghost use Rattle.std.specs.Prelude.{◌≡◌, ◌-◌, ◌≤◌, length, take, drop, replicate};
     ghost use Rattle.apdu_core.specs.Chaining as spec;
     ghost use Rattle.apdu_core.specs.Chaining.{IsChain};
 
     ghost Value = { spec.ChainState };
 
-    ghost view = { λ c. record { bytes = c.bytes.items; limit = c.limit; pending = c.pending } };
+    ghost view = { λ c. record {
+      bytes = take c.len c.room.items;
+      limit = length c.room.items;
+      pending = c.pending;
+    } };
 
     ghost invariant = { λ c.
-        IsChain (record { bytes = c.bytes.items; limit = c.limit; pending = c.pending })
-        × (c.limit ≤ vec_capacity c.bytes) };
+        IsChain (record {
+          bytes = take c.len c.room.items;
+          limit = length c.room.items;
+          pending = c.pending;
+        })
+        × (c.len ≤ length c.room.items)
+        × (drop c.len c.room.items ≡ replicate (length c.room.items - c.len) 0) };
 }
 
 impl<A: Allocator> Chain<A> {
@@ -53,8 +63,8 @@ impl<A: Allocator> Chain<A> {
         ensures { IfOk result (λ chain. chain ≡ idle limit) }
     {
         Ok(Chain {
-            bytes: Vec::with_capacity(alloc, limit)?,
-            limit,
+            room: vec![in alloc; 0; limit]?,
+            len: 0,
             pending: None,
         })
     }
@@ -72,7 +82,7 @@ impl<A: Allocator> Chain<A> {
         ensures value { result ≡ length self.now.bytes }
         ensures chain { IsChain self.now }
     {
-        self.bytes.len()
+        self.len
     }
 
     /// The bytes of the chain's commands, concatenated.
@@ -80,7 +90,15 @@ impl<A: Allocator> Chain<A> {
         ensures value { result.now ≡ self.now.bytes }
         ensures chain { IsChain self.now }
     {
-        &self.bytes
+        &self.room[..self.len]
+    }
+
+    /// The room behind the chain's bytes. It holds zeros: nothing is left there of bytes that the
+    /// chain had before.
+    pub fn spare(&self) -> &[u8]
+        ensures { result.now ≡ replicate (self.now.limit - length self.now.bytes) 0 }
+    {
+        &self.room[self.len..]
     }
 
     /// Whether a command with this header may come: nothing is pending, or INS, P1, P2 and CLA but
@@ -100,27 +118,51 @@ impl<A: Allocator> Chain<A> {
         ensures err { OnErr result (self.new ≡ self.old) }
         ensures ok { OnOk result (self.new ≡ added self.old header content.now) }
     {
-        if content.len() > self.limit - self.bytes.len() {
+        if content.len() > self.room.len() - self.len {
             return Err(TooLong);
         }
-        self.bytes.extend_from_slice(content).map_err(|_| TooLong)?;
+        lay(&mut self.room, self.len, content);
+        self.len += content.len();
         self.pending = Some(header.as_last());
         Ok(())
     }
 
-    /// Keeps the first `len` bytes. The chain is pending or not as before.
+    /// Keeps the first `len` bytes, and overwrites the others with zeros. The chain is pending or
+    /// not as before.
     pub fn keep_first(&mut self, len: usize)
         requires { len ≤ length self.old.bytes }
         ensures { self.new ≡ record self.old { bytes = take len self.old.bytes } }
     {
-        self.bytes.truncate(len);
+        wipe(&mut self.room, len, self.len);
+        self.len = len;
     }
 
-    /// Drops the chain with its bytes, and keeps the room.
+    /// Drops the chain, overwrites its bytes with zeros, and keeps the room.
     pub fn drop_all(&mut self)
         ensures { self.new ≡ idle self.old.limit }
     {
-        self.bytes.clear();
+        self.keep_first(0);
         self.pending = None;
     }
+}
+
+/// Copies these bytes to a place.
+fn lay(room: &mut [u8], at: usize, content: &[u8])
+    requires { at + length content.now ≤ length room.old }
+    ensures front { take (at + length content.now) room.new ≡ take at room.old ++ content.now }
+    ensures rest { drop (at + length content.now) room.new
+        ≡ drop (at + length content.now) room.old }
+    ensures len { length room.new ≡ length room.old }
+{
+    room[at..at + content.len()].copy_from_slice(content);
+}
+
+/// Overwrites the bytes from one place up to another with zeros.
+fn wipe(room: &mut [u8], from: usize, to: usize)
+    requires { (from ≤ to) × (to ≤ length room.old) }
+    ensures front { take from room.new ≡ take from room.old }
+    ensures rest { drop from room.new ≡ replicate (to - from) 0 ++ drop to room.old }
+    ensures len { length room.new ≡ length room.old }
+{
+    room[from..to].fill(0);
 }

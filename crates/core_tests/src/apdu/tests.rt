@@ -199,7 +199,10 @@ fn keep_first(rt: &impl Abort, chain: &mut Chain, len: usize) {
 }
 
 fn has(chain: &Chain, pending: bool, bytes: &[u8]) -> bool {
-    chain.is_pending() == pending && chain.len() == bytes.len() && chain.bytes() == bytes
+    chain.is_pending() == pending
+        && chain.len() == bytes.len()
+        && chain.bytes() == bytes
+        && chain.spare().iter().all(|byte| *byte == 0)
 }
 
 fn answers(rt: &impl Abort, chain: &mut Chain, call: Call<'_>) {

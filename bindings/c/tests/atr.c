@@ -277,15 +277,25 @@ static void faults(void) {
     refuses(BYTES("\x3B\xE0\x00\x00\x81\x31\xFE\x45\xEA"), GT_ATR_CHECK_WRONG, 8);
 }
 
-/* one character more than the longest, where it is announced: cut, or too long */
+/* one character more than the longest is announced, or due with TCK: too long, whether it came or
+ * not, and cut, or without TCK, up to there */
 static void too_long(void) {
     const uint8_t answer[34] = {
         0x3B, 0xFF, 0x11, 0x00, 0x00, 0xF0, 0x00, 0x00, 0x0A, 0xF0, 0x00, 0x00,
         0x00, 0xF0, 0x00, 0x00, 0x00, 0x10, 0x01, 0x31, 0x32, 0x33, 0x34, 0x35,
         0x36, 0x37, 0x38, 0x39, 0x41, 0x42, 0x43, 0x44, 0x45, 0x46
     };
-    refuses(answer, 33, GT_ATR_CUT, 33);
+    uint8_t due[34] = { 0x3B, 0x80 };
+    memset(due + 2, 0x80, 30);
+    due[32] = 0x01;
+    refuses(answer, 32, GT_ATR_CUT, 32);
+    refuses(answer, 33, GT_ATR_TOO_LONG, 33);
     refuses(answer, 34, GT_ATR_TOO_LONG, 33);
+    refuses(due, 33, GT_ATR_TOO_LONG, 33);
+    due[33] = 0x81;
+    refuses(due, 34, GT_ATR_TOO_LONG, 33);
+    due[31] = 0x01;
+    refuses(due, 32, GT_ATR_CHECK_MISSING, 32);
 }
 
 int main(void) {

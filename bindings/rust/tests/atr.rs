@@ -158,7 +158,7 @@ fn the_longest_answer() {
     let mut longer = LONGEST.to_vec();
     longer[17] = 0x10;
     let fault = |reason| Err(AtrError { place: 33, reason });
-    assert_eq!(Atr::read(&longer), fault(AtrReason::Cut));
+    assert_eq!(Atr::read(&longer), fault(AtrReason::TooLong));
     longer.push(0x47);
     assert_eq!(Atr::read(&longer), fault(AtrReason::TooLong));
 }

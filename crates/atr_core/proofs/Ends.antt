@@ -1,10 +1,10 @@
 -- The end of a reading: historical bytes and the check byte.
-use Rattle.std.proofs.Common.{rules, ◌≡◌, ◌≢◌, ℕ, suc, ◌+◌, ◌-◌, ◌<◌, ◌≤◌, ◌==◌, List, [], ◌∷◌, ◌++◌, length, drop, replicate, Option, Bool, true, false, refl, sym, ap, ◌∙◌, arith, append_assoc, length-append, length-drop}
+use Rattle.std.proofs.Common.{◌≡◌, ◌≢◌, ℕ, suc, ◌+◌, ◌-◌, ◌<◌, ◌≤◌, List, [], ◌∷◌, ◌++◌, length, drop, replicate, Option, Bool, true, false, refl, sym, ap, ◌∙◌, arith, append_assoc, length-append, length-drop}
 use Rattle.atr_core.specs.FirstFault.{Plain, end_fault, fault}
 use Rattle.atr_core.specs.Reading.{IsAt, fault_at, Fails, FailsAtHistorical, HasHistorical, Ranges}
 use Rattle.atr_core.specs.declared.fault.AtrFault.{AtrFault}
-use Rattle.atr_core.specs.declared.fault.Reason.TheVariants.{TooLong, Surplus, CheckNotDue}
-use Rattle.atr_core.proofs.Steps.{read_at, is_33}
+use Rattle.atr_core.specs.declared.fault.Reason.TheVariants.{TooLong, Surplus, CheckMissing, CheckNotDue}
+use Rattle.atr_core.proofs.Steps.{read_at, is_33, not_33_is}
 
 -- the historical bytes so far, i of k
 pub record AreHistorical (all : List ℕ) (start k i : ℕ) (historical : List ℕ) (place : ℕ)
@@ -77,14 +77,16 @@ many_not_due all place [] h = absurd (omega arith)
 many_not_due all place (b ∷ []) h = absurd (omega arith)
 many_not_due all place (b ∷ c ∷ rest) h = refl
 
-long_due : (all : List ℕ) (place : ℕ) (rest : List ℕ) → 0 < length rest → place ≡ 33
+long_due : (all : List ℕ) (place : ℕ) (rest : List ℕ) → place ≡ 33
     → end_fault all true place rest ≡ fault place TooLong
-long_due all place [] h e = absurd (omega arith)
-long_due all place (b ∷ []) h e = rw (is_33 place e) refl
-long_due all place (b ∷ c ∷ rest) h e = rw (is_33 place e) refl
+long_due all place [] e = rw (is_33 place e) refl
+long_due all place (b ∷ []) e = rw (is_33 place e) refl
+long_due all place (b ∷ c ∷ rest) e = rw (is_33 place e) refl
 
-not_33_is : (place : ℕ) → place ≢ 33 → (place == 33) ≡ false
-not_33_is place h = search rules
+none_due : (all : List ℕ) (place : ℕ) (rest : List ℕ) → length rest ≡ 0 → place ≢ 33
+    → end_fault all true place rest ≡ fault place CheckMissing
+none_due all place [] h e = rw (not_33_is place e) refl
+none_due all place (b ∷ rest) h e = absurd (omega arith)
 
 many_due : (all : List ℕ) (place : ℕ) (rest : List ℕ) → 1 < length rest → place ≢ 33
     → end_fault all true place rest ≡ fault (place + 1) Surplus
@@ -101,10 +103,13 @@ pub many_behind : (all : List ℕ) (place : ℕ) → 1 < length all - place
 many_behind all place h = many_not_due all place (drop place all)
     (omega (arith, length-drop place all))
 
-pub long_check : (all : List ℕ) (place : ℕ) → 0 < length all - place → place ≡ 33
+pub long_check : (all : List ℕ) (place : ℕ) → place ≡ 33
     → end_fault all true place (drop place all) ≡ fault place TooLong
-long_check all place h e = long_due all place (drop place all)
-    (omega (arith, length-drop place all)) e
+long_check all place e = long_due all place (drop place all) e
+
+pub no_check : (all : List ℕ) (place : ℕ) → length all - place ≡ 0 → place ≢ 33
+    → end_fault all true place (drop place all) ≡ fault place CheckMissing
+no_check all place h e = none_due all place (drop place all) (left all place 0 h) e
 
 pub many_behind_check : (all : List ℕ) (place : ℕ) → 1 < length all - place → place ≢ 33
     → end_fault all true place (drop place all) ≡ fault (place + 1) Surplus

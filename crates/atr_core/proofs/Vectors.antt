@@ -103,7 +103,7 @@ t15_in_td2 = refl
 t15_unchecked : first_fault (0x3B ∷ 0x80 ∷ 0x80 ∷ 0x0F ∷ []) ≡ fault 4 CheckMissing
 t15_unchecked = refl
 
--- 32 characters after TS, and 33
+-- 32 characters after TS, and 33, of which the last came or not
 longest : first_fault (0x3B ∷ (replicate 31 0x80 ++ 0x00 ∷ [])) ≡ None
 longest = refl
 
@@ -112,6 +112,18 @@ too_long = refl
 
 too_long_by_check : first_fault (0x3B ∷ (replicate 31 0x80 ++ 0x01 ∷ 0x81 ∷ [])) ≡ fault 33 TooLong
 too_long_by_check = refl
+
+announced_34th : first_fault (0x3B ∷ replicate 32 0x80) ≡ fault 33 TooLong
+announced_34th = refl
+
+check_byte_34th : first_fault (0x3B ∷ (replicate 31 0x80 ++ 0x01 ∷ [])) ≡ fault 33 TooLong
+check_byte_34th = refl
+
+announced_33rd : first_fault (0x3B ∷ replicate 31 0x80) ≡ fault 32 Cut
+announced_33rd = refl
+
+check_byte_33rd : first_fault (0x3B ∷ (replicate 30 0x80 ++ 0x01 ∷ [])) ≡ fault 32 CheckMissing
+check_byte_33rd = refl
 
 -- conventions: what a receiver of the direct one sees of TS
 ts_inverse : as_sent Inverse 0x3F ≡ 0x03

@@ -50,13 +50,18 @@ wrong_at place character b last =
 abbrev pub fault : ℕ → Reason → Option AtrFault
 fault place reason = Some (record { place = place; reason = reason })
 
+-- A character is due, and the bytes end here. Where 33 of them came, it can't follow either
+-- (8.2.1: at most 32 characters after TS).
+abbrev pub missing : ℕ → Reason → Option AtrFault
+missing place reason = fault place (if place == 33 then TooLong else reason)
+
 -- What is wrong with what stands from a place on where nothing but a check byte can be due:
 -- `checked` says whether it is. A wrong one is judged last.
 abbrev pub end_fault : List ℕ → Bool → ℕ → List ℕ → Option AtrFault
 end_fault all false place [] = None
 end_fault all false place (b ∷ []) = fault place CheckNotDue
 end_fault all false place (b ∷ c ∷ rest) = fault place Surplus
-end_fault all true place [] = fault place CheckMissing
+end_fault all true place [] = missing place CheckMissing
 end_fault all true place (b ∷ []) =
     if place == 33 then fault place TooLong
     else if b == xor_of (slice_range all 1 place) then None
@@ -73,7 +78,7 @@ first_of place None behind = behind
 -- none where there is none.
 abbrev pub fault_from : List ℕ → List Due → Option ℕ → Bool → ℕ → List ℕ → Option AtrFault
 fault_from all [] last checked place rest = end_fault all checked place rest
-fault_from all (character ∷ due) last checked place [] = fault place Cut
+fault_from all (character ∷ due) last checked place [] = missing place Cut
 fault_from all (character ∷ due) last checked place (b ∷ rest) =
     first_of place (wrong_at place character b last)
     (fault_from all (due_after character b due) (last_after character b last)

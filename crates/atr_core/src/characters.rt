@@ -24,15 +24,15 @@ pub(crate) fn character(bytes: &[u8], place: usize) -> Result<u8, AtrFault>
     requires within { place ≤ 33 }
     ensures { MatchResult result (IsAt bytes.now place) (Fails bytes.now place) }
 {
-    if place == bytes.len() {
-        Err(AtrFault {
-            place,
-            reason: Reason::Cut,
-        })
-    } else if place == LONGEST {
+    if place == LONGEST {
         Err(AtrFault {
             place,
             reason: Reason::TooLong,
+        })
+    } else if place == bytes.len() {
+        Err(AtrFault {
+            place,
+            reason: Reason::Cut,
         })
     } else {
         Ok(bytes[place])
@@ -165,10 +165,10 @@ pub(crate) fn check_end(bytes: &[u8], place: usize, is_due: bool) -> Result<(), 
             1 => Reason::CheckNotDue,
             _ => Reason::Surplus,
         }
-    } else if behind == 0 {
-        Reason::CheckMissing
     } else if place == LONGEST {
         Reason::TooLong
+    } else if behind == 0 {
+        Reason::CheckMissing
     } else if behind > 1 {
         return Err(AtrFault {
             place: place + 1,

@@ -7,15 +7,18 @@ use std::fmt;
 pub enum Reason {
     /// The first byte is neither `3B` nor `3F`.
     NoTs,
-    /// The bytes end before a character that is announced.
+    /// The bytes end before an announced character, and it can still follow: there are fewer than
+    /// 33 bytes. So a reader may read one more byte as long as the fault is this one.
     Cut,
-    /// More than 32 characters after TS are announced, and this is the 33rd.
+    /// More than 32 characters after TS are announced, or due with the check byte. The place is 33,
+    /// whether a byte stands there or not.
     TooLong,
     /// The T that this TD names is below the one before it, or is 15 in TD1.
     OutOfOrder,
     /// Characters stand behind the end.
     Surplus,
-    /// No check byte stands at the end, and one is due, as a T other than 0 is named.
+    /// No check byte stands at the end, and one is due, as a T other than 0 is named. It can still
+    /// follow.
     CheckMissing,
     /// One byte stands behind the end, and no check byte is due, as no T other than 0 is named.
     CheckNotDue,

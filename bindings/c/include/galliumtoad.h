@@ -2,18 +2,20 @@
  * for C99 and C++.
  *
  * The functions are those of a proved library: what a comment below says of answers and of the
- * state after them is its contract, proved of the machine's library, under what is the caller's:
+ * state after them is its contract, proved of the machine's library. This header itself is tested,
+ * not proved: its functions look for NULL, call the library, and have the texts. The caller's part:
  *
  * - A pointer with a count is that many elements, all readable and, without const, writable. It
  *   may be NULL where the count is 0. Every other pointer must not be NULL; where one is, the
  *   answer is GT_NULL and nothing is done. Pointers are aligned as their types ask.
- * - What the arguments of one call point to does not overlap, unless all of it is const.
- * - A handle (gt_exchange, gt_card, gt_session) is all zero before its first use: GT_INIT, or
- *   static storage. Its fields are the library's: nothing else reads or writes them. It may be
- *   moved by assignment where the old copy is never used again; two copies must not both be
- *   used.
- * - A handle may go from one thread to another, and is for one at a time, also in functions that
- *   take it as const: these change it and put it back. What the next thread does with it comes
+ * - What the arguments of one call point to does not overlap, unless all of it is const, or the
+ *   comment of the function allows it.
+ * - A handle (gt_exchange, gt_terminal, gt_card, gt_session) is all zero before its first use:
+ *   GT_INIT, or static storage. Its fields are the library's: nothing else reads or writes them.
+ *   It may be moved by assignment where the old copy is never used again; two copies must not both
+ *   be used.
+ * - A handle may go from one thread to another, and is for one at a time: each call writes to it,
+ *   also one that only asks, so none takes it as const. What the next thread does with it comes
  *   after what the one before did, by a lock, by the start or the end of a thread, or by an atomic
  *   that is sequentially consistent. Different handles may be used by different threads at once.
  * - No function is called from a signal handler, or in the child of a fork of a process with
@@ -36,9 +38,9 @@
  *
  * Targets: Linux on x86-64-v2 and on 64-bit ARM (AArch64, the small end first). There is none with
  * 32 bits: the toolchain refuses them, since usize has 64 bits in its logic. Memory comes by malloc
- * and free, and is wiped before it is given back, or by the caller's own three functions:
- * galliumtoad_heap.h says which, and what is then theirs. Linking also asks for memcpy, memmove and
- * memset.
+ * and free, and is wiped before it is given back, or by the caller's own three functions, which
+ * must not throw or longjmp: galliumtoad_heap.h says which, and what is then theirs. Linking also
+ * asks for memcpy, memmove and memset.
  */
 #ifndef GALLIUMTOAD_H
 #define GALLIUMTOAD_H
@@ -61,6 +63,21 @@ extern "C" {
 #else
 #include <stdbool.h>
 #define GT_INIT { 0 }
+#endif
+
+/* The functions are inline. GT_EXTERN, defined before the header is included, makes each of them
+ * `extern`, in one source file: so the shared library exports them to other languages. */
+#ifdef GT_EXTERN
+#define GT_FUNCTION extern
+#else
+#define GT_FUNCTION static inline
+#endif
+
+/* Of a function whose answer has to be looked at. */
+#ifdef __GNUC__
+#define GT_MUST_CHECK __attribute__((warn_unused_result)) GT_FUNCTION
+#else
+#define GT_MUST_CHECK GT_FUNCTION
 #endif
 
 #if SIZE_MAX != UINT64_MAX
@@ -91,7 +108,8 @@ enum {
     GT_TOO_MANY_APPS = -21, /* there are as many applications as a card may have */
     GT_NO_APP = -22,        /* there is no application to hold the data object */
     GT_VALUE_TOO_LONG = -23, /* the value has more bytes than a value may have */
-    GT_NOT_OBJECTS = -24,   /* the tag is that of a template, and the value is no list of objects */
+    GT_NOT_OBJECTS = -24,   /* the tag is that of a template, and the value is no list of objects;
+                             * those of a value are at level 2, so a list may have 15 levels */
     GT_TABLE_FULL = -25,    /* the application has as many data objects as it may have */
 
     /* of the line */
@@ -126,7 +144,7 @@ enum {
     /* of an answer to reset */
     GT_ATR_NO_TS = -70,     /* the first byte is neither 3B nor 3F */
     GT_ATR_CUT = -71,       /* the bytes end before a character that is announced */
-    GT_ATR_TOO_LONG = -72,  /* more than 32 characters after TS are announced: this is the 33rd */
+    GT_ATR_TOO_LONG = -72,  /* 33 bytes are there, and a 34th is announced, TCK too: none may be */
     GT_ATR_ORDER = -73,     /* the T that this TD names is below the one before it, or 15 in TD1 */
     GT_ATR_SURPLUS = -74,   /* characters stand behind the end */
     GT_ATR_CHECK_MISSING = -75, /* TCK is due, as a T other than 0 is named, and the bytes end */
@@ -143,7 +161,7 @@ enum {
 
 /* What a code says, in a few words: a string that stays. Of a number that is no code: "unknown
  * code". Not proved: it is the list above again. */
-static inline const char *gt_text(int32_t code) {
+GT_FUNCTION const char *gt_text(int32_t code) {
     switch (code) {
     case GT_OK: return "ok";
     case GT_SENDS: return "sends";
@@ -198,6 +216,33 @@ static inline const char *gt_text(int32_t code) {
     case GT_PPS_SURPLUS: return "characters behind PCK";
     case GT_PPS_CHECK_WRONG: return "wrong PCK";
     default: return "unknown code";
+    }
+}
+
+/* What a status word of a card here means, in a few words: a string that stays. Of any other:
+ * "unknown status". The list above "A session" says more of each. Not proved. */
+GT_FUNCTION const char *gt_status_text(uint16_t status) {
+    switch (status >> 8) {
+    case 0x61: return "more data wait";
+    case 0x6C: return "fewer data are there than asked for";
+    default: break;
+    }
+    switch (status) {
+    case 0x9000: return "ok";
+    case 0x6581: return "memory failure";
+    case 0x6700: return "wrong length";
+    case 0x6883: return "last command of the chain expected";
+    case 0x6884: return "chaining not supported";
+    case 0x6982: return "locked";
+    case 0x6985: return "conditions of use not satisfied";
+    case 0x6A80: return "wrong data";
+    case 0x6A82: return "application not found";
+    case 0x6A84: return "not enough memory space";
+    case 0x6A86: return "wrong P1-P2";
+    case 0x6A88: return "data object not found";
+    case 0x6D00: return "INS not supported";
+    case 0x6E00: return "CLA not supported";
+    default: return "unknown status";
     }
 }
 
@@ -282,8 +327,20 @@ typedef struct {
     uint32_t waiting_time;      /* of T=0 in clock cycles, WI * 960 * Fi; 0 with WI or Fi */
 } gt_atr;
 
-/* Handles: 16 bytes each, which the caller owns; what they hold stands on the heap. The most bytes
- * that are asked of the heap at once, without what the heap itself needs for each block:
+/* Handles: 16 bytes each, which the caller owns; what they hold stands on the heap. Their calls, in
+ * the order of use; what stands behind .. is for any time between:
+ *
+ *   gt_exchange_  start or start_within; next and take, send_bytes and receive_bytes, or tpdu and
+ *                 answered; answer; free
+ *   gt_terminal_  new or new_within; then, again and again: select, get, put or send; those of an
+ *                 exchange; answer; .. reset; free
+ *   gt_card_      new; app and object; finish; take and turn, send_bytes and receive_bytes, or
+ *                 tpdu; .. plan, selected, app_at, entry_at, reset; free
+ *   gt_session_   start, with a card; select, get, put or send; .. answer, heard, idle, plan,
+ *                 selected, app_at, entry_at, reset; end, which gives the card back, or free
+ *
+ * The most bytes that are asked of the heap at once, without what the heap itself needs for each
+ * block:
  *
  *   an exchange   112 and its limit on the response, which is 16,384 where none is given, and the
  *                 bytes of the command's data: at most 16,751
@@ -295,8 +352,20 @@ typedef struct {
  *                 of SELECT or GET DATA with it; 4,240,592 with all that a card can hold
  *   a session     26,667 with that small card, for a select, a put of 3 bytes and a get; 116,584
  *                 for a put and a get of 8,192 bytes
+ *   plans         of those that wait, at most 192 for each of the most that waited at once since
+ *                 none did; and one for each letter, until the next plan is taken
  *
- * What a freed handle held is given back, all of it. */
+ * What a freed handle held is given back, all of it, and wiped (galliumtoad_heap.h). Until then a
+ * handle keeps what may be secret:
+ *
+ *   an exchange   its command, and the response
+ *   a terminal    what it has sent and received, but for what a later operation has written over,
+ *                 until gt_terminal_reset or gt_terminal_free
+ *   a card        the values of its objects, each until another is stored under its tag; the bytes
+ *                 of a TPDU until its second status byte, and those of a chain until it ends,
+ *                 stored, refused or dropped: both are then cleared, which is proved
+ *   a session     its card's, the answer of the last operation, and its characters, until the next
+ *                 one is carried out, or gt_session_end or gt_session_free */
 typedef struct { bool live; void *held; } gt_exchange;
 typedef struct { bool live; void *held; } gt_terminal;
 typedef struct { bool live; void *held; } gt_card;
@@ -325,9 +394,9 @@ int32_t galliumtoad_exchange_take(gt_exchange *e, uint8_t byte);
 int32_t galliumtoad_exchange_send_bytes(gt_exchange *e, uint8_t *bytes, size_t room, size_t *n);
 int32_t galliumtoad_exchange_receive_bytes(gt_exchange *e, const uint8_t *bytes, size_t n,
                                            size_t *taken);
-int32_t galliumtoad_exchange_answer(const gt_exchange *e, uint16_t *status,
+int32_t galliumtoad_exchange_answer(gt_exchange *e, uint16_t *status,
                                     uint8_t *data, size_t room, size_t *len);
-int32_t galliumtoad_exchange_tpdu(const gt_exchange *e, uint8_t *tpdu, size_t room, size_t *n,
+int32_t galliumtoad_exchange_tpdu(gt_exchange *e, uint8_t *tpdu, size_t room, size_t *n,
                                   size_t *most);
 int32_t galliumtoad_exchange_answered(gt_exchange *e, const uint8_t *answer, size_t n);
 void galliumtoad_exchange_free(gt_exchange *e);
@@ -343,10 +412,10 @@ int32_t galliumtoad_terminal_take(gt_terminal *t, uint8_t byte);
 int32_t galliumtoad_terminal_send_bytes(gt_terminal *t, uint8_t *bytes, size_t room, size_t *n);
 int32_t galliumtoad_terminal_receive_bytes(gt_terminal *t, const uint8_t *bytes, size_t n,
                                            size_t *taken);
-int32_t galliumtoad_terminal_tpdu(const gt_terminal *t, uint8_t *tpdu, size_t room, size_t *n,
+int32_t galliumtoad_terminal_tpdu(gt_terminal *t, uint8_t *tpdu, size_t room, size_t *n,
                                   size_t *most);
 int32_t galliumtoad_terminal_answered(gt_terminal *t, const uint8_t *answer, size_t n);
-int32_t galliumtoad_terminal_answer(const gt_terminal *t, uint16_t *status,
+int32_t galliumtoad_terminal_answer(gt_terminal *t, uint16_t *status,
                                     uint8_t *data, size_t room, size_t *len);
 void galliumtoad_terminal_free(gt_terminal *t);
 int32_t galliumtoad_card_new(gt_card *c);
@@ -362,28 +431,28 @@ int32_t galliumtoad_card_receive_bytes(gt_card *c, const uint8_t *bytes, size_t 
 int32_t galliumtoad_card_reset(gt_card *c);
 int32_t galliumtoad_card_tpdu(gt_card *c, const uint8_t *tpdu, size_t n, uint8_t *answer,
                               size_t room, size_t *len);
-int32_t galliumtoad_card_plan(gt_card *c, const uint8_t *steps, size_t n, uint16_t cut);
-int32_t galliumtoad_card_selected(const gt_card *c, uint8_t *aid, size_t room, size_t *n);
-int32_t galliumtoad_card_app_at(const gt_card *c, size_t app, uint8_t *aid, size_t room, size_t *n);
-int32_t galliumtoad_card_entry_at(const gt_card *c, size_t app, size_t entry, uint32_t *tag,
+int32_t galliumtoad_card_plan(gt_card *c, const char *steps, size_t n, uint16_t cut);
+int32_t galliumtoad_card_selected(gt_card *c, uint8_t *aid, size_t room, size_t *n);
+int32_t galliumtoad_card_app_at(gt_card *c, size_t app, uint8_t *aid, size_t room, size_t *n);
+int32_t galliumtoad_card_entry_at(gt_card *c, size_t app, size_t entry, uint32_t *tag,
                                   int32_t *locked, uint8_t *value, size_t room, size_t *len);
 void galliumtoad_card_free(gt_card *c);
 int32_t galliumtoad_session_start(gt_session *s, gt_card *c);
-int32_t galliumtoad_session_idle(const gt_session *s);
-int32_t galliumtoad_session_plan(gt_session *s, const uint8_t *steps, size_t n, uint16_t cut);
+int32_t galliumtoad_session_idle(gt_session *s);
+int32_t galliumtoad_session_plan(gt_session *s, const char *steps, size_t n, uint16_t cut);
 int32_t galliumtoad_session_select(gt_session *s, const uint8_t *aid, size_t n);
 int32_t galliumtoad_session_get(gt_session *s, uint32_t tag);
 int32_t galliumtoad_session_put(gt_session *s, uint32_t tag, const uint8_t *value, size_t n);
 int32_t galliumtoad_session_send(gt_session *s, const uint8_t *command, size_t n);
-int32_t galliumtoad_session_answer(const gt_session *s, uint16_t *status,
+int32_t galliumtoad_session_answer(gt_session *s, uint16_t *status,
                                    uint8_t *data, size_t room, size_t *len);
-int32_t galliumtoad_session_heard(const gt_session *s, gt_character *line, size_t room,
+int32_t galliumtoad_session_heard(gt_session *s, gt_character *line, size_t room,
                                   size_t *count);
 int32_t galliumtoad_session_reset(gt_session *s);
-int32_t galliumtoad_session_selected(const gt_session *s, uint8_t *aid, size_t room, size_t *n);
-int32_t galliumtoad_session_app_at(const gt_session *s, size_t app, uint8_t *aid, size_t room,
+int32_t galliumtoad_session_selected(gt_session *s, uint8_t *aid, size_t room, size_t *n);
+int32_t galliumtoad_session_app_at(gt_session *s, size_t app, uint8_t *aid, size_t room,
                                    size_t *n);
-int32_t galliumtoad_session_entry_at(const gt_session *s, size_t app, size_t entry, uint32_t *tag,
+int32_t galliumtoad_session_entry_at(gt_session *s, size_t app, size_t entry, uint32_t *tag,
                                      int32_t *locked, uint8_t *value, size_t room, size_t *len);
 int32_t galliumtoad_session_end(gt_session *s, gt_card *c);
 void galliumtoad_session_free(gt_session *s);
@@ -396,9 +465,11 @@ static inline const uint8_t *gt_bytes_(const uint8_t *bytes) {
 
 /* ---- Data objects (EMV Book 3, Annex B) ------------------------------------------------------
  *
- * `bytes` are a list of objects: each a tag, a length and a value, with padding of 00 before,
- * between and behind them. The value of a constructed object (a template) is such a list, one
- * level further in; the list itself is at level 1. These functions take no memory. */
+ * `bytes` are a list of objects: each a tag, a length and a value. Padding of 00 before, between
+ * and behind them is skipped, and is part of none. A length is 00 to 7F, 81 and a byte, or 82 and
+ * two, the longest; 83 and above are GT_LENGTH_FORM. The value of a constructed object (a template)
+ * is such a list, one level further in; the list itself is at level 1. These functions take no
+ * memory. */
 
 /* All objects of all levels of a list, in the order of their first bytes: a template comes before
  * the objects in it. `count` gets how many there are. With room 0 they are checked and counted
@@ -409,7 +480,7 @@ static inline const uint8_t *gt_bytes_(const uint8_t *bytes) {
  * `objects`. GT_TAG_CUT to GT_TOO_DEEP: the bytes are no list of objects; this is their first
  * fault, and `place` gets the place of the innermost object at fault. `place` changes with a
  * fault alone. Some KB of stack are taken for 16 levels. */
-static inline int32_t gt_objects(const uint8_t *bytes, size_t n, gt_object *objects, size_t room,
+GT_MUST_CHECK int32_t gt_objects(const uint8_t *bytes, size_t n, gt_object *objects, size_t room,
                                  size_t *count, size_t *place) {
     gt_object none;
     if ((!bytes && n) || (!objects && room) || !count || !place) return GT_NULL;
@@ -426,7 +497,7 @@ static inline int32_t gt_objects(const uint8_t *bytes, size_t n, gt_object *obje
  * are. GT_TAG_CUT to GT_TOO_DEEP: the bytes are no list of objects, wherever the path leads; this
  * is their first fault, and `place` gets its place as in `gt_objects`. `object` changes with
  * GT_OK alone, `place` with a fault of the bytes alone; neither may be NULL. */
-static inline int32_t gt_find(const uint8_t *bytes, size_t n, const uint32_t *path, size_t steps,
+GT_MUST_CHECK int32_t gt_find(const uint8_t *bytes, size_t n, const uint32_t *path, size_t steps,
                               gt_object *object, size_t *place) {
     static const uint32_t none[1] = { 0 };
     if ((!bytes && n) || (!path && steps) || !object || !place) return GT_NULL;
@@ -437,7 +508,7 @@ static inline int32_t gt_find(const uint8_t *bytes, size_t n, const uint32_t *pa
  * front of `head`. `len` gets how many.
  *
  * GT_OK. GT_ARGUMENT: no tag of one to three bytes has this number. */
-static inline int32_t gt_head(uint32_t tag, uint16_t length, uint8_t head[6], size_t *len) {
+GT_MUST_CHECK int32_t gt_head(uint32_t tag, uint16_t length, uint8_t head[6], size_t *len) {
     if (!head || !len) return GT_NULL;
     return galliumtoad_head(tag, length, head, 6, len);
 }
@@ -452,14 +523,15 @@ static inline int32_t gt_head(uint32_t tag, uint16_t length, uint8_t head[6], si
  * GT_OK. GT_ATR_NO_TS to GT_ATR_CHECK_WRONG: the bytes are no answer to reset; this is their first
  * fault from the left, with a wrong check byte as the last, and `place` gets the place of the first
  * byte at fault, from 0 for TS, or how many bytes there are where one is wanting. `atr` changes
- * with GT_OK alone, `place` with a fault of the bytes alone. */
-static inline int32_t gt_atr_read(const uint8_t *bytes, size_t n, gt_atr *atr, size_t *place) {
+ * with GT_OK alone, `place` with a fault of the bytes alone. While it is GT_ATR_CUT or
+ * GT_ATR_CHECK_MISSING, read one more byte: there are never more than GT_ATR_LIMIT. */
+GT_MUST_CHECK int32_t gt_atr_read(const uint8_t *bytes, size_t n, gt_atr *atr, size_t *place) {
     if ((!bytes && n) || !atr || !place) return GT_NULL;
     return galliumtoad_atr_read(gt_bytes_(bytes), n, atr, place);
 }
 
 /* Of PPS1 to PPS3: it is not there. */
-#define GT_ABSENT ((uint16_t)256)
+#define GT_ABSENT 256u
 
 /* A terminal's PPS request for protocol `t`, 0 to 15, with the bytes of PPS1 (the codes of Fi and
  * Di, as TA1 has them), PPS2 and PPS3, or GT_ABSENT for each: its bytes stand at the front of
@@ -467,7 +539,7 @@ static inline int32_t gt_atr_read(const uint8_t *bytes, size_t n, gt_atr *atr, s
  * the caller's to know: one that doesn't may stay silent.
  *
  * GT_OK. GT_ARGUMENT: `t` is above 15, or one of the others above 256. */
-static inline int32_t gt_pps_request(uint8_t t, uint16_t pps1, uint16_t pps2, uint16_t pps3,
+GT_MUST_CHECK int32_t gt_pps_request(uint8_t t, uint16_t pps1, uint16_t pps2, uint16_t pps3,
                                      uint8_t request[GT_PPS_LIMIT], size_t *n) {
     if (!request || !n) return GT_NULL;
     return galliumtoad_pps_request(t, pps1, pps2, pps3, request, GT_PPS_LIMIT, n);
@@ -479,7 +551,7 @@ static inline int32_t gt_pps_request(uint8_t t, uint16_t pps1, uint16_t pps2, ui
  *
  * GT_ARGUMENT: `request` is no PPS request. GT_PPS_NO_PPSS to GT_PPS_CHECK_WRONG: `response` is no
  * response; this is its first fault from the left, with a wrong PCK as the last. */
-static inline int32_t gt_pps_agreed(const uint8_t *request, size_t n, const uint8_t *response,
+GT_MUST_CHECK int32_t gt_pps_agreed(const uint8_t *request, size_t n, const uint8_t *response,
                                     size_t m) {
     if ((!request && n) || (!response && m)) return GT_NULL;
     return galliumtoad_pps_agreed(gt_bytes_(request), n, gt_bytes_(response), m);
@@ -488,13 +560,13 @@ static inline int32_t gt_pps_agreed(const uint8_t *request, size_t n, const uint
 /* ---- The version ----------------------------------------------------------------------------- */
 
 /* The version of the header that the library was built for, as GT_VERSION has that of this one. */
-static inline uint32_t gt_version(void) {
+GT_FUNCTION uint32_t gt_version(void) {
     return galliumtoad_version();
 }
 
 /* Whether the library is one for this header: 1 where both have the same major and the same minor
  * number, else 0. */
-static inline int gt_version_fits(void) {
+GT_MUST_CHECK int gt_version_fits(void) {
     return gt_version() / 0x100 == GT_VERSION / 0x100;
 }
 
@@ -519,7 +591,7 @@ static inline int gt_version_fits(void) {
  *
  * GT_OK: it has begun, and sends first. GT_STATE: the handle holds an exchange. GT_TOO_SHORT,
  * GT_BAD_LENGTH, GT_INVALID_INS: the bytes are no command. GT_MEMORY. Never GT_EMPTY. */
-static inline int32_t gt_exchange_start(gt_exchange *e, const uint8_t *command, size_t n) {
+GT_MUST_CHECK int32_t gt_exchange_start(gt_exchange *e, const uint8_t *command, size_t n) {
     if (!e || (!command && n)) return GT_NULL;
     return galliumtoad_exchange_start(e, gt_bytes_(command), n);
 }
@@ -528,7 +600,7 @@ static inline int32_t gt_exchange_start(gt_exchange *e, const uint8_t *command, 
  * memory is taken for it. The first byte that is over is GT_TOO_LONG.
  *
  * As above, with GT_ARGUMENT before GT_MEMORY: `limit` is above GT_RESPONSE_LIMIT. */
-static inline int32_t gt_exchange_start_within(gt_exchange *e, const uint8_t *command, size_t n,
+GT_MUST_CHECK int32_t gt_exchange_start_within(gt_exchange *e, const uint8_t *command, size_t n,
                                                size_t limit) {
     if (!e || (!command && n)) return GT_NULL;
     return galliumtoad_exchange_start_within(e, gt_bytes_(command), n, limit);
@@ -540,7 +612,7 @@ static inline int32_t gt_exchange_start_within(gt_exchange *e, const uint8_t *co
  * character of the card, for `gt_exchange_take`. GT_DONE: the exchange is over, and has its
  * answer. GT_FAILED: it has failed for good. Only GT_SENDS changes `byte` and the exchange: asked
  * again it hands out the next character. */
-static inline int32_t gt_exchange_next(gt_exchange *e, uint8_t *byte) {
+GT_MUST_CHECK int32_t gt_exchange_next(gt_exchange *e, uint8_t *byte) {
     if (!e || !byte) return GT_NULL;
     return galliumtoad_exchange_next(e, byte);
 }
@@ -550,7 +622,7 @@ static inline int32_t gt_exchange_next(gt_exchange *e, uint8_t *byte) {
  * GT_OK: it is taken. GT_BAD_PROCEDURE, GT_TOO_LONG, GT_STALLED: with this character the exchange
  * has failed for good. GT_NOT_LISTENING: it has characters to send. GT_AFTER_END: it is over, or
  * has failed. The last two change nothing. */
-static inline int32_t gt_exchange_take(gt_exchange *e, uint8_t byte) {
+GT_MUST_CHECK int32_t gt_exchange_take(gt_exchange *e, uint8_t byte) {
     if (!e) return GT_NULL;
     return galliumtoad_exchange_take(e, byte);
 }
@@ -565,7 +637,7 @@ static inline int32_t gt_exchange_take(gt_exchange *e, uint8_t byte) {
  * with room 0, whatever the exchange does next. The others are the answer of `gt_exchange_next`
  * behind the last character: GT_OK: it waits for a character of the card. GT_DONE: the exchange is
  * over. GT_FAILED: it has failed for good. With each of them `n` is told, and may be 0. */
-static inline int32_t gt_exchange_send_bytes(gt_exchange *e, uint8_t *bytes, size_t room,
+GT_MUST_CHECK int32_t gt_exchange_send_bytes(gt_exchange *e, uint8_t *bytes, size_t room,
                                              size_t *n) {
     uint8_t none = 0;
     if (!e || (!bytes && room) || !n) return GT_NULL;
@@ -581,7 +653,7 @@ static inline int32_t gt_exchange_send_bytes(gt_exchange *e, uint8_t *bytes, siz
  * GT_BAD_PROCEDURE, GT_TOO_LONG, GT_STALLED the exchange has failed for good. GT_NOT_LISTENING: it
  * has characters to send now, behind those taken; GT_AFTER_END: it is over, or has failed: of
  * these two the character has changed nothing. With each of them `taken` is told. */
-static inline int32_t gt_exchange_receive_bytes(gt_exchange *e, const uint8_t *bytes, size_t n,
+GT_MUST_CHECK int32_t gt_exchange_receive_bytes(gt_exchange *e, const uint8_t *bytes, size_t n,
                                                 size_t *taken) {
     if (!e || (!bytes && n) || !taken) return GT_NULL;
     return galliumtoad_exchange_receive_bytes(e, gt_bytes_(bytes), n, taken);
@@ -594,7 +666,7 @@ static inline int32_t gt_exchange_receive_bytes(gt_exchange *e, const uint8_t *b
  * GT_OK: all of it. GT_BUFFER: `room` is less than the data; `status` and `len` are the answer's,
  * and `data` is as it was. GT_STATE: there is no answer, since the exchange is under way or has
  * failed. */
-static inline int32_t gt_exchange_answer(const gt_exchange *e, uint16_t *status,
+GT_MUST_CHECK int32_t gt_exchange_answer(gt_exchange *e, uint16_t *status,
                                          uint8_t *data, size_t room, size_t *len) {
     uint8_t none = 0;
     if (!e || !status || (!data && room) || !len) return GT_NULL;
@@ -611,7 +683,7 @@ static inline int32_t gt_exchange_answer(const gt_exchange *e, uint16_t *status,
  * 0 to 256. Asked again it says the same.
  *
  * GT_OK. GT_NOT_DUE: a character of the TPDU has gone, or the exchange is over or has failed. */
-static inline int32_t gt_exchange_tpdu(const gt_exchange *e, uint8_t tpdu[GT_TPDU_LIMIT],
+GT_MUST_CHECK int32_t gt_exchange_tpdu(gt_exchange *e, uint8_t tpdu[GT_TPDU_LIMIT],
                                        size_t *n, size_t *most) {
     if (!e || !tpdu || !n || !most) return GT_NULL;
     return galliumtoad_exchange_tpdu(e, tpdu, GT_TPDU_LIMIT, n, most);
@@ -623,14 +695,14 @@ static inline int32_t gt_exchange_tpdu(const gt_exchange *e, uint8_t tpdu[GT_TPD
  * GT_OK. GT_NO_STATUS: the last two bytes are no status word (6X but 60, or 9X, and any byte).
  * GT_NOT_DUE: see `gt_exchange_tpdu`. GT_NOT_ASKED, GT_TOO_MANY: more data came back than may.
  * GT_TOO_LONG, GT_STALLED: the exchange has failed for good. */
-static inline int32_t gt_exchange_answered(gt_exchange *e, const uint8_t *answer, size_t n) {
+GT_MUST_CHECK int32_t gt_exchange_answered(gt_exchange *e, const uint8_t *answer, size_t n) {
     if (!e || (!answer && n)) return GT_NULL;
     return galliumtoad_exchange_answered(e, gt_bytes_(answer), n);
 }
 
 /* Gives the memory back, at any time; the handle holds nothing then, and may be used again. Of one
  * that holds nothing, or NULL, it is harmless. */
-static inline void gt_exchange_free(gt_exchange *e) {
+GT_FUNCTION void gt_exchange_free(gt_exchange *e) {
     if (e) galliumtoad_exchange_free(e);
 }
 
@@ -643,13 +715,12 @@ static inline void gt_exchange_free(gt_exchange *e) {
  *
  * The memory of an operation, room for a response and a copy of the data that go to the card, is
  * kept for the next, which takes more only for more data than any before. `gt_terminal_reset` and
- * `gt_terminal_free` give it back. Until then what went over the line stands there, secrets too,
- * but for what a later operation has written over. */
+ * `gt_terminal_free` give it back. */
 
 /* A terminal that has begun no operation, in a handle that holds nothing.
  *
  * GT_OK. GT_STATE: the handle holds one. GT_MEMORY. Never GT_EMPTY. */
-static inline int32_t gt_terminal_new(gt_terminal *t) {
+GT_MUST_CHECK int32_t gt_terminal_new(gt_terminal *t) {
     if (!t) return GT_NULL;
     return galliumtoad_terminal_new(t);
 }
@@ -659,14 +730,14 @@ static inline int32_t gt_terminal_new(gt_terminal *t) {
  * GT_TOO_LONG.
  *
  * As above, with GT_ARGUMENT before GT_MEMORY: `limit` is above GT_RESPONSE_LIMIT. */
-static inline int32_t gt_terminal_new_within(gt_terminal *t, size_t limit) {
+GT_MUST_CHECK int32_t gt_terminal_new_within(gt_terminal *t, size_t limit) {
     if (!t) return GT_NULL;
     return galliumtoad_terminal_new_within(t, limit);
 }
 
 /* Drops the operation that has begun, if any, wherever it is, and gives back the memory that was
  * kept for the next. The card is told nothing of it: reset that, too. GT_OK. */
-static inline int32_t gt_terminal_reset(gt_terminal *t) {
+GT_FUNCTION int32_t gt_terminal_reset(gt_terminal *t) {
     if (!t) return GT_NULL;
     return galliumtoad_terminal_reset(t);
 }
@@ -676,14 +747,14 @@ static inline int32_t gt_terminal_reset(gt_terminal *t) {
  *
  * GT_OK: it has begun, and sends first. After a fault nothing has changed: GT_STATE: an operation
  * is under way. GT_ARGUMENT: the identifier has not 5 to 16 bytes. GT_MEMORY. */
-static inline int32_t gt_terminal_select(gt_terminal *t, const uint8_t *aid, size_t n) {
+GT_MUST_CHECK int32_t gt_terminal_select(gt_terminal *t, const uint8_t *aid, size_t n) {
     if (!t || (!aid && n)) return GT_NULL;
     return galliumtoad_terminal_select(t, gt_bytes_(aid), n);
 }
 
 /* Begins the reading of a data object. Faults as above, with GT_ARGUMENT where GET DATA can't name
  * the tag (see `gt_card_object`). */
-static inline int32_t gt_terminal_get(gt_terminal *t, uint32_t tag) {
+GT_MUST_CHECK int32_t gt_terminal_get(gt_terminal *t, uint32_t tag) {
     if (!t) return GT_NULL;
     return galliumtoad_terminal_get(t, tag);
 }
@@ -691,7 +762,7 @@ static inline int32_t gt_terminal_get(gt_terminal *t, uint32_t tag) {
 /* Begins the storing of a value, which is copied and sent in pieces of up to 255 bytes, up to the
  * first that is answered with another status than 9000. Faults as above, with GT_ARGUMENT where PUT
  * DATA can't name the tag. */
-static inline int32_t gt_terminal_put(gt_terminal *t, uint32_t tag, const uint8_t *value,
+GT_MUST_CHECK int32_t gt_terminal_put(gt_terminal *t, uint32_t tag, const uint8_t *value,
                                       size_t n) {
     if (!t || (!value && n)) return GT_NULL;
     return galliumtoad_terminal_put(t, tag, gt_bytes_(value), n);
@@ -701,20 +772,20 @@ static inline int32_t gt_terminal_put(gt_terminal *t, uint32_t tag, const uint8_
  *
  * GT_OK. After a fault nothing has changed: GT_STATE: an operation is under way. GT_TOO_SHORT,
  * GT_BAD_LENGTH, GT_INVALID_INS: the bytes are no command. GT_MEMORY. */
-static inline int32_t gt_terminal_send(gt_terminal *t, const uint8_t *command, size_t n) {
+GT_MUST_CHECK int32_t gt_terminal_send(gt_terminal *t, const uint8_t *command, size_t n) {
     if (!t || (!command && n)) return GT_NULL;
     return galliumtoad_terminal_send(t, gt_bytes_(command), n);
 }
 
 /* What the terminal does now, as `gt_exchange_next` of its operation. GT_STATE: none has begun. */
-static inline int32_t gt_terminal_next(gt_terminal *t, uint8_t *byte) {
+GT_MUST_CHECK int32_t gt_terminal_next(gt_terminal *t, uint8_t *byte) {
     if (!t || !byte) return GT_NULL;
     return galliumtoad_terminal_next(t, byte);
 }
 
 /* Takes a character of the card, as `gt_exchange_take`: GT_BAD_PROCEDURE, GT_TOO_LONG and
  * GT_STALLED end the operation. GT_AFTER_END: it is over or has failed, or none has begun. */
-static inline int32_t gt_terminal_take(gt_terminal *t, uint8_t byte) {
+GT_MUST_CHECK int32_t gt_terminal_take(gt_terminal *t, uint8_t byte) {
     if (!t) return GT_NULL;
     return galliumtoad_terminal_take(t, byte);
 }
@@ -722,7 +793,7 @@ static inline int32_t gt_terminal_take(gt_terminal *t, uint8_t byte) {
 /* Hands out what the terminal sends now, as `gt_exchange_send_bytes` of its operation: that goes
  * from one of its commands to the next. GT_STATE: none has begun; `bytes` and `n` are as they were,
  * also with room 0. */
-static inline int32_t gt_terminal_send_bytes(gt_terminal *t, uint8_t *bytes, size_t room,
+GT_MUST_CHECK int32_t gt_terminal_send_bytes(gt_terminal *t, uint8_t *bytes, size_t room,
                                              size_t *n) {
     uint8_t none = 0;
     if (!t || (!bytes && room) || !n) return GT_NULL;
@@ -731,7 +802,7 @@ static inline int32_t gt_terminal_send_bytes(gt_terminal *t, uint8_t *bytes, siz
 
 /* Takes characters of the card, as `gt_exchange_receive_bytes`: GT_BAD_PROCEDURE, GT_TOO_LONG and
  * GT_STALLED end the operation. GT_AFTER_END: it is over or has failed, or none has begun. */
-static inline int32_t gt_terminal_receive_bytes(gt_terminal *t, const uint8_t *bytes, size_t n,
+GT_MUST_CHECK int32_t gt_terminal_receive_bytes(gt_terminal *t, const uint8_t *bytes, size_t n,
                                                 size_t *taken) {
     if (!t || (!bytes && n) || !taken) return GT_NULL;
     return galliumtoad_terminal_receive_bytes(t, gt_bytes_(bytes), n, taken);
@@ -739,21 +810,21 @@ static inline int32_t gt_terminal_receive_bytes(gt_terminal *t, const uint8_t *b
 
 /* The whole TPDU that is due, as `gt_exchange_tpdu`. GT_NOT_DUE: also where no operation has
  * begun. */
-static inline int32_t gt_terminal_tpdu(const gt_terminal *t, uint8_t tpdu[GT_TPDU_LIMIT],
+GT_MUST_CHECK int32_t gt_terminal_tpdu(gt_terminal *t, uint8_t tpdu[GT_TPDU_LIMIT],
                                        size_t *n, size_t *most) {
     if (!t || !tpdu || !n || !most) return GT_NULL;
     return galliumtoad_terminal_tpdu(t, tpdu, GT_TPDU_LIMIT, n, most);
 }
 
 /* Takes the answer to that TPDU, as `gt_exchange_answered`. */
-static inline int32_t gt_terminal_answered(gt_terminal *t, const uint8_t *answer, size_t n) {
+GT_MUST_CHECK int32_t gt_terminal_answered(gt_terminal *t, const uint8_t *answer, size_t n) {
     if (!t || (!answer && n)) return GT_NULL;
     return galliumtoad_terminal_answered(t, gt_bytes_(answer), n);
 }
 
 /* The answer of an operation that is over, as `gt_exchange_answer`. It can be asked for again until
  * the next operation begins, or a reset. GT_STATE: there is none. */
-static inline int32_t gt_terminal_answer(const gt_terminal *t, uint16_t *status,
+GT_MUST_CHECK int32_t gt_terminal_answer(gt_terminal *t, uint16_t *status,
                                          uint8_t *data, size_t room, size_t *len) {
     uint8_t none = 0;
     if (!t || !status || (!data && room) || !len) return GT_NULL;
@@ -762,7 +833,7 @@ static inline int32_t gt_terminal_answer(const gt_terminal *t, uint16_t *status,
 
 /* Gives the memory back, at any time; the handle holds nothing then, and may be used again. Of one
  * that holds nothing, or NULL, it is harmless. */
-static inline void gt_terminal_free(gt_terminal *t) {
+GT_FUNCTION void gt_terminal_free(gt_terminal *t) {
     if (t) galliumtoad_terminal_free(t);
 }
 
@@ -779,7 +850,7 @@ static inline void gt_terminal_free(gt_terminal *t) {
 /* Begins a card without applications, in a handle that holds nothing.
  *
  * GT_OK. GT_STATE: the handle holds a card. GT_MEMORY. Never GT_EMPTY. */
-static inline int32_t gt_card_new(gt_card *c) {
+GT_MUST_CHECK int32_t gt_card_new(gt_card *c) {
     if (!c) return GT_NULL;
     return galliumtoad_card_new(c);
 }
@@ -789,7 +860,7 @@ static inline int32_t gt_card_new(gt_card *c) {
  *
  * GT_OK. GT_STATE: the card is finished. GT_ARGUMENT: the identifier has another length.
  * GT_APP_TWICE: it is that of an application before. GT_TOO_MANY_APPS: there are 8. GT_MEMORY. */
-static inline int32_t gt_card_app(gt_card *c, const uint8_t *aid, size_t n) {
+GT_MUST_CHECK int32_t gt_card_app(gt_card *c, const uint8_t *aid, size_t n) {
     if (!c || (!aid && n)) return GT_NULL;
     return galliumtoad_card_app(c, gt_bytes_(aid), n);
 }
@@ -804,7 +875,7 @@ static inline int32_t gt_card_app(gt_card *c, const uint8_t *aid, size_t n) {
  * `n` is above 8,192. GT_NOT_OBJECTS: the tag is that of a template (bit 6 of its first byte is
  * set, as in 70 and FF01, and not in 5F20 and DF01), and the value is no list of objects.
  * GT_TABLE_FULL: the tag is new, and the application has 64. GT_MEMORY. */
-static inline int32_t gt_card_object(gt_card *c, uint32_t tag, const uint8_t *value, size_t n,
+GT_MUST_CHECK int32_t gt_card_object(gt_card *c, uint32_t tag, const uint8_t *value, size_t n,
                                      int locked) {
     if (!c || (!value && n)) return GT_NULL;
     return galliumtoad_card_object(c, tag, gt_bytes_(value), n, locked != 0);
@@ -813,7 +884,7 @@ static inline int32_t gt_card_object(gt_card *c, uint32_t tag, const uint8_t *va
 /* The card is finished: nothing is selected, and it waits for the first character of a header.
  *
  * GT_OK. GT_STATE: it was finished before. GT_MEMORY: what was built is as it was. */
-static inline int32_t gt_card_finish(gt_card *c) {
+GT_MUST_CHECK int32_t gt_card_finish(gt_card *c) {
     if (!c) return GT_NULL;
     return galliumtoad_card_finish(c);
 }
@@ -821,7 +892,7 @@ static inline int32_t gt_card_finish(gt_card *c) {
 /* Takes a character of the terminal.
  *
  * GT_OK. GT_STATE: the card is not finished yet. GT_NOT_LISTENING: it has characters to send. */
-static inline int32_t gt_card_take(gt_card *c, uint8_t byte) {
+GT_MUST_CHECK int32_t gt_card_take(gt_card *c, uint8_t byte) {
     if (!c) return GT_NULL;
     return galliumtoad_card_take(c, byte);
 }
@@ -831,7 +902,7 @@ static inline int32_t gt_card_take(gt_card *c, uint8_t byte) {
  * GT_SENDS: `byte` gets a character for the terminal. GT_OK: the card waits for a character of
  * the terminal, for `gt_card_take`. GT_STATE: it is not finished yet. Only GT_SENDS changes `byte`
  * and the card. A put is stored when the second status byte has been handed out, not before. */
-static inline int32_t gt_card_turn(gt_card *c, uint8_t *byte) {
+GT_MUST_CHECK int32_t gt_card_turn(gt_card *c, uint8_t *byte) {
     if (!c || !byte) return GT_NULL;
     return galliumtoad_card_turn(c, byte);
 }
@@ -844,7 +915,7 @@ static inline int32_t gt_card_turn(gt_card *c, uint8_t *byte) {
  * GT_OK: behind them the card waits for a character of the terminal; `n` may be 0. GT_SENDS:
  * `bytes` is full, with `room` characters, and there may be more: ask again; so it is with room 0.
  * GT_STATE: the card is not finished yet; `bytes` and `n` are as they were. */
-static inline int32_t gt_card_send_bytes(gt_card *c, uint8_t *bytes, size_t room, size_t *n) {
+GT_MUST_CHECK int32_t gt_card_send_bytes(gt_card *c, uint8_t *bytes, size_t room, size_t *n) {
     uint8_t none = 0;
     if (!c || (!bytes && room) || !n) return GT_NULL;
     return galliumtoad_card_send_bytes(c, bytes ? bytes : &none, room, n);
@@ -856,7 +927,7 @@ static inline int32_t gt_card_send_bytes(gt_card *c, uint8_t *bytes, size_t room
  * GT_OK: all were taken; so it is with `n` 0. GT_NOT_LISTENING: behind those taken the card has
  * characters to send; `taken` is told, and the others were not looked at. GT_STATE: the card is not
  * finished yet; `taken` is as it was. */
-static inline int32_t gt_card_receive_bytes(gt_card *c, const uint8_t *bytes, size_t n,
+GT_MUST_CHECK int32_t gt_card_receive_bytes(gt_card *c, const uint8_t *bytes, size_t n,
                                             size_t *taken) {
     if (!c || (!bytes && n) || !taken) return GT_NULL;
     return galliumtoad_card_receive_bytes(c, gt_bytes_(bytes), n, taken);
@@ -866,26 +937,35 @@ static inline int32_t gt_card_receive_bytes(gt_card *c, const uint8_t *bytes, si
  * waits for a header. Data objects and plans stay.
  *
  * GT_OK. GT_STATE: it is not finished yet. */
-static inline int32_t gt_card_reset(gt_card *c) {
+GT_FUNCTION int32_t gt_card_reset(gt_card *c) {
     if (!c) return GT_NULL;
     return galliumtoad_card_reset(c);
 }
 
 /* Carries out a whole TPDU (`gt_exchange_tpdu` says which bytes are one), as the firmware of a
  * reader does, under the next of the card's plans. `answer` gets the data from the card, and then
- * SW1 SW2; `len` how many bytes these are, 2 to GT_ANSWER_LIMIT. At most 256 bytes of memory are
- * taken for the time of the call.
+ * SW1 SW2; `len` how many bytes these are, 2 to GT_ANSWER_LIMIT. One buffer may serve for both
+ * sides: the TPDU is copied, and the copy wiped. For the time of the call memory is taken for what
+ * may come back, at most 256 bytes. PUT DATA takes as many bytes as its value has, and under a new
+ * tag those of a longer table of objects.
  *
- * GT_OK: it was carried out, whatever its status. GT_STATE: the card is not finished yet, or
- * characters of a TPDU have gone. GT_NO_TPDU. GT_BUFFER: `room` is less than 2. GT_MEMORY.
- * GT_WANTS_DATA, GT_SENDS_DATA, GT_TOO_LONG (here: the card sends more data than `room` has place
- * for before the status): neither end would go on, so the card was reset; the plan is taken, and
- * `answer` and `len` are as they were. */
-static inline int32_t gt_card_tpdu(gt_card *c, const uint8_t *tpdu, size_t n,
+ * GT_OK: it was carried out, whatever its status. After the next four nothing has changed:
+ * GT_STATE: the card is not finished yet, or characters of a TPDU have gone. GT_NO_TPDU. GT_BUFFER:
+ * `room` is less than the TPDU may bring: 2 where it has data or four bytes, else 2 and P3 (00:
+ * 256). GT_MEMORY. GT_WANTS_DATA, GT_SENDS_DATA: neither end would go on, so the card was reset;
+ * the plan is taken, and `answer` and `len` are as they were. */
+GT_MUST_CHECK int32_t gt_card_tpdu(gt_card *c, const uint8_t *tpdu, size_t n,
                                    uint8_t *answer, size_t room, size_t *len) {
-    uint8_t none = 0;
+    uint8_t copy[GT_TPDU_LIMIT + 1] = { 0 }, none = 0; /* one byte more is no TPDU, as any are */
+    volatile uint8_t *wiped = copy;
+    int32_t code;
+    size_t i;
     if (!c || (!tpdu && n) || (!answer && room) || !len) return GT_NULL;
-    return galliumtoad_card_tpdu(c, gt_bytes_(tpdu), n, answer ? answer : &none, room, len);
+    if (n > sizeof copy) n = sizeof copy;
+    for (i = 0; i < n; i++) copy[i] = tpdu[i];
+    code = galliumtoad_card_tpdu(c, copy, n, answer ? answer : &none, room, len);
+    for (i = 0; i < n; i++) wiped[i] = 0;
+    return code;
 }
 
 /* How the card answers a TPDU to come: each call is for one more of them, in turn. `steps` is a
@@ -898,18 +978,18 @@ static inline int32_t gt_card_tpdu(gt_card *c, const uint8_t *tpdu, size_t n,
  *
  * GT_OK. GT_STATE: the card is not finished yet. GT_ARGUMENT: another letter, or another cut.
  * GT_MEMORY. */
-static inline int32_t gt_card_plan(gt_card *c, const char *steps, uint16_t cut) {
+GT_MUST_CHECK int32_t gt_card_plan(gt_card *c, const char *steps, uint16_t cut) {
     size_t n = 0;
     if (!c || !steps) return GT_NULL;
     while (steps[n]) n++;
-    return galliumtoad_card_plan(c, (const uint8_t *)steps, n, cut);
+    return galliumtoad_card_plan(c, steps, n, cut);
 }
 
 /* The identifier of the application that is selected, at the front of `aid`; `n` gets how many
  * bytes it has, 5 to 16.
  *
  * GT_OK. GT_STATE: the card is not finished yet. GT_NOT_FOUND: none is selected. */
-static inline int32_t gt_card_selected(const gt_card *c, uint8_t aid[GT_AID_LIMIT], size_t *n) {
+GT_MUST_CHECK int32_t gt_card_selected(gt_card *c, uint8_t aid[GT_AID_LIMIT], size_t *n) {
     if (!c || !aid || !n) return GT_NULL;
     return galliumtoad_card_selected(c, aid, GT_AID_LIMIT, n);
 }
@@ -918,7 +998,7 @@ static inline int32_t gt_card_selected(const gt_card *c, uint8_t aid[GT_AID_LIMI
  * above.
  *
  * GT_OK. GT_STATE: the card is not finished yet. GT_NOT_FOUND: `app` is past the last. */
-static inline int32_t gt_card_app_at(const gt_card *c, size_t app, uint8_t aid[GT_AID_LIMIT],
+GT_MUST_CHECK int32_t gt_card_app_at(gt_card *c, size_t app, uint8_t aid[GT_AID_LIMIT],
                                      size_t *n) {
     if (!c || !aid || !n) return GT_NULL;
     return galliumtoad_card_app_at(c, app, aid, GT_AID_LIMIT, n);
@@ -930,7 +1010,7 @@ static inline int32_t gt_card_app_at(const gt_card *c, size_t app, uint8_t aid[G
  * GT_OK: all of it. GT_STATE: the card is not finished yet. GT_NOT_FOUND: `app` or `entry` is past
  * the last. GT_BUFFER: `room` is less than the value, as where a size is asked for with room 0;
  * `tag`, `locked` and `len` are the object's, and `value` is as it was. */
-static inline int32_t gt_card_entry_at(const gt_card *c, size_t app, size_t entry, uint32_t *tag,
+GT_MUST_CHECK int32_t gt_card_entry_at(gt_card *c, size_t app, size_t entry, uint32_t *tag,
                                        int32_t *locked, uint8_t *value, size_t room, size_t *len) {
     uint8_t none = 0;
     if (!c || !tag || !locked || (!value && room) || !len) return GT_NULL;
@@ -939,7 +1019,7 @@ static inline int32_t gt_card_entry_at(const gt_card *c, size_t app, size_t entr
 
 /* Gives the memory back, at any time; the handle holds nothing then, and may be used again. Of one
  * that holds nothing, or NULL, it is harmless. */
-static inline void gt_card_free(gt_card *c) {
+GT_FUNCTION void gt_card_free(gt_card *c) {
     if (c) galliumtoad_card_free(c);
 }
 
@@ -987,14 +1067,14 @@ static inline void gt_card_free(gt_card *c) {
  *
  * GT_OK. GT_STATE: `s` holds a session, or the card is not finished yet. GT_EMPTY: `c` holds
  * nothing. */
-static inline int32_t gt_session_start(gt_session *s, gt_card *c) {
+GT_MUST_CHECK int32_t gt_session_start(gt_session *s, gt_card *c) {
     if (!s || !c) return GT_NULL;
     return galliumtoad_session_start(s, c);
 }
 
 /* Whether an operation can be begun: 1, or 0 while a chain is pending at the card, which
  * `gt_session_send` has begun. Compare with == 1: GT_EMPTY is not 0 either. */
-static inline int32_t gt_session_idle(const gt_session *s) {
+GT_MUST_CHECK int32_t gt_session_idle(gt_session *s) {
     if (!s) return GT_NULL;
     return galliumtoad_session_idle(s);
 }
@@ -1010,11 +1090,11 @@ static inline int32_t gt_session_idle(const gt_session *s) {
  * "oooooo" for a value of 3 bytes under 5F20.
  *
  * GT_OK. GT_ARGUMENT: another letter, or another cut. GT_MEMORY. */
-static inline int32_t gt_session_plan(gt_session *s, const char *steps, uint16_t cut) {
+GT_MUST_CHECK int32_t gt_session_plan(gt_session *s, const char *steps, uint16_t cut) {
     size_t n = 0;
     if (!s || !steps) return GT_NULL;
     while (steps[n]) n++;
-    return galliumtoad_session_plan(s, (const uint8_t *)steps, n, cut);
+    return galliumtoad_session_plan(s, steps, n, cut);
 }
 
 /* Selects an application by its identifier of 5 to 16 bytes (SELECT). The card's answer: `status`
@@ -1026,7 +1106,7 @@ static inline int32_t gt_session_plan(gt_session *s, const char *steps, uint16_t
  * `status` and `len` are the answer's, `data` is as it was, and `gt_session_answer` gives the
  * data. After the other faults nothing was sent: GT_ARGUMENT: the identifier has another length.
  * GT_BUSY: a chain is pending. GT_MEMORY. */
-static inline int32_t gt_session_select(gt_session *s, const uint8_t *aid, size_t n,
+GT_MUST_CHECK int32_t gt_session_select(gt_session *s, const uint8_t *aid, size_t n,
                                         uint16_t *status, uint8_t *data, size_t room, size_t *len) {
     uint8_t none = 0;
     int32_t code;
@@ -1040,7 +1120,7 @@ static inline int32_t gt_session_select(gt_session *s, const uint8_t *aid, size_
  * the shortest spelling, and its value, at most GT_OBJECT_LIMIT bytes. Answers and faults are those
  * of `gt_session_select`, with GT_ARGUMENT where GET DATA can't name the tag (see
  * `gt_card_object`). */
-static inline int32_t gt_session_get(gt_session *s, uint32_t tag, uint16_t *status,
+GT_MUST_CHECK int32_t gt_session_get(gt_session *s, uint32_t tag, uint16_t *status,
                                      uint8_t *data, size_t room, size_t *len) {
     uint8_t none = 0;
     int32_t code;
@@ -1056,7 +1136,7 @@ static inline int32_t gt_session_get(gt_session *s, uint32_t tag, uint16_t *stat
  *
  * GT_OK: it was carried out. After each fault nothing was sent: GT_ARGUMENT: PUT DATA can't name
  * the tag (see `gt_card_object`). GT_MEMORY. GT_BUSY: a chain is pending. */
-static inline int32_t gt_session_put(gt_session *s, uint32_t tag, const uint8_t *value, size_t n,
+GT_MUST_CHECK int32_t gt_session_put(gt_session *s, uint32_t tag, const uint8_t *value, size_t n,
                                      uint16_t *status) {
     uint8_t none = 0;
     size_t len = 0;
@@ -1077,7 +1157,7 @@ static inline int32_t gt_session_put(gt_session *s, uint32_t tag, const uint8_t 
  * card would not agree on which way data move, which no header says over T=0. That is a SELECT or a
  * PUT DATA (INS A4, DA) without data and with Le, and a GET DATA or a GET RESPONSE (CA, C0) of any
  * other form than that. GT_MEMORY. */
-static inline int32_t gt_session_send(gt_session *s, const uint8_t *command, size_t n,
+GT_MUST_CHECK int32_t gt_session_send(gt_session *s, const uint8_t *command, size_t n,
                                       uint16_t *status, uint8_t *data, size_t room, size_t *len) {
     uint8_t none = 0;
     int32_t code;
@@ -1090,7 +1170,7 @@ static inline int32_t gt_session_send(gt_session *s, const uint8_t *command, siz
 /* The answer of the last operation that was carried out, again; a reset keeps it.
  *
  * GT_OK, GT_BUFFER: as in `gt_session_select`. GT_NOT_FOUND: there was none. */
-static inline int32_t gt_session_answer(const gt_session *s, uint16_t *status,
+GT_MUST_CHECK int32_t gt_session_answer(gt_session *s, uint16_t *status,
                                         uint8_t *data, size_t room, size_t *len) {
     uint8_t none = 0;
     if (!s || !status || (!data && room) || !len) return GT_NULL;
@@ -1105,7 +1185,7 @@ static inline int32_t gt_session_answer(const gt_session *s, uint16_t *status,
  * GT_OK: all of them stand in `line`. GT_MEMORY: memory was wanting to note them all, in the
  * operation; nothing is told. GT_BUFFER: `room` is less than their number; `count` is that, and
  * `line` is as it was. */
-static inline int32_t gt_session_heard(const gt_session *s, gt_character *line, size_t room,
+GT_MUST_CHECK int32_t gt_session_heard(gt_session *s, gt_character *line, size_t room,
                                        size_t *count) {
     gt_character none = { 0, 0 };
     if (!s || (!line && room) || !count) return GT_NULL;
@@ -1114,26 +1194,26 @@ static inline int32_t gt_session_heard(const gt_session *s, gt_character *line, 
 
 /* Resets the card: nothing is selected, and a pending chain is dropped. Data objects, plans and the
  * last answer stay. GT_OK. */
-static inline int32_t gt_session_reset(gt_session *s) {
+GT_FUNCTION int32_t gt_session_reset(gt_session *s) {
     if (!s) return GT_NULL;
     return galliumtoad_session_reset(s);
 }
 
 /* The three as `gt_card_selected`, `gt_card_app_at` and `gt_card_entry_at`, of the session's card;
  * never GT_STATE. */
-static inline int32_t gt_session_selected(const gt_session *s, uint8_t aid[GT_AID_LIMIT],
+GT_MUST_CHECK int32_t gt_session_selected(gt_session *s, uint8_t aid[GT_AID_LIMIT],
                                           size_t *n) {
     if (!s || !aid || !n) return GT_NULL;
     return galliumtoad_session_selected(s, aid, GT_AID_LIMIT, n);
 }
 
-static inline int32_t gt_session_app_at(const gt_session *s, size_t app, uint8_t aid[GT_AID_LIMIT],
+GT_MUST_CHECK int32_t gt_session_app_at(gt_session *s, size_t app, uint8_t aid[GT_AID_LIMIT],
                                         size_t *n) {
     if (!s || !aid || !n) return GT_NULL;
     return galliumtoad_session_app_at(s, app, aid, GT_AID_LIMIT, n);
 }
 
-static inline int32_t gt_session_entry_at(const gt_session *s, size_t app, size_t entry,
+GT_MUST_CHECK int32_t gt_session_entry_at(gt_session *s, size_t app, size_t entry,
                                           uint32_t *tag, int32_t *locked,
                                           uint8_t *value, size_t room, size_t *len) {
     uint8_t none = 0;
@@ -1147,14 +1227,14 @@ static inline int32_t gt_session_entry_at(const gt_session *s, size_t app, size_
  * that are left are dropped.
  *
  * GT_OK. GT_STATE: `c` holds a card. GT_EMPTY: `s` holds nothing. */
-static inline int32_t gt_session_end(gt_session *s, gt_card *c) {
+GT_MUST_CHECK int32_t gt_session_end(gt_session *s, gt_card *c) {
     if (!s || !c) return GT_NULL;
     return galliumtoad_session_end(s, c);
 }
 
 /* Gives the memory back, the card's too, at any time; the handle holds nothing then, and may be
  * used again. Of one that holds nothing, or NULL, it is harmless. */
-static inline void gt_session_free(gt_session *s) {
+GT_FUNCTION void gt_session_free(gt_session *s) {
     if (s) galliumtoad_session_free(s);
 }
 

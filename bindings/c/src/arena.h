@@ -14,11 +14,17 @@
 extern "C" {
 #endif
 
+#ifdef __GNUC__
+#pragma GCC visibility push(hidden)
+#endif
 /* How many bytes of the array are in use now, with what each block costs besides. */
 size_t gt_arena_used(void);
 
 /* The most that were in use at once. */
 size_t gt_arena_peak(void);
+#ifdef __GNUC__
+#pragma GCC visibility pop
+#endif
 
 #ifdef __cplusplus
 }

@@ -40,7 +40,7 @@ static void select_app(gt_card *card) {
 }
 
 /* Each object stands where it was first stored; past the last there is none. */
-static void check_table(const gt_card *card, const uint8_t *value, size_t n) {
+static void check_table(gt_card *card, const uint8_t *value, size_t n) {
     uint8_t aid[16], found[8];
     uint32_t tag = 0;
     int32_t locked = 7;

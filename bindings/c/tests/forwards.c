@@ -79,11 +79,11 @@ int32_t galliumtoad_exchange_receive_bytes(gt_exchange *e, const uint8_t *bytes,
                                            size_t *taken) {
     NOTE(P(e), P(bytes), n, P(taken));
 }
-int32_t galliumtoad_exchange_answer(const gt_exchange *e, uint16_t *status, uint8_t *data,
+int32_t galliumtoad_exchange_answer(gt_exchange *e, uint16_t *status, uint8_t *data,
                                     size_t room, size_t *len) {
     NOTE(P(e), P(status), P(data), room, P(len));
 }
-int32_t galliumtoad_exchange_tpdu(const gt_exchange *e, uint8_t *tpdu, size_t room, size_t *n,
+int32_t galliumtoad_exchange_tpdu(gt_exchange *e, uint8_t *tpdu, size_t room, size_t *n,
                                   size_t *most) {
     NOTE(P(e), P(tpdu), room, P(n), P(most));
 }
@@ -127,14 +127,14 @@ int32_t galliumtoad_terminal_receive_bytes(gt_terminal *t, const uint8_t *bytes,
                                            size_t *taken) {
     NOTE(P(t), P(bytes), n, P(taken));
 }
-int32_t galliumtoad_terminal_tpdu(const gt_terminal *t, uint8_t *tpdu, size_t room, size_t *n,
+int32_t galliumtoad_terminal_tpdu(gt_terminal *t, uint8_t *tpdu, size_t room, size_t *n,
                                   size_t *most) {
     NOTE(P(t), P(tpdu), room, P(n), P(most));
 }
 int32_t galliumtoad_terminal_answered(gt_terminal *t, const uint8_t *answer, size_t n) {
     NOTE(P(t), P(answer), n);
 }
-int32_t galliumtoad_terminal_answer(const gt_terminal *t, uint16_t *status, uint8_t *data,
+int32_t galliumtoad_terminal_answer(gt_terminal *t, uint16_t *status, uint8_t *data,
                                     size_t room, size_t *len) {
     NOTE(P(t), P(status), P(data), room, P(len));
 }
@@ -170,21 +170,26 @@ int32_t galliumtoad_card_receive_bytes(gt_card *c, const uint8_t *bytes, size_t 
 int32_t galliumtoad_card_reset(gt_card *c) {
     NOTE(P(c));
 }
+/* It writes its answer first, and reads the TPDU then. */
+static uint8_t seen[2 * GT_TPDU_LIMIT];
 int32_t galliumtoad_card_tpdu(gt_card *c, const uint8_t *tpdu, size_t n, uint8_t *answer,
                               size_t room, size_t *len) {
+    memset(answer, 0, room);
+    memset(seen, 0, sizeof seen);
+    memcpy(seen, tpdu, n < sizeof seen ? n : sizeof seen);
     NOTE(P(c), P(tpdu), n, P(answer), room, P(len));
 }
-int32_t galliumtoad_card_plan(gt_card *c, const uint8_t *steps, size_t n, uint16_t cut) {
+int32_t galliumtoad_card_plan(gt_card *c, const char *steps, size_t n, uint16_t cut) {
     NOTE(P(c), P(steps), n, cut);
 }
-int32_t galliumtoad_card_selected(const gt_card *c, uint8_t *aid, size_t room, size_t *n) {
+int32_t galliumtoad_card_selected(gt_card *c, uint8_t *aid, size_t room, size_t *n) {
     NOTE(P(c), P(aid), room, P(n));
 }
-int32_t galliumtoad_card_app_at(const gt_card *c, size_t app, uint8_t *aid, size_t room,
+int32_t galliumtoad_card_app_at(gt_card *c, size_t app, uint8_t *aid, size_t room,
                                 size_t *n) {
     NOTE(P(c), app, P(aid), room, P(n));
 }
-int32_t galliumtoad_card_entry_at(const gt_card *c, size_t app, size_t entry, uint32_t *tag,
+int32_t galliumtoad_card_entry_at(gt_card *c, size_t app, size_t entry, uint32_t *tag,
                                   int32_t *locked, uint8_t *value, size_t room, size_t *len) {
     NOTE(P(c), app, entry, P(tag), P(locked), P(value), room, P(len));
 }
@@ -194,10 +199,10 @@ void galliumtoad_card_free(gt_card *c) {
 int32_t galliumtoad_session_start(gt_session *s, gt_card *c) {
     NOTE(P(s), P(c));
 }
-int32_t galliumtoad_session_idle(const gt_session *s) {
+int32_t galliumtoad_session_idle(gt_session *s) {
     NOTE(P(s));
 }
-int32_t galliumtoad_session_plan(gt_session *s, const uint8_t *steps, size_t n, uint16_t cut) {
+int32_t galliumtoad_session_plan(gt_session *s, const char *steps, size_t n, uint16_t cut) {
     NOTE(P(s), P(steps), n, cut);
 }
 int32_t galliumtoad_session_select(gt_session *s, const uint8_t *aid, size_t n) {
@@ -212,25 +217,25 @@ int32_t galliumtoad_session_put(gt_session *s, uint32_t tag, const uint8_t *valu
 int32_t galliumtoad_session_send(gt_session *s, const uint8_t *command, size_t n) {
     NOTE(P(s), P(command), n);
 }
-int32_t galliumtoad_session_answer(const gt_session *s, uint16_t *status, uint8_t *data,
+int32_t galliumtoad_session_answer(gt_session *s, uint16_t *status, uint8_t *data,
                                    size_t room, size_t *len) {
     NOTE(P(s), P(status), P(data), room, P(len));
 }
-int32_t galliumtoad_session_heard(const gt_session *s, gt_character *line, size_t room,
+int32_t galliumtoad_session_heard(gt_session *s, gt_character *line, size_t room,
                                   size_t *count) {
     NOTE(P(s), P(line), room, P(count));
 }
 int32_t galliumtoad_session_reset(gt_session *s) {
     NOTE(P(s));
 }
-int32_t galliumtoad_session_selected(const gt_session *s, uint8_t *aid, size_t room, size_t *n) {
+int32_t galliumtoad_session_selected(gt_session *s, uint8_t *aid, size_t room, size_t *n) {
     NOTE(P(s), P(aid), room, P(n));
 }
-int32_t galliumtoad_session_app_at(const gt_session *s, size_t app, uint8_t *aid, size_t room,
+int32_t galliumtoad_session_app_at(gt_session *s, size_t app, uint8_t *aid, size_t room,
                                    size_t *n) {
     NOTE(P(s), app, P(aid), room, P(n));
 }
-int32_t galliumtoad_session_entry_at(const gt_session *s, size_t app, size_t entry, uint32_t *tag,
+int32_t galliumtoad_session_entry_at(gt_session *s, size_t app, size_t entry, uint32_t *tag,
                                      int32_t *locked, uint8_t *value, size_t room, size_t *len) {
     NOTE(P(s), app, entry, P(tag), P(locked), P(value), room, P(len));
 }
@@ -423,16 +428,37 @@ static void of_whole_tpdus(void) {
     HANDS(gt_exchange_answered(&e, NULL, 0), "exchange_answered", P(&e), ANY, 0);
     REFUSES(gt_exchange_answered(NULL, bytes, 2));
     REFUSES(gt_exchange_answered(&e, NULL, 1));
-    HANDS(gt_card_tpdu(&c, tpdu, 5, bytes, 7, &count), "card_tpdu", P(&c), P(tpdu), 5, P(bytes),
-          7, P(&count));
-    HANDS(gt_card_tpdu(&c, tpdu, 0, bytes, 0, &count), "card_tpdu", P(&c), P(tpdu), 0, P(bytes),
-          0, P(&count));
-    HANDS(gt_card_tpdu(&c, NULL, 0, NULL, 0, &count), "card_tpdu", P(&c), ANY, 0, ANY, 0,
-          P(&count));
     REFUSES(gt_card_tpdu(NULL, tpdu, 5, bytes, 7, &count));
     REFUSES(gt_card_tpdu(&c, NULL, 1, bytes, 7, &count));
     REFUSES(gt_card_tpdu(&c, tpdu, 5, NULL, 1, &count));
     REFUSES(gt_card_tpdu(&c, tpdu, 5, bytes, 7, NULL));
+}
+
+/* The card is handed a copy of the TPDU, of which 261 bytes are enough: they are no TPDU. So what
+ * it writes first is not read as the TPDU, though one buffer serves for both sides. */
+static void of_copied_tpdus(void) {
+    static const size_t sizes[] = { 0, 1, 5, 260, 261, 262, 500 };
+    uint8_t tpdu[500], same[500];
+    gt_card c = GT_INIT;
+    size_t i, at;
+    for (at = 0; at < sizeof tpdu; at++) tpdu[at] = (uint8_t)(at % 251 + 1);
+    for (i = 0; i < sizeof sizes / sizeof *sizes; i++) {
+        const size_t n = sizes[i], copied = n < 261 ? n : 261;
+        memset(bytes, 0xEE, sizeof bytes);
+        HANDS(gt_card_tpdu(&c, tpdu, n, bytes, 7, &count), "card_tpdu", P(&c), ANY, copied,
+              P(bytes), 7, P(&count));
+        CHECK(notes[0].what[1] == P(tpdu), 0);
+        CHECK_BYTES(seen, tpdu, copied);
+        CHECK(seen[copied], 0);
+        memcpy(same, tpdu, sizeof same);
+        calls = 0;
+        CHECK(gt_card_tpdu(&c, same, n, same, 258, &count), told[0]);
+        CHECK(notes[0].what[3] == P(same), 1);
+        CHECK_BYTES(seen, tpdu, copied);
+    }
+    memset(bytes, 0, sizeof bytes);
+    HANDS(gt_card_tpdu(&c, NULL, 0, NULL, 0, &count), "card_tpdu", P(&c), ANY, 0, ANY, 0,
+          P(&count));
 }
 
 static void of_a_terminal(void) {
@@ -788,6 +814,7 @@ int main(void) {
     of_versions();
     of_an_exchange();
     of_whole_tpdus();
+    of_copied_tpdus();
     of_a_terminal();
     of_a_terminal_s_line();
     of_buffers();

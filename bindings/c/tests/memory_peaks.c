@@ -96,8 +96,31 @@ static void a_session(size_t size, size_t most) {
     CHECK(taken, 0);
 }
 
+/* A command that moves no data takes the next plan, and PUT DATA no more than its value besides. */
+static void carries_out(gt_card *c, const uint8_t *tpdu, size_t n, uint16_t status, size_t takes) {
+    const size_t before = taken;
+    uint8_t answer[2];
+    size_t len = 0;
+    peak = taken;
+    CHECK(gt_card_tpdu(c, tpdu, n, answer, sizeof answer, &len), GT_OK);
+    CHECK(answer[0] * 256 + answer[1], status);
+    CHECK(peak <= before + takes, 1);
+}
+
+static void a_put(void) {
+    static const uint8_t select[] = { 0x00, 0xA4, 0x04, 0x00, 0x07, 0xA0, 0x00,
+                                      0x00, 0x00, 0x03, 0x10, 0x10 };
+    uint8_t put[GT_TPDU_LIMIT] = { 0x00, 0xDA, 0x5F, 0x20, 255 };
+    gt_card c = GT_INIT;
+    build(&c, 1, 1, 3);
+    carries_out(&c, select, sizeof select, 0x610B, 0);
+    carries_out(&c, put, sizeof put, 0x9000, 255);
+    gt_card_free(&c);
+}
+
 int main(void) {
     a_small_card();
+    a_put();
     a_full_card();
     a_session(3, SMALL_SESSION);
     a_session(GT_VALUE_LIMIT, LARGE_SESSION);

@@ -25,7 +25,7 @@ static void build(gt_card *c) {
 static int lost, unstored;
 
 /* A character that could not be noted is told as want of memory, and nothing else is. */
-static void check_heard(const gt_session *s, size_t all) {
+static void check_heard(gt_session *s, size_t all) {
     gt_character line[64];
     size_t count = 99;
     int32_t code = gt_session_heard(s, line, 64, &count);

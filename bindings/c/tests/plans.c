@@ -121,7 +121,7 @@ static void chain(void) {
 
 /* The characters of the last operation: those of the card, and how many TPDUs there were, where
  * the terminal has sent `data` bytes but headers. */
-static void heard(const gt_session *s, size_t data, size_t tpdus, const char *want, size_t n) {
+static void heard(gt_session *s, size_t data, size_t tpdus, const char *want, size_t n) {
     static gt_character line[1024];
     uint8_t card[1024];
     size_t count = 0, sent = 0, said = 0, i;

@@ -32,7 +32,7 @@ static void answers(gt_session *s, uint16_t want, const char *bytes, size_t n) {
 }
 
 /* The first characters of the last operation, and how many of them there were. */
-static void heard(const gt_session *s, const uint8_t *want, size_t n, size_t all) {
+static void heard(gt_session *s, const uint8_t *want, size_t n, size_t all) {
     gt_character line[64], less[1] = { { 99, 98 } };
     size_t count = 99;
     CHECK(gt_session_heard(s, line, 64, &count), GT_OK);
@@ -67,7 +67,7 @@ static const uint8_t REFUSED_LINE[] = {
     GT_CARD, 0x69, GT_CARD, 0x85
 };
 
-static void entry(const gt_session *s, const char *want, size_t n) {
+static void entry(gt_session *s, const char *want, size_t n) {
     uint32_t tag = 77;
     int32_t locked = 88;
     uint8_t value[8] = { 55 };

@@ -34,7 +34,7 @@ static void build_full(gt_card *c) {
     CHECK(gt_card_finish(c), GT_OK);
 }
 
-static void check_full(const gt_card *c) {
+static void check_full(gt_card *c) {
     size_t app, entry, len = 0;
     uint32_t tag = 0;
     int32_t locked = 0;

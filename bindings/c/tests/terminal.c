@@ -29,7 +29,7 @@ static void takes(gt_terminal *t, const char *bytes, size_t n) {
 }
 
 /* The TPDU that is due is these bytes, and so many may come back. */
-static void is_due(const gt_terminal *t, const uint8_t *want, size_t n, size_t may_come) {
+static void is_due(gt_terminal *t, const uint8_t *want, size_t n, size_t may_come) {
     uint8_t tpdu[GT_TPDU_LIMIT];
     size_t count = 0, most = 999;
     memset(tpdu, 0xEE, sizeof tpdu);
@@ -41,7 +41,7 @@ static void is_due(const gt_terminal *t, const uint8_t *want, size_t n, size_t m
 }
 
 /* None is, and nothing is told. */
-static void none_is_due(const gt_terminal *t, int32_t code) {
+static void none_is_due(gt_terminal *t, int32_t code) {
     uint8_t tpdu[GT_TPDU_LIMIT] = { 0xEE };
     size_t count = 7, most = 8;
     CHECK(gt_terminal_tpdu(t, tpdu, &count, &most), code);
@@ -75,7 +75,7 @@ static void is_over(gt_terminal *t, uint16_t want, const char *bytes, size_t n) 
 }
 
 /* There is no answer, and nothing is told. */
-static void has_no_answer(const gt_terminal *t, int32_t code) {
+static void has_no_answer(gt_terminal *t, int32_t code) {
     uint8_t bytes[1] = { 0xEE };
     uint16_t status = 7;
     size_t len = 8;

@@ -82,6 +82,43 @@ static void codes(void) {
     CHECK(strcmp(gt_text(INT32_MAX), "unknown code"), 0);
 }
 
+/* The statuses of a card here (ISO/IEC 7816-4, 5.1.3); all others are none of them. */
+static const struct {
+    uint16_t status;
+    const char *text;
+} STATUSES[] = {
+    { 0x9000, "ok" },
+    { 0x6581, "memory failure" },
+    { 0x6700, "wrong length" },
+    { 0x6883, "last command of the chain expected" },
+    { 0x6884, "chaining not supported" },
+    { 0x6982, "locked" },
+    { 0x6985, "conditions of use not satisfied" },
+    { 0x6A80, "wrong data" },
+    { 0x6A82, "application not found" },
+    { 0x6A84, "not enough memory space" },
+    { 0x6A86, "wrong P1-P2" },
+    { 0x6A88, "data object not found" },
+    { 0x6D00, "INS not supported" },
+    { 0x6E00, "CLA not supported" }
+};
+
+static const char *text_of(uint32_t status) {
+    size_t i;
+    if (status >> 8 == 0x61) return "more data wait";
+    if (status >> 8 == 0x6C) return "fewer data are there than asked for";
+    for (i = 0; i < sizeof STATUSES / sizeof *STATUSES; i++)
+        if (STATUSES[i].status == status) return STATUSES[i].text;
+    return "unknown status";
+}
+
+static void statuses(void) {
+    uint32_t status, wrong = 0;
+    for (status = 0; status <= 0xFFFF; status++)
+        wrong += strcmp(gt_status_text((uint16_t)status), text_of(status)) != 0;
+    CHECK(wrong, 0);
+}
+
 static void limits(void) {
     CHECK(GT_VALUE_LIMIT, 8192);
     CHECK(GT_OBJECT_LIMIT, 8197);
@@ -192,6 +229,7 @@ static void layout_of_an_answer(void) {
 
 int main(void) {
     codes();
+    statuses();
     limits();
     numbers();
     layouts();

@@ -8,7 +8,7 @@ static const uint8_t SELECT[] = { 0x00, 0xA4, 0x04, 0x00, 0x07, 0xA0, 0x00,
 static const uint8_t GET_6[] = { 0x00, 0xCA, 0x5F, 0x20, 0x06 };
 
 /* The TPDU that is due is these bytes, and so many may come back. */
-static void is_due(const gt_exchange *e, const uint8_t *want, size_t n, size_t may_come) {
+static void is_due(gt_exchange *e, const uint8_t *want, size_t n, size_t may_come) {
     uint8_t tpdu[GT_TPDU_LIMIT];
     size_t count = 0, most = 999;
     memset(tpdu, 0xEE, sizeof tpdu);
@@ -20,7 +20,7 @@ static void is_due(const gt_exchange *e, const uint8_t *want, size_t n, size_t m
 }
 
 /* None is, and nothing is told. */
-static void none_is_due(const gt_exchange *e, int32_t code) {
+static void none_is_due(gt_exchange *e, int32_t code) {
     uint8_t tpdu[GT_TPDU_LIMIT] = { 0xEE };
     size_t count = 7, most = 8;
     CHECK(gt_exchange_tpdu(e, tpdu, &count, &most), code);

@@ -10,7 +10,7 @@ const char *print_bytes(FILE *out, const char *mark, const uint8_t *bytes, size_
     return fflush(out) == 0 && !ferror(out) ? NULL : "write fault";
 }
 
-const char *print_answer(FILE *out, const gt_terminal *terminal, uint16_t *status)
+const char *print_answer(FILE *out, gt_terminal *terminal, uint16_t *status)
 {
     static uint8_t data[GT_RESPONSE_LIMIT];
     char mark[sizeof "= 9000 "];

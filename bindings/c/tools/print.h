@@ -12,6 +12,6 @@
 const char *print_bytes(FILE *out, const char *mark, const uint8_t *bytes, size_t n);
 
 /* Prints the answer of a terminal's operation that is over. `status` gets the status word. */
-const char *print_answer(FILE *out, const gt_terminal *terminal, uint16_t *status);
+const char *print_answer(FILE *out, gt_terminal *terminal, uint16_t *status);
 
 #endif

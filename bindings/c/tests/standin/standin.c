@@ -280,7 +280,8 @@ static size_t spoil(const char *word, uint8_t *answer, size_t n)
     if (strcmp(word, "fetch") == 0 && answer[n - 2] == 0x61) { /* the reader's own GET RESPONSE */
         memcpy(tpdu, get_response, sizeof get_response);
         tpdu[4] = answer[n - 1];
-        gt_card_tpdu(&card, tpdu, sizeof tpdu, answer + n - 2, GT_ANSWER_LIMIT, &fetched);
+        if (gt_card_tpdu(&card, tpdu, sizeof tpdu, answer + n - 2, GT_ANSWER_LIMIT, &fetched) < 0)
+            abort();
         return n - 2 + fetched;
     }
     return n;

@@ -1,0 +1,96 @@
+/* `gt_card_tpdu` copies the TPDU: one buffer may serve for both sides, and the copy is wiped. */
+#ifndef _GNU_SOURCE
+#define _GNU_SOURCE /* a thread on a stack of its own, in strict C99 too */
+#endif
+#include "galliumtoad.h"
+#include "check.h"
+
+#include <pthread.h>
+#include <stdlib.h>
+
+enum { STACK = 1 << 20, ONE = 0x5A, OTHER = 0xC7 };
+
+static const uint8_t AID[] = { 0xA0, 0x00, 0x00, 0x00, 0x03, 0x10, 0x10 };
+static gt_card card = GT_INIT;
+
+static void carries_out(const char *tpdu, size_t n, const char *answer, size_t want) {
+    uint8_t both[GT_TPDU_LIMIT];
+    size_t len = 0;
+    memcpy(both, tpdu, n);
+    CHECK(gt_card_tpdu(&card, both, n, both, sizeof both, &len), GT_OK);
+    CHECK(len, want);
+    CHECK_BYTES(both, answer, want);
+}
+
+/* A name is stored and read, each TPDU's answer in the place of the TPDU. */
+static void one_buffer(void) {
+    carries_out("\x00\xA4\x04\x00\x07\xA0\x00\x00\x00\x03\x10\x10", 12, "\x61\x0B", 2);
+    carries_out("\x00\xDA\x5F\x20\x03JOE", 8, "\x90\x00", 2);
+    carries_out("\x00\xCA\x5F\x20\x06", 5, "\x5F\x20\x03JOE\x90\x00", 8);
+}
+
+/* Bytes whose P3 is one too many are no TPDU: the card looks at none of the others. */
+static void *refused(void *tpdu) {
+    uint8_t answer[2];
+    size_t len;
+    CHECK(gt_card_tpdu(&card, (const uint8_t *)tpdu, 259, answer, sizeof answer, &len), GT_NO_TPDU);
+    return NULL;
+}
+
+static void *leaves(void *tpdu) {
+    volatile uint8_t left = ((const uint8_t *)tpdu)[258];
+    (void)left;
+    return NULL;
+}
+
+static void *(*volatile runs)(void *);
+
+/* Runs it far down, where the end of the thread does not come. */
+static void *far_down(void *tpdu) {
+    volatile uint8_t room[1 << 14];
+    room[0] = 1;
+    runs(tpdu);
+    return room[0] ? NULL : tpdu;
+}
+
+/* Runs a function on a stack of zeros, with bytes that are all secret but for their P3. */
+static void run_on(unsigned char *stack, void *(*run)(void *), int secret) {
+    static uint8_t tpdu[259];
+    pthread_attr_t own;
+    pthread_t thread;
+    memset(tpdu, secret, sizeof tpdu);
+    tpdu[4] = 0xFF;
+    runs = run;
+    memset(stack, 0, STACK);
+    CHECK(pthread_attr_init(&own), 0);
+    CHECK(pthread_attr_setstack(&own, stack, STACK), 0);
+    CHECK(pthread_create(&thread, &own, far_down, tpdu), 0);
+    CHECK(pthread_join(thread, NULL), 0);
+    CHECK(pthread_attr_destroy(&own), 0);
+}
+
+/* How many bytes a function leaves on its stack of those that it was handed: where one secret stood
+ * in a first run, the other stands in a second. */
+static size_t left_by(void *(*run)(void *)) {
+    unsigned char *stack = NULL, *first = (unsigned char *)malloc(STACK);
+    size_t i, left = 0;
+    if (posix_memalign((void **)&stack, 4096, STACK) != 0 || !first) abort();
+    run_on(stack, run, ONE);
+    memcpy(first, stack, STACK);
+    run_on(stack, run, OTHER);
+    for (i = 0; i < STACK; i++) left += first[i] == ONE && stack[i] == OTHER;
+    free(stack);
+    free(first);
+    return left;
+}
+
+int main(void) {
+    CHECK(gt_card_new(&card), GT_OK);
+    CHECK(gt_card_app(&card, AID, sizeof AID), GT_OK);
+    CHECK(gt_card_finish(&card), GT_OK);
+    one_buffer();
+    CHECK(left_by(leaves), 1);
+    CHECK(left_by(refused), 0);
+    gt_card_free(&card);
+    return check_result("copied");
+}

@@ -1,0 +1,29 @@
+/* A plugin: it builds a card and lets it answer, in memory of its own. */
+#include <galliumtoad.h>
+
+#ifdef OWN_HEAP
+#include "counting_heap.h"
+size_t plugin_requests(void) { return requests; }
+size_t plugin_taken(void) { return taken; }
+#else
+size_t plugin_requests(void) { return 1; }
+size_t plugin_taken(void) { return 0; }
+#endif
+
+/* The status of a SELECT at its card, or 0. */
+unsigned plugin_status(void) {
+    static const uint8_t aid[] = { 0xA0, 0x00, 0x00, 0x00, 0x03, 0x10, 0x10 };
+    gt_card card = GT_INIT;
+    gt_session session = GT_INIT;
+    uint8_t data[GT_OBJECT_LIMIT];
+    uint16_t status = 0;
+    size_t n;
+    if (gt_version_fits() && gt_card_new(&card) == GT_OK
+        && gt_card_app(&card, aid, sizeof aid) == GT_OK && gt_card_finish(&card) == GT_OK
+        && gt_session_start(&session, &card) == GT_OK
+        && gt_session_select(&session, aid, sizeof aid, &status, data, sizeof data, &n) != GT_OK)
+        status = 0;
+    gt_session_free(&session);
+    gt_card_free(&card);
+    return status;
+}

@@ -368,10 +368,10 @@ static void of_pps(void) {
 
 /* Major and minor number have to be the header's, and the patch number may be any. */
 static void of_versions(void) {
-    const uint32_t others[] = { 0, 0xFF, 0x000200, 0x000000, 0x010100, 0x010000, 0x010001,
-                                0xFF0100, 0x00FF00, 0x1000100, UINT32_MAX };
+    const uint32_t others[] = { 0, 0xFF, 0x000100, 0x0001FF, 0x000300, 0x010200, 0x010000,
+                                0x020001, 0xFF0200, 0x00FF00, 0x1000200, UINT32_MAX };
     size_t i;
-    for (library = 0x000100; library < 0x000200; library++) {
+    for (library = 0x000200; library < 0x000300; library++) {
         CHECK(gt_version(), library);
         CHECK(gt_version_fits(), 1);
     }

@@ -2,8 +2,8 @@
  * for C99 and C++.
  *
  * The functions are those of a proved library: what a comment below says of answers and of the
- * state after them is its contract, proved of the machine's library. This header itself is tested,
- * not proved: its functions look for NULL, call the library, and have the texts. The caller's part:
+ * state after them is its contract, proved of the machine's library. This header is tested, not
+ * proved: its functions look for NULL, call the library, and return texts. The caller's part:
  *
  * - A pointer with a count is that many elements, all readable and, without const, writable. It
  *   may be NULL where the count is 0. Every other pointer must not be NULL; where one is, the
@@ -65,15 +65,15 @@ extern "C" {
 #define GT_INIT { 0 }
 #endif
 
-/* The functions are inline. GT_EXTERN, defined before the header is included, makes each of them
- * `extern`, in one source file: so the shared library exports them to other languages. */
+/* The functions are inline. If GT_EXTERN is defined before the header is included, they are
+ * `extern`: one source file of the shared library exports them so, for other languages. */
 #ifdef GT_EXTERN
 #define GT_FUNCTION extern
 #else
 #define GT_FUNCTION static inline
 #endif
 
-/* Of a function whose answer has to be looked at. */
+/* For a function whose answer the caller must look at. */
 #ifdef __GNUC__
 #define GT_MUST_CHECK __attribute__((warn_unused_result)) GT_FUNCTION
 #else
@@ -144,7 +144,7 @@ enum {
     /* of an answer to reset */
     GT_ATR_NO_TS = -70,     /* the first byte is neither 3B nor 3F */
     GT_ATR_CUT = -71,       /* the bytes end before a character that is announced */
-    GT_ATR_TOO_LONG = -72,  /* 33 bytes are there, and a 34th is announced, TCK too: none may be */
+    GT_ATR_TOO_LONG = -72,  /* 33 bytes announce a 34th, which none may be; it may be TCK */
     GT_ATR_ORDER = -73,     /* the T that this TD names is below the one before it, or 15 in TD1 */
     GT_ATR_SURPLUS = -74,   /* characters stand behind the end */
     GT_ATR_CHECK_MISSING = -75, /* TCK is due, as a T other than 0 is named, and the bytes end */
@@ -219,7 +219,7 @@ GT_FUNCTION const char *gt_text(int32_t code) {
     }
 }
 
-/* What a status word of a card here means, in a few words: a string that stays. Of any other:
+/* Says in a few words what a status word of a card here means: a string that stays. Any other is
  * "unknown status". The list above "A session" says more of each. Not proved. */
 GT_FUNCTION const char *gt_status_text(uint16_t status) {
     switch (status >> 8) {
@@ -327,8 +327,8 @@ typedef struct {
     uint32_t waiting_time;      /* of T=0 in clock cycles, WI * 960 * Fi; 0 with WI or Fi */
 } gt_atr;
 
-/* Handles: 16 bytes each, which the caller owns; what they hold stands on the heap. Their calls, in
- * the order of use; what stands behind .. is for any time between:
+/* Handles: 16 bytes each, which the caller owns; their content is on the heap. Each has these
+ * calls, in the order of use; those after .. may come at any time in between:
  *
  *   gt_exchange_  start or start_within; next and take, send_bytes and receive_bytes, or tpdu and
  *                 answered; answer; free
@@ -352,20 +352,20 @@ typedef struct {
  *                 of SELECT or GET DATA with it; 4,240,592 with all that a card can hold
  *   a session     26,667 with that small card, for a select, a put of 3 bytes and a get; 116,584
  *                 for a put and a get of 8,192 bytes
- *   plans         of those that wait, at most 192 for each of the most that waited at once since
- *                 none did; and one for each letter, until the next plan is taken
+ *   plans         at most 192 for each of the most plans that waited at once since none did; and
+ *                 one for each letter, until the next plan is taken
  *
- * What a freed handle held is given back, all of it, and wiped (galliumtoad_heap.h). Until then a
- * handle keeps what may be secret:
+ * All that a freed handle held goes back to the heap, and is wiped (galliumtoad_heap.h). Until then
+ * a handle keeps these bytes, secrets included:
  *
- *   an exchange   its command, and the response
- *   a terminal    what it has sent and received, but for what a later operation has written over,
- *                 until gt_terminal_reset or gt_terminal_free
- *   a card        the values of its objects, each until another is stored under its tag; the bytes
- *                 of a TPDU until its second status byte, and those of a chain until it ends,
- *                 stored, refused or dropped: both are then cleared, which is proved
- *   a session     its card's, the answer of the last operation, and its characters, until the next
- *                 one is carried out, or gt_session_end or gt_session_free */
+ *   an exchange   its command and the response
+ *   a terminal    what it sent and received, until a later operation overwrites it, or
+ *                 gt_terminal_reset
+ *   a card        each value, until another is stored under its tag; the bytes of a TPDU, until its
+ *                 second status byte; those of a chain, until it is stored, refused or dropped. It
+ *                 is proved that the last two are then cleared
+ *   a session     those of its card; the last answer and its characters, until the next operation
+ *                 is carried out, or gt_session_end */
 typedef struct { bool live; void *held; } gt_exchange;
 typedef struct { bool live; void *held; } gt_terminal;
 typedef struct { bool live; void *held; } gt_card;
@@ -465,11 +465,11 @@ static inline const uint8_t *gt_bytes_(const uint8_t *bytes) {
 
 /* ---- Data objects (EMV Book 3, Annex B) ------------------------------------------------------
  *
- * `bytes` are a list of objects: each a tag, a length and a value. Padding of 00 before, between
- * and behind them is skipped, and is part of none. A length is 00 to 7F, 81 and a byte, or 82 and
- * two, the longest; 83 and above are GT_LENGTH_FORM. The value of a constructed object (a template)
- * is such a list, one level further in; the list itself is at level 1. These functions take no
- * memory. */
+ * `bytes` are a list of objects: each a tag, a length and a value. Padding, 00 before, between and
+ * behind objects, is skipped: no object contains it. A length is 00 to 7F, 81 and one byte, or 82
+ * and two bytes, which is the longest form; 83 and above are GT_LENGTH_FORM. The value of a
+ * constructed object (a template) is such a list, one level further in; the list itself is at level
+ * 1. These functions take no memory. */
 
 /* All objects of all levels of a list, in the order of their first bytes: a template comes before
  * the objects in it. `count` gets how many there are. With room 0 they are checked and counted

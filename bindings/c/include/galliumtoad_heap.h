@@ -9,8 +9,8 @@
  *   as it is.
  * - None of them is called from within another, and none may call the library, throw or longjmp:
  *   the library has no unwind tables, and what was begun would be lost.
- * - They are hidden: a shared library that is linked with the archive keeps its own three to
- *   itself, and no other's come in their place.
+ * - They are hidden: a shared library that is linked with the archive keeps its three to itself,
+ *   and calls no others.
  * - They are called by whatever threads call the library, and a block may be given back by another
  *   thread than the one that took it. Where several use handles at once, the three have to be safe
  *   in several threads at once, as malloc and free are.

@@ -281,6 +281,21 @@ def tables():
             look(program, program.end(), "", fault, 1)
 
 
+def closed_descriptors():
+    """What is printed into a closed descriptor does not go to the terminal."""
+    line = Line()
+    try:
+        program = Program("serial_card", ["-v", "--no-echo", line.name, TABLE], before="exec 1>&-")
+        other = Other(line, echo=False)
+        play(other, "< 3B00 > 00CA5F2000 < 6985", card=False)
+        other.take_nothing(0.1)
+    finally:
+        line.close()
+    look(program, program.end(), "", GONE, 1)
+    program = Program("serial_card", ["--pty", TABLE], before="exec 1>&-")
+    look(program, program.end(), "", "write fault\n", 1)
+
+
 def words():
     """Words of a card that are refused, and what can't be opened."""
     for given, why in (
@@ -322,5 +337,5 @@ def tests():
     """Each test of this part: its title, and a function that is wrong by an error."""
     yield from ((case.title, lambda case=case: run(case)) for case in all_cases())
     for test in (wrong_echo, is_slow, puts_back, opening_is_the_reset, gives_the_echo, is_not_read,
-                 mute_until_reset, tables, words, helps):
+                 mute_until_reset, tables, closed_descriptors, words, helps):
         yield (f"card: {test.__name__}", test)

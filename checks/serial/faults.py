@@ -2,7 +2,7 @@
 there, and looks that a case of checks/serial goes wrong then. What they do is not proved, so this
 shows that its cases guard it. It takes some minutes, and is no part of the gate.
 
-A fault is `file: FILE` in bindings/c/examples, `old: TEXT`, a part of one line that stands once
+A fault is `file: FILE` in bindings/c/tools or bindings/c/examples, `old: TEXT`, a part of one line that stands once
 there, and `new: TEXT`. The last line is 'N passed, N failed'. With words it tries only the faults
 in whose lines one of them stands."""
 
@@ -78,7 +78,8 @@ def sys_archive():
 
 def tried(fault, copy):
     """What is told of a fault, and whether it was refused; the copy is then as it was."""
-    path = copy / "examples" / fault.file
+    paths = [copy / folder / fault.file for folder in ("tools", "examples")]
+    path = next(path for path in paths if path.exists())
     before = path.read_text(encoding="utf-8")
     try:
         path.write_text(fault.put(before), encoding="utf-8")

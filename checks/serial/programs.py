@@ -22,13 +22,12 @@ class Skipped(Exception):
 
 
 class Program:
-    """A program that runs, over the stand-in for a tty. `passed_over` is a signal that whoever
-    starts it has it pass over."""
+    """A program that runs, over the stand-in for a tty. `before` is what a shell does first:
+    `trap "" HUP` has it pass over a signal, and `exec 1>&-` closes a descriptor."""
 
-    def __init__(self, name, words, given=b"", environment=(), stdout=subprocess.PIPE,
-                 passed_over=None):
+    def __init__(self, name, words, given=b"", environment=(), stdout=subprocess.PIPE, before=""):
         names = {**os.environ, "LC_ALL": "C", **dict(environment)}
-        before = ["sh", "-c", f'trap "" {passed_over}; exec "$@"', "sh"] if passed_over else []
+        before = ["sh", "-c", f'{before}; exec "$@"', "sh"] if before else []
         self.began = time.monotonic()
         self.process = subprocess.Popen(
             [*before, BUILD / name, *map(str, words)],

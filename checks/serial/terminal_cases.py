@@ -364,7 +364,7 @@ def passes_over_a_signal():
     line = Line()
     try:
         program = Program("serial_terminal", ["--slack", "5000", line.name, *SHORT],
-                          passed_over="HUP")
+                          before='trap "" HUP')
         other = Other(line)
         play(other, "< 3B00 " + SHORT_WORDS, card=True)
         program.kill(signal.SIGHUP)
@@ -456,6 +456,30 @@ def nobody_reads():
         line.close()
 
 
+def closed_descriptors():
+    """What is printed into a closed descriptor goes nowhere, and above all not to the card."""
+    for closed, options, given, dialogue, fault, status in (
+        ("exec 1>&-", [], SHORT, SHORT_WORDS + DONE, "operation 1: write fault\n", 1),
+        ("exec 1>&-", ["-v"], SHORT, SHORT_WORDS + DONE, "operation 1: write fault\n", 1),
+        ("exec 2>&-", [], SHORT, SHORT_WORDS + "< 55 ", "", 1),
+        ("exec 0<&- 1>&- 2>&-", [], SHORT, SHORT_WORDS + DONE, "", 1),
+        ("exec 0<&-", [], SHORT, SHORT_WORDS + DONE, "", 0),
+    ):
+        line = Line()
+        try:
+            program = Program("serial_terminal", ["--slack", "5000", *options, line.name, *given],
+                              before=closed)
+            other = Other(line)
+            play(other, "< 3B00 " + dialogue, card=True)
+            output = "= 9000\n" if status == 0 else ""
+            look(program, program.end(), output, fault, status)
+            other.take_nothing(0.1)
+        finally:
+            line.close()
+    program = Program("serial_terminal", ["-f", "-", "/dev/null"], before="exec 0<&-")
+    look(program, program.end(), "", "read fault\n", 1)
+
+
 def words():
     """Words that are refused before anything is opened, and ttys that can't be opened."""
     for given, why in (
@@ -510,5 +534,5 @@ def tests():
         for number in (signal.SIGTERM, signal.SIGINT, signal.SIGHUP, signal.SIGQUIT)
     )
     for test in (guard_time, passes_over_a_signal, line_gone, nulls_for_ever, settings, full_device,
-                 nobody_reads, words, helps):
+                 nobody_reads, closed_descriptors, words, helps):
         yield (f"terminal: {test.__name__}", test)

@@ -3,6 +3,7 @@
  *
  * The card is the library's, and proved; this program waits for a reset, sends the answer to it,
  * and passes characters both ways until the next one. `serial_card --help` says what it does. */
+#include "descriptors.h"
 #include "serial_options.h"
 #include "table.h"
 
@@ -410,6 +411,9 @@ static int run_options(const struct serial_options *options)
 int main(int argc, char **argv)
 {
     struct serial_options options;
-    const char *fault = serial_options_read(&options, &NAMES, argc, argv);
+    const char *fault;
+    if (!descriptors_fill())
+        return FAULT;
+    fault = serial_options_read(&options, &NAMES, argc, argv);
     return fault != NULL ? refuse_words(fault) : run_options(&options);
 }

@@ -3,6 +3,7 @@
  * The terminal is the library's, and proved; this program resets the card, reads its answer, and
  * passes characters both ways, each within the line's times. `serial_terminal --help` says what it
  * does. */
+#include "descriptors.h"
 #include "print.h"
 #include "script.h"
 #include "serial_answer.h"
@@ -250,6 +251,9 @@ static int run_options(const struct serial_options *options)
 int main(int argc, char **argv)
 {
     struct serial_options options;
-    const char *fault = serial_options_read(&options, &NAMES, argc, argv);
+    const char *fault;
+    if (!descriptors_fill())
+        return FAULT;
+    fault = serial_options_read(&options, &NAMES, argc, argv);
     return fault != NULL ? refuse_words(fault) : run_options(&options);
 }

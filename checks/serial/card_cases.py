@@ -11,7 +11,7 @@ from dataclasses import dataclass, field
 from pathlib import Path
 
 from lines import Line, Other, play, trace_of
-from programs import TABLE, Program
+from programs import TABLE, Program, version
 from terminal_cases import GET_WORDS, SELECT_WORDS, look, rate_of
 
 USAGE = (
@@ -330,7 +330,7 @@ def helps():
         assert "Usage: serial_card [OPTIONS] TTY TABLE" in lines, lines[:4]
     for word in ("-V", "--version"):
         program = Program("serial_card", [word])
-        look(program, program.end(), "serial_card 0.1.0\n", "", 0)
+        look(program, program.end(), f"serial_card {version()}\n", "", 0)
 
 
 def tests():

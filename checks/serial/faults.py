@@ -2,9 +2,9 @@
 there, and looks that a case of checks/serial goes wrong then. What they do is not proved, so this
 shows that its cases guard it. It takes some minutes, and is no part of the gate.
 
-A fault is `file: FILE` in bindings/c/tools or bindings/c/examples, `old: TEXT`, a part of one line that stands once
-there, and `new: TEXT`. The last line is 'N passed, N failed'. With words it tries only the faults
-in whose lines one of them stands."""
+A fault is `file: FILE` in bindings/c/tools or bindings/c/examples, `old: TEXT`, a part of one line
+that stands once there, and `new: TEXT`. The last line is 'N passed, N failed'. With words it tries
+only the faults in whose lines one of them stands."""
 
 import os
 import shutil

@@ -1,4 +1,4 @@
-"""serial_terminal and serial_card against each other, over two lines and a wire between them, and
+"""gt_serial and serial_card against each other, over two lines and a wire between them, and
 over the line that the card makes."""
 
 import signal
@@ -43,7 +43,7 @@ def both(answer, echo, heaps, options):
             path = table(folder, f"atr {answer}\n{APP}")
             card = Program("serial_card", [*SLACK, *no_echo, ends[1].name, path])
             terminal = Program(
-                "serial_terminal", [*SLACK, *no_echo, *options, ends[0].name, *WORDS]
+                "gt_serial", [*SLACK, *no_echo, *options, ends[0].name, *WORDS]
             )
             while terminal.process.poll() is None:
                 rate = rate_of(ends[1])
@@ -87,7 +87,7 @@ def own_line(inverse, echo):
         far = Far("-v", *no_echo, path)
         for _ in range(2):
             terminal = Program(
-                "serial_terminal", [*SLACK, *no_echo, "-v", far.name, *WORDS[:4]]
+                "gt_serial", [*SLACK, *no_echo, "-v", far.name, *WORDS[:4]]
             )
             look(terminal, terminal.end(), wanted, "", 0)
             time.sleep(0.3)
@@ -101,7 +101,7 @@ def is_explained():
     with tempfile.TemporaryDirectory() as folder:
         far = Far(table(folder, f"atr 3B1095\n{APP}"))
         words = [*SLACK, "-v", "--pps", far.name, *WORDS[:4]]
-        terminal = Program("serial_terminal", words)
+        terminal = Program("gt_serial", words)
         assert terminal.end() == 0 and not terminal.faults, terminal.faults
         far.end()
     found = subprocess.run(
@@ -122,12 +122,12 @@ def comes_back():
     far = Far("--no-echo", TABLE)
     words = [*SLACK, "--no-echo", far.name, "select", "A0000000031010"]
     for number in (signal.SIGKILL, signal.SIGTERM):
-        killed = Program("serial_terminal", [*words, "put", "5F20", "41*8000"])
+        killed = Program("gt_serial", [*words, "put", "5F20", "41*8000"])
         time.sleep(1.0)
         killed.kill(number)
         look(killed, killed.end(), "= 9000 6F098407A0000000031010\n", "", -number)
         time.sleep(0.2)
-        back = Program("serial_terminal", [*words, "get", "5F20", "get", "50"])
+        back = Program("gt_serial", [*words, "get", "5F20", "get", "50"])
         look(back, back.end(), "= 9000 6F098407A0000000031010\n= 9000 5F20034A4F45\n"
              "= 9000 500456495341\n", "", 0)
         time.sleep(0.3)
@@ -142,12 +142,12 @@ def comes_back_soon():
         far = Far("--no-echo", "--plan", "", "--plan", "", "--plan", "n" * 5000, path)
         words = [*SLACK, "--no-echo", far.name, "select", "A0000000031010", "get"]
         for long in ("5F20", "50"):
-            killed = Program("serial_terminal", [*words, long])
+            killed = Program("gt_serial", [*words, long])
             time.sleep(1.0)
             killed.kill(signal.SIGKILL)
             killed.end()
             time.sleep(0.2)
-            back = Program("serial_terminal", [*words, "5F20"])
+            back = Program("gt_serial", [*words, "5F20"])
             look(back, back.end(), "= 9000 6F098407A0000000031010\n= 9000 5F20034A4F45\n", "", 0)
             time.sleep(0.3)
         far.end()
@@ -162,7 +162,7 @@ def keeps_values():
         (["put", "5F20", "FF60FF"], "= 9000\n"),
         (["get", "5F20"], "= 9000 5F2003FF60FF\n"),
     ):
-        terminal = Program("serial_terminal", [*SLACK, far.name, *select, *words])
+        terminal = Program("gt_serial", [*SLACK, far.name, *select, *words])
         look(terminal, terminal.end(), answer + output, "", 0)
         time.sleep(0.3)
     far.end()

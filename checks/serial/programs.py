@@ -1,6 +1,7 @@
 """The two programs, as their tests run them."""
 
 import os
+import re
 import select
 import subprocess
 import threading
@@ -15,6 +16,12 @@ SECONDS = 30
 # those that run, and whether no more may begin
 RUNNING = set()
 IS_OVER = threading.Event()
+
+
+def version():
+    """The version that the header has."""
+    header = (TOP / "bindings/c/include/galliumtoad.h").read_text(encoding="utf-8")
+    return ".".join(re.findall(r"^#define GT_VERSION_(?:MAJOR|MINOR|PATCH) (\d+)$", header, re.M))
 
 
 class Skipped(Exception):

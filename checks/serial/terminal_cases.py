@@ -1,4 +1,4 @@
-"""serial_terminal, with a card that is played by hand at the other end of its line.
+"""gt_serial, with a card that is played by hand at the other end of its line.
 
 What is expected comes from the rules of the line (ISO/IEC 7816-3) and of the card, and from what
 bindings/c/README.md says of the program."""
@@ -11,10 +11,10 @@ import time
 from dataclasses import dataclass, field
 
 from lines import Line, Other, play, trace_of
-from programs import Program
+from programs import Program, version
 
 USAGE = (
-    "\nUsage: serial_terminal [OPTIONS] TTY OPERATION..\n"
+    "\nUsage: gt_serial [OPTIONS] TTY OPERATION..\n"
     "\nFor more information, try '--help'.\n"
 )
 TCGETS2 = 0x802C542A
@@ -76,7 +76,7 @@ def run(case):
         # what the card says of itself is there when the line is opened, which is its reset
         first = most[:4] if most[2:3] == ["<"] and len(most) > 4 else []
         play(other, " ".join(first), card=True)
-        program = Program("serial_terminal", [*options, line.name, *case.words], case.given)
+        program = Program("gt_serial", [*options, line.name, *case.words], case.given)
         other.sent_at = program.began
         try:
             play(other, " ".join(most[len(first):]), card=True)
@@ -330,7 +330,7 @@ def guard_time():
         line = Line()
         try:
             words = ["--baud", "1200", "--slack", "5000", line.name, *SHORT]
-            program = Program("serial_terminal", words)
+            program = Program("gt_serial", words)
             other = Other(line)
             play(other, f"< {answer} " + SHORT_WORDS + DONE, card=True)
             look(program, program.end(), "= 9000\n", "", 0)
@@ -347,7 +347,7 @@ def puts_back(number):
     """A signal ends it, and the tty is as it was; before that it was set for the line."""
     line = Line()
     try:
-        program = Program("serial_terminal", ["--slack", "60000", line.name, *SHORT])
+        program = Program("gt_serial", ["--slack", "60000", line.name, *SHORT])
         other = Other(line)
         play(other, "< 3B00 " + SHORT_WORDS, card=True)
         assert not line.is_put_back(), "the tty was not set"
@@ -363,7 +363,7 @@ def passes_over_a_signal():
     """Who starts it with SIGHUP passed over, as nohup does, is not ended by that."""
     line = Line()
     try:
-        program = Program("serial_terminal", ["--slack", "5000", line.name, *SHORT],
+        program = Program("gt_serial", ["--slack", "5000", line.name, *SHORT],
                           before='trap "" HUP')
         other = Other(line)
         play(other, "< 3B00 " + SHORT_WORDS, card=True)
@@ -382,7 +382,7 @@ def line_gone():
         ("< 3B", "the line is gone\n"),
     ):
         line = Line()
-        program = Program("serial_terminal", ["--slack", "5000", line.name, *SHORT])
+        program = Program("gt_serial", ["--slack", "5000", line.name, *SHORT])
         play(Other(line), dialogue, card=True)
         time.sleep(0.3)
         line.close()
@@ -394,7 +394,7 @@ def nulls_for_ever():
     line = Line()
     try:
         words = ["--patience", "1", "--slack", "2000", line.name, *SHORT]
-        program = Program("serial_terminal", words)
+        program = Program("gt_serial", words)
         other = Other(line)
         play(other, "< 3B00 " + SHORT_WORDS, card=True)
         began = time.monotonic()
@@ -413,7 +413,7 @@ def settings():
     has no parity."""
     line = Line()
     try:
-        program = Program("serial_terminal", ["--slack", "5000", line.name, *SHORT])
+        program = Program("gt_serial", ["--slack", "5000", line.name, *SHORT])
         other = Other(line)
         play(other, "< 3B00 " + SHORT_WORDS, card=True)
         input_flags, output_flags, control, local, *_ = line.settings()
@@ -432,7 +432,7 @@ def full_device():
         try:
             with open("/dev/full", "wb") as full:
                 words = ["--slack", "2000", *options, line.name, *SHORT]
-                program = Program("serial_terminal", words, stdout=full)
+                program = Program("gt_serial", words, stdout=full)
             play(Other(line), "< 3B00 " + SHORT_WORDS + DONE, card=True)
             look(program, program.end(), "", "operation 1: write fault\n", 1)
             assert line.is_put_back(), "the tty is not set as it was before"
@@ -447,7 +447,7 @@ def nobody_reads():
         reads, writes = os.pipe()
         os.close(reads)
         line.write(b"\x3b\x00")
-        program = Program("serial_terminal", ["-v", "--slack", "2000", line.name, *SHORT],
+        program = Program("gt_serial", ["-v", "--slack", "2000", line.name, *SHORT],
                           stdout=writes)
         os.close(writes)
         look(program, program.end(), "", "", -signal.SIGPIPE)
@@ -467,7 +467,7 @@ def closed_descriptors():
     ):
         line = Line()
         try:
-            program = Program("serial_terminal", ["--slack", "5000", *options, line.name, *given],
+            program = Program("gt_serial", ["--slack", "5000", *options, line.name, *given],
                               before=closed)
             other = Other(line)
             play(other, "< 3B00 " + dialogue, card=True)
@@ -476,7 +476,7 @@ def closed_descriptors():
             other.take_nothing(0.1)
         finally:
             line.close()
-    program = Program("serial_terminal", ["-f", "-", "/dev/null"], before="exec 0<&-")
+    program = Program("gt_serial", ["-f", "-", "/dev/null"], before="exec 0<&-")
     look(program, program.end(), "", "read fault\n", 1)
 
 
@@ -502,28 +502,28 @@ def words():
         (["x", *GET, "get"], "operation 2: wrong number of words"),
         (["x", *GET, "get", "3E"], "operation 2: bad tag"),
     ):
-        program = Program("serial_terminal", given)
+        program = Program("gt_serial", given)
         look(program, program.end(), "", f"error: {why}\n{USAGE}", 2)
     for given, fault in (
         (["/nowhere/tty", *GET], "the tty can not be opened: No such file or directory\n"),
         (["/dev/null", *GET], "it is no tty\n"),
         (["-f", "/nowhere/file", "/dev/null"], "read fault\n"),
     ):
-        program = Program("serial_terminal", given)
+        program = Program("gt_serial", given)
         look(program, program.end(), "", fault, 1)
 
 
 def helps():
     """Help fits a terminal and names each option; the version is the header's."""
     for word in ("-h", "--help"):
-        program = Program("serial_terminal", [word])
+        program = Program("gt_serial", [word])
         assert program.end() == 0 and program.faults == "", program.faults
         lines = program.output.splitlines()
         assert max(map(len, lines)) <= 80, "a line of more than 80 columns"
-        assert "Usage: serial_terminal [OPTIONS] TTY OPERATION.." in lines, lines[:4]
+        assert "Usage: gt_serial [OPTIONS] TTY OPERATION.." in lines, lines[:4]
     for word in ("-V", "--version"):
-        program = Program("serial_terminal", [word])
-        look(program, program.end(), "serial_terminal 0.1.0\n", "", 0)
+        program = Program("gt_serial", [word])
+        look(program, program.end(), f"gt_serial {version()}\n", "", 0)
 
 
 def tests():

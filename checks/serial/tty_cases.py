@@ -92,7 +92,7 @@ def terminal(dialogue, noted, fault="", refuses="", options=(), output="= 9000\n
         tty = Tty(folder, refuses)
         try:
             words = ["--slack", "1200", *options, tty.line.name, *SHORT]
-            program = Program("serial_terminal", words, environment=tty.environment)
+            program = Program("gt_serial", words, environment=tty.environment)
             other = Marking(tty.line, inverse=inverse)
             if reset:
                 tty.await_note(reset)
@@ -136,7 +136,7 @@ def is_held():
     with tempfile.TemporaryDirectory() as folder:
         tty = Tty(folder)
         try:
-            program = Program("serial_terminal", ["--slack", "5000", tty.line.name, *SHORT],
+            program = Program("gt_serial", ["--slack", "5000", tty.line.name, *SHORT],
                               environment=tty.environment)
             tty.line.write(b"\x55\x55")
             began = tty.await_note("rts on")
@@ -270,7 +270,7 @@ def ff_is_no_mark():
         try:
             words = ["send", "00CA5F2002", "put", "51", "FF00FFFF"]
             words = ["--slack", "5000", tty.line.name, *words]
-            program = Program("serial_terminal", words, environment=tty.environment)
+            program = Program("gt_serial", words, environment=tty.environment)
             other = Marking(tty.line)
             tty.await_note("rts off")
             play(other, "< 3B41FFFF > 00CA5F2002 < CAFFFF9000 > 00DA005104 < DA > FF00FFFF < 9000",

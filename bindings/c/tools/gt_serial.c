@@ -1,7 +1,7 @@
-/* serial_terminal: a terminal for the card in a Phoenix or Smartmouse reader at a tty.
+/* gt_serial: a terminal for the card in a Phoenix or Smartmouse reader at a tty.
  *
  * The terminal is the library's, and proved; this program resets the card, reads its answer, and
- * passes characters both ways, each within the line's times. `serial_terminal --help` says what it
+ * passes characters both ways, each within the line's times. `gt_serial --help` says what it
  * does. */
 #include "descriptors.h"
 #include "print.h"
@@ -19,7 +19,7 @@ enum { ALL_WELL = 0, FAULT = 1, BAD_WORDS = 2 };
 /* a card's character for "go on waiting" (ISO/IEC 7816-3, 10.3.3) */
 #define NULL_BYTE 0x60
 
-static const char USAGE[] = "Usage: serial_terminal [OPTIONS] TTY OPERATION..";
+static const char USAGE[] = "Usage: gt_serial [OPTIONS] TTY OPERATION..";
 
 static const char HELP[] =
     "Options:\n"
@@ -57,7 +57,7 @@ static const char HELP[] =
     "\n"
     "Example:\n"
     "\n"
-    "  serial_terminal --reset dtr /dev/ttyUSB0 select A0000000031010 get 5F20\n";
+    "  gt_serial --reset dtr /dev/ttyUSB0 select A0000000031010 get 5F20\n";
 
 static const char *const OPTIONS[] = {
     "-v", "-k", "-f", "--baud", "--reset", "--held-by", "--no-echo", "--pps", "--slack",
@@ -231,7 +231,7 @@ static int run_options(const struct serial_options *options)
         return end_output();
     }
     if (options->tells_version) {
-        printf("serial_terminal %s\n",
+        printf("gt_serial %s\n",
                DOTTED(GT_VERSION_MAJOR, GT_VERSION_MINOR, GT_VERSION_PATCH));
         return end_output();
     }

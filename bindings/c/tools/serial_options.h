@@ -1,4 +1,4 @@
-/* What the words of the command lines of serial_terminal and serial_card ask for. */
+/* What the words of the command lines of gt_serial and serial_card ask for. */
 #ifndef SERIAL_OPTIONS_H
 #define SERIAL_OPTIONS_H
 

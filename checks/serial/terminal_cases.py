@@ -238,27 +238,103 @@ def noise():
         yield Case(f"noise among data, heaps {heaps}", "< 3B00 > 00CA5F2001 < CA5F2055 ",
                    ["send", "00CA5F2001"], "reset\n< 3B00\n> 00CA5F2001\n< CA5F20\n",
                    "operation 1: bad procedure byte\n", 1, options=["-v"], heaps=heaps)
-        yield Case(f"a character behind SW2, heaps {heaps}", "< 3B00 > 00CA5F2000 < 6C0655 ", GET,
-                   fault="operation 1: another echo has come back than what was sent\n", status=1,
-                   heaps=heaps)
-        yield Case(f"a character behind an answer, heaps {heaps}", "< 3B00 > 00CA5F2000 < 698555 ",
-                   GET, "= 6985\n", status=1, heaps=heaps)
-        yield Case(f"a character before a next operation, heaps {heaps}",
-                   "< 3B00 > 00CA5F2000 < 698555 ", [*GET, *GET], "= 6985\n",
-                   "operation 2: another echo has come back than what was sent\n", 1, ["-k"],
-                   heaps=heaps)
-    # what stays on the line is read in turn, as an echo too
-    yield Case("all of the rest before its time",
-               "< 3B00 > 00CA5F2000 < 6C0600CA5F2006CA5F20034A4F459000 ", GET, GOT, heaps=True)
     yield Case("a NULL among others", "< 3B00 " + SHORT_WORDS + "< 6060609000 ", SHORT,
                "reset\n< 3B00\n> 0020000000\n< 6060609000\n= 9000\n", options=["-v"], heaps=True)
     yield Case("no echo", "< 3B00 ", SHORT, fault="operation 1: no echo has come back\n",
                status=1, waits=0.0)
-    yield Case("another echo", "< 3B0055 ", SHORT, status=1,
-               fault="operation 1: another echo has come back than what was sent\n")
     yield Case("GET RESPONSE that brings nothing",
                "< 3B00 > 00CA5F2000 < 6105 > 00C0000005 < 6105 ", GET,
                fault="operation 1: stalled\n", status=1)
+
+
+def early():
+    """Bytes that the card sends before it may: before a header, a PPS request or data have left,
+    with and without an echo."""
+    behind = "a byte behind the answer to reset\n"
+    fault = "operation {}: unexpected byte\n"
+    put = ["put", "5F20", "414E4E"]
+    put_words = "> 00DA5F2003 "
+    for echo in (True, False):
+        def case(title, dialogue, words, *rest, echo=echo, **more):
+            return Case(f"{title}, echo {echo}", dialogue, words, *rest, status=1, echo=echo,
+                        heaps=True, **more)
+
+        yield case("a status behind the answer to reset", "< 3B009000", SHORT,
+                   fault=behind)
+        yield case("a byte behind a checked answer to reset", "< 3B80800101FF", SHORT,
+                   "reset\n< 3B80800101FF\n", behind, options=["-v"])
+        yield case("a byte late behind the answer to reset", "< 3B00 ~ 0.01 < 55", SHORT,
+                   fault=behind)
+        yield case("a response behind the answer to reset", "< 3B1095FF10957A", SHORT,
+                   fault=behind, options=["--pps"])
+        yield case("a byte behind the PPS response", "< 3B1095 > FF10957A < FF10957A90", SHORT,
+                   fault=fault.format(1), options=["--pps"])
+        yield case("a status and the next answer", "< 3B00 > 00B0000000 < 90009000",
+                   ["send", "00B0000000", *put], fault=fault.format(1))
+        yield case("a byte behind the last answer", "< 3B00 " + SHORT_WORDS + "< 900055", SHORT,
+                   "reset\n< 3B00\n> 0020000000\n< 900055\n", fault.format(1), options=["-v"])
+        yield case("a NULL behind the last answer", "< 3B00 " + SHORT_WORDS + "< 900060", SHORT,
+                   fault=fault.format(1))
+        yield case("a status behind 61XX", "< 3B00 > 00CA5F2000 < 61039000", GET,
+                   fault=fault.format(1))
+        yield case("a status behind 6CXX", "< 3B00 > 00CA5F2000 < 6C069000", GET,
+                   fault=fault.format(1))
+        yield case("all of the rest before its time",
+                   "< 3B00 > 00CA5F2000 < 6C0600CA5F2006CA5F20034A4F459000", GET,
+                   fault=fault.format(1))
+        yield case("INS and a status before a put's data", "< 3B00 " + put_words + "< DA9000", put,
+                   "reset\n< 3B00\n> 00DA5F2003\n< DA90\n", fault.format(1), options=["-v"])
+        yield case("INS twice before a put's data", "< 3B00 " + put_words + "< DADA", put,
+                   fault=fault.format(1))
+        yield case("INS xor FF and a status before a put's data",
+                   "< 3B00 " + put_words + "< 259000", put, fault=fault.format(1))
+        yield case("a status before the second of a put's data",
+                   "< 3B00 " + put_words + "< 25 > 41 < 259000", put, fault=fault.format(1))
+        # at 1,200 baud and with N = 100 a character takes 93 ms
+        yield case("a byte within a header", "< 3B4064 > 00CA < 00", GET, fault=fault.format(1),
+                   options=["--baud", "1200"], slack=5000)
+        yield case("a byte within a put's data", "< 3B4064 > 00DA5F2003 < DA > 41 < 4E", put,
+                   fault=fault.format(1), options=["--baud", "1200"], slack=5000)
+        yield case("a byte within a PPS request", "< 3B50D164 > FF10 < D1", SHORT,
+                   fault="unexpected byte\n", options=["--baud", "1200", "--pps"], slack=5000)
+
+
+def echoes():
+    """A line that echoes where none is expected: a command of CLA 6X or 9X would answer itself."""
+    fault = "operation 1: the line echoes\n"
+    for command, words in (
+        ("9000000000", ["send", "9000000000"]),
+        ("6000000000", ["send", "6000000000"]),
+        ("61B0000000", ["send", "61B0000000"]),
+        ("00CA5F2000", GET),
+        ("00A4040007", SELECT),
+    ):
+        for inverse, heaps in ((False, True), (True, False)):
+            yield Case(f"a line that echoes {command}, inverse {inverse}",
+                       f"< {'3F' if inverse else '3B'}00 > {command} < {command}", words,
+                       fault=fault, status=1, echo=False, inverse=inverse, heaps=heaps)
+    command = ["send", "9000000000"]
+    # an echo in pieces, with 50 ms and more before each
+    yield Case("a line that echoes late", "< 3B00 > 9000000000 ~ 0.05 < 90 ~ 0.06 < 0000 ~ 0.06 "
+               "< 0000", command, fault=fault, status=1, echo=False, heaps=True)
+    yield Case("a line that echoes the second header", "< 3B00 > 00CA5F2000 < 6C06 > 00CA5F2006 "
+               "< 00CA5F2006", GET, fault=fault, status=1, echo=False, heaps=True)
+    yield Case("a status that begins as its header", "< 3B00 > 9000000000 < 9000", command,
+               "= 9000\n", echo=False, heaps=True)
+    yield Case("a status that begins as its header, and waits", "< 3B00 > 9000000000 < 90 ~ 0.3 "
+               "< 00", command, "= 9000\n", echo=False, slack=2000)
+    yield Case("data that begin as their header", "< 3B00 > CACA5F2003 < CACA5F209000",
+               ["send", "CACA5F2003"], "= 9000 CA5F20\n", echo=False, heaps=True)
+    yield Case("an answer that is its header but for the last", "< 3B00 > CACA5F2002 < CACA5F9000",
+               ["send", "CACA5F2002"], "= 9000 CA5F\n", echo=False, heaps=True)
+    yield Case("INS that is CLA, before data", "< 3B00 > DADA5F2003 < DA > 414E4E < 9000",
+               ["send", "DADA5F2003414E4E"], "= 9000\n", echo=False)
+    yield Case("a NULL that is CLA", "< 3B00 > 6020000000 < 609000", ["send", "6020000000"],
+               "= 9000\n", echo=False, heaps=True)
+    yield Case("silent behind the front of its header", "< 3B804002 > 9000000000 < 90", command,
+               fault="operation 1: the card is silent\n", status=1, echo=False, waits=0.2)
+    yield Case("silent after a header, without echo", "< 3B804002 " + SHORT_WORDS, SHORT,
+               fault="operation 1: the card is silent\n", status=1, echo=False, waits=0.2)
 
 
 def pps():
@@ -317,7 +393,7 @@ def gaps():
 
 def all_cases():
     """The cases that are a dialogue each."""
-    parts = (sessions, statuses, answers, waiting, noise, pps, gaps)
+    parts = (sessions, statuses, answers, waiting, noise, early, echoes, pps, gaps)
     return [of_session(case) for part in parts for case in part()]
 
 
@@ -357,6 +433,20 @@ def puts_back(number):
         assert line.is_put_back(), "the tty is not set as it was before"
     finally:
         line.close()
+
+
+def wrong_echo():
+    """An echo that is another, at the first place and at a later one."""
+    for echo in ("55", "00201000"):
+        line = Line()
+        try:
+            program = Program("gt_serial", ["--slack", "5000", line.name, *SHORT])
+            other = Other(line, echo=False)
+            play(other, f"< 3B00 > 0020 < {echo}", card=True)
+            look(program, program.end(), "",
+                 "operation 1: another echo has come back than what was sent\n", 1)
+        finally:
+            line.close()
 
 
 def passes_over_a_signal():
@@ -533,6 +623,6 @@ def tests():
         (f"signal {number.name}", lambda number=number: puts_back(number))
         for number in (signal.SIGTERM, signal.SIGINT, signal.SIGHUP, signal.SIGQUIT)
     )
-    for test in (guard_time, passes_over_a_signal, line_gone, nulls_for_ever, settings, full_device,
+    for test in (guard_time, wrong_echo, passes_over_a_signal, line_gone, nulls_for_ever, settings, full_device,
                  nobody_reads, closed_descriptors, words, helps):
         yield (f"terminal: {test.__name__}", test)

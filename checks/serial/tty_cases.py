@@ -86,14 +86,15 @@ class Marking(Other):
 
 
 def terminal(dialogue, noted, fault="", refuses="", options=(), output="= 9000\n", play_it=None,
-             reset="rts off", inverse=False, waits=0.0):
+             reset="rts off", inverse=False, waits=0.0, echo=True, words=SHORT):
     """A terminal at a tty: the card answers once it is no longer held in reset."""
     with tempfile.TemporaryDirectory() as folder:
         tty = Tty(folder, refuses)
         try:
-            words = ["--slack", "1200", *options, tty.line.name, *SHORT]
+            options = [*options, *([] if echo else ["--no-echo"])]
+            words = ["--slack", "1200", *options, tty.line.name, *words]
             program = Program("gt_serial", words, environment=tty.environment)
-            other = Marking(tty.line, inverse=inverse)
+            other = Marking(tty.line, echo, inverse)
             if reset:
                 tty.await_note(reset)
             other.sent_at = time.monotonic()
@@ -244,6 +245,21 @@ def parities():
     yield ("a wrong parity within a heap", lambda: terminal(
         "", [*reset, EVEN, *END], "operation 1: " + PARITY, output="", play_it=heap_with_mark))
 
+    # more than 20 ms lie between the bytes of a mark
+    for title, start, parts in (
+        ("the last byte", "< 3B00 " + SHORT_WORDS, (b"\xff\0", b"\x90", b"\0")),
+        ("the last byte, in a heap", "< 3B00 " + SHORT_WORDS, (b"\x90\xff\0", b"\0")),
+        ("two bytes", "< 3B00 " + SHORT_WORDS, (b"\xff", b"\0\x90", b"\0")),
+    ):
+        def cut_mark(other, start=start, parts=parts):
+            play(other, start, card=True)
+            for part in parts:
+                other.line.write(part)
+                time.sleep(0.15)
+
+        yield (f"a mark of a wrong parity that is late by {title}", lambda of=cut_mark: terminal(
+            "", [*reset, EVEN, *END], "operation 1: " + PARITY, output="", play_it=of))
+
     def unmarked_t0(other):
         other.sends_marked("3F")
         other.send("00")
@@ -261,6 +277,29 @@ def parities():
         "", [*reset, EVEN, *END], output="", play_it=marked_echo,
         fault="operation 1: another echo has come back than what was sent\n"))
     yield ("FF is no mark", ff_is_no_mark)
+
+
+def without_echo():
+    """Without an echo a card that sends before the last byte can have left is too early: at 1,200
+    baud a character takes 10 ms. An echo is seen all the same."""
+    slow, even = ["--baud", "1200"], SET.format(1200, "even")
+    noted = [even, "rts on", "drop what has come", "rts off", even, *END]
+    fault = "operation 1: unexpected byte\n"
+    put = ["send", "0020000103414E4E"]
+    for title, dialogue, words, told in (
+        ("a status, in time", "~ 0.1 < 9000", SHORT, ""),
+        ("a status within its header", "< 9000", SHORT, fault),
+        ("a NULL within its header", "< 60", SHORT, fault),
+        ("an echo", "< 0020000000", SHORT, "operation 1: the line echoes\n"),
+        ("a status within data", "> 0020000103 ~ 0.1 < 20 > 414E4E < 9000", put, fault),
+        ("a status behind data, in time", "> 0020000103 ~ 0.1 < 20 > 414E4E ~ 0.1 < 9000", put, ""),
+    ):
+        header = "" if words == put else SHORT_WORDS
+        yield (f"without echo: {title}", lambda of=(f"< 3B00 {header}{dialogue}", noted, told), words=words, output="" if told else "= 9000\n": terminal(
+                   *of, options=slow, output=output, echo=False, words=words))
+    yield ("without echo: a PPS response within the request", lambda: terminal(
+        "< 3B1095 > FF10957A < FF10957A", noted, "unexpected byte\n",
+        options=[*slow, "--pps"], output="", echo=False))
 
 
 def ff_is_no_mark():
@@ -381,10 +420,24 @@ def card_settings():
     yield ("a character to a card with a wrong parity", lambda: card(
         wrong_parity, ["--reset", "cts"], fault=PARITY + GONE))
 
+    def cut_mark(tty, other):
+        tty.await_note(EVEN)
+        pulse(tty, "cts")
+        play(other, "< 3B00 > 00", card=False)
+        other.line.write(b"\xff\0")
+        time.sleep(0.15)
+        other.line.write(b"\xca")
+        other.take_nothing(0.3)
+        pulse(tty, "cts")
+        play(other, f"< 3B00 {ask}", card=False)
+
+    yield ("a character to a card with a mark that is late", lambda: card(
+        cut_mark, ["--reset", "cts"], fault=PARITY + GONE))
+
 
 def tests():
     """Each test of this part: its title, and a function that is wrong by an error."""
-    for part in (resets, rates, refusals, parities, card_resets, card_settings):
+    for part in (resets, rates, refusals, parities, without_echo, card_resets, card_settings):
         yield from part()
     for test in (is_held, inverse_odd):
         yield (f"tty: {test.__name__}", test)

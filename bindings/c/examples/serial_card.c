@@ -130,7 +130,7 @@ static const char *await_state(const struct socket *socket, bool is_held)
  * be none, that is the answer; else the card was mute from a fault on, which is told. */
 static const char *await_reset(const struct socket *socket, const char *before)
 {
-    const struct port *port = socket->line->port;
+    struct port *port = socket->line->port;
     const bool is_mute = before != NULL && before != IS_RESET && before != LINE_IS_GONE;
     const char *fault = NULL;
     if (!port->is_made && (before == LINE_IS_GONE || socket->reset == PORT_NONE))

@@ -105,25 +105,28 @@ static bool is_put_off(struct session *session, uint8_t byte)
     return byte == NULL_BYTE && port_now() - session->nulls_since > session->patience;
 }
 
-/* Hands the terminal the characters of the card that have come. Those that it does not listen to
- * stay on the line, as if they came later. */
-static const char *take(struct session *session)
+/* Hands the terminal the characters of the card that have come, behind a header of `size` bytes or
+ * data. It has to take all of them: the card sends no more than it is asked for. */
+static const char *take(struct session *session, const uint8_t *header, size_t size)
 {
     uint8_t bytes[LINE_RUN];
     size_t n, taken = 0, i;
     int32_t code;
-    const char *fault = line_look(session->line, bytes, &n, session->waiting_time);
+    const char *fault =
+        line_refuse_echo(session->line, header, size, session->waiting_time);
+    if (fault == NULL)
+        fault = line_look(session->line, bytes, &n, session->waiting_time);
     if (fault != NULL)
         return fault == LINE_IS_SILENT ? "the card is silent" : fault;
     code = gt_terminal_receive_bytes(&session->terminal, bytes, n, &taken);
-    if (code == GT_NOT_LISTENING || code == GT_AFTER_END)
-        code = GT_OK;
-    else if (code != GT_OK)
+    if (code != GT_OK)
         taken++;
     line_take(session->line, bytes, taken);
     for (i = 0; i < taken; i++)
         if (is_put_off(session, bytes[i]))
             return "the card sends nothing but NULLs";
+    if (code == GT_NOT_LISTENING || code == GT_AFTER_END)
+        return "unexpected byte";
     return code == GT_OK ? NULL : gt_text(code);
 }
 
@@ -134,13 +137,14 @@ static const char *pass_all(struct session *session)
     uint8_t bytes[LINE_RUN];
     session->nulls_since = 0;
     while (fault == NULL) {
-        size_t n = 0;
+        size_t n = 0, most;
+        const bool is_header = gt_terminal_tpdu(&session->terminal, bytes, &n, &most) == GT_OK;
         const int32_t code = gt_terminal_send_bytes(&session->terminal, bytes, sizeof bytes, &n);
         fault = code < 0 ? gt_text(code) : line_send_all(session->line, bytes, n);
         if (code == GT_DONE)
             return fault;
         if (code == GT_OK && fault == NULL)
-            fault = take(session);
+            fault = take(session, bytes, is_header ? n : 0);
     }
     return fault;
 }

@@ -31,7 +31,7 @@ static int64_t cycles(const struct answer *answer, uint64_t count)
 
 static const char *reset(const struct answer *answer, const struct answer_wishes *wishes)
 {
-    const struct port *port = answer->line->port;
+    struct port *port = answer->line->port;
     const char *fault = NULL;
     if (!port->is_pseudo && wishes->reset != PORT_NONE) {
         fault = port_drive(port, wishes->reset, wishes->is_held_by_on);
@@ -131,20 +131,19 @@ static const char *take_response(struct line *line, uint8_t response[GT_PPS_LIMI
 static const char *ask(struct line *line, uint8_t pps1, bool *is_taken)
 {
     uint8_t request[GT_PPS_LIMIT], response[GT_PPS_LIMIT];
-    size_t n = 0, count = 0, i;
+    size_t n = 0, count = 0;
     FILE *trace = line->trace;
-    const char *fault = NULL;
+    const char *fault;
     int32_t code = gt_pps_request(0, pps1, GT_ABSENT, GT_ABSENT, request, &n);
     if (code != GT_OK)
         return gt_text(code);
     line_note_text(line, NULL);
     line->trace = NULL;
-    for (i = 0; i < n && fault == NULL; i++)
-        fault = line_send(line, request[i]);
+    fault = line_send_all(line, request, n);
     if (fault == NULL)
         fault = take_response(line, response, &count);
     line->trace = trace;
-    line_note_pps(line, LINE_TERMINAL, request, i);
+    line_note_pps(line, LINE_TERMINAL, request, n);
     line_note_pps(line, LINE_CARD, response, count);
     if (fault != NULL)
         return fault;
@@ -197,6 +196,8 @@ const char *answer_take(struct line *line, const struct answer_wishes *wishes,
                                         : wishes->patience);
     if (fault == NULL)
         fault = take_others(&answer);
+    if (fault == NULL)
+        fault = line_refuse_early(line, LINE_LATE);
     if (fault == NULL && answer.says.waiting_time == 0)
         fault = "the card's waiting time is reserved";
     if (fault == NULL)

@@ -5,6 +5,9 @@
 const char LINE_IS_SILENT[] = "the other end is silent";
 const char LINE_IS_GONE[] = "the line is gone";
 
+static const char WRONG_PARITY[] = "a character has come with a wrong parity";
+static const char UNEXPECTED[] = "unexpected byte";
+
 int64_t line_etu(const struct line *line, unsigned long count)
 {
     return (int64_t)((count * UINT64_C(1000000) + line->baud - 1) / line->baud);
@@ -16,6 +19,12 @@ uint8_t line_turned(uint8_t byte)
     for (i = 0; i < 8; i++)
         turned = turned << 1 | ((unsigned)byte >> i & 1U);
     return (uint8_t)(turned ^ 0xFF);
+}
+
+/* A byte as the line's convention has it, from what stands on the line, and back. */
+static uint8_t by_convention(const struct line *line, uint8_t byte)
+{
+    return line->is_inverse ? line_turned(byte) : byte;
 }
 
 void line_note(struct line *line, enum line_end end, uint8_t byte)
@@ -65,16 +74,63 @@ static const char *text_of(enum port_result result)
     switch (result) {
     case PORT_IS_WELL: return NULL;
     case PORT_IS_SILENT: return LINE_IS_SILENT;
+    case PORT_IS_CUT: return WRONG_PARITY;
     default: return LINE_IS_GONE;
     }
 }
 
-/* Hands bytes out as they stand on the line, once the first of them may go. */
+/* Reads a character of the port, and looks whether it came too early. */
+static enum port_result read_port(struct line *line, uint8_t *raw, bool *has_other_parity,
+                                  int64_t then)
+{
+    const enum port_result result = port_read(line->port, raw, has_other_parity, then);
+    line->is_early |= result == PORT_IS_WELL && port_now() < line->quiet_until;
+    return result;
+}
+
+/* Has those characters come in that are there, and waits until then for the first `wanted` ones. */
+static enum port_result come_in(struct line *line, size_t wanted, int64_t then)
+{
+    enum port_result result = PORT_IS_WELL;
+    while (line->come_count < LINE_RUN && result == PORT_IS_WELL) {
+        struct line_character *next = &line->come[line->come_count];
+        result = read_port(line, &next->raw, &next->has_other_parity,
+                           line->come_count < wanted ? then : 0);
+        if (result == PORT_IS_WELL)
+            line->come_count++;
+    }
+    return line->come_count >= wanted ? PORT_IS_WELL : result;
+}
+
+static enum line_end other_of(const struct line *line)
+{
+    return line->own == LINE_CARD ? LINE_TERMINAL : LINE_CARD;
+}
+
+const char *line_refuse_early(struct line *line, int64_t wait)
+{
+    const enum port_result result = come_in(line, 1, port_now() + wait);
+    if (result != PORT_IS_WELL)
+        return result == PORT_IS_SILENT ? NULL : text_of(result);
+    line_note(line, other_of(line), by_convention(line, line->come[0].raw));
+    return line->sent_until == 0 ? "a byte behind the answer to reset" : UNEXPECTED;
+}
+
+/* Hands bytes out as they stand on the line, once the first of them may go. Without an echo the
+ * card has to be silent for as long as they take on a tty, less a 32nd for a rate that is off. */
 static const char *hand_out(struct line *line, const uint8_t *raw, size_t n)
 {
     const int64_t length = line_etu(line, LINE_CHARACTER_ETU * n);
     enum port_result result;
+    const char *fault;
     port_sleep_until(line->free_from);
+    if (line->own == LINE_TERMINAL) {
+        fault = line_refuse_early(line, 0);
+        if (fault != NULL)
+            return fault;
+        if (line->echo == LINE_HAS_NO_ECHO && !line->port->is_pseudo)
+            line->quiet_until = port_now() + length - length / 32;
+    }
     result = port_write(line->port, raw, n, port_now() + length + line->slack);
     line->sent_until = port_now() + length;
     line->free_from = line->sent_until + line->guard;
@@ -86,7 +142,7 @@ static enum port_result read_raw(struct line *line, uint8_t *raw, bool *has_othe
                                  int64_t then)
 {
     if (line->come_count == 0)
-        return port_read(line->port, raw, has_other_parity, then);
+        return read_port(line, raw, has_other_parity, then);
     *raw = line->come[0].raw;
     *has_other_parity = line->come[0].has_other_parity;
     line->come_count--;
@@ -118,9 +174,9 @@ static const char *send_run(struct line *line, const uint8_t *bytes, size_t n)
     const char *fault;
     size_t i;
     for (i = 0; i < n; i++)
-        raw[i] = line->is_inverse ? line_turned(bytes[i]) : bytes[i];
+        raw[i] = by_convention(line, bytes[i]);
     fault = hand_out(line, raw, n);
-    for (i = 0; i < n; i++)
+    for (i = 0; i < n && fault == NULL; i++)
         line_note(line, line->own, bytes[i]);
     for (i = 0; i < n && fault == NULL && line->echo == LINE_TAKES_ECHO; i++)
         fault = take_echo(line, raw[i],
@@ -161,18 +217,13 @@ const char *line_receive_first(struct line *line, uint8_t *byte, bool *has_other
     const enum port_result result = read_raw(line, byte, has_other_parity,
                                              waits_until(line, wait));
     note_turn(line);
-    return text_of(result);
+    return line->is_early ? UNEXPECTED : text_of(result);
 }
 
 /* An echo is no character of its own: it goes at once. */
 static const char *give_echo(const struct line *line, uint8_t raw)
 {
     return text_of(port_write(line->port, &raw, 1, port_now() + line->slack));
-}
-
-static enum line_end other_of(const struct line *line)
-{
-    return line->own == LINE_CARD ? LINE_TERMINAL : LINE_CARD;
 }
 
 /* Whether a character has come as the convention has it. */
@@ -188,39 +239,41 @@ const char *line_receive(struct line *line, uint8_t *byte, int64_t wait)
     const char *fault = line_receive_first(line, &raw, &has_other_parity, wait);
     if (fault != NULL)
         return fault;
-    *byte = line->is_inverse ? line_turned(raw) : raw;
+    *byte = by_convention(line, raw);
     line_note(line, other_of(line), *byte);
     if (!is_well(line, has_other_parity))
-        return "a character has come with a wrong parity";
+        return WRONG_PARITY;
     return line->echo == LINE_GIVES_ECHO ? give_echo(line, raw) : NULL;
 }
 
-/* Has those characters come in that are there; where there is none, the first that comes until
- * then. */
-static enum port_result come_in(struct line *line, int64_t then)
+const char *line_refuse_echo(struct line *line, const uint8_t *header, size_t n, int64_t wait)
 {
-    enum port_result result = PORT_IS_WELL;
-    while (line->come_count < LINE_RUN && result == PORT_IS_WELL) {
-        struct line_character *next = &line->come[line->come_count];
-        result = port_read(line->port, &next->raw, &next->has_other_parity,
-                           line->come_count == 0 ? then : 0);
-        if (result == PORT_IS_WELL)
-            line->come_count++;
+    int64_t then = waits_until(line, wait);
+    size_t same;
+    if (line->echo != LINE_HAS_NO_ECHO || n == 0)
+        return NULL;
+    for (same = 0; same < n; same++) {
+        const enum port_result result = come_in(line, same + 1, then);
+        if (result != PORT_IS_WELL)
+            return same == 0 ? text_of(result) : NULL;
+        if (by_convention(line, line->come[same].raw) != header[same])
+            return NULL;
+        then = port_now() + LINE_ECHO_LATE;
     }
-    return line->come_count > 0 ? PORT_IS_WELL : result;
+    return "the line echoes";
 }
 
 const char *line_look(struct line *line, uint8_t bytes[LINE_RUN], size_t *n, int64_t wait)
 {
-    const enum port_result result = come_in(line, waits_until(line, wait));
+    const enum port_result result = come_in(line, 1, waits_until(line, wait));
     *n = 0;
     if (result != PORT_IS_WELL)
         return text_of(result);
     while (*n < line->come_count && is_well(line, line->come[*n].has_other_parity)) {
         const uint8_t raw = line->come[*n].raw;
-        bytes[(*n)++] = line->is_inverse ? line_turned(raw) : raw;
+        bytes[(*n)++] = by_convention(line, raw);
     }
-    return *n == 0 ? line_receive(line, bytes, wait) : NULL;
+    return *n == 0 || line->is_early ? line_receive(line, bytes, wait) : NULL;
 }
 
 void line_take(struct line *line, const uint8_t *bytes, size_t n)

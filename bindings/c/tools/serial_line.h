@@ -20,6 +20,10 @@
 /* as many characters as go or come at once, at most: more than an end of T=0 sends in a row */
 #define LINE_RUN 300
 
+/* how late the driver of a tty passes a byte on, at most, and how late a whole echo, in microseconds:
+ * a USB adapter keeps bytes for 16 ms */
+enum { LINE_LATE = 20000, LINE_ECHO_LATE = 100000 };
+
 /* the most etu between two characters of an answer to reset and of PPS (ISO/IEC 7816-3, 8.1 and
  * 9.2) */
 #define LINE_ANSWER_ETU 9600
@@ -48,6 +52,8 @@ struct line {
     int64_t slack;              /* what a wait may last longer than the line's rules have it */
     int64_t sent_until;         /* when the last character that was handed out has gone */
     int64_t free_from;          /* the earliest that the next one may go */
+    int64_t quiet_until;        /* the card has to be silent till then .. */
+    bool is_early;              /* .. and was not */
     struct line_character come[LINE_RUN]; /* those that were looked at, and are not taken yet */
     size_t come_count;
     FILE *trace;                /* or NULL */
@@ -62,7 +68,8 @@ extern const char LINE_IS_GONE[];
 /* How long so many etu are at the line's rate. */
 int64_t line_etu(const struct line *line, unsigned long count);
 
-/* Sends a character of the own end, in the line's convention, and takes its echo back. */
+/* Sends a character of the own end, in the line's convention, and takes its echo back. A byte of
+ * the card that has come before the terminal sends is a fault. */
 const char *line_send(struct line *line, uint8_t byte);
 
 /* Sends characters of the own end, at most LINE_RUN. They go to the port at once, where it keeps
@@ -77,6 +84,14 @@ const char *line_receive(struct line *line, uint8_t *byte, int64_t wait);
  * `n` gets how many stand in `bytes`. They stay on the line, in the place where the next one is
  * read, until they are taken from there. */
 const char *line_look(struct line *line, uint8_t bytes[LINE_RUN], size_t *n, int64_t wait);
+
+/* Refuses a byte of a card that comes within this time, although the card may not send. */
+const char *line_refuse_early(struct line *line, int64_t wait);
+
+/* Refuses the echo of a header that was sent over a line without echo. The card's answer may begin
+ * as the header does. So this waits until a byte differs, or none has followed for
+ * LINE_ECHO_LATE. */
+const char *line_refuse_echo(struct line *line, const uint8_t *header, size_t n, int64_t wait);
 
 /* Takes so many of those that were looked at, as if each had been received. */
 void line_take(struct line *line, const uint8_t *bytes, size_t n);

@@ -165,7 +165,7 @@ const char *port_open(struct port *port, const char *name, unsigned long baud)
 }
 
 /* Sets the near end to pass all characters on as they are, and drops those on the way. */
-static const char *clear_near_end(const struct port *port)
+static const char *clear_near_end(struct port *port)
 {
     struct termios2 settings;
     const int near = open(port->name, O_RDWR | O_NOCTTY | O_NONBLOCK);
@@ -221,7 +221,7 @@ void port_await_closing(const struct port *port)
         continue;
 }
 
-const char *port_await_opening(const struct port *port)
+const char *port_await_opening(struct port *port)
 {
     const char *fault = clear_near_end(port);
     while (fault == NULL && port_is_closed(port))
@@ -271,8 +271,9 @@ const char *port_drive(const struct port *port, enum port_signal signal, bool is
     return told;
 }
 
-void port_drop(const struct port *port)
+void port_drop(struct port *port)
 {
+    port->is_cut = false;
     ioctl(port->fd, TCFLSH, TCIFLUSH);
 }
 
@@ -316,18 +317,19 @@ static enum port_result read_byte(const struct port *port, uint8_t *byte, int64_
     return result;
 }
 
-enum port_result port_read(const struct port *port, uint8_t *byte, bool *has_other_parity,
-                           int64_t then)
+enum port_result port_read(struct port *port, uint8_t *byte, bool *has_other_parity, int64_t then)
 {
-    enum port_result result = read_byte(port, byte, then);
+    enum port_result result = port->is_cut ? PORT_IS_CUT : read_byte(port, byte, then);
     *has_other_parity = false;
     if (result != PORT_IS_WELL || port->is_pseudo || *byte != 0xFF)
         return result;
     result = read_byte(port, byte, port_now() + MARK_LASTS);
-    if (result != PORT_IS_WELL || *byte == 0xFF)
-        return result;
-    *has_other_parity = true;
-    return read_byte(port, byte, port_now() + MARK_LASTS);
+    if (result == PORT_IS_WELL && *byte != 0xFF) {
+        *has_other_parity = true;
+        result = read_byte(port, byte, port_now() + MARK_LASTS);
+    }
+    port->is_cut = result == PORT_IS_SILENT;
+    return port->is_cut ? PORT_IS_CUT : result;
 }
 
 /* Hands out as many as there is place for. */

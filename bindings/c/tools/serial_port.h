@@ -19,10 +19,12 @@ struct port {
     int fd;
     bool is_pseudo;             /* it drops parity, and has no other lines */
     bool is_made;               /* it is the far end of a pseudo terminal: `name` is the near one */
+    bool is_cut;                /* a mark of another parity is cut: no more can be read */
     char name[PORT_NAME_ROOM];
 };
 
-enum port_result { PORT_IS_WELL, PORT_IS_SILENT, PORT_IS_GONE };
+/* PORT_IS_CUT: the mark of another parity came without its character. */
+enum port_result { PORT_IS_WELL, PORT_IS_SILENT, PORT_IS_GONE, PORT_IS_CUT };
 
 /* Now, by a clock that nobody sets, in microseconds. All times here are in these. */
 int64_t port_now(void);
@@ -46,7 +48,7 @@ void port_await_closing(const struct port *port);
 
 /* Clears what was left on the way, and waits until the near end is open: that is the reset of a
  * card at the far one. */
-const char *port_await_opening(const struct port *port);
+const char *port_await_opening(struct port *port);
 
 /* Sets rate and parity. A tty that refuses, or takes another setting than the one that was asked
  * for, is at fault; of a pseudo terminal parity is not looked at. */
@@ -59,11 +61,12 @@ const char *port_drive(const struct port *port, enum port_signal signal, bool is
 const char *port_look(const struct port *port, enum port_signal signal, bool *is_on);
 
 /* Drops the characters that have come and were not read. */
-void port_drop(const struct port *port);
+void port_drop(struct port *port);
 
 /* Waits for a character until then, at the latest. `has_other_parity` says whether it came with
- * another parity than the one that is set, or as none that is a character. */
-enum port_result port_read(const struct port *port, uint8_t *byte, bool *has_other_parity,
+ * another parity than the one that is set, or as none that is a character. After PORT_IS_CUT each
+ * later call answers that too, until `port_drop`. */
+enum port_result port_read(struct port *port, uint8_t *byte, bool *has_other_parity,
                            int64_t then);
 
 /* Hands characters out, waiting until then for the place of each. */

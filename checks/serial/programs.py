@@ -30,9 +30,11 @@ class Skipped(Exception):
 
 class Program:
     """A program that runs, over the stand-in for a tty. `before` is what a shell does first:
-    `trap "" HUP` has it pass over a signal, and `exec 1>&-` closes a descriptor."""
+    `trap "" HUP` has it pass over a signal, and `exec 1>&-` closes a descriptor. `user` is the
+    number of another user."""
 
-    def __init__(self, name, words, given=b"", environment=(), stdout=subprocess.PIPE, before=""):
+    def __init__(self, name, words, given=b"", environment=(), stdout=subprocess.PIPE, before="",
+                 user=None):
         names = {**os.environ, "LC_ALL": "C", **dict(environment)}
         before = ["sh", "-c", f'{before}; exec "$@"', "sh"] if before else []
         self.began = time.monotonic()
@@ -42,6 +44,7 @@ class Program:
             stdout=stdout,
             stderr=subprocess.PIPE,
             env=names,
+            user=user,
         )
         RUNNING.add(self.process)
         if IS_OVER.is_set():
@@ -77,6 +80,16 @@ class Program:
 
     def kill(self, number):
         self.process.send_signal(number)
+
+
+def in_time(test):
+    """Runs a test that has to answer within some 10 ms, again if a busy machine was late."""
+    for _ in range(5):
+        try:
+            return test()
+        except AssertionError:
+            time.sleep(0.2)
+    return test()
 
 
 def end_all():

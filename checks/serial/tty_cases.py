@@ -2,13 +2,16 @@
 other lines and the parity of characters, none of which a pseudo terminal has. It notes each call
 that sets something, and refuses what it is told to."""
 
+import os
+import shutil
+import signal
 import tempfile
 import time
 from pathlib import Path
 
 from card_cases import APP, GONE, table
 from lines import Line, Other, play
-from programs import Program
+from programs import BUILD, TABLE, Program, in_time
 from terminal_cases import DONE, LATE, SHORT, SHORT_WORDS, look
 
 SET = "set {} baud, 8 bits, {} parity with marks, 2 stop bits"
@@ -172,8 +175,7 @@ def refusals():
     form = "the tty does not take 8 bits, even parity and 2 stop bits\n"
     early = [EVEN, *END]
     for refuses, noted, fault in (
-        ("get", ["drop what has not gone"],
-         "the tty does not tell its settings: Input/output error\n"),
+        ("get", [], "the tty does not tell its settings: Input/output error\n"),
         ("set", early, "the tty refuses its settings: Invalid argument\n"),
         ("bits", early, form),
         ("stop", early, form),
@@ -294,12 +296,14 @@ def without_echo():
         ("a status within data", "> 0020000103 ~ 0.1 < 20 > 414E4E < 9000", put, fault),
         ("a status behind data, in time", "> 0020000103 ~ 0.1 < 20 > 414E4E ~ 0.1 < 9000", put, ""),
     ):
-        header = "" if words == put else SHORT_WORDS
-        yield (f"without echo: {title}", lambda of=(f"< 3B00 {header}{dialogue}", noted, told), words=words, output="" if told else "= 9000\n": terminal(
-                   *of, options=slow, output=output, echo=False, words=words))
-    yield ("without echo: a PPS response within the request", lambda: terminal(
+        whole = f"< 3B00 {'' if words == put else SHORT_WORDS}{dialogue}"
+        more = {"options": slow, "output": "" if told else "= 9000\n", "echo": False,
+                "words": words}
+        yield (f"without echo: {title}", lambda of=(whole, noted, told), more=more: in_time(
+            lambda: terminal(*of, **more)))
+    yield ("without echo: a PPS response within the request", lambda: in_time(lambda: terminal(
         "< 3B1095 > FF10957A < FF10957A", noted, "unexpected byte\n",
-        options=[*slow, "--pps"], output="", echo=False))
+        options=[*slow, "--pps"], output="", echo=False)))
 
 
 def ff_is_no_mark():
@@ -315,6 +319,60 @@ def ff_is_no_mark():
             play(other, "< 3B41FFFF > 00CA5F2002 < CAFFFF9000 > 00DA005104 < DA > FF00FFFF < 9000",
                  card=True)
             look(program, program.end(), "= 9000 FFFF\n= 9000\n", "", 0)
+        finally:
+            tty.line.close()
+
+
+def is_locked():
+    """A second program at a tty tells which process has it, and disturbs nothing."""
+    line = Line()
+    try:
+        words = ["--slack", "5000", line.name, *SHORT]
+        first = Program("gt_serial", words)
+        play(Other(line), "< 3B00 " + SHORT_WORDS, card=True)
+        set_to = line.settings()
+        for name, others in (("gt_serial", words), ("serial_card", [line.name, TABLE])):
+            second = Program(name, others)
+            look(second, second.end(), "", f"process {first.process.pid} has the tty\n", 1)
+        assert line.settings() == set_to, "the second program has set the tty"
+        line.write(b"\x90\x00")
+        look(first, first.end(), "= 9000\n", "", 0)
+        third = Program("gt_serial", words)
+        play(Other(line), f"< 3B00 {SHORT_WORDS}{DONE}", card=True)
+        look(third, third.end(), "= 9000\n", "", 0)
+    finally:
+        line.close()
+
+
+def keeps_others_out():
+    """Only root can open the tty meanwhile; a second program tells then too which process has it.
+    Afterwards others can, also where a signal has ended the program. A pseudo terminal would stay
+    closed after SIGKILL, so that can be opened all the time."""
+    with tempfile.TemporaryDirectory() as folder:
+        Path(folder).chmod(0o755)
+        copy = shutil.copy(BUILD / "gt_serial", folder)
+        user = 65534 if os.geteuid() == 0 else None
+        tty = Tty(folder)
+        Path(tty.line.name).chmod(0o666)
+        try:
+            for number in (None, signal.SIGTERM, signal.SIGKILL):
+                words = ["--slack", "5000", tty.line.name, *SHORT]
+                is_pseudo = number == signal.SIGKILL
+                first = Program("gt_serial", words,
+                                environment=() if is_pseudo else tty.environment)
+                if not is_pseudo:
+                    tty.await_note("rts off")
+                play(Marking(tty.line), "< 3B00 " + SHORT_WORDS, card=True)
+                second = Program(copy, words, user=user)
+                look(second, second.end(), "", f"process {first.process.pid} has the tty\n", 1)
+                if number:
+                    first.kill(number)
+                else:
+                    tty.line.write(b"\x90\x00")
+                first.end()
+                third = Program(copy, ["--slack", "0", *words[2:]], user=user)
+                look(third, third.end(), "", "the card does not answer to reset\n", 1)
+                tty.log.write_text("", encoding="utf-8")
         finally:
             tty.line.close()
 
@@ -439,5 +497,5 @@ def tests():
     """Each test of this part: its title, and a function that is wrong by an error."""
     for part in (resets, rates, refusals, parities, without_echo, card_resets, card_settings):
         yield from part()
-    for test in (is_held, inverse_odd):
+    for test in (is_held, inverse_odd, is_locked, keeps_others_out):
         yield (f"tty: {test.__name__}", test)

@@ -61,8 +61,10 @@ void port_sleep_until(int64_t then)
 /* An ioctl is a system call alone, so a handler of signals may have one. */
 static void put_back(void)
 {
-    if (before_fd >= 0)
+    if (before_fd >= 0) {
         ioctl(before_fd, TCSETS2, &before);
+        ioctl(before_fd, TIOCNXCL);
+    }
     before_fd = -1;
 }
 
@@ -144,21 +146,76 @@ const char *port_set(struct port *port, unsigned long baud, bool is_odd)
     return told;
 }
 
+static const char *tell_holder(long process)
+{
+    snprintf(told, sizeof told, "process %ld has the tty", process);
+    return told;
+}
+
+/* Why a tty can not be opened. A tty that another process keeps for itself can't be asked who that
+ * is; the list of all locks of the system shows it to everybody. */
+static const char *tell_closed(const char *name)
+{
+    const bool is_kept = errno == EBUSY;
+    const char *fault = tell_error("the tty can not be opened");
+    FILE *locks = is_kept ? fopen("/proc/locks", "r") : NULL;
+    struct stat tty;
+    char line[128];
+    unsigned first, second;
+    unsigned long inode;
+    long process;
+    if (locks == NULL)
+        return fault;
+    while (stat(name, &tty) == 0 && fgets(line, sizeof line, locks) != NULL) {
+        if (sscanf(line, "%*s POSIX %*s WRITE %ld %x:%x:%lu", &process, &first, &second, &inode)
+                == 4
+            && makedev(first, second) == tty.st_dev && inode == tty.st_ino)
+            fault = tell_holder(process);
+    }
+    fclose(locks);
+    return fault;
+}
+
+/* Locks the tty against another of these programs, which the lock tells who has it. */
+static const char *lock(const struct port *port)
+{
+    struct flock whole;
+    memset(&whole, 0, sizeof whole);
+    whole.l_type = F_WRLCK;
+    whole.l_whence = SEEK_SET;
+    if (fcntl(port->fd, F_SETLK, &whole) == 0)
+        return NULL;
+    if (fcntl(port->fd, F_GETLK, &whole) == 0 && whole.l_type == F_WRLCK && whole.l_pid > 0)
+        return tell_holder(whole.l_pid);
+    return tell_error("the tty can not be locked");
+}
+
+/* Keeps all other programs out as well. A pseudo terminal would stay so when this one is killed. */
+static const char *keep_for_itself(const struct port *port)
+{
+    return port->is_pseudo || ioctl(port->fd, TIOCEXCL) == 0
+        ? NULL
+        : tell_error("the tty can not be locked");
+}
+
 const char *port_open(struct port *port, const char *name, unsigned long baud)
 {
     const char *fault;
     memset(port, 0, sizeof *port);
     port->fd = open(name, O_RDWR | O_NOCTTY | O_NONBLOCK);
     if (port->fd < 0)
-        return tell_error("the tty can not be opened");
+        return tell_closed(name);
     port->is_pseudo = is_pseudo(port->fd);
-    if (ioctl(port->fd, TCGETS2, &before) != 0) {
-        fault = errno == ENOTTY ? "it is no tty" : tell_error("the tty does not tell its settings");
-    } else {
+    fault = isatty(port->fd) ? lock(port) : "it is no tty";
+    if (fault == NULL && ioctl(port->fd, TCGETS2, &before) != 0)
+        fault = tell_error("the tty does not tell its settings");
+    if (fault == NULL) {
         before_fd = port->fd;
         catch_signals();
-        fault = port_set(port, baud, false);
+        fault = keep_for_itself(port);
     }
+    if (fault == NULL)
+        fault = port_set(port, baud, false);
     if (fault != NULL)
         port_close(port);
     return fault;
@@ -361,7 +418,7 @@ void port_close(struct port *port)
 {
     if (port->fd < 0)
         return;
-    if (!port->is_pseudo)
+    if (!port->is_pseudo && before_fd >= 0)
         ioctl(port->fd, TCFLSH, TCOFLUSH);
     put_back();
     close(port->fd);

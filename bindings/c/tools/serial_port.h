@@ -35,7 +35,8 @@ void port_sleep_until(int64_t then);
 /* The functions that answer text answer NULL where all went well, or a few words that say why it
  * did not. They stand until the next call. */
 
-/* Opens a tty, and sets it to this rate and even parity. What it was set to before is kept for
+/* Opens a tty, locks it, and sets it to this rate and even parity. If another process has locked
+ * it, the text says which. What it was set to before is kept for
  * `port_close`. A port that is not opened well is closed again. */
 const char *port_open(struct port *port, const char *name, unsigned long baud);
 

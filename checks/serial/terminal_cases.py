@@ -14,7 +14,7 @@ from lines import Line, Other, play, trace_of
 from programs import Program, in_time, version
 
 USAGE = (
-    "\nUsage: gt_serial [OPTIONS] TTY OPERATION..\n"
+    "\nUsage: gt_serial [OPTIONS] TTY [OPERATION..]\n"
     "\nFor more information, try '--help'.\n"
 )
 TCGETS2 = 0x802C542A
@@ -170,8 +170,10 @@ def answers():
         ("a wrong check byte", "< 3B80018F", none + "wrong check byte, at byte 4", None),
         ("a wrong check byte, T=0 first", "< 3B80800102", none + "wrong check byte, at byte 5",
          None),
-        ("noise for an answer", "< 55", none + "no TS, at byte 1", None),
-        ("TS of the other convention, turned", "< 3F", none + "no TS, at byte 1", None),
+        ("noise for an answer", "< 55", none + "no TS, at byte 1", 0.011),
+        ("TS of the other convention, turned", "< 3F", none + "no TS, at byte 1", 0.011),
+        ("17 characters of noise before TS", "< " + "55" * 17 + "3B00", none + "no TS, at byte 1",
+         None),
         ("T out of order", "< 3B8081801F", none + "T out of order, at byte 4", None),
         ("an answer of more than 33 bytes", "< 3BF0" + "000000F0" * 7 + "000000",
          "the answer to reset is too long", None),
@@ -181,13 +183,65 @@ def answers():
          "the card goes on at a rate that it does not tell", None),
         ("specific mode at a reserved rate", "< 3B909F1000",
          "the card goes on at a rate that is reserved", None),
+        ("specific mode at a reserved Fi", "< 3B90711000",
+         "the card goes on at a rate that is reserved", None),
+        ("specific mode with T=1 at a reserved Fi", "< 3B90711001", "the card does not talk T=0",
+         None),
         ("a reserved waiting time", "< 3B804000", "the card's waiting time is reserved", None),
+        ("a reserved waiting time, and T=1", "< 3B804100C1", "the card does not talk T=0", None),
+        ("a reserved waiting time in specific mode", "< 3B9095500000",
+         "the card's waiting time is reserved", None),
     ):
         yield Case(title, answer, SHORT, fault=f"{fault}\n", status=1, waits=waits)
     for inverse in (False, True):
         ts = "3F" if inverse else "3B"
+        for title, noise in (("16 characters", "FF00" * 8), ("a character", "FE"),
+                             ("TS of the other convention", "C0")):
+            yield Case(f"{title} of noise before TS {ts}", f"< {noise}{ts}00 " + SHORT_WORDS + DONE,
+                       SHORT, f"reset\n< {ts}00\n> 0020000000\n< 9000\n= 9000\n", inverse=inverse,
+                       options=["-v"])
         yield Case(f"historical bytes and a check byte, TS {ts}", f"< {ts}84800141FF00FF44 "
                    + SHORT_WORDS + DONE, SHORT, "= 9000\n", inverse=inverse)
+
+
+def meanings():
+    """What an answer to reset says, if no operation is given. 960 * WI * Fi cycles at 3.5712 MHz are
+    the waiting time."""
+    for answer, convention, protocols, mode, rate, guard, wait, historical, fault in (
+        ("3B00", "direct", "T=0", "negotiable", "9600 baud, Fi 372, Di 1", "12 etu", "1000 ms",
+         "none", ""),
+        ("3F1095", "inverse", "T=0", "negotiable", "111600 baud, Fi 512, Di 16", "12 etu",
+         "1376 ms", "none", ""),
+        ("3B84800141FF00FF44", "direct", "T=0 T=1", "negotiable", "9600 baud, Fi 372, Di 1",
+         "12 etu", "1000 ms", "41FF00FF", ""),
+        ("3B4064", "direct", "T=0", "negotiable", "9600 baud, Fi 372, Di 1", "112 etu", "1000 ms",
+         "none", ""),
+        ("3BC064801F0338", "direct", "T=0", "negotiable", "9600 baud, Fi 372, Di 1",
+         "12 etu and 100 times Fi/Di cycles", "1000 ms", "none", ""),
+        ("3B90951000", "direct", "T=0", "specific, T=0", "111600 baud, Fi 512, Di 16", "12 etu",
+         "1376 ms", "none", ""),
+        ("3B1071", "direct", "T=0", "negotiable", "reserved", "12 etu", "1000 ms", "none", ""),
+        ("3B101F", "direct", "T=0", "negotiable", "reserved", "12 etu", "1000 ms", "none", ""),
+        ("3B90951010", "direct", "T=0", "specific, T=0", "implicit", "12 etu", "1376 ms", "none",
+         "the card goes on at a rate that it does not tell\n"),
+        ("3B804000", "direct", "T=0", "negotiable", "9600 baud, Fi 372, Di 1", "12 etu", "reserved",
+         "none", "the card's waiting time is reserved\n"),
+        ("3B800181", "direct", "T=1", "negotiable", "9600 baud, Fi 372, Di 1", "12 etu", None,
+         "none", "the card does not talk T=0\n"),
+    ):
+        rows = ("answer", answer), ("convention", convention), ("protocols", protocols), \
+            ("mode", mode), ("rate", rate), ("guard time", guard), ("waiting time", wait), \
+            ("historical", historical)
+        output = "".join(f"{name:14}{text}\n" for name, text in rows if text)
+        yield Case(f"what {answer} says", f"< {answer}", [], output, fault, 1 if fault else 0,
+                   inverse=answer.startswith("3F"))
+    output = "".join(f"{line}\n" for line in (
+        "reset", "< 3B1095", "answer        3B1095", "convention    direct", "protocols     T=0",
+        "mode          negotiable", "rate          111600 baud, Fi 512, Di 16",
+        "guard time    12 etu", "waiting time  1376 ms", "historical    none",
+        "pps > FF10957A", "pps < FF10957A"))
+    yield Case("what an answer says, and PPS", "< 3B1095 > FF10957A < FF10957A", [], output,
+               options=["-v", "--pps"])
 
 
 def waiting():
@@ -201,6 +255,7 @@ def waiting():
         ("silent after a header, with WI 10", "< 3B00 " + SHORT_WORDS, 1.0),
         ("silent after SW1", quick + SHORT_WORDS + "< 90 ", 0.2),
         ("silent after a NULL", quick + SHORT_WORDS + "< 60 ", 0.2),
+        ("silent after a header, with Fi reserved", "< 3B1071 " + SHORT_WORDS, 1.0),
     ):
         yield Case(title, dialogue, SHORT, fault=fault, status=1, waits=waits)
     yield Case("silent within data", quick + "> 00CA5F2003 < CA5F20", ["send", "00CA5F2003"],
@@ -395,7 +450,7 @@ def gaps():
 
 def all_cases():
     """The cases that are a dialogue each."""
-    parts = (sessions, statuses, answers, waiting, noise, early, echoes, pps, gaps)
+    parts = (sessions, statuses, answers, meanings, waiting, noise, early, echoes, pps, gaps)
     return [of_session(case) for part in parts for case in part()]
 
 
@@ -404,7 +459,7 @@ def guard_time():
     where the answer names T=15, as Fi/Di cycles are an etu here. With N = 255, which is the least
     guard time, nothing near 12 + 255 etu passes."""
     found = {}
-    for answer in ("3B4064", "3BC064801F0338", "3B40FF"):
+    for answer in ("3B4064", "3BC064801F0338", "3BD07164801F0359", "3B40FF"):
         line = Line()
         try:
             words = ["--baud", "1200", "--slack", "5000", line.name, *SHORT]
@@ -416,7 +471,7 @@ def guard_time():
         finally:
             line.close()
     # four times, less what this program is late in seeing the first
-    for answer in ("3B4064", "3BC064801F0338"):
+    for answer in ("3B4064", "3BC064801F0338", "3BD07164801F0359"):
         assert 4 * 0.0933 - 0.02 <= sum(found[answer][1:]), f"{answer}: {found[answer]}"
     assert sum(found["3B40FF"][1:]) < 0.5, f"N = 255: {found['3B40FF']}"
 
@@ -576,7 +631,6 @@ def words():
     """Words that are refused before anything is opened, and ttys that can't be opened."""
     for given, why in (
         ([], "no tty was provided"),
-        (["x"], "no operation was provided"),
         (["-f", "y", "x", *GET], "operations stand either in words or in FILE"),
         (["--walk", "x", *GET], "'--walk' is no option"),
         (["--pty", "x", *GET], "'--pty' is no option"),
@@ -612,7 +666,7 @@ def helps():
         assert program.end() == 0 and program.faults == "", program.faults
         lines = program.output.splitlines()
         assert max(map(len, lines)) <= 80, "a line of more than 80 columns"
-        assert "Usage: gt_serial [OPTIONS] TTY OPERATION.." in lines, lines[:4]
+        assert "Usage: gt_serial [OPTIONS] TTY [OPERATION..]" in lines, lines[:4]
     for word in ("-V", "--version"):
         program = Program("gt_serial", [word])
         look(program, program.end(), f"gt_serial {version()}\n", "", 0)

@@ -19,7 +19,9 @@ EVEN, ODD = SET.format(9600, "even"), SET.format(9600, "odd")
 # what the pseudo terminal was set to before
 BEFORE = "set 38400 baud, 8 bits, no parity, 1 stop bit"
 END = ["drop what has not gone", BEFORE]
+RESET = ["rts on", "drop what has come", "rts off"]
 PARITY = "a character has come with a wrong parity\n"
+NONE = "the answer to reset is none: "
 
 
 class Tty:
@@ -46,10 +48,10 @@ class Tty:
     def noted(self):
         return self.log.read_text(encoding="utf-8").splitlines()
 
-    def await_note(self, note, seconds=20):
-        """Waits until this has been noted; when that was seen."""
+    def await_note(self, note, times=1, seconds=20):
+        """Waits until this has been noted so often; when that was seen."""
         until = time.monotonic() + seconds
-        while note not in self.noted():
+        while self.noted().count(note) < times:
             if time.monotonic() > until:
                 raise AssertionError(f"no '{note}' in {self.noted()}")
             time.sleep(0.001)
@@ -130,9 +132,56 @@ def resets():
     yield ("no line for the reset, and nobody does it", lambda: terminal(
         "", [EVEN, *END], "the card does not answer to reset\n", reset=EVEN, output="",
         options=["--reset", "none", "--patience", "1"], waits=0.9))
-    yield ("silent after a reset", lambda: terminal(
-        "", [EVEN, "rts on", "drop what has come", "rts off", *END],
-        "the card does not answer to reset\n", output="", waits=1.2))
+    yield ("silent after two resets", lambda: terminal(
+        "", [EVEN, *RESET, *RESET, *END], "the card does not answer to reset\n", output="",
+        waits=2.4))
+    yield ("no second reset by hand", lambda: terminal(
+        "< 3B80018F", [EVEN, *END], NONE + "wrong check byte, at byte 4\n", output="",
+        options=["--reset", "none"], reset=EVEN))
+
+
+def second_resets():
+    """A second reset, after an answer that is none; and the fault if that fails too."""
+    well = f"< 3B00 {SHORT_WORDS}{DONE}"
+    for title, first, second, fault in (
+        ("silence", "", well, ""),
+        ("a wrong check byte", "< 3B80018F", well, ""),
+        ("noise", "< " + "55" * 17, well, ""),
+        ("an answer that is cut", "< 3B65", well, ""),
+        ("a byte behind the answer", "< 3B0055", well, ""),
+        ("a wrong check byte, and silence", "< 3B80018F", "", NONE + "wrong check byte, at byte 4\n"),
+        ("silence, and a wrong check byte", "", "< 3B80018F", NONE + "wrong check byte, at byte 4\n"),
+        ("two faults", "< 3B80018F", "< 3B8081801F", NONE + "T out of order, at byte 4\n"),
+    ):
+        yield f"a second reset after {title}", lambda of=(first, second, fault): twice(*of)
+
+
+def twice(first, second, fault):
+    with tempfile.TemporaryDirectory() as folder:
+        tty = Tty(folder)
+        try:
+            program = Program("gt_serial", ["--slack", "1200", tty.line.name, *SHORT],
+                              environment=tty.environment)
+            for times, dialogue in enumerate((first, second), 1):
+                tty.await_note("rts off", times)
+                play(Marking(tty.line), dialogue, card=True)
+            look(program, program.end(), "" if fault else "= 9000\n", fault, 1 if fault else 0)
+            noted = [EVEN, *RESET, *RESET, *([] if fault else [EVEN]), *END]
+            assert tty.noted() == noted, f"noted {tty.noted()}, and not {noted}"
+        finally:
+            tty.line.close()
+
+
+def gone_at_reset():
+    """After a line that is gone there is no second reset."""
+    with tempfile.TemporaryDirectory() as folder:
+        tty = Tty(folder)
+        program = Program("gt_serial", ["--slack", "5000", tty.line.name, *SHORT],
+                          environment=tty.environment)
+        tty.await_note("rts off")
+        tty.line.close()
+        look(program, program.end(), "", GONE, 1)
+        assert tty.noted().count("rts on") == 1, f"noted {tty.noted()}"
 
 
 def is_held():
@@ -154,10 +203,11 @@ def is_held():
 
 def rates():
     """Rates and parities that the answer and PPS lead to."""
-    reset = [EVEN, "rts on", "drop what has come", "rts off"]
+    reset = [EVEN, *RESET]
     pps = "< 3B1095 > FF10957A < FF10957A "
     yield ("a tty's settings after PPS", lambda: terminal(
-        pps + SHORT_WORDS + DONE, [*reset, EVEN, SET.format(111600, "even"), *END],
+        pps + SHORT_WORDS + DONE,
+        [*reset, SET.format(111600, "even"), EVEN, SET.format(111600, "even"), *END],
         options=["--pps"]))
     yield ("a tty's settings in specific mode", lambda: terminal(
         "< 3B90951000 " + SHORT_WORDS + DONE, [*reset, SET.format(111600, "even"), *END]))
@@ -165,13 +215,13 @@ def rates():
         "< 3B00 " + SHORT_WORDS + DONE, [SET.format(38400, "even"), *reset[1:],
         SET.format(38400, "even"), *END], options=["--baud", "38400"]))
     yield ("a tty that does not run so fast", lambda: terminal(
-        pps, [*reset, EVEN, SET.format(111600, "even"), *END],
+        "< 3B1095", [*reset, SET.format(111600, "even"), *END],
         "the tty does not run at 111600 baud\n", "fast", ["--pps"], ""))
 
 
 def refusals():
     """What a tty refuses, with an error or without."""
-    reset = [EVEN, "rts on", "drop what has come", "rts off"]
+    reset = [EVEN, *RESET]
     form = "the tty does not take 8 bits, even parity and 2 stop bits\n"
     early = [EVEN, *END]
     for refuses, noted, fault in (
@@ -211,7 +261,7 @@ def inverse_odd():
         other.marks = False
         play(other, SHORT_WORDS + DONE, card=True)
 
-    reset = [EVEN, "rts on", "drop what has come", "rts off"]
+    reset = [EVEN, *RESET]
     terminal("", [*reset, ODD, *END], play_it=play_it, inverse=True)
     terminal("", [*reset, ODD, *END], inverse=True, refuses="odd", output="",
              play_it=lambda other: other.sends_marked("3F00"),
@@ -220,7 +270,7 @@ def inverse_odd():
 
 def parities():
     """Characters with a wrong parity."""
-    reset = [EVEN, "rts on", "drop what has come", "rts off"]
+    reset = [EVEN, *RESET]
 
     def then_marked(dialogue, digits):
         def play_it(other):
@@ -229,9 +279,9 @@ def parities():
         return play_it
 
     for title, dialogue, digits, inverse, noted, fault in (
-        ("of TS", "", "3B", False, [], PARITY),
-        ("of TS, inverse", "< 3F", "", True, [], PARITY),
-        ("of T0", "< 3B", "00", False, [], PARITY),
+        ("of TS", "", "3B", False, RESET, PARITY),
+        ("of TS, inverse", "< 3F", "", True, RESET, PARITY),
+        ("of T0", "< 3B", "00", False, RESET, PARITY),
         ("of a status", "< 3B00 " + SHORT_WORDS, "90", False, [EVEN], "operation 1: " + PARITY),
         ("of FF", "< 3B00 " + SHORT_WORDS, "FF", False, [EVEN], "operation 1: " + PARITY),
     ):
@@ -267,7 +317,7 @@ def parities():
         other.send("00")
 
     yield ("a wrong parity of T0, inverse", lambda: terminal(
-        "", [*reset, *END], PARITY, output="", inverse=True, play_it=unmarked_t0))
+        "", [*reset, *RESET, *END], PARITY, output="", inverse=True, play_it=unmarked_t0))
 
     def marked_echo(other):
         play(other, "< 3B00", card=True)
@@ -285,7 +335,8 @@ def without_echo():
     """Without an echo a card that sends before the last byte can have left is too early: at 1,200
     baud a character takes 10 ms. An echo is seen all the same."""
     slow, even = ["--baud", "1200"], SET.format(1200, "even")
-    noted = [even, "rts on", "drop what has come", "rts off", even, *END]
+    noted = [even, *RESET, even, *END]
+    tried = [even, *RESET, SET.format(13950, "even"), even, *END]
     fault = "operation 1: unexpected byte\n"
     put = ["send", "0020000103414E4E"]
     for title, dialogue, words, told in (
@@ -302,7 +353,7 @@ def without_echo():
         yield (f"without echo: {title}", lambda of=(whole, noted, told), more=more: in_time(
             lambda: terminal(*of, **more)))
     yield ("without echo: a PPS response within the request", lambda: in_time(lambda: terminal(
-        "< 3B1095 > FF10957A < FF10957A", noted, "unexpected byte\n",
+        "< 3B1095 > FF10957A < FF10957A", tried, "unexpected byte\n",
         options=[*slow, "--pps"], output="", echo=False)))
 
 
@@ -495,7 +546,7 @@ def card_settings():
 
 def tests():
     """Each test of this part: its title, and a function that is wrong by an error."""
-    for part in (resets, rates, refusals, parities, without_echo, card_resets, card_settings):
+    for part in (resets, second_resets, rates, refusals, parities, without_echo, card_resets, card_settings):
         yield from part()
-    for test in (is_held, inverse_odd, is_locked, keeps_others_out):
+    for test in (is_held, gone_at_reset, inverse_odd, is_locked, keeps_others_out):
         yield (f"tty: {test.__name__}", test)

@@ -19,7 +19,7 @@ enum { ALL_WELL = 0, FAULT = 1, BAD_WORDS = 2 };
 /* a card's character for "go on waiting" (ISO/IEC 7816-3, 10.3.3) */
 #define NULL_BYTE 0x60
 
-static const char USAGE[] = "Usage: gt_serial [OPTIONS] TTY OPERATION..";
+static const char USAGE[] = "Usage: gt_serial [OPTIONS] TTY [OPERATION..]";
 
 static const char HELP[] =
     "Options:\n"
@@ -41,7 +41,8 @@ static const char HELP[] =
     "  -h, --help       Prints help\n"
     "  -V, --version    Prints the version\n"
     "\n"
-    "Operations, which are carried out in order:\n"
+    "Operations, which are carried out in order. Without any, the answer to reset is\n"
+    "printed, and what it says:\n"
     "\n"
     "  select AID     selects the application with this identifier\n"
     "  get TAG        reads a data object\n"
@@ -177,12 +178,65 @@ static int carry_out_steps(struct session *session, const struct script *script,
     return result;
 }
 
+static void print_rate(const struct answer *answer)
+{
+    const gt_atr *says = &answer->says;
+    if (says->implicit)
+        puts("rate          implicit");
+    else if (says->fi == 0 || says->di == 0)
+        puts("rate          reserved");
+    else
+        printf("rate          %lu baud, Fi %u, Di %u\n", answer_rate(answer), (unsigned)says->fi,
+               (unsigned)says->di);
+}
+
+/* The waiting time of T=0, if that is offered. */
+static void print_waiting_time(const struct answer *answer)
+{
+    const gt_atr *says = &answer->says;
+    if (memchr(says->protocols, 0, says->protocol_count) == NULL)
+        return;
+    if (says->waiting_integer == 0)
+        puts("waiting time  reserved");
+    else
+        printf("waiting time  %ld ms\n", (long)(answer_waiting_time(answer) / 1000));
+}
+
+/* Prints an answer to reset and what it says. */
+static const char *print_meaning(const struct answer *answer)
+{
+    const gt_atr *says = &answer->says;
+    size_t i;
+    print_bytes(stdout, "answer        ", answer->bytes, answer->n);
+    printf("convention    %s\nprotocols    ",
+           says->convention == GT_INVERSE ? "inverse" : "direct");
+    for (i = 0; i < says->protocol_count; i++)
+        printf(" T=%u", (unsigned)says->protocols[i]);
+    if (says->specific)
+        printf("\nmode          specific, T=%u\n", (unsigned)says->specific_t);
+    else
+        puts("\nmode          negotiable");
+    print_rate(answer);
+    printf("guard time    %u etu", (unsigned)says->guard_etu);
+    if (says->guard_indicated > 0)
+        printf(" and %u times Fi/Di cycles", (unsigned)says->guard_indicated);
+    putchar('\n');
+    print_waiting_time(answer);
+    if (says->historical_count == 0)
+        puts("historical    none");
+    else
+        print_bytes(stdout, "historical    ", answer->bytes + says->historical,
+                    says->historical_count);
+    return fflush(stdout) == 0 && !ferror(stdout) ? NULL : "write fault";
+}
+
 /* Resets the card, and carries out the steps with it. */
 static int run_over(struct port *port, const struct script *script,
                     const struct serial_options *options)
 {
     struct line line = serial_options_line(options, port, LINE_TERMINAL);
     struct session session = { NULL, GT_INIT, 0, 0, 0 };
+    struct answer answer;
     struct answer_wishes wishes;
     const char *fault;
     int result;
@@ -193,9 +247,12 @@ static int run_over(struct port *port, const struct script *script,
     session.patience = (int64_t)options->patience * 1000000;
     wishes.reset = options->reset;
     wishes.is_held_by_on = options->is_held_by_on;
-    wishes.asks_pps = options->asks_pps;
     wishes.patience = session.patience;
-    fault = answer_take(&line, &wishes, &session.waiting_time);
+    fault = answer_take(&answer, &line, &wishes);
+    if (fault == NULL && script->count == 0)
+        fault = print_meaning(&answer);
+    if (fault == NULL)
+        fault = answer_go_on(&answer, options->asks_pps, &session.waiting_time);
     result = fault != NULL ? tell(fault) : carry_out_steps(&session, script, options->goes_on);
     gt_terminal_free(&session.terminal);
     return result;
@@ -243,8 +300,6 @@ static int run_options(const struct serial_options *options)
         return refuse_words("no tty was provided");
     if (options->file != NULL && options->count > 1)
         return refuse_words("operations stand either in words or in FILE");
-    if (options->file == NULL && options->count == 1)
-        return refuse_words("no operation was provided");
     if (!script_read(&script, options->file, options->words + 1, options->count - 1, &refusal))
         return refuse_script(options, &refusal);
     result = run(&script, options);

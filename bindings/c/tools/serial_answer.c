@@ -11,38 +11,51 @@ enum { BEGINS_BEFORE = 40000, IS_HELD_FOR = 50000 };
 /* the code of the rate that holds from a reset on (ISO/IEC 7816-3, 8.3) */
 #define RATE_OF_RESET 0x11
 
-#define TS_OF_INVERSE 0x3F
+enum { TS_OF_DIRECT = 0x3B, TS_OF_INVERSE = 0x3F };
+
+static const char NO_ANSWER[] = "the card does not answer to reset";
 
 static char told[160];
 
-/* The line at its answer, and what that said. */
-struct answer {
-    struct line *line;
-    unsigned long clock;        /* cycles in a second */
-    uint8_t bytes[GT_ATR_LIMIT];
-    size_t n;
-    gt_atr says;
-};
-
+/* How long this many cycles of the card's clock are. */
 static int64_t cycles(const struct answer *answer, uint64_t count)
 {
     return (int64_t)((count * UINT64_C(1000000) + answer->clock - 1) / answer->clock);
 }
 
-static const char *reset(const struct answer *answer, const struct answer_wishes *wishes)
+unsigned long answer_rate(const struct answer *answer)
 {
-    struct port *port = answer->line->port;
+    return answer->clock * answer->says.di / answer->says.fi;
+}
+
+int64_t answer_waiting_time(const struct answer *answer)
+{
+    const unsigned long fi = answer->says.fi > 0 ? answer->says.fi : ANSWER_CYCLES;
+    return cycles(answer, 960 * fi * answer->says.waiting_integer);
+}
+
+/* Whether a line of the tty resets the card. */
+static bool is_driven(const struct line *line, const struct answer_wishes *wishes)
+{
+    return !line->port->is_pseudo && wishes->reset != PORT_NONE;
+}
+
+/* Resets the card, and forgets what it has answered before. */
+static const char *reset(struct answer *answer, const struct answer_wishes *wishes)
+{
+    struct line *line = answer->line;
     const char *fault = NULL;
-    if (!port->is_pseudo && wishes->reset != PORT_NONE) {
-        fault = port_drive(port, wishes->reset, wishes->is_held_by_on);
+    if (is_driven(line, wishes)) {
+        fault = port_drive(line->port, wishes->reset, wishes->is_held_by_on);
         if (fault == NULL) {
             port_sleep_until(port_now() + IS_HELD_FOR);
-            port_drop(port);
-            fault = port_drive(port, wishes->reset, !wishes->is_held_by_on);
+            port_drop(line->port);
+            fault = port_drive(line->port, wishes->reset, !wishes->is_held_by_on);
         }
     }
+    answer->n = line->come_count = 0;
     if (fault == NULL)
-        line_note_text(answer->line, "reset");
+        line_note_text(line, "reset");
     return fault;
 }
 
@@ -54,19 +67,24 @@ static const char *tell_none(int32_t code, size_t place)
 }
 
 /* TS shows the convention: 3B, or 3F of the inverse one, which the direct one reads as 03. Its
- * parity is that of the other convention where it is inverse. */
+ * parity is that of the other convention where it is inverse. Other characters are noise. */
 static const char *take_first(struct answer *answer, int64_t wait)
 {
     struct line *line = answer->line;
+    const int64_t then = port_now() + wait;
     bool has_other_parity;
-    uint8_t raw;
-    const char *fault = line_receive_first(line, &raw, &has_other_parity, wait);
-    if (fault != NULL)
-        return fault == LINE_IS_SILENT ? "the card does not answer to reset" : fault;
-    if (raw == TS_OF_INVERSE)
-        return tell_none(GT_ATR_NO_TS, 0);
-    line->is_inverse = line_turned(raw) == TS_OF_INVERSE;
-    line->has_parity_of_direct = line->is_inverse;
+    uint8_t raw = 0;
+    size_t noise;
+    for (noise = 0; raw != TS_OF_DIRECT && line_turned(raw) != TS_OF_INVERSE; noise++) {
+        const char *fault = noise > ANSWER_NOISE_LIMIT
+            ? LINE_IS_SILENT
+            : line_receive_first(line, &raw, &has_other_parity, then - port_now());
+        if (fault == LINE_IS_SILENT)
+            return noise > 0 ? tell_none(GT_ATR_NO_TS, 0) : NO_ANSWER;
+        if (fault != NULL)
+            return fault;
+    }
+    line->is_inverse = line->has_parity_of_direct = raw != TS_OF_DIRECT;
     answer->bytes[answer->n++] = line->is_inverse ? TS_OF_INVERSE : raw;
     line_note(line, LINE_CARD, answer->bytes[0]);
     if (!line->port->is_pseudo && has_other_parity != line->is_inverse)
@@ -94,7 +112,43 @@ static const char *take_others(struct answer *answer)
             return fault;
         answer->n++;
     }
-    return code == GT_OK ? NULL : tell_none(code, place);
+    return code == GT_OK ? line_refuse_early(answer->line, LINE_LATE) : tell_none(code, place);
+}
+
+/* Takes the answer to a reset, which begins within this time. */
+static const char *take_all(struct answer *answer, int64_t wait)
+{
+    const char *fault = take_first(answer, wait);
+    return fault == NULL ? take_others(answer) : fault;
+}
+
+const char *answer_take(struct answer *answer, struct line *line,
+                        const struct answer_wishes *wishes)
+{
+    const char *fault, *second;
+    int64_t wait = wishes->patience;
+    memset(answer, 0, sizeof *answer);
+    answer->line = line;
+    answer->clock = line->baud * ANSWER_CYCLES;
+    if (line->port->is_pseudo || wishes->reset != PORT_NONE)
+        wait = cycles(answer, BEGINS_BEFORE) + line->slack;
+    fault = reset(answer, wishes);
+    if (fault != NULL)
+        return fault;
+    fault = take_all(answer, wait);
+    if (fault != NULL && fault != LINE_IS_GONE && is_driven(line, wishes)) {
+        second = reset(answer, wishes);
+        if (second == NULL)
+            second = take_all(answer, wait);
+        fault = second == NO_ANSWER ? fault : second;
+    }
+    line_note_text(line, NULL);
+    return fault;
+}
+
+static bool has_rate(const gt_atr *says)
+{
+    return says->fi > 0 && says->di > 0;
 }
 
 /* Goes on at another rate: of Fi and Di, or of those that hold from the reset on. */
@@ -102,11 +156,13 @@ static const char *set_rate(struct answer *answer, bool is_of_card)
 {
     struct line *line = answer->line;
     const gt_atr *says = &answer->says;
-    const char *fault = line_set(
-        line, is_of_card ? answer->clock * says->di / says->fi : answer->clock / ANSWER_CYCLES);
+    const unsigned fi = has_rate(says) ? says->fi : ANSWER_CYCLES;
+    const unsigned di = has_rate(says) ? says->di : 1;
+    const char *fault =
+        line_set(line, is_of_card ? answer_rate(answer) : answer->clock / ANSWER_CYCLES);
     line->guard = line_etu(line, says->guard_etu - LINE_CHARACTER_ETU);
-    if (says->guard_indicated > 0 && says->di > 0)
-        line->guard += cycles(answer, (uint64_t)says->guard_indicated * says->fi / says->di + 1);
+    if (says->guard_indicated > 0)
+        line->guard += cycles(answer, (uint64_t)says->guard_indicated * fi / di + 1);
     return fault;
 }
 
@@ -152,58 +208,38 @@ static const char *ask(struct line *line, uint8_t pps1, bool *is_taken)
     return code == 1 ? NULL : "the card does not accept what PPS asks for";
 }
 
-/* In specific mode the card goes on at once by what it says. */
-static const char *go_on_specific(struct answer *answer)
+const char *answer_refusal(const gt_atr *says)
 {
-    const gt_atr *says = &answer->says;
-    if (says->specific_t != 0)
+    if ((says->specific ? says->specific_t : says->protocols[0]) != 0)
         return "the card does not talk T=0";
     if (says->implicit)
         return "the card goes on at a rate that it does not tell";
-    if (says->fi == 0 || says->di == 0)
+    if (says->specific && !has_rate(says))
         return "the card goes on at a rate that is reserved";
-    return set_rate(answer, true);
+    return says->waiting_integer == 0 ? "the card's waiting time is reserved" : NULL;
 }
 
-/* Else it goes on as before, or as PPS has it. T=0 is the first protocol where it is offered. */
-static const char *go_on_negotiable(struct answer *answer, bool asks_pps)
+/* Asks for the card's own rate by PPS, once the tty has shown that it runs so. */
+static const char *ask_for_rate(struct answer *answer)
 {
-    const gt_atr *says = &answer->says;
-    const bool has_rate = says->rate_code != RATE_OF_RESET && says->fi > 0 && says->di > 0;
     bool is_taken = false;
-    const char *fault;
-    if (says->protocols[0] != 0)
-        return "the card does not talk T=0";
-    fault = set_rate(answer, false);
-    if (fault != NULL || !asks_pps || !has_rate)
-        return fault;
-    fault = ask(answer->line, says->rate_code, &is_taken);
+    const char *fault = set_rate(answer, true);
+    if (fault == NULL)
+        fault = set_rate(answer, false);
+    if (fault == NULL)
+        fault = ask(answer->line, answer->says.rate_code, &is_taken);
     return fault == NULL && is_taken ? set_rate(answer, true) : fault;
 }
 
-const char *answer_take(struct line *line, const struct answer_wishes *wishes,
-                        int64_t *waiting_time)
+/* In specific mode the card goes on at once by what it says, else as before or as PPS has it. */
+const char *answer_go_on(struct answer *answer, bool asks_pps, int64_t *waiting_time)
 {
-    struct answer answer;
-    const char *fault;
-    memset(&answer, 0, sizeof answer);
-    answer.line = line;
-    answer.clock = line->baud * ANSWER_CYCLES;
-    fault = reset(&answer, wishes);
+    const gt_atr *says = &answer->says;
+    const bool asks = asks_pps && !says->specific && has_rate(says)
+        && says->rate_code != RATE_OF_RESET;
+    const char *fault = answer_refusal(says);
     if (fault == NULL)
-        fault = take_first(&answer, line->port->is_pseudo || wishes->reset != PORT_NONE
-                                        ? cycles(&answer, BEGINS_BEFORE) + line->slack
-                                        : wishes->patience);
-    if (fault == NULL)
-        fault = take_others(&answer);
-    if (fault == NULL)
-        fault = line_refuse_early(line, LINE_LATE);
-    if (fault == NULL && answer.says.waiting_time == 0)
-        fault = "the card's waiting time is reserved";
-    if (fault == NULL)
-        fault = answer.says.specific ? go_on_specific(&answer)
-                                     : go_on_negotiable(&answer, wishes->asks_pps);
-    line_note_text(line, NULL);
-    *waiting_time = cycles(&answer, answer.says.waiting_time) + line->slack;
+        fault = asks ? ask_for_rate(answer) : set_rate(answer, says->specific);
+    *waiting_time = answer_waiting_time(answer) + answer->line->slack;
     return fault;
 }

@@ -7,20 +7,47 @@
 /* the clock cycles of an etu before a card says otherwise (ISO/IEC 7816-3, 8.1) */
 #define ANSWER_CYCLES 372
 
-/* How the card is reset, and what it is asked for then. */
+/* the most characters before TS that are taken for noise (profile) */
+#define ANSWER_NOISE_LIMIT 16
+
+/* How the card is reset. */
 struct answer_wishes {
     enum port_signal reset;     /* the line that does it, or PORT_NONE */
     bool is_held_by_on;         /* it holds the card in reset while it is on */
-    bool asks_pps;
     int64_t patience;           /* how long somebody may take to reset the card by hand */
 };
 
+/* An answer to reset, and the line it came over. */
+struct answer {
+    struct line *line;
+    unsigned long clock;        /* cycles in a second */
+    uint8_t bytes[GT_ATR_LIMIT];
+    size_t n;
+    gt_atr says;
+};
+
+/* Each of these answers NULL, or a few words that say why no TPDU can follow. They stand until the
+ * next call. */
+
 /* Resets the card, unless opening a pseudo terminal was its reset or somebody resets it by hand,
- * and reads its answer. The line has then its convention, its parity, its rate and its guard time.
- * `waiting_time` gets how long a terminal waits for a character of the card, with the line's slack.
- *
- * NULL, or a few words that say why no TPDU can follow; they stand until the next call. */
-const char *answer_take(struct line *line, const struct answer_wishes *wishes,
-                        int64_t *waiting_time);
+ * and reads its answer. If that fails, a line of the tty resets it a second time. Skips noise
+ * before TS. Of a second silence the first fault is the answer. */
+const char *answer_take(struct answer *answer, struct line *line,
+                        const struct answer_wishes *wishes);
+
+/* Why a terminal refuses a card whose answer says this. */
+const char *answer_refusal(const gt_atr *says);
+
+/* Continues at the rate of the answer, or after PPS if that is asked for. The line has then its
+ * convention, its parity, its rate and its guard time. `waiting_time` gets how long a terminal waits
+ * for a character of the card, with the line's slack. */
+const char *answer_go_on(struct answer *answer, bool asks_pps, int64_t *waiting_time);
+
+/* The rate of the card's Fi and Di in baud. Neither may be 0. */
+unsigned long answer_rate(const struct answer *answer);
+
+/* The waiting time of T=0, or 0 if WI is reserved. Of a reserved Fi it is that of the rate of a
+ * reset. */
+int64_t answer_waiting_time(const struct answer *answer);
 
 #endif

@@ -391,7 +391,8 @@ def echoes():
     yield Case("silent behind the front of its header", "< 3B804002 > 9000000000 < 90", command,
                fault="operation 1: the card is silent\n", status=1, echo=False, waits=0.2)
     yield Case("silent after a header, without echo", "< 3B804002 " + SHORT_WORDS, SHORT,
-               fault="operation 1: the card is silent\n", status=1, echo=False, waits=0.2)
+               fault="operation 1: the card is silent\n", status=1, echo=False, waits=0.2,
+               quick=True)
 
 
 def pps():
@@ -587,6 +588,18 @@ def full_device():
             line.close()
 
 
+def full_device_for_an_answer():
+    """Nor can an answer to reset be printed there."""
+    line = Line()
+    try:
+        with open("/dev/full", "wb") as full:
+            program = Program("gt_serial", ["--slack", "2000", line.name], stdout=full)
+        play(Other(line), "< 3B00", card=True)
+        look(program, program.end(), "", "write fault\n", 1)
+    finally:
+        line.close()
+
+
 def nobody_reads():
     """Where nobody reads what it prints, a signal ends it, and the tty is put back."""
     line = Line()
@@ -681,5 +694,5 @@ def tests():
         for number in (signal.SIGTERM, signal.SIGINT, signal.SIGHUP, signal.SIGQUIT)
     )
     for test in (guard_time, wrong_echo, passes_over_a_signal, line_gone, nulls_for_ever, settings, full_device,
-                 nobody_reads, closed_descriptors, words, helps):
+                 full_device_for_an_answer, nobody_reads, closed_descriptors, words, helps):
         yield (f"terminal: {test.__name__}", test)

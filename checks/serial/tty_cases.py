@@ -109,7 +109,8 @@ def terminal(dialogue, noted, fault="", refuses="", options=(), output="= 9000\n
             look(program, status, output, fault, 0 if not fault else 1)
             assert tty.noted() == noted, f"noted {tty.noted()}, and not {noted}"
             assert tty.line.is_put_back(), "the tty is not set as it was before"
-            assert waits <= waited < waits + LATE, f"it ends after {waited:.2f} s"
+            assert waits <= program.seconds, f"it ends after {program.seconds:.2f} s"
+            assert waited < waits + LATE, f"it ends {waited:.2f} s after the last character"
         finally:
             tty.line.close()
 

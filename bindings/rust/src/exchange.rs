@@ -1,6 +1,7 @@
 //! A terminal's exchange of one command.
 
 use crate::error::{told, Error};
+use crate::objects::{find, Object};
 use crate::raw::{self, Handle};
 
 /// The most data bytes that an answer has, where there is no limit below.
@@ -45,6 +46,16 @@ pub enum Turn {
 pub struct Answer {
     pub status: u16,
     pub data: Vec<u8>,
+}
+
+impl Answer {
+    /// The data as the object with this tag, if they are its tag, length and value, with no padding
+    /// and nothing else, as the answer to GET DATA is. Some cards answer `9000` with the value
+    /// alone.
+    pub fn object(&self, tag: u32) -> Option<Object<'_>> {
+        let found = find(&self.data, &[tag]).ok().flatten()?;
+        (found.size == self.data.len()).then_some(found)
+    }
 }
 
 /// A terminal's exchange of one command with a card, over all its TPDUs (ISO/IEC 7816-3, clause

@@ -272,3 +272,40 @@ fn a_terminal_at_rest_has_no_turn() {
         terminal.reset().expect("it drops what is under way");
     }
 }
+
+/// What a terminal makes of a card's answer to GET DATA: these data, and `9000`.
+fn answered_by(data: &[u8]) -> galliumtoad::Answer {
+    let mut terminal = Terminal::new().expect("memory");
+    terminal
+        .begin(Operation::Get(0x5F20))
+        .expect("an operation");
+    let answer = [data, &[0x90, 0x00]].concat();
+    terminal.answered(&answer).expect("an answer");
+    terminal.answer().expect("an answer")
+}
+
+#[test]
+fn an_answer_is_one_object_or_none() {
+    let name = answered_by(b"\x5F\x20\x03JOE");
+    let found = name.object(0x5F20).expect("an object");
+    assert_eq!((found.tag, found.place, found.size), (0x5F20, 0, 6));
+    assert_eq!((found.level, found.value), (1, &b"JOE"[..]));
+    assert_eq!(name.object(0x5F24), None);
+    assert_eq!(name.object(0x5F), None);
+    let long = answered_by(b"\x5F\x20\x81\x01A");
+    assert_eq!(long.object(0x5F20).map(|it| it.value), Some(&b"A"[..]));
+    let template = answered_by(b"\x70\x02\x50\x00");
+    assert!(template.object(0x70).is_some());
+    assert_eq!(template.object(0x50), None);
+    for data in [
+        &b""[..],
+        b"JOE",
+        b"\x5F\x20\x03JO",
+        b"\x00\x5F\x20\x03JOE",
+        b"\x5F\x20\x03JOE\x00",
+        b"\x50\x00\x5F\x20\x03JOE",
+        b"\x5F\x20\x03JOE\x50\x00",
+    ] {
+        assert_eq!(answered_by(data).object(0x5F20), None, "{data:02X?}");
+    }
+}

@@ -504,6 +504,16 @@ GT_MUST_CHECK int32_t gt_find(const uint8_t *bytes, size_t n, const uint32_t *pa
     return galliumtoad_find(gt_bytes_(bytes), n, path ? path : none, steps, object, place);
 }
 
+/* Whether the bytes are one object with this tag: its tag, length and value, with no padding and
+ * nothing else. The data of an answer to GET DATA are. Some cards answer 9000 with the value alone.
+ *
+ * 1: they are. 0: they are not, or there are none, or `bytes` is NULL. */
+static inline int gt_is_object(const uint8_t *bytes, size_t n, uint32_t tag) {
+    gt_object object;
+    size_t place;
+    return gt_find(bytes, n, &tag, 1, &object, &place) == GT_OK && object.size == n;
+}
+
 /* The tag, and the length in its shortest spelling, as an object begins: 2 to 6 bytes at the
  * front of `head`. `len` gets how many.
  *

@@ -119,6 +119,31 @@ static void steps_that_are_no_tags(void) {
     refuses(BYTES("\x50\x05\x41"), cut, 1, GT_ARGUMENT, 77);
 }
 
+/* one object with this tag, and nothing before, between or behind its parts */
+static void one_object(void) {
+    static const uint8_t name[] = { 0x5F, 0x20, 0x03, 'J', 'O', 'E' };
+    size_t n;
+    CHECK(gt_is_object(name, sizeof name, 0x5F20), 1);
+    CHECK(gt_is_object(BYTES("\x50\x00"), 0x50), 1);
+    CHECK(gt_is_object(BYTES("\x5F\x20\x82\x00\x01J"), 0x5F20), 1);
+    CHECK(gt_is_object(BYTES(NAME), 0x6F), 1);
+    for (n = 0; n < sizeof name; n++)
+        CHECK(gt_is_object(name, n, 0x5F20), 0);
+    CHECK(gt_is_object(name, sizeof name, 0x5F24), 0);
+    CHECK(gt_is_object(name, sizeof name, 0x5F), 0);
+    CHECK(gt_is_object(BYTES("JOE"), 0x5F20), 0);
+    CHECK(gt_is_object(BYTES("JOE"), 0x50), 0);
+    CHECK(gt_is_object(BYTES("A"), 0x5F20), 0); /* a value alone, which is a tag */
+    CHECK(gt_is_object(BYTES("\x00\x5F\x20\x03JOE"), 0x5F20), 0);
+    CHECK(gt_is_object(BYTES("\x5F\x20\x03JOE\x00"), 0x5F20), 0);
+    CHECK(gt_is_object(BYTES("\x5F\x20\x03JOE\x50\x00"), 0x5F20), 0);
+    CHECK(gt_is_object(BYTES("\x50\x00\x5F\x20\x03JOE"), 0x5F20), 0);
+    CHECK(gt_is_object(BYTES(NAME), 0x84), 0); /* one level further in */
+    CHECK(gt_is_object(BYTES("\x70\x02\x50\x01"), 0x70), 0); /* a template of no objects */
+    CHECK(gt_is_object(NULL, 0, 0x5F20), 0);
+    CHECK(gt_is_object(NULL, 6, 0x5F20), 0);
+}
+
 static void null_pointers(void) {
     const uint32_t path[] = { 0x6F };
     gt_object object = UNTOUCHED;
@@ -137,6 +162,7 @@ int main(void) {
     finds_at_every_depth();
     first_faults();
     steps_that_are_no_tags();
+    one_object();
     null_pointers();
     return check_result("find");
 }

@@ -153,6 +153,14 @@ def statuses():
                given=b"# a name\nselect A0000000031010\nget 5F20\n", options=["-f", "-"], waits=1.0)
     yield Case("a command of one's own", "< 3B00 > 0020000102 < 20 > 1234 < 63C2 ",
                ["send", "00200001021234"], "= 63C2\n", status=1)
+    not_it = ("the answer is not the object 5F20; "
+              "if the card sends the value alone, use send 00CA5F2000\n")
+    alone = "< 3B00 > 00CA5F2000 < 6C03 > 00CA5F2003 < CA4A4F459000 "
+    yield Case("a value alone", alone, [*GET, *SELECT], "= 9000 4A4F45\n", status=1,
+               fault=f"operation 1: {not_it}")
+    yield Case("a value alone, and -k", alone + SELECT_WORDS, [*GET, *SELECT],
+               "= 9000 4A4F45\n" + SELECTED, status=1, fault=f"operation 1: {not_it}",
+               options=["-k"])
     yield Case("values of FF", "< 3B00 > 00DA5F2003 < DA > FFFF00 < 9000 > 00CA5F2000 "
                "< CA5F20FBFF00FF" + "FF" * 250 + "9000 ",
                ["put", "5F20", "FFFF00", "get", "5F20"],

@@ -90,7 +90,8 @@ static int refuse_script(const struct options *options, const struct script_refu
     return options->file == NULL && refusal->is_of_words ? refuse_words(text) : tell(text);
 }
 
-/* Carries out the steps, up to the first fault, or without -k the first status that is not 9000. */
+/* Carries out the steps, up to the first fault, or without -k the first answer that is not 9000 or
+ * not what the step asks for. */
 static int carry_out_steps(struct carrier *carrier, const struct script *script, bool goes_on)
 {
     int result = ALL_WELL;
@@ -99,11 +100,14 @@ static int carry_out_steps(struct carrier *carrier, const struct script *script,
         const struct step *step = &script->steps[i];
         uint16_t status = 0;
         const char *fault = carry_out(carrier, &step->operation, &status);
-        if (fault != NULL) {
+        const bool has_answer = fault == NULL;
+        if (has_answer)
+            fault = operation_answer_fault(&step->operation, &carrier->terminal);
+        if (fault != NULL)
             fprintf(stderr, "%s %lu: %s\n", script->unit, (unsigned long)step->number, fault);
+        if (!has_answer)
             return FAULT;
-        }
-        if (status != 0x9000)
+        if (fault != NULL || status != 0x9000)
             result = FAULT;
     }
     return result;

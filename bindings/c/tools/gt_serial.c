@@ -159,7 +159,8 @@ static const char *carry_out(struct session *session, const struct operation *op
     return fault == NULL ? print_answer(stdout, &session->terminal, status) : fault;
 }
 
-/* Carries out the steps, up to the first fault, or without -k the first status that is not 9000. */
+/* Carries out the steps, up to the first fault, or without -k the first answer that is not 9000 or
+ * not what the step asks for. */
 static int carry_out_steps(struct session *session, const struct script *script, bool goes_on)
 {
     int result = ALL_WELL;
@@ -168,11 +169,14 @@ static int carry_out_steps(struct session *session, const struct script *script,
         const struct step *step = &script->steps[i];
         uint16_t status = 0;
         const char *fault = carry_out(session, &step->operation, &status);
-        if (fault != NULL) {
+        const bool has_answer = fault == NULL;
+        if (has_answer)
+            fault = operation_answer_fault(&step->operation, &session->terminal);
+        if (fault != NULL)
             fprintf(stderr, "%s %lu: %s\n", script->unit, (unsigned long)step->number, fault);
+        if (!has_answer)
             return FAULT;
-        }
-        if (status != 0x9000)
+        if (fault != NULL || status != 0x9000)
             result = FAULT;
     }
     return result;

@@ -221,6 +221,23 @@ int32_t operation_begin(const struct operation *operation, gt_terminal *terminal
     }
 }
 
+const char *operation_answer_fault(const struct operation *operation,
+                                   const gt_terminal *terminal)
+{
+    static uint8_t data[GT_RESPONSE_LIMIT];
+    static char text[112];
+    const unsigned tag = operation->tag;
+    uint16_t status;
+    size_t n;
+    if (operation->kind != OPERATION_GET
+        || gt_terminal_answer(terminal, &status, data, sizeof data, &n) != GT_OK
+        || status != 0x9000 || gt_is_object(data, n, tag))
+        return NULL;
+    snprintf(text, sizeof text, "the answer is not the object %02X; "
+             "if the card sends the value alone, use send 00CA%04X00", tag, tag);
+    return text;
+}
+
 void operation_free(struct operation *operation)
 {
     free(operation->bytes);

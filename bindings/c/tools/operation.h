@@ -51,6 +51,11 @@ const char *operation_text(enum operation_refusal refusal);
 /* Begins the operation at a terminal. A code of galliumtoad.h. */
 int32_t operation_begin(const struct operation *operation, gt_terminal *terminal);
 
+/* Why the answer is none to the operation, or NULL: 9000 answers a get with one object of its tag.
+ * The words stand until the next call. */
+const char *operation_answer_fault(const struct operation *operation,
+                                   const gt_terminal *terminal);
+
 /* Gives the memory back. */
 void operation_free(struct operation *operation);
 

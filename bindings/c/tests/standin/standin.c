@@ -272,6 +272,15 @@ static size_t spoil(const char *word, uint8_t *answer, size_t n)
         memmove(answer + 1, answer, n);
         return n + 1;
     }
+    if (strncmp(word, "drop", 4) == 0) { /* without the first of them */
+        const size_t dropped = strtoul(word + 4, NULL, 10);
+        memmove(answer, answer + dropped, n - dropped);
+        return n - dropped;
+    }
+    if (strcmp(word, "other") == 0) { /* of another tag of two bytes */
+        answer[1] ^= 1;
+        return n;
+    }
     if (strcmp(word, "long") == 0) {
         memset(answer, 0x90, LONG_ANSWER);
         answer[LONG_ANSWER - 1] = 0x00;

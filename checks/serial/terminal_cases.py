@@ -645,7 +645,7 @@ def closed_descriptors():
         finally:
             line.close()
     program = Program("gt_serial", ["-f", "-", "/dev/null"], before="exec 0<&-")
-    look(program, program.end(), "", "read fault\n", 1)
+    look(program, program.end(), "", "read fault: '-': Bad file descriptor\n", 1)
 
 
 def words():
@@ -667,14 +667,16 @@ def words():
         (["--held-by", "high", "x", *GET], "'high' is neither 'on' nor 'off'"),
         (["x", "walk"], "operation 1: unknown word"),
         (["x", *GET, "get"], "operation 2: wrong number of words"),
-        (["x", *GET, "get", "3E"], "operation 2: bad tag"),
+        (["x", *GET, "get", "3E"], "operation 2: bad tag: '3E': neither 40 to FE without 5F, 7F, 9F, "
+         "BF and DF, nor one of these or FF and then 01 to 7F"),
     ):
         program = Program("gt_serial", given)
         look(program, program.end(), "", f"error: {why}\n{USAGE}", 2)
     for given, fault in (
         (["/nowhere/tty", *GET], "the tty can not be opened: No such file or directory\n"),
         (["/dev/null", *GET], "it is no tty\n"),
-        (["-f", "/nowhere/file", "/dev/null"], "read fault\n"),
+        (["-f", "/nowhere/file", "/dev/null"],
+         "read fault: '/nowhere/file': No such file or directory\n"),
     ):
         program = Program("gt_serial", given)
         look(program, program.end(), "", fault, 1)

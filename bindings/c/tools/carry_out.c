@@ -1,5 +1,10 @@
+#define _POSIX_C_SOURCE 200112L
+
 #include "carry_out.h"
 #include "print.h"
+
+#include <signal.h>
+#include <unistd.h>
 
 /* the bytes of a TPDU before its data */
 #define HEADER_SIZE 5
@@ -16,11 +21,26 @@ static const char *fault_text(int32_t code)
     }
 }
 
+/* whether a line of progress stands on the terminal */
+static volatile sig_atomic_t is_line_open;
+
+/* Ends that line, and the program as the signal does. */
+static void end_line(int number)
+{
+    if (is_line_open && write(STDERR_FILENO, "\n", 1) < 0)
+        is_line_open = 0;
+    signal(number, SIG_DFL);
+    raise(number);
+}
+
 /* How many bytes of a value have gone, on one line that is written over and at last cleared. */
 static void show_progress(FILE *progress, size_t gone, size_t all)
 {
     if (progress == NULL || all <= 255)
         return;
+    if (!is_line_open && signal(SIGINT, end_line) == SIG_IGN)
+        signal(SIGINT, SIG_IGN);
+    is_line_open = gone < all;
     if (gone < all)
         fprintf(progress, "\r%lu of %lu bytes", (unsigned long)gone, (unsigned long)all);
     else

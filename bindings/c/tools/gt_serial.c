@@ -274,17 +274,6 @@ static int run(const struct script *script, const struct serial_options *options
     return result;
 }
 
-static int refuse_script(const struct serial_options *options,
-                         const struct script_refusal *refusal)
-{
-    char text[64];
-    const char *unit = options->file != NULL ? "line" : "operation";
-    if (refusal->number == 0)
-        return tell(refusal->text);
-    snprintf(text, sizeof text, "%s %lu: %s", unit, (unsigned long)refusal->number, refusal->text);
-    return options->file == NULL && refusal->is_of_words ? refuse_words(text) : tell(text);
-}
-
 static int run_options(const struct serial_options *options)
 {
     struct script script;
@@ -305,7 +294,7 @@ static int run_options(const struct serial_options *options)
     if (options->file != NULL && options->count > 1)
         return refuse_words("operations stand either in words or in FILE");
     if (!script_read(&script, options->file, options->words + 1, options->count - 1, &refusal))
-        return refuse_script(options, &refusal);
+        return refusal.is_of_words ? refuse_words(refusal.text) : tell(refusal.text);
     result = run(&script, options);
     script_free(&script);
     return result;

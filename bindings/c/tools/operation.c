@@ -1,12 +1,27 @@
 #include "operation.h"
 #include "text.h"
 
+#include <errno.h>
 #include <stdio.h>
 #include <stdlib.h>
 #include <string.h>
 
 /* the longest number behind `HH*` */
 #define REPEAT_LIMIT 65535
+
+#define TAG_RULE "neither 40 to FE without 5F, 7F, 9F, BF and DF, nor one of these or FF and then " \
+    "01 to 7F"
+
+/* the word that was refused last, and why, of those refusals that name one */
+static const char *refused_word, *refused_for;
+
+static enum operation_refusal refuse(enum operation_refusal refusal, const char *word,
+                                     const char *why)
+{
+    refused_word = word;
+    refused_for = why;
+    return refusal;
+}
 
 /* How each kind begins, and how many words it has; its place is its kind. */
 static const struct {
@@ -43,7 +58,7 @@ static enum operation_refusal read_hex(struct operation *operation, const char *
 {
     const size_t n = text_hex_size(word);
     if (n == 0)
-        return OPERATION_BAD_HEX;
+        return refuse(OPERATION_BAD_HEX, word, text_hex_fault(word));
     if (!take_room(operation, n))
         return OPERATION_MEMORY;
     text_hex_bytes(word, operation->bytes);
@@ -90,14 +105,16 @@ static enum operation_refusal read_tag(struct operation *operation, const char *
     const size_t n = text_hex_size(word);
     struct operation get = { OPERATION_GET, 0, NULL, 0 };
     uint8_t bytes[2];
+    enum operation_refusal refusal = OPERATION_BAD_TAG;
     if (n == 0)
-        return OPERATION_BAD_HEX;
+        return refuse(OPERATION_BAD_HEX, word, text_hex_fault(word));
     if (n > sizeof bytes || (n == 2 && strncmp(word, "00", 2) == 0))
-        return OPERATION_BAD_TAG;
+        return refuse(refusal, word, TAG_RULE);
     text_hex_bytes(word, bytes);
     get.tag = n == 2 ? (uint32_t)bytes[0] << 8 | bytes[1] : bytes[0];
     operation->tag = get.tag;
-    return try_to_begin(&get);
+    refusal = try_to_begin(&get);
+    return refusal == OPERATION_BAD_TAG ? refuse(refusal, word, TAG_RULE) : refusal;
 }
 
 /* How often `HH*N` repeats its byte, 1 to REPEAT_LIMIT in digits without a leading zero, or 0. */
@@ -117,7 +134,7 @@ static enum operation_refusal read_repeated(struct operation *operation, const c
     const unsigned long times = times_of(word + 3);
     uint8_t byte;
     if (text_hex_size(pair) != 1 || times == 0)
-        return OPERATION_BAD_HEX;
+        return refuse(OPERATION_BAD_HEX, word, "not HH*N with N from 1 to 65535");
     if (times > OPERATION_VALUE_LIMIT)
         return OPERATION_VALUE_TOO_LONG;
     if (!take_room(operation, times))
@@ -133,14 +150,14 @@ static enum operation_refusal read_file(struct operation *operation, const char 
     FILE *file = fopen(name, "rb");
     enum operation_refusal refusal = OPERATION_IS_WELL;
     if (file == NULL)
-        return OPERATION_READ_FAULT;
+        return refuse(OPERATION_READ_FAULT, name, strerror(errno));
     if (!take_room(operation, OPERATION_VALUE_LIMIT + 1)) {
         fclose(file);
         return OPERATION_MEMORY;
     }
     operation->n = fread(operation->bytes, 1, OPERATION_VALUE_LIMIT + 1, file);
     if (ferror(file))
-        refusal = OPERATION_READ_FAULT;
+        refusal = refuse(OPERATION_READ_FAULT, name, strerror(errno));
     else if (operation->n > OPERATION_VALUE_LIMIT)
         refusal = OPERATION_VALUE_TOO_LONG;
     fclose(file);
@@ -197,14 +214,14 @@ const char *operation_text(enum operation_refusal refusal)
     switch (refusal) {
     case OPERATION_UNKNOWN_WORD: return "unknown word";
     case OPERATION_WORD_COUNT: return "wrong number of words";
-    case OPERATION_BAD_HEX: return "bad hex";
-    case OPERATION_BAD_TAG: return "bad tag";
+    case OPERATION_BAD_HEX: return text_fault("bad hex", refused_word, refused_for);
+    case OPERATION_BAD_TAG: return text_fault("bad tag", refused_word, refused_for);
     case OPERATION_BAD_AID: return "bad aid";
     case OPERATION_VALUE_TOO_LONG: return "value too long";
     case OPERATION_TOO_SHORT: return "command too short";
     case OPERATION_BAD_LENGTH: return "bad command length";
     case OPERATION_INVALID_INS: return "invalid INS";
-    case OPERATION_READ_FAULT: return "read fault";
+    case OPERATION_READ_FAULT: return text_fault("read fault", refused_word, refused_for);
     case OPERATION_MEMORY: return "out of memory";
     default: return "ok";
     }

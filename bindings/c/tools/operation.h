@@ -45,7 +45,9 @@ size_t operation_word_count(const char *first);
 enum operation_refusal operation_read(struct operation *operation, char *const *words,
                                       size_t count);
 
-/* A few words for a refusal, as card_trace has them. */
+/* A few words for the refusal of the last `operation_read`, whose words are still there: as
+ * card_trace has them, and behind `bad hex`, `bad tag` and `read fault` the word or the file, and
+ * why. They stand until the next call. */
 const char *operation_text(enum operation_refusal refusal);
 
 /* Begins the operation at a terminal. A code of galliumtoad.h. */

@@ -1,6 +1,8 @@
 #include "options.h"
+#include "operation.h"
 
 #include <stdio.h>
+#include <stdlib.h>
 #include <string.h>
 
 /* what is told of an argument that is not there, with as much of it as fits */
@@ -27,9 +29,23 @@ static const char *take_value(const char **value, const char *option, int argc,
     return NULL;
 }
 
+/* The number of seconds of --wait, which has at most five digits. */
+static const char *read_wait(struct options *options)
+{
+    const char *word = options->seconds;
+    const size_t n = word != NULL ? strspn(word, "0123456789") : 0;
+    options->wait = n > 0 && n <= 5 && word[n] == '\0' ? strtol(word, NULL, 10) : -1;
+    if (word == NULL || (options->wait >= 0 && options->wait <= WAIT_LIMIT))
+        return NULL;
+    snprintf(told, sizeof told, "'--wait' takes a number from 0 to %d", WAIT_LIMIT);
+    return told;
+}
+
 static const char *read_option(struct options *options, int argc, char *const *argv, int *at)
 {
     const char *word = argv[*at];
+    if (strcmp(word, "--wait") == 0)
+        return take_value(&options->seconds, word, argc, argv, at);
     if (strcmp(word, "-r") == 0)
         return take_value(&options->reader, word, argc, argv, at);
     if (strcmp(word, "-f") == 0)
@@ -52,7 +68,7 @@ static const char *read_option(struct options *options, int argc, char *const *a
 }
 
 /* Whether the options go with each other and with the operations. */
-static const char *compare(const struct options *options)
+static const char *compare(struct options *options)
 {
     if (options->helps || options->tells_version)
         return NULL;
@@ -64,19 +80,29 @@ static const char *compare(const struct options *options)
         return "operations stand either in words or in FILE";
     if (options->file == NULL && options->count == 0)
         return "no operation was provided";
-    return NULL;
+    return read_wait(options);
 }
 
-const char *options_read(struct options *options, int argc, char *const *argv)
+const char *options_read(struct options *options, int argc, char **argv)
 {
     const char *fault = NULL;
-    int at = 1;
+    bool is_ended = false;
+    size_t first = 0;   /* the place of the first word of the operation in progress */
+    int at;
     memset(options, 0, sizeof *options);
-    for (; at < argc && fault == NULL && argv[at][0] == '-'; at++)
-        fault = read_option(options, argc, argv, &at);
-    if (fault != NULL)
-        return fault;
-    options->words = argv + at;
-    options->count = (size_t)(argc - at);
-    return compare(options);
+    options->words = argv + 1;
+    for (at = 1; at < argc && fault == NULL; at++) {
+        const bool is_value = options->count == first + OPERATION_WORDS - 1;
+        char *word = argv[at];
+        if (is_value || is_ended || word[0] != '-' || word[1] == '\0') {
+            argv[1 + options->count++] = word;
+            if (options->count >= first + operation_word_count(argv[1 + first]))
+                first = options->count;
+        } else if (strcmp(word, "--") == 0) {
+            is_ended = true;
+        } else {
+            fault = read_option(options, argc, argv, &at);
+        }
+    }
+    return fault != NULL ? fault : compare(options);
 }

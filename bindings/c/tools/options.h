@@ -11,12 +11,19 @@ struct options {
     bool goes_on;               /* -k */
     const char *reader;         /* -r, or NULL */
     const char *file;           /* -f, or NULL */
+    const char *seconds;        /* --wait, or NULL */
+    long wait;                  /* the same as a number, or -1 */
     char *const *words;         /* of the operations */
     size_t count;
 };
 
-/* Reads the words behind the program's name. NULL, or a few words that say why they are refused;
- * these stand until the next call. */
-const char *options_read(struct options *options, int argc, char *const *argv);
+/* the most seconds of --wait: a day */
+#define WAIT_LIMIT 86400
+
+/* Reads the words behind the program's name. Options stand anywhere: but `--` ends them, and the
+ * word after `put TAG` is a value, whatever it begins with. Moves the words of the operations to
+ * the front of `argv`. NULL, or a few words that say why they are refused; these stand until the
+ * next call. */
+const char *options_read(struct options *options, int argc, char **argv);
 
 #endif

@@ -1,6 +1,10 @@
 #include "reader.h"
+#include "waiting.h"
 
 #include <string.h>
+
+/* how often a transaction is begun, if other programs reset the card before each */
+#define BEGIN_LIMIT 100
 
 /* What some of the codes of PC/SC say of a card and its reader. */
 static const struct {
@@ -23,7 +27,7 @@ static const struct {
     { SCARD_E_INSUFFICIENT_BUFFER, "the reader hands back more than any answer has" },
 };
 
-/* NULL of success, and a text of each other code. */
+/* NULL of success, and a text of each other code that a call without a context answers. */
 static const char *text_of(LONG code)
 {
     static char other[64];
@@ -112,6 +116,24 @@ const char *reader_list(FILE *out)
     return code == SCARD_E_NO_READERS_AVAILABLE ? NULL : text_of(code);
 }
 
+/* Whether pcscd still answers in this context. */
+static bool is_answered(const struct reader *reader)
+{
+    DWORD size = 0;
+    const LONG code = SCardListReaders(reader->context, NULL, NULL, &size);
+    return code == SCARD_S_SUCCESS || code == SCARD_E_NO_READERS_AVAILABLE;
+}
+
+/* NULL of success, and a text of each other code of a call in this context. pcsc-lite answers three
+ * of them if pcscd has ended, two of which may mean something else. */
+static const char *fault_of(const struct reader *reader, LONG code)
+{
+    const bool may_be_gone = code == SCARD_F_COMM_ERROR || code == SCARD_W_SECURITY_VIOLATION;
+    if (code == SCARD_E_NO_SERVICE || (may_be_gone && !is_answered(reader)))
+        return "pcscd is gone";
+    return text_of(code);
+}
+
 /* Connects to the reader of this name at T=0, whatever else its card talks. */
 static const char *connect_to(struct reader *reader, const char *name)
 {
@@ -119,19 +141,45 @@ static const char *connect_to(struct reader *reader, const char *name)
     const LONG code = SCardConnect(reader->context, name, SCARD_SHARE_SHARED, SCARD_PROTOCOL_T0,
                                    &reader->card, &protocol);
     if (code != SCARD_S_SUCCESS)
-        return text_of(code);
+        return fault_of(reader, code);
     reader->is_connected = true;
     return protocol == SCARD_PROTOCOL_T0 ? NULL : text_of(SCARD_E_PROTO_MISMATCH);
 }
 
+/* Begins a transaction. Another program that ended its own may have reset the card since this one
+ * has connected. Nothing has been sent, so that is no loss. */
 static const char *begin_transaction(struct reader *reader)
 {
-    const LONG code = SCardBeginTransaction(reader->card);
+    DWORD protocol = SCARD_PROTOCOL_T0;
+    LONG code = SCardBeginTransaction(reader->card);
+    int times;
+    for (times = 1; code == SCARD_W_RESET_CARD && times < BEGIN_LIMIT; times++) {
+        code = SCardReconnect(reader->card, SCARD_SHARE_SHARED, SCARD_PROTOCOL_T0, SCARD_LEAVE_CARD,
+                              &protocol);
+        if (code == SCARD_S_SUCCESS && protocol != SCARD_PROTOCOL_T0)
+            code = SCARD_E_PROTO_MISMATCH;
+        if (code == SCARD_S_SUCCESS)
+            code = SCardBeginTransaction(reader->card);
+    }
     reader->is_held = code == SCARD_S_SUCCESS;
-    return text_of(code);
+    return fault_of(reader, code);
 }
 
-const char *reader_open(struct reader *reader, const char *name)
+/* Connects and begins a transaction, for each of which another program may have to end its own. */
+static const char *take_card(struct reader *reader, const char *name, long wait)
+{
+    struct waiting waiting;
+    const char *why = waiting_begin(&waiting, name, wait);
+    if (why != NULL)
+        return why;
+    why = connect_to(reader, name);
+    if (why == NULL)
+        why = begin_transaction(reader);
+    waiting_end(&waiting);
+    return why;
+}
+
+const char *reader_open(struct reader *reader, const char *name, long wait)
 {
     struct names names;
     const char *why = NULL, *found;
@@ -143,12 +191,12 @@ const char *reader_open(struct reader *reader, const char *name)
     reader->has_context = true;
     code = get_names(reader->context, &names);
     if (code != SCARD_S_SUCCESS)
-        return text_of(code);
+        return fault_of(reader, code);
     found = find_name(&names, name, &why);
     if (found != NULL)
-        why = connect_to(reader, found);
+        why = take_card(reader, found, wait);
     free_names(reader->context, &names);
-    return why != NULL ? why : begin_transaction(reader);
+    return why;
 }
 
 const char *reader_transmit(struct reader *reader, const uint8_t *tpdu, size_t n,
@@ -158,22 +206,22 @@ const char *reader_transmit(struct reader *reader, const uint8_t *tpdu, size_t n
     const LONG code =
         SCardTransmit(reader->card, SCARD_PCI_T0, tpdu, (DWORD)n, NULL, answer, &got);
     *length = code == SCARD_S_SUCCESS && got <= READER_ROOM ? got : 0;
-    return text_of(code);
+    return fault_of(reader, code);
 }
 
 const char *reader_close(struct reader *reader)
 {
-    LONG code = SCARD_S_SUCCESS, last;
+    LONG code = SCARD_S_SUCCESS, last = SCARD_S_SUCCESS;
+    const char *why;
     if (reader->is_held)
         code = SCardEndTransaction(reader->card, SCARD_RESET_CARD);
-    if (reader->is_connected) {
+    if (reader->is_connected)
         last = SCardDisconnect(reader->card, SCARD_LEAVE_CARD);
-        code = code != SCARD_S_SUCCESS ? code : last;
-    }
-    if (reader->has_context) {
+    why = fault_of(reader, code != SCARD_S_SUCCESS ? code : last);
+    if (reader->has_context)
         last = SCardReleaseContext(reader->context);
-        code = code != SCARD_S_SUCCESS ? code : last;
-    }
+    if (why == NULL)
+        why = fault_of(reader, last);
     memset(reader, 0, sizeof *reader);
-    return text_of(code);
+    return why;
 }

@@ -26,9 +26,10 @@ struct reader {
 const char *reader_list(FILE *out);
 
 /* Connects to the card of a reader, and keeps all other programs from it. `name` is the reader's
- * whole name, or a part of it that no other reader's has; NULL is the only reader there is. It is
- * to be closed, whatever the answer. */
-const char *reader_open(struct reader *reader, const char *name);
+ * whole name, or a part of it that no other reader's has; NULL is the only reader there is. While
+ * another program has a transaction this waits, and says so; after `wait` seconds it ends the
+ * process (waiting.h). The reader is to be closed, whatever the answer. */
+const char *reader_open(struct reader *reader, const char *name, long wait);
 
 /* Sends a TPDU, and gets what the reader hands back: `length` bytes, at most READER_ROOM. */
 const char *reader_transmit(struct reader *reader, const uint8_t *tpdu, size_t n,

@@ -1,15 +1,26 @@
 #include "script.h"
 #include "text.h"
 
+#include <errno.h>
+#include <stdio.h>
 #include <stdlib.h>
 #include <string.h>
 
-static bool refuse(struct script_refusal *refusal, size_t number, const char *text)
+/* Refuses a whole script. */
+static bool refuse(struct script_refusal *refusal, const char *text)
 {
-    refusal->number = number;
     refusal->text = text;
     refusal->is_of_words = false;
     return false;
+}
+
+/* Refuses a step. */
+static bool refuse_step(struct script_refusal *refusal, const char *unit, size_t number,
+                        const char *text)
+{
+    static char told[400];
+    snprintf(told, sizeof told, "%s %lu: %s", unit, (unsigned long)number, text);
+    return refuse(refusal, told);
 }
 
 /* Room for one more step: twice as much as before where there is none. */
@@ -35,7 +46,7 @@ static bool add(struct script *script, size_t number, char *const *words, size_t
     if (has_room(script))
         why = operation_read(&script->steps[script->count].operation, words, count);
     if (why != OPERATION_IS_WELL) {
-        refuse(refusal, number, operation_text(why));
+        refuse_step(refusal, script->unit, number, operation_text(why));
         refusal->is_of_words = why < OPERATION_READ_FAULT;
         return false;
     }
@@ -49,8 +60,8 @@ static void begin(struct script *script, const char *unit)
     script->unit = unit;
 }
 
-bool script_of_words(struct script *script, char *const *words, size_t count,
-                     struct script_refusal *refusal)
+static bool script_of_words(struct script *script, char *const *words, size_t count,
+                            struct script_refusal *refusal)
 {
     size_t at = 0, number = 1;
     begin(script, "operation");
@@ -67,21 +78,21 @@ bool script_of_words(struct script *script, char *const *words, size_t count,
 }
 
 /* The whole file, with a NUL behind it; NULL where it can't be read or is too long. */
-static char *read_all(FILE *file, size_t *n, struct script_refusal *refusal)
+static char *read_all(FILE *file, const char *name, size_t *n, struct script_refusal *refusal)
 {
     char *text = malloc(SCRIPT_SIZE_LIMIT + 1);
     const char *why = NULL;
     if (text == NULL) {
-        refuse(refusal, 0, "out of memory");
+        refuse(refusal, "out of memory");
         return NULL;
     }
     *n = fread(text, 1, SCRIPT_SIZE_LIMIT + 1, file);
     if (ferror(file))
-        why = "read fault";
+        why = text_fault("read fault", name, strerror(errno));
     else if (*n > SCRIPT_SIZE_LIMIT)
         why = "input too long";
     if (why != NULL) {
-        refuse(refusal, 0, why);
+        refuse(refusal, why);
         free(text);
         return NULL;
     }
@@ -97,10 +108,8 @@ static bool add_line(struct script *script, size_t number, char *line, size_t n,
     size_t count = 0;
     if (line[0] == '#')
         return true;
-    if (strlen(line) != n) {
-        refuse(refusal, number, operation_text(OPERATION_UNKNOWN_WORD));
-        return false;
-    }
+    if (strlen(line) != n)
+        return refuse_step(refusal, script->unit, number, operation_text(OPERATION_UNKNOWN_WORD));
     while (count <= OPERATION_WORDS && (words[count] = text_word(&line)) != NULL)
         count++;
     return count == 0 || add(script, number, words, count, refusal);
@@ -124,18 +133,23 @@ static bool add_lines(struct script *script, char *text, size_t n, struct script
     return true;
 }
 
-bool script_of_file(struct script *script, FILE *file, struct script_refusal *refusal)
+static bool script_of_file(struct script *script, FILE *file, const char *name,
+                           struct script_refusal *refusal)
 {
     size_t n;
-    char *text = read_all(file, &n, refusal);
+    char *text = read_all(file, name, &n, refusal);
     bool is_well;
     begin(script, "line");
     if (text == NULL)
         return false;
     is_well = add_lines(script, text, n, refusal);
     free(text);
-    if (!is_well)
+    if (is_well && script->count == 0)
+        is_well = refuse(refusal, "no operation in FILE");
+    if (!is_well) {
         script_free(script);
+        refusal->is_of_words = false;
+    }
     return is_well;
 }
 
@@ -147,11 +161,11 @@ bool script_read(struct script *script, const char *name, char *const *words, si
     if (name == NULL)
         return script_of_words(script, words, count, refusal);
     if (strcmp(name, "-") == 0)
-        return script_of_file(script, stdin, refusal);
+        return script_of_file(script, stdin, name, refusal);
     file = fopen(name, "rb");
     if (file == NULL)
-        return refuse(refusal, 0, "read fault");
-    is_well = script_of_file(script, file, refusal);
+        return refuse(refusal, text_fault("read fault", name, strerror(errno)));
+    is_well = script_of_file(script, file, name, refusal);
     fclose(file);
     return is_well;
 }

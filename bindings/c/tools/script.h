@@ -5,8 +5,6 @@
 
 #include "operation.h"
 
-#include <stdio.h>
-
 /* the most bytes of a file of operations, as of a script of card_trace */
 #define SCRIPT_SIZE_LIMIT 1048576
 
@@ -19,23 +17,18 @@ struct script {
     const char *unit;   /* what the numbers count: "line" or "operation" */
 };
 
-/* Why there is no script: `text`, of the step with this number, or of the whole where it is 0. */
+/* Why there is no script. The text names the line or the operation, and stands until the next
+ * call. */
 struct script_refusal {
-    size_t number;
     const char *text;
-    bool is_of_words;   /* what was typed is to blame, and not a file or the machine */
+    bool is_of_words;   /* the words of the command line are to blame, and no file or machine */
 };
 
-/* Each of these reads a script. Where the answer is false there is none, and `refusal` says why.
- * An operation of the command line has as many words as its first one asks for. A file has an
- * operation in each line; empty lines, lines of spaces, and lines that begin with # are passed
- * over. */
-bool script_of_words(struct script *script, char *const *words, size_t count,
-                     struct script_refusal *refusal);
-bool script_of_file(struct script *script, FILE *file, struct script_refusal *refusal);
-
-/* The same of the file with this name (`-`: standard input), or of the words where it is NULL. */
-bool script_read(struct script *script, const char *file, char *const *words, size_t count,
+/* Reads a script: from the file with this name (`-`: standard input), or from the words if `name`
+ * is NULL. An operation of the command line has as many words as its first one asks for. A file has
+ * an operation in each line, and at least one; empty lines, lines of spaces, and lines that begin
+ * with # are passed over. False if there is no script; then `refusal` says why. */
+bool script_read(struct script *script, const char *name, char *const *words, size_t count,
                  struct script_refusal *refusal);
 
 /* Gives the memory back. */

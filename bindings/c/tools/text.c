@@ -1,5 +1,6 @@
 #include "text.h"
 
+#include <stdio.h>
 #include <string.h>
 
 char *text_word(char **line)
@@ -37,4 +38,30 @@ void text_hex_bytes(const char *digits, uint8_t *out)
     size_t i;
     for (i = 0; i < n; i++)
         out[i] = (uint8_t)(digit(digits[2 * i]) << 4 | digit(digits[2 * i + 1]));
+}
+
+const char *text_hex_fault(const char *digits)
+{
+    size_t n = 0;
+    while (digit(digits[n]) < 16)
+        n++;
+    if (digits[n] != '\0')
+        return "a character that is no digit";
+    if (n == 0)
+        return "no digits";
+    return n % 2 == 0 ? NULL : "an odd number of digits";
+}
+
+const char *text_fault(const char *what, const char *word, const char *why)
+{
+    static char told[320];
+    const size_t start = strlen(what) + 3;
+    const char *more = strlen(word) > 60 ? ".." : "";
+    size_t i;
+    snprintf(told, sizeof told, "%s: '%.60s%s': %s", what, word, more, why);
+    for (i = start; told[i] != '\0'; i++) {
+        if ((unsigned char)told[i] < ' ' || told[i] == 0x7F)
+            told[i] = '?';
+    }
+    return told;
 }

@@ -18,4 +18,11 @@ size_t text_hex_size(const char *digits);
  * where the digits stand. */
 void text_hex_bytes(const char *digits, uint8_t *out);
 
+/* Why a text is no such digits; NULL if it is. */
+const char *text_hex_fault(const char *digits);
+
+/* `WHAT: 'WORD': WHY`, with the first 60 bytes of the word, and `?` for each character in it that
+ * would control a terminal. The text stands until the next call. */
+const char *text_fault(const char *what, const char *word, const char *why);
+
 #endif

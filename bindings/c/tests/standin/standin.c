@@ -4,12 +4,15 @@
  * is that of the examples), STANDIN_READERS has the readers' names between strokes, STANDIN_FAULT
  * says which call goes wrong, and how (`words_of`), and STANDIN_LOG names a file to which each call
  * is appended, and at the end what was not given back. */
+#define _POSIX_C_SOURCE 200112L
+
 #include "table.h"
 
 #include <winscard.h>
 
 #include <stdlib.h>
 #include <string.h>
+#include <time.h>
 
 #define THE_CONTEXT 0x1001
 #define THE_CARD 0x2002
@@ -24,7 +27,8 @@ const SCARD_IO_REQUEST g_rgSCardT1Pci = { SCARD_PROTOCOL_T1, sizeof(SCARD_IO_REQ
 const SCARD_IO_REQUEST g_rgSCardRawPci = { 4, sizeof(SCARD_IO_REQUEST) };
 
 static gt_card card;
-static int has_context, is_connected, is_held, names_held;
+static int contexts, is_connected, is_held, is_reset, names_held;
+static volatile int is_held_by_another;
 
 static FILE *log_file(void)
 {
@@ -65,7 +69,7 @@ static void note_what_is_left(void)
         note("left: a connection", NULL, 0);
     if (names_held)
         note("left: names", NULL, 0);
-    if (has_context)
+    if (contexts)
         note("left: a context", NULL, 0);
     gt_card_free(&card);
 }
@@ -94,6 +98,20 @@ static const char *words_of(const char *call, unsigned long time)
     return NULL;
 }
 
+/* Waits as a call's word says, in tenths of a second: `holdN` for another program, which shows in
+ * the reader's state, and `slowN` for the card. */
+static void wait_by(const char *word)
+{
+    struct timespec tenth = { 0, 100000000 };
+    unsigned long i;
+    if (word == NULL || (strncmp(word, "hold", 4) != 0 && strncmp(word, "slow", 4) != 0))
+        return;
+    is_held_by_another = word[0] == 'h';
+    for (i = strtoul(word + 4, NULL, 10); i > 0; i--)
+        nanosleep(&tenth, NULL);
+    is_held_by_another = 0;
+}
+
 /* The code that a call is to answer, or success. */
 static LONG fault_of(const char *call, unsigned long time)
 {
@@ -112,7 +130,7 @@ LONG SCardEstablishContext(DWORD scope, LPCVOID reserved, LPCVOID more, LPSCARDC
     note(scope == SCARD_SCOPE_SYSTEM ? "establish" : "establish, of another scope", NULL, 0);
     if (fault != SCARD_S_SUCCESS)
         return fault;
-    has_context = 1;
+    contexts++;
     *context = THE_CONTEXT;
     return SCARD_S_SUCCESS;
 }
@@ -121,9 +139,9 @@ LONG SCardReleaseContext(SCARDCONTEXT context)
 {
     static unsigned long time;
     note("release", NULL, 0);
-    if (context != THE_CONTEXT || !has_context)
+    if (context != THE_CONTEXT || !contexts)
         return SCARD_E_INVALID_HANDLE;
-    has_context = 0;
+    contexts--;
     return fault_of("release", ++time);
 }
 
@@ -151,7 +169,7 @@ LONG SCardListReaders(SCARDCONTEXT context, LPCSTR groups, LPSTR readers, LPDWOR
     const LONG fault = fault_of("list", ++time);
     (void)groups;
     note("list", NULL, 0);
-    if (context != THE_CONTEXT)
+    if (context != THE_CONTEXT || !contexts)
         return SCARD_E_INVALID_HANDLE;
     if (fault != SCARD_S_SUCCESS || n == 0)
         return fault != SCARD_S_SUCCESS ? fault : SCARD_E_NO_READERS_AVAILABLE;
@@ -198,6 +216,12 @@ static LONG make_card(void)
     return code == GT_OK ? SCARD_S_SUCCESS : SCARD_W_UNRESPONSIVE_CARD;
 }
 
+/* The protocol that a call's word has chosen. */
+static DWORD protocol_of(const char *word)
+{
+    return word != NULL && strcmp(word, "block") == 0 ? SCARD_PROTOCOL_T1 : SCARD_PROTOCOL_T0;
+}
+
 LONG SCardConnect(SCARDCONTEXT context, LPCSTR reader, DWORD share, DWORD protocols,
                   LPSCARDHANDLE handle, LPDWORD protocol)
 {
@@ -205,6 +229,7 @@ LONG SCardConnect(SCARDCONTEXT context, LPCSTR reader, DWORD share, DWORD protoc
     LONG fault = fault_of("connect", ++time);
     const char *word = words_of("connect", time);
     note_reader(reader, share == SCARD_SHARE_SHARED && protocols == SCARD_PROTOCOL_T0);
+    wait_by(word);
     if (context != THE_CONTEXT)
         return SCARD_E_INVALID_HANDLE;
     if (fault == SCARD_S_SUCCESS)
@@ -213,8 +238,39 @@ LONG SCardConnect(SCARDCONTEXT context, LPCSTR reader, DWORD share, DWORD protoc
         return fault;
     gt_card_reset(&card);
     is_connected = 1;
+    is_reset = 0;
     *handle = THE_CARD;
-    *protocol = word != NULL && strcmp(word, "block") == 0 ? SCARD_PROTOCOL_T1 : SCARD_PROTOCOL_T0;
+    *protocol = protocol_of(word);
+    return SCARD_S_SUCCESS;
+}
+
+LONG SCardReconnect(SCARDHANDLE handle, DWORD share, DWORD protocols, DWORD initialization,
+                    LPDWORD protocol)
+{
+    static unsigned long time;
+    const LONG fault = fault_of("reconnect", ++time);
+    const int is_as_wanted = share == SCARD_SHARE_SHARED && protocols == SCARD_PROTOCOL_T0
+        && initialization == SCARD_LEAVE_CARD;
+    note(is_as_wanted ? "reconnect" : "reconnect, not as wanted", NULL, 0);
+    if (handle != THE_CARD || !is_connected)
+        return SCARD_E_INVALID_HANDLE;
+    if (fault == SCARD_S_SUCCESS)
+        is_reset = 0;
+    *protocol = protocol_of(words_of("reconnect", time));
+    return fault;
+}
+
+LONG SCardGetStatusChange(SCARDCONTEXT context, DWORD timeout, SCARD_READERSTATE *states,
+                          DWORD count)
+{
+    char words[256];
+    const int is_as_wanted = timeout == 0 && count == 1;
+    snprintf(words, sizeof words, "state%s of %s", is_as_wanted ? "" : ", not as wanted,",
+             states->szReader);
+    note(words, NULL, 0);
+    if (context != THE_CONTEXT || !contexts)
+        return SCARD_E_INVALID_HANDLE;
+    states->dwEventState = is_held_by_another || is_connected ? SCARD_STATE_INUSE : 0;
     return SCARD_S_SUCCESS;
 }
 
@@ -233,10 +289,13 @@ LONG SCardBeginTransaction(SCARDHANDLE handle)
     static unsigned long time;
     const LONG fault = fault_of("begin", ++time);
     note("begin", NULL, 0);
+    wait_by(words_of("begin", time));
     if (handle != THE_CARD || !is_connected || is_held)
         return SCARD_E_INVALID_HANDLE;
-    is_held = fault == SCARD_S_SUCCESS;
-    return fault;
+    if (fault == SCARD_W_RESET_CARD)
+        is_reset = 1;
+    is_held = fault == SCARD_S_SUCCESS && !is_reset;
+    return is_reset ? SCARD_W_RESET_CARD : fault;
 }
 
 LONG SCardEndTransaction(SCARDHANDLE handle, DWORD disposition)
@@ -306,6 +365,7 @@ LONG SCardTransmit(SCARDHANDLE handle, const SCARD_IO_REQUEST *protocol, LPCBYTE
     const char *word = words_of("transmit", time);
     (void)answered;
     note("> ", sent, n);
+    wait_by(word);
     if (handle != THE_CARD || !is_connected || protocol->dwProtocol != SCARD_PROTOCOL_T0)
         return SCARD_E_INVALID_HANDLE;
     if (!is_held)

@@ -26,6 +26,17 @@ typedef struct {
     unsigned long cbPciLength;
 } SCARD_IO_REQUEST;
 
+#define MAX_ATR_SIZE 33
+
+typedef struct {
+    const char *szReader;
+    void *pvUserData;
+    DWORD dwCurrentState;
+    DWORD dwEventState;
+    DWORD cbAtr;
+    unsigned char rgbAtr[MAX_ATR_SIZE];
+} SCARD_READERSTATE;
+
 extern const SCARD_IO_REQUEST g_rgSCardT0Pci;
 #define SCARD_PCI_T0 (&g_rgSCardT0Pci)
 
@@ -47,6 +58,7 @@ extern const SCARD_IO_REQUEST g_rgSCardT0Pci;
 #define SCARD_W_UNPOWERED_CARD ((LONG)0x80100067)
 #define SCARD_W_RESET_CARD ((LONG)0x80100068)
 #define SCARD_W_REMOVED_CARD ((LONG)0x80100069)
+#define SCARD_W_SECURITY_VIOLATION ((LONG)0x8010006A)
 
 #define SCARD_AUTOALLOCATE (DWORD)(-1)
 #define SCARD_SCOPE_SYSTEM 0x0002
@@ -54,6 +66,8 @@ extern const SCARD_IO_REQUEST g_rgSCardT0Pci;
 #define SCARD_PROTOCOL_T0 0x0001
 #define SCARD_PROTOCOL_T1 0x0002
 #define SCARD_SHARE_SHARED 0x0002
+#define SCARD_STATE_UNAWARE 0x0000
+#define SCARD_STATE_INUSE 0x0100
 #define SCARD_LEAVE_CARD 0x0000
 #define SCARD_RESET_CARD 0x0001
 
@@ -63,7 +77,11 @@ LONG SCardListReaders(SCARDCONTEXT context, LPCSTR groups, LPSTR readers, LPDWOR
 LONG SCardFreeMemory(SCARDCONTEXT context, LPCVOID memory);
 LONG SCardConnect(SCARDCONTEXT context, LPCSTR reader, DWORD share, DWORD protocols,
                   LPSCARDHANDLE card, LPDWORD protocol);
+LONG SCardReconnect(SCARDHANDLE card, DWORD share, DWORD protocols, DWORD initialization,
+                    LPDWORD protocol);
 LONG SCardDisconnect(SCARDHANDLE card, DWORD disposition);
+LONG SCardGetStatusChange(SCARDCONTEXT context, DWORD timeout, SCARD_READERSTATE *states,
+                          DWORD count);
 LONG SCardBeginTransaction(SCARDHANDLE card);
 LONG SCardEndTransaction(SCARDHANDLE card, DWORD disposition);
 LONG SCardTransmit(SCARDHANDLE card, const SCARD_IO_REQUEST *protocol, LPCBYTE sent, DWORD n,

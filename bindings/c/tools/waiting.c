@@ -1,0 +1,71 @@
+#define _POSIX_C_SOURCE 200112L
+
+#include "waiting.h"
+
+#include <poll.h>
+#include <stdbool.h>
+#include <stdio.h>
+#include <string.h>
+#include <unistd.h>
+#include <winscard.h>
+
+/* how often the watch looks, in milliseconds */
+#define TICK 500
+
+/* Whether a program is connected to the reader: another one, or this one, which then waits for
+ * nothing but the end of a transaction. A card that is slow to power up is in use by none. */
+static bool is_in_use(const char *reader)
+{
+    SCARD_READERSTATE state;
+    SCARDCONTEXT context;
+    LONG code;
+    memset(&state, 0, sizeof state);
+    state.szReader = reader;
+    state.dwCurrentState = SCARD_STATE_UNAWARE;
+    /* pcsc-lite lets no two calls of one context go on at once */
+    if (SCardEstablishContext(SCARD_SCOPE_SYSTEM, NULL, NULL, &context) != SCARD_S_SUCCESS)
+        return false;
+    code = SCardGetStatusChange(context, 0, &state, 1);
+    SCardReleaseContext(context);
+    return code == SCARD_S_SUCCESS && (state.dwEventState & SCARD_STATE_INUSE) != 0;
+}
+
+static void *watch(void *its)
+{
+    const struct waiting *waiting = its;
+    struct pollfd end = { 0, POLLIN, 0 };
+    bool has_told = false;
+    long tick;
+    end.fd = waiting->ends[0];
+    for (tick = 1; poll(&end, 1, TICK) == 0; tick++) {
+        const bool is_late = waiting->limit >= 0 && tick * TICK >= waiting->limit * 1000;
+        if ((!is_late && (has_told || tick * TICK < 1000)) || !is_in_use(waiting->reader))
+            continue;
+        fputs(is_late ? "another program holds the card\n" : "waiting for another program\n",
+              stderr);
+        if (is_late)
+            _exit(1);
+        has_told = true;
+    }
+    return NULL;
+}
+
+const char *waiting_begin(struct waiting *waiting, const char *reader, long limit)
+{
+    waiting->reader = reader;
+    waiting->limit = limit;
+    if (pipe(waiting->ends) != 0)
+        return "no room for a pipe";
+    if (pthread_create(&waiting->thread, NULL, watch, waiting) == 0)
+        return NULL;
+    close(waiting->ends[0]);
+    close(waiting->ends[1]);
+    return "no room for a thread";
+}
+
+void waiting_end(struct waiting *waiting)
+{
+    close(waiting->ends[1]);
+    pthread_join(waiting->thread, NULL);
+    close(waiting->ends[0]);
+}

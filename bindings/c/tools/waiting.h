@@ -1,0 +1,25 @@
+/* What is said, and done, while another program keeps this one from its card. */
+#ifndef WAITING_H
+#define WAITING_H
+
+#include <pthread.h>
+
+/* A watch over calls that return no sooner than another program ends its transaction. pcsc-lite
+ * has no way to ask for one, and none to call one off. */
+struct waiting {
+    const char *reader;
+    long limit;
+    int ends[2];            /* a pipe, whose end is closed when the calls have returned */
+    pthread_t thread;
+};
+
+/* Begins to watch. While another program uses this reader, the watch prints `waiting for another
+ * program` to standard error after one second. After `limit` seconds, and half a second at least,
+ * it ends the process: with a line `another program holds the card` and status 1. Below 0 there is
+ * no limit. NULL, or a few words that say why there is no watch. */
+const char *waiting_begin(struct waiting *waiting, const char *reader, long limit);
+
+/* Ends a watch that has begun. */
+void waiting_end(struct waiting *waiting);
+
+#endif

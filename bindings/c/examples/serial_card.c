@@ -379,7 +379,7 @@ static int run(const struct serial_options *options)
     int result;
     if (file == NULL)
         return tell("the table can not be read");
-    code = table_read(file, &table);
+    code = table_read(file, NULL, &table);
     fclose(file);
     if (code != GT_OK)
         return FAULT;

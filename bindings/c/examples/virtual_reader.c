@@ -6,15 +6,19 @@
  * store lasts until pcscd lets the reader go.
  *
  * A TPDU is carried out as a reader's firmware does: `61XX` and `6CXX` reach the client, which
- * sends GET RESPONSE or asks again by itself. */
+ * sends GET RESPONSE or asks again by itself. An Le behind data is dropped. */
 #include "table.h"
 
 #include <ifdhandler.h>
 
+#include <errno.h>
 #include <string.h>
 
 /* what a SCARD_IO_HEADER says of T=0 */
 #define PROTOCOL_T0 0
+
+/* the bytes of a TPDU before its data, the last of which counts these */
+#define HEADER_SIZE 5
 
 /* as many readers as a pcscd has */
 #define READERS_LIMIT PCSCLITE_MAX_READERS_CONTEXTS
@@ -59,9 +63,11 @@ RESPONSECODE IFDHCreateChannelByName(DWORD Lun, LPSTR DeviceName)
     if (reader == NULL)
         return IFD_COMMUNICATION_ERROR;
     file = fopen(DeviceName, "r");
-    if (file == NULL)
+    if (file == NULL) {
+        fprintf(stderr, "%s: %s\n", DeviceName, strerror(errno));
         return IFD_COMMUNICATION_ERROR;
-    code = table_read(file, &reader->table);
+    }
+    code = table_read(file, DeviceName, &reader->table);
     fclose(file);
     if (code != GT_OK)
         return IFD_COMMUNICATION_ERROR;
@@ -174,6 +180,9 @@ RESPONSECODE IFDHTransmitToICC(DWORD Lun, SCARD_IO_HEADER SendPci, PUCHAR TxBuff
         return IFD_PROTOCOL_NOT_SUPPORTED;
     if (!reader->is_powered)
         return IFD_COMMUNICATION_ERROR;
+    /* the Le that clients send behind data is in no TPDU of T=0 */
+    if (TxLength > HEADER_SIZE && TxBuffer[4] > 0 && TxLength == HEADER_SIZE + TxBuffer[4] + 1UL)
+        TxLength--;
     code = gt_card_tpdu(&reader->table.card, TxBuffer, TxLength, RxBuffer, room, &length);
     if (code != GT_OK)
         return IFD_COMMUNICATION_ERROR;

@@ -146,22 +146,33 @@ static const char *connect_to(struct reader *reader, const char *name)
     return protocol == SCARD_PROTOCOL_T0 ? NULL : text_of(SCARD_E_PROTO_MISMATCH);
 }
 
-/* Begins a transaction. Another program that ended its own may have reset the card since this one
- * has connected. Nothing has been sent, so that is no loss. */
+/* Connects once more, at T=0, to a card that another program has reset. */
+static LONG reconnect(const struct reader *reader)
+{
+    DWORD protocol = SCARD_PROTOCOL_UNDEFINED;
+    const LONG code = SCardReconnect(reader->card, SCARD_SHARE_SHARED, SCARD_PROTOCOL_T0,
+                                     SCARD_LEAVE_CARD, &protocol);
+    return code == SCARD_S_SUCCESS && protocol != SCARD_PROTOCOL_T0 ? SCARD_E_PROTO_MISMATCH : code;
+}
+
+/* Begins a transaction. Another program, which ends its own with a reset of the card, may have done
+ * so since this one has connected, or while it did; then pcscd does not say so, and has forgotten
+ * the protocol. Nothing has been sent yet, so that is no loss. */
 static const char *begin_transaction(struct reader *reader)
 {
-    DWORD protocol = SCARD_PROTOCOL_T0;
+    DWORD protocol = SCARD_PROTOCOL_UNDEFINED, names = 0, atr = 0;
     LONG code = SCardBeginTransaction(reader->card);
     int times;
     for (times = 1; code == SCARD_W_RESET_CARD && times < BEGIN_LIMIT; times++) {
-        code = SCardReconnect(reader->card, SCARD_SHARE_SHARED, SCARD_PROTOCOL_T0, SCARD_LEAVE_CARD,
-                              &protocol);
-        if (code == SCARD_S_SUCCESS && protocol != SCARD_PROTOCOL_T0)
-            code = SCARD_E_PROTO_MISMATCH;
+        code = reconnect(reader);
         if (code == SCARD_S_SUCCESS)
             code = SCardBeginTransaction(reader->card);
     }
     reader->is_held = code == SCARD_S_SUCCESS;
+    if (code == SCARD_S_SUCCESS)
+        code = SCardStatus(reader->card, NULL, &names, NULL, &protocol, NULL, &atr);
+    if (code == SCARD_S_SUCCESS && protocol != SCARD_PROTOCOL_T0)
+        code = reconnect(reader);
     return fault_of(reader, code);
 }
 

@@ -146,6 +146,23 @@ static void faults(void)
     CHECK_FAULT(ONE, 0, "\x00\xCA\x5F\x20\x06JOEJOE", 258, IFD_COMMUNICATION_ERROR);
     CHECK_ANSWER(ONE, GET_NAME, "\x69\x85");
     CHECK_FAULT(ONE, 0, "\x00\xA4\x04\x00\x05", 258, IFD_COMMUNICATION_ERROR);
+    CHECK_FAULT(ONE, 0, "", 258, IFD_COMMUNICATION_ERROR);
+}
+
+/* Clients send the Le of a command that has data behind them too, which no TPDU has. It is
+ * dropped, whatever it is; one byte more is a fault still, and so is one behind no data. */
+static void le_behind_data(void)
+{
+    CHECK_ANSWER(ONE, SELECT "\x00", "\x61\x0B");
+    CHECK_ANSWER(ONE, SELECT "\x0B", "\x61\x0B");
+    CHECK_ANSWER(ONE, "\x00\xC0\x00\x00\x0B",
+                 "\x6F\x09\x84\x07\xA0\x00\x00\x00\x03\x10\x10\x90\x00");
+    CHECK_ANSWER(ONE, "\x00\xDA\x5F\x20\x01" "A\x00", "\x90\x00");
+    CHECK_ANSWER(ONE, "\x00\xCA\x5F\x20\x04", "\x5F\x20\x01" "A\x90\x00");
+    CHECK_FAULT(ONE, 0, SELECT "\x00\x00", 258, IFD_COMMUNICATION_ERROR);
+    CHECK_FAULT(ONE, 0, "\x00\xCA\x5F\x20\x00\x00", 258, IFD_COMMUNICATION_ERROR);
+    CHECK_ANSWER(ONE, "\x00\xCA\x5F\x20\x04", "\x5F\x20\x01" "A\x90\x00");
+    CHECK_ANSWER(ONE, "\x00\xDA\x5F\x20\x03JOE\xFF", "\x90\x00");
 }
 
 /* Power and resets: what is stored stays, and nothing is selected. */
@@ -244,6 +261,30 @@ static void tables(void)
     CHECK(IFDHCloseChannel(NONE), IFD_SUCCESS);
 }
 
+/* What a fault of a table says on standard error: the file, and the line or the reason. */
+static void told_faults(void)
+{
+    static const char *const wanted[] = {
+        TABLE_FILE ": line 2: bad argument", "there.table: No such file or directory"
+    };
+    char name[] = "there.table", line[128] = "";
+    size_t i;
+    FILE *file = freopen("ifd.told", "w", stderr);
+    CHECK(file != NULL, 1);
+    CHECK(create(NONE, "app A000000003\nobject 50\n"), IFD_COMMUNICATION_ERROR);
+    CHECK(IFDHCreateChannelByName(NONE, name), IFD_COMMUNICATION_ERROR);
+    fclose(stderr);
+    file = fopen("ifd.told", "r");
+    for (i = 0; i < 2; i++) {
+        CHECK(file != NULL && fgets(line, sizeof line, file) != NULL, 1);
+        line[strcspn(line, "\n")] = '\0';
+        CHECK(strcmp(line, wanted[i]), 0);
+    }
+    CHECK(file != NULL && fgets(line, sizeof line, file) == NULL, 1);
+    fclose(file);
+    remove("ifd.told");
+}
+
 /* As many readers as a pcscd has, and one more; a number that is free again gets a new card. */
 static void all_readers(void)
 {
@@ -268,10 +309,12 @@ int main(void)
     two_cards();
     answers();
     faults();
+    le_behind_data();
     power();
     capabilities();
     long_object();
     tables();
     all_readers();
+    told_faults();
     return check_result("virtual_reader");
 }

@@ -27,7 +27,7 @@ const SCARD_IO_REQUEST g_rgSCardT1Pci = { SCARD_PROTOCOL_T1, sizeof(SCARD_IO_REQ
 const SCARD_IO_REQUEST g_rgSCardRawPci = { 4, sizeof(SCARD_IO_REQUEST) };
 
 static gt_card card;
-static int contexts, is_connected, is_held, is_reset, names_held;
+static int contexts, is_connected, is_held, is_reset, has_forgotten, names_held;
 static volatile int is_held_by_another;
 
 static FILE *log_file(void)
@@ -210,7 +210,7 @@ static LONG make_card(void)
     file = fopen(name != NULL ? name : STANDIN_TABLE, "r");
     if (file == NULL)
         return SCARD_E_NO_SMARTCARD;
-    code = table_read(file, &table);
+    code = table_read(file, NULL, &table);
     fclose(file);
     card = table.card;
     return code == GT_OK ? SCARD_S_SUCCESS : SCARD_W_UNRESPONSIVE_CARD;
@@ -255,8 +255,26 @@ LONG SCardReconnect(SCARDHANDLE handle, DWORD share, DWORD protocols, DWORD init
     if (handle != THE_CARD || !is_connected)
         return SCARD_E_INVALID_HANDLE;
     if (fault == SCARD_S_SUCCESS)
-        is_reset = 0;
+        is_reset = has_forgotten = 0;
     *protocol = protocol_of(words_of("reconnect", time));
+    return fault;
+}
+
+/* `forget`: the protocol is not set, and no TPDU goes to the card before it is. */
+LONG SCardStatus(SCARDHANDLE handle, LPSTR names, LPDWORD size, LPDWORD state, LPDWORD protocol,
+                 LPBYTE atr, LPDWORD atr_size)
+{
+    static unsigned long time;
+    const LONG fault = fault_of("status", ++time);
+    const char *word = words_of("status", time);
+    (void)size;
+    (void)atr_size;
+    if (handle != THE_CARD || !is_connected)
+        return SCARD_E_INVALID_HANDLE;
+    if (names != NULL || state != NULL || atr != NULL)
+        note("status, not as wanted", NULL, 0);
+    has_forgotten = word != NULL && strcmp(word, "forget") == 0;
+    *protocol = has_forgotten ? SCARD_PROTOCOL_UNDEFINED : SCARD_PROTOCOL_T0;
     return fault;
 }
 
@@ -370,6 +388,8 @@ LONG SCardTransmit(SCARDHANDLE handle, const SCARD_IO_REQUEST *protocol, LPCBYTE
         return SCARD_E_INVALID_HANDLE;
     if (!is_held)
         note("no transaction", NULL, 0);
+    if (has_forgotten)
+        return SCARD_E_PROTO_MISMATCH;
     if (fault != SCARD_S_SUCCESS)
         return fault;
     if (gt_card_tpdu(&card, sent, n, answer, LONG_ANSWER, &size) != GT_OK)

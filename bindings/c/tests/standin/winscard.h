@@ -79,6 +79,8 @@ LONG SCardConnect(SCARDCONTEXT context, LPCSTR reader, DWORD share, DWORD protoc
                   LPSCARDHANDLE card, LPDWORD protocol);
 LONG SCardReconnect(SCARDHANDLE card, DWORD share, DWORD protocols, DWORD initialization,
                     LPDWORD protocol);
+LONG SCardStatus(SCARDHANDLE card, LPSTR names, LPDWORD size, LPDWORD state, LPDWORD protocol,
+                 LPBYTE atr, LPDWORD atr_size);
 LONG SCardDisconnect(SCARDHANDLE card, DWORD disposition);
 LONG SCardGetStatusChange(SCARDCONTEXT context, DWORD timeout, SCARD_READERSTATE *states,
                           DWORD count);

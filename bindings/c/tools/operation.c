@@ -6,21 +6,21 @@
 #include <stdlib.h>
 #include <string.h>
 
+#define TOO_LONG "value too long"
+
 /* the longest number behind `HH*` */
 #define REPEAT_LIMIT 65535
 
 #define TAG_RULE "neither 40 to FE without 5F, 7F, 9F, BF and DF, nor one of these or FF and then " \
     "01 to 7F"
 
-/* the word that was refused last, and why, of those refusals that name one */
-static const char *refused_word, *refused_for;
+/* Whether a file or the machine is to blame for the last refusal, and not the words. */
+static bool is_of_machine;
 
-static enum operation_refusal refuse(enum operation_refusal refusal, const char *word,
-                                     const char *why)
+static const char *machine_fault(const char *fault)
 {
-    refused_word = word;
-    refused_for = why;
-    return refusal;
+    is_of_machine = true;
+    return fault;
 }
 
 /* How each kind begins, and how many words it has; its place is its kind. */
@@ -46,75 +46,64 @@ size_t operation_word_count(const char *first)
     return kind < KIND_COUNT ? KINDS[kind].count : 0;
 }
 
+/* Each of these answers NULL, or why the operation is refused. */
+
 /* Room for the bytes of an operation, at least one. */
-static bool take_room(struct operation *operation, size_t n)
+static const char *take_room(struct operation *operation, size_t n)
 {
     operation->bytes = malloc(n > 0 ? n : 1);
     operation->n = n;
-    return operation->bytes != NULL;
+    return operation->bytes != NULL ? NULL : machine_fault(gt_text(GT_MEMORY));
 }
 
-static enum operation_refusal read_hex(struct operation *operation, const char *word)
+static const char *read_hex(struct operation *operation, const char *word)
 {
     const size_t n = text_hex_size(word);
-    if (n == 0)
-        return refuse(OPERATION_BAD_HEX, word, text_hex_fault(word));
-    if (!take_room(operation, n))
-        return OPERATION_MEMORY;
-    text_hex_bytes(word, operation->bytes);
-    return OPERATION_IS_WELL;
+    const char *fault = n > 0 ? take_room(operation, n)
+                              : text_fault("bad hex", word, text_hex_fault(word));
+    if (fault == NULL)
+        text_hex_bytes(word, operation->bytes);
+    return fault;
 }
 
-static enum operation_refusal read_aid(struct operation *operation, const char *word)
+static const char *read_aid(struct operation *operation, const char *word)
 {
-    const enum operation_refusal refusal = read_hex(operation, word);
-    if (refusal == OPERATION_IS_WELL
-        && (operation->n < GT_AID_LEAST || operation->n > GT_AID_LIMIT))
-        return OPERATION_BAD_AID;
-    return refusal;
+    const char *fault = read_hex(operation, word);
+    if (fault == NULL && (operation->n < GT_AID_LEAST || operation->n > GT_AID_LIMIT))
+        return "bad aid";
+    return fault;
 }
 
-/* What a terminal says of an operation that it is to begin. */
-static enum operation_refusal refusal_of(int32_t code)
-{
-    switch (code) {
-    case GT_OK: return OPERATION_IS_WELL;
-    case GT_TOO_SHORT: return OPERATION_TOO_SHORT;
-    case GT_BAD_LENGTH: return OPERATION_BAD_LENGTH;
-    case GT_INVALID_INS: return OPERATION_INVALID_INS;
-    case GT_MEMORY: return OPERATION_MEMORY;
-    default: return OPERATION_BAD_TAG;
-    }
-}
-
-/* Whether a terminal begins the operation, so that a bad one is refused before there is a card. */
-static enum operation_refusal try_to_begin(const struct operation *operation)
+/* Whether a terminal begins the operation, so that a bad one is refused before there is a card. Of
+ * a tag, which `word` is, it says whether a command can name it. */
+static const char *try_to_begin(const struct operation *operation, const char *word)
 {
     gt_terminal terminal = GT_INIT;
     int32_t code = gt_terminal_new(&terminal);
     if (code == GT_OK)
         code = operation_begin(operation, &terminal);
     gt_terminal_free(&terminal);
-    return refusal_of(code);
+    if (code == GT_ARGUMENT)
+        return text_fault("bad tag", word, TAG_RULE);
+    if (code == GT_MEMORY)
+        return machine_fault(gt_text(code));
+    return code == GT_OK ? NULL : gt_text(code);
 }
 
-/* A tag's number is that of its one or two bytes. Whether a command can name it the terminal says,
- * of a get. */
-static enum operation_refusal read_tag(struct operation *operation, const char *word)
+/* A tag's number is that of its one or two bytes. */
+static const char *read_tag(struct operation *operation, const char *word)
 {
     const size_t n = text_hex_size(word);
     struct operation get = { OPERATION_GET, 0, NULL, 0 };
     uint8_t bytes[2];
-    enum operation_refusal refusal = OPERATION_BAD_TAG;
     if (n == 0)
-        return refuse(OPERATION_BAD_HEX, word, text_hex_fault(word));
+        return text_fault("bad hex", word, text_hex_fault(word));
     if (n > sizeof bytes || (n == 2 && strncmp(word, "00", 2) == 0))
-        return refuse(refusal, word, TAG_RULE);
+        return text_fault("bad tag", word, TAG_RULE);
     text_hex_bytes(word, bytes);
     get.tag = n == 2 ? (uint32_t)bytes[0] << 8 | bytes[1] : bytes[0];
     operation->tag = get.tag;
-    refusal = try_to_begin(&get);
-    return refusal == OPERATION_BAD_TAG ? refuse(refusal, word, TAG_RULE) : refusal;
+    return try_to_begin(&get, word);
 }
 
 /* How often `HH*N` repeats its byte, 1 to REPEAT_LIMIT in digits without a leading zero, or 0. */
@@ -128,103 +117,86 @@ static unsigned long times_of(const char *digits)
     return times <= REPEAT_LIMIT ? times : 0;
 }
 
-static enum operation_refusal read_repeated(struct operation *operation, const char *word)
+static const char *read_repeated(struct operation *operation, const char *word)
 {
     char pair[3] = { word[0], word[1], '\0' };
     const unsigned long times = times_of(word + 3);
+    const char *fault;
     uint8_t byte;
     if (text_hex_size(pair) != 1 || times == 0)
-        return refuse(OPERATION_BAD_HEX, word, "not HH*N with N from 1 to 65535");
+        return text_fault("bad hex", word, "not HH*N with N from 1 to 65535");
     if (times > OPERATION_VALUE_LIMIT)
-        return OPERATION_VALUE_TOO_LONG;
-    if (!take_room(operation, times))
-        return OPERATION_MEMORY;
+        return TOO_LONG;
+    fault = take_room(operation, times);
     text_hex_bytes(pair, &byte);
-    memset(operation->bytes, byte, times);
-    return OPERATION_IS_WELL;
+    if (fault == NULL)
+        memset(operation->bytes, byte, times);
+    return fault;
 }
 
 /* The bytes of a file, which may be a pipe: it is read once, to its end. */
-static enum operation_refusal read_file(struct operation *operation, const char *name)
+static const char *read_file(struct operation *operation, const char *name)
 {
     FILE *file = fopen(name, "rb");
-    enum operation_refusal refusal = OPERATION_IS_WELL;
+    const char *fault;
     if (file == NULL)
-        return refuse(OPERATION_READ_FAULT, name, strerror(errno));
-    if (!take_room(operation, OPERATION_VALUE_LIMIT + 1)) {
-        fclose(file);
-        return OPERATION_MEMORY;
+        return machine_fault(text_fault("read fault", name, strerror(errno)));
+    fault = take_room(operation, OPERATION_VALUE_LIMIT + 1);
+    if (fault == NULL) {
+        operation->n = fread(operation->bytes, 1, OPERATION_VALUE_LIMIT + 1, file);
+        if (ferror(file))
+            fault = machine_fault(text_fault("read fault", name, strerror(errno)));
+        else if (operation->n > OPERATION_VALUE_LIMIT)
+            fault = TOO_LONG;
     }
-    operation->n = fread(operation->bytes, 1, OPERATION_VALUE_LIMIT + 1, file);
-    if (ferror(file))
-        refusal = refuse(OPERATION_READ_FAULT, name, strerror(errno));
-    else if (operation->n > OPERATION_VALUE_LIMIT)
-        refusal = OPERATION_VALUE_TOO_LONG;
     fclose(file);
-    return refusal;
+    return fault;
 }
 
-static enum operation_refusal read_value(struct operation *operation, const char *word)
+static const char *read_value(struct operation *operation, const char *word)
 {
     if (strcmp(word, "-") == 0)
-        return OPERATION_IS_WELL;
+        return NULL;
     if (word[0] == '@')
         return read_file(operation, word + 1);
     if (strlen(word) > 3 && word[2] == '*')
         return read_repeated(operation, word);
-    if (text_hex_size(word) > OPERATION_VALUE_LIMIT)
-        return OPERATION_VALUE_TOO_LONG;
-    return read_hex(operation, word);
+    return text_hex_size(word) > OPERATION_VALUE_LIMIT ? TOO_LONG : read_hex(operation, word);
 }
 
-static enum operation_refusal read_words(struct operation *operation, char *const *words)
+static const char *read_words(struct operation *operation, char *const *words)
 {
-    enum operation_refusal refusal;
+    const char *fault;
     switch (operation->kind) {
     case OPERATION_SELECT: return read_aid(operation, words[1]);
     case OPERATION_GET: return read_tag(operation, words[1]);
     case OPERATION_SEND:
-        refusal = read_hex(operation, words[1]);
-        return refusal == OPERATION_IS_WELL ? try_to_begin(operation) : refusal;
+        fault = read_hex(operation, words[1]);
+        return fault == NULL ? try_to_begin(operation, words[1]) : fault;
     default:
-        refusal = read_tag(operation, words[1]);
-        return refusal == OPERATION_IS_WELL ? read_value(operation, words[2]) : refusal;
+        fault = read_tag(operation, words[1]);
+        return fault == NULL ? read_value(operation, words[2]) : fault;
     }
 }
 
-enum operation_refusal operation_read(struct operation *operation, char *const *words,
-                                      size_t count)
+const char *operation_read(struct operation *operation, char *const *words, size_t count,
+                           bool *is_of_words)
 {
     const size_t kind = count > 0 ? kind_of(words[0]) : KIND_COUNT;
-    enum operation_refusal refusal;
+    const char *fault = NULL;
     memset(operation, 0, sizeof *operation);
+    is_of_machine = false;
     if (kind == KIND_COUNT)
-        return OPERATION_UNKNOWN_WORD;
-    if (count != KINDS[kind].count)
-        return OPERATION_WORD_COUNT;
+        fault = OPERATION_UNKNOWN_WORD;
+    else if (count != KINDS[kind].count)
+        fault = "wrong number of words";
     operation->kind = (enum operation_kind)kind;
-    refusal = read_words(operation, words);
-    if (refusal != OPERATION_IS_WELL)
+    if (fault == NULL)
+        fault = read_words(operation, words);
+    if (fault != NULL)
         operation_free(operation);
-    return refusal;
-}
-
-const char *operation_text(enum operation_refusal refusal)
-{
-    switch (refusal) {
-    case OPERATION_UNKNOWN_WORD: return "unknown word";
-    case OPERATION_WORD_COUNT: return "wrong number of words";
-    case OPERATION_BAD_HEX: return text_fault("bad hex", refused_word, refused_for);
-    case OPERATION_BAD_TAG: return text_fault("bad tag", refused_word, refused_for);
-    case OPERATION_BAD_AID: return "bad aid";
-    case OPERATION_VALUE_TOO_LONG: return "value too long";
-    case OPERATION_TOO_SHORT: return "command too short";
-    case OPERATION_BAD_LENGTH: return "bad command length";
-    case OPERATION_INVALID_INS: return "invalid INS";
-    case OPERATION_READ_FAULT: return text_fault("read fault", refused_word, refused_for);
-    case OPERATION_MEMORY: return "out of memory";
-    default: return "ok";
-    }
+    *is_of_words = !is_of_machine;
+    return fault;
 }
 
 int32_t operation_begin(const struct operation *operation, gt_terminal *terminal)

@@ -4,6 +4,8 @@
 
 #include <galliumtoad.h>
 
+#include <stdbool.h>
+
 /* the most bytes of a value that is put: 64 pieces of a chain, as in a script of card_trace */
 #define OPERATION_VALUE_LIMIT 16320
 
@@ -16,22 +18,6 @@ struct operation {
     size_t n;
 };
 
-/* Why words are no operation. What is not of the words, but of the machine, comes last. */
-enum operation_refusal {
-    OPERATION_IS_WELL,
-    OPERATION_UNKNOWN_WORD,
-    OPERATION_WORD_COUNT,
-    OPERATION_BAD_HEX,
-    OPERATION_BAD_TAG,
-    OPERATION_BAD_AID,
-    OPERATION_VALUE_TOO_LONG,
-    OPERATION_TOO_SHORT,
-    OPERATION_BAD_LENGTH,
-    OPERATION_INVALID_INS,
-    OPERATION_READ_FAULT,
-    OPERATION_MEMORY
-};
-
 /* the most words of an operation, the first one with them */
 #define OPERATION_WORDS 3
 
@@ -39,16 +25,17 @@ enum operation_refusal {
  * begins so. */
 size_t operation_word_count(const char *first);
 
+/* what is said of a word that begins no operation */
+#define OPERATION_UNKNOWN_WORD "unknown word"
+
 /* Reads an operation from its words: `select AID`, `get TAG`, `put TAG VALUE`, `send HEX`. The
  * words are those of a script of card_trace, and VALUE may be `@` with the name of a file, whose
- * bytes are the value. Nothing is held after a refusal. */
-enum operation_refusal operation_read(struct operation *operation, char *const *words,
-                                      size_t count);
-
-/* A few words for the refusal of the last `operation_read`, whose words are still there: as
- * card_trace has them, and behind `bad hex`, `bad tag` and `read fault` the word or the file, and
- * why. They stand until the next call. */
-const char *operation_text(enum operation_refusal refusal);
+ * bytes are the value. NULL, or a few words that say why it is refused, as card_trace has them:
+ * behind `bad hex`, `bad tag` and `read fault` come the word or the file, and why. They stand until
+ * the next call. Nothing is held then, and `is_of_words` says that no file or machine is to
+ * blame. */
+const char *operation_read(struct operation *operation, char *const *words, size_t count,
+                           bool *is_of_words);
 
 /* Begins the operation at a terminal. A code of galliumtoad.h. */
 int32_t operation_begin(const struct operation *operation, gt_terminal *terminal);

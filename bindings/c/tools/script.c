@@ -42,12 +42,14 @@ static bool has_room(struct script *script)
 static bool add(struct script *script, size_t number, char *const *words, size_t count,
                 struct script_refusal *refusal)
 {
-    enum operation_refusal why = OPERATION_MEMORY;
+    const char *fault = gt_text(GT_MEMORY);
+    bool is_of_words = false;
     if (has_room(script))
-        why = operation_read(&script->steps[script->count].operation, words, count);
-    if (why != OPERATION_IS_WELL) {
-        refuse_step(refusal, script->unit, number, operation_text(why));
-        refusal->is_of_words = why < OPERATION_READ_FAULT;
+        fault = operation_read(&script->steps[script->count].operation, words, count,
+                               &is_of_words);
+    if (fault != NULL) {
+        refuse_step(refusal, script->unit, number, fault);
+        refusal->is_of_words = is_of_words;
         return false;
     }
     script->steps[script->count++].number = number;
@@ -83,7 +85,7 @@ static char *read_all(FILE *file, const char *name, size_t *n, struct script_ref
     char *text = malloc(SCRIPT_SIZE_LIMIT + 1);
     const char *why = NULL;
     if (text == NULL) {
-        refuse(refusal, "out of memory");
+        refuse(refusal, gt_text(GT_MEMORY));
         return NULL;
     }
     *n = fread(text, 1, SCRIPT_SIZE_LIMIT + 1, file);
@@ -109,7 +111,7 @@ static bool add_line(struct script *script, size_t number, char *line, size_t n,
     if (line[0] == '#')
         return true;
     if (strlen(line) != n)
-        return refuse_step(refusal, script->unit, number, operation_text(OPERATION_UNKNOWN_WORD));
+        return refuse_step(refusal, script->unit, number, OPERATION_UNKNOWN_WORD);
     while (count <= OPERATION_WORDS && (words[count] = text_word(&line)) != NULL)
         count++;
     return count == 0 || add(script, number, words, count, refusal);

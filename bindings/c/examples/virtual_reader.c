@@ -17,9 +17,6 @@
 /* what a SCARD_IO_HEADER says of T=0 */
 #define PROTOCOL_T0 0
 
-/* the bytes of a TPDU before its data, the last of which counts these */
-#define HEADER_SIZE 5
-
 /* as many readers as a pcscd has */
 #define READERS_LIMIT PCSCLITE_MAX_READERS_CONTEXTS
 
@@ -181,7 +178,7 @@ RESPONSECODE IFDHTransmitToICC(DWORD Lun, SCARD_IO_HEADER SendPci, PUCHAR TxBuff
     if (!reader->is_powered)
         return IFD_COMMUNICATION_ERROR;
     /* the Le that clients send behind data is in no TPDU of T=0 */
-    if (TxLength > HEADER_SIZE && TxBuffer[4] > 0 && TxLength == HEADER_SIZE + TxBuffer[4] + 1UL)
+    if (TxLength > 5 && TxBuffer[4] > 0 && TxLength == 6UL + TxBuffer[4])
         TxLength--;
     code = gt_card_tpdu(&reader->table.card, TxBuffer, TxLength, RxBuffer, room, &length);
     if (code != GT_OK)

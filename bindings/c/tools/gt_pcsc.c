@@ -9,7 +9,7 @@
 #include "options.h"
 #include "script.h"
 
-#include <stdlib.h>
+#include <stdio.h>
 #include <string.h>
 #include <unistd.h>
 

@@ -5,40 +5,35 @@
 #include <stdlib.h>
 #include <string.h>
 
-/* what is told of an argument that is not there, with as much of it as fits */
-static char told[160];
-
-static bool is_either(const char *word, const char *one, const char *other)
+/* What is said of an argument, with as much of it as fits. */
+static const char *say(const char *before, const char *word, const char *behind)
 {
-    return strcmp(word, one) == 0 || strcmp(word, other) == 0;
+    static char told[160];
+    snprintf(told, sizeof told, "%s'%s'%s", before, word, behind);
+    return told;
 }
 
 /* The word that belongs to an option: the next one, which is taken. */
 static const char *take_value(const char **value, const char *option, int argc,
                               char *const *argv, int *at)
 {
-    if (*value != NULL) {
-        snprintf(told, sizeof told, "'%s' cannot be used multiple times", option);
-        return told;
-    }
-    if (*at + 1 >= argc) {
-        snprintf(told, sizeof told, "a value is required for '%s' but none was supplied", option);
-        return told;
-    }
+    if (*value != NULL)
+        return say("", option, " cannot be used multiple times");
+    if (*at + 1 >= argc)
+        return say("a value is required for ", option, " but none was supplied");
     *value = argv[++*at];
     return NULL;
 }
 
-/* The number of seconds of --wait, which has at most five digits. */
+/* The number of seconds of --wait, which has at most five digits: a day at most. */
 static const char *read_wait(struct options *options)
 {
     const char *word = options->seconds;
     const size_t n = word != NULL ? strspn(word, "0123456789") : 0;
     options->wait = n > 0 && n <= 5 && word[n] == '\0' ? strtol(word, NULL, 10) : -1;
-    if (word == NULL || (options->wait >= 0 && options->wait <= WAIT_LIMIT))
-        return NULL;
-    snprintf(told, sizeof told, "'--wait' takes a number from 0 to %d", WAIT_LIMIT);
-    return told;
+    return word == NULL || (options->wait >= 0 && options->wait <= 86400)
+        ? NULL
+        : "'--wait' takes a number from 0 to 86400";
 }
 
 static const char *read_option(struct options *options, int argc, char *const *argv, int *at)
@@ -56,14 +51,12 @@ static const char *read_option(struct options *options, int argc, char *const *a
         options->shows_tpdus = true;
     else if (strcmp(word, "-k") == 0)
         options->goes_on = true;
-    else if (is_either(word, "-h", "--help"))
+    else if (strcmp(word, "-h") == 0 || strcmp(word, "--help") == 0)
         options->helps = true;
-    else if (is_either(word, "-V", "--version"))
+    else if (strcmp(word, "-V") == 0 || strcmp(word, "--version") == 0)
         options->tells_version = true;
-    else {
-        snprintf(told, sizeof told, "unexpected argument '%s' found", word);
-        return told;
-    }
+    else
+        return say("unexpected argument ", word, " found");
     return NULL;
 }
 

@@ -17,9 +17,6 @@ struct options {
     size_t count;
 };
 
-/* the most seconds of --wait: a day */
-#define WAIT_LIMIT 86400
-
 /* Reads the words behind the program's name. Options stand anywhere: but `--` ends them, and the
  * word after `put TAG` is a value, whatever it begins with. Moves the words of the operations to
  * the front of `argv`. NULL, or a few words that say why they are refused; these stand until the

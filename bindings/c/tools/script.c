@@ -6,7 +6,6 @@
 #include <stdlib.h>
 #include <string.h>
 
-/* Refuses a whole script. */
 static bool refuse(struct script_refusal *refusal, const char *text)
 {
     refusal->text = text;
@@ -14,12 +13,12 @@ static bool refuse(struct script_refusal *refusal, const char *text)
     return false;
 }
 
-/* Refuses a step. */
-static bool refuse_step(struct script_refusal *refusal, const char *unit, size_t number,
+/* Refuses a step of the script, whose unit and number come before the text. */
+static bool refuse_step(struct script_refusal *refusal, const struct script *script, size_t number,
                         const char *text)
 {
     static char told[400];
-    snprintf(told, sizeof told, "%s %lu: %s", unit, (unsigned long)number, text);
+    snprintf(told, sizeof told, "%s %lu: %s", script->unit, (unsigned long)number, text);
     return refuse(refusal, told);
 }
 
@@ -48,7 +47,7 @@ static bool add(struct script *script, size_t number, char *const *words, size_t
         fault = operation_read(&script->steps[script->count].operation, words, count,
                                &is_of_words);
     if (fault != NULL) {
-        refuse_step(refusal, script->unit, number, fault);
+        refuse_step(refusal, script, number, fault);
         refusal->is_of_words = is_of_words;
         return false;
     }
@@ -111,7 +110,7 @@ static bool add_line(struct script *script, size_t number, char *line, size_t n,
     if (line[0] == '#')
         return true;
     if (strlen(line) != n)
-        return refuse_step(refusal, script->unit, number, OPERATION_UNKNOWN_WORD);
+        return refuse_step(refusal, script, number, OPERATION_UNKNOWN_WORD);
     while (count <= OPERATION_WORDS && (words[count] = text_word(&line)) != NULL)
         count++;
     return count == 0 || add(script, number, words, count, refusal);

@@ -26,10 +26,7 @@ static unsigned digit(char c)
 
 size_t text_hex_size(const char *digits)
 {
-    size_t n = 0;
-    while (digit(digits[n]) < 16)
-        n++;
-    return digits[n] == '\0' && n % 2 == 0 ? n / 2 : 0;
+    return text_hex_fault(digits) == NULL ? strlen(digits) / 2 : 0;
 }
 
 void text_hex_bytes(const char *digits, uint8_t *out)

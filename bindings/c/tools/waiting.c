@@ -56,11 +56,8 @@ const char *waiting_begin(struct waiting *waiting, const char *reader, long limi
     waiting->limit = limit;
     if (pipe(waiting->ends) != 0)
         return "no room for a pipe";
-    if (pthread_create(&waiting->thread, NULL, watch, waiting) == 0)
-        return NULL;
-    close(waiting->ends[0]);
-    close(waiting->ends[1]);
-    return "no room for a thread";
+    return pthread_create(&waiting->thread, NULL, watch, waiting) == 0 ? NULL
+                                                                        : "no room for a thread";
 }
 
 void waiting_end(struct waiting *waiting)

@@ -4,8 +4,8 @@
 
 #include <pthread.h>
 
-/* A watch over calls that return no sooner than another program ends its transaction. pcsc-lite
- * has no way to ask for one, and none to call one off. */
+/* A watch over calls that return only after another program has ended its transaction: pcsc-lite
+ * can't call them off. */
 struct waiting {
     const char *reader;
     long limit;

@@ -667,8 +667,8 @@ def words():
         (["--held-by", "high", "x", *GET], "'high' is neither 'on' nor 'off'"),
         (["x", "walk"], "operation 1: unknown word"),
         (["x", *GET, "get"], "operation 2: wrong number of words"),
-        (["x", *GET, "get", "3E"], "operation 2: bad tag: '3E': neither 40 to FE without 5F, 7F, 9F, "
-         "BF and DF, nor one of these or FF and then 01 to 7F"),
+        (["x", *GET, "get", "3E"], "operation 2: bad tag: '3E': neither 40 to FE without 5F, 7F, "
+         "9F, BF and DF, nor one of these or FF and then 01 to 7F"),
     ):
         program = Program("gt_serial", given)
         look(program, program.end(), "", f"error: {why}\n{USAGE}", 2)

@@ -11,8 +11,8 @@
 /* the longest number behind `HH*` */
 #define REPEAT_LIMIT 65535
 
-#define TAG_RULE "neither 40 to FE without 5F, 7F, 9F, BF and DF, nor one of these or FF and then " \
-    "01 to 7F"
+#define TAG_RULE \
+    "neither 40 to FE without 5F, 7F, 9F, BF and DF, nor one of these or FF and then 01 to 7F"
 
 /* Whether a file or the machine is to blame for the last refusal, and not the words. */
 static bool is_of_machine;

@@ -45,6 +45,36 @@ static void lists(SCARDCONTEXT context)
     CHECK(SCardListReaders(context + 1, NULL, names, &size), SCARD_E_INVALID_HANDLE);
 }
 
+/* What another program does to the card, and what of it shows. */
+static void other_programs(SCARDCONTEXT context, SCARDHANDLE card)
+{
+    SCARD_READERSTATE state = { "one", NULL, SCARD_STATE_UNAWARE, 77, 0, { 0 } };
+    DWORD protocol, names = 0, atr = 0;
+    BYTE answer[2];
+    DWORD n = sizeof answer;
+    CHECK(SCardGetStatusChange(context, 1, &state, 1), SCARD_S_SUCCESS);
+    CHECK(state.dwEventState, SCARD_STATE_INUSE);
+    CHECK(lines_of("state, not as wanted, of one"), 1);
+    CHECK(setenv("STANDIN_FAULT", "begin:1=80100068 status:1=forget", 1), 0);
+    CHECK(SCardBeginTransaction(card), SCARD_W_RESET_CARD);
+    CHECK(SCardBeginTransaction(card), SCARD_W_RESET_CARD);
+    CHECK(SCardReconnect(card, SCARD_SHARE_SHARED, SCARD_PROTOCOL_T0, SCARD_RESET_CARD, &protocol),
+          SCARD_S_SUCCESS);
+    CHECK(lines_of("reconnect, not as wanted"), 1);
+    CHECK(SCardBeginTransaction(card), SCARD_S_SUCCESS);
+    CHECK(SCardStatus(card, NULL, &names, &n, &protocol, NULL, &atr), SCARD_S_SUCCESS);
+    CHECK(protocol, SCARD_PROTOCOL_UNDEFINED);
+    CHECK(lines_of("status, not as wanted"), 1);
+    n = sizeof answer;
+    CHECK(SCardTransmit(card, SCARD_PCI_T0, GET, sizeof GET, NULL, answer, &n),
+          SCARD_E_PROTO_MISMATCH);
+    CHECK(SCardReconnect(card, SCARD_SHARE_SHARED, SCARD_PROTOCOL_T0, SCARD_LEAVE_CARD, &protocol),
+          SCARD_S_SUCCESS);
+    CHECK(protocol, SCARD_PROTOCOL_T0);
+    CHECK(SCardTransmit(card, SCARD_PCI_T0, GET, sizeof GET, NULL, answer, &n), SCARD_S_SUCCESS);
+    CHECK(SCardEndTransaction(card, SCARD_RESET_CARD), SCARD_S_SUCCESS);
+}
+
 static void transmits(SCARDHANDLE card)
 {
     const SCARD_IO_REQUEST t1 = { SCARD_PROTOCOL_T1, sizeof t1 };
@@ -98,6 +128,7 @@ int main(void)
           SCARD_S_SUCCESS);
     CHECK(lines_of("connect, not shared at T=0 alone, to one"), 1);
     CHECK(protocol, SCARD_PROTOCOL_T0);
+    other_programs(context, card);
     transmits(card);
     CHECK(SCardReleaseContext(context), SCARD_S_SUCCESS);
     CHECK(SCardReleaseContext(context), SCARD_E_INVALID_HANDLE);

@@ -40,6 +40,7 @@ impl<A: Allocator> Model for Plan<A> {
 
 impl<A: Allocator> Plan<A> {
     ghost use Rattle.std.specs.Prelude.{◌≤◌, length, MatchOption, ◌<◌, ◌⊎◌};
+    ghost use Rattle.t0_core.specs.Plan.{plain};
 
     /// A plan of these steps and this cut; `None` for a cut outside 1 to 256.
     pub fn new(steps: Vec<Step, A>, cut: u16) -> Option<Plan<A>>
@@ -50,6 +51,16 @@ impl<A: Allocator> Plan<A> {
             Some(Plan { steps, cut })
         } else {
             None
+        }
+    }
+
+    /// A plan without steps that cuts at 256. It takes no memory.
+    pub(crate) fn plain(alloc: A) -> Plan<A>
+        ensures { result ≡ plain }
+    {
+        Plan {
+            steps: Vec::new(alloc),
+            cut: 256,
         }
     }
 

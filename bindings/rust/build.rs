@@ -13,24 +13,25 @@ fn main() {
     println!("cargo:rerun-if-env-changed=GALLIUMTOAD_LIB_DIR");
     println!("cargo:rustc-check-cfg=cfg(heap_in_rust)");
     if let Some(folder) = env::var_os("GALLIUMTOAD_LIB_DIR") {
-        return link(&PathBuf::from(folder), "galliumtoad");
+        if !link(Path::new(&folder), "galliumtoad") {
+            eprintln!("GALLIUMTOAD_LIB_DIR is {folder:?}: there is no libgalliumtoad.a in it");
+            exit(1);
+        }
+        return;
     }
-    let Some(folder) = TARGETS.into_iter().find(|&name| name == target()) else {
-        eprintln!(
-            "galliumtoad: no archive for {}: there are those for {}, and the toolchain makes none \
-             for 32 bits. GALLIUMTOAD_LIB_DIR may name a folder with a libgalliumtoad.a",
-            env::var("TARGET").unwrap_or_default(),
-            TARGETS.join(" and ")
-        );
-        exit(1);
-    };
     // asked for now: a package's copy of this program may have been compiled in another folder
     let here = PathBuf::from(env::var_os("CARGO_MANIFEST_DIR").unwrap_or_default());
     // a package has the archives in it; in the repository they stand beside the crate
     let inside = here.join("lib");
-    let archives = if inside.is_dir() { inside } else { here.join("../lib") };
-    link(&archives.join(folder), "card_c");
-    if env::var_os("CARGO_FEATURE_HEAP").is_some() {
+    let archives = if inside.is_dir() {
+        inside
+    } else {
+        here.join("../lib")
+    };
+    if !TARGETS.contains(&&*target()) || !link(&archives.join(target()), "card_c") {
+        return link_nothing();
+    }
+    if env::var_os("CARGO_FEATURE_OWN_MEMORY").is_none() {
         println!("cargo:rustc-cfg=heap_in_rust");
     }
 }
@@ -48,9 +49,24 @@ fn target() -> String {
     }
 }
 
-fn link(folder: &Path, library: &str) {
+/// Links the library of this folder, and returns whether it is there.
+fn link(folder: &Path, library: &str) -> bool {
     let file = folder.join(format!("lib{library}.a"));
     println!("cargo:rerun-if-changed={}", file.display());
-    println!("cargo:rustc-link-search=native={}", folder.display());
-    println!("cargo:rustc-link-lib=static={library}");
+    if file.is_file() {
+        println!("cargo:rustc-link-search=native={}", folder.display());
+        println!("cargo:rustc-link-lib=static={library}");
+    }
+    file.is_file()
+}
+
+/// All but linking is done without an archive. A linker then says that it misses this name.
+fn link_nothing() {
+    let target = env::var("TARGET").unwrap_or_default();
+    println!(
+        "cargo:warning=no archive for {target}, so that no program can be linked: there are those \
+         for {}. GALLIUMTOAD_LIB_DIR may name a folder with a libgalliumtoad.a",
+        TARGETS.join(" and ")
+    );
+    println!("cargo:rustc-link-lib=galliumtoad-has-no-archive-for-{target}");
 }

@@ -17,12 +17,12 @@ fn main() -> Result<(), Error> {
     let mut session = Session::start(builder.finish()?)?;
 
     let answer = session.select(&AID)?;
-    println!("select: {:04X} {}", answer.status, hex(&answer.data));
+    println!("select: {} {}", answer.status, hex(&answer.data));
     let answer = session.get(0x5F20)?;
-    println!("get: {:04X} {}", answer.status, hex(&answer.data));
-    println!("put: {:04X}", session.put(0x5F20, b"ANN")?);
+    println!("get: {} {}", answer.status, hex(&answer.data));
+    println!("put: {}", session.put(0x5F20, b"ANN")?);
     let answer = session.get(0x5F20)?;
-    println!("get: {:04X} {}", answer.status, hex(&answer.data));
-    println!("put of a locked object: {:04X}", session.put(0x50, b"NEW")?);
+    println!("get: {} {}", answer.status, hex(&answer.data));
+    println!("put of a locked object: {}", session.put(0x50, b"NEW")?);
     Ok(())
 }

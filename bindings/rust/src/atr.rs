@@ -1,6 +1,7 @@
 //! Answers to reset (ISO/IEC 7816-3, clause 8).
 
-use crate::raw;
+use crate::error::codes;
+use crate::{raw, version};
 use std::error;
 use std::fmt;
 
@@ -10,85 +11,49 @@ pub const ATR_LIMIT: usize = 33;
 /// The most protocols that an answer offers: T=0 to T=14.
 pub const PROTOCOLS_LIMIT: usize = 15;
 
-/// Why bytes are no answer to reset: the first fault, from the left, with a wrong check byte as the
-/// last.
+/// Why bytes are no answer to reset: the first fault from the left; a wrong check byte comes last.
 #[derive(Clone, Copy, Debug, PartialEq, Eq, Hash)]
+#[non_exhaustive]
 pub struct AtrError {
-    /// The place of the first byte at fault, from 0 for TS, or how many bytes there are where one
-    /// is wanting.
+    /// The place of the first byte at fault, from 0 for TS. If a byte is missing, it is how many
+    /// bytes there are.
     pub place: usize,
     /// What is wrong there.
     pub reason: AtrReason,
 }
 
-/// What is wrong with bytes that are no answer to reset.
-#[derive(Clone, Copy, Debug, PartialEq, Eq, Hash)]
-pub enum AtrReason {
-    /// The first byte is neither `3B` nor `3F`.
-    NoTs,
-    /// The bytes end before a character that is announced.
-    Cut,
-    /// More than 32 characters after TS are announced, and this is the 33rd.
-    TooLong,
-    /// The T that this TD names is below the one before it, or is 15 in TD1.
-    OutOfOrder,
-    /// Characters stand behind the end.
-    Surplus,
-    /// TCK is due, as a T other than 0 is named, and the bytes end.
-    CheckMissing,
-    /// One byte stands behind the end, and TCK is not due.
-    CheckNotDue,
-    /// TCK does not make the exclusive-or of all characters after TS `00`.
-    CheckWrong,
-}
-
-/// Each reason with its number and its text.
-const REASONS: [(AtrReason, i32, &str); 8] = [
-    (AtrReason::NoTs, -70, "no TS"),
-    (AtrReason::Cut, -71, "answer to reset cut"),
-    (AtrReason::TooLong, -72, "answer to reset too long"),
-    (AtrReason::OutOfOrder, -73, "T out of order"),
-    (
-        AtrReason::Surplus,
-        -74,
-        "characters behind the answer to reset",
-    ),
-    (AtrReason::CheckMissing, -75, "check byte missing"),
-    (AtrReason::CheckNotDue, -76, "check byte not due"),
-    (AtrReason::CheckWrong, -77, "wrong check byte"),
-];
-
-impl AtrReason {
-    /// The number that the library's header gives it.
-    pub fn code(self) -> i32 {
-        REASONS
-            .iter()
-            .find(|(reason, ..)| *reason == self)
-            .map_or(0, |(_, code, _)| *code)
-    }
-
-    fn of(code: i32) -> AtrReason {
-        REASONS
-            .iter()
-            .find(|(_, number, _)| *number == code)
-            .map_or(AtrReason::Cut, |(reason, ..)| *reason)
+codes! {
+    /// What is wrong with bytes that are no answer to reset.
+    AtrReason {
+        /// The first byte is neither `3B` nor `3F`.
+        NoTs = -70, "no TS";
+        /// The bytes end before a character that is announced.
+        Cut = -71, "answer to reset cut";
+        /// More than 32 characters after TS are announced, and this is the 33rd.
+        TooLong = -72, "answer to reset too long";
+        /// The T that this TD names is below the one before it, or is 15 in TD1.
+        OutOfOrder = -73, "T out of order";
+        /// Characters stand behind the end.
+        Surplus = -74, "characters behind the answer to reset";
+        /// TCK is due, as a T other than 0 is named, and the bytes end.
+        CheckMissing = -75, "check byte missing";
+        /// One byte stands behind the end, and TCK is not due.
+        CheckNotDue = -76, "check byte not due";
+        /// TCK does not make the exclusive-or of all characters after TS `00`.
+        CheckWrong = -77, "wrong check byte";
     }
 }
 
 impl fmt::Display for AtrError {
     fn fmt(&self, f: &mut fmt::Formatter<'_>) -> fmt::Result {
-        let text = REASONS
-            .iter()
-            .find(|(reason, ..)| *reason == self.reason)
-            .map_or("", |(_, _, text)| text);
-        write!(f, "{text} at {}", self.place)
+        write!(f, "{} at {}", self.reason, self.place)
     }
 }
 
 impl error::Error for AtrError {}
 
 /// How the bits of a character stand on the line (8.1).
-#[derive(Clone, Copy, Debug, PartialEq, Eq)]
+#[derive(Clone, Copy, Debug, PartialEq, Eq, Hash)]
 pub enum Convention {
     /// TS is `3B`: a high state is 1, and the lowest bit comes first.
     Direct,
@@ -97,7 +62,7 @@ pub enum Convention {
 }
 
 /// In which mode a card is after its answer (6.3.1, and TA2 in 8.3).
-#[derive(Clone, Copy, Debug, PartialEq, Eq)]
+#[derive(Clone, Copy, Debug, PartialEq, Eq, Hash)]
 pub enum Mode {
     /// The terminal may ask for other values by PPS.
     Negotiable,
@@ -113,7 +78,7 @@ pub enum Mode {
 }
 
 /// Whether the clock may stop, and at which level (8.3).
-#[derive(Clone, Copy, Debug, PartialEq, Eq)]
+#[derive(Clone, Copy, Debug, PartialEq, Eq, Hash)]
 pub enum ClockStop {
     /// It may not.
     NotSupported,
@@ -126,7 +91,8 @@ pub enum ClockStop {
 }
 
 /// Which classes of voltage a card takes (8.3).
-#[derive(Clone, Copy, Debug, PartialEq, Eq)]
+#[derive(Clone, Copy, Debug, PartialEq, Eq, Hash)]
+#[non_exhaustive]
 pub struct Classes {
     /// 5 V.
     pub a: bool,
@@ -137,7 +103,7 @@ pub struct Classes {
 }
 
 /// The form of historical bytes, by the first of them (ISO/IEC 7816-4, 12.1.1).
-#[derive(Clone, Copy, Debug, PartialEq, Eq)]
+#[derive(Clone, Copy, Debug, PartialEq, Eq, Hash)]
 pub enum Category {
     /// There are none.
     Absent,
@@ -154,7 +120,8 @@ pub enum Category {
 }
 
 /// The least time between the beginnings of two characters to the card (8.3).
-#[derive(Clone, Copy, Debug, PartialEq, Eq)]
+#[derive(Clone, Copy, Debug, PartialEq, Eq, Hash)]
+#[non_exhaustive]
 pub struct GuardTime {
     /// So many elementary time units, as they are in use.
     pub etu: u16,
@@ -177,7 +144,8 @@ pub struct GuardTime {
 /// assert_eq!((fault.reason, fault.place), (AtrReason::Cut, 3));
 /// # Ok::<(), galliumtoad::AtrError>(())
 /// ```
-#[derive(Clone, Copy, Debug, PartialEq, Eq)]
+#[derive(Clone, Copy, Debug, PartialEq, Eq, Hash)]
+#[non_exhaustive]
 pub struct Atr<'a> {
     /// How the bits of a character stand on the line.
     pub convention: Convention,
@@ -213,8 +181,13 @@ pub struct Atr<'a> {
 }
 
 impl<'a> Atr<'a> {
-    /// The answer that these bytes are, all of them; or their first fault.
+    /// Reads the answer that these bytes are, all of them and no more.
+    ///
+    /// # Errors
+    ///
+    /// - [`AtrError`]: the bytes are no answer to reset; this is their first fault.
     pub fn read(bytes: &'a [u8]) -> Result<Atr<'a>, AtrError> {
+        version::look();
         let (mut told, mut place) = (raw::Atr::default(), 0);
         // SAFETY: a slice with its length, which is only read; `told` and `place` are apart from it
         // and from one another.
@@ -258,18 +231,29 @@ impl<'a> Atr<'a> {
     }
 
     /// T of each protocol in the order offered, each once: T=0 alone where the answer names none.
+    #[must_use]
     pub fn protocols(&self) -> &[u8] {
         &self.protocols[..self.protocol_count]
     }
 
     /// The guard time of this protocol. N = 255 is the least that it has, which is 11 etu in T=1
     /// and 12 in any other.
+    #[must_use]
     pub fn guard_time(&self, protocol: u8) -> GuardTime {
         let [etu, etu_t1, indicated] = self.guard;
         GuardTime {
             etu: if protocol == 1 { etu_t1 } else { etu },
             indicated,
         }
+    }
+}
+
+/// As [`Atr::read`].
+impl<'a> TryFrom<&'a [u8]> for Atr<'a> {
+    type Error = AtrError;
+
+    fn try_from(bytes: &'a [u8]) -> Result<Atr<'a>, AtrError> {
+        Atr::read(bytes)
     }
 }
 

@@ -1,15 +1,16 @@
 //! Characters that pass by buffers, of a terminal and of a card.
 
 use crate::card::Card;
-use crate::error::{told, Error};
+use crate::error::{done, told, Error};
 use crate::exchange::Exchange;
-use crate::raw;
+use crate::raw::{self, Handle, Held};
 use crate::terminal::Terminal;
 use std::error;
 use std::fmt;
 
 /// What an end has handed out into a buffer.
-#[derive(Clone, Copy, Debug, PartialEq, Eq)]
+#[derive(Clone, Copy, Debug, PartialEq, Eq, Hash)]
+#[non_exhaustive]
 pub struct Sent {
     /// So many characters stand at the front of the buffer; what is behind them is as it was.
     pub count: usize,
@@ -18,19 +19,20 @@ pub struct Sent {
 }
 
 /// Why an end hands no more into a buffer.
-#[derive(Clone, Copy, Debug, PartialEq, Eq)]
+#[derive(Clone, Copy, Debug, PartialEq, Eq, Hash)]
 pub enum Stop {
     /// The buffer is full, as one without room is at once: there may be more.
     Full,
     /// The end waits for a character of the other one.
     Listens,
-    /// An exchange or an operation is over, and has its answer.
+    /// An exchange or an operation has ended, and has its answer.
     Done,
 }
 
 /// Which character of a buffer is not taken. Those before it were, and those behind it were not
 /// looked at.
-#[derive(Clone, Copy, Debug, PartialEq, Eq)]
+#[derive(Clone, Copy, Debug, PartialEq, Eq, Hash)]
+#[non_exhaustive]
 pub struct ReceiveError {
     /// How many were taken: the place of the character that was not.
     pub taken: usize,
@@ -44,11 +46,8 @@ impl fmt::Display for ReceiveError {
     }
 }
 
-impl error::Error for ReceiveError {
-    fn source(&self) -> Option<&(dyn error::Error + 'static)> {
-        Some(&self.error)
-    }
-}
+/// It has no source: its text is that of the fault, with the place.
+impl error::Error for ReceiveError {}
 
 impl Exchange {
     /// Hands out what the terminal sends now, as [`next`](Exchange::next) one at a time, as many
@@ -56,30 +55,18 @@ impl Exchange {
     ///
     /// # Errors
     ///
-    /// [`Error::Failed`]: the exchange has failed for good, and nothing is handed out.
+    /// - [`Error::Failed`]: the exchange has failed for good, and nothing is handed out.
     pub fn send_bytes(&mut self, room: &mut [u8]) -> Result<Sent, Error> {
-        let mut n = 0;
-        // SAFETY: an exchange's handle; a slice with its length, and `n`, which are apart.
-        let code = unsafe {
-            raw::galliumtoad_exchange_send_bytes(self.0.at(), room.as_mut_ptr(), room.len(), &mut n)
-        };
-        sent(code, n)
+        send(&self.0, raw::galliumtoad_exchange_send_bytes, room)
     }
 
-    /// Takes characters of the card, as [`take`](Exchange::take) one at a time, up to the first
-    /// that is a fault. That fault does what it does there.
+    /// Takes characters of the card, as [`take`](Exchange::take) one at a time.
+    ///
+    /// # Errors
+    ///
+    /// - [`ReceiveError`]: the first fault of a character, which does what it does there.
     pub fn receive_bytes(&mut self, bytes: &[u8]) -> Result<(), ReceiveError> {
-        let mut n = 0;
-        // SAFETY: an exchange's handle; a slice with its length, and `n`, which are apart.
-        let code = unsafe {
-            raw::galliumtoad_exchange_receive_bytes(
-                self.0.at(),
-                bytes.as_ptr(),
-                bytes.len(),
-                &mut n,
-            )
-        };
-        received(code, n)
+        receive(&self.0, raw::galliumtoad_exchange_receive_bytes, bytes)
     }
 }
 
@@ -113,59 +100,53 @@ impl Terminal {
     ///
     /// # Errors
     ///
-    /// [`Error::State`]: no operation has begun. [`Error::Failed`]: it has failed for good. Nothing
-    /// is handed out.
+    /// - [`Error::State`]: no operation has begun. Nothing is handed out.
+    /// - [`Error::Failed`]: it has failed for good. Nothing is handed out.
     pub fn send_bytes(&mut self, room: &mut [u8]) -> Result<Sent, Error> {
-        let mut n = 0;
-        // SAFETY: a terminal's handle; a slice with its length, and `n`, which are apart.
-        let code = unsafe {
-            raw::galliumtoad_terminal_send_bytes(self.0.at(), room.as_mut_ptr(), room.len(), &mut n)
-        };
-        sent(code, n)
+        send(&self.0, raw::galliumtoad_terminal_send_bytes, room)
     }
 
-    /// Takes characters of the card, as [`take`](Terminal::take) one at a time, up to the first
-    /// that is a fault. That fault does what it does there.
+    /// Takes characters of the card, as [`take`](Terminal::take) one at a time.
+    ///
+    /// # Errors
+    ///
+    /// - [`ReceiveError`]: the first fault of a character, which does what it does there.
     pub fn receive_bytes(&mut self, bytes: &[u8]) -> Result<(), ReceiveError> {
-        let mut n = 0;
-        // SAFETY: a terminal's handle; a slice with its length, and `n`, which are apart.
-        let code = unsafe {
-            raw::galliumtoad_terminal_receive_bytes(
-                self.0.at(),
-                bytes.as_ptr(),
-                bytes.len(),
-                &mut n,
-            )
-        };
-        received(code, n)
+        receive(&self.0, raw::galliumtoad_terminal_receive_bytes, bytes)
     }
 }
 
 impl Card {
     /// Hands out what the card sends now, as [`turn`](Card::turn) one at a time, as many characters
     /// as `room` has place for. [`Stop::Done`] never comes.
+    ///
+    /// # Errors
+    ///
+    /// None today.
     pub fn send_bytes(&mut self, room: &mut [u8]) -> Result<Sent, Error> {
-        let mut n = 0;
-        // SAFETY: a card's handle; a slice with its length, and `n`, which are apart.
-        let code = unsafe {
-            raw::galliumtoad_card_send_bytes(self.0 .0.at(), room.as_mut_ptr(), room.len(), &mut n)
-        };
-        sent(code, n)
+        send(&self.0 .0, raw::galliumtoad_card_send_bytes, room)
     }
 
-    /// Takes characters of the terminal, as many as the card listens to. The one behind them is
-    /// [`Error::NotListening`].
+    /// Takes characters of the terminal, as many as the card listens to.
+    ///
+    /// # Errors
+    ///
+    /// - [`Error::NotListening`], in a [`ReceiveError`]: the card has characters to send, behind
+    ///   those that it has taken.
     pub fn receive_bytes(&mut self, bytes: &[u8]) -> Result<(), ReceiveError> {
-        let mut n = 0;
-        // SAFETY: a card's handle; a slice with its length, and `n`, which are apart.
-        let code = unsafe {
-            raw::galliumtoad_card_receive_bytes(self.0 .0.at(), bytes.as_ptr(), bytes.len(), &mut n)
-        };
-        received(code, n)
+        receive(&self.0 .0, raw::galliumtoad_card_receive_bytes, bytes)
     }
 }
 
-fn sent(code: i32, count: usize) -> Result<Sent, Error> {
+/// A function of the archive that hands out characters, and one that takes them.
+type Sends = unsafe extern "C" fn(*mut Held, *mut u8, usize, *mut usize) -> i32;
+type Receives = unsafe extern "C" fn(*mut Held, *const u8, usize, *mut usize) -> i32;
+
+/// What an end hands out; the handle is of the function's kind.
+fn send(handle: &Handle, sends: Sends, room: &mut [u8]) -> Result<Sent, Error> {
+    let mut count = 0;
+    // SAFETY: a handle of this crate; a slice with its length, and `count`, which are apart.
+    let code = unsafe { sends(handle.at(), room.as_mut_ptr(), room.len(), &mut count) };
     let stop = match told(code)? {
         raw::SENDS => Stop::Full,
         raw::DONE => Stop::Done,
@@ -174,8 +155,10 @@ fn sent(code: i32, count: usize) -> Result<Sent, Error> {
     Ok(Sent { count, stop })
 }
 
-fn received(code: i32, taken: usize) -> Result<(), ReceiveError> {
-    told(code)
-        .map(|_| ())
-        .map_err(|error| ReceiveError { taken, error })
+/// What an end takes; the handle is of the function's kind.
+fn receive(handle: &Handle, receives: Receives, bytes: &[u8]) -> Result<(), ReceiveError> {
+    let mut taken = 0;
+    // SAFETY: a handle of this crate; a slice with its length, and `taken`, which are apart.
+    let code = unsafe { receives(handle.at(), bytes.as_ptr(), bytes.len(), &mut taken) };
+    done(code).map_err(|error| ReceiveError { taken, error })
 }

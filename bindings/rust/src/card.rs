@@ -1,9 +1,10 @@
 //! A card of data objects at the line, and how it is built.
 
-use crate::error::{told, Error};
-use crate::exchange::Turn;
+use crate::error::{done, told, Error};
+use crate::exchange::{turn, Turn};
 use crate::raw::{self, Handle};
-use crate::tables::Tables;
+use crate::tables::{Tables, OF_CARD};
+use std::fmt;
 
 /// The most bytes that a value has on a card.
 pub const VALUE_LIMIT: usize = 8_192;
@@ -24,12 +25,27 @@ pub const APPS_LIMIT: usize = 8;
 pub const ENTRIES_LIMIT: usize = 64;
 
 /// A data object that a card holds.
-#[derive(Clone, Debug, PartialEq, Eq)]
+///
+/// The value is the caller's: this crate wipes no copy of it. `Debug` shows how many bytes it has.
+#[derive(Clone, PartialEq, Eq, Hash)]
+#[non_exhaustive]
 pub struct Entry {
     pub tag: u32,
     pub value: Vec<u8>,
     /// Whether no command changes it.
     pub is_locked: bool,
+}
+
+impl fmt::Debug for Entry {
+    fn fmt(&self, f: &mut fmt::Formatter<'_>) -> fmt::Result {
+        let locked = if self.is_locked { ", locked" } else { "" };
+        write!(
+            f,
+            "Entry({:X}, {} bytes{locked})",
+            self.tag,
+            self.value.len()
+        )
+    }
 }
 
 /// What a card is to hold, as it is built: each application gets its objects before the next one
@@ -38,6 +54,8 @@ pub struct Entry {
 pub struct CardBuilder(Owned);
 
 /// A card of data objects at the line: SELECT, GET DATA, PUT DATA and GET RESPONSE over T=0.
+///
+/// It keeps what a terminal has sent until later bytes overwrite it. A drop wipes and frees all.
 ///
 /// ```
 /// use galliumtoad::{CardBuilder, Exchange, Turn};
@@ -81,6 +99,10 @@ impl Drop for Owned {
 
 impl CardBuilder {
     /// A card without applications.
+    ///
+    /// # Errors
+    ///
+    /// - [`Error::Memory`]: it ran out.
     pub fn new() -> Result<CardBuilder, Error> {
         let builder = CardBuilder(Owned(Handle::empty()));
         // SAFETY: a handle that holds nothing.
@@ -88,34 +110,53 @@ impl CardBuilder {
         Ok(builder)
     }
 
-    /// One more application, with an identifier of 5 to 16 bytes. A refusal changes nothing.
+    /// Adds an application, with an identifier of 5 to 16 bytes.
+    ///
+    /// # Errors
+    ///
+    /// After each of these nothing has changed.
+    ///
+    /// - [`Error::Argument`]: the identifier has another length.
+    /// - [`Error::AppTwice`], [`Error::TooManyApps`], [`Error::Memory`].
     pub fn app(&mut self, aid: &[u8]) -> Result<(), Error> {
         // SAFETY: a card's handle; a slice with its length.
-        told(unsafe { raw::galliumtoad_card_app(self.0 .0.at(), aid.as_ptr(), aid.len()) })
-            .map(|_| ())
+        done(unsafe { raw::galliumtoad_card_app(self.0 .0.at(), aid.as_ptr(), aid.len()) })
     }
 
-    /// One more data object of the last application, or a new value of one that it has. A refusal
-    /// changes nothing.
+    /// Adds a data object to the last application, or gives one that it has a new value.
+    ///
+    /// # Errors
+    ///
+    /// After each of these nothing has changed.
+    ///
+    /// - [`Error::Argument`]: GET DATA can't name the tag.
+    /// - [`Error::NoApp`], [`Error::ValueTooLong`], [`Error::NotObjects`], [`Error::TableFull`],
+    ///   [`Error::Memory`].
     pub fn object(&mut self, tag: u32, value: &[u8]) -> Result<(), Error> {
         self.add(tag, value, false)
     }
 
-    /// The same, and no command changes it.
+    /// As [`object`](CardBuilder::object), and no command changes it.
+    ///
+    /// # Errors
+    ///
+    /// As [`object`](CardBuilder::object).
     pub fn locked(&mut self, tag: u32, value: &[u8]) -> Result<(), Error> {
         self.add(tag, value, true)
     }
 
     fn add(&mut self, tag: u32, value: &[u8], locked: bool) -> Result<(), Error> {
         // SAFETY: a card's handle; a slice with its length.
-        told(unsafe {
+        done(unsafe {
             raw::galliumtoad_card_object(self.0 .0.at(), tag, value.as_ptr(), value.len(), locked)
         })
-        .map(|_| ())
     }
 
-    /// The card: nothing is selected, and it listens. Where memory is wanting the builder is
-    /// dropped.
+    /// The card: nothing is selected, and it listens.
+    ///
+    /// # Errors
+    ///
+    /// - [`Error::Memory`]: it ran out. The builder is dropped.
     pub fn finish(self) -> Result<Card, Error> {
         // SAFETY: a card's handle.
         told(unsafe { raw::galliumtoad_card_finish(self.0 .0.at()) })?;
@@ -124,30 +165,34 @@ impl CardBuilder {
 }
 
 impl Card {
-    /// Takes a character of the terminal. [`Error::NotListening`]: the card has characters to send,
-    /// and nothing changes.
+    /// Takes a character of the terminal.
+    ///
+    /// # Errors
+    ///
+    /// - [`Error::NotListening`]: the card has characters to send. Nothing has changed.
     pub fn take(&mut self, byte: u8) -> Result<(), Error> {
         // SAFETY: a card's handle.
-        told(unsafe { raw::galliumtoad_card_take(self.0 .0.at(), byte) }).map(|_| ())
+        done(unsafe { raw::galliumtoad_card_take(self.0 .0.at(), byte) })
     }
 
     /// What the card does now: it hands out a character, or listens. A put is stored when the
     /// second status byte has been handed out, not before.
+    ///
+    /// # Errors
+    ///
+    /// None today.
     pub fn turn(&mut self) -> Result<Turn, Error> {
-        let mut byte = 0;
-        // SAFETY: a card's handle; `byte` is apart from it.
-        Ok(
-            match told(unsafe { raw::galliumtoad_card_turn(self.0 .0.at(), &mut byte) })? {
-                raw::SENDS => Turn::Sends(byte),
-                _ => Turn::Listens,
-            },
-        )
+        turn(&self.0 .0, raw::galliumtoad_card_turn)
     }
 
     /// Resets the card: nothing is selected or pending, and its objects stay.
+    ///
+    /// # Errors
+    ///
+    /// None today.
     pub fn reset(&mut self) -> Result<(), Error> {
         // SAFETY: a card's handle.
-        told(unsafe { raw::galliumtoad_card_reset(self.0 .0.at()) }).map(|_| ())
+        done(unsafe { raw::galliumtoad_card_reset(self.0 .0.at()) })
     }
 
     /// How the card answers one of the TPDUs to come, in turn. `steps` are letters, in any order
@@ -157,27 +202,30 @@ impl Card {
     ///
     /// # Errors
     ///
-    /// [`Error::Argument`]: another letter, or another cut. [`Error::Memory`].
+    /// After each of these nothing has changed.
+    ///
+    /// - [`Error::Argument`]: another letter, or another cut.
+    /// - [`Error::Memory`]: it ran out.
     pub fn plan(&mut self, steps: &str, cut: u16) -> Result<(), Error> {
         // SAFETY: a card's handle; a slice with its length.
-        told(unsafe {
+        done(unsafe {
             raw::galliumtoad_card_plan(self.0 .0.at(), steps.as_ptr(), steps.len(), cut)
         })
-        .map(|_| ())
     }
 
     /// The identifier of the application that is selected.
+    #[must_use]
     pub fn selected(&self) -> Option<Vec<u8>> {
-        Tables::of_card(&self.0 .0).selected()
+        Tables(&self.0 .0, &OF_CARD).selected()
     }
 
     /// The identifiers of the applications, in order.
     pub fn apps(&self) -> impl Iterator<Item = Vec<u8>> + '_ {
-        Tables::of_card(&self.0 .0).apps()
+        Tables(&self.0 .0, &OF_CARD).apps()
     }
 
     /// The data objects of an application, which is counted from 0, in order of first storing.
     pub fn entries(&self, app: usize) -> impl Iterator<Item = Entry> + '_ {
-        Tables::of_card(&self.0 .0).entries(app)
+        Tables(&self.0 .0, &OF_CARD).entries(app)
     }
 }

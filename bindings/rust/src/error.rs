@@ -1,127 +1,112 @@
-//! Why a call was refused.
+//! Why a call was refused, and the codes of `galliumtoad.h` that say so.
 
 use std::error;
-use std::fmt;
 
-/// Why a call was refused. Each fault has the number that `galliumtoad.h` gives it.
-#[derive(Clone, Copy, Debug, PartialEq, Eq, Hash)]
-#[non_exhaustive]
-pub enum Error {
-    /// Not now: a call of a card's builder after it was finished, or the other way round.
-    State,
-    /// Memory is wanting.
-    Memory,
-    /// An argument is out of its range.
-    Argument,
-    /// A chain is pending at the card.
-    Busy,
-    /// What was asked for is not there.
-    NotFound,
-    /// The exchange has failed for good.
-    Failed,
-    /// The identifier is that of an application before it.
-    AppTwice,
-    /// There are as many applications as a card may have.
-    TooManyApps,
-    /// There is no application to hold the data object.
-    NoApp,
-    /// The value has more bytes than a value may have.
-    ValueTooLong,
-    /// The tag is that of a template, and the value is no list of objects.
-    NotObjects,
-    /// The application has as many data objects as it may have.
-    TableFull,
-    /// The end has characters to send.
-    NotListening,
-    /// Neither a procedure byte nor a first status byte where one is due.
-    BadProcedure,
-    /// The response has more bytes than it may: 16,384, or a limit below.
-    TooLong,
-    /// A GET RESPONSE has brought nothing, and the card announces more.
-    Stalled,
-    /// The exchange is over, or has failed.
-    AfterEnd,
-    /// There are fewer than four bytes.
-    TooShort,
-    /// The bytes after the header fit none of the four cases.
-    BadLength,
-    /// INS is `6X` or `9X`.
-    InvalidIns,
-    /// No whole TPDU is about to begin.
-    NotDue,
-    /// The answer to a whole TPDU does not end in a status word.
-    NoStatus,
-    /// Data came back, and the TPDU asks for none.
-    NotAsked,
-    /// More data came back than the TPDU asks for.
-    TooMany,
-    /// The bytes are no whole TPDU.
-    NoTpdu,
-    /// The card takes data, and the TPDU has none: both ends would wait.
-    WantsData,
-    /// The card sends data, and the TPDU asks for none.
-    SendsData,
-    /// A number that this crate does not know: the archive is of another version.
-    Unknown(i32),
-}
-
-/// Each fault with its number and its text.
-const FAULTS: [(Error, i32, &str); 27] = [
-    (Error::State, -3, "not in this state"),
-    (Error::Memory, -4, "out of memory"),
-    (Error::Argument, -5, "bad argument"),
-    (Error::Busy, -7, "a chain is pending"),
-    (Error::NotFound, -8, "not found"),
-    (Error::Failed, -9, "failed"),
-    (Error::AppTwice, -20, "aid twice"),
-    (Error::TooManyApps, -21, "too many apps"),
-    (Error::NoApp, -22, "no app"),
-    (Error::ValueTooLong, -23, "value too long"),
-    (Error::NotObjects, -24, "not objects"),
-    (Error::TableFull, -25, "table full"),
-    (Error::NotListening, -30, "not listening"),
-    (Error::BadProcedure, -31, "bad procedure byte"),
-    (Error::TooLong, -32, "response too long"),
-    (Error::Stalled, -33, "stalled"),
-    (Error::AfterEnd, -34, "after the end"),
-    (Error::TooShort, -50, "command too short"),
-    (Error::BadLength, -51, "bad command length"),
-    (Error::InvalidIns, -52, "invalid INS"),
-    (Error::NotDue, -60, "no TPDU due"),
-    (Error::NoStatus, -61, "no status"),
-    (Error::NotAsked, -62, "data not asked for"),
-    (Error::TooMany, -63, "more data than asked for"),
-    (Error::NoTpdu, -64, "no whole TPDU"),
-    (Error::WantsData, -65, "card takes data not given"),
-    (Error::SendsData, -66, "card sends data not asked for"),
-];
-
-impl Error {
-    /// The number that the library's header gives the fault.
-    pub fn code(self) -> i32 {
-        match self {
-            Error::Unknown(code) => code,
-            _ => FAULTS
-                .iter()
-                .find(|(error, ..)| *error == self)
-                .map_or(0, |(_, code, _)| *code),
+/// Declares the codes of one kind of fault, each with its number and its text in the header.
+macro_rules! codes {
+    (
+        $(#[$of:meta])* $name:ident
+        { $($(#[$doc:meta])* $fault:ident = $code:literal, $text:literal;)* }
+    ) => {
+        $(#[$of])*
+        #[derive(Clone, Copy, Debug, PartialEq, Eq, Hash)]
+        #[non_exhaustive]
+        pub enum $name {
+            $($(#[$doc])* $fault,)*
+            /// A number that this crate does not know.
+            Unknown(i32),
         }
-    }
 
-    pub(crate) fn of(code: i32) -> Error {
-        FAULTS
-            .iter()
-            .find(|(_, number, _)| *number == code)
-            .map_or(Error::Unknown(code), |(error, ..)| *error)
-    }
-}
+        impl $name {
+            /// The number that `galliumtoad.h` gives the fault.
+            #[must_use]
+            pub fn code(self) -> i32 {
+                match self {
+                    $($name::$fault => $code,)*
+                    $name::Unknown(code) => code,
+                }
+            }
 
-impl fmt::Display for Error {
-    fn fmt(&self, f: &mut fmt::Formatter<'_>) -> fmt::Result {
-        match FAULTS.iter().find(|(error, ..)| error == self) {
-            Some((_, _, text)) => f.write_str(text),
-            None => write!(f, "unknown code {}", self.code()),
+            pub(crate) fn of(code: i32) -> $name {
+                match code {
+                    $($code => $name::$fault,)*
+                    _ => $name::Unknown(code),
+                }
+            }
         }
+
+        impl std::fmt::Display for $name {
+            fn fmt(&self, f: &mut std::fmt::Formatter<'_>) -> std::fmt::Result {
+                match self {
+                    $($name::$fault => f.write_str($text),)*
+                    $name::Unknown(code) => write!(f, "unknown code {code}"),
+                }
+            }
+        }
+    };
+}
+pub(crate) use codes;
+
+codes! {
+    /// Why a call was refused. Each fault has the number that `galliumtoad.h` gives it.
+    Error {
+        /// The value is in no state for this call: an operation is in progress, or none has begun,
+        /// or characters of a TPDU have gone.
+        State = -3, "not in this state";
+        /// Memory ran out.
+        Memory = -4, "out of memory";
+        /// An argument is out of its range.
+        Argument = -5, "bad argument";
+        /// The caller's buffer is too short, and is as it was.
+        Buffer = -6, "buffer too short";
+        /// A chain is pending at the card.
+        Busy = -7, "a chain is pending";
+        /// There is nothing of this kind.
+        NotFound = -8, "not found";
+        /// The exchange has failed for good.
+        Failed = -9, "failed";
+        /// The identifier is that of an application before it.
+        AppTwice = -20, "aid twice";
+        /// There are as many applications as a card may have.
+        TooManyApps = -21, "too many apps";
+        /// There is no application to hold the data object.
+        NoApp = -22, "no app";
+        /// The value has more bytes than a value may have.
+        ValueTooLong = -23, "value too long";
+        /// The tag is that of a template, and the value is no list of objects.
+        NotObjects = -24, "not objects";
+        /// The application has as many data objects as it may have.
+        TableFull = -25, "table full";
+        /// The end has characters to send.
+        NotListening = -30, "not listening";
+        /// Neither a procedure byte nor a first status byte where one is due.
+        BadProcedure = -31, "bad procedure byte";
+        /// The response has more bytes than it may: 16,384, or a limit below.
+        TooLong = -32, "response too long";
+        /// A GET RESPONSE has brought nothing, and the card announces more.
+        Stalled = -33, "stalled";
+        /// The exchange has ended, or has failed.
+        AfterEnd = -34, "after the end";
+        /// There are fewer than four bytes.
+        TooShort = -50, "command too short";
+        /// The bytes after the header fit none of the four cases.
+        BadLength = -51, "bad command length";
+        /// INS is `6X` or `9X`.
+        InvalidIns = -52, "invalid INS";
+        /// No whole TPDU is about to begin.
+        NotDue = -60, "no TPDU due";
+        /// The answer to a whole TPDU does not end in a status word.
+        NoStatus = -61, "no status";
+        /// Data came back, and the TPDU asks for none.
+        NotAsked = -62, "data not asked for";
+        /// More data came back than the TPDU asks for.
+        TooMany = -63, "more data than asked for";
+        /// The bytes are no whole TPDU.
+        NoTpdu = -64, "no whole TPDU";
+        /// The card takes data, and the TPDU has none: both ends would wait.
+        WantsData = -65, "card takes data not given";
+        /// The card sends data, and the TPDU asks for none.
+        SendsData = -66, "card sends data not asked for";
     }
 }
 
@@ -134,4 +119,9 @@ pub(crate) fn told(code: i32) -> Result<i32, Error> {
     } else {
         Ok(code)
     }
+}
+
+/// As [`told`], of a call that has no answer.
+pub(crate) fn done(code: i32) -> Result<(), Error> {
+    told(code).map(|_| ())
 }

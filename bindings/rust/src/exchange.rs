@@ -1,34 +1,49 @@
 //! A terminal's exchange of one command.
 
-use crate::error::{told, Error};
+use crate::error::{done, told, Error};
 use crate::objects::{find, Object};
-use crate::raw::{self, Handle};
+use crate::raw::{self, Handle, Held};
+use crate::status::Status;
+use std::fmt;
 
 /// The most data bytes that an answer has, where there is no limit below.
 pub const RESPONSE_LIMIT: usize = 16_384;
 
-/// What an end does when it is asked.
-#[derive(Clone, Copy, Debug, PartialEq, Eq)]
+/// What an end does when it is asked. `Debug` leaves the character out.
+#[derive(Clone, Copy, PartialEq, Eq, Hash)]
+#[must_use = "a character that is sent is handed out once"]
 pub enum Turn {
     /// It hands out this character.
     Sends(u8),
     /// It waits for a character of the other end.
     Listens,
-    /// An exchange is over, and has its answer.
+    /// An exchange has ended, and has its answer.
     Done,
 }
 
-/// A card's answer to a command: a status word, as `0x9000`, and data.
+impl fmt::Debug for Turn {
+    fn fmt(&self, f: &mut fmt::Formatter<'_>) -> fmt::Result {
+        f.write_str(match self {
+            Turn::Sends(_) => "Sends(_)",
+            Turn::Listens => "Listens",
+            Turn::Done => "Done",
+        })
+    }
+}
+
+/// A card's answer to a command: a status word, and data.
+///
+/// The data are the caller's: this crate wipes no copy of them. `Debug` shows how many they are.
 ///
 /// An `Err` is about the call, a status about the card: a put that the card refuses is `Ok` with a
-/// status such as `0x6982`. After all but `9000` and `61XX` no value is stored, what was selected
+/// status such as `6982`. After all but `9000` and `61XX` no value is stored, what was selected
 /// stays selected, and a chain is dropped. A [`Card`](crate::Card) answers:
 ///
 /// | Status | Why |
 /// |---|---|
 /// | `9000` | it is done, and all data have come |
 /// | `61XX` | it is done, and XX more bytes can be had with GET RESPONSE (`00`: 256) |
-/// | `6581` | PUT DATA: memory is wanting at the card |
+/// | `6581` | PUT DATA: the card runs out of memory |
 /// | `6700` | PUT DATA: a value above 8,192 bytes; SELECT: an identifier not of 5 to 16 bytes |
 /// | `6883` | a chain is pending, and this command is not its next one |
 /// | `6884` | CLA begins a chain, and INS is not PUT DATA |
@@ -42,20 +57,83 @@ pub enum Turn {
 /// | `6CXX` | fewer bytes are there than asked for: XX. An exchange asks again for these |
 /// | `6D00` | INS is not `A4`, `CA`, `DA` or `C0` |
 /// | `6E00` | CLA is not `00` or `10`, nor `80` of a GET DATA |
-#[derive(Clone, Debug, PartialEq, Eq)]
+#[derive(Clone, PartialEq, Eq, Hash)]
+#[non_exhaustive]
 pub struct Answer {
-    pub status: u16,
+    pub status: Status,
     pub data: Vec<u8>,
 }
 
 impl Answer {
-    /// The data as the object with this tag, if they are its tag, length and value, with no padding
-    /// and nothing else, as the answer to GET DATA is. Some cards answer `9000` with the value
-    /// alone.
+    /// The data as one object with this tag, and nothing else: the answer to a get of that tag.
+    /// `None` if they are not that; then the card has answered something else, as the value alone.
+    #[must_use]
     pub fn object(&self, tag: u32) -> Option<Object<'_>> {
-        let found = find(&self.data, &[tag]).ok().flatten()?;
-        (found.size == self.data.len()).then_some(found)
+        let object = find(&self.data, &[tag]).ok().flatten()?;
+        Some(object).filter(|it| it.size == self.data.len())
     }
+}
+
+impl fmt::Debug for Answer {
+    fn fmt(&self, f: &mut fmt::Formatter<'_>) -> fmt::Result {
+        write!(f, "Answer({}, {} bytes)", self.status, self.data.len())
+    }
+}
+
+/// An answer whose data were copied into a buffer.
+#[derive(Clone, Copy, Debug, PartialEq, Eq, Hash)]
+#[non_exhaustive]
+pub struct Copied {
+    pub status: Status,
+    /// How many bytes of data are at the front of the buffer; the others are as they were.
+    pub count: usize,
+}
+
+/// A function of the archive that hands out a character.
+type Turns = unsafe extern "C" fn(*mut Held, *mut u8) -> i32;
+
+/// What an end does; the handle is of the function's kind.
+pub(crate) fn turn(handle: &Handle, turns: Turns) -> Result<Turn, Error> {
+    let mut byte = 0;
+    // SAFETY: a handle of this crate; `byte` is apart from it.
+    Ok(match told(unsafe { turns(handle.at(), &mut byte) })? {
+        raw::SENDS => Turn::Sends(byte),
+        raw::DONE => Turn::Done,
+        _ => Turn::Listens,
+    })
+}
+
+/// The function of the archive that copies the answer of a handle.
+type Copies = unsafe extern "C" fn(*mut Held, *mut u16, *mut u8, usize, *mut usize) -> i32;
+
+/// What `copies` answers for this handle, which is of its kind, and what it has told.
+fn copy(handle: &Handle, copies: Copies, room: &mut [u8]) -> (i32, Copied) {
+    let (mut status, mut count) = (0, 0);
+    let (data, n) = (room.as_mut_ptr(), room.len());
+    // SAFETY: a handle that a call by `&` may write to (`Handle`); `status`, `room` with its
+    // length, and `count` are apart from it and from one another.
+    let code = unsafe { copies(handle.at(), &mut status, data, n, &mut count) };
+    let status = Status(status);
+    (code, Copied { status, count })
+}
+
+/// Copies the data of an answer to the front of `room`.
+pub(crate) fn answer_into(
+    handle: &Handle,
+    copies: Copies,
+    room: &mut [u8],
+) -> Result<Copied, Error> {
+    let (code, found) = copy(handle, copies, room);
+    told(code).map(|_| found)
+}
+
+/// An answer with data of their own, which take no more memory than they need.
+pub(crate) fn answer(handle: &Handle, copies: Copies) -> Result<Answer, Error> {
+    let (code, asked) = copy(handle, copies, &mut []);
+    let count = if code == raw::BUFFER { asked.count } else { 0 };
+    let mut data = vec![0; count];
+    let status = answer_into(handle, copies, &mut data)?.status;
+    Ok(Answer { status, data })
 }
 
 /// A terminal's exchange of one command with a card, over all its TPDUs (ISO/IEC 7816-3, clause
@@ -68,8 +146,10 @@ impl Answer {
 /// is sent again with XX, once, unless XX is more than is still wanted. Where it answers `61XX`,
 /// and more is wanted, GET RESPONSE is sent for it. Any other status ends the exchange, and so does
 /// `61XX` where no more is wanted. With Le `00` all there is is wanted, with another Le as many
-/// bytes at most, without Le none: a SELECT without Le is over at `61XX`, with no data. So end a
+/// bytes at most, without Le none: a SELECT without Le ends at `61XX`, with no data. So end a
 /// command with `00` for a whole answer.
+///
+/// It keeps a copy of the command, and room for the response. A drop frees both, and wipes them.
 ///
 /// Over T=0 no header says which way data move: both ends have to know it from INS. With a command
 /// that the card takes the other way ([`Session::send`](crate::Session::send) refuses such ones)
@@ -80,23 +160,23 @@ impl Answer {
 pub struct Exchange(pub(crate) Handle);
 
 impl Exchange {
-    /// The exchange of a command (ISO/IEC 7816-4, 5.1, short lengths). The bytes are copied.
-    pub fn start(command: &[u8]) -> Result<Exchange, Error> {
-        let exchange = Exchange(Handle::empty());
-        // SAFETY: a handle that holds nothing; a slice with its length.
-        told(unsafe {
-            raw::galliumtoad_exchange_start(exchange.0.at(), command.as_ptr(), command.len())
-        })?;
-        Ok(exchange)
-    }
-
-    /// The exchange of a command whose response may have so many bytes, 0 to [`RESPONSE_LIMIT`]:
-    /// no more memory is taken for it, and the first byte that is over is [`Error::TooLong`].
+    /// Starts the exchange of a command (ISO/IEC 7816-4, 5.1, short lengths). The bytes are copied.
     ///
     /// # Errors
     ///
-    /// Those of [`start`](Exchange::start), and [`Error::Argument`] for a limit above
-    /// [`RESPONSE_LIMIT`].
+    /// - [`Error::TooShort`], [`Error::BadLength`], [`Error::InvalidIns`]: the bytes are no command.
+    /// - [`Error::Memory`]: it ran out. After each of these there is no exchange.
+    pub fn start(command: &[u8]) -> Result<Exchange, Error> {
+        Exchange::start_within(command, RESPONSE_LIMIT)
+    }
+
+    /// Starts the exchange of a command whose response may have `limit` bytes, 0 to
+    /// [`RESPONSE_LIMIT`]: no more memory is taken for it, and one byte more is [`Error::TooLong`].
+    ///
+    /// # Errors
+    ///
+    /// - [`Error::Argument`]: the limit is above [`RESPONSE_LIMIT`]. There is no exchange.
+    /// - Any other: as [`start`](Exchange::start).
     pub fn start_within(command: &[u8], limit: usize) -> Result<Exchange, Error> {
         let exchange = Exchange(Handle::empty());
         // SAFETY: a handle that holds nothing; a slice with its length.
@@ -115,50 +195,40 @@ impl Exchange {
     ///
     /// # Errors
     ///
-    /// [`Error::Failed`]: the exchange has failed for good.
-    #[allow(clippy::should_implement_trait)]
+    /// - [`Error::Failed`]: the exchange has failed for good.
+    #[allow(clippy::should_implement_trait)] // it is no iterator: it may wait, and goes on then
     pub fn next(&mut self) -> Result<Turn, Error> {
-        let mut byte = 0;
-        // SAFETY: an exchange's handle; `byte` is apart from it.
-        let code = unsafe { raw::galliumtoad_exchange_next(self.0.at(), &mut byte) };
-        Ok(match told(code)? {
-            raw::SENDS => Turn::Sends(byte),
-            raw::DONE => Turn::Done,
-            _ => Turn::Listens,
-        })
+        turn(&self.0, raw::galliumtoad_exchange_next)
     }
 
     /// Takes a character of the card.
     ///
     /// # Errors
     ///
-    /// [`Error::BadProcedure`], [`Error::TooLong`], [`Error::Stalled`]: with this character the
-    /// exchange has failed for good. [`Error::NotListening`]: it has characters to send, and
-    /// [`Error::AfterEnd`]: it is over, or has failed; these change nothing.
+    /// - [`Error::BadProcedure`], [`Error::TooLong`], [`Error::Stalled`]: with this character the
+    ///   exchange has failed for good.
+    /// - [`Error::NotListening`]: it has characters to send. Nothing has changed.
+    /// - [`Error::AfterEnd`]: it has ended, or has failed. Nothing has changed.
     pub fn take(&mut self, byte: u8) -> Result<(), Error> {
         // SAFETY: an exchange's handle.
-        told(unsafe { raw::galliumtoad_exchange_take(self.0.at(), byte) }).map(|_| ())
+        done(unsafe { raw::galliumtoad_exchange_take(self.0.at(), byte) })
     }
 
-    /// The answer, where the exchange is done.
+    /// The answer, if the exchange is done.
+    #[must_use]
     pub fn answer(&self) -> Option<Answer> {
-        let (mut status, mut n) = (0, 0);
-        let mut data = vec![0; RESPONSE_LIMIT];
-        // SAFETY: an exchange's handle, which a call by `&` may write to (`Handle`); `status`,
-        // `data` with its length, and `n` are apart from it and from one another.
-        let code = unsafe {
-            raw::galliumtoad_exchange_answer(
-                self.0.at(),
-                &mut status,
-                data.as_mut_ptr(),
-                data.len(),
-                &mut n,
-            )
-        };
-        (code == raw::OK).then(|| {
-            data.truncate(n);
-            Answer { status, data }
-        })
+        answer(&self.0, raw::galliumtoad_exchange_answer).ok()
+    }
+
+    /// The answer, with its data at the front of `room`: this takes no memory, and the data are in
+    /// the caller's buffer alone. [`RESPONSE_LIMIT`] bytes are always enough.
+    ///
+    /// # Errors
+    ///
+    /// - [`Error::State`]: the exchange is not done. `room` is as it was, as after the next.
+    /// - [`Error::Buffer`]: there are more data than `room` has place for.
+    pub fn answer_into(&self, room: &mut [u8]) -> Result<Copied, Error> {
+        answer_into(&self.0, raw::galliumtoad_exchange_answer, room)
     }
 }
 

@@ -1,9 +1,19 @@
 //! The three functions by which the library takes memory, over the program's allocator: those that
 //! `heap.c` is for a program in C. Blocks have held values and commands, so each is wiped before it
 //! is given back, also one that is made longer or shorter.
+#![allow(clippy::cast_ptr_alignment)] // blocks and their heads are aligned to `HEAD`
 
+use crate::wiped::wipe_from;
 use std::alloc::{alloc, dealloc, Layout};
 use std::ptr::NonNull;
+
+// Each library of a process has functions of its own, since each may have another allocator: none
+// of them is exported, and no call of the archive goes to those of another one.
+std::arch::global_asm!(
+    ".hidden rattle_alloc",
+    ".hidden rattle_realloc",
+    ".hidden rattle_dealloc"
+);
 
 /// Before each block stands its size, in as many bytes as keep the block aligned; and a block ends
 /// where a word of this size does.
@@ -27,35 +37,19 @@ fn layout(size: usize) -> Option<Layout> {
     Layout::from_size_align(whole, HEAD).ok()
 }
 
-/// Writes zeros, which a compiler can't leave out.
-///
-/// # Safety
-///
-/// All bytes of the layout, which is one of [`layout`], stand at `whole`.
-unsafe fn wipe(whole: *mut u8, layout: Layout) {
-    let words = whole.cast::<u128>();
-    for place in 0..layout.size() / HEAD {
-        words.add(place).write_volatile(0);
+fn taken(size: usize) -> Option<NonNull<u8>> {
+    let layout = layout(size)?;
+    // SAFETY: the layout has a size; where there is a block, its head is aligned and has room.
+    unsafe {
+        let whole = NonNull::new(alloc(layout))?.as_ptr();
+        whole.cast::<usize>().write(size);
+        NonNull::new(whole.add(HEAD))
     }
 }
 
 #[no_mangle]
 extern "C" fn rattle_alloc(size: usize, _align: usize) -> Taken {
-    let Some(layout) = layout(size) else {
-        return NONE;
-    };
-    // SAFETY: the layout has a size; where there is a block, its head is aligned and has room.
-    unsafe {
-        let whole = alloc(layout);
-        if whole.is_null() {
-            return NONE;
-        }
-        whole.cast::<usize>().write(size);
-        Taken {
-            some: true,
-            at: NonNull::new_unchecked(whole.add(HEAD)),
-        }
-    }
+    taken(size).map_or(NONE, |at| Taken { some: true, at })
 }
 
 /// # Safety
@@ -85,7 +79,7 @@ unsafe extern "C" fn rattle_realloc(
 unsafe extern "C" fn rattle_dealloc(block: *mut u8) {
     let whole = block.sub(HEAD);
     if let Some(layout) = layout(whole.cast::<usize>().read()) {
-        wipe(whole, layout);
+        wipe_from(whole.cast::<u128>(), layout.size() / HEAD);
         dealloc(whole, layout);
     }
 }

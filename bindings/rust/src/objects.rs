@@ -1,106 +1,71 @@
 //! Data objects in bytes: all of them, the one at a path, and how one begins.
 
-use crate::raw;
+use crate::error::codes;
+use crate::{raw, version};
 use std::error;
 use std::fmt;
 
 /// The deepest level of a list of objects.
 pub const LEVELS_LIMIT: u8 = 16;
 
-/// Why bytes are no list of objects: the first fault, from the left.
-#[derive(Clone, Copy, Debug, PartialEq, Eq, Hash)]
-pub struct ObjectsError {
-    /// The place of the innermost object at fault, counted in bytes from 0.
-    pub place: usize,
-    /// What is wrong there.
-    pub reason: Reason,
-}
-
-/// What is wrong with an object.
-#[derive(Clone, Copy, Debug, PartialEq, Eq, Hash)]
-pub enum Reason {
-    /// The list ends inside a tag.
-    TagCut,
-    /// No tag starts here.
-    TagForm,
-    /// The list ends inside a length.
-    LengthCut,
-    /// No length follows the tag.
-    LengthForm,
-    /// The value passes the end of the list.
-    ValueCut,
-    /// The list is below the deepest level, 16.
-    TooDeep,
-}
-
-const REASONS: [(Reason, i32, &str); 6] = [
-    (Reason::TagCut, -40, "tag cut"),
-    (Reason::TagForm, -41, "tag form"),
-    (Reason::LengthCut, -42, "length cut"),
-    (Reason::LengthForm, -43, "length form"),
-    (Reason::ValueCut, -44, "value cut"),
-    (Reason::TooDeep, -45, "too deep"),
-];
-
-impl Reason {
-    /// The number that the library's header gives it.
-    pub fn code(self) -> i32 {
-        REASONS
-            .iter()
-            .find(|(reason, ..)| *reason == self)
-            .map_or(0, |(_, code, _)| *code)
+codes! {
+    /// What is wrong with an object.
+    Reason {
+        /// The list ends inside a tag.
+        TagCut = -40, "tag cut";
+        /// No tag starts here.
+        TagForm = -41, "tag form";
+        /// The list ends inside a length.
+        LengthCut = -42, "length cut";
+        /// A length starts with `80`, or with a byte above `82`.
+        LengthForm = -43, "length form";
+        /// The value passes the end of the list.
+        ValueCut = -44, "value cut";
+        /// The list is below the deepest level, 16.
+        TooDeep = -45, "too deep";
     }
+}
 
-    fn of(code: i32) -> Reason {
-        REASONS
-            .iter()
-            .find(|(_, number, _)| *number == code)
-            .map_or(Reason::TagForm, |(reason, ..)| *reason)
+/// Why [`Objects::over`] or [`find`] has no answer.
+#[derive(Clone, Copy, Debug, PartialEq, Eq, Hash)]
+#[non_exhaustive]
+pub enum ObjectsError {
+    /// Memory ran out.
+    Memory,
+    /// A step of the path is no tag of one to three bytes.
+    NoTag,
+    /// The bytes are no list of objects. This is their first fault, from the left.
+    #[non_exhaustive]
+    Fault {
+        /// The place of the innermost object at fault, counted in bytes from 0.
+        place: usize,
+        /// What is wrong there.
+        reason: Reason,
+    },
+}
+
+impl ObjectsError {
+    fn of(code: i32, place: usize) -> ObjectsError {
+        let reason = Reason::of(code);
+        ObjectsError::Fault { place, reason }
     }
 }
 
 impl fmt::Display for ObjectsError {
     fn fmt(&self, f: &mut fmt::Formatter<'_>) -> fmt::Result {
-        let text = REASONS
-            .iter()
-            .find(|(reason, ..)| *reason == self.reason)
-            .map_or("", |(_, _, text)| text);
-        write!(f, "{text} at {}", self.place)
+        match self {
+            ObjectsError::Memory => f.write_str("out of memory"),
+            ObjectsError::NoTag => f.write_str("a step is no tag"),
+            ObjectsError::Fault { place, reason } => write!(f, "{reason} at {place}"),
+        }
     }
 }
 
 impl error::Error for ObjectsError {}
 
-/// Why [`find`] has no answer.
-#[derive(Clone, Copy, Debug, PartialEq, Eq, Hash)]
+/// A data object of a list. `Debug` leaves its value out.
+#[derive(Clone, Copy, PartialEq, Eq, Hash)]
 #[non_exhaustive]
-pub enum FindError {
-    /// A step of the path is no tag of one to three bytes.
-    NoTag,
-    /// The bytes are no list of objects.
-    Objects(ObjectsError),
-}
-
-impl fmt::Display for FindError {
-    fn fmt(&self, f: &mut fmt::Formatter<'_>) -> fmt::Result {
-        match self {
-            FindError::NoTag => f.write_str("a step is no tag"),
-            FindError::Objects(fault) => fault.fmt(f),
-        }
-    }
-}
-
-impl error::Error for FindError {
-    fn source(&self) -> Option<&(dyn error::Error + 'static)> {
-        match self {
-            FindError::NoTag => None,
-            FindError::Objects(fault) => Some(fault),
-        }
-    }
-}
-
-/// A data object of a list.
-#[derive(Clone, Copy, Debug, PartialEq, Eq)]
 pub struct Object<'a> {
     /// The tag as a number: `0x50`, `0x5F20`, `0x9F8101`.
     pub tag: u32,
@@ -115,6 +80,12 @@ pub struct Object<'a> {
     pub size: usize,
     /// The value.
     pub value: &'a [u8],
+}
+
+impl fmt::Debug for Object<'_> {
+    fn fmt(&self, f: &mut fmt::Formatter<'_>) -> fmt::Result {
+        write!(f, "Object({:X}, {} bytes)", self.tag, self.size)
+    }
 }
 
 impl<'a> Object<'a> {
@@ -141,17 +112,25 @@ impl<'a> Object<'a> {
 /// assert_eq!(tags, [0x6F, 0x84]);
 /// # Ok::<(), galliumtoad::ObjectsError>(())
 /// ```
-#[derive(Clone, Debug)]
+#[derive(Clone)]
 pub struct Objects<'a> {
     bytes: &'a [u8],
     listed: std::vec::IntoIter<raw::Object>,
 }
 
 impl<'a> Objects<'a> {
-    /// Checks all levels and lists the objects; else the first fault.
+    /// Checks all levels, and lists the objects. Each takes 40 bytes of memory.
+    ///
+    /// # Errors
+    ///
+    /// - [`ObjectsError::Fault`]: the bytes are no list of objects; this is their first fault.
+    /// - [`ObjectsError::Memory`]: there is none for the list.
     pub fn over(bytes: &'a [u8]) -> Result<Objects<'a>, ObjectsError> {
-        let mut listed = vec![raw::Object::default(); list(bytes, &mut [])?];
-        if !listed.is_empty() {
+        let (count, mut listed) = (list(bytes, &mut [])?, Vec::new());
+        let room = listed.try_reserve_exact(count);
+        room.map_err(|_| ObjectsError::Memory)?;
+        listed.resize(count, raw::Object::default());
+        if count > 0 {
             list(bytes, &mut listed)?;
         }
         Ok(Objects {
@@ -161,28 +140,23 @@ impl<'a> Objects<'a> {
     }
 }
 
+impl fmt::Debug for Objects<'_> {
+    fn fmt(&self, f: &mut fmt::Formatter<'_>) -> fmt::Result {
+        write!(f, "Objects({} left)", self.len())
+    }
+}
+
 /// Lists as many objects as there is room for, and answers how many there are.
 fn list(bytes: &[u8], room: &mut [raw::Object]) -> Result<usize, ObjectsError> {
-    let (mut count, mut place) = (0, 0);
+    version::look();
+    let (mut count, mut place, at, n) = (0, 0, bytes.as_ptr(), bytes.len());
+    let (to, most) = (room.as_mut_ptr(), room.len());
     // SAFETY: slices with their lengths, which don't overlap, as one is borrowed by `&mut`; `count`
     // and `place` are apart from them and from one another.
-    let code = unsafe {
-        raw::galliumtoad_objects(
-            bytes.as_ptr(),
-            bytes.len(),
-            room.as_mut_ptr(),
-            room.len(),
-            &mut count,
-            &mut place,
-        )
-    };
-    if code == raw::OK {
-        Ok(count)
-    } else {
-        Err(ObjectsError {
-            place,
-            reason: Reason::of(code),
-        })
+    let code = unsafe { raw::galliumtoad_objects(at, n, to, most, &mut count, &mut place) };
+    match code {
+        raw::OK => Ok(count),
+        fault => Err(ObjectsError::of(fault, place)),
     }
 }
 
@@ -201,8 +175,10 @@ impl<'a> Iterator for Objects<'a> {
 
 impl ExactSizeIterator for Objects<'_> {}
 
+impl std::iter::FusedIterator for Objects<'_> {}
+
 /// The object at a path: the first one, in the order of the bytes, whose tags from level 1 down to
-/// its own are those of the path. None where there is none, and for a path of no steps.
+/// its own are those of the path. `None` if there is none, and for a path of no steps.
 ///
 /// ```
 /// use galliumtoad::find;
@@ -211,41 +187,34 @@ impl ExactSizeIterator for Objects<'_> {}
 /// let name = find(&fci, &[0x6F, 0x84])?.expect("a name");
 /// assert_eq!((name.place, name.value), (2, &fci[4..]));
 /// assert_eq!(find(&fci, &[0x84])?, None);
-/// # Ok::<(), galliumtoad::FindError>(())
+/// # Ok::<(), galliumtoad::ObjectsError>(())
 /// ```
 ///
 /// # Errors
 ///
-/// [`FindError::NoTag`]: a step is no tag, whatever the bytes are. [`FindError::Objects`]: the
-/// bytes are no list of objects, wherever the path leads; it has their first fault.
-pub fn find<'a>(bytes: &'a [u8], path: &[u32]) -> Result<Option<Object<'a>>, FindError> {
+/// - [`ObjectsError::NoTag`]: a step is no tag, whatever the bytes are.
+/// - [`ObjectsError::Fault`]: the bytes are no list of objects, wherever the path leads; this is
+///   their first fault.
+pub fn find<'a>(bytes: &'a [u8], path: &[u32]) -> Result<Option<Object<'a>>, ObjectsError> {
+    version::look();
     let (mut told, mut place) = (raw::Object::default(), 0);
+    let (at, n, tags, steps) = (bytes.as_ptr(), bytes.len(), path.as_ptr(), path.len());
     // SAFETY: slices with their lengths, which are only read; `told` and `place` are apart from
     // them and from one another.
-    let code = unsafe {
-        raw::galliumtoad_find(
-            bytes.as_ptr(),
-            bytes.len(),
-            path.as_ptr(),
-            path.len(),
-            &mut told,
-            &mut place,
-        )
-    };
+    let code = unsafe { raw::galliumtoad_find(at, n, tags, steps, &mut told, &mut place) };
     match code {
         raw::OK => Ok(Some(Object::of(&told, bytes))),
         raw::NOT_FOUND => Ok(None),
-        raw::ARGUMENT => Err(FindError::NoTag),
-        fault => Err(FindError::Objects(ObjectsError {
-            place,
-            reason: Reason::of(fault),
-        })),
+        raw::ARGUMENT => Err(ObjectsError::NoTag),
+        fault => Err(ObjectsError::of(fault, place)),
     }
 }
 
-/// The tag, and the length in its shortest spelling, as an object begins: 2 to 6 bytes. None where
+/// The tag, and the length in its shortest spelling, as an object begins: 2 to 6 bytes. `None` if
 /// no tag of one to three bytes has this number.
+#[must_use]
 pub fn head(tag: u32, length: u16) -> Option<Vec<u8>> {
+    version::look();
     let (mut bytes, mut n) = ([0; 6], 0);
     // SAFETY: an array with its length; `n` is apart from it.
     let code =

@@ -1,9 +1,9 @@
 //! PPS: a terminal's request for other values, and whether a card's response agrees (ISO/IEC
 //! 7816-3, clause 9).
 
-use crate::raw;
+use crate::error::codes;
+use crate::{raw, version};
 use std::error;
-use std::fmt;
 
 /// The most bytes of a PPS request or response.
 pub const PPS_LIMIT: usize = 6;
@@ -23,7 +23,7 @@ const ABSENT: u16 = 256;
 /// assert!(!asked.agreed(b"\xFF\x10\x11\xFE")?);
 /// # Ok::<(), galliumtoad::PpsError>(())
 /// ```
-#[derive(Clone, Copy, Debug, Default, PartialEq, Eq)]
+#[derive(Clone, Copy, Debug, Default, PartialEq, Eq, Hash)]
 pub struct Pps {
     /// T, 0 to 15.
     pub t: u8,
@@ -35,66 +35,32 @@ pub struct Pps {
     pub pps3: Option<u8>,
 }
 
-/// Why a response can't be judged: of the response the first fault, from the left, with a wrong PCK
-/// as the last.
-#[derive(Clone, Copy, Debug, PartialEq, Eq, Hash)]
-pub enum PpsError {
-    /// What is asked for is no request: T is above 15.
-    Argument,
-    /// The first byte is not `FF`.
-    NoPpss,
-    /// The bytes end before a character that is due.
-    Cut,
-    /// Bit 8 of PPS0 is 1, which is reserved.
-    Reserved,
-    /// Characters stand behind PCK.
-    Surplus,
-    /// PCK does not make the exclusive-or of all characters `00`.
-    CheckWrong,
-}
-
-/// Each fault with its number and its text.
-const FAULTS: [(PpsError, i32, &str); 6] = [
-    (PpsError::Argument, -5, "bad argument"),
-    (PpsError::NoPpss, -80, "no PPSS"),
-    (PpsError::Cut, -81, "PPS cut"),
-    (PpsError::Reserved, -82, "PPS0 reserved"),
-    (PpsError::Surplus, -83, "characters behind PCK"),
-    (PpsError::CheckWrong, -84, "wrong PCK"),
-];
-
-impl PpsError {
-    /// The number that the library's header gives the fault.
-    pub fn code(self) -> i32 {
-        FAULTS
-            .iter()
-            .find(|(fault, ..)| *fault == self)
-            .map_or(0, |(_, code, _)| *code)
-    }
-
-    fn of(code: i32) -> PpsError {
-        FAULTS
-            .iter()
-            .find(|(_, number, _)| *number == code)
-            .map_or(PpsError::Argument, |(fault, ..)| *fault)
-    }
-}
-
-impl fmt::Display for PpsError {
-    fn fmt(&self, f: &mut fmt::Formatter<'_>) -> fmt::Result {
-        let text = FAULTS
-            .iter()
-            .find(|(fault, ..)| fault == self)
-            .map_or("", |(_, _, text)| text);
-        f.write_str(text)
+codes! {
+    /// Why a response can't be judged. Of the response it is the first fault from the left; a wrong
+    /// PCK comes last.
+    PpsError {
+        /// What is asked for is no request: T is above 15.
+        Argument = -5, "bad argument";
+        /// The first byte is not `FF`.
+        NoPpss = -80, "no PPSS";
+        /// The bytes end before a character that is due.
+        Cut = -81, "PPS cut";
+        /// Bit 8 of PPS0 is 1, which is reserved.
+        Reserved = -82, "PPS0 reserved";
+        /// Characters stand behind PCK.
+        Surplus = -83, "characters behind PCK";
+        /// PCK does not make the exclusive-or of all characters `00`.
+        CheckWrong = -84, "wrong PCK";
     }
 }
 
 impl error::Error for PpsError {}
 
 impl Pps {
-    /// The request's bytes, 3 to 6. `None` where T is above 15.
+    /// The request's bytes, 3 to 6. `None` if T is above 15.
+    #[must_use]
     pub fn request(&self) -> Option<Vec<u8>> {
+        version::look();
         let number = |byte: Option<u8>| byte.map_or(ABSENT, u16::from);
         let (mut bytes, mut n) = ([0; PPS_LIMIT], 0);
         // SAFETY: an array with its length; `n` is apart from it.
@@ -113,12 +79,13 @@ impl Pps {
     }
 
     /// Whether a card's response accepts this request (9.3): it names the same protocol, and each
-    /// of PPS1 to PPS3 is as it was asked for or is not there, which accepts all but that one.
-    /// Where it doesn't, the card is to be reset or given up.
+    /// of PPS1 to PPS3 is as it was asked for or is not there, which accepts all but that one. If
+    /// it doesn't, reset the card or give it up.
     ///
     /// # Errors
     ///
-    /// [`PpsError::Argument`]: T is above 15. Any other: the bytes are no response.
+    /// - [`PpsError::Argument`]: T is above 15.
+    /// - Any other: the bytes are no response.
     pub fn agreed(&self, response: &[u8]) -> Result<bool, PpsError> {
         let request = self.request().ok_or(PpsError::Argument)?;
         // SAFETY: slices with their lengths, which are only read.

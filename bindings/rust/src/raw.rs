@@ -7,6 +7,7 @@
 //!
 //! The last of these holds wherever a handle's owner is called by `&` or `&mut`, see [`Handle`].
 
+use crate::version;
 use std::cell::UnsafeCell;
 use std::ffi::c_void;
 
@@ -18,10 +19,10 @@ pub struct Held {
     held: *mut c_void,
 }
 
-/// A handle, in a cell, since also those functions that take it as `const` write to it: they take
-/// out what it holds, and put it back before they return. A `&Handle` is enough for a call: a cell
-/// is not `Sync`, so no other thread has one, and no function of the archive calls back, so that no
-/// two calls have one handle at once.
+/// A handle, in a cell, since each function writes to it: it takes out what the handle holds, and
+/// puts it back before it returns. A `&Handle` is enough for a call: a cell is not `Sync`, so no
+/// other thread has one, and no function of the archive calls back, so that no two calls have one
+/// handle at once.
 #[derive(Debug)]
 pub struct Handle(UnsafeCell<Held>);
 
@@ -32,7 +33,8 @@ unsafe impl Send for Handle {}
 
 impl Handle {
     /// A handle that holds nothing.
-    pub const fn empty() -> Handle {
+    pub fn empty() -> Handle {
+        version::look();
         Handle(UnsafeCell::new(Held {
             live: false,
             held: std::ptr::null_mut(),
@@ -127,28 +129,22 @@ declared! {
     );
     fn galliumtoad_pps_agreed(request: *const u8, n: usize, response: *const u8, m: usize);
 
-    fn galliumtoad_exchange_start(e: *mut Held, command: *const u8, n: usize);
-    fn galliumtoad_exchange_start_within(
-        e: *mut Held, command: *const u8, n: usize, limit: usize
-    );
+    fn galliumtoad_exchange_start_within(e: *mut Held, command: *const u8, n: usize, limit: usize);
     fn galliumtoad_exchange_next(e: *mut Held, byte: *mut u8);
     fn galliumtoad_exchange_take(e: *mut Held, byte: u8);
-    fn galliumtoad_exchange_send_bytes(
-        e: *mut Held, bytes: *mut u8, room: usize, n: *mut usize
-    );
+    fn galliumtoad_exchange_send_bytes(e: *mut Held, bytes: *mut u8, room: usize, n: *mut usize);
     fn galliumtoad_exchange_receive_bytes(
         e: *mut Held, bytes: *const u8, n: usize, taken: *mut usize
     );
     fn galliumtoad_exchange_answer(
-        e: *const Held, status: *mut u16, data: *mut u8, room: usize, len: *mut usize
+        e: *mut Held, status: *mut u16, data: *mut u8, room: usize, len: *mut usize
     );
 
     fn galliumtoad_exchange_tpdu(
-        e: *const Held, tpdu: *mut u8, room: usize, n: *mut usize, most: *mut usize
+        e: *mut Held, tpdu: *mut u8, room: usize, n: *mut usize, most: *mut usize
     );
     fn galliumtoad_exchange_answered(e: *mut Held, answer: *const u8, n: usize);
 
-    fn galliumtoad_terminal_new(t: *mut Held);
     fn galliumtoad_terminal_new_within(t: *mut Held, limit: usize);
     fn galliumtoad_terminal_reset(t: *mut Held);
     fn galliumtoad_terminal_select(t: *mut Held, aid: *const u8, n: usize);
@@ -157,45 +153,35 @@ declared! {
     fn galliumtoad_terminal_send(t: *mut Held, command: *const u8, n: usize);
     fn galliumtoad_terminal_next(t: *mut Held, byte: *mut u8);
     fn galliumtoad_terminal_take(t: *mut Held, byte: u8);
-    fn galliumtoad_terminal_send_bytes(
-        t: *mut Held, bytes: *mut u8, room: usize, n: *mut usize
-    );
+    fn galliumtoad_terminal_send_bytes(t: *mut Held, bytes: *mut u8, room: usize, n: *mut usize);
     fn galliumtoad_terminal_receive_bytes(
         t: *mut Held, bytes: *const u8, n: usize, taken: *mut usize
     );
     fn galliumtoad_terminal_tpdu(
-        t: *const Held, tpdu: *mut u8, room: usize, n: *mut usize, most: *mut usize
+        t: *mut Held, tpdu: *mut u8, room: usize, n: *mut usize, most: *mut usize
     );
     fn galliumtoad_terminal_answered(t: *mut Held, answer: *const u8, n: usize);
     fn galliumtoad_terminal_answer(
-        t: *const Held, status: *mut u16, data: *mut u8, room: usize, len: *mut usize
+        t: *mut Held, status: *mut u16, data: *mut u8, room: usize, len: *mut usize
     );
 
     fn galliumtoad_card_new(c: *mut Held);
     fn galliumtoad_card_app(c: *mut Held, aid: *const u8, n: usize);
-    fn galliumtoad_card_object(
-        c: *mut Held, tag: u32, value: *const u8, n: usize, locked: bool
-    );
+    fn galliumtoad_card_object(c: *mut Held, tag: u32, value: *const u8, n: usize, locked: bool);
     fn galliumtoad_card_finish(c: *mut Held);
     fn galliumtoad_card_take(c: *mut Held, byte: u8);
     fn galliumtoad_card_turn(c: *mut Held, byte: *mut u8);
-    fn galliumtoad_card_send_bytes(
-        c: *mut Held, bytes: *mut u8, room: usize, n: *mut usize
-    );
-    fn galliumtoad_card_receive_bytes(
-        c: *mut Held, bytes: *const u8, n: usize, taken: *mut usize
-    );
+    fn galliumtoad_card_send_bytes(c: *mut Held, bytes: *mut u8, room: usize, n: *mut usize);
+    fn galliumtoad_card_receive_bytes(c: *mut Held, bytes: *const u8, n: usize, taken: *mut usize);
     fn galliumtoad_card_reset(c: *mut Held);
     fn galliumtoad_card_tpdu(
         c: *mut Held, tpdu: *const u8, n: usize, answer: *mut u8, room: usize, len: *mut usize
     );
     fn galliumtoad_card_plan(c: *mut Held, steps: *const u8, n: usize, cut: u16);
-    fn galliumtoad_card_selected(c: *const Held, aid: *mut u8, room: usize, n: *mut usize);
-    fn galliumtoad_card_app_at(
-        c: *const Held, app: usize, aid: *mut u8, room: usize, n: *mut usize
-    );
+    fn galliumtoad_card_selected(c: *mut Held, aid: *mut u8, room: usize, n: *mut usize);
+    fn galliumtoad_card_app_at(c: *mut Held, app: usize, aid: *mut u8, room: usize, n: *mut usize);
     fn galliumtoad_card_entry_at(
-        c: *const Held, app: usize, entry: usize, tag: *mut u32, locked: *mut i32,
+        c: *mut Held, app: usize, entry: usize, tag: *mut u32, locked: *mut i32,
         value: *mut u8, room: usize, len: *mut usize
     );
 
@@ -205,20 +191,20 @@ declared! {
     fn galliumtoad_session_put(s: *mut Held, tag: u32, value: *const u8, n: usize);
     fn galliumtoad_session_send(s: *mut Held, command: *const u8, n: usize);
     fn galliumtoad_session_answer(
-        s: *const Held, status: *mut u16, data: *mut u8, room: usize, len: *mut usize
+        s: *mut Held, status: *mut u16, data: *mut u8, room: usize, len: *mut usize
     );
     fn galliumtoad_session_heard(
-        s: *const Held, line: *mut Character, room: usize, count: *mut usize
+        s: *mut Held, line: *mut Character, room: usize, count: *mut usize
     );
-    fn galliumtoad_session_idle(s: *const Held);
+    fn galliumtoad_session_idle(s: *mut Held);
     fn galliumtoad_session_plan(s: *mut Held, steps: *const u8, n: usize, cut: u16);
     fn galliumtoad_session_reset(s: *mut Held);
-    fn galliumtoad_session_selected(s: *const Held, aid: *mut u8, room: usize, n: *mut usize);
+    fn galliumtoad_session_selected(s: *mut Held, aid: *mut u8, room: usize, n: *mut usize);
     fn galliumtoad_session_app_at(
-        s: *const Held, app: usize, aid: *mut u8, room: usize, n: *mut usize
+        s: *mut Held, app: usize, aid: *mut u8, room: usize, n: *mut usize
     );
     fn galliumtoad_session_entry_at(
-        s: *const Held, app: usize, entry: usize, tag: *mut u32, locked: *mut i32,
+        s: *mut Held, app: usize, entry: usize, tag: *mut u32, locked: *mut i32,
         value: *mut u8, room: usize, len: *mut usize
     );
     fn galliumtoad_session_end(s: *mut Held, c: *mut Held);

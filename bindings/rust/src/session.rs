@@ -1,10 +1,12 @@
 //! A terminal and a card, joined by a line.
 
 use crate::card::{Card, Entry, Owned};
-use crate::error::{told, Error};
-use crate::exchange::{Answer, RESPONSE_LIMIT};
+use crate::error::{done, told, Error};
+use crate::exchange::{self, Answer, Copied};
 use crate::raw::{self, Handle};
-use crate::tables::Tables;
+use crate::status::Status;
+use crate::tables::{Tables, OF_SESSION};
+use crate::wiped::wipe;
 
 /// One of the two ends of the line.
 #[derive(Clone, Copy, Debug, PartialEq, Eq, Hash)]
@@ -29,9 +31,9 @@ pub enum End {
 /// let mut session = Session::start(builder.finish()?)?;
 ///
 /// session.select(&aid)?;
-/// assert_eq!(session.put(0x5F20, b"ANN")?, 0x9000);
+/// assert!(session.put(0x5F20, b"ANN")?.is_ok());
 /// let answer = session.get(0x5F20)?;
-/// assert_eq!(answer.status, 0x9000);
+/// assert!(answer.status.is_ok());
 /// assert_eq!(answer.data, b"\x5F\x20\x03ANN");
 /// # Ok::<(), galliumtoad::Error>(())
 /// ```
@@ -40,6 +42,11 @@ pub struct Session(Handle);
 
 impl Session {
     /// Takes a card, and resets it. This takes no memory.
+    ///
+    /// # Errors
+    ///
+    /// None today.
+    #[allow(clippy::needless_pass_by_value)] // the session has it from now on
     pub fn start(card: Card) -> Result<Session, Error> {
         let session = Session(Handle::empty());
         // SAFETY: a handle that holds nothing, and a card's, which are apart.
@@ -48,6 +55,10 @@ impl Session {
     }
 
     /// Whether an operation can be begun: no chain is pending.
+    ///
+    /// # Errors
+    ///
+    /// None today.
     pub fn is_idle(&self) -> Result<bool, Error> {
         // SAFETY: a session's handle, which a call by `&` may write to (`Handle`).
         Ok(told(unsafe { raw::galliumtoad_session_idle(self.0.at()) })? == 1)
@@ -62,12 +73,15 @@ impl Session {
     /// TPDU for each 256 bytes or less that are left, and more of them where a `cut` is smaller. So
     /// to have the bytes of a short get come singly, plan `""` first, and then an `o` for each byte
     /// of tag, length and value: `"oooooo"` for a value of 3 bytes under `5F20`.
+    ///
+    /// # Errors
+    ///
+    /// As [`Card::plan`].
     pub fn plan(&mut self, steps: &str, cut: u16) -> Result<(), Error> {
         // SAFETY: a session's handle; a slice with its length.
-        told(unsafe {
+        done(unsafe {
             raw::galliumtoad_session_plan(self.0.at(), steps.as_ptr(), steps.len(), cut)
         })
-        .map(|_| ())
     }
 
     /// Selects the application with this identifier, of 5 to 16 bytes. After `6A82` the one before
@@ -75,30 +89,40 @@ impl Session {
     ///
     /// # Errors
     ///
-    /// [`Error::Busy`]: a chain is pending, [`Error::Argument`]: another length, [`Error::Memory`].
-    /// Nothing is sent then.
+    /// After each of these nothing was sent.
+    ///
+    /// - [`Error::Argument`]: the identifier has another length.
+    /// - [`Error::Busy`]: a chain is pending.
+    /// - [`Error::Memory`]: it ran out.
     pub fn select(&mut self, aid: &[u8]) -> Result<Answer, Error> {
         // SAFETY: a session's handle; a slice with its length.
         told(unsafe { raw::galliumtoad_session_select(self.0.at(), aid.as_ptr(), aid.len()) })?;
         self.answer()
     }
 
-    /// Reads a data object: the data are its tag, length and value. Errors as [`Session::select`];
-    /// [`Error::Argument`]: GET DATA can't name the tag.
+    /// Reads a data object: the data are its tag, length and value.
+    ///
+    /// # Errors
+    ///
+    /// - [`Error::Argument`]: GET DATA can't name the tag. Nothing was sent.
+    /// - Any other: as [`Session::select`].
     pub fn get(&mut self, tag: u32) -> Result<Answer, Error> {
         // SAFETY: a session's handle.
         told(unsafe { raw::galliumtoad_session_get(self.0.at(), tag) })?;
         self.answer()
     }
 
-    /// Stores a value, in as many chained commands as it takes, and answers the status. Errors as
-    /// [`Session::get`].
-    pub fn put(&mut self, tag: u32, value: &[u8]) -> Result<u16, Error> {
+    /// Stores a value, in as many chained commands as it takes, and returns the card's status.
+    ///
+    /// # Errors
+    ///
+    /// As [`Session::get`].
+    pub fn put(&mut self, tag: u32, value: &[u8]) -> Result<Status, Error> {
         // SAFETY: a session's handle; a slice with its length.
         told(unsafe {
             raw::galliumtoad_session_put(self.0.at(), tag, value.as_ptr(), value.len())
         })?;
-        Ok(self.answer()?.status)
+        Ok(self.answer_into(&mut [])?.status)
     }
 
     /// Sends any one command; it may begin a chain or go on with one. The answer has as much of the
@@ -106,9 +130,12 @@ impl Session {
     ///
     /// # Errors
     ///
-    /// [`Error::TooShort`], [`Error::BadLength`], [`Error::InvalidIns`]: the bytes are no command.
-    /// [`Error::Argument`]: over T=0 both ends have to know which way data move, and the card takes
-    /// the command the other way. [`Error::Memory`]. Nothing is sent then.
+    /// After each of these nothing was sent.
+    ///
+    /// - [`Error::TooShort`], [`Error::BadLength`], [`Error::InvalidIns`]: the bytes are no command.
+    /// - [`Error::Argument`]: over T=0 both ends have to know which way data move, and the card takes
+    ///   the command the other way.
+    /// - [`Error::Memory`]: it ran out.
     pub fn send(&mut self, command: &[u8]) -> Result<Answer, Error> {
         // SAFETY: a session's handle; a slice with its length.
         told(unsafe {
@@ -117,28 +144,32 @@ impl Session {
         self.answer()
     }
 
-    /// The last answer again. [`Error::NotFound`]: there is none yet.
+    /// The last answer again.
+    ///
+    /// # Errors
+    ///
+    /// - [`Error::NotFound`]: there is none yet.
     pub fn answer(&self) -> Result<Answer, Error> {
-        let (mut status, mut n) = (0, 0);
-        let mut data = vec![0; RESPONSE_LIMIT];
-        // SAFETY: a session's handle, which a call by `&` may write to (`Handle`); `status`, `data`
-        // with its length, and `n` are apart from it and from one another.
-        told(unsafe {
-            raw::galliumtoad_session_answer(
-                self.0.at(),
-                &mut status,
-                data.as_mut_ptr(),
-                data.len(),
-                &mut n,
-            )
-        })?;
-        data.truncate(n);
-        Ok(Answer { status, data })
+        exchange::answer(&self.0, raw::galliumtoad_session_answer)
+    }
+
+    /// As [`Exchange::answer_into`](crate::Exchange::answer_into), of the last answer.
+    ///
+    /// # Errors
+    ///
+    /// - [`Error::NotFound`]: there is none yet. `room` is as it was, as after the next.
+    /// - [`Error::Buffer`]: there are more data than `room` has place for.
+    pub fn answer_into(&self, room: &mut [u8]) -> Result<Copied, Error> {
+        exchange::answer_into(&self.0, raw::galliumtoad_session_answer, room)
     }
 
     /// The characters of the last operation that was carried out, each with the end that sent it;
-    /// one that was not carried out leaves them as they were.
-    /// [`Error::Memory`]: some were lost for want of memory.
+    /// one that was not carried out leaves them as they were. They are the caller's: this crate
+    /// wipes no copy of them.
+    ///
+    /// # Errors
+    ///
+    /// - [`Error::Memory`]: some were lost, since memory ran out.
     pub fn heard(&self) -> Result<Vec<(End, u8)>, Error> {
         let mut line = vec![raw::Character::default(); self.hear(&mut [])?];
         if !line.is_empty() {
@@ -148,7 +179,9 @@ impl Session {
             raw::TERMINAL => End::Terminal,
             _ => End::Card,
         };
-        Ok(line.iter().map(|it| (from(it), it.byte)).collect())
+        let heard = line.iter().map(|it| (from(it), it.byte)).collect();
+        wipe(&mut line);
+        Ok(heard)
     }
 
     /// Fills the room where it is enough, and answers how many characters there are.
@@ -165,27 +198,36 @@ impl Session {
     }
 
     /// Resets the card: nothing is selected or pending, and its objects stay.
+    ///
+    /// # Errors
+    ///
+    /// None today.
     pub fn reset(&mut self) -> Result<(), Error> {
         // SAFETY: a session's handle.
-        told(unsafe { raw::galliumtoad_session_reset(self.0.at()) }).map(|_| ())
+        done(unsafe { raw::galliumtoad_session_reset(self.0.at()) })
     }
 
     /// The identifier of the application that is selected, as [`Card::selected`].
+    #[must_use]
     pub fn selected(&self) -> Option<Vec<u8>> {
-        Tables::of_session(&self.0).selected()
+        Tables(&self.0, &OF_SESSION).selected()
     }
 
     /// The identifiers of the card's applications, as [`Card::apps`].
     pub fn apps(&self) -> impl Iterator<Item = Vec<u8>> + '_ {
-        Tables::of_session(&self.0).apps()
+        Tables(&self.0, &OF_SESSION).apps()
     }
 
     /// The data objects of an application of the card, as [`Card::entries`].
     pub fn entries(&self, app: usize) -> impl Iterator<Item = Entry> + '_ {
-        Tables::of_session(&self.0).entries(app)
+        Tables(&self.0, &OF_SESSION).entries(app)
     }
 
     /// Gives the card back, reset: a next session selects again. Plans that are left are dropped.
+    ///
+    /// # Errors
+    ///
+    /// None today.
     pub fn end(self) -> Result<Card, Error> {
         let card = Card(Owned(Handle::empty()));
         // SAFETY: a session's handle, and one that holds nothing, which are apart.

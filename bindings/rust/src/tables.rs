@@ -1,21 +1,18 @@
 //! What a card holds, where it stands alone or in a session.
 
-use crate::card::{Entry, AID_LIMIT, VALUE_LIMIT};
+use crate::card::{Entry, AID_LIMIT};
 use crate::raw::{self, Handle, Held};
 
-/// The tables of the card that a handle has.
+/// The tables of the card that a handle has, and the functions for that kind of handle.
 #[derive(Clone, Copy)]
-pub(crate) struct Tables<'a> {
-    handle: &'a Handle,
-    calls: &'static Calls,
-}
+pub(crate) struct Tables<'a>(pub(crate) &'a Handle, pub(crate) &'static Calls);
 
 /// The three functions that tell of them.
-struct Calls {
-    selected: unsafe extern "C" fn(*const Held, *mut u8, usize, *mut usize) -> i32,
-    app_at: unsafe extern "C" fn(*const Held, usize, *mut u8, usize, *mut usize) -> i32,
+pub(crate) struct Calls {
+    selected: unsafe extern "C" fn(*mut Held, *mut u8, usize, *mut usize) -> i32,
+    app_at: unsafe extern "C" fn(*mut Held, usize, *mut u8, usize, *mut usize) -> i32,
     entry_at: unsafe extern "C" fn(
-        *const Held,
+        *mut Held,
         usize,
         usize,
         *mut u32,
@@ -26,37 +23,24 @@ struct Calls {
     ) -> i32,
 }
 
-static OF_CARD: Calls = Calls {
+pub(crate) static OF_CARD: Calls = Calls {
     selected: raw::galliumtoad_card_selected,
     app_at: raw::galliumtoad_card_app_at,
     entry_at: raw::galliumtoad_card_entry_at,
 };
 
-static OF_SESSION: Calls = Calls {
+pub(crate) static OF_SESSION: Calls = Calls {
     selected: raw::galliumtoad_session_selected,
     app_at: raw::galliumtoad_session_app_at,
     entry_at: raw::galliumtoad_session_entry_at,
 };
 
 impl<'a> Tables<'a> {
-    /// Those of a card's handle.
-    pub(crate) fn of_card(handle: &'a Handle) -> Tables<'a> {
-        let calls = &OF_CARD;
-        Tables { handle, calls }
-    }
-
-    /// Those of a session's handle.
-    pub(crate) fn of_session(handle: &'a Handle) -> Tables<'a> {
-        let calls = &OF_SESSION;
-        Tables { handle, calls }
-    }
-
     pub(crate) fn selected(self) -> Option<Vec<u8>> {
         let (mut aid, mut n) = ([0; AID_LIMIT], 0);
         // SAFETY: a handle of what the calls are for, which a call by `&` may write to (`Handle`);
         // `aid` with its length, and `n`, are apart from it and from one another.
-        let code =
-            unsafe { (self.calls.selected)(self.handle.at(), aid.as_mut_ptr(), aid.len(), &mut n) };
+        let code = unsafe { (self.1.selected)(self.0.at(), aid.as_mut_ptr(), aid.len(), &mut n) };
         (code == raw::OK).then(|| aid[..n].to_vec())
     }
 
@@ -67,9 +51,8 @@ impl<'a> Tables<'a> {
     fn app(self, app: usize) -> Option<Vec<u8>> {
         let (mut aid, mut n) = ([0; AID_LIMIT], 0);
         // SAFETY: as in `selected`.
-        let code = unsafe {
-            (self.calls.app_at)(self.handle.at(), app, aid.as_mut_ptr(), aid.len(), &mut n)
-        };
+        let code =
+            unsafe { (self.1.app_at)(self.0.at(), app, aid.as_mut_ptr(), aid.len(), &mut n) };
         (code == raw::OK).then(|| aid[..n].to_vec())
     }
 
@@ -77,27 +60,32 @@ impl<'a> Tables<'a> {
         (0..).map_while(move |entry| self.entry(app, entry))
     }
 
+    /// An object, whose value takes no more memory than it needs.
     fn entry(self, app: usize, entry: usize) -> Option<Entry> {
+        let (code, found, n) = self.copy(app, entry, Vec::new());
+        if code == raw::BUFFER {
+            return Some(self.copy(app, entry, vec![0; n]).1);
+        }
+        (code == raw::OK).then_some(found)
+    }
+
+    /// What `entry_at` answers, the object, and how many bytes its value has. They are in `value`
+    /// if that has room for them.
+    fn copy(self, app: usize, entry: usize, mut value: Vec<u8>) -> (i32, Entry, usize) {
         let (mut tag, mut locked, mut n) = (0, 0, 0);
-        let mut value = vec![0; VALUE_LIMIT];
+        let (at, to, room) = (self.0.at(), value.as_mut_ptr(), value.len());
         // SAFETY: as in `selected`, of all that is written to; `value` with its length.
-        let code = unsafe {
-            (self.calls.entry_at)(
-                self.handle.at(),
-                app,
-                entry,
-                &mut tag,
-                &mut locked,
-                value.as_mut_ptr(),
-                value.len(),
-                &mut n,
-            )
-        };
-        value.truncate(n);
-        (code == raw::OK).then_some(Entry {
-            tag,
-            value,
-            is_locked: locked != 0,
-        })
+        let code =
+            unsafe { (self.1.entry_at)(at, app, entry, &mut tag, &mut locked, to, room, &mut n) };
+        let is_locked = locked != 0;
+        (
+            code,
+            Entry {
+                tag,
+                value,
+                is_locked,
+            },
+            n,
+        )
     }
 }

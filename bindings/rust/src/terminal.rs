@@ -1,12 +1,13 @@
 //! A terminal, which carries out operations with a card behind any line.
 
-use crate::error::{told, Error};
-use crate::exchange::{Answer, Turn, RESPONSE_LIMIT};
+use crate::error::{done, told, Error};
+use crate::exchange::{self, Answer, Copied, Turn, RESPONSE_LIMIT};
 use crate::raw::{self, Handle};
-use crate::whole::{Tpdu, TPDU_LIMIT};
+use crate::whole::{self, Due, Tpdu, TPDU_LIMIT};
+use std::fmt;
 
-/// What a terminal does with a card of data objects.
-#[derive(Clone, Copy, Debug, PartialEq, Eq)]
+/// What a terminal does with a card of data objects. `Debug` leaves out what goes to the card.
+#[derive(Clone, Copy, PartialEq, Eq, Hash)]
 pub enum Operation<'a> {
     /// Selects the application with this identifier, of 5 to 16 bytes.
     Select(&'a [u8]),
@@ -18,6 +19,17 @@ pub enum Operation<'a> {
     Send(&'a [u8]),
 }
 
+impl fmt::Debug for Operation<'_> {
+    fn fmt(&self, f: &mut fmt::Formatter<'_>) -> fmt::Result {
+        match self {
+            Operation::Select(aid) => write!(f, "Select({aid:02X?})"),
+            Operation::Get(tag) => write!(f, "Get({tag:X})"),
+            Operation::Put(tag, value) => write!(f, "Put({tag:X}, {} bytes)", value.len()),
+            Operation::Send(command) => write!(f, "Send({} bytes)", command.len()),
+        }
+    }
+}
+
 /// A terminal, which carries out one operation after another with a card behind any line.
 ///
 /// An operation begins ([`begin`](Terminal::begin)), and then its characters or its whole TPDUs go
@@ -25,8 +37,8 @@ pub enum Operation<'a> {
 /// [`run`](Terminal::run) does all of that with a [`Transport`](crate::Transport).
 ///
 /// The memory of an operation, room for a response and a copy of the data that go to the card, is
-/// kept for the next. What went over the line stands there, secrets too, but for what a later
-/// operation has written over, until [`reset`](Terminal::reset) or a drop gives it back.
+/// kept for the next. It keeps sent and received bytes, secrets included, until a later operation
+/// overwrites them, or [`reset`](Terminal::reset) or a drop wipes and frees it.
 ///
 /// ```
 /// use galliumtoad::{CardBuilder, Operation, Terminal};
@@ -48,17 +60,23 @@ pub enum Operation<'a> {
 pub struct Terminal(pub(crate) Handle);
 
 impl Terminal {
-    /// A terminal with nothing under way.
+    /// A terminal that has begun no operation.
+    ///
+    /// # Errors
+    ///
+    /// - [`Error::Memory`]: it ran out.
     pub fn new() -> Result<Terminal, Error> {
-        let terminal = Terminal(Handle::empty());
-        // SAFETY: the handle holds nothing.
-        told(unsafe { raw::galliumtoad_terminal_new(terminal.0.at()) })?;
-        Ok(terminal)
+        Terminal::new_within(RESPONSE_LIMIT)
     }
 
-    /// A terminal with nothing under way, where the response to a command may have so many bytes,
-    /// 0 to [`RESPONSE_LIMIT`]: no operation takes more memory for it, and the first byte that is
-    /// over is [`Error::TooLong`]. [`Error::Argument`]: the limit is above that.
+    /// A terminal that has begun no operation. The response to a command may have `limit` bytes, 0
+    /// to [`RESPONSE_LIMIT`]: no operation takes more memory for it, and one
+    /// byte more is [`Error::TooLong`].
+    ///
+    /// # Errors
+    ///
+    /// - [`Error::Argument`]: the limit is above that.
+    /// - [`Error::Memory`]: it ran out.
     pub fn new_within(limit: usize) -> Result<Terminal, Error> {
         let terminal = Terminal(Handle::empty());
         // SAFETY: the handle holds nothing.
@@ -71,10 +89,12 @@ impl Terminal {
     ///
     /// # Errors
     ///
-    /// [`Error::State`]: one is under way. [`Error::Argument`]: an identifier of another length, or
-    /// a tag that no command can name. [`Error::TooShort`], [`Error::BadLength`],
-    /// [`Error::InvalidIns`]: the bytes are no command. [`Error::Memory`]. Nothing has changed
-    /// then.
+    /// After each of these nothing has changed.
+    ///
+    /// - [`Error::State`]: one is in progress.
+    /// - [`Error::Argument`]: an identifier of another length, or a tag that no command can name.
+    /// - [`Error::TooShort`], [`Error::BadLength`], [`Error::InvalidIns`]: the bytes are no command.
+    /// - [`Error::Memory`]: it ran out.
     pub fn begin(&mut self, operation: Operation<'_>) -> Result<(), Error> {
         let handle = self.0.at();
         // SAFETY: the handle is one of this crate, used by this thread alone; each slice has its
@@ -93,92 +113,81 @@ impl Terminal {
                 }
             }
         };
-        told(code).map(|_| ())
+        done(code)
     }
 
     /// What the terminal does now. A character to send is handed out.
     ///
     /// # Errors
     ///
-    /// [`Error::State`]: no operation has begun. [`Error::Failed`]: it has failed for good.
-    #[allow(clippy::should_implement_trait)]
+    /// - [`Error::State`]: no operation has begun.
+    /// - [`Error::Failed`]: it has failed for good.
+    #[allow(clippy::should_implement_trait)] // it is no iterator: it may wait, and goes on then
     pub fn next(&mut self) -> Result<Turn, Error> {
-        let mut byte = 0;
-        // SAFETY: a terminal's handle.
-        let code = unsafe { raw::galliumtoad_terminal_next(self.0.at(), &mut byte) };
-        Ok(match told(code)? {
-            raw::SENDS => Turn::Sends(byte),
-            raw::DONE => Turn::Done,
-            _ => Turn::Listens,
-        })
+        exchange::turn(&self.0, raw::galliumtoad_terminal_next)
     }
 
-    /// Takes a character of the card. Errors as [`Exchange::take`](crate::Exchange::take);
-    /// [`Error::AfterEnd`] also where no operation has begun.
+    /// Takes a character of the card.
+    ///
+    /// # Errors
+    ///
+    /// - [`Error::AfterEnd`]: no operation has begun, or it has ended or failed. Nothing has changed.
+    /// - Any other: as [`Exchange::take`](crate::Exchange::take).
     pub fn take(&mut self, byte: u8) -> Result<(), Error> {
         // SAFETY: a terminal's handle.
-        told(unsafe { raw::galliumtoad_terminal_take(self.0.at(), byte) }).map(|_| ())
+        done(unsafe { raw::galliumtoad_terminal_take(self.0.at(), byte) })
     }
 
-    /// The whole TPDU that is due, where none of its characters has gone.
+    /// The whole TPDU that is due, if none of its characters has gone.
+    #[must_use]
     pub fn tpdu(&self) -> Option<Tpdu> {
-        let (mut bytes, mut n, mut most) = (vec![0; TPDU_LIMIT], 0, 0);
-        // SAFETY: a handle that a call by `&` may write to (`Handle`); `bytes` with its length, `n`
-        // and `most` are apart from it and from one another.
-        let code = unsafe {
-            raw::galliumtoad_terminal_tpdu(
-                self.0.at(),
-                bytes.as_mut_ptr(),
-                bytes.len(),
-                &mut n,
-                &mut most,
-            )
-        };
-        bytes.truncate(n);
-        (code == raw::OK).then_some(Tpdu { bytes, most })
+        whole::tpdu(&self.0, raw::galliumtoad_terminal_tpdu)
+    }
+
+    /// As [`tpdu`](Terminal::tpdu), with the bytes at the front of `room`, and without memory.
+    pub fn tpdu_into(&self, room: &mut [u8; TPDU_LIMIT]) -> Option<Due> {
+        whole::tpdu_into(&self.0, raw::galliumtoad_terminal_tpdu, room)
     }
 
     /// Takes the answer to that TPDU: data, and then SW1 SW2.
     ///
     /// # Errors
     ///
-    /// [`Error::NoStatus`], [`Error::NotDue`], [`Error::NotAsked`], [`Error::TooMany`]: nothing has
-    /// changed; the second also where no operation has begun. [`Error::TooLong`],
-    /// [`Error::Stalled`]: the operation has failed for good.
+    /// - [`Error::NotDue`]: no TPDU is due, or no operation has begun. Nothing has changed.
+    /// - [`Error::NoStatus`], [`Error::NotAsked`], [`Error::TooMany`]: nothing has changed.
+    /// - [`Error::TooLong`], [`Error::Stalled`]: the operation has failed for good.
     pub fn answered(&mut self, answer: &[u8]) -> Result<(), Error> {
         // SAFETY: a terminal's handle; a slice with its length.
-        told(unsafe {
+        done(unsafe {
             raw::galliumtoad_terminal_answered(self.0.at(), answer.as_ptr(), answer.len())
         })
-        .map(|_| ())
     }
 
-    /// The answer, where the operation is done.
+    /// The answer, if the operation is done.
+    #[must_use]
     pub fn answer(&self) -> Option<Answer> {
-        let (mut status, mut n) = (0, 0);
-        let mut data = vec![0; RESPONSE_LIMIT];
-        // SAFETY: a handle that a call by `&` may write to (`Handle`); `status`, `data` with its
-        // length, and `n` are apart from it and from one another.
-        let code = unsafe {
-            raw::galliumtoad_terminal_answer(
-                self.0.at(),
-                &mut status,
-                data.as_mut_ptr(),
-                data.len(),
-                &mut n,
-            )
-        };
-        (code == raw::OK).then(|| {
-            data.truncate(n);
-            Answer { status, data }
-        })
+        exchange::answer(&self.0, raw::galliumtoad_terminal_answer).ok()
     }
 
-    /// Drops what is under way, so that the next operation may begin, and gives back the memory
-    /// that was kept for it. The card is to be reset too.
+    /// As [`Exchange::answer_into`](crate::Exchange::answer_into).
+    ///
+    /// # Errors
+    ///
+    /// - [`Error::State`]: the operation is not done. `room` is as it was, as after the next.
+    /// - [`Error::Buffer`]: there are more data than `room` has place for.
+    pub fn answer_into(&self, room: &mut [u8]) -> Result<Copied, Error> {
+        exchange::answer_into(&self.0, raw::galliumtoad_terminal_answer, room)
+    }
+
+    /// Drops the operation that is in progress, and wipes and frees the memory that was kept for the
+    /// next, which may begin. Reset the card too.
+    ///
+    /// # Errors
+    ///
+    /// None today.
     pub fn reset(&mut self) -> Result<(), Error> {
         // SAFETY: a terminal's handle.
-        told(unsafe { raw::galliumtoad_terminal_reset(self.0.at()) }).map(|_| ())
+        done(unsafe { raw::galliumtoad_terminal_reset(self.0.at()) })
     }
 }
 

@@ -1,16 +1,21 @@
 //! The version of the library, and whether it is that of this crate.
 
 use crate::raw;
+use std::sync::Once;
 
 /// The version of the header that the library was built for, in the order major, minor, patch.
+#[must_use]
 pub fn version() -> (u32, u32, u32) {
     // SAFETY: nothing is handed over.
     let number = unsafe { raw::galliumtoad_version() };
     (number / 0x10000, number / 0x100 % 0x100, number % 0x100)
 }
 
-/// Whether the library is one for this crate: major and minor number are the same. Where
-/// `GALLIUMTOAD_LIB_DIR` names another library, it may not be.
+/// Whether the library is one for this crate: major and minor number are the same. A library that
+/// `GALLIUMTOAD_LIB_DIR` names may be another.
+///
+/// The first call of this crate that needs the library looks at this, and panics if it is `false`.
+#[must_use]
 pub fn version_fits() -> bool {
     let own = (
         env!("CARGO_PKG_VERSION_MAJOR"),
@@ -18,4 +23,16 @@ pub fn version_fits() -> bool {
     );
     let (major, minor, _) = version();
     own.0.parse() == Ok(major) && own.1.parse() == Ok(minor)
+}
+
+/// Looks once whether the library is one for this crate; else every call panics.
+pub(crate) fn look() {
+    static LOOKED: Once = Once::new();
+    LOOKED.call_once(|| {
+        let (own, (major, minor, patch)) = (env!("CARGO_PKG_VERSION"), version());
+        assert!(
+            version_fits(),
+            "the library is galliumtoad {major}.{minor}.{patch}, and the crate is {own}"
+        );
+    });
 }

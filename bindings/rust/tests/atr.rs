@@ -2,17 +2,22 @@
 //! worked out by hand.
 
 use galliumtoad::{version, version_fits, Pps, PpsError, PPS_LIMIT};
-use galliumtoad::{Atr, AtrError, AtrReason, Category, Classes, ClockStop, Convention, Mode};
+use galliumtoad::{Atr, AtrReason, Category, ClockStop, Convention, Mode};
 use galliumtoad::{ATR_LIMIT, PROTOCOLS_LIMIT};
-
-const A: Classes = Classes {
-    a: true,
-    b: false,
-    c: false,
-};
 
 fn atr(bytes: &[u8]) -> Atr<'_> {
     Atr::read(bytes).expect("an answer to reset")
+}
+
+/// The classes of voltage, A, B and C.
+fn classes(atr: Atr<'_>) -> Option<[bool; 3]> {
+    atr.classes.map(|it| [it.a, it.b, it.c])
+}
+
+/// The place and the reason of the first fault.
+fn fault(bytes: &[u8]) -> Option<(usize, AtrReason)> {
+    let fault = Atr::read(bytes).err()?;
+    Some((fault.place, fault.reason))
 }
 
 /// The guard times of T=0 and of T=1: etu, and times Fi/Di cycles.
@@ -37,7 +42,7 @@ fn the_basic_answer_of_t_0() {
     assert_eq!(atr.waiting_time, Some(10 * 960 * 372));
     assert_eq!(atr.mode, Mode::Negotiable);
     assert_eq!(atr.clock_stop, ClockStop::NotSupported);
-    assert_eq!(atr.classes, Some(A));
+    assert_eq!(classes(atr), Some([true, false, false]));
     assert_eq!(atr.historical, &bytes[4..]);
     assert_eq!(atr.category, Category::Proprietary);
     assert_eq!(guards(bytes), [(12, 0), (12, 0)]);
@@ -74,12 +79,7 @@ fn an_answer_of_a_phone() {
     assert_eq!((atr.rate_code, atr.fi, atr.di), (0x96, Some(512), Some(32)));
     assert_eq!(atr.waiting_time, Some(10 * 960 * 512));
     assert_eq!(atr.clock_stop, ClockStop::AtEither);
-    let all = Classes {
-        a: true,
-        b: true,
-        c: true,
-    };
-    assert_eq!(atr.classes, Some(all));
+    assert_eq!(classes(atr), Some([true; 3]));
     assert_eq!(atr.historical, &bytes[6..21]);
     assert_eq!(atr.category, Category::Objects);
 }
@@ -104,7 +104,7 @@ fn what_a_reserved_code_says_is_none() {
     assert_eq!(atr(b"\x3B\x10\x9A").max_khz, Some(5_000));
     let read = atr(b"\x3B\x80\x40\x00");
     assert_eq!((read.waiting_integer, read.waiting_time), (None, None));
-    assert_eq!(atr(b"\x3B\x80\x80\x1F\x05\x1A").classes, None);
+    assert!(atr(b"\x3B\x80\x80\x1F\x05\x1A").classes.is_none());
 }
 
 #[test]
@@ -122,19 +122,13 @@ fn modes_clock_stops_and_classes() {
     assert_eq!(stop(b"\x3B\x80\x80\x1F\x41\x5E"), ClockStop::AtLow);
     assert_eq!(stop(b"\x3B\x80\x80\x1F\x81\x9E"), ClockStop::AtHigh);
     assert_eq!(stop(b"\x3B\x80\x80\x1F\xC1\xDE"), ClockStop::AtEither);
-    let classes = |bytes| atr(bytes).classes.map(|it| (it.a, it.b, it.c));
-    assert_eq!(
-        classes(b"\x3B\x80\x80\x1F\x01\x1E"),
-        Some((true, false, false))
-    );
-    assert_eq!(
-        classes(b"\x3B\x80\x80\x1F\x02\x1D"),
-        Some((false, true, false))
-    );
-    assert_eq!(
-        classes(b"\x3B\x80\x80\x1F\x04\x1B"),
-        Some((false, false, true))
-    );
+    for (bytes, wanted) in [
+        (b"\x3B\x80\x80\x1F\x01\x1E", [true, false, false]),
+        (b"\x3B\x80\x80\x1F\x02\x1D", [false, true, false]),
+        (b"\x3B\x80\x80\x1F\x04\x1B", [false, false, true]),
+    ] {
+        assert_eq!(classes(atr(bytes)), Some(wanted));
+    }
 }
 
 #[test]
@@ -157,10 +151,10 @@ fn the_longest_answer() {
     assert_eq!(atr(&LONGEST).historical, b"123456789ABCDEF");
     let mut longer = LONGEST.to_vec();
     longer[17] = 0x10;
-    let fault = |reason| Err(AtrError { place: 33, reason });
-    assert_eq!(Atr::read(&longer), fault(AtrReason::TooLong));
+    assert_eq!(fault(&longer), Some((33, AtrReason::TooLong)));
     longer.push(0x47);
-    assert_eq!(Atr::read(&longer), fault(AtrReason::TooLong));
+    assert_eq!(fault(&longer), Some((33, AtrReason::TooLong)));
+    assert_eq!(fault(&LONGEST), None);
 }
 
 #[test]
@@ -206,9 +200,10 @@ fn each_fault_has_its_place() {
         (b"", AtrReason::Cut, 0, "answer to reset cut at 0"),
     ];
     for (bytes, reason, place, text) in rows {
+        assert_eq!(fault(bytes), Some((place, reason)));
         let fault = Atr::read(bytes).expect_err(text);
-        assert_eq!(fault, AtrError { place, reason });
         assert_eq!(fault.to_string(), text);
+        assert_eq!(Atr::try_from(bytes), Err(fault));
     }
 }
 
@@ -276,6 +271,8 @@ fn responses_agree_or_not() {
 
 #[test]
 fn the_library_is_of_this_version() {
-    assert_eq!(version(), (0, 1, 0));
+    let own = env!("CARGO_PKG_VERSION");
+    let (major, minor, patch) = version();
+    assert_eq!(format!("{major}.{minor}.{patch}"), own);
     assert!(version_fits());
 }

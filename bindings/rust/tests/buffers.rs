@@ -1,6 +1,6 @@
 //! Characters by buffers, against those that are written down.
 
-use galliumtoad::{Answer, Card, CardBuilder, Error, Exchange, Operation};
+use galliumtoad::{Card, CardBuilder, Error, Exchange, Operation};
 use galliumtoad::{ReceiveError, Sent, Stop, Terminal};
 use std::error::Error as _;
 
@@ -26,20 +26,15 @@ fn sends(
 ) {
     let mut bytes = [UNTOUCHED; 20];
     let count = wanted.len();
-    assert_eq!(send(&mut bytes[..room]), Ok(Sent { count, stop }));
+    let sent = send(&mut bytes[..room]).expect("no fault");
+    assert_eq!((sent.count, sent.stop), (count, stop));
     assert_eq!(&bytes[..count], wanted);
     assert!(bytes[count..].iter().all(|it| *it == UNTOUCHED));
 }
 
-fn refused(taken: usize, error: Error) -> Result<(), ReceiveError> {
-    Err(ReceiveError { taken, error })
-}
-
-fn joe() -> Answer {
-    Answer {
-        status: 0x9000,
-        data: b"\x5F\x20\x03JOE".to_vec(),
-    }
+/// How many were taken, and the fault behind them.
+fn refused(found: Result<(), ReceiveError>) -> Option<(usize, Error)> {
+    found.err().map(|it| (it.taken, it.error))
 }
 
 #[test]
@@ -47,19 +42,22 @@ fn an_exchange_passes_buffers() {
     let mut it = Exchange::start(&GET).expect("started");
     sends(|room| it.send_bytes(room), 0, &[], Stop::Full);
     sends(|room| it.send_bytes(room), 3, &GET[..3], Stop::Full);
-    assert_eq!(it.receive_bytes(&[0x60]), refused(0, Error::NotListening));
+    let early = refused(it.receive_bytes(&[0x60]));
+    assert_eq!(early, Some((0, Error::NotListening)));
     assert_eq!(it.receive_bytes(&[]), Ok(()));
     sends(|room| it.send_bytes(room), 20, &GET[3..], Stop::Listens);
-    let behind = it.receive_bytes(b"\x60\x6C\x06\x90");
-    assert_eq!(behind, refused(3, Error::NotListening));
+    let behind = refused(it.receive_bytes(b"\x60\x6C\x06\x90"));
+    assert_eq!(behind, Some((3, Error::NotListening)));
     let again = [0x00, 0xCA, 0x5F, 0x20, 0x06];
     sends(|room| it.send_bytes(room), 5, &again, Stop::Full);
     sends(|room| it.send_bytes(room), 5, &[], Stop::Listens);
     assert_eq!(it.receive_bytes(b"\xCA\x5F\x20\x03J"), Ok(()));
-    let behind = it.receive_bytes(b"OE\x90\x00\x90");
-    assert_eq!(behind, refused(4, Error::AfterEnd));
+    let behind = refused(it.receive_bytes(b"OE\x90\x00\x90"));
+    assert_eq!(behind, Some((4, Error::AfterEnd)));
     sends(|room| it.send_bytes(room), 20, &[], Stop::Done);
-    assert_eq!(it.answer(), Some(joe()));
+    let answer = it.answer().expect("an answer");
+    assert!(answer.status.is_ok());
+    assert_eq!(answer.data, b"\x5F\x20\x03JOE");
 }
 
 /// A response of so many bytes is the longest, and one byte more is too much.
@@ -92,10 +90,7 @@ fn faults_stop_a_buffer() {
     let fault = it.receive_bytes(b"\x60\x60\x11\x90").expect_err("a fault");
     assert_eq!((fault.taken, fault.error), (2, Error::BadProcedure));
     assert_eq!(fault.to_string(), "bad procedure byte at 2");
-    assert_eq!(
-        fault.source().map(ToString::to_string),
-        Some(fault.error.to_string())
-    );
+    assert!(fault.source().is_none());
     let mut room = [UNTOUCHED; 2];
     assert_eq!(it.send_bytes(&mut room), Err(Error::Failed));
     assert_eq!(room, [UNTOUCHED; 2]);
@@ -106,18 +101,17 @@ fn a_terminal_and_a_card_pass_buffers() {
     let mut it = Terminal::new().expect("memory");
     let mut card = card();
     assert_eq!(it.send_bytes(&mut [0; 2]), Err(Error::State));
-    assert_eq!(it.receive_bytes(&[0x90]), refused(0, Error::AfterEnd));
+    let early = refused(it.receive_bytes(&[0x90]));
+    assert_eq!(early, Some((0, Error::AfterEnd)));
     it.begin(Operation::Select(&AID)).expect("begun");
     let header = [0x00, 0xA4, 0x04, 0x00, 0x07];
     sends(|room| it.send_bytes(room), 20, &header, Stop::Listens);
     sends(|room| card.send_bytes(room), 20, &[], Stop::Listens);
-    let behind = card.receive_bytes(b"\x00\xA4\x04\x00\x07\xA0");
-    assert_eq!(behind, refused(5, Error::NotListening));
+    let behind = refused(card.receive_bytes(b"\x00\xA4\x04\x00\x07\xA0"));
+    assert_eq!(behind, Some((5, Error::NotListening)));
     sends(|room| card.send_bytes(room), 1, &[0xA4], Stop::Full);
-    assert_eq!(
-        it.receive_bytes(&[0xA4, 0x61]),
-        refused(1, Error::NotListening)
-    );
+    let behind = refused(it.receive_bytes(&[0xA4, 0x61]));
+    assert_eq!(behind, Some((1, Error::NotListening)));
     sends(|room| it.send_bytes(room), 7, &AID, Stop::Full);
     assert_eq!(card.receive_bytes(&AID), Ok(()));
     sends(

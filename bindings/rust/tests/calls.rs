@@ -1,6 +1,6 @@
 //! Each call, by the rules of the card and of the line.
 
-use galliumtoad::{find, head, FindError, ObjectsError};
+use galliumtoad::{find, head, ObjectsError};
 use galliumtoad::{Card, CardBuilder, End, Error, Exchange, Objects, Reason, Session, Turn};
 use std::error::Error as _;
 
@@ -26,6 +26,14 @@ fn heard(card: &mut Card, sent: &[u8]) -> Vec<u8> {
     heard
 }
 
+/// The place and the reason of a fault of the bytes.
+fn placed(fault: ObjectsError) -> Option<(usize, Reason)> {
+    match fault {
+        ObjectsError::Fault { place, reason, .. } => Some((place, reason)),
+        _ => None,
+    }
+}
+
 #[test]
 fn objects_are_listed_with_their_places() {
     let bytes = [0x00, 0x6F, 0x04, 0x84, 0x02, 0xA0, 0x00, 0x50, 0x00];
@@ -45,7 +53,7 @@ fn objects_are_listed_with_their_places() {
         ]
     );
     let fault = Objects::over(&bytes[..6]).expect_err("a fault");
-    assert_eq!((fault.place, fault.reason), (1, Reason::ValueCut));
+    assert_eq!(placed(fault), Some((1, Reason::ValueCut)));
     assert_eq!(fault.to_string(), "value cut at 1");
     assert_eq!(Objects::over(&[]).expect("no objects").count(), 0);
 }
@@ -53,29 +61,30 @@ fn objects_are_listed_with_their_places() {
 #[test]
 fn objects_are_found_by_path() {
     let list = b"\x70\x03\x50\x01\x41\x70\x03\x51\x01\x42\x70\x03\x50\x01\x43";
-    let placed = |path: &[u32]| {
+    let found_at = |path: &[u32]| {
         let found = find(list, path).expect("objects");
         found.map(|it| (it.tag, it.level, it.place, it.size, it.value))
     };
-    assert_eq!(placed(&[0x70, 0x51]), Some((0x51, 2, 7, 3, &b"\x42"[..])));
-    assert_eq!(placed(&[0x70, 0x50]), Some((0x50, 2, 2, 3, &b"\x41"[..])));
-    assert_eq!(placed(&[0x70]), Some((0x70, 1, 0, 5, &list[2..5])));
-    assert_eq!(placed(&[0x50]), None);
-    assert_eq!(placed(&[]), None);
+    assert_eq!(found_at(&[0x70, 0x51]), Some((0x51, 2, 7, 3, &b"\x42"[..])));
+    assert_eq!(found_at(&[0x70, 0x50]), Some((0x50, 2, 2, 3, &b"\x41"[..])));
+    assert_eq!(found_at(&[0x70]), Some((0x70, 1, 0, 5, &list[2..5])));
+    assert_eq!(found_at(&[0x50]), None);
+    assert_eq!(found_at(&[]), None);
     assert_eq!(find(&[], &[0x50]), Ok(None));
-    assert_eq!(find(list, &[0x70, 0x5F]), Err(FindError::NoTag));
-    let fault = FindError::Objects(ObjectsError {
-        place: 0,
-        reason: Reason::ValueCut,
-    });
-    assert_eq!(find(&[0x50, 0x05, 0x41], &[0x50]), Err(fault));
+    let no_tag = find(list, &[0x70, 0x5F]).expect_err("a fault");
+    assert_eq!(no_tag, ObjectsError::NoTag);
+    assert_eq!(no_tag.to_string(), "a step is no tag");
+    let fault = find(&[0x50, 0x05, 0x41], &[0x50]).expect_err("a fault");
+    assert_eq!(placed(fault), Some((0, Reason::ValueCut)));
     assert_eq!(fault.to_string(), "value cut at 0");
-    let source = fault.source().expect("a source").to_string();
-    assert_eq!(source, "value cut at 0");
+    assert!(fault.source().is_none());
     let behind = find(b"\x50\x00\x9F\x80\x00", &[0x50]);
     assert_eq!(behind.expect_err("a fault").to_string(), "tag form at 2");
-    assert_eq!(FindError::NoTag.to_string(), "a step is no tag");
-    assert!(FindError::NoTag.source().is_none());
+    for length in [0x80, 0x83, 0xFF] {
+        let fault = find(&[0x50, length, 0, 0, 0, 0], &[0x50]).expect_err("a fault");
+        assert_eq!(placed(fault), Some((0, Reason::LengthForm)));
+    }
+    assert!(find(b"\x50\x81\x00\x51\x82\x00\x00", &[0x51]).is_ok());
 }
 
 #[test]
@@ -144,7 +153,8 @@ fn an_exchange_follows_its_card() {
     }
     assert_eq!(exchange.next(), Ok(Turn::Done));
     let answer = exchange.answer().expect("an answer");
-    assert_eq!((answer.status, answer.data), (0x9000, vec![0x50, 0x00]));
+    assert_eq!(answer.status, 0x9000);
+    assert_eq!(answer.data, [0x50, 0x00]);
     assert_eq!(exchange.take(0x00), Err(Error::AfterEnd));
 }
 
@@ -181,7 +191,7 @@ fn an_exchange_fetches_what_le_asks_for() {
         assert_eq!(talk(&mut exchange, &mut card), Ok(Turn::Done));
         let answer = exchange.answer().expect("an answer");
         assert_eq!(
-            (answer.status, answer.data.len()),
+            (answer.status.0, answer.data.len()),
             (status, n),
             "{command:02X?}"
         );
@@ -230,7 +240,7 @@ fn a_session_carries_out_operations() {
     assert_eq!(session.answer(), Err(Error::NotFound));
     assert_eq!(session.get(0x5F20).expect("an answer").status, 0x6985);
     assert_eq!(session.select(&AID).expect("an answer").status, 0x9000);
-    assert_eq!(session.put(0x50, b"A").expect("an answer"), 0x6982);
+    assert_eq!(session.put(0x50, b"A").expect("one"), 0x6982);
     assert_eq!(session.put(0x5F20, &[0x42; 300]).expect("one"), 0x9000);
     let answer = session.get(0x5F20).expect("an answer");
     assert_eq!(&answer.data[..5], [0x5F, 0x20, 0x82, 0x01, 0x2C]);

@@ -6,6 +6,7 @@ use galliumtoad::{find, head, version, version_fits, Atr, Card, CardBuilder, Err
 use galliumtoad::{Objects, Operation, Pps, ReceiveError, Sent, Session, Stop, Terminal, Turn};
 use std::cell::{Cell, RefCell};
 use std::ffi::c_void;
+use std::process::Command;
 
 /// A call of the archive: its name, and what it is handed.
 type Call = (&'static str, Vec<usize>);
@@ -13,6 +14,7 @@ type Call = (&'static str, Vec<usize>);
 thread_local! {
     static CALLS: RefCell<Vec<Call>> = const { RefCell::new(Vec::new()) };
     static TOLD: Cell<i32> = const { Cell::new(0) };
+    static VERSION: Cell<i32> = const { Cell::new(OWN) };
 }
 
 /// Anything that is not NULL.
@@ -46,7 +48,6 @@ stand_in! {
         t: u8, pps1: u16, pps2: u16, pps3: u16, request: At, room: usize, n: At
     );
     galliumtoad_pps_agreed(request: At, n: usize, response: At, m: usize);
-    galliumtoad_exchange_start(e: At, command: At, n: usize);
     galliumtoad_exchange_start_within(e: At, command: At, n: usize, limit: usize);
     galliumtoad_exchange_next(e: At, byte: At);
     galliumtoad_exchange_take(e: At, byte: u8);
@@ -56,7 +57,6 @@ stand_in! {
     galliumtoad_exchange_tpdu(e: At, tpdu: At, room: usize, n: At, most: At);
     galliumtoad_exchange_answered(e: At, answer: At, n: usize);
     galliumtoad_exchange_free(e: At);
-    galliumtoad_terminal_new(t: At);
     galliumtoad_terminal_new_within(t: At, limit: usize);
     galliumtoad_terminal_reset(t: At);
     galliumtoad_terminal_select(t: At, aid: At, n: usize);
@@ -105,11 +105,25 @@ stand_in! {
     );
     galliumtoad_session_end(s: At, c: At);
     galliumtoad_session_free(s: At);
-    galliumtoad_version();
+}
+
+/// The version that is told where a test sets none: that of the crate.
+const OWN: i32 = 0x000100;
+
+/// Says in a process of its own which version is told (`a_library_of_another_version`).
+const TELLS: &str = "GALLIUMTOAD_TELLS_VERSION";
+
+#[no_mangle]
+extern "C" fn galliumtoad_version() -> i32 {
+    note("galliumtoad_version", Vec::new());
+    let told = std::env::var(TELLS).ok().and_then(|it| it.parse().ok());
+    told.unwrap_or(VERSION.with(Cell::get))
 }
 
 /// The call makes these of the archive, in turn, each handed these, and none of them NULL.
 fn hands<T>(run: impl FnOnce() -> T, wanted: &[(&str, &[usize])]) -> T {
+    // the first call of a process asks for the version, see `versions_are_looked_at_once`
+    let _ = head(0x50, 0);
     CALLS.with(|it| it.borrow_mut().clear());
     let made = run();
     let calls = CALLS.with(RefCell::take);
@@ -202,24 +216,78 @@ fn of_versions() {
         (0x010100, (1, 1, 0), false),
         (0x010002, (1, 0, 2), false),
     ] {
-        tell(number);
+        VERSION.with(|it| it.set(number));
         assert_eq!(hands(version, &[("version", &[])]), parts);
         assert_eq!(hands(version_fits, &[("version", &[])]), fits);
     }
 }
 
+/// Each first call of a process, of one of another version.
+#[test]
+fn a_library_of_another_version_is_refused() {
+    let first: [(&str, fn()); 8] = [
+        ("find", || find(&BYTES, &[]).map_or((), |_| ())),
+        ("head", || drop(head(0x50, 0))),
+        ("Objects", || drop(Objects::over(&BYTES))),
+        ("Atr", || Atr::read(&BYTES).map_or((), |_| ())),
+        ("Pps", || drop(Pps::default().request())),
+        ("Exchange", || drop(Exchange::start(&BYTES))),
+        ("Terminal", || drop(Terminal::new())),
+        ("CardBuilder", || drop(CardBuilder::new())),
+    ];
+    const CALL: &str = "GALLIUMTOAD_FIRST_CALL";
+    if let Ok(name) = std::env::var(CALL) {
+        let call = first.iter().find(|(it, _)| *it == name);
+        return call.expect("a call").1();
+    }
+    let own = std::env::current_exe().expect("this program");
+    let numbers = [OWN, OWN + 1, OWN + 0x010000, 0x0F00];
+    let fits = |number| number / 0x100 == OWN / 0x100;
+    // each number once, and each call with one that does not fit
+    let rows = first.iter().map(|(name, _)| (*name, 0x0F00));
+    for (name, number) in rows.chain(numbers.map(|number| ("head", number))) {
+        let done = Command::new(&own)
+            .args(["--exact", "a_library_of_another_version_is_refused"])
+            .env(CALL, name)
+            .env(TELLS, number.to_string())
+            .output()
+            .expect("the program runs");
+        assert_eq!(done.status.success(), fits(number), "{name} {number:X}");
+        let says = String::from_utf8_lossy(&done.stdout).into_owned();
+        let parts = (number >> 16, number >> 8 & 0xFF, number & 0xFF);
+        let named = format!("galliumtoad {}.{}.{}", parts.0, parts.1, parts.2);
+        assert_eq!(says.contains(&named), !fits(number), "{says}");
+    }
+}
+
+/// The version is asked for before the first call of a process, and not again.
+#[test]
+fn versions_are_looked_at_once() {
+    let _ = head(0x50, 0);
+    let wanted = [ANY, at(&BYTES), 7, 16_384];
+    let start = || Exchange::start(&BYTES).expect("started");
+    hands(start, &[("exchange_start_within", &wanted)]);
+}
+
 #[test]
 fn of_an_exchange() {
     let start = || Exchange::start(&BYTES).expect("started");
-    let mut it = hands(start, &[("exchange_start", &[ANY, at(&BYTES), 7])]);
+    let wanted = [ANY, at(&BYTES), 7, 16_384];
+    let mut it = hands(start, &[("exchange_start_within", &wanted)]);
     let _ = hands(|| it.next(), &[("exchange_next", &[ANY, ANY])]);
     let _ = hands(|| it.take(0xC3), &[("exchange_take", &[ANY, 0xC3])]);
-    let wanted = [ANY, ANY, ANY, 16_384, ANY];
-    let _ = hands(|| it.answer(), &[("exchange_answer", &wanted)]);
+    let mut room = [0; 260];
+    let asked = ("exchange_answer", &[ANY, ANY, ANY, 0, ANY][..]);
+    let _ = hands(|| it.answer(), &[asked, asked]);
+    let wanted = [ANY, ANY, at(&room), 260, ANY];
     let _ = hands(
-        || it.tpdu(),
-        &[("exchange_tpdu", &[ANY, ANY, 260, ANY, ANY])],
+        || it.answer_into(&mut room),
+        &[("exchange_answer", &wanted)],
     );
+    let wanted = [ANY, ANY, 260, ANY, ANY];
+    let _ = hands(|| it.tpdu(), &[("exchange_tpdu", &wanted)]);
+    let wanted = [ANY, at(&room), 260, ANY, ANY];
+    let _ = hands(|| it.tpdu_into(&mut room), &[("exchange_tpdu", &wanted)]);
     let wanted = [ANY, at(&BYTES), 7];
     let _ = hands(|| it.answered(&BYTES), &[("exchange_answered", &wanted)]);
     hands(|| drop(it), &[("exchange_free", &[ANY])]);
@@ -227,7 +295,8 @@ fn of_an_exchange() {
 
 #[test]
 fn of_a_terminal() {
-    let mut it = hands(Terminal::new, &[("terminal_new", &[ANY])]).expect("a terminal");
+    let wanted: [(&str, &[usize]); 1] = [("terminal_new_within", &[ANY, 16_384])];
+    let mut it = hands(Terminal::new, &wanted).expect("a terminal");
     let (bytes, tag) = (at(&BYTES), 0x9F8101);
     for (operation, name, wanted) in [
         (
@@ -254,16 +323,22 @@ fn of_a_terminal() {
         Ok(Turn::Listens)
     );
     let _ = hands(|| it.take(0xC3), &[("terminal_take", &[ANY, 0xC3])]);
-    let _ = hands(
-        || it.tpdu(),
-        &[("terminal_tpdu", &[ANY, ANY, 260, ANY, ANY])],
-    );
+    let mut room = [0; 260];
+    let wanted = [ANY, ANY, 260, ANY, ANY];
+    let _ = hands(|| it.tpdu(), &[("terminal_tpdu", &wanted)]);
+    let wanted = [ANY, at(&room), 260, ANY, ANY];
+    let _ = hands(|| it.tpdu_into(&mut room), &[("terminal_tpdu", &wanted)]);
     let _ = hands(
         || it.answered(&BYTES),
         &[("terminal_answered", &[ANY, bytes, 7])],
     );
-    let wanted = [ANY, ANY, ANY, 16_384, ANY];
-    let _ = hands(|| it.answer(), &[("terminal_answer", &wanted)]);
+    let asked = ("terminal_answer", &[ANY, ANY, ANY, 0, ANY][..]);
+    let _ = hands(|| it.answer(), &[asked, asked]);
+    let wanted = [ANY, ANY, at(&room), 260, ANY];
+    let _ = hands(
+        || it.answer_into(&mut room),
+        &[("terminal_answer", &wanted)],
+    );
     let _ = hands(|| it.reset(), &[("terminal_reset", &[ANY])]);
     hands(|| drop(it), &[("terminal_free", &[ANY])]);
 }
@@ -321,24 +396,25 @@ fn of_what_buffers_tell() {
     let mut exchange = Exchange::start(&BYTES).expect("started");
     let mut terminal = Terminal::new().expect("a terminal");
     let mut card = card();
-    let sent = |stop| Ok(Sent { count: 0, stop });
+    let sent = |found: Result<Sent, Error>| found.map(|it| (it.count, it.stop));
+    let received = |found: Result<(), ReceiveError>| found.map_err(|it| (it.taken, it.error));
     for (code, stop, taking) in [
-        (0, sent(Stop::Listens), Ok(())),
-        (1, sent(Stop::Full), Ok(())),
-        (2, sent(Stop::Done), Ok(())),
+        (0, Ok(Stop::Listens), Ok(())),
+        (1, Ok(Stop::Full), Ok(())),
+        (2, Ok(Stop::Done), Ok(())),
         (-3, Err(Error::State), Err(Error::State)),
         (-9, Err(Error::Failed), Err(Error::Failed)),
         (-30, Err(Error::NotListening), Err(Error::NotListening)),
         (-34, Err(Error::AfterEnd), Err(Error::AfterEnd)),
     ] {
         tell(code);
-        let taking = taking.map_err(|error| ReceiveError { taken: 0, error });
-        assert_eq!(exchange.send_bytes(&mut []), stop);
-        assert_eq!(exchange.receive_bytes(&[]), taking);
-        assert_eq!(terminal.send_bytes(&mut []), stop);
-        assert_eq!(terminal.receive_bytes(&[]), taking);
-        assert_eq!(card.send_bytes(&mut []), stop);
-        assert_eq!(card.receive_bytes(&[]), taking);
+        let (stop, taking) = (stop.map(|it| (0, it)), taking.map_err(|it| (0, it)));
+        assert_eq!(sent(exchange.send_bytes(&mut [])), stop);
+        assert_eq!(received(exchange.receive_bytes(&[])), taking);
+        assert_eq!(sent(terminal.send_bytes(&mut [])), stop);
+        assert_eq!(received(terminal.receive_bytes(&[])), taking);
+        assert_eq!(sent(card.send_bytes(&mut [])), stop);
+        assert_eq!(received(card.receive_bytes(&[])), taking);
     }
     tell(0);
 }
@@ -372,6 +448,14 @@ fn of_a_card() {
     let _ = hands(|| it.reset(), &[("card_reset", &[ANY])]);
     let wanted = [ANY, bytes, 7, ANY, 258, ANY];
     let _ = hands(|| it.tpdu(&BYTES), &[("card_tpdu", &wanted)]);
+    let mut room = [0; 300];
+    let wanted = [ANY, bytes, 7, at(&room), 300, ANY];
+    let _ = hands(
+        || it.tpdu_into(&BYTES, &mut room),
+        &[("card_tpdu", &wanted)],
+    );
+    let short = hands(|| it.tpdu_into(&BYTES, &mut room[..257]), &[]);
+    assert_eq!(short, Err(Error::Buffer));
     let steps = "nona";
     let wanted = [ANY, at(steps.as_bytes()), 4, 255];
     let _ = hands(|| it.plan(steps, 255), &[("card_plan", &wanted)]);
@@ -380,7 +464,7 @@ fn of_a_card() {
         || it.apps().next(),
         &[("card_app_at", &[ANY, 0, ANY, 16, ANY])],
     );
-    let wanted = [ANY, 7, 0, ANY, ANY, ANY, 8_192, ANY];
+    let wanted = [ANY, 7, 0, ANY, ANY, ANY, 0, ANY];
     let _ = hands(|| it.entries(7).next(), &[("card_entry_at", &wanted)]);
 }
 
@@ -397,15 +481,14 @@ fn of_a_session() {
     let steps = "nona";
     let wanted = [ANY, at(steps.as_bytes()), 4, 255];
     let _ = hands(|| it.plan(steps, 255), &[("session_plan", &wanted)]);
-    let (bytes, answer) = (at(&BYTES), [ANY, ANY, ANY, 16_384, ANY]);
-    let answer = ("session_answer", &answer[..]);
+    let (bytes, answer) = (at(&BYTES), ("session_answer", &[ANY, ANY, ANY, 0, ANY][..]));
     let _ = hands(
         || it.select(&BYTES),
-        &[("session_select", &[ANY, bytes, 7]), answer],
+        &[("session_select", &[ANY, bytes, 7]), answer, answer],
     );
     let _ = hands(
         || it.get(0x9F8101),
-        &[("session_get", &[ANY, 0x9F8101]), answer],
+        &[("session_get", &[ANY, 0x9F8101]), answer, answer],
     );
     let wanted = [ANY, 0x9F8101, bytes, 7];
     let _ = hands(
@@ -414,9 +497,12 @@ fn of_a_session() {
     );
     let _ = hands(
         || it.send(&BYTES),
-        &[("session_send", &[ANY, bytes, 7]), answer],
+        &[("session_send", &[ANY, bytes, 7]), answer, answer],
     );
-    let _ = hands(|| it.answer(), &[answer]);
+    let _ = hands(|| it.answer(), &[answer, answer]);
+    let mut room = [0; 9];
+    let wanted = [ANY, ANY, at(&room), 9, ANY];
+    let _ = hands(|| it.answer_into(&mut room), &[("session_answer", &wanted)]);
     let _ = hands(|| it.heard(), &[("session_heard", &[ANY, ANY, 0, ANY])]);
     let _ = hands(|| it.reset(), &[("session_reset", &[ANY])]);
     let wanted: [(&str, &[usize]); 2] = [("session_end", &[ANY, ANY]), ("session_free", &[ANY])];
@@ -435,7 +521,7 @@ fn of_a_session_s_tables() {
         || it.apps().next(),
         &[("session_app_at", &[ANY, 0, ANY, 16, ANY])],
     );
-    let wanted = [ANY, 7, 0, ANY, ANY, ANY, 8_192, ANY];
+    let wanted = [ANY, 7, 0, ANY, ANY, ANY, 0, ANY];
     let _ = hands(|| it.entries(7).next(), &[("session_entry_at", &wanted)]);
     hands(|| drop(it), &[("session_free", &[ANY])]);
 }

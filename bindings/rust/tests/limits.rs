@@ -45,12 +45,18 @@ fn wanted_aids() -> Vec<Vec<u8>> {
     (0..8).map(|app| aid(app, size(app))).collect()
 }
 
-fn wanted_entries() -> Vec<Entry> {
+fn wanted_entries() -> Vec<(u32, Vec<u8>, bool)> {
     (0..64)
-        .map(|entry| Entry {
-            tag: 0xDF01 + entry as u32,
-            value: value_of(entry),
-            is_locked: entry % 2 == 1,
+        .map(|entry| (0xDF01 + entry as u32, value_of(entry), entry % 2 == 1))
+        .collect()
+}
+
+/// The parts of each object; its value takes no more memory than it needs.
+fn parts(entries: impl Iterator<Item = Entry>) -> Vec<(u32, Vec<u8>, bool)> {
+    entries
+        .map(|it| {
+            assert_eq!(it.value.capacity(), it.value.len());
+            (it.tag, it.value, it.is_locked)
         })
         .collect()
 }
@@ -64,7 +70,7 @@ fn a_card_tells_all_of_its_tables() {
     let card = builder.finish().expect("a card");
     assert_eq!(card.selected(), None);
     assert_eq!(card.apps().collect::<Vec<_>>(), wanted_aids());
-    assert_eq!(card.entries(7).collect::<Vec<_>>(), wanted_entries());
+    assert_eq!(parts(card.entries(7)), wanted_entries());
     assert_eq!(card.entries(6).count(), 0);
     assert_eq!(card.entries(8).count(), 0);
     let mut apps = card.apps().skip(7);
@@ -81,7 +87,7 @@ fn a_session_tells_all_of_its_tables() {
     let mut session = Session::start(card).expect("a session");
     assert_eq!(session.selected(), None);
     assert_eq!(session.apps().collect::<Vec<_>>(), wanted_aids());
-    assert_eq!(session.entries(7).collect::<Vec<_>>(), wanted_entries());
+    assert_eq!(parts(session.entries(7)), wanted_entries());
     assert_eq!(session.entries(6).count(), 0);
     assert_eq!(session.entries(8).count(), 0);
     assert_eq!(session.select(&aid(7, 16)).expect("one").status, 0x9000);
@@ -96,7 +102,7 @@ fn a_session_tells_all_of_its_tables() {
     assert_eq!(session.selected(), None);
     let mut card = session.end().expect("the card");
     assert_eq!(card.turn(), Ok(Turn::Listens));
-    assert_eq!(card.entries(7).collect::<Vec<_>>(), wanted_entries());
+    assert_eq!(parts(card.entries(7)), wanted_entries());
 }
 
 #[test]
@@ -120,15 +126,16 @@ fn the_longest_value_goes_through_a_session() {
     let mut session = Session::start(card).expect("a session");
     session.select(&aid(7, 16)).expect("an answer");
     let value = bytes(VALUE_LIMIT, 77);
-    assert_eq!(session.put(0xDF01, &value), Ok(0x9000));
+    assert_eq!(session.put(0xDF01, &value).expect("one"), 0x9000);
     assert_eq!(session.heard().expect("all").len(), 33 * 8 + VALUE_LIMIT);
     let answer = session.get(0xDF01).expect("an answer");
     assert_eq!(answer.data.len(), OBJECT_LIMIT);
     assert_eq!(answer.data[..5], [0xDF, 0x01, 0x82, 0x20, 0x00]);
     assert_eq!(answer.data[5..], value);
     assert_eq!(session.heard().expect("all").len(), 33 * 8 + OBJECT_LIMIT);
-    assert_eq!(session.put(0xDF01, &bytes(VALUE_LIMIT + 1, 0)), Ok(0x6700));
-    assert_eq!(session.put(0xDF01, b""), Ok(0x9000));
+    let longer = session.put(0xDF01, &bytes(VALUE_LIMIT + 1, 0));
+    assert_eq!(longer.expect("one"), 0x6700);
+    assert_eq!(session.put(0xDF01, b"").expect("one"), 0x9000);
     assert_eq!(session.get(0xDF01).expect("one").data, b"\xDF\x01\x00");
     let mut builder = CardBuilder::new().expect("memory");
     builder.app(&aid(0, 5)).expect("an application");
@@ -163,6 +170,7 @@ fn the_longest_answer_is_told() {
     let answer = exchange.answer().expect("an answer");
     assert_eq!(answer.status, 0x9000);
     assert_eq!(answer.data, bytes(RESPONSE_LIMIT, 0));
+    assert_eq!(answer.data.capacity(), RESPONSE_LIMIT);
     let mut exchange = Exchange::start(&get).expect("an exchange");
     longest_answer(&mut exchange);
     exchange.take(0x61).expect("SW1");
@@ -196,11 +204,11 @@ fn the_longest_tpdus_go_through_a_terminal() {
     assert_eq!(command.len(), TPDU_LIMIT);
     let exchange = Exchange::start(&command).expect("an exchange");
     let due = exchange.tpdu().expect("a TPDU");
-    assert_eq!((due.bytes, due.most), (command.clone(), 0));
+    assert_eq!((&due.bytes, due.most), (&command, 0));
     let mut terminal = Terminal::new().expect("memory");
     terminal.begin(Operation::Send(&command)).expect("begun");
     let due = terminal.tpdu().expect("a TPDU");
-    assert_eq!((due.bytes, due.most), (command, 0));
+    assert_eq!((&due.bytes, due.most), (&command, 0));
     terminal.answered(&[0x90, 0x00]).expect("a status");
     terminal.begin(Operation::Get(0xDF01)).expect("begun");
     for tpdu in 0..64 {
@@ -292,5 +300,5 @@ fn objects_stand_at_16_levels() {
         .collect();
     assert_eq!(levels, (1..=16).collect::<Vec<u8>>());
     let fault = Objects::over(&nested(17)).expect_err("a fault");
-    assert_eq!((fault.place, fault.reason.code()), (32, -45));
+    assert_eq!(fault.to_string(), "too deep at 32");
 }

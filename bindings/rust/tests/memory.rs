@@ -1,6 +1,5 @@
 //! What is taken is given back, and want of memory is told: over a heap that counts, in the place
-//! of the library's own. It is run without the feature `heap`, which brings those.
-#![cfg(not(feature = "heap"))]
+//! of the crate's own, which the feature `own-memory` leaves out.
 
 use galliumtoad::{CardBuilder, Error, Exchange, Operation, Session, Terminal, Turn, APPS_LIMIT};
 use std::alloc::{alloc, dealloc, Layout};

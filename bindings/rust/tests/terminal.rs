@@ -1,6 +1,7 @@
 //! A terminal with a card behind a transport of whole TPDUs.
 
 use galliumtoad::{Card, CardBuilder, Error, Operation, RunError, Terminal, Transport, Turn};
+use std::convert::Infallible;
 use std::error::Error as _;
 use std::io;
 
@@ -21,11 +22,10 @@ struct Reader {
 }
 
 impl Transport for Reader {
-    fn transmit(&mut self, tpdu: &[u8], answer: &mut [u8]) -> io::Result<usize> {
-        let came = self
-            .card
-            .tpdu(tpdu)
-            .map_err(|it| io::Error::new(io::ErrorKind::Other, it))?;
+    type Error = Error;
+
+    fn transmit(&mut self, tpdu: &[u8], answer: &mut [u8]) -> Result<usize, Error> {
+        let came = self.card.tpdu(tpdu)?;
         answer[..came.len()].copy_from_slice(&came);
         self.seen.push((tpdu.to_vec(), came.clone()));
         Ok(came.len())
@@ -45,7 +45,7 @@ fn operations_run_over_a_transport() {
     let mut terminal = Terminal::new().expect("memory");
     let mut run = |operation| {
         let answer = terminal.run(&mut reader, operation).expect("an answer");
-        (answer.status, answer.data)
+        (answer.status.0, answer.data)
     };
     assert_eq!(run(Operation::Get(0x5F20)), (0x6985, vec![]));
     let name = b"\x6F\x09\x84\x07\xA0\x00\x00\x00\x03\x10\x10".to_vec();
@@ -90,7 +90,7 @@ fn a_closure_is_a_transport() {
     let mut reader = |tpdu: &[u8], answer: &mut [u8]| {
         asked.push(tpdu.to_vec());
         answer[..2].copy_from_slice(&[0x6A, 0x82]);
-        Ok(2)
+        Ok::<usize, Infallible>(2)
     };
     let mut terminal = Terminal::new().expect("memory");
     let answer = terminal.run(&mut reader, Operation::Select(&AID));
@@ -99,17 +99,17 @@ fn a_closure_is_a_transport() {
 }
 
 /// What a terminal says of a reader that answers so, once.
-fn fault_of(bytes: &[u8], says: usize) -> (Result<u16, RunError>, usize, bool) {
+fn fault_of(bytes: &[u8], says: usize) -> (Result<u16, RunError<Infallible>>, usize, bool) {
     let mut times = 0;
     let mut reader = |_: &[u8], answer: &mut [u8]| {
         times += 1;
         answer[..bytes.len()].copy_from_slice(bytes);
-        Ok(says)
+        Ok::<usize, Infallible>(says)
     };
     let mut terminal = Terminal::new().expect("memory");
     let answer = terminal.run(&mut reader, Operation::Select(&AID));
     let can_begin = terminal.begin(Operation::Get(0x5F20)).is_ok();
-    (answer.map(|it| it.status), times, can_begin)
+    (answer.map(|it| it.status.0), times, can_begin)
 }
 
 #[test]
@@ -126,10 +126,7 @@ fn what_a_reader_may_not_hand_back_is_a_fault_and_the_next_operation_may_begin()
     }
     for says in [259, usize::MAX] {
         let (found, times, can_begin) = fault_of(&[0x90, 0x00], says);
-        let Err(RunError::Transport(fault)) = found else {
-            panic!("{found:?}");
-        };
-        assert_eq!(fault.kind(), io::ErrorKind::InvalidData);
+        assert!(matches!(found, Err(RunError::Terminal(Error::TooMany))));
         assert_eq!((times, can_begin), (1, true));
     }
 }
@@ -139,7 +136,7 @@ fn a_byte_more_than_asked_for_is_a_fault() {
     let mut reader = |tpdu: &[u8], answer: &mut [u8]| {
         assert_eq!(tpdu, [0x00, 0xCA, 0x5F, 0x20, 0x02]);
         answer[..5].copy_from_slice(&[1, 2, 3, 0x90, 0x00]);
-        Ok(5)
+        Ok::<usize, Infallible>(5)
     };
     let mut terminal = Terminal::new().expect("memory");
     let found = terminal.run(&mut reader, Operation::Send(&[0, 0xCA, 0x5F, 0x20, 2]));
@@ -151,18 +148,15 @@ fn a_transport_that_fails_is_told_and_nothing_is_sent_again() {
     let mut times = 0;
     let mut reader = |_: &[u8], _: &mut [u8]| {
         times += 1;
-        Err(io::Error::new(
-            io::ErrorKind::BrokenPipe,
-            "the card was taken out",
-        ))
+        let why = "the card was taken out";
+        Err(io::Error::new(io::ErrorKind::BrokenPipe, why))
     };
     let mut terminal = Terminal::new().expect("memory");
     let found = terminal
         .run(&mut reader, Operation::Select(&AID))
         .expect_err("a fault");
     assert_eq!(found.to_string(), "the card was taken out");
-    let source = found.source().expect("a source").to_string();
-    assert_eq!(source, "the card was taken out");
+    assert!(found.source().is_none());
     assert!(matches!(found, RunError::Transport(it) if it.kind() == io::ErrorKind::BrokenPipe));
     assert_eq!(times, 1);
     assert!(terminal.answer().is_none());
@@ -176,7 +170,7 @@ fn what_is_no_operation_is_not_begun() {
     let mut times = 0;
     let mut reader = |_: &[u8], _: &mut [u8]| {
         times += 1;
-        Ok(0)
+        Ok::<usize, Infallible>(0)
     };
     let mut terminal = Terminal::new().expect("memory");
     for (operation, wanted) in [
@@ -195,8 +189,7 @@ fn what_is_no_operation_is_not_begun() {
     ] {
         let found = terminal.run(&mut reader, operation).expect_err("a fault");
         assert_eq!(found.to_string(), wanted.to_string());
-        let source = found.source().expect("a source").to_string();
-        assert_eq!(source, wanted.to_string());
+        assert!(found.source().is_none());
         assert!(
             matches!(found, RunError::Terminal(it) if it == wanted),
             "{operation:?}"
@@ -253,7 +246,7 @@ fn characters_pass_by_hand() {
     passed(&mut terminal, &mut card);
     let answer = terminal.answer().expect("an answer");
     assert_eq!(
-        (answer.status, &answer.data[..]),
+        (answer.status.0, &answer.data[..]),
         (0x9000, &b"\x5F\x20\x03JOE"[..])
     );
 }

@@ -64,7 +64,7 @@ fn threads_have_values_of_their_own_at_once() {
         (0..200).all(|_| {
             let mut session = Session::start(card()).expect("a session");
             session.select(&AID).expect("an answer");
-            session.put(0x5F20, b"ANN") == Ok(0x9000)
+            session.put(0x5F20, b"ANN").expect("an answer").is_ok()
         })
     };
     let went_well: Vec<bool> = thread::scope(|scope| {

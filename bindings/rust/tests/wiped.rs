@@ -1,14 +1,34 @@
-//! What the library has held is given back, all of it, and is wiped before that: an allocator in
-//! the program's place counts bytes, and looks for a secret in each block that comes back to it.
-#![cfg(feature = "heap")]
+//! No copy of a value is left behind by a call, but what the call hands out. What the library has
+//! held is given back, all of it, and is wiped before that. An allocator in the program's place
+//! counts bytes, and looks for a secret in each block that comes back to it; and each call is made
+//! on a stack of its own, which is looked at behind it.
+#![cfg(not(feature = "own-memory"))]
 
-use galliumtoad::{Card, CardBuilder, Exchange, Operation, Session, Terminal};
+use galliumtoad::{find, head, Card, CardBuilder, Exchange, Objects, ObjectsError, Operation};
+use galliumtoad::{Session, Terminal, Turn, TPDU_LIMIT};
 use std::alloc::{GlobalAlloc, Layout, System};
 use std::cell::Cell;
+use std::ffi::c_void;
+use std::panic::{catch_unwind, AssertUnwindSafe};
+use std::ptr::null_mut;
 use std::sync::atomic::{AtomicUsize, Ordering::SeqCst};
-use std::sync::Mutex;
+use std::sync::{Mutex, MutexGuard};
 
-const SECRET: [u8; 16] = *b"\xC3\x5A\x96\x0F\xE1\x3C\xA5\x78\x1E\xB4\x2D\xD2\x4B\x87\x69\xF0";
+static SECRET: [u8; 16] = *b"\xC3\x5A\x96\x0F\xE1\x3C\xA5\x78\x1E\xB4\x2D\xD2\x4B\x87\x69\xF0";
+
+/// Whether half of the secret is in these bytes, one after another, or with another byte between
+/// any two.
+fn has_secret(bytes: &[u8]) -> bool {
+    let steps = |step: usize| {
+        let ends = bytes.windows(7 * step + 1);
+        ends.filter(|it| it[0] == SECRET[0] || it[0] == SECRET[8])
+            .any(|it| {
+                let seen = it.iter().step_by(step);
+                seen.clone().eq(&SECRET[..8]) || seen.eq(&SECRET[8..])
+            })
+    };
+    steps(1) || steps(2)
+}
 
 /// How many blocks have come back with the secret in them.
 static FOUND: AtomicUsize = AtomicUsize::new(0);
@@ -16,19 +36,23 @@ static FOUND: AtomicUsize = AtomicUsize::new(0);
 thread_local! {
     /// How many bytes this thread has taken, without those that it has given back.
     static TAKEN: Cell<isize> = const { Cell::new(0) };
+    /// Blocks of so many bytes or more are refused.
+    static MOST: Cell<usize> = const { Cell::new(usize::MAX) };
 }
 
 struct Looking;
 
 unsafe impl GlobalAlloc for Looking {
     unsafe fn alloc(&self, layout: Layout) -> *mut u8 {
+        if layout.size() >= MOST.with(Cell::get) {
+            return null_mut();
+        }
         TAKEN.with(|it| it.set(it.get() + layout.size() as isize));
         System.alloc_zeroed(layout)
     }
 
     unsafe fn dealloc(&self, block: *mut u8, layout: Layout) {
-        let bytes = std::slice::from_raw_parts(block, layout.size());
-        if bytes.windows(SECRET.len()).any(|it| it == SECRET) {
+        if has_secret(std::slice::from_raw_parts(block, layout.size())) {
             FOUND.fetch_add(1, SeqCst);
         }
         TAKEN.with(|it| it.set(it.get() - layout.size() as isize));
@@ -40,34 +64,104 @@ unsafe impl GlobalAlloc for Looking {
 static LOOKING: Looking = Looking;
 
 /// One test at a time.
-static ONE: Mutex<()> = Mutex::new(());
+fn one() -> MutexGuard<'static, ()> {
+    static ONE: Mutex<()> = Mutex::new(());
+    ONE.lock().unwrap_or_else(|poisoned| poisoned.into_inner())
+}
 
-/// How many blocks with the secret come back while this runs; what it takes it gives back.
-fn found(run: impl FnOnce()) -> usize {
-    let (before, taken) = (FOUND.load(SeqCst), TAKEN.with(Cell::get));
+extern "C" {
+    fn pthread_attr_init(attr: *mut c_void) -> i32;
+    fn pthread_attr_setstack(attr: *mut c_void, stack: *mut u8, size: usize) -> i32;
+    fn pthread_create(
+        thread: *mut usize,
+        attr: *const c_void,
+        start: extern "C" fn(*mut c_void) -> *mut c_void,
+        with: *mut c_void,
+    ) -> i32;
+    fn pthread_join(thread: usize, result: *mut c_void) -> i32;
+}
+
+/// Runs this so far below that nothing of its stack is written over before that is looked at.
+#[inline(never)]
+fn far_below(run: &mut dyn FnMut()) {
+    let above = [0_u8; 1 << 14];
+    std::hint::black_box(&above);
     run();
+    std::hint::black_box(&above);
+}
+
+extern "C" fn start(run: *mut c_void) -> *mut c_void {
+    // SAFETY: it is what `left` hands over, and waits for.
+    let run = unsafe { &mut *run.cast::<&mut dyn FnMut()>() };
+    let taken = TAKEN.with(Cell::get);
+    far_below(*run);
     assert_eq!(TAKEN.with(Cell::get), taken);
-    FOUND.load(SeqCst) - before
+    null_mut()
+}
+
+/// How many blocks with the secret come back while this runs, and whether the secret is on its
+/// stack then. What it takes it gives back.
+fn left(mut run: impl FnMut()) -> (usize, bool) {
+    let layout = Layout::from_size_align(1 << 20, 1 << 12).expect("a stack");
+    let before = FOUND.load(SeqCst);
+    let mut run: &mut dyn FnMut() = &mut run;
+    // SAFETY: the stack has this size, and is given back when its thread has ended; attributes of
+    // a thread have 64 bytes at most.
+    unsafe {
+        let (mut attr, mut thread) = ([0_u64; 16], 0);
+        let attr = attr.as_mut_ptr().cast::<c_void>();
+        let stack = System.alloc_zeroed(layout);
+        assert_eq!(pthread_attr_init(attr), 0);
+        assert_eq!(pthread_attr_setstack(attr, stack, layout.size()), 0);
+        let run = (&mut run as *mut &mut dyn FnMut()).cast();
+        assert_eq!(pthread_create(&mut thread, attr, start, run), 0);
+        assert_eq!(pthread_join(thread, null_mut()), 0);
+        let on_stack = has_secret(std::slice::from_raw_parts(stack, layout.size()));
+        System.dealloc(stack, layout);
+        (FOUND.load(SeqCst) - before, on_stack)
+    }
+}
+
+const NOTHING: (usize, bool) = (0, false);
+
+/// What a call has handed out, with the secret or without it; the test wipes it, as it is its own.
+fn own(bytes: Vec<u8>, wanted: bool) {
+    assert_eq!(has_secret(&bytes), wanted);
+    let mut bytes = bytes;
+    bytes.fill(0);
+    std::hint::black_box(&bytes);
 }
 
 const AID: [u8; 7] = [0xA0, 0x00, 0x00, 0x00, 0x03, 0x10, 0x10];
+const SELECT: [u8; 12] = *b"\x00\xA4\x04\x00\x07\xA0\x00\x00\x00\x03\x10\x10";
+static PUT: [u8; 21] =
+    *b"\x00\xDA\x5F\x20\x10\xC3\x5A\x96\x0F\xE1\x3C\xA5\x78\x1E\xB4\x2D\xD2\x4B\x87\x69\xF0";
+const GET: [u8; 5] = [0x00, 0xCA, 0x5F, 0x20, 0x13];
+static FOUND_OBJECT: [u8; 21] =
+    *b"\x5F\x20\x10\xC3\x5A\x96\x0F\xE1\x3C\xA5\x78\x1E\xB4\x2D\xD2\x4B\x87\x69\xF0\x90\x00";
 
 fn card() -> Card {
     let mut builder = CardBuilder::new().expect("memory");
     builder.app(&AID).expect("an application");
     builder.object(0x5F20, &SECRET).expect("an object");
+    builder.locked(0x50, &SECRET).expect("an object");
     builder.finish().expect("a card")
 }
 
 #[test]
-fn the_allocator_sees_what_is_not_wiped() {
-    let _one = ONE.lock();
-    assert_eq!(found(|| drop(SECRET.to_vec())), 1);
-}
-
-#[test]
-fn the_allocator_sees_what_is_not_given_back() {
-    let _one = ONE.lock();
+fn what_is_left_is_seen() {
+    let _one = one();
+    assert_eq!(left(|| drop(SECRET.to_vec())), (1, false));
+    let spread: Vec<u8> = SECRET.iter().flat_map(|it| [*it, 1]).collect();
+    assert_eq!(left(|| drop(spread.clone())), (1, false));
+    assert_eq!(
+        left(|| {
+            let mut room = [0; 40];
+            room[5..21].copy_from_slice(&SECRET);
+            std::hint::black_box(&room);
+        }),
+        (0, true)
+    );
     let before = TAKEN.with(Cell::get);
     let held = SECRET.to_vec();
     assert_eq!(TAKEN.with(Cell::get), before + SECRET.len() as isize);
@@ -77,49 +171,245 @@ fn the_allocator_sees_what_is_not_given_back() {
 
 #[test]
 fn a_card_leaves_nothing() {
-    let _one = ONE.lock();
-    assert_eq!(found(|| drop(card())), 0);
+    let _one = one();
+    assert_eq!(left(|| drop(card())), NOTHING);
+    assert_eq!(
+        left(|| {
+            let mut builder = CardBuilder::new().expect("memory");
+            assert!(builder.object(0x5F20, &SECRET).is_err());
+        }),
+        NOTHING
+    );
+    assert_eq!(
+        left(|| {
+            let mut card = card();
+            own(card.tpdu(&SELECT).expect("an answer"), false);
+            own(card.tpdu(&PUT).expect("an answer"), false);
+            own(card.tpdu(&GET).expect("an answer"), true);
+            let mut room = vec![0; 258];
+            assert_eq!(card.tpdu_into(&PUT, &mut room), Ok(2));
+            assert_eq!(card.tpdu_into(&GET, &mut room), Ok(21));
+            own(room, true);
+            for entry in card.entries(0) {
+                own(entry.value, true);
+            }
+            card.reset().expect("a reset");
+        }),
+        NOTHING
+    );
 }
 
 #[test]
-fn what_an_exchange_sends_is_wiped() {
-    let _one = ONE.lock();
-    let mut command = [0; 21];
-    command[..5].copy_from_slice(&[0x00, 0xDA, 0x5F, 0x20, 16]);
-    command[5..].copy_from_slice(&SECRET);
-    let started = || drop(Exchange::start(&command).expect("memory"));
-    assert_eq!(found(started), 0);
+fn a_card_leaves_nothing_by_characters() {
+    let _one = one();
+    assert_eq!(
+        left(|| {
+            let mut card = card();
+            card.receive_bytes(&SELECT[..5]).expect("a header");
+            assert_eq!(card.turn(), Ok(Turn::Sends(0xA4)));
+            card.receive_bytes(&SELECT[5..]).expect("its data");
+            let mut room = vec![0; 300];
+            assert_eq!(card.send_bytes(&mut room).expect("a status").count, 2);
+            card.receive_bytes(&PUT[..5]).expect("a header");
+            assert_eq!(card.turn(), Ok(Turn::Sends(0xDA)));
+            card.receive_bytes(&PUT[5..]).expect("its data");
+            assert_eq!(card.send_bytes(&mut room).expect("a status").count, 2);
+            card.receive_bytes(&GET).expect("a header");
+            assert_eq!(card.send_bytes(&mut room).expect("data").count, 22);
+            own(room, true);
+        }),
+        NOTHING
+    );
+}
+
+#[test]
+fn an_exchange_leaves_nothing() {
+    let _one = one();
+    let start = |command: &[u8]| Exchange::start(command).expect("memory");
+    assert_eq!(left(|| drop(start(&PUT))), NOTHING);
+    assert_eq!(left(|| drop(start(&PUT).tpdu())), NOTHING);
+    assert_eq!(left(|| drop(start(&PUT).tpdu().clone())), NOTHING);
+    assert_eq!(
+        left(|| {
+            let mut room = Box::new([0; TPDU_LIMIT]);
+            assert_eq!(start(&PUT).tpdu_into(&mut room).expect("due").count, 21);
+            assert!(has_secret(&*room));
+            room.fill(0);
+            std::hint::black_box(&room);
+        }),
+        NOTHING
+    );
+    assert_eq!(
+        left(|| {
+            let mut exchange = start(&PUT);
+            while let Ok(Turn::Sends(_)) = exchange.next() {}
+            exchange.take(0xDA).expect("a procedure byte");
+            let mut room = vec![0; 30];
+            assert_eq!(exchange.send_bytes(&mut room).expect("data").count, 16);
+            own(room, true);
+        }),
+        NOTHING
+    );
+    assert_eq!(
+        left(|| {
+            let mut exchange = start(&GET);
+            exchange.answered(&FOUND_OBJECT).expect("an answer");
+            own(exchange.answer().expect("an answer").data, true);
+            let mut room = vec![0; 19];
+            assert_eq!(exchange.answer_into(&mut room).expect("one").count, 19);
+            own(room, true);
+            assert!(exchange.answer_into(&mut [0; 18]).is_err());
+        }),
+        NOTHING
+    );
+    assert_eq!(
+        left(|| {
+            let mut exchange = start(&GET);
+            while let Ok(Turn::Sends(_)) = exchange.next() {}
+            exchange.take(0xCA).expect("a procedure byte");
+            exchange.receive_bytes(&FOUND_OBJECT).expect("an answer");
+        }),
+        NOTHING
+    );
 }
 
 /// The copy of a value is given back for a longer one, and that with the terminal, also where the
 /// last value was shorter than the secret before it.
 #[test]
 fn what_a_terminal_keeps_is_wiped() {
-    let _one = ONE.lock();
+    let _one = one();
     let secret = [b"PIN ", SECRET.as_slice()].concat();
-    let puts = || {
-        let mut terminal = Terminal::new().expect("a terminal");
-        for value in [&secret, b"JOE".as_slice(), &[0; 40], &secret, b"ANN"] {
+    assert_eq!(
+        left(|| {
+            let mut terminal = Terminal::new().expect("a terminal");
+            for value in [&secret, b"JOE".as_slice(), &[0; 40], &secret, b"ANN"] {
+                let put = Operation::Put(0x5F20, value);
+                terminal.begin(put).expect("begun");
+                drop(terminal.tpdu().expect("due"));
+                terminal.answered(&[0x90, 0x00]).expect("an answer");
+            }
             terminal
-                .begin(Operation::Put(0x5F20, value))
+                .begin(Operation::Put(0x50, &secret))
                 .expect("begun");
-            terminal.answered(&[0x90, 0x00]).expect("an answer");
-        }
+            terminal.reset().expect("a reset");
+        }),
+        NOTHING
+    );
+}
+
+/// Ten values are put, and read, over a transport; and one fails, and one panics.
+#[test]
+fn a_transport_leaves_nothing() {
+    let _one = one();
+    assert_eq!(
+        left(|| {
+            let mut card = card();
+            let mut reader = |tpdu: &[u8], answer: &mut [u8]| card.tpdu_into(tpdu, answer);
+            let mut terminal = Terminal::new().expect("a terminal");
+            let mut run = |operation| terminal.run(&mut reader, operation).expect("an answer");
+            run(Operation::Select(&AID));
+            for _ in 0..10 {
+                assert!(run(Operation::Put(0x5F20, &SECRET)).status.is_ok());
+            }
+            own(run(Operation::Get(0x5F20)).data, true);
+            assert!(run(Operation::Send(&PUT)).status.is_ok());
+            own(run(Operation::Send(&GET)).data, true);
+            let mut room = vec![0; 19];
+            assert_eq!(terminal.answer_into(&mut room).expect("one").count, 19);
+            own(room, true);
+        }),
+        NOTHING
+    );
+    let put = Operation::Put(0x5F20, &SECRET);
+    assert_eq!(
+        left(|| {
+            let mut reader = |_: &[u8], answer: &mut [u8]| {
+                answer[..16].copy_from_slice(&SECRET);
+                Err(())
+            };
+            let mut terminal = Terminal::new().expect("a terminal");
+            assert!(terminal.run(&mut reader, put).is_err());
+        }),
+        NOTHING
+    );
+    let panics = |value: &[u8]| {
+        let mut reader = |_: &[u8], answer: &mut [u8]| -> Result<usize, ()> {
+            answer[..16].copy_from_slice(value);
+            std::panic::resume_unwind(Box::new(()))
+        };
+        let mut terminal = Terminal::new().expect("a terminal");
+        let run = AssertUnwindSafe(|| terminal.run(&mut reader, put).is_ok());
+        assert!(catch_unwind(run).is_err());
     };
-    assert_eq!(found(puts), 0);
+    // functions that are linked at their first call save registers then, with what was copied last
+    panics(&[0; 16]);
+    assert_eq!(left(|| panics(&SECRET)), NOTHING);
 }
 
 /// The value of an object is replaced while the card is in use, and each block that grows on the
 /// way is given back.
 #[test]
 fn a_session_leaves_nothing() {
-    let _one = ONE.lock();
+    let _one = one();
     let long = SECRET.repeat(40);
-    let in_session = || {
-        let mut session = Session::start(card()).expect("a session");
-        session.select(&AID).expect("an answer");
-        assert_eq!(session.put(0x5F20, b"ANN").expect("an answer"), 0x9000);
-        assert_eq!(session.put(0x5F21, &long).expect("an answer"), 0x9000);
-    };
-    assert_eq!(found(in_session), 0);
+    assert_eq!(
+        left(|| {
+            let mut session = Session::start(card()).expect("a session");
+            session.select(&AID).expect("an answer");
+            assert!(session.put(0x5F20, &SECRET).expect("an answer").is_ok());
+            let mut heard = session.heard().expect("memory");
+            assert_eq!(heard.len(), 8 + 16);
+            heard.iter_mut().for_each(|it| it.1 = 0);
+            std::hint::black_box(&heard);
+            drop(heard);
+            own(session.get(0x5F20).expect("an answer").data, true);
+            own(session.answer().expect("the same").data, true);
+            let mut room = vec![0; 19];
+            assert_eq!(session.answer_into(&mut room).expect("one").count, 19);
+            own(room, true);
+            own(session.send(&PUT).expect("an answer").data, false);
+            own(session.send(&GET).expect("an answer").data, true);
+            for entry in session.entries(0) {
+                own(entry.value, true);
+            }
+            assert!(session.put(0x5F20, b"ANN").expect("an answer").is_ok());
+            assert!(session.put(0x5F21, &long).expect("an answer").is_ok());
+            assert_eq!(session.put(0x50, &SECRET).expect("an answer"), 0x6982);
+            session.reset().expect("a reset");
+            drop(session.end().expect("the card"));
+        }),
+        NOTHING
+    );
+}
+
+#[test]
+fn objects_leave_nothing() {
+    let _one = one();
+    let list = &FOUND_OBJECT[..19];
+    assert_eq!(
+        left(|| {
+            let mut objects = Objects::over(list).expect("objects");
+            assert!(has_secret(objects.next().expect("one").value));
+            assert!(find(list, &[0x5F20]).expect("objects").is_some());
+            own(head(0x5F20, 16).expect("a head"), false);
+        }),
+        NOTHING
+    );
+}
+
+/// A list is refused where there is no memory for it, and the program goes on.
+#[test]
+fn a_list_without_memory_is_refused() {
+    let _one = one();
+    let list = [0x50, 0x00].repeat(30_000);
+    let before = TAKEN.with(Cell::get);
+    MOST.with(|it| it.set(1_000_000));
+    let refused = Objects::over(&list).map(|it| it.count());
+    let fits = Objects::over(&list[..40_000]).map(|it| it.count());
+    MOST.with(|it| it.set(usize::MAX));
+    assert_eq!(refused, Err(ObjectsError::Memory));
+    assert_eq!(ObjectsError::Memory.to_string(), "out of memory");
+    assert_eq!(fits, Ok(20_000));
+    assert_eq!(Objects::over(&list).map(|it| it.count()), Ok(30_000));
+    assert_eq!(TAKEN.with(Cell::get), before);
 }

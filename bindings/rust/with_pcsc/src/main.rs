@@ -3,7 +3,6 @@
 use galliumtoad::{Operation, Terminal};
 use pcsc::{Context, Disposition, Protocols, Scope, ShareMode};
 use std::error::Error;
-use std::io;
 
 const AID: [u8; 7] = [0xA0, 0x00, 0x00, 0x00, 0x03, 0x10, 0x10];
 
@@ -13,17 +12,18 @@ fn main() -> Result<(), Box<dyn Error>> {
     let name = names.first().ok_or("no reader")?;
     let mut card = context.connect(name, ShareMode::Shared, Protocols::T0)?;
     let card = card.transaction()?;
-    let mut reader = |tpdu: &[u8], answer: &mut [u8]| {
-        let came = card.transmit(tpdu, answer).map_err(io::Error::other)?;
-        Ok(came.len())
-    };
+    let mut reader = |tpdu: &[u8], answer: &mut [u8]| card.transmit(tpdu, answer).map(<[u8]>::len);
 
     let mut terminal = Terminal::new()?;
     terminal.run(&mut reader, Operation::Select(&AID))?;
     let answer = terminal.run(&mut reader, Operation::Get(0x5F20))?;
-    if answer.status != 0x9000 {
-        return Err(format!("status {:04X}", answer.status).into());
+    let status = answer.status;
+    if !status.is_ok() {
+        return Err(format!("status {status}: {}", status.text()).into());
     }
+    answer
+        .object(0x5F20)
+        .ok_or("the answer is not the object 5F20")?;
     let digits: String = answer.data.iter().map(|it| format!("{it:02X}")).collect();
     println!("{digits}");
     card.end(Disposition::ResetCard)

@@ -1,0 +1,89 @@
+//! A card's status word (ISO/IEC 7816-4, 5.1.3).
+
+use std::fmt;
+
+/// A status word, SW1 and SW2: `0x9000` if the card has done what it was asked for.
+///
+/// ```
+/// use galliumtoad::Status;
+///
+/// let status = Status(0x6982);
+/// assert!(!status.is_ok());
+/// assert_eq!((status.sw1(), status.sw2()), (0x69, 0x82));
+/// let shown = format!("{status}: {}", status.text());
+/// assert_eq!(shown, "6982: security status not satisfied");
+/// ```
+#[derive(Clone, Copy, PartialEq, Eq, Hash)]
+pub struct Status(pub u16);
+
+impl Status {
+    /// Whether it is `9000`: the card has done all of it. `61XX` is not: a response waits.
+    #[must_use]
+    pub fn is_ok(self) -> bool {
+        self.0 == 0x9000
+    }
+
+    /// The first byte.
+    #[must_use]
+    pub fn sw1(self) -> u8 {
+        self.0.to_be_bytes()[0]
+    }
+
+    /// The second byte.
+    #[must_use]
+    pub fn sw2(self) -> u8 {
+        self.0.to_be_bytes()[1]
+    }
+
+    /// What it says, in a few words of the standard: what the word means, or else its first byte.
+    #[must_use]
+    pub fn text(self) -> &'static str {
+        match self.0 {
+            0x9000 => "ok",
+            0x6581 => "memory failure",
+            0x6883 => "last command of the chain expected",
+            0x6884 => "command chaining not supported",
+            0x6982 => "security status not satisfied",
+            0x6985 => "conditions of use not satisfied",
+            0x6A80 => "incorrect data",
+            0x6A82 => "file or application not found",
+            0x6A84 => "not enough memory",
+            0x6A86 => "incorrect P1-P2",
+            0x6A88 => "referenced data not found",
+            _ => match self.sw1() {
+                0x61 => "more data available",
+                0x62 | 0x63 => "warning",
+                0x64 | 0x65 => "execution error",
+                0x67 => "wrong length",
+                0x68 => "function of CLA not supported",
+                0x69 => "command not allowed",
+                0x6A | 0x6B => "wrong P1-P2",
+                0x6C => "wrong Le",
+                0x6D => "INS not supported",
+                0x6E => "CLA not supported",
+                0x6F => "no precise diagnosis",
+                _ => "unknown status",
+            },
+        }
+    }
+}
+
+/// Four digits, as `9000`.
+impl fmt::Display for Status {
+    fn fmt(&self, f: &mut fmt::Formatter<'_>) -> fmt::Result {
+        write!(f, "{:04X}", self.0)
+    }
+}
+
+impl fmt::Debug for Status {
+    fn fmt(&self, f: &mut fmt::Formatter<'_>) -> fmt::Result {
+        write!(f, "Status({self})")
+    }
+}
+
+/// So that a status compares with a number: `answer.status == 0x9000`.
+impl PartialEq<u16> for Status {
+    fn eq(&self, word: &u16) -> bool {
+        self.0 == *word
+    }
+}

@@ -1,0 +1,167 @@
+//! What the build script says of targets, folders and features; and cargo for a target without an
+//! archive: a check and the documents pass, and the linker says why there is no program.
+
+use std::ffi::OsStr;
+use std::path::{Path, PathBuf};
+use std::process::{Command, Output};
+
+const CRATE: &str = env!("CARGO_MANIFEST_DIR");
+
+fn room(name: &str) -> PathBuf {
+    let room = Path::new(env!("CARGO_TARGET_TMPDIR")).join(name);
+    std::fs::create_dir_all(&room).expect("a folder");
+    room
+}
+
+fn rustc() -> std::ffi::OsString {
+    std::env::var_os("RUSTC").unwrap_or_else(|| "rustc".into())
+}
+
+/// The build script as a program, which is compiled once for each name.
+fn script(name: &str) -> PathBuf {
+    let program = room(name).join("script");
+    let done = Command::new(rustc())
+        .args(["--edition", "2021", "-o"])
+        .arg(&program)
+        .arg(Path::new(CRATE).join("build.rs"))
+        .status()
+        .expect("rustc runs");
+    assert!(done.success());
+    program
+}
+
+/// What the script prints for Linux with 64 bits, with these variables besides.
+fn prints(script: &Path, more: &[(&str, &OsStr)]) -> (bool, String, String) {
+    let Output {
+        status,
+        stdout,
+        stderr,
+    } = Command::new(script)
+        .env_remove("GALLIUMTOAD_LIB_DIR")
+        .env_remove("CARGO_FEATURE_OWN_MEMORY")
+        .env("CARGO_MANIFEST_DIR", CRATE)
+        .env("TARGET", "here")
+        .env("CARGO_CFG_TARGET_OS", "linux")
+        .env("CARGO_CFG_TARGET_POINTER_WIDTH", "64")
+        .env("CARGO_CFG_TARGET_ENDIAN", "little")
+        .env("CARGO_CFG_TARGET_ARCH", "x86_64")
+        .envs(more.iter().copied())
+        .output()
+        .expect("the script runs");
+    let text = |bytes| String::from_utf8(bytes).expect("text");
+    (status.success(), text(stdout), text(stderr))
+}
+
+const HEAP: &str = "cargo:rustc-cfg=heap_in_rust\n";
+const ARCHIVE: &str = "cargo:rustc-link-lib=static=card_c\n";
+
+#[test]
+fn targets_with_an_archive_link_it() {
+    let script = script("with");
+    for arch in ["x86_64", "aarch64"] {
+        let with = ("CARGO_CFG_TARGET_ARCH", arch.as_ref());
+        let (passes, says, _) = prints(&script, &[with]);
+        assert!(passes);
+        assert!(says.contains(ARCHIVE) && says.contains(HEAP), "{says}");
+        assert!(says.contains(&format!("lib/{arch}-linux-gnu\n")), "{says}");
+        let own = ("CARGO_FEATURE_OWN_MEMORY", "1".as_ref());
+        let (passes, says, _) = prints(&script, &[with, own]);
+        assert!(
+            passes && says.contains(ARCHIVE) && !says.contains(HEAP),
+            "{says}"
+        );
+    }
+}
+
+#[test]
+fn targets_without_an_archive_link_a_name_that_says_so() {
+    let script = script("without");
+    for (name, value) in [
+        ("CARGO_CFG_TARGET_ARCH", "riscv64"),
+        ("CARGO_CFG_TARGET_OS", "windows"),
+        ("CARGO_CFG_TARGET_POINTER_WIDTH", "32"),
+        ("CARGO_CFG_TARGET_ENDIAN", "big"),
+        ("CARGO_MANIFEST_DIR", "/none"),
+    ] {
+        let more = [(name, value.as_ref()), ("TARGET", "elsewhere".as_ref())];
+        let (passes, says, _) = prints(&script, &more);
+        assert!(passes, "{name}");
+        assert!(!says.contains("static=") && !says.contains(HEAP), "{says}");
+        assert!(says.contains("cargo:rustc-link-lib=galliumtoad-has-no-archive-for-elsewhere\n"));
+        let warning = says.lines().find(|it| it.starts_with("cargo:warning="));
+        let warning = warning.expect("a warning");
+        for word in [
+            "elsewhere",
+            "x86_64-linux-gnu",
+            "aarch64-linux-gnu",
+            "GALLIUMTOAD_LIB_DIR",
+        ] {
+            assert!(warning.contains(word), "{warning}");
+        }
+    }
+}
+
+#[test]
+fn a_folder_has_to_have_the_library() {
+    let script = script("folder");
+    let folder = room("folder").join("of a library");
+    let with = [("GALLIUMTOAD_LIB_DIR", folder.as_os_str())];
+    let _ = std::fs::remove_dir_all(&folder);
+    let refused = |found: (bool, String, String)| {
+        assert!(!found.0 && !found.1.contains("link"), "{found:?}");
+        let words = ["GALLIUMTOAD_LIB_DIR", "of a library", "libgalliumtoad.a"];
+        assert!(words.iter().all(|it| found.2.contains(it)), "{found:?}");
+    };
+    refused(prints(&script, &with));
+    std::fs::create_dir(&folder).expect("a folder");
+    refused(prints(&script, &with));
+    std::fs::write(folder.join("libgalliumtoad.a"), "").expect("written");
+    let (passes, says, _) = prints(&script, &with);
+    assert!(
+        passes && says.contains("cargo:rustc-link-lib=static=galliumtoad\n"),
+        "{says}"
+    );
+    assert!(
+        says.contains("of a library\n") && !says.contains(HEAP),
+        "{says}"
+    );
+}
+
+/// A compiler that says that it compiles for another processor than it does.
+const OTHER_TARGET: &str = "#!/bin/sh
+case \" $* \" in
+*' --print=cfg '*) \"$REAL_RUSTC\" \"$@\" | sed 's/^target_arch=.*/target_arch=\"riscv64\"/' ;;
+*) exec \"$REAL_RUSTC\" \"$@\" ;;
+esac
+";
+
+#[test]
+fn without_an_archive_all_but_linking_passes() {
+    let room = room("other");
+    let compiler = room.join("rustc");
+    std::fs::write(&compiler, OTHER_TARGET).expect("written");
+    let done = Command::new("chmod").arg("755").arg(&compiler).status();
+    assert!(done.expect("chmod runs").success());
+    let cargo = |words: &[&str]| {
+        Command::new(env!("CARGO"))
+            .args(words)
+            .args(["--offline", "--target-dir"])
+            .arg(room.join("target"))
+            .env("RUSTC", &compiler)
+            .env("REAL_RUSTC", rustc())
+            .env_remove("GALLIUMTOAD_LIB_DIR")
+            .current_dir(CRATE)
+            .output()
+            .expect("cargo runs")
+    };
+    for words in [&["check"][..], &["doc", "--no-deps"], &["build"]] {
+        let done = cargo(words);
+        let says = String::from_utf8_lossy(&done.stderr).into_owned();
+        assert!(done.status.success(), "{says}");
+        assert!(says.contains("no archive for"), "{says}");
+    }
+    let done = cargo(&["build", "--example", "session"]);
+    let says = String::from_utf8_lossy(&done.stderr).into_owned();
+    assert!(!done.status.success());
+    assert!(says.contains("galliumtoad-has-no-archive-for-"), "{says}");
+}

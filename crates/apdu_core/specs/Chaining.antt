@@ -19,7 +19,7 @@ IsPieces (b ∷ bs) pieces = (concat pieces ≡ b ∷ bs) × HavePieceSizes piec
 abbrev pub IsLast : Header → Type 0
 IsLast header = bit_and header.cla 0x10 ≡ 0
 
--- the header with bit 5 of CLA set: more of the chain follows
+-- the header with bit 5 of CLA set, whatever it was: more of the chain follows
 abbrev pub with_more : Header → Header
 with_more header = record header { cla = bit_or header.cla 0x10 }
 

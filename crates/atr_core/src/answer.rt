@@ -21,6 +21,7 @@ use std::marker::Model;
 
 /// An answer to reset (ISO/IEC 7816-3, 8.2). Contracts see it as what it says: convention, groups
 /// and historical bytes.
+// Arrays of the most that there can be: it is read without memory, and borrows nothing.
 #[derive(Debug, Drop)]
 pub struct Atr {
     convention: Convention,

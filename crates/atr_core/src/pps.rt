@@ -75,7 +75,8 @@ impl Pps {
     }
 
     /// How many characters a request or response with this PPS0 has, PPSS and PCK among them: 3 to
-    /// 6. Bit 8, which is reserved, is not looked at.
+    /// 6. Bit 8, which is reserved, is not looked at: who hears a request character by character
+    /// has to know where it ends, also if it is none.
     pub fn size(pps0: u8) -> usize
         ensures { result ≡ pps_end pps0 + 1 }
     {

@@ -153,6 +153,7 @@ fn pass_data<A: Allocator, C: TpduCard, W: Watch>(
         Keeps C.TpduCard (line exchange.old end.old cursor (W.hearing watch.old))
         (line exchange.new end.new cursor (W.hearing watch.new)) }
 {
+    // Asked here alone, and not after each character of either end, which makes gets slower.
     'data: while let Some(byte) = exchange.next_data() {
         end.take(byte).unwrap();
         watch.seen(End::Terminal, byte);

@@ -1,5 +1,5 @@
-//! The pieces of code that README and docs/PROVED.md show, each in a file of its own, as a newcomer
-//! would write it. The program runs them all and prints what comes of each.
+//! The pieces of code that the crates' READMEs show, each in a file of its own, as a newcomer would
+//! write it. The program runs them all and prints what comes of each.
 #![tactic(auto)]
 
 mod card;

@@ -119,6 +119,7 @@ impl<A: Allocator + Copy> CardBuilder<A> {
             alloc,
             applications,
         } = self;
+        // a put may bring a value of any length up to the limit, whatever is stored now
         match Chain::with_room(alloc, VALUE_LIMIT) {
             Ok(chain) => Ok(ObjectCard::new(applications, chain)),
             Err(_) => Err(CardBuilder {

@@ -25,7 +25,8 @@ pub struct Service {
     header: Header,
     p3: u8,
     direction: Direction,
-    /// Data characters that have moved.
+    /// Data characters that have moved. 16 bits would do, but such a count, stored and read again
+    /// at each character, goes through memory.
     moved: u32,
     /// Data characters that the procedure bytes so far are to move.
     until: u32,

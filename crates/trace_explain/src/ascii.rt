@@ -5,7 +5,7 @@ ghost use Rattle.trace_explain.specs.Written.{are_printable, is_text};
 
 use crate::draft::Draft;
 
-/// The least bytes that are taken for text.
+/// The least bytes that are taken for text: of two bytes one pair in seven is text by chance.
 const LEAST: usize = 3;
 
 /// Whether the bytes are taken for text: at least three, each of printable ASCII (this project's

@@ -4,7 +4,8 @@ use crate::links::Link;
 use apdu_core::Header;
 use std::alloc::{AllocError, Global};
 
-/// The least bytes of a value that is not told as a whole (this project's profile).
+/// The least bytes of a value that is not told as a whole (this project's profile): a hostile
+/// trace can't make the program hold more.
 pub const VALUE_LIMIT: usize = 65_536;
 
 /// Bit 5 of CLA: more commands of the chain follow.

@@ -93,7 +93,8 @@ impl Counts {
         }
     }
 
-    /// Adds the last block, with how long it all took by this clock.
+    /// Adds the last block, with how long it all took by this clock: the sum of its known steps, so
+    /// that a capture of several days is told right.
     pub fn tell(&self, clock: &Clock, page: &mut Page) {
         page.open_block("summary");
         self.push_tpdus(&mut page.lines);

@@ -1,4 +1,5 @@
-//! Two traces compared, TPDU by TPDU.
+//! Two traces compared, TPDU by TPDU. Procedure bytes are left out: how many NULLs come is a matter
+//! of time, and hides what differs.
 
 use crate::diff_fault::{DiffFault, Which};
 use crate::draft::Draft;

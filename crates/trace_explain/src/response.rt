@@ -5,7 +5,8 @@ use crate::meaning::waiting;
 use apdu_core::{Header, Status, count};
 use std::alloc::{AllocError, Global};
 
-/// The least bytes of a response that is not told as a whole (this project's profile).
+/// The least bytes of a response that is not told as a whole (this project's profile): a hostile
+/// trace can't make the program hold more.
 pub const UNTOLD_SIZE: usize = 65_536;
 
 /// What the last status asks of the terminal.

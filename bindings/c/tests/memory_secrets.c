@@ -1,0 +1,275 @@
+/* Once a card no longer holds a value, no block of its memory has a piece of it, held or given back,
+ * however the value's chain ended. The linker puts the functions below in the place of malloc and
+ * free, for heap.c as the library has it. */
+#include "galliumtoad.h"
+#include "check.h"
+
+#include <stdlib.h>
+
+void *__real_malloc(size_t n);
+void __real_free(void *block);
+void *__wrap_malloc(size_t n);
+void *__wrap_realloc(void *block, size_t n);
+void __wrap_free(void *block);
+
+enum { MOST = 4096, PIECE = 255, LONG = 600, FRONT = 4 };
+enum { TAG = 0x5F20, TEMPLATE = 0x70, LOCKED = 0x50 };
+
+static const uint8_t AID[] = { 0xA0, 0x00, 0x00, 0x00, 0x03, 0x10, 0x10 };
+static const uint8_t ANN[] = { 0x41, 0x4E, 0x4E };
+
+/* the value: each byte follows from the one before it, so that any FRONT in a row are known */
+static uint8_t secret[GT_VALUE_LIMIT + PIECE];
+static struct { unsigned char *at; size_t size; } blocks[MOST];
+static size_t given_back; /* blocks with a piece of the value in them */
+static bool is_refused;
+
+static uint8_t behind(uint8_t byte) {
+    return (uint8_t)(byte * 5 + 113);
+}
+
+/* Whether FRONT bytes in a row of the value stand there, so many places apart. */
+static bool has_row(const unsigned char *at, size_t n, size_t apart) {
+    size_t from, i, row = 1;
+    for (from = 0; from < apart && row < FRONT; from++)
+        for (i = from + apart, row = 1; i < n && row < FRONT; i += apart)
+            row = at[i] == behind(at[i - apart]) ? row + 1 : 1;
+    return row == FRONT;
+}
+
+/* Whether a piece of the value is there, or characters that a session heard of it, each with its
+ * sender. */
+static bool has_piece(const unsigned char *at, size_t n) {
+    return has_row(at, n, 1) || has_row(at, n, 2);
+}
+
+void *__wrap_malloc(size_t n) {
+    size_t i;
+    void *block = is_refused ? NULL : __real_malloc(n);
+    for (i = 0; i < MOST && blocks[i].at; i++) {}
+    if (i == MOST) abort();
+    if (block) {
+        blocks[i].at = block;
+        blocks[i].size = n;
+        memset(block, 0, n);
+    }
+    return block;
+}
+
+void __wrap_free(void *block) {
+    size_t i;
+    for (i = 0; i < MOST && blocks[i].at != block; i++) {}
+    if (i == MOST) abort();
+    given_back += has_piece(blocks[i].at, blocks[i].size);
+    blocks[i].at = NULL;
+    __real_free(block);
+}
+
+void *__wrap_realloc(void *block, size_t n) {
+    (void)block;
+    (void)n;
+    abort();
+}
+
+/* How many blocks that are held have a piece of the value in them. */
+static size_t held(void) {
+    size_t i, n = 0;
+    for (i = 0; i < MOST; i++) n += blocks[i].at && has_piece(blocks[i].at, blocks[i].size);
+    return n;
+}
+
+#define GONE() (CHECK(held(), 0), CHECK(given_back, 0))
+
+static unsigned tpdu(gt_card *c, const uint8_t *bytes, size_t n) {
+    uint8_t answer[GT_ANSWER_LIMIT];
+    size_t len = 0;
+    CHECK(gt_card_tpdu(c, bytes, n, answer, sizeof answer, &len), GT_OK);
+    return len < 2 ? 0 : answer[len - 2] * 256u + answer[len - 1];
+}
+
+/* A PUT DATA of one piece of a chain, or of the last. */
+static unsigned piece(gt_card *c, uint8_t cla, unsigned tag, const uint8_t *value, size_t n) {
+    uint8_t bytes[5 + PIECE] = { 0 };
+    bytes[0] = cla;
+    bytes[1] = 0xDA;
+    bytes[2] = (uint8_t)(tag / 256);
+    bytes[3] = (uint8_t)(tag % 256);
+    bytes[4] = (uint8_t)n;
+    memcpy(bytes + 5, value, n);
+    return tpdu(c, bytes, 5 + n);
+}
+
+/* The pieces but the last of a value; how many bytes these are. */
+static size_t begun(gt_card *c, unsigned tag, size_t n) {
+    size_t at = 0;
+    for (; at + PIECE < n; at += PIECE) CHECK(piece(c, 0x10, tag, secret + at, PIECE), 0x9000);
+    CHECK(held() > 0, at > 0);
+    return at;
+}
+
+static unsigned put(gt_card *c, unsigned tag, size_t n) {
+    const size_t at = begun(c, tag, n);
+    return piece(c, 0x00, tag, secret + at, n - at);
+}
+
+static unsigned select_app(gt_card *c) {
+    uint8_t bytes[5 + sizeof AID] = { 0x00, 0xA4, 0x04, 0x00, sizeof AID };
+    memcpy(bytes + 5, AID, sizeof AID);
+    return tpdu(c, bytes, sizeof bytes);
+}
+
+/* A card with its application selected. */
+static void build(gt_card *c) {
+    CHECK(gt_card_new(c), GT_OK);
+    CHECK(gt_card_app(c, AID, sizeof AID), GT_OK);
+    CHECK(gt_card_object(c, TAG, ANN, sizeof ANN, false), GT_OK);
+    CHECK(gt_card_object(c, LOCKED, ANN, sizeof ANN, true), GT_OK);
+    CHECK(gt_card_finish(c), GT_OK);
+    CHECK(select_app(c), 0x610B);
+    GONE();
+}
+
+/* What is stored stands in its own block alone, and goes with what replaces it. */
+static void stored(gt_card *c, size_t n) {
+    CHECK(put(c, TAG, n), 0x9000);
+    CHECK(held(), 1);
+    CHECK(piece(c, 0x00, TAG, ANN, sizeof ANN), 0x9000);
+    GONE();
+    CHECK(put(c, TAG, n), 0x9000);
+    CHECK(gt_card_reset(c), GT_OK);
+    CHECK(held(), 1);
+    CHECK(select_app(c), 0x610B);
+    CHECK(piece(c, 0x10, TAG, ANN, sizeof ANN), 0x9000);
+    CHECK(piece(c, 0x00, TAG, ANN, sizeof ANN), 0x9000);
+    GONE();
+}
+
+/* Each answer but 9000 drops a chain: a put that is refused, before its data or behind them. */
+static void refused(gt_card *c) {
+    static const uint8_t le[] = { 0x00, 0xCA, 0x5F, 0x20, 0x01 };
+    CHECK(put(c, TEMPLATE, LONG), 0x6A80);
+    GONE();
+    CHECK(piece(c, 0x00, TEMPLATE, secret, PIECE), 0x6A80);
+    GONE();
+    begun(c, TAG, LONG);
+    CHECK(piece(c, 0x10, LOCKED, secret, 1), 0x6883);
+    GONE();
+    begun(c, TAG, LONG);
+    CHECK(tpdu(c, le, sizeof le), 0x6883);
+    GONE();
+    CHECK(put(c, TAG, GT_VALUE_LIMIT + 1), 0x6700);
+    GONE();
+    CHECK(piece(c, 0x00, LOCKED, secret, PIECE), 0x6982);
+    GONE();
+    begun(c, TAG, LONG);
+    CHECK(select_app(c), 0x6883);
+    GONE();
+}
+
+static void want_of_memory(gt_card *c) {
+    const size_t at = begun(c, TAG, LONG);
+    uint8_t byte = 0;
+    size_t i;
+    const uint8_t header[] = { 0x00, 0xDA, 0x5F, 0x20, (uint8_t)(LONG - at) };
+    for (i = 0; i < sizeof header; i++) CHECK(gt_card_take(c, header[i]), GT_OK);
+    CHECK(gt_card_turn(c, &byte), GT_SENDS);
+    for (i = at; i < LONG; i++) CHECK(gt_card_take(c, secret[i]), GT_OK);
+    is_refused = true;
+    CHECK(gt_card_turn(c, &byte), GT_SENDS);
+    CHECK(byte, 0x65);
+    CHECK(gt_card_turn(c, &byte), GT_SENDS);
+    CHECK(byte, 0x81);
+    is_refused = false;
+    GONE();
+}
+
+/* A reset at each character of a put of two pieces, of which the second is the last or is not. */
+static void reset_at(gt_card *c, uint8_t cla, size_t characters) {
+    const uint8_t header[] = { cla, 0xDA, 0x5F, 0x20, PIECE };
+    uint8_t byte = 0;
+    size_t i;
+    CHECK(piece(c, 0x10, TAG, secret + PIECE, PIECE), 0x9000);
+    for (i = 0; i < characters; i++) {
+        if (i < 5) CHECK(gt_card_take(c, header[i]), GT_OK);
+        else if (i == 5) CHECK(gt_card_turn(c, &byte), GT_SENDS);
+        else if (i < 6 + PIECE) CHECK(gt_card_take(c, secret[i - 6]), GT_OK);
+        else CHECK(gt_card_turn(c, &byte), GT_SENDS);
+    }
+    CHECK(held() > 0, 1);
+    CHECK(gt_card_reset(c), GT_OK);
+    GONE();
+    CHECK(select_app(c), 0x610B);
+}
+
+static void resets(gt_card *c) {
+    static const size_t at[] = { 0, 1, 5, 6, 7, 11, 260, 6 + PIECE, 7 + PIECE };
+    size_t i;
+    for (i = 0; i < sizeof at / sizeof *at; i++) {
+        reset_at(c, 0x00, at[i]);
+        reset_at(c, 0x10, at[i]);
+    }
+}
+
+/* A reader that stops: the card takes data and is given none, and is reset. */
+static void a_reader_stops(gt_card *c) {
+    static const uint8_t bytes[] = { 0x10, 0xDA, 0x5F, 0x20, PIECE };
+    uint8_t answer[GT_ANSWER_LIMIT];
+    size_t len = 0;
+    begun(c, TAG, LONG);
+    CHECK(gt_card_tpdu(c, bytes, sizeof bytes, answer, sizeof answer, &len), GT_WANTS_DATA);
+    GONE();
+    CHECK(select_app(c), 0x610B);
+}
+
+/* A full application takes no tag more. */
+static void full(gt_card *c) {
+    unsigned tag;
+    for (tag = 0xC0; tag < 0xC0 + 31; tag++) CHECK(piece(c, 0x00, tag, ANN, 1), 0x9000);
+    for (tag = 0x80; tag < 0x80 + 31; tag++) CHECK(piece(c, 0x00, tag, ANN, 1), 0x9000);
+    CHECK(put(c, 0xDF01, LONG), 0x6A84);
+    GONE();
+}
+
+/* A session keeps the last operation; another one takes its place, and the end leaves the card. */
+static void in_a_session(gt_card *c) {
+    gt_session s = GT_INIT;
+    uint16_t status = 0;
+    uint8_t answer[16];
+    size_t len = 0;
+    begun(c, TAG, LONG);
+    CHECK(gt_session_start(&s, c), GT_OK);
+    GONE();
+    CHECK(gt_session_select(&s, AID, sizeof AID, &status, answer, sizeof answer, &len), GT_OK);
+    CHECK(gt_session_put(&s, TEMPLATE, secret, LONG, &status), GT_OK);
+    CHECK(status, 0x6A80);
+    CHECK(held() > 0, 1);
+    CHECK(gt_session_put(&s, TAG, secret, LONG, &status), GT_OK);
+    CHECK(status, 0x9000);
+    CHECK(held() > 1, 1);
+    CHECK(gt_session_put(&s, TAG, ANN, sizeof ANN, &status), GT_OK);
+    GONE();
+    CHECK(gt_session_put(&s, TEMPLATE, secret, LONG, &status), GT_OK);
+    CHECK(gt_session_end(&s, c), GT_OK);
+    GONE();
+    CHECK(select_app(c), 0x610B);
+}
+
+int main(void) {
+    static const size_t sizes[] = { FRONT, PIECE, PIECE + FRONT, LONG, GT_VALUE_LIMIT };
+    gt_card card = GT_INIT;
+    size_t i;
+    for (i = 0; i + 1 < sizeof secret; i++) secret[i + 1] = behind(secret[i]);
+    build(&card);
+    for (i = 0; i < sizeof sizes / sizeof *sizes; i++) stored(&card, sizes[i]);
+    refused(&card);
+    want_of_memory(&card);
+    resets(&card);
+    a_reader_stops(&card);
+    in_a_session(&card);
+    full(&card);
+    gt_card_free(&card);
+    for (i = 0; i < MOST; i++) if (blocks[i].at) break;
+    CHECK(i, MOST);
+    GONE();
+    return check_result("memory_secrets");
+}

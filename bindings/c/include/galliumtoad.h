@@ -144,7 +144,7 @@ enum {
     /* of an answer to reset */
     GT_ATR_NO_TS = -70,     /* the first byte is neither 3B nor 3F */
     GT_ATR_CUT = -71,       /* the bytes end before a character that is announced */
-    GT_ATR_TOO_LONG = -72,  /* 33 bytes announce a 34th, which none may be; it may be TCK */
+    GT_ATR_TOO_LONG = -72,  /* there are 33 bytes, the most, and another is announced, or is TCK */
     GT_ATR_ORDER = -73,     /* the T that this TD names is below the one before it, or 15 in TD1 */
     GT_ATR_SURPLUS = -74,   /* characters stand behind the end */
     GT_ATR_CHECK_MISSING = -75, /* TCK is due, as a T other than 0 is named, and the bytes end */

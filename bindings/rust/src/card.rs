@@ -39,12 +39,8 @@ pub struct Entry {
 impl fmt::Debug for Entry {
     fn fmt(&self, f: &mut fmt::Formatter<'_>) -> fmt::Result {
         let locked = if self.is_locked { ", locked" } else { "" };
-        write!(
-            f,
-            "Entry({:X}, {} bytes{locked})",
-            self.tag,
-            self.value.len()
-        )
+        let (tag, n) = (self.tag, self.value.len());
+        write!(f, "Entry({tag:X}, {n} bytes{locked})")
     }
 }
 

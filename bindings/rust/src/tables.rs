@@ -62,9 +62,9 @@ impl<'a> Tables<'a> {
 
     /// An object, whose value takes no more memory than it needs.
     fn entry(self, app: usize, entry: usize) -> Option<Entry> {
-        let (code, found, n) = self.copy(app, entry, Vec::new());
+        let (mut code, mut found, n) = self.copy(app, entry, Vec::new());
         if code == raw::BUFFER {
-            return Some(self.copy(app, entry, vec![0; n]).1);
+            (code, found, _) = self.copy(app, entry, vec![0; n]);
         }
         (code == raw::OK).then_some(found)
     }
@@ -77,15 +77,11 @@ impl<'a> Tables<'a> {
         // SAFETY: as in `selected`, of all that is written to; `value` with its length.
         let code =
             unsafe { (self.1.entry_at)(at, app, entry, &mut tag, &mut locked, to, room, &mut n) };
-        let is_locked = locked != 0;
-        (
-            code,
-            Entry {
-                tag,
-                value,
-                is_locked,
-            },
-            n,
-        )
+        let found = Entry {
+            tag,
+            value,
+            is_locked: locked != 0,
+        };
+        (code, found, n)
     }
 }

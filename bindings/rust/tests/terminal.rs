@@ -1,9 +1,11 @@
 //! A terminal with a card behind a transport of whole TPDUs.
 
-use galliumtoad::{Card, CardBuilder, Error, Operation, RunError, Terminal, Transport, Turn};
+use galliumtoad::{Card, CardBuilder, Error, Operation, RunError, Status, Terminal, Transport};
+use galliumtoad::{Turn, ANSWER_LIMIT};
 use std::convert::Infallible;
 use std::error::Error as _;
 use std::io;
+use std::panic::{catch_unwind, resume_unwind, AssertUnwindSafe};
 
 const AID: [u8; 7] = [0xA0, 0x00, 0x00, 0x00, 0x03, 0x10, 0x10];
 
@@ -205,6 +207,136 @@ fn what_is_no_operation_is_not_begun() {
         [0x00, 0xCA, 0x5F, 0x20, 0x00]
     );
     assert_eq!(times, 0);
+}
+
+/// A reader by a reference to the trait, one in a box, and closures likewise; each has an error of
+/// its own.
+#[test]
+fn transports_may_be_of_any_kind() {
+    let mut terminal = Terminal::new().expect("memory");
+    let mut reader = reader();
+    let by_trait: &mut dyn Transport<Error = Error> = &mut reader;
+    let answer = terminal.run(by_trait, Operation::Select(&AID));
+    assert_eq!(answer.expect("an answer").status, 0x9000);
+    let mut boxed: Box<dyn Transport<Error = Error>> = Box::new(reader);
+    let answer = terminal.run(&mut *boxed, Operation::Get(0x50));
+    assert_eq!(answer.expect("an answer").data, b"\x50\x04VISA");
+    type Closure = dyn FnMut(&[u8], &mut [u8]) -> Result<usize, String>;
+    let mut closure: Box<Closure> = Box::new(|_: &[u8], _: &mut [u8]| Err("gone".to_owned()));
+    for _ in 0..2 {
+        let found = terminal.run(&mut *closure, Operation::Get(0x50));
+        assert_eq!(found, Err(RunError::Transport("gone".to_owned())));
+        let found = terminal.run(&mut closure, Operation::Get(0x50));
+        assert_eq!(found, Err(RunError::Transport("gone".to_owned())));
+    }
+    let mut number = |_: &[u8], _: &mut [u8]| Err(0x80100010_u32);
+    let found = terminal.run(&mut number, Operation::Get(0x50));
+    assert_eq!(found, Err(RunError::Transport(0x80100010)));
+}
+
+#[test]
+fn a_panic_in_a_transport_leaves_the_terminal_reset() {
+    let mut terminal = Terminal::new().expect("memory");
+    let mut times = 0;
+    let mut reader = |_: &[u8], answer: &mut [u8]| -> Result<usize, Infallible> {
+        times += 1;
+        answer[..2].copy_from_slice(&[0x90, 0x00]);
+        match times {
+            2 => resume_unwind(Box::new("pulled out")),
+            _ => Ok(2),
+        }
+    };
+    let put = Operation::Put(0x5F20, &[0x41; 300]);
+    let run = AssertUnwindSafe(|| terminal.run(&mut reader, put).is_ok());
+    assert!(catch_unwind(run).is_err());
+    assert_eq!(times, 2);
+    assert_eq!(terminal.next(), Err(Error::State));
+    assert!(terminal.tpdu().is_none());
+    let answer = terminal.run(&mut reader_of(&[0x6A, 0x82]), Operation::Get(0x50));
+    assert_eq!(answer.expect("an answer").status, 0x6A82);
+}
+
+fn reader_of(bytes: &'static [u8]) -> impl FnMut(&[u8], &mut [u8]) -> Result<usize, Infallible> {
+    move |_, answer| {
+        answer[..bytes.len()].copy_from_slice(bytes);
+        Ok(bytes.len())
+    }
+}
+
+/// A reader hands back a whole answer, and then claims as much and writes less, or nothing.
+#[test]
+fn a_transport_that_writes_less_than_it_claims_delivers_zeros() {
+    let mut terminal = Terminal::new().expect("memory");
+    let get = Operation::Send(&[0x00, 0xCA, 0x5F, 0x20, 0x06]);
+    for (says, writes, wanted) in [
+        (
+            8,
+            &b"\x5F\x20\x03JOE\x90\x00"[..],
+            Some(&b"\x5F\x20\x03JOE"[..]),
+        ),
+        (8, b"", None),
+        (8, b"\x5F\x20\x03", None),
+        (2, b"", None),
+        (2, b"\x90", Some(b"")),
+    ] {
+        let mut before = vec![1];
+        let mut times = 0;
+        let mut reader = |_: &[u8], answer: &mut [u8]| {
+            times += 1;
+            before = answer.to_vec();
+            answer[..writes.len()].copy_from_slice(writes);
+            Ok::<usize, Infallible>(says)
+        };
+        let found = terminal.run(&mut reader, get);
+        assert_eq!((times, before), (1, vec![0; ANSWER_LIMIT]));
+        match wanted {
+            Some(data) => assert_eq!(found.expect("an answer").data, data),
+            None => assert_eq!(found, Err(RunError::Terminal(Error::NoStatus))),
+        }
+    }
+    // the second TPDU of one operation, and each has no byte of the first
+    let mut times = 0;
+    let mut reader = |_: &[u8], answer: &mut [u8]| {
+        times += 1;
+        assert_eq!(answer, [0; ANSWER_LIMIT]);
+        answer[..2].copy_from_slice(if times == 1 { &[0x6C, 0x06] } else { &[0, 0] });
+        Ok::<usize, Infallible>(2)
+    };
+    let found = terminal.run(&mut reader, Operation::Get(0x5F20));
+    assert_eq!(found, Err(RunError::Terminal(Error::NoStatus)));
+    assert_eq!(times, 2);
+}
+
+/// An answer takes the bytes that it has, and a caller's buffer has to have room for them.
+#[test]
+fn answers_take_what_they_need() {
+    let mut reader = reader();
+    let mut terminal = Terminal::new().expect("memory");
+    assert_eq!(terminal.answer_into(&mut []).err(), Some(Error::State));
+    let put = terminal.run(&mut reader, Operation::Select(&AID));
+    assert_eq!(put.expect("an answer").data.capacity(), 11);
+    let answer = terminal.run(&mut reader, Operation::Get(0x5F20));
+    assert_eq!(answer.expect("an answer").data.capacity(), 6);
+    let mut room = [0xEE; 8];
+    let short = terminal.answer_into(&mut room[..5]).err();
+    assert_eq!((short, room), (Some(Error::Buffer), [0xEE; 8]));
+    let copied = terminal.answer_into(&mut room).expect("room");
+    assert_eq!((copied.status, copied.count), (Status(0x9000), 6));
+    assert_eq!(&room, b"\x5F\x20\x03JOE\xEE\xEE");
+    let put = terminal.run(&mut reader, Operation::Put(0x50, b""));
+    assert_eq!(put.expect("an answer").data.capacity(), 0);
+    let copied = terminal.answer_into(&mut []).expect("no data");
+    assert_eq!((copied.status, copied.count), (Status(0x6982), 0));
+    terminal.begin(Operation::Put(0x50, b"")).expect("begun");
+    assert_eq!(terminal.tpdu().expect("due").bytes.capacity(), 4);
+    let mut room = [0xEE; 260];
+    let due = terminal.tpdu_into(&mut room).expect("due");
+    assert_eq!((due.count, due.most), (4, 0));
+    assert_eq!(room[..5], [0x00, 0xDA, 0x00, 0x50, 0xEE]);
+    terminal.answered(&[0x90, 0x00]).expect("an answer");
+    assert_eq!(terminal.tpdu_into(&mut room), None);
+    let card = reader.card.tpdu(&[0x00, 0xCA, 0x5F, 0x20, 0x06]);
+    assert_eq!(card.expect("an answer").capacity(), 8);
 }
 
 /// What the terminal sends until its operation is over, with a card at the line.

@@ -81,20 +81,27 @@ extern "C" {
     fn pthread_join(thread: usize, result: *mut c_void) -> i32;
 }
 
+/// Reads all of them, so that a compiler leaves nothing out that was written there.
+fn seen(bytes: &[u8]) {
+    for byte in bytes {
+        // SAFETY: a byte that is borrowed.
+        unsafe { std::ptr::read_volatile(byte) };
+    }
+}
+
 /// Runs this so far below that nothing of its stack is written over before that is looked at.
 #[inline(never)]
-fn far_below(run: &mut dyn FnMut()) {
+fn far_below(run: &mut dyn FnMut()) -> u8 {
     let above = [0_u8; 1 << 14];
-    std::hint::black_box(&above);
     run();
-    std::hint::black_box(&above);
+    above[0]
 }
 
 extern "C" fn start(run: *mut c_void) -> *mut c_void {
     // SAFETY: it is what `left` hands over, and waits for.
     let run = unsafe { &mut *run.cast::<&mut dyn FnMut()>() };
     let taken = TAKEN.with(Cell::get);
-    far_below(*run);
+    let _ = far_below(*run);
     assert_eq!(TAKEN.with(Cell::get), taken);
     null_mut()
 }
@@ -129,7 +136,7 @@ fn own(bytes: Vec<u8>, wanted: bool) {
     assert_eq!(has_secret(&bytes), wanted);
     let mut bytes = bytes;
     bytes.fill(0);
-    std::hint::black_box(&bytes);
+    seen(&bytes);
 }
 
 const AID: [u8; 7] = [0xA0, 0x00, 0x00, 0x00, 0x03, 0x10, 0x10];
@@ -158,7 +165,7 @@ fn what_is_left_is_seen() {
         left(|| {
             let mut room = [0; 40];
             room[5..21].copy_from_slice(&SECRET);
-            std::hint::black_box(&room);
+            seen(&room);
         }),
         (0, true)
     );
@@ -235,7 +242,7 @@ fn an_exchange_leaves_nothing() {
             assert_eq!(start(&PUT).tpdu_into(&mut room).expect("due").count, 21);
             assert!(has_secret(&*room));
             room.fill(0);
-            std::hint::black_box(&room);
+            seen(&*room);
         }),
         NOTHING
     );
@@ -360,7 +367,9 @@ fn a_session_leaves_nothing() {
             let mut heard = session.heard().expect("memory");
             assert_eq!(heard.len(), 8 + 16);
             heard.iter_mut().for_each(|it| it.1 = 0);
-            std::hint::black_box(&heard);
+            heard
+                .iter()
+                .for_each(|it| seen(std::slice::from_ref(&it.1)));
             drop(heard);
             own(session.get(0x5F20).expect("an answer").data, true);
             own(session.answer().expect("the same").data, true);

@@ -1,0 +1,249 @@
+//! The types by themselves: statuses, what `Debug` shows, where a fault says its cause, and which
+//! types threads share.
+
+use galliumtoad::{find, Atr, CardBuilder, Error, Exchange, Objects, Operation, Pps, Session};
+use galliumtoad::{Answer, Card, Entry, RunError, Status, Stop, Terminal, Tpdu, Turn};
+use std::collections::HashSet;
+use std::error::Error as Cause;
+use std::fmt;
+use std::hash::Hash;
+
+const AID: [u8; 7] = [0xA0, 0x00, 0x00, 0x00, 0x03, 0x10, 0x10];
+
+/// No byte of it is part of a number that is shown otherwise.
+const SECRET: [u8; 3] = [0xB7, 0xC8, 0xD9];
+
+fn session() -> Session {
+    let mut builder = CardBuilder::new().expect("memory");
+    builder.app(&AID).expect("an application");
+    builder.object(0x5F20, &SECRET).expect("an object");
+    builder.locked(0x50, b"").expect("an object");
+    let card = builder.finish().expect("a card");
+    let mut session = Session::start(card).expect("a session");
+    session.select(&AID).expect("an answer");
+    session
+}
+
+#[test]
+fn statuses_have_two_bytes() {
+    let status = Status(0x6C1A);
+    assert_eq!((status.sw1(), status.sw2()), (0x6C, 0x1A));
+    assert_eq!(status, 0x6C1A);
+    assert_ne!(status, 0x1A6C);
+    assert_eq!(status.to_string(), "6C1A");
+    assert_eq!(Status(0x0007).to_string(), "0007");
+    assert_eq!(format!("{status:?}"), "Status(6C1A)");
+}
+
+#[test]
+fn only_9000_is_ok() {
+    let ok: Vec<u16> = (0..=0xFFFF).filter(|it| Status(*it).is_ok()).collect();
+    assert_eq!(ok, [0x9000]);
+}
+
+/// ISO/IEC 7816-4, 5.1.3, tables 5 and 6.
+#[test]
+fn statuses_have_texts() {
+    for (word, text) in [
+        (0x9000, "ok"),
+        (0x9001, "unknown status"),
+        (0x6100, "more data available"),
+        (0x61FF, "more data available"),
+        (0x6281, "warning"),
+        (0x63C0, "warning"),
+        (0x6400, "execution error"),
+        (0x6500, "execution error"),
+        (0x6581, "memory failure"),
+        (0x6700, "wrong length"),
+        (0x6800, "function of CLA not supported"),
+        (0x6883, "last command of the chain expected"),
+        (0x6884, "command chaining not supported"),
+        (0x6900, "command not allowed"),
+        (0x6982, "security status not satisfied"),
+        (0x6985, "conditions of use not satisfied"),
+        (0x6A00, "wrong P1-P2"),
+        (0x6A80, "incorrect data"),
+        (0x6A82, "file or application not found"),
+        (0x6A84, "not enough memory"),
+        (0x6A86, "incorrect P1-P2"),
+        (0x6A88, "referenced data not found"),
+        (0x6B00, "wrong P1-P2"),
+        (0x6C06, "wrong Le"),
+        (0x6D00, "INS not supported"),
+        (0x6E00, "CLA not supported"),
+        (0x6F00, "no precise diagnosis"),
+        (0x6000, "unknown status"),
+        (0x0000, "unknown status"),
+    ] {
+        assert_eq!(Status(word).text(), text, "{word:04X}");
+    }
+}
+
+fn shown(value: &impl fmt::Debug) -> String {
+    format!("{value:?} {value:#?}")
+}
+
+/// Neither a byte of the secret is shown, in hexadecimal or in decimal, nor nothing at all.
+fn hides(value: &impl fmt::Debug, wanted: &str) {
+    let shown = shown(value);
+    assert!(shown.starts_with(wanted), "{shown}");
+    for byte in SECRET {
+        for text in [format!("{byte:X}"), format!("{byte:x}"), format!("{byte}")] {
+            assert!(!shown.contains(&text), "{shown}");
+        }
+    }
+}
+
+#[test]
+fn debug_shows_no_secret() {
+    let put = Operation::Put(0x5F20, &SECRET);
+    hides(&put, "Put(5F20, 3 bytes)");
+    hides(&Operation::Send(&SECRET), "Send(3 bytes)");
+    let select = format!("{:?}", Operation::Select(&AID));
+    assert_eq!(select, "Select([A0, 00, 00, 00, 03, 10, 10])");
+    assert_eq!(format!("{:?}", Operation::Get(0x5F20)), "Get(5F20)");
+    let mut session = session();
+    let answer = session.get(0x5F20).expect("an answer");
+    assert_eq!(answer.data[3..], SECRET);
+    hides(&answer, "Answer(9000, 6 bytes)");
+    let entries: Vec<Entry> = session.entries(0).collect();
+    hides(
+        &entries,
+        "[Entry(5F20, 3 bytes), Entry(50, 0 bytes, locked)]",
+    );
+    hides(&session, "Session(");
+    let objects = Objects::over(&answer.data).expect("objects");
+    hides(&objects, "Objects(1 left)");
+    hides(&objects.last(), "Some(Object(5F20, 6 bytes))");
+    let mut terminal = Terminal::new().expect("memory");
+    terminal.begin(put).expect("begun");
+    hides(&terminal, "Terminal(");
+    let tpdu = terminal.tpdu().expect("due");
+    assert_eq!(tpdu.bytes[5..], SECRET);
+    hides(&tpdu, "Tpdu(8 bytes, 0 back)");
+    hides(&Turn::Sends(SECRET[0]), "Sends(_)");
+    assert_eq!(
+        format!("{:?} {:?}", Turn::Listens, Turn::Done),
+        "Listens Done"
+    );
+}
+
+#[test]
+fn an_answer_is_one_object_or_not() {
+    let mut session = session();
+    let answer = session.get(0x5F20).expect("an answer");
+    let object = answer.object(0x5F20).expect("the object");
+    assert_eq!((object.tag, object.place, object.size), (0x5F20, 0, 6));
+    assert_eq!(object.value, SECRET);
+    assert_eq!(answer.object(0x50), None);
+    assert_eq!(answer.object(0x5F), None);
+    let empty = session.get(0x50).expect("an answer");
+    assert_eq!(empty.object(0x50).expect("the object").value, b"");
+    let missing = session.get(0x51).expect("an answer");
+    assert_eq!(missing.object(0x51), None);
+    // what any card may answer: the object with something around it, and the value alone
+    for (data, is_one) in [
+        (&b"\x50\x01A"[..], true),
+        (b"\x00\x50\x01A", false),
+        (b"\x50\x01A\x00", false),
+        (b"\x50\x01A\x50\x01A", false),
+        (b"\x51\x00\x50\x01A", false),
+        (b"\x70\x03\x50\x01A", false),
+        (b"\x50\x02A", false),
+        (b"A", false),
+        (b"", false),
+    ] {
+        let mut reader = |_: &[u8], answer: &mut [u8]| {
+            answer[..data.len()].copy_from_slice(data);
+            answer[data.len()] = 0x90;
+            Ok::<usize, Error>(data.len() + 2)
+        };
+        let mut terminal = Terminal::new().expect("memory");
+        let answer = terminal.run(&mut reader, Operation::Get(0x50));
+        let answer = answer.expect("an answer");
+        assert_eq!(answer.object(0x50).is_some(), is_one, "{data:02X?}");
+    }
+}
+
+/// A fault with a cause.
+#[derive(Debug)]
+struct Gone(fmt::Error);
+
+impl fmt::Display for Gone {
+    fn fmt(&self, f: &mut fmt::Formatter<'_>) -> fmt::Result {
+        f.write_str("the reader is gone")
+    }
+}
+
+impl Cause for Gone {
+    fn source(&self) -> Option<&(dyn Cause + 'static)> {
+        Some(&self.0)
+    }
+}
+
+/// What a program prints that shows a fault and then each cause of it: nothing twice.
+#[test]
+fn a_cause_is_told_once() {
+    let chain = |fault: &dyn Cause| {
+        let (mut texts, mut next) = (vec![fault.to_string()], fault.source());
+        while let Some(cause) = next {
+            texts.push(cause.to_string());
+            next = cause.source();
+        }
+        texts
+    };
+    let gone = RunError::Transport(Gone(fmt::Error));
+    let cause = fmt::Error.to_string();
+    assert_eq!(chain(&gone), ["the reader is gone".to_owned(), cause]);
+    let refused: RunError<Gone> = Error::Stalled.into();
+    assert_eq!(chain(&refused), ["stalled"]);
+    let fault = find(&[0x50], &[0x50]).expect_err("a fault");
+    assert_eq!(chain(&fault), ["length cut at 0"]);
+    let fault = Atr::read(b"\x3A").expect_err("a fault");
+    assert_eq!(chain(&fault), ["no TS at 0"]);
+    let mut exchange = Exchange::start(&[0x00, 0xCA, 0x5F, 0x20]).expect("memory");
+    let fault = exchange.receive_bytes(&[0x60]).expect_err("a fault");
+    assert_eq!(chain(&fault), ["not listening at 0"]);
+}
+
+#[test]
+fn values_are_sorted_into_sets() {
+    fn counted<T: Hash + Eq>(values: impl IntoIterator<Item = T>) -> usize {
+        values.into_iter().collect::<HashSet<T>>().len()
+    }
+    assert_eq!(counted([Status(0x9000), Status(0x9000), Status(0x6A82)]), 2);
+    assert_eq!(counted([Turn::Sends(1), Turn::Listens, Turn::Sends(1)]), 2);
+    assert_eq!(counted([Stop::Full, Stop::Done, Stop::Full]), 2);
+    assert_eq!(
+        counted([
+            Pps::default(),
+            Pps {
+                t: 1,
+                ..Pps::default()
+            }
+        ]),
+        2
+    );
+    assert_eq!(counted([Operation::Get(0x50), Operation::Get(0x50)]), 1);
+    let atr = |bytes| Atr::read(bytes).expect("an answer to reset");
+    assert_eq!(counted([atr(b"\x3B\x00"), atr(b"\x3F\x00")]), 2);
+}
+
+/// What this crate's page says of threads.
+#[test]
+fn handles_may_go_to_another_thread_and_other_values_be_shared() {
+    fn goes<T: Send>() {}
+    fn is_shared<T: Send + Sync>() {}
+    goes::<Terminal>();
+    goes::<Exchange>();
+    goes::<Session>();
+    goes::<Card>();
+    goes::<CardBuilder>();
+    is_shared::<Answer>();
+    is_shared::<Entry>();
+    is_shared::<Tpdu>();
+    is_shared::<Atr<'_>>();
+    is_shared::<Objects<'_>>();
+    is_shared::<Operation<'_>>();
+    is_shared::<RunError<Error>>();
+}

@@ -11,7 +11,7 @@ use std::fmt;
 /// assert!(!status.is_ok());
 /// assert_eq!((status.sw1(), status.sw2()), (0x69, 0x82));
 /// let shown = format!("{status}: {}", status.text());
-/// assert_eq!(shown, "6982: security status not satisfied");
+/// assert_eq!(shown, "6982: locked");
 /// ```
 #[derive(Clone, Copy, PartialEq, Eq, Hash)]
 pub struct Status(pub u16);
@@ -35,35 +35,28 @@ impl Status {
         self.0.to_be_bytes()[1]
     }
 
-    /// What it says, in a few words of the standard: what the word means, or else its first byte.
+    /// What it means if a [`Card`](crate::Card) answers it, in a few words. Of any other status it
+    /// is `unknown status`.
     #[must_use]
     pub fn text(self) -> &'static str {
         match self.0 {
             0x9000 => "ok",
+            0x6100..=0x61FF => "more data wait",
             0x6581 => "memory failure",
+            0x6700 => "wrong length",
             0x6883 => "last command of the chain expected",
-            0x6884 => "command chaining not supported",
-            0x6982 => "security status not satisfied",
+            0x6884 => "chaining not supported",
+            0x6982 => "locked",
             0x6985 => "conditions of use not satisfied",
-            0x6A80 => "incorrect data",
-            0x6A82 => "file or application not found",
-            0x6A84 => "not enough memory",
-            0x6A86 => "incorrect P1-P2",
-            0x6A88 => "referenced data not found",
-            _ => match self.sw1() {
-                0x61 => "more data available",
-                0x62 | 0x63 => "warning",
-                0x64 | 0x65 => "execution error",
-                0x67 => "wrong length",
-                0x68 => "function of CLA not supported",
-                0x69 => "command not allowed",
-                0x6A | 0x6B => "wrong P1-P2",
-                0x6C => "wrong Le",
-                0x6D => "INS not supported",
-                0x6E => "CLA not supported",
-                0x6F => "no precise diagnosis",
-                _ => "unknown status",
-            },
+            0x6A80 => "wrong data",
+            0x6A82 => "application not found",
+            0x6A84 => "not enough memory space",
+            0x6A86 => "wrong P1-P2",
+            0x6A88 => "data object not found",
+            0x6C00..=0x6CFF => "fewer data are there than asked for",
+            0x6D00 => "INS not supported",
+            0x6E00 => "CLA not supported",
+            _ => "unknown status",
         }
     }
 }

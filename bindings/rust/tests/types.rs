@@ -41,38 +41,32 @@ fn only_9000_is_ok() {
     assert_eq!(ok, [0x9000]);
 }
 
-/// ISO/IEC 7816-4, 5.1.3, tables 5 and 6.
+/// Each status that a card here answers, as `Answer` lists them, and others.
 #[test]
 fn statuses_have_texts() {
     for (word, text) in [
         (0x9000, "ok"),
         (0x9001, "unknown status"),
-        (0x6100, "more data available"),
-        (0x61FF, "more data available"),
-        (0x6281, "warning"),
-        (0x63C0, "warning"),
-        (0x6400, "execution error"),
-        (0x6500, "execution error"),
+        (0x60FF, "unknown status"),
+        (0x6100, "more data wait"),
+        (0x61FF, "more data wait"),
+        (0x6200, "unknown status"),
         (0x6581, "memory failure"),
         (0x6700, "wrong length"),
-        (0x6800, "function of CLA not supported"),
         (0x6883, "last command of the chain expected"),
-        (0x6884, "command chaining not supported"),
-        (0x6900, "command not allowed"),
-        (0x6982, "security status not satisfied"),
+        (0x6884, "chaining not supported"),
+        (0x6982, "locked"),
         (0x6985, "conditions of use not satisfied"),
-        (0x6A00, "wrong P1-P2"),
-        (0x6A80, "incorrect data"),
-        (0x6A82, "file or application not found"),
-        (0x6A84, "not enough memory"),
-        (0x6A86, "incorrect P1-P2"),
-        (0x6A88, "referenced data not found"),
-        (0x6B00, "wrong P1-P2"),
-        (0x6C06, "wrong Le"),
+        (0x6A80, "wrong data"),
+        (0x6A82, "application not found"),
+        (0x6A84, "not enough memory space"),
+        (0x6A86, "wrong P1-P2"),
+        (0x6A88, "data object not found"),
+        (0x6BFF, "unknown status"),
+        (0x6C00, "fewer data are there than asked for"),
+        (0x6CFF, "fewer data are there than asked for"),
         (0x6D00, "INS not supported"),
         (0x6E00, "CLA not supported"),
-        (0x6F00, "no precise diagnosis"),
-        (0x6000, "unknown status"),
         (0x0000, "unknown status"),
     ] {
         assert_eq!(Status(word).text(), text, "{word:04X}");

@@ -29,7 +29,7 @@ codes! {
         NoTs = -70, "no TS";
         /// The bytes end before a character that is announced.
         Cut = -71, "answer to reset cut";
-        /// More than 32 characters after TS are announced, and this is the 33rd.
+        /// There are 33 bytes, the most, and another is announced, or is TCK.
         TooLong = -72, "answer to reset too long";
         /// The T that this TD names is below the one before it, or is 15 in TD1.
         OutOfOrder = -73, "T out of order";

@@ -142,7 +142,7 @@ fn categories_go_by_the_first_byte() {
     assert_eq!(category(0x90), Category::Proprietary);
 }
 
-/// The longest answer, of which a later byte may be asked for too.
+/// The longest answer; with one more historical byte nothing that follows makes it an answer.
 const LONGEST: [u8; ATR_LIMIT] = *b"\x3B\xFF\x11\x00\x00\xF0\x00\x00\x0A\xF0\x00\x00\x00\xF0\x00\
     \x00\x00\x00123456789ABCDEF";
 

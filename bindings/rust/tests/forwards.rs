@@ -108,7 +108,7 @@ stand_in! {
 }
 
 /// The version that is told where a test sets none: that of the crate.
-const OWN: i32 = 0x000100;
+const OWN: i32 = 0x000200;
 
 /// Says in a process of its own which version is told (`a_library_of_another_version`).
 const TELLS: &str = "GALLIUMTOAD_TELLS_VERSION";
@@ -209,12 +209,13 @@ fn of_pps() {
 #[test]
 fn of_versions() {
     for (number, parts, fits) in [
-        (0x000100, (0, 1, 0), true),
-        (0x0001FF, (0, 1, 255), true),
-        (0x000200, (0, 2, 0), false),
+        (0x000200, (0, 2, 0), true),
+        (0x0002FF, (0, 2, 255), true),
+        (0x000100, (0, 1, 0), false),
+        (0x000300, (0, 3, 0), false),
         (0x000000, (0, 0, 0), false),
-        (0x010100, (1, 1, 0), false),
-        (0x010002, (1, 0, 2), false),
+        (0x010200, (1, 2, 0), false),
+        (0x020001, (2, 0, 1), false),
     ] {
         VERSION.with(|it| it.set(number));
         assert_eq!(hands(version, &[("version", &[])]), parts);

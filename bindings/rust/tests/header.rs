@@ -2,8 +2,8 @@
 
 use galliumtoad::{AtrReason, PpsError, ATR_LIMIT, PPS_LIMIT, PROTOCOLS_LIMIT};
 use galliumtoad::{Error, Reason, AID_LEAST, AID_LIMIT, APPS_LIMIT, ENTRIES_LIMIT};
+use galliumtoad::{Status, TPDU_LIMIT, VALUE_LIMIT};
 use galliumtoad::{ANSWER_LIMIT, LEVELS_LIMIT, OBJECT_LIMIT, RESPONSE_LIMIT};
-use galliumtoad::{TPDU_LIMIT, VALUE_LIMIT};
 use std::collections::HashSet;
 
 /// The faults of the header's list, with what this crate calls them.
@@ -144,6 +144,36 @@ fn every_fault_of_the_header_is_known() {
         let known = known.contains(name);
         assert!(known, "{name}");
     }
+}
+
+/// `gt_status_text` has the same words, and each status that it names is looked at.
+#[test]
+fn statuses_have_the_texts_of_the_header() {
+    let header = header();
+    let start = header.find("gt_status_text(uint16_t status) {");
+    let body = &header[start.expect("the function")..];
+    let body = &body[..body.find("\n}\n").expect("its end")];
+    let rows = body
+        .lines()
+        .filter_map(|line| row(line.trim().strip_prefix("case 0x")?));
+    let rows: Vec<(u16, &str)> = rows.collect();
+    for &(number, text) in &rows {
+        let words = match number {
+            0..=0xFF => number * 0x100..=number * 0x100 + 0xFF,
+            word => word..=word,
+        };
+        words.for_each(|word| assert_eq!(Status(word).text(), text, "{word:04X}"));
+    }
+    assert_eq!(rows.len(), body.matches("case 0x").count());
+    assert_eq!(rows.len(), 16);
+    assert!(body.contains("default: return \"unknown status\""));
+}
+
+/// The number and the text of `9000: return "ok";`.
+fn row(line: &str) -> Option<(u16, &str)> {
+    let (number, rest) = line.split_once(": return \"")?;
+    let text = rest.strip_suffix("\";")?;
+    Some((u16::from_str_radix(number, 16).ok()?, text))
 }
 
 /// The number that `#define NAME` gives.

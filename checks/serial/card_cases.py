@@ -21,6 +21,7 @@ USAGE = (
 )
 APP = "app A0000000031010\nobject 5F20 4A4F45\n"
 GONE = "the line is gone\n"
+NO_PPS = "a PPS request has come that the card does not answer\n"
 PUT_WORDS = "> 00DA5F2003 < DA > 414E4E < 9000 "
 # the first of a dialogue that tells whether a card still answers
 ASK_WORDS = "> 00CA5F2000 < 6985 "
@@ -107,14 +108,13 @@ def pps():
     trace = "reset\n< 3B1095\npps > FF10957A\npps < FF10957A\n> 00CA5F2000\n< 6985\n"
     yield Case("a card's trace of PPS", f"< {offers} > FF10957A < FF10957A {ASK_WORDS}", offers,
                ["-v"], output=trace, baud=own)
-    fault = "a PPS request has come that the card does not answer\n"
     for title, request in (
         ("a wrong PCK", "FF10957B"),
         ("T=1", "FF11957B"),
         ("a reserved bit", "FF807F"),
     ):
         yield Case(f"PPS with {title}", f"< {offers} > {request} ", offers, mute=True,
-                   fault=fault)
+                   fault=NO_PPS)
     yield Case("a card's line of a reset, at a pseudo terminal", f"< {offers} {ASK_WORDS}", offers,
                ["--reset", "cts"])
     yield Case("FF that is no PPS", f"< {offers} {ASK_WORDS} > FFCA5F2000 < 6E00 {ASK_WORDS}",
@@ -221,6 +221,36 @@ def opening_is_the_reset():
     far.end()
 
 
+def quick_reopening():
+    """A terminal that closes the line and opens it again at once finds the card reset, also within
+    a TPDU."""
+    far = Far("--no-echo", TABLE)
+    near, other = far.opened()
+    for number in range(30):
+        play(other, "< 3B00 " + ASK_WORDS + SELECT_WORDS, card=False)
+        if number % 3 == 0:
+            play(other, "> 00CA5F20", card=False)
+        near.close()
+        near, other = far.opened()
+    play(other, "< 3B00", card=False)
+    near.close()
+    far.end()
+
+
+def mute_and_reopened():
+    """So it is of a card that has not answered a PPS request."""
+    far = Far("--no-echo", TABLE)
+    for _ in range(5):
+        near, other = far.opened()
+        play(other, "< 3B00 > FF11FE00", card=False)
+        assert far.program.first_fault(15) == NO_PPS
+        near.close()
+    near, other = far.opened()
+    play(other, "< 3B00 " + ASK_WORDS, card=False)
+    near.close()
+    far.end()
+
+
 def gives_the_echo():
     """A card's own line gives the terminal its echo, before the card says anything."""
     far = Far(TABLE)
@@ -258,7 +288,7 @@ def mute_until_reset():
     near, other = far.opened()
     play(other, "< 3B00 " + ASK_WORDS, card=False)
     near.close()
-    far.end(fault="a PPS request has come that the card does not answer\n")
+    far.end(fault=NO_PPS)
 
 
 def tables():
@@ -268,6 +298,8 @@ def tables():
     for text, fault in (
         ("app A000\n", "line 1: bad argument\n"),
         ("# a name\nobject 5F20 41\n", "line 2: no app\n"),
+        ("atr 3B00\natr 3B00\n" + APP, "line 2: bad argument\n"),
+        (APP + "atr 3B1095\nobject 50 41\natr 3B00\n", "line 5: bad argument\n"),
         ("atr 3B80018F\n", none + "wrong check byte, at byte 4\n"),
         ("atr 5500\n", none + "no TS, at byte 1\n"),
         ("atr 3B6500\n", none + "answer to reset cut, at byte 4\n"),
@@ -279,6 +311,25 @@ def tables():
         with tempfile.TemporaryDirectory() as folder:
             program = Program("serial_card", ["--pty", table(folder, text)])
             look(program, program.end(), "", fault, 1)
+
+
+def warns():
+    """A card warns of an answer that our terminal refuses."""
+    for answer, warning in (
+        ("3B804000", "the card's waiting time is reserved"),
+        ("3B9095500000", "the card's waiting time is reserved"),
+        ("3B1071", ""),
+        ("3B90951000", ""),
+    ):
+        line = Line()
+        with tempfile.TemporaryDirectory() as folder:
+            path = table(folder, f"atr {answer}\n{APP}")
+            program = Program("serial_card", ["--no-echo", line.name, path])
+            play(Other(line, echo=False), f"< {answer} {ASK_WORDS}", card=False)
+            line.close()
+            if warning:
+                warning = f"warning: gt_serial refuses this answer to reset: {warning}\n"
+            look(program, program.end(), "", warning + GONE, 1)
 
 
 def closed_descriptors():
@@ -336,6 +387,7 @@ def helps():
 def tests():
     """Each test of this part: its title, and a function that is wrong by an error."""
     yield from ((case.title, lambda case=case: run(case)) for case in all_cases())
-    for test in (wrong_echo, is_slow, puts_back, opening_is_the_reset, gives_the_echo, is_not_read,
-                 mute_until_reset, tables, closed_descriptors, words, helps):
+    for test in (wrong_echo, is_slow, puts_back, opening_is_the_reset, quick_reopening,
+                 mute_and_reopened, gives_the_echo, is_not_read, mute_until_reset, tables, warns,
+                 closed_descriptors, words, helps):
         yield (f"card: {test.__name__}", test)

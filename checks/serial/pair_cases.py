@@ -153,6 +153,18 @@ def comes_back_soon():
         far.end()
 
 
+def second_is_harmless():
+    """A second terminal at a card's line tells which process has it, and does not reset the card."""
+    far = Far("--no-echo", "--plan", "n" * 3000, TABLE)
+    words = [*SLACK, "--no-echo", far.name, "select", "A0000000031010"]
+    first = Program("gt_serial", words)
+    time.sleep(1.0)
+    second = Program("gt_serial", words)
+    look(second, second.end(), "", f"process {first.process.pid} has the tty\n", 1)
+    look(first, first.end(), "= 9000 6F098407A0000000031010\n", "", 0)
+    far.end()
+
+
 def keeps_values():
     """What one terminal has stored the next one finds, over the line that a card makes."""
     far = Far(TABLE)
@@ -177,5 +189,5 @@ def tests():
         for echo in (True, False):
             yield (f"the card's own line, inverse {inverse}, echo {echo}",
                    lambda of=(inverse, echo): own_line(*of))
-    for test in (is_explained, comes_back, comes_back_soon, keeps_values):
+    for test in (is_explained, comes_back, comes_back_soon, second_is_harmless, keeps_values):
         yield (f"both: {test.__name__}", test)

@@ -222,6 +222,8 @@ def meanings():
          "1376 ms", "none", ""),
         ("3B84800141FF00FF44", "direct", "T=0 T=1", "negotiable", "9600 baud, Fi 372, Di 1",
          "12 etu", "1000 ms", "41FF00FF", ""),
+        ("3B804002", "direct", "T=0", "negotiable", "9600 baud, Fi 372, Di 1", "12 etu", "200 ms",
+         "none", ""),
         ("3B4064", "direct", "T=0", "negotiable", "9600 baud, Fi 372, Di 1", "112 etu", "1000 ms",
          "none", ""),
         ("3BC064801F0338", "direct", "T=0", "negotiable", "9600 baud, Fi 372, Di 1",
@@ -703,6 +705,7 @@ def tests():
         (f"signal {number.name}", lambda number=number: puts_back(number))
         for number in (signal.SIGTERM, signal.SIGINT, signal.SIGHUP, signal.SIGQUIT)
     )
-    for test in (guard_time, wrong_echo, passes_over_a_signal, line_gone, nulls_for_ever, settings, full_device,
-                 full_device_for_an_answer, nobody_reads, closed_descriptors, words, helps):
+    for test in (guard_time, wrong_echo, passes_over_a_signal, line_gone, nulls_for_ever, settings,
+                 full_device, full_device_for_an_answer, nobody_reads, closed_descriptors, words,
+                 helps):
         yield (f"terminal: {test.__name__}", test)

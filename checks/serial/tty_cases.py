@@ -2,6 +2,7 @@
 other lines and the parity of characters, none of which a pseudo terminal has. It notes each call
 that sets something, and refuses what it is told to."""
 
+import fcntl
 import os
 import shutil
 import signal
@@ -150,6 +151,7 @@ def second_resets():
         ("noise", "< " + "55" * 17, well, ""),
         ("an answer that is cut", "< 3B65", well, ""),
         ("a byte behind the answer", "< 3B0055", well, ""),
+        ("TS behind the answer", "< 3B003B", well, ""),
         ("a wrong check byte, and silence", "< 3B80018F", "", NONE + "wrong check byte, at byte 4\n"),
         ("silence, and a wrong check byte", "", "< 3B80018F", NONE + "wrong check byte, at byte 4\n"),
         ("two faults", "< 3B80018F", "< 3B8081801F", NONE + "T out of order, at byte 4\n"),
@@ -389,9 +391,14 @@ def is_locked():
         assert line.settings() == set_to, "the second program has set the tty"
         line.write(b"\x90\x00")
         look(first, first.end(), "= 9000\n", "", 0)
+        # a lock that is not of such a program is seen as well
+        fcntl.lockf(line.near, fcntl.LOCK_SH)
         third = Program("gt_serial", words)
+        look(third, third.end(), "", f"process {os.getpid()} has the tty\n", 1)
+        fcntl.lockf(line.near, fcntl.LOCK_UN)
+        fourth = Program("gt_serial", words)
         play(Other(line), f"< 3B00 {SHORT_WORDS}{DONE}", card=True)
-        look(third, third.end(), "= 9000\n", "", 0)
+        look(fourth, fourth.end(), "= 9000\n", "", 0)
     finally:
         line.close()
 

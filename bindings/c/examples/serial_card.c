@@ -4,6 +4,7 @@
  * The card is the library's, and proved; this program waits for a reset, sends the answer to it,
  * and passes characters both ways until the next one. `serial_card --help` says what it does. */
 #include "descriptors.h"
+#include "serial_answer.h"
 #include "serial_options.h"
 #include "table.h"
 
@@ -12,9 +13,9 @@ enum { ALL_WELL = 0, FAULT = 1, BAD_WORDS = 2 };
 #define NUMBER(number) #number
 #define DOTTED(major, minor, patch) NUMBER(major) "." NUMBER(minor) "." NUMBER(patch)
 
-/* how often the line of a reset is looked at, and how long a wait without such a line is, in
+/* how often the line of a reset is looked at, and how often whether a pseudo terminal was closed, in
  * microseconds */
-enum { LOOKS_EVERY = 1000, WAITS_FOR = 1000000 };
+enum { LOOKS_EVERY = 1000, WAITS_FOR = 10000 };
 
 /* what a PPS request begins with, and the bit of its PPS0 for PPS1 (ISO/IEC 7816-3, 9.2) */
 enum { PPSS = 0xFF, HAS_PPS1 = 0x10 };
@@ -352,6 +353,9 @@ static const char *read_answer(const struct table *table, gt_atr *says)
             ? says->specific_t != 0 || says->implicit || says->fi == 0 || says->di == 0
             : says->protocols[0] != 0)
         return "the table's answer to reset does not offer T=0 at a rate that it tells";
+    if (answer_refusal(says) != NULL)
+        fprintf(stderr, "warning: gt_serial refuses this answer to reset: %s\n",
+                answer_refusal(says));
     return NULL;
 }
 

@@ -11,6 +11,7 @@
 #include <stdio.h>
 #include <stdlib.h>
 #include <string.h>
+#include <sys/inotify.h>
 #include <sys/ioctl.h>
 #include <sys/stat.h>
 #include <sys/sysmacros.h>
@@ -152,28 +153,26 @@ static const char *tell_holder(long process)
     return told;
 }
 
-/* Why a tty can not be opened. A tty that another process keeps for itself can't be asked who that
- * is; the list of all locks of the system shows it to everybody. */
-static const char *tell_closed(const char *name)
+/* The process that has locked a tty, or 0. The system's list of locks shows it without opening the
+ * tty: that may reset a card, and the process may keep others from it. */
+static long holder_of(const char *name)
 {
-    const bool is_kept = errno == EBUSY;
-    const char *fault = tell_error("the tty can not be opened");
-    FILE *locks = is_kept ? fopen("/proc/locks", "r") : NULL;
+    FILE *locks = fopen("/proc/locks", "r");
     struct stat tty;
     char line[128];
     unsigned first, second;
     unsigned long inode;
-    long process;
+    long process, holder = 0;
     if (locks == NULL)
-        return fault;
+        return 0;
     while (stat(name, &tty) == 0 && fgets(line, sizeof line, locks) != NULL) {
         if (sscanf(line, "%*s POSIX %*s WRITE %ld %x:%x:%lu", &process, &first, &second, &inode)
                 == 4
             && makedev(first, second) == tty.st_dev && inode == tty.st_ino)
-            fault = tell_holder(process);
+            holder = process;
     }
     fclose(locks);
-    return fault;
+    return holder;
 }
 
 /* Locks the tty against another of these programs, which the lock tells who has it. */
@@ -185,7 +184,7 @@ static const char *lock(const struct port *port)
     whole.l_whence = SEEK_SET;
     if (fcntl(port->fd, F_SETLK, &whole) == 0)
         return NULL;
-    if (fcntl(port->fd, F_GETLK, &whole) == 0 && whole.l_type == F_WRLCK && whole.l_pid > 0)
+    if (fcntl(port->fd, F_GETLK, &whole) == 0 && whole.l_type != F_UNLCK && whole.l_pid > 0)
         return tell_holder(whole.l_pid);
     return tell_error("the tty can not be locked");
 }
@@ -200,11 +199,14 @@ static const char *keep_for_itself(const struct port *port)
 
 const char *port_open(struct port *port, const char *name, unsigned long baud)
 {
+    const long holder = holder_of(name);
     const char *fault;
+    if (holder > 0)
+        return tell_holder(holder);
     memset(port, 0, sizeof *port);
     port->fd = open(name, O_RDWR | O_NOCTTY | O_NONBLOCK);
     if (port->fd < 0)
-        return tell_closed(name);
+        return tell_error("the tty can not be opened");
     port->is_pseudo = is_pseudo(port->fd);
     fault = isatty(port->fd) ? lock(port) : "it is no tty";
     if (fault == NULL && ioctl(port->fd, TCGETS2, &before) != 0)
@@ -252,6 +254,9 @@ const char *port_make(struct port *port)
         fault = "no pseudo terminal: its name is too long";
     else
         strcpy(port->name, name);
+    port->watch = inotify_init1(IN_NONBLOCK);
+    if (fault == NULL && inotify_add_watch(port->watch, port->name, IN_CLOSE) < 0)
+        fault = tell_error("no pseudo terminal");
     if (fault == NULL)
         fault = clear_near_end(port);
     if (fault != NULL)
@@ -259,23 +264,27 @@ const char *port_make(struct port *port)
     return fault;
 }
 
-/* Whether the near end is closed, or gets closed within so many milliseconds. */
-static bool is_hung_up(const struct port *port, int milliseconds)
+/* Whether somebody has closed the near end since the last call. It may be open again by now. */
+static bool was_closed(const struct port *port)
 {
-    struct pollfd wait = { 0, 0, 0 };
-    wait.fd = port->fd;
-    return poll(&wait, 1, milliseconds) > 0 && (wait.revents & POLLHUP) != 0;
+    struct inotify_event event;
+    bool was = false;
+    while (read(port->watch, &event, sizeof event) > 0)
+        was = true;
+    return was;
 }
 
 bool port_is_closed(const struct port *port)
 {
-    return is_hung_up(port, 0);
+    struct pollfd wait = { 0, 0, 0 };
+    wait.fd = port->fd;
+    return was_closed(port) || (poll(&wait, 1, 0) > 0 && (wait.revents & POLLHUP) != 0);
 }
 
 void port_await_closing(const struct port *port)
 {
-    while (!is_hung_up(port, 1000))
-        continue;
+    while (!port_is_closed(port))
+        port_sleep_until(port_now() + LOOKS_EVERY);
 }
 
 const char *port_await_opening(struct port *port)
@@ -422,5 +431,7 @@ void port_close(struct port *port)
         ioctl(port->fd, TCFLSH, TCOFLUSH);
     put_back();
     close(port->fd);
+    if (port->is_made)
+        close(port->watch);
     port->fd = -1;
 }

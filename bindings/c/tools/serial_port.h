@@ -19,6 +19,7 @@ struct port {
     int fd;
     bool is_pseudo;             /* it drops parity, and has no other lines */
     bool is_made;               /* it is the far end of a pseudo terminal: `name` is the near one */
+    int watch;                  /* of that: tells when the near one is closed */
     bool is_cut;                /* a mark of another parity is cut: no more can be read */
     char name[PORT_NAME_ROOM];
 };
@@ -43,7 +44,8 @@ const char *port_open(struct port *port, const char *name, unsigned long baud);
 /* Makes a pseudo terminal, and is its far end. */
 const char *port_make(struct port *port);
 
-/* Whether the near end of one that was made is closed; and waits until it is. */
+/* Whether the near end of one that was made is closed, or somebody has closed it since the last call.
+ * And waits until that is so. */
 bool port_is_closed(const struct port *port);
 void port_await_closing(const struct port *port);
 

@@ -162,9 +162,9 @@ def statuses():
                "= 9000 4A4F45\n" + SELECTED, status=1, fault=f"operation 1: {not_it}",
                options=["-k"])
     yield Case("values of FF", "< 3B00 > 00DA5F2003 < DA > FFFF00 < 9000 > 00CA5F2000 "
-               "< CA5F20FBFF00FF" + "FF" * 250 + "9000 ",
+               "< CA5F2081FCFF00FF" + "FF" * 249 + "9000 ",
                ["put", "5F20", "FFFF00", "get", "5F20"],
-               "= 9000\n= 9000 5F20FBFF00FF" + "FF" * 250 + "\n")
+               "= 9000\n= 9000 5F2081FCFF00FF" + "FF" * 249 + "\n")
 
 
 def answers():

@@ -19,46 +19,10 @@ enum { ALL_WELL = 0, FAULT = 1, BAD_WORDS = 2 };
 /* a card's character for "go on waiting" (ISO/IEC 7816-3, 10.3.3) */
 #define NULL_BYTE 0x60
 
-static const char USAGE[] = "Usage: gt_serial [OPTIONS] TTY [OPERATION..]";
-
+/* the lines of gt_serial.help */
 static const char HELP[] =
-    "Options:\n"
-    "  -v               Shows each character: `> ` to the card, `< ` from it\n"
-    "  -k               Goes on after a status other than 9000\n"
-    "  -f FILE          Operations from a file, a line each (`-`: standard input)\n"
-    "  --baud N         The rate at a reset, a 372nd of the card's clock; where\n"
-    "                   nothing is said 9600, which goes with 3.5712 MHz\n"
-    "  --reset LINE     What resets the card: rts, dtr, or none where somebody does\n"
-    "                   it by hand; rts where nothing is said\n"
-    "  --held-by STATE  The state of that line that holds the card in reset: on or\n"
-    "                   off; on where nothing is said\n"
-    "  --no-echo        What is sent does not come back\n"
-    "  --pps            Asks the card to talk at its own rate, where it has another\n"
-    "  --slack MS       By how many milliseconds each wait is longer than the line's\n"
-    "                   rules have it, as no program is woken up in time: 200\n"
-    "  --patience S     For how many seconds a card may send nothing but NULLs, and\n"
-    "                   how long a reset by hand may take: 300\n"
-    "  -h, --help       Prints help\n"
-    "  -V, --version    Prints the version\n"
-    "\n"
-    "Operations, which are carried out in order. Without any, the answer to reset is\n"
-    "printed, and what it says:\n"
-    "\n"
-    "  select AID     selects the application with this identifier\n"
-    "  get TAG        reads a data object\n"
-    "  put TAG VALUE  stores a data object\n"
-    "  send HEX       sends one command, and fetches its answer\n"
-    "\n"
-    "They are those of gt_pcsc, whose help says more of them.\n"
-    "\n"
-    "Of a pseudo terminal opening it is the reset. A fault is told on standard error,\n"
-    "and ends the program. The exit status is 0 where each operation was answered\n"
-    "9000, 1 after another status or a fault, and 2 where the words of the command\n"
-    "line are refused.\n"
-    "\n"
-    "Example:\n"
-    "\n"
-    "  gt_serial --reset dtr /dev/ttyUSB0 select A0000000031010 get 5F20\n";
+#include "gt_serial_help.h"
+    ;
 
 static const char *const OPTIONS[] = {
     "-v", "-k", "-f", "--baud", "--reset", "--held-by", "--no-echo", "--pps", "--slack",
@@ -86,7 +50,9 @@ static int tell(const char *fault)
 
 static int refuse_words(const char *fault)
 {
-    fprintf(stderr, "error: %s\n\n%s\n\nFor more information, try '--help'.\n", fault, USAGE);
+    const char *usage = strstr(HELP, "Usage:");
+    fprintf(stderr, "error: %s\n\n%.*s\n\nFor more information, try '--help'.\n", fault,
+            (int)strcspn(usage, "\n"), usage);
     return BAD_WORDS;
 }
 
@@ -280,8 +246,7 @@ static int run_options(const struct serial_options *options)
     struct script_refusal refusal;
     int result;
     if (options->helps) {
-        printf("Reads and writes the data objects of a card in a reader at a tty\n\n%s\n\n%s",
-               USAGE, HELP);
+        fputs(HELP, stdout);
         return end_output();
     }
     if (options->tells_version) {

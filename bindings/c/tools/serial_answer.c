@@ -14,6 +14,7 @@ enum { BEGINS_BEFORE = 40000, IS_HELD_FOR = 50000 };
 enum { TS_OF_DIRECT = 0x3B, TS_OF_INVERSE = 0x3F };
 
 static const char NO_ANSWER[] = "the card does not answer to reset";
+static const char TOO_LONG[] = "the answer to reset is too long";
 
 static char told[160];
 
@@ -101,7 +102,7 @@ static const char *take_others(struct answer *answer)
     while ((code = gt_atr_read(answer->bytes, answer->n, &answer->says, &place)) == GT_ATR_CUT
            || code == GT_ATR_CHECK_MISSING) {
         const char *fault = answer->n == sizeof answer->bytes
-            ? "the answer to reset is too long"
+            ? TOO_LONG
             : line_receive(answer->line, &answer->bytes[answer->n], wait);
         if (fault == LINE_IS_SILENT) {
             snprintf(told, sizeof told, "the answer to reset stops after byte %lu",
@@ -112,6 +113,8 @@ static const char *take_others(struct answer *answer)
             return fault;
         answer->n++;
     }
+    if (code == GT_ATR_TOO_LONG)
+        return TOO_LONG;
     return code == GT_OK ? line_refuse_early(answer->line, LINE_LATE) : tell_none(code, place);
 }
 

@@ -154,7 +154,7 @@ def comes_back_soon():
 
 
 def second_is_harmless():
-    """A second terminal at a card's line tells which process has it, and does not reset the card."""
+    """A second terminal at a card's line tells which process has it, and resets no card."""
     far = Far("--no-echo", "--plan", "n" * 3000, TABLE)
     words = [*SLACK, "--no-echo", far.name, "select", "A0000000031010"]
     first = Program("gt_serial", words)

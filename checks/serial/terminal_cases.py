@@ -213,8 +213,8 @@ def answers():
 
 
 def meanings():
-    """What an answer to reset says, if no operation is given. 960 * WI * Fi cycles at 3.5712 MHz are
-    the waiting time."""
+    """What an answer to reset says, if no operation is given. The waiting time is 960 * WI * Fi
+    cycles at 3.5712 MHz."""
     for answer, convention, protocols, mode, rate, guard, wait, historical, fault in (
         ("3B00", "direct", "T=0", "negotiable", "9600 baud, Fi 372, Di 1", "12 etu", "1000 ms",
          "none", ""),

@@ -144,7 +144,7 @@ def resets():
 
 def second_resets():
     """A second reset, after an answer that is none; and the fault if that fails too."""
-    well = f"< 3B00 {SHORT_WORDS}{DONE}"
+    well, wrong = f"< 3B00 {SHORT_WORDS}{DONE}", NONE + "wrong check byte, at byte 4\n"
     for title, first, second, fault in (
         ("silence", "", well, ""),
         ("a wrong check byte", "< 3B80018F", well, ""),
@@ -152,8 +152,8 @@ def second_resets():
         ("an answer that is cut", "< 3B65", well, ""),
         ("a byte behind the answer", "< 3B0055", well, ""),
         ("TS behind the answer", "< 3B003B", well, ""),
-        ("a wrong check byte, and silence", "< 3B80018F", "", NONE + "wrong check byte, at byte 4\n"),
-        ("silence, and a wrong check byte", "", "< 3B80018F", NONE + "wrong check byte, at byte 4\n"),
+        ("a wrong check byte, and silence", "< 3B80018F", "", wrong),
+        ("silence, and a wrong check byte", "", "< 3B80018F", wrong),
         ("two faults", "< 3B80018F", "< 3B8081801F", NONE + "T out of order, at byte 4\n"),
     ):
         yield f"a second reset after {title}", lambda of=(first, second, fault): twice(*of)
@@ -554,7 +554,8 @@ def card_settings():
 
 def tests():
     """Each test of this part: its title, and a function that is wrong by an error."""
-    for part in (resets, second_resets, rates, refusals, parities, without_echo, card_resets, card_settings):
+    for part in (resets, second_resets, rates, refusals, parities, without_echo, card_resets,
+                 card_settings):
         yield from part()
     for test in (is_held, gone_at_reset, inverse_odd, is_locked, keeps_others_out):
         yield (f"tty: {test.__name__}", test)

@@ -13,7 +13,7 @@ enum { ALL_WELL = 0, FAULT = 1, BAD_WORDS = 2 };
 #define NUMBER(number) #number
 #define DOTTED(major, minor, patch) NUMBER(major) "." NUMBER(minor) "." NUMBER(patch)
 
-/* how often the line of a reset is looked at, and how often whether a pseudo terminal was closed, in
+/* how often the line of a reset is looked at, and whether a pseudo terminal was closed, in
  * microseconds */
 enum { LOOKS_EVERY = 1000, WAITS_FOR = 10000 };
 

@@ -39,8 +39,8 @@ const char *answer_take(struct answer *answer, struct line *line,
 const char *answer_refusal(const gt_atr *says);
 
 /* Continues at the rate of the answer, or after PPS if that is asked for. The line has then its
- * convention, its parity, its rate and its guard time. `waiting_time` gets how long a terminal waits
- * for a character of the card, with the line's slack. */
+ * convention, its parity, its rate and its guard time. `waiting_time` gets how long a terminal
+ * waits for a character of the card, with the line's slack. */
 const char *answer_go_on(struct answer *answer, bool asks_pps, int64_t *waiting_time);
 
 /* The rate of the card's Fi and Di in baud. Neither may be 0. */

@@ -20,8 +20,8 @@
 /* as many characters as go or come at once, at most: more than an end of T=0 sends in a row */
 #define LINE_RUN 300
 
-/* how late the driver of a tty passes a byte on, at most, and how late a whole echo, in microseconds:
- * a USB adapter keeps bytes for 16 ms */
+/* how late a byte comes from the driver of a tty, at most, and how late the next one of an echo, in
+ * microseconds: a USB adapter keeps bytes for 16 ms */
 enum { LINE_LATE = 20000, LINE_ECHO_LATE = 100000 };
 
 /* the most etu between two characters of an answer to reset and of PPS (ISO/IEC 7816-3, 8.1 and

@@ -37,15 +37,15 @@ void port_sleep_until(int64_t then);
  * did not. They stand until the next call. */
 
 /* Opens a tty, locks it, and sets it to this rate and even parity. If another process has locked
- * it, the text says which. What it was set to before is kept for
- * `port_close`. A port that is not opened well is closed again. */
+ * it, the text says which. What it was set to before is kept for `port_close`. A port that is not
+ * opened well is closed again. */
 const char *port_open(struct port *port, const char *name, unsigned long baud);
 
 /* Makes a pseudo terminal, and is its far end. */
 const char *port_make(struct port *port);
 
-/* Whether the near end of one that was made is closed, or somebody has closed it since the last call.
- * And waits until that is so. */
+/* Whether the near end of one that was made is closed, or somebody has closed it since the last
+ * call. And waits until that is so. */
 bool port_is_closed(const struct port *port);
 void port_await_closing(const struct port *port);
 

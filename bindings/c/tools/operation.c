@@ -210,8 +210,7 @@ int32_t operation_begin(const struct operation *operation, gt_terminal *terminal
     }
 }
 
-const char *operation_answer_fault(const struct operation *operation,
-                                   const gt_terminal *terminal)
+const char *operation_answer_fault(const struct operation *operation, gt_terminal *terminal)
 {
     static uint8_t data[GT_RESPONSE_LIMIT];
     static char text[112];

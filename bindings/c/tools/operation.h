@@ -42,8 +42,7 @@ int32_t operation_begin(const struct operation *operation, gt_terminal *terminal
 
 /* Why the answer is none to the operation, or NULL: 9000 answers a get with one object of its tag.
  * The words stand until the next call. */
-const char *operation_answer_fault(const struct operation *operation,
-                                   const gt_terminal *terminal);
+const char *operation_answer_fault(const struct operation *operation, gt_terminal *terminal);
 
 /* Gives the memory back. */
 void operation_free(struct operation *operation);

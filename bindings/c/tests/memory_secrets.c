@@ -1,6 +1,6 @@
-/* Once a card no longer holds a value, no block of its memory has a piece of it, held or given back,
- * however the value's chain ended. The linker puts the functions below in the place of malloc and
- * free, for heap.c as the library has it. */
+/* Once a card no longer holds a value, no block of its memory has a piece of it, held or given
+ * back, however the value's chain ended. The linker puts the functions below in the place of malloc
+ * and free, for heap.c as the library has it. */
 #include "galliumtoad.h"
 #include "check.h"
 

@@ -164,7 +164,8 @@ impl Exchange {
     ///
     /// # Errors
     ///
-    /// - [`Error::TooShort`], [`Error::BadLength`], [`Error::InvalidIns`]: the bytes are no command.
+    /// - [`Error::TooShort`], [`Error::BadLength`], [`Error::InvalidIns`]: the bytes are not a
+    ///   command.
     /// - [`Error::Memory`]: it ran out. After each of these there is no exchange.
     pub fn start(command: &[u8]) -> Result<Exchange, Error> {
         Exchange::start_within(command, RESPONSE_LIMIT)

@@ -132,9 +132,10 @@ impl Session {
     ///
     /// After each of these nothing was sent.
     ///
-    /// - [`Error::TooShort`], [`Error::BadLength`], [`Error::InvalidIns`]: the bytes are no command.
-    /// - [`Error::Argument`]: over T=0 both ends have to know which way data move, and the card takes
-    ///   the command the other way.
+    /// - [`Error::TooShort`], [`Error::BadLength`], [`Error::InvalidIns`]: the bytes are not a
+    ///   command.
+    /// - [`Error::Argument`]: over T=0 both ends have to know which way data move, and the card
+    ///   takes the command the other way.
     /// - [`Error::Memory`]: it ran out.
     pub fn send(&mut self, command: &[u8]) -> Result<Answer, Error> {
         // SAFETY: a session's handle; a slice with its length.

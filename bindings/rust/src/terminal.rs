@@ -93,7 +93,8 @@ impl Terminal {
     ///
     /// - [`Error::State`]: one is in progress.
     /// - [`Error::Argument`]: an identifier of another length, or a tag that no command can name.
-    /// - [`Error::TooShort`], [`Error::BadLength`], [`Error::InvalidIns`]: the bytes are no command.
+    /// - [`Error::TooShort`], [`Error::BadLength`], [`Error::InvalidIns`]: the bytes are not a
+    ///   command.
     /// - [`Error::Memory`]: it ran out.
     pub fn begin(&mut self, operation: Operation<'_>) -> Result<(), Error> {
         let handle = self.0.at();
@@ -131,7 +132,8 @@ impl Terminal {
     ///
     /// # Errors
     ///
-    /// - [`Error::AfterEnd`]: no operation has begun, or it has ended or failed. Nothing has changed.
+    /// - [`Error::AfterEnd`]: no operation has begun, or it has ended or failed. Nothing
+    ///   has changed.
     /// - Any other: as [`Exchange::take`](crate::Exchange::take).
     pub fn take(&mut self, byte: u8) -> Result<(), Error> {
         // SAFETY: a terminal's handle.
@@ -179,8 +181,8 @@ impl Terminal {
         exchange::answer_into(&self.0, raw::galliumtoad_terminal_answer, room)
     }
 
-    /// Drops the operation that is in progress, and wipes and frees the memory that was kept for the
-    /// next, which may begin. Reset the card too.
+    /// Drops the operation that is in progress, and wipes and frees the memory that was kept for
+    /// the next, which may begin. Reset the card too.
     ///
     /// # Errors
     ///

@@ -110,7 +110,8 @@ impl Card {
     /// - [`Error::State`]: characters of a TPDU have gone. Nothing has changed.
     /// - [`Error::NoTpdu`]: the bytes are no whole TPDU. Nothing has changed.
     /// - [`Error::Memory`]: it ran out. Nothing has changed.
-    /// - [`Error::WantsData`], [`Error::SendsData`]: neither end would go on, so the card was reset.
+    /// - [`Error::WantsData`], [`Error::SendsData`]: neither end would continue, so the card was
+    ///   reset.
     pub fn tpdu(&mut self, tpdu: &[u8]) -> Result<Vec<u8>, Error> {
         let mut room = Wiped([0; ANSWER_LIMIT]);
         let count = self.tpdu_into(tpdu, &mut room.0)?;

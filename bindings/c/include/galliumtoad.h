@@ -102,6 +102,7 @@ enum {
     GT_BUSY = -7,           /* a chain is pending at the card */
     GT_NOT_FOUND = -8,      /* what was asked for is not there */
     GT_FAILED = -9,         /* of an exchange's turn: it has failed for good */
+    GT_PLANS = -10,         /* GT_PLANS_LIMIT plans wait already */
 
     /* of a card under construction */
     GT_APP_TWICE = -20,     /* the identifier is that of an application before it */
@@ -175,6 +176,7 @@ GT_FUNCTION const char *gt_text(int32_t code) {
     case GT_BUSY: return "a chain is pending";
     case GT_NOT_FOUND: return "not found";
     case GT_FAILED: return "failed";
+    case GT_PLANS: return "too many plans";
     case GT_APP_TWICE: return "aid twice";
     case GT_TOO_MANY_APPS: return "too many apps";
     case GT_NO_APP: return "no app";
@@ -261,7 +263,8 @@ enum {
     GT_ANSWER_LIMIT = 258,      /* of the answer to one: 256 of data, and the status */
     GT_ATR_LIMIT = 33,          /* of an answer to reset */
     GT_PROTOCOLS_LIMIT = 15,    /* the most protocols that it offers: T=0 to T=14 */
-    GT_PPS_LIMIT = 6            /* the most bytes of a PPS request or response */
+    GT_PPS_LIMIT = 6,           /* the most bytes of a PPS request or response */
+    GT_PLANS_LIMIT = 1048576    /* the most plans that wait at a card, or in a session */
 };
 
 /* One object of a list. A tag is the number that its one to three bytes are: 0x50, 0x5F20,

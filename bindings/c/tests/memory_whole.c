@@ -1,4 +1,5 @@
-/* Want of memory where a card carries out a whole TPDU: room for its data is all that is taken. */
+/* Memory that a card asks for when it carries out whole TPDUs: room for the data of each, and its
+ * plans. */
 #include "galliumtoad.h"
 #include "check.h"
 #include "counting_heap.h"
@@ -20,7 +21,48 @@ static void selected(gt_card *c) {
     CHECK(len, 2);
 }
 
-int main(void) {
+/* A SELECT, for which there is no memory. */
+static void takes_no_memory(gt_card *c) {
+    uint8_t answer[2];
+    size_t len = 0;
+    requests = 0;
+    refused = 1;
+    CHECK(gt_card_tpdu(c, SELECT, sizeof SELECT, answer, sizeof answer, &len), GT_OK);
+    CHECK(requests, 0);
+    refused = 0;
+}
+
+/* A plan that waits takes 32 bytes, four times that at most while others join it, and one for each
+ * of its letters. Those of the plan that was taken last stay until the next TPDU. */
+static void plans(void) {
+    enum { MANY = 1000, LETTERS = 4, SIZE = 32 };
+    gt_card c = GT_INIT;
+    size_t before;
+    selected(&c);
+    before = taken;
+    for (size_t i = 0; i < MANY; i++) CHECK(gt_card_plan(&c, "nono", 256), GT_OK);
+    CHECK(taken >= before + MANY * (SIZE + LETTERS), 1);
+    CHECK(taken <= before + MANY * (4 * SIZE + LETTERS), 1);
+    for (size_t i = 0; i < MANY; i++) {
+        const size_t waiting = MANY - i;
+        CHECK(taken >= before + waiting * (SIZE + LETTERS), 1);
+        takes_no_memory(&c);
+    }
+    CHECK(taken, before + LETTERS);
+    takes_no_memory(&c);
+    CHECK(taken, before);
+    for (size_t i = 1; i <= 2; i++) {
+        requests = 0;
+        refused = i;
+        CHECK(gt_card_plan(&c, "n", 1), GT_MEMORY);
+        CHECK(taken, before);
+    }
+    refused = 0;
+    gt_card_free(&c);
+    CHECK(taken, 0);
+}
+
+static void room(void) {
     static const uint8_t get[] = { 0x00, 0xCA, 0x00, 0x50, 0x00 };
     uint8_t answer[GT_ANSWER_LIMIT];
     gt_card c = GT_INIT;
@@ -47,5 +89,10 @@ int main(void) {
     refused = 0;
     gt_card_free(&c);
     CHECK(taken, 0);
+}
+
+int main(void) {
+    room();
+    plans();
     return check_result("memory_whole");
 }

@@ -2,6 +2,8 @@
 #include "galliumtoad.h"
 #include "check.h"
 
+#include <time.h>
+
 static const uint8_t AID[] = { 0xA0, 0x00, 0x00, 0x00, 0x03, 0x10, 0x10 };
 static const uint8_t GET[] = { 0x00, 0xCA, 0x5F, 0x20, 0x06 };
 
@@ -196,6 +198,93 @@ static void plans_that_are_left(void) {
     gt_session_free(&s);
 }
 
+/* A SELECT takes the next plan: 11 bytes wait, and its 61XX announces at most the plan's cut. */
+static void takes_plan(gt_card *c, size_t cut) {
+    static const uint8_t select[] = { 0x00, 0xA4, 0x04, 0x00, sizeof AID, 0xA0, 0x00, 0x00,
+                                      0x00, 0x03, 0x10, 0x10 };
+    uint8_t answer[2];
+    size_t len = 0;
+    CHECK(gt_card_tpdu(c, select, sizeof select, answer, sizeof answer, &len), GT_OK);
+    CHECK(answer[0], 0x61);
+    CHECK(answer[1], cut);
+}
+
+/* The cut of the plan with this number. */
+static uint16_t cut_of(size_t number) {
+    return (uint16_t)(number % 11 + 1);
+}
+
+static void plans_from(gt_card *c, size_t from, size_t n) {
+    for (size_t i = from; i < from + n; i++) CHECK(gt_card_plan(c, "on", cut_of(i)), GT_OK);
+}
+
+static void takes_plans_from(gt_card *c, size_t from, size_t n) {
+    for (size_t i = from; i < from + n; i++) takes_plan(c, cut_of(i));
+}
+
+/* Plans are taken in the order in which they were given, however many wait meanwhile. After the
+ * last one a TPDU has no plan. A queue that moves all that wait at each TPDU needs seconds. */
+static void many_plans(void) {
+    enum { MANY = 80000 };
+    gt_card c = GT_INIT;
+    size_t given = 0, used = 0;
+    clock_t start;
+    build(&c);
+    start = clock();
+    plans_from(&c, 0, MANY);
+    takes_plans_from(&c, 0, MANY);
+    CHECK((clock() - start) / CLOCKS_PER_SEC < 2, 1);
+    takes_plan(&c, 11);
+    for (size_t i = 0; i < 300; i++) {
+        const size_t gives = i * 7 % 13, takes = i * 5 % 11;
+        plans_from(&c, given, gives);
+        given += gives;
+        for (size_t j = 0; j < takes && used < given; j++) takes_plans_from(&c, used++, 1);
+    }
+    CHECK(used < given, 1);
+    takes_plans_from(&c, used, given - used);
+    takes_plan(&c, 11);
+    gt_card_free(&c);
+}
+
+/* As many plans wait as may. One more is refused and changes nothing; what is no plan is refused
+ * first. Each that is taken leaves a place. */
+static void the_most_plans(void) {
+    gt_card c = GT_INIT;
+    build(&c);
+    plans_from(&c, 0, GT_PLANS_LIMIT);
+    CHECK(gt_card_plan(&c, "n", 256), GT_PLANS);
+    CHECK(gt_card_plan(&c, "x", 256), GT_ARGUMENT);
+    CHECK(gt_card_plan(&c, "n", 257), GT_ARGUMENT);
+    takes_plans_from(&c, 0, 2);
+    plans_from(&c, GT_PLANS_LIMIT, 2);
+    CHECK(gt_card_plan(&c, "", 1), GT_PLANS);
+    takes_plans_from(&c, 2, GT_PLANS_LIMIT);
+    takes_plan(&c, 11);
+    CHECK(gt_card_plan(&c, "", 1), GT_OK);
+    takes_plan(&c, 1);
+    gt_card_free(&c);
+}
+
+/* The same in a session, whose next operation drops the plans that it has not used. */
+static void the_most_plans_of_a_session(void) {
+    gt_session s = GT_INIT;
+    gt_card c = GT_INIT;
+    uint8_t data[16];
+    uint16_t status = 0;
+    size_t len = 0;
+    build(&c);
+    CHECK(gt_session_start(&s, &c), GT_OK);
+    for (size_t i = 0; i < GT_PLANS_LIMIT; i++) CHECK(gt_session_plan(&s, "n", 256), GT_OK);
+    CHECK(gt_session_plan(&s, "n", 256), GT_PLANS);
+    CHECK(gt_session_plan(&s, "n", 0), GT_ARGUMENT);
+    CHECK(gt_session_select(&s, AID, sizeof AID, &status, data, sizeof data, &len), GT_OK);
+    CHECK(status, 0x9000);
+    CHECK(len, 11);
+    CHECK(gt_session_plan(&s, "n", 256), GT_OK);
+    gt_session_free(&s);
+}
+
 int main(void) {
     card();
     many_steps();
@@ -203,5 +292,8 @@ int main(void) {
     tpdus_of_operations();
     plans_that_are_left();
     chain();
+    many_plans();
+    the_most_plans();
+    the_most_plans_of_a_session();
     return check_result("plans");
 }

@@ -21,6 +21,7 @@ static const code CODES[] = {
     { GT_BUSY, -7, "a chain is pending" },
     { GT_NOT_FOUND, -8, "not found" },
     { GT_FAILED, -9, "failed" },
+    { GT_PLANS, -10, "too many plans" },
     { GT_APP_TWICE, -20, "aid twice" },
     { GT_TOO_MANY_APPS, -21, "too many apps" },
     { GT_NO_APP, -22, "no app" },
@@ -133,6 +134,7 @@ static void limits(void) {
     CHECK(GT_ATR_LIMIT, 33);
     CHECK(GT_PROTOCOLS_LIMIT, 15);
     CHECK(GT_PPS_LIMIT, 6);
+    CHECK(GT_PLANS_LIMIT, 1048576);
     CHECK(GT_TERMINAL, 0);
     CHECK(GT_CARD, 1);
 }

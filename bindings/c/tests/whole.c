@@ -193,7 +193,6 @@ static void a_card(void) {
 /* What is not carried out changes nothing; where both ends would wait the card is reset. */
 static void faults_of_a_card(void) {
     gt_card c = GT_INIT;
-    size_t len = 0;
     a_card_with_a_name(&c);
     CHECK(gt_card_finish(&c), GT_OK);
     is_answered(&c, SELECT, sizeof SELECT, 258, "\x61\x0B", 2);
@@ -201,9 +200,6 @@ static void faults_of_a_card(void) {
     is_refused(&c, "\x00\xDA\x5F", 3, 258, GT_NO_TPDU);
     is_refused(&c, "\x00\xDA\x5F\x20\x02\x41", 6, 1, GT_NO_TPDU);
     is_refused(&c, "\x00\xDA\x5F\x20\x00\x41", 6, 258, GT_NO_TPDU);
-    is_refused(&c, "\x00\xCA\x5F\x20\x06", 5, 1, GT_BUFFER);
-    is_refused(&c, "\x00\xCA\x5F\x20\x06", 5, 0, GT_BUFFER);
-    CHECK(gt_card_tpdu(&c, GET_6, sizeof GET_6, NULL, 0, &len), GT_BUFFER);
     is_answered(&c, GET_6, sizeof GET_6, 258, "\x5F\x20\x03\x4A\x4F\x45\x90\x00", 8);
     CHECK(gt_card_take(&c, 0x00), GT_OK);
     is_refused(&c, "\x00\xCA\x5F\x20\x06", 5, 258, GT_STATE);
@@ -215,9 +211,44 @@ static void faults_of_a_card(void) {
     is_answered(&c, SELECT, sizeof SELECT, 258, "\x61\x0B", 2);
     is_refused(&c, "\x00\xCA\x5F\x20\x06\x41\x42\x43\x44\x45\x46", 11, 258, GT_SENDS_DATA);
     is_answered(&c, GET_6, sizeof GET_6, 258, "\x69\x85", 2);
-    is_answered(&c, SELECT, sizeof SELECT, 258, "\x61\x0B", 2);
-    is_refused(&c, "\x00\xCA\x5F\x20\x06", 5, 7, GT_TOO_LONG);
-    is_answered(&c, GET_6, sizeof GET_6, 258, "\x69\x85", 2);
+    gt_card_free(&c);
+}
+
+/* Too little room for what a TPDU may bring changes nothing: 2 bytes if no data come back, else 2
+ * more than P3 counts. The application stays selected, and GET RESPONSE still finds its 11. */
+static void room_for_an_answer(void) {
+    static const uint8_t fetch[] = { 0x00, 0xC0, 0x00, 0x00, 0x0B };
+    static const uint8_t put[] = { 0x00, 0xDA, 0x5F, 0x20, 0x03, 0x41, 0x4E, 0x4E };
+    static const uint8_t empty[] = { 0x00, 0xDA, 0x5F, 0x20 };
+    gt_card c = GT_INIT;
+    size_t len = 7;
+    a_card_with_a_name(&c);
+    CHECK(gt_card_finish(&c), GT_OK);
+    for (size_t room = 0; room < 2; room++) {
+        is_refused(&c, (const char *)SELECT, sizeof SELECT, room, GT_BUFFER);
+    }
+    is_answered(&c, SELECT, sizeof SELECT, 2, "\x61\x0B", 2);
+    for (size_t room = 0; room < 13; room++) {
+        is_refused(&c, (const char *)fetch, sizeof fetch, room, GT_BUFFER);
+    }
+    is_answered(&c, fetch, sizeof fetch, 13,
+                "\x6F\x09\x84\x07\xA0\x00\x00\x00\x03\x10\x10\x90\x00", 13);
+    for (size_t room = 0; room < 258; room++) {
+        is_refused(&c, "\x00\xCA\x5F\x20\x00", 5, room, GT_BUFFER);
+    }
+    is_answered(&c, (const uint8_t *)"\x00\xCA\x5F\x20\x00", 5, 258, "\x6C\x06", 2);
+    is_refused(&c, "\x00\xCA\x5F\x20\xFF", 5, 256, GT_BUFFER);
+    is_answered(&c, (const uint8_t *)"\x00\xCA\x5F\x20\xFF", 5, 257, "\x6C\x06", 2);
+    is_refused(&c, (const char *)GET_6, sizeof GET_6, 7, GT_BUFFER);
+    is_answered(&c, GET_6, sizeof GET_6, 8, "\x5F\x20\x03\x4A\x4F\x45\x90\x00", 8);
+    is_refused(&c, (const char *)put, sizeof put, 1, GT_BUFFER);
+    is_answered(&c, GET_6, sizeof GET_6, 8, "\x5F\x20\x03\x4A\x4F\x45\x90\x00", 8);
+    is_answered(&c, put, sizeof put, 2, "\x90\x00", 2);
+    is_refused(&c, (const char *)empty, sizeof empty, 1, GT_BUFFER);
+    CHECK(gt_card_tpdu(&c, empty, sizeof empty, NULL, 0, &len), GT_BUFFER);
+    CHECK(len, 7);
+    is_answered(&c, GET_6, sizeof GET_6, 8, "\x5F\x20\x03\x41\x4E\x4E\x90\x00", 8);
+    is_answered(&c, empty, sizeof empty, 2, "\x90\x00", 2);
     gt_card_free(&c);
 }
 
@@ -229,6 +260,7 @@ static void plans_of_tpdus(void) {
     CHECK(gt_card_plan(&c, "", 5), GT_OK);
     is_refused(&c, "\x00\xDA\x5F", 3, 258, GT_NO_TPDU);
     is_refused(&c, "\x00\xDA\x5F\x20", 4, 1, GT_BUFFER);
+    is_refused(&c, "\x00\xCA\x5F\x20\x06", 5, 7, GT_BUFFER);
     is_answered(&c, SELECT, sizeof SELECT, 258, "\x61\x05", 2);
     CHECK(gt_card_plan(&c, "", 5), GT_OK);
     is_refused(&c, "\x00\xDA\x5F\x20\x03", 5, 258, GT_WANTS_DATA);
@@ -261,6 +293,7 @@ int main(void) {
     bytes_of_tpdus();
     a_card();
     faults_of_a_card();
+    room_for_an_answer();
     plans_of_tpdus();
     null_pointers();
     return check_result("whole");

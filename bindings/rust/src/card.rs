@@ -24,6 +24,9 @@ pub const APPS_LIMIT: usize = 8;
 /// The most data objects of an application.
 pub const ENTRIES_LIMIT: usize = 64;
 
+/// The most plans that wait at a card, or in a session.
+pub const PLANS_LIMIT: usize = 1_048_576;
+
 /// A data object that a card holds.
 ///
 /// The value is the caller's: this crate wipes no copy of it. `Debug` shows how many bytes it has.
@@ -201,6 +204,7 @@ impl Card {
     /// After each of these nothing has changed.
     ///
     /// - [`Error::Argument`]: another letter, or another cut.
+    /// - [`Error::Plans`]: [`PLANS_LIMIT`] plans wait already.
     /// - [`Error::Memory`]: it ran out.
     pub fn plan(&mut self, steps: &str, cut: u16) -> Result<(), Error> {
         // SAFETY: a card's handle; a slice with its length.

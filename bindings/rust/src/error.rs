@@ -65,6 +65,8 @@ codes! {
         NotFound = -8, "not found";
         /// The exchange has failed for good.
         Failed = -9, "failed";
+        /// As many plans wait as may, [`PLANS_LIMIT`](crate::PLANS_LIMIT).
+        Plans = -10, "too many plans";
         /// The identifier is that of an application before it.
         AppTwice = -20, "aid twice";
         /// There are as many applications as a card may have.

@@ -30,7 +30,8 @@ pub use atr::{
 pub use atr::{ATR_LIMIT, PROTOCOLS_LIMIT};
 pub use buffers::{ReceiveError, Sent, Stop};
 pub use card::{Card, CardBuilder, Entry};
-pub use card::{AID_LEAST, AID_LIMIT, APPS_LIMIT, ENTRIES_LIMIT, OBJECT_LIMIT, VALUE_LIMIT};
+pub use card::{AID_LEAST, AID_LIMIT, APPS_LIMIT, ENTRIES_LIMIT, OBJECT_LIMIT};
+pub use card::{PLANS_LIMIT, VALUE_LIMIT};
 pub use error::Error;
 pub use exchange::{Answer, Copied, Exchange, Turn, RESPONSE_LIMIT};
 pub use objects::{find, head, Object, Objects, ObjectsError, Reason, LEVELS_LIMIT};

@@ -2,7 +2,7 @@
 
 use galliumtoad::{AtrReason, PpsError, ATR_LIMIT, PPS_LIMIT, PROTOCOLS_LIMIT};
 use galliumtoad::{Error, Reason, AID_LEAST, AID_LIMIT, APPS_LIMIT, ENTRIES_LIMIT};
-use galliumtoad::{Status, TPDU_LIMIT, VALUE_LIMIT};
+use galliumtoad::{Status, PLANS_LIMIT, TPDU_LIMIT, VALUE_LIMIT};
 use galliumtoad::{ANSWER_LIMIT, LEVELS_LIMIT, OBJECT_LIMIT, RESPONSE_LIMIT};
 use std::collections::HashSet;
 
@@ -15,6 +15,7 @@ const FAULTS: [(&str, Error); 28] = [
     ("GT_BUSY", Error::Busy),
     ("GT_NOT_FOUND", Error::NotFound),
     ("GT_FAILED", Error::Failed),
+    ("GT_PLANS", Error::Plans),
     ("GT_APP_TWICE", Error::AppTwice),
     ("GT_TOO_MANY_APPS", Error::TooManyApps),
     ("GT_NO_APP", Error::NoApp),
@@ -209,6 +210,7 @@ fn limits_are_those_of_the_header() {
         ("GT_ATR_LIMIT", ATR_LIMIT),
         ("GT_PROTOCOLS_LIMIT", PROTOCOLS_LIMIT),
         ("GT_PPS_LIMIT", PPS_LIMIT),
+        ("GT_PLANS_LIMIT", PLANS_LIMIT),
     ];
     let header = header();
     for (name, limit) in limits {

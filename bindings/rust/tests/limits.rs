@@ -4,7 +4,7 @@
 use galliumtoad::{head, CardBuilder, Entry, Error, Exchange, Objects, Session, Turn};
 use galliumtoad::{Operation, Terminal, ANSWER_LIMIT, TPDU_LIMIT};
 use galliumtoad::{AID_LEAST, AID_LIMIT, APPS_LIMIT, ENTRIES_LIMIT, LEVELS_LIMIT};
-use galliumtoad::{OBJECT_LIMIT, RESPONSE_LIMIT, VALUE_LIMIT};
+use galliumtoad::{OBJECT_LIMIT, PLANS_LIMIT, RESPONSE_LIMIT, VALUE_LIMIT};
 
 /// Bytes that go round with a prime period.
 fn bytes(n: usize, from: usize) -> Vec<u8> {
@@ -259,6 +259,29 @@ fn plans_of_many_letters_are_carried_out() {
         assert_eq!(card.turn(), Ok(Turn::Sends(*wanted)));
     }
     assert_eq!(card.turn(), Ok(Turn::Listens));
+}
+
+/// As many plans wait as may, and one more changes nothing: a TPDU takes the first of them, and
+/// leaves a place.
+#[test]
+fn a_plan_too_many_is_refused() {
+    let mut card = full_card().finish().expect("a card");
+    card.plan("", 5).expect("the first");
+    for _ in 1..PLANS_LIMIT {
+        card.plan("", 6).expect("memory");
+    }
+    assert_eq!(card.plan("", 7), Err(Error::Plans));
+    let mut select = vec![0x00, 0xA4, 0x04, 0x00, 16];
+    select.extend(aid(7, 16));
+    assert_eq!(card.tpdu(&select), Ok(vec![0x61, 5]));
+    card.plan("", 7).expect("a place");
+    assert_eq!(card.plan("", 7), Err(Error::Plans));
+    assert_eq!(card.tpdu(&select), Ok(vec![0x61, 6]));
+    let mut session = Session::start(card).expect("a session");
+    for _ in 0..PLANS_LIMIT {
+        session.plan("", 256).expect("memory");
+    }
+    assert_eq!(session.plan("", 256), Err(Error::Plans));
 }
 
 #[test]

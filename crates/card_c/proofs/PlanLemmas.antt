@@ -2,8 +2,9 @@
 use Rattle.std.proofs.Common.{◌≡◌, ◌≢◌, ℕ, zero, suc, ◌+◌, ◌<◌, ◌≤◌, List, [], ◌∷◌, length, take, get_or, map, refl, sym, ap, subst, ◌∙◌, inl, inr, arith, ◌⊎◌, ℤ, w32, to_z, of_z, lit<}
 use Rattle.t0_core.specs.declared.plan.Step.{Step}
 use Rattle.t0_core.specs.declared.plan.Step.TheVariants.{Null, One, All}
-use Rattle.card_c.specs.PlanLetters.{AreSteps, IsRefused, letter_of}
-use Rattle.card_c.specs.Codes.{gt_memory, gt_argument}
+use Rattle.t0_core.specs.Plan.{Course}
+use Rattle.card_c.specs.PlanLetters.{AreSteps, IsSpelt, IsRefused, letter_of, plan_limit}
+use Rattle.card_c.specs.Codes.{gt_memory, gt_argument, gt_plans}
 use Rattle.card_c.proofs.SessionLemmas.{as_it_is}
 
 abbrev IsLetter : ℕ → Type 0
@@ -63,16 +64,30 @@ one_more letters k lt letter h =
     let next : suc k ≡ k + 1 = omega arith in
     subst (λ (n : ℕ). AreSteps (take n letters)) next (one_letter letters k lt letter h)
 
--- memory is wanting for a plan that is one
-pub wanting : (letters : List ℕ) (cut : ℕ) → AreSteps letters → 1 ≤ cut → cut ≤ 256
-    → IsRefused letters cut gt_memory
-wanting letters cut (steps, e) low high = inr
-    (record { steps = steps; cut = cut }, (e, refl, (low, high)), refl)
+-- the plan that these letters and this cut are
+spelt : (letters : List ℕ) (cut : ℕ) → AreSteps letters → 1 ≤ cut → cut ≤ 256
+    → (plan : Course) × IsSpelt letters cut plan
+spelt letters cut (steps, e) low high =
+    (record { steps = steps; cut = cut }, (e, refl, (low, high)))
+
+-- memory ran out for a plan that is one
+pub wanting : (letters : List ℕ) (cut waiting : ℕ) → AreSteps letters → 1 ≤ cut → cut ≤ 256
+    → waiting < plan_limit → IsRefused letters cut waiting gt_memory
+wanting letters cut waiting are low high fits =
+    let plan = spelt letters cut are low high in inr (inr (plan.0, plan.1, fits, refl))
+
+-- as many wait as may
+pub full : (letters : List ℕ) (cut waiting : ℕ) → AreSteps letters → 1 ≤ cut → cut ≤ 256
+    → plan_limit ≤ waiting → IsRefused letters cut waiting gt_plans
+full letters cut waiting are low high many =
+    let plan = spelt letters cut are low high in inr (inl (plan.0, plan.1, many, refl))
 
 -- the code of what refuses a plan goes through a register as it is
-pub refused_code : (letters : List ℕ) (cut : ℕ) (code : ℤ) → IsRefused letters cut code
-    → to_z w32 (of_z w32 code) ≡ code
-refused_code letters cut code (inl (none, is)) =
+pub refused_code : (letters : List ℕ) (cut waiting : ℕ) (code : ℤ)
+    → IsRefused letters cut waiting code → to_z w32 (of_z w32 code) ≡ code
+refused_code letters cut waiting code (inl (none, is)) =
     subst (λ (z : ℤ). to_z w32 (of_z w32 z) ≡ z) (sym is) (as_it_is gt_argument (lit< tt))
-refused_code letters cut code (inr (plan, spelt, is)) =
+refused_code letters cut waiting code (inr (inl (plan, spelt, many, is))) =
+    subst (λ (z : ℤ). to_z w32 (of_z w32 z) ≡ z) (sym is) (as_it_is gt_plans (lit< tt))
+refused_code letters cut waiting code (inr (inr (plan, spelt, fits, is))) =
     subst (λ (z : ℤ). to_z w32 (of_z w32 z) ≡ z) (sym is) (as_it_is gt_memory (lit< tt))

@@ -1,5 +1,5 @@
 -- What the call that carries out a whole TPDU does to what a card's handle holds.
-use Rattle.std.specs.Prelude.{◌≡◌, ◌⊎◌, ℕ, ℤ, ◌+◌, ◌-◌, ◌<◌, ◌≤◌, min, List, [], ◌∷◌, ◌++◌, length, drop, true, false, None, Some, IsSome, Result, Ok, Err}
+use Rattle.std.specs.Prelude.{◌≡◌, ◌⊎◌, ℕ, ℤ, ◌+◌, ◌<◌, ◌≤◌, List, [], ◌∷◌, ◌++◌, length, drop, true, false, None, Some, Result, Ok, Err}
 use Rattle.apdu_core.specs.StatusWord.{StatusWord}
 use Rattle.t0_core.specs.declared.tpdu_card.TpduCard.{Ghosts}
 use Rattle.t0_core.specs.declared.tpdu_fault.TpduFault.{TpduFault}
@@ -37,7 +37,7 @@ TellsAnswer (Ok status) bytes room len code room' len' =
 TellsAnswer (Err fault) bytes room len code room' len' =
     (code ≡ tpdu_code fault) × (len' ≡ len) × (room' ≡ room)
 
--- what the bytes ask is carried out, with room for so many data
+-- what the bytes ask is carried out, with room for all data that may come
 abbrev pub IsCarriedOut : List ℕ → EndOf CardView → Cursor → Room → List ℕ → ℕ → ℤ
     → EndOf CardView → Cursor → List ℕ → ℕ → Type 0
 IsCarriedOut tpdu end plans gather room len code end' plans' room' len' =
@@ -46,20 +46,24 @@ IsCarriedOut tpdu end plans gather room len code end' plans' room' len' =
     × HasGone object_card asked end plans gather result end' plans' gathered
     × TellsAnswer result gathered.bytes room len code room' len'
 
--- why nothing is carried out: characters of a TPDU have gone; the bytes are none; there is no room
--- for a status; memory is wanting
+-- the most bytes that come back: the data that may come, and the status
+abbrev pub longest_answer : Asked → ℕ
+longest_answer asked = asked.may_come + 2
+
+-- why nothing is carried out: characters of a TPDU have gone; the bytes are no TPDU; there is less
+-- room than its answer may need; memory ran out
 abbrev pub IsRefusal : List ℕ → EndOf CardView → List ℕ → ℤ → Type 0
 IsRefusal tpdu end room code =
     ((rests end.stage ≡ false) × (code ≡ gt_state))
     ⊎ ((rests end.stage ≡ true) × (asked_in tpdu ≡ None) × (code ≡ gt_no_tpdu))
-    ⊎ ((rests end.stage ≡ true) × IsSome (asked_in tpdu) × (length room < 2)
-    × (code ≡ gt_buffer))
-    ⊎ ((rests end.stage ≡ true) × IsSome (asked_in tpdu) × (2 ≤ length room)
-    × (code ≡ gt_memory))
+    ⊎ ((asked : Asked) × (rests end.stage ≡ true) × (asked_in tpdu ≡ Some asked)
+    × (length room < longest_answer asked) × (code ≡ gt_buffer))
+    ⊎ ((asked : Asked) × (rests end.stage ≡ true) × (asked_in tpdu ≡ Some asked)
+    × (longest_answer asked ≤ length room) × (code ≡ gt_memory))
 
 -- the room for data, before the status
-abbrev pub data_room : List ℕ → Room
-data_room room = record { bytes = []; limit = min (length room - 2) 256 }
+abbrev pub data_room : Asked → Room
+data_room asked = record { bytes = []; limit = asked.may_come }
 
 abbrev pub CarriesOut : List ℕ → List ℕ → ℕ → List ℕ → ℕ → CardSide → ℤ → CardSide → Type 0
 CarriesOut tpdu room len room' len' (Building applications) code new =
@@ -69,6 +73,7 @@ CarriesOut tpdu room len room' len' (Joined session) code new =
 CarriesOut tpdu room len room' len' (Standing end plans) code new =
     (IsRefusal tpdu end room code × (new ≡ Standing end plans) × (room' ≡ room)
     × (len' ≡ len))
-    ⊎ ((next : EndOf CardView) × (left : Cursor) × (rests end.stage ≡ true)
-    × (2 ≤ length room) × (new ≡ Standing next left)
-    × IsCarriedOut tpdu end plans (data_room room) room len code next left room' len')
+    ⊎ ((asked : Asked) × (next : EndOf CardView) × (left : Cursor) × (rests end.stage ≡ true)
+    × (asked_in tpdu ≡ Some asked) × (longest_answer asked ≤ length room)
+    × (new ≡ Standing next left)
+    × IsCarriedOut tpdu end plans (data_room asked) room len code next left room' len')

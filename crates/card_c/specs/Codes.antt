@@ -43,6 +43,9 @@ gt_not_found = negsuc 7
 abbrev pub gt_failed : ℤ
 gt_failed = negsuc 8
 
+abbrev pub gt_plans : ℤ
+gt_plans = negsuc 9
+
 abbrev pub builder_code : builder.BuilderFault → ℤ
 builder_code builder.TheVariants.OutOfMemory = gt_memory
 builder_code builder.TheVariants.Twice = negsuc 19

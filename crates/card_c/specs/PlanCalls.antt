@@ -1,17 +1,18 @@
 -- What the calls that give a plan do. A refusal leaves the plans as they were.
-use Rattle.std.specs.Prelude.{◌≡◌, ◌⊎◌, ℕ, ℤ, List, [], ◌∷◌, ◌++◌}
+use Rattle.std.specs.Prelude.{◌≡◌, ◌<◌, ◌⊎◌, ℕ, ℤ, List, [], ◌∷◌, ◌++◌, length}
 use Rattle.t0_core.specs.Plan.{Course}
 use Rattle.card_c.specs.declared.card_side.CardSide.{CardSide}
 use Rattle.card_c.specs.declared.card_side.CardSide.TheVariants.{Building, Standing, Joined}
 use Rattle.card_c.specs.declared.session_side.SessionSide.{SessionSide}
 use Rattle.card_c.specs.Codes.{gt_ok, gt_state}
-use Rattle.card_c.specs.PlanLetters.{IsSpelt, IsRefused}
+use Rattle.card_c.specs.PlanLetters.{IsSpelt, IsRefused, plan_limit}
 
 -- the plan of these letters and this cut stands after those before it
 abbrev pub Queues : List ℕ → ℕ → List Course → ℤ → List Course → Type 0
 Queues letters cut plans code new =
-    ((plan : Course) × IsSpelt letters cut plan × (code ≡ gt_ok) × (new ≡ plans ++ plan ∷ []))
-    ⊎ (IsRefused letters cut code × (new ≡ plans))
+    ((plan : Course) × IsSpelt letters cut plan × (length plans < plan_limit) × (code ≡ gt_ok)
+    × (new ≡ plans ++ plan ∷ []))
+    ⊎ (IsRefused letters cut (length plans) code × (new ≡ plans))
 
 -- of a card that stands; the plan of the TPDU under way stays
 abbrev pub QueuesAtCard : List ℕ → ℕ → CardSide → ℤ → CardSide → Type 0

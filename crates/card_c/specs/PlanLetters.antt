@@ -1,9 +1,9 @@
 -- A plan as letters: n, o and a for its steps, and its cut.
-use Rattle.std.specs.Prelude.{◌≡◌, ◌⊎◌, ℕ, ℤ, List, map}
+use Rattle.std.specs.Prelude.{◌≡◌, ◌<◌, ◌≤◌, ◌⊎◌, ℕ, ℤ, List, map}
 use Rattle.t0_core.specs.declared.plan.Step.{Step}
 use Rattle.t0_core.specs.declared.plan.Step.TheVariants.{Null, One, All}
 use Rattle.t0_core.specs.Plan.{Course, IsCut}
-use Rattle.card_c.specs.Codes.{gt_memory, gt_argument}
+use Rattle.card_c.specs.Codes.{gt_memory, gt_argument, gt_plans}
 
 abbrev pub letter_of : Step → ℕ
 letter_of Null = 0x6E
@@ -18,8 +18,15 @@ AreSteps letters = (steps : List Step) × (letters ≡ map letter_of steps)
 abbrev pub IsSpelt : List ℕ → ℕ → Course → Type 0
 IsSpelt letters cut plan = (letters ≡ map letter_of plan.steps) × (plan.cut ≡ cut) × IsCut cut
 
--- why there is no such plan: these letters and this cut are none, or memory is wanting for it
-abbrev pub IsRefused : List ℕ → ℕ → ℤ → Type 0
-IsRefused letters cut code =
+-- the most plans that wait for the TPDUs to come
+abbrev pub plan_limit : ℕ
+plan_limit = 1048576
+
+-- Why no plan joins those that wait: these letters and this cut are no plan; as many wait as may;
+-- memory ran out.
+abbrev pub IsRefused : List ℕ → ℕ → ℕ → ℤ → Type 0
+IsRefused letters cut waiting code =
     (((plan : Course) → ¬ IsSpelt letters cut plan) × (code ≡ gt_argument))
-    ⊎ ((plan : Course) × IsSpelt letters cut plan × (code ≡ gt_memory))
+    ⊎ ((plan : Course) × IsSpelt letters cut plan × (plan_limit ≤ waiting) × (code ≡ gt_plans))
+    ⊎ ((plan : Course) × IsSpelt letters cut plan × (waiting < plan_limit)
+    × (code ≡ gt_memory))

@@ -131,7 +131,6 @@ Puts number value (Standing end plans) code new = (code ≡ gt_state) × (new �
 Puts number value (Joined session) code new =
     (((tag : List ℕ) → ¬ IsNumbered number tag) × (code ≡ gt_argument)
     × (new ≡ Joined session))
-    ⊎ ((code ≡ gt_memory) × (new ≡ Joined session))
     ⊎ ((next : SessionSide) × (tag : List ℕ) × IsNumbered number tag × (new ≡ Joined next)
     × Performs (Put tag value) session code next)
 

@@ -7,12 +7,11 @@ ghost use Rattle.card_c.specs.CardCalls.{Begins, AddsApplication, AddsObject, Fi
 use crate::card_held::GtCard;
 use crate::card_side::CardSide;
 use crate::code;
-use crate::plan_queue::PlanQueue;
 use crate::tag_number::tag_of;
 use object_card::{Aid, CardBuilder, ObjectCard};
 use std::alloc::Global;
 use std::mem;
-use t0_core::{CardEnd, LineFault, Turn};
+use t0_core::{CardEnd, LineFault, PlanQueue, Turn};
 
 /// Begins a card without applications.
 #[unsafe(no_mangle)]
@@ -169,7 +168,9 @@ fn take(side: &mut CardSide, byte: u8) -> i32
 /// Hands out the card's next character, where it is the card's turn; else the card listens.
 #[unsafe(no_mangle)]
 pub extern "C" fn galliumtoad_card_turn(alloc: Global, card: &mut GtCard, byte: &mut u8) -> i32
-    ensures { OnHandle (Turns byte.old byte.new) (held_by card.old) result (held_by card.new) }
+    ensures empty { held_by card.old ≡ None → byte.new ≡ byte.old }
+    ensures turns { OnHandle (Turns byte.old byte.new)
+        (held_by card.old) result (held_by card.new) }
 {
     let Some(mut side) = card.take_out(alloc) else {
         return code::EMPTY;
@@ -203,9 +204,7 @@ pub(crate) fn next_of(end: &mut CardEnd<ObjectCard>, plans: &mut PlanQueue) -> O
     let Turn::Sends(byte) = end.turn(&mut plans.cursor()) else {
         return None;
     };
-    if takes_plan {
-        plans.advance();
-    }
+    plans.advance_if(takes_plan);
     Some(byte)
 }
 

@@ -7,10 +7,9 @@ use crate::card::next_of;
 use crate::card_held::GtCard;
 use crate::card_side::CardSide;
 use crate::code;
-use crate::plan_queue::PlanQueue;
 use object_card::ObjectCard;
 use std::alloc::Global;
-use t0_core::{CardEnd, LineFault};
+use t0_core::{CardEnd, LineFault, PlanQueue};
 
 /// Hands out the card's characters up to where it listens, or as many as there is room for.
 #[unsafe(no_mangle)]

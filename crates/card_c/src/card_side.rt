@@ -1,8 +1,7 @@
 //! The card that a handle holds: one that is built, one that stands, or one in a session.
-use crate::plan_queue::PlanQueue;
 use crate::session_side::SessionSide;
 use object_card::{CardBuilder, ObjectCard};
-use t0_core::CardEnd;
+use t0_core::{CardEnd, PlanQueue};
 
 /// A card on its way: what the handle of a card, or of a session with one, holds.
 #[derive(Drop)]

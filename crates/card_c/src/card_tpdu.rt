@@ -8,13 +8,13 @@ ghost use Rattle.card_c.specs.CardTpduCalls.{CarriesOut, IsCarriedOut};
 use crate::card_held::GtCard;
 use crate::card_side::CardSide;
 use crate::code;
-use crate::plan_queue::PlanQueue;
 use apdu_core::Status;
 use object_card::ObjectCard;
 use std::alloc::Global;
-use t0_core::{CardEnd, Gather, WholeTpdu};
+use t0_core::{CardEnd, Gather, PlanQueue, WholeTpdu};
 
-/// Carries out a whole TPDU under the next of the card's plans.
+/// Carries out a whole TPDU under the next of the card's plans. The array has room for the longest
+/// answer to it, or nothing changes.
 #[unsafe(no_mangle)]
 pub extern "C" fn galliumtoad_card_tpdu(
     alloc: Global,
@@ -51,13 +51,14 @@ fn carry_out(
     if !end.is_at_rest() {
         return code::STATE;
     }
-    if WholeTpdu::read(tpdu).is_none() {
+    let Some(asked) = WholeTpdu::read(tpdu) else {
         return code::NO_TPDU;
-    }
-    if answer.len() < 2 {
+    };
+    let may_come = usize::from(asked.may_come);
+    if answer.len() < may_come + 2 {
         return code::BUFFER;
     }
-    match Gather::with_room(alloc, (answer.len() - 2).min(256)) {
+    match Gather::with_room(alloc, may_come) {
         Ok(mut gather) => pass(end, plans, tpdu, &mut gather, answer, len),
         Err(_) => code::MEMORY,
     }

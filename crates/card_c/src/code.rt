@@ -45,6 +45,9 @@ pub const NOT_FOUND: i32 = -8;
 /// The exchange has failed for good.
 pub const FAILED: i32 = -9;
 
+/// As many plans wait as may.
+pub const PLANS: i32 = -10;
+
 /// No whole TPDU is about to begin.
 pub const NOT_DUE: i32 = -60;
 

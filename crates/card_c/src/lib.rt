@@ -29,7 +29,6 @@ mod loose;
 mod objects;
 mod operating_side;
 mod plan_letters;
-mod plan_queue;
 mod plans;
 mod pps;
 mod reader;

@@ -1,18 +1,26 @@
 //! A plan as C gives it: letters for its steps, and its cut.
-ghost use Rattle.std.specs.Prelude.{◌≡◌, ◌↔◌, IsTrue, IfOk, IfErr, map};
-ghost use Rattle.card_c.specs.PlanLetters.{AreSteps, IsSpelt, IsRefused, letter_of};
+ghost use Rattle.std.specs.Prelude.{◌≡◌, ◌<◌, ◌↔◌, IsTrue, IfOk, IfErr, map};
+ghost use Rattle.card_c.specs.PlanLetters.{AreSteps, IsSpelt, IsRefused, letter_of, plan_limit};
 
 use crate::code;
 use std::alloc::{AllocError, Global};
 use t0_core::{Plan, Step};
 
-/// The plan that these letters and this cut are, or the code of what refuses it.
-pub fn plan_of(alloc: Global, letters: &[u8], cut: u16) -> Result<Plan, i32>
+/// The most plans that wait for the TPDUs to come.
+const PLAN_LIMIT: usize = 1_048_576;
+
+/// The plan that these letters and this cut are, behind the plans that wait, or the code of what
+/// refuses it.
+pub fn plan_of(alloc: Global, letters: &[u8], cut: u16, waiting: usize) -> Result<Plan, i32>
     ensures spelt { IfOk result (λ plan. IsSpelt letters.now cut plan) }
-    ensures refused { IfErr result (λ code. IsRefused letters.now cut code) }
+    ensures fits { IfOk result (λ _. waiting < plan_limit) }
+    ensures refused { IfErr result (λ code. IsRefused letters.now cut waiting code) }
 {
     if !are_steps(letters) || !matches!(cut, 1..=256) {
         return Err(code::ARGUMENT);
+    }
+    if waiting >= PLAN_LIMIT {
+        return Err(code::PLANS);
     }
     match steps_of(alloc, letters) {
         Ok(steps) => Plan::new(steps, cut).ok_or(code::ARGUMENT),
@@ -37,7 +45,7 @@ fn steps_of(alloc: Global, letters: &[u8]) -> Result<Vec<Step>, AllocError>
     requires { AreSteps letters.now }
     ensures { IfOk result (λ steps. letters.now ≡ map letter_of steps.items) }
 {
-    let mut steps = Vec::new(alloc);
+    let mut steps = Vec::with_capacity(alloc, letters.len())?;
     for letter in letters {
         let step = match letter {
             b'n' => Step::Null,

@@ -35,7 +35,7 @@ fn queue_at_card(alloc: Global, side: &mut CardSide, steps: &[u8], cut: u16) -> 
     let CardSide::Standing(_, plans) = side else {
         return code::STATE;
     };
-    match plan_of(alloc, steps, cut) {
+    match plan_of(alloc, steps, cut, plans.len()) {
         Ok(plan) => match plans.push(plan) {
             Ok(()) => code::OK,
             Err(_) => code::MEMORY,
@@ -69,7 +69,7 @@ fn queue_in_session(alloc: Global, side: &mut CardSide, steps: &[u8], cut: u16) 
     let CardSide::Joined(joined) = side else {
         return code::STATE;
     };
-    match plan_of(alloc, steps, cut) {
+    match plan_of(alloc, steps, cut, joined.plans.len()) {
         Ok(plan) => match queue(joined, plan) {
             Ok(()) => code::OK,
             Err(_) => code::MEMORY,

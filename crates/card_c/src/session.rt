@@ -1,6 +1,7 @@
 //! A session with a card: operations, each carried out to its answer.
 ghost use Rattle.std.specs.Prelude.{◌≡◌, None, MatchOption};
 ghost use Rattle.card_terminal.specs.Operations.{operation_of};
+ghost use Rattle.object_card.specs.OneStep.{Put};
 ghost use Rattle.card_c.specs.Codes.{gt_empty};
 ghost use Rattle.card_c.specs.CardHandle.{held_by, OnHandle};
 ghost use Rattle.card_c.specs.SessionCalls.{Starts, Finishes, Joins, Parts, Performs, Selects, Gets, Puts, TellsAnswer, TellsIdle, IsReset, ResetsSession};
@@ -9,14 +10,14 @@ use crate::card_held::GtCard;
 use crate::card_side::CardSide;
 use crate::code;
 use crate::copied::copied;
-use crate::plan_queue::PlanQueue;
 use crate::session_side::SessionSide;
 use crate::tag_number::tag_of;
 use card_terminal::{Answers, Bytes, Op, Session};
 use object_card::{Aid, CardBuilder};
 use std::alloc::Global;
 use std::{mem, slice};
-use t0_core::{Plans, Recorder};
+use t0_core::{PlanQueue, Plans, Recorder};
+use tlv_core::ObjectTag;
 
 /// Takes a card that stands, and begins a session with it. The card is reset.
 #[unsafe(no_mangle)]
@@ -209,9 +210,20 @@ fn put(alloc: Global, side: &mut CardSide, number: u32, value: &[u8]) -> i32
     let CardSide::Joined(joined) = side else {
         return code::STATE;
     };
-    let Some(tag) = tag_of(number) else {
-        return code::ARGUMENT;
-    };
+    match tag_of(number) {
+        Some(tag) => store(alloc, joined, tag, value),
+        None => code::ARGUMENT,
+    }
+}
+
+/// Carries out PUT DATA of a copy of the value. A pending chain comes before memory, as it does for
+/// the other operations.
+fn store(alloc: Global, joined: &mut SessionSide, tag: ObjectTag, value: &[u8]) -> i32
+    ensures { Performs (Put tag value.now) joined.old result joined.new }
+{
+    if !joined.session.is_idle() {
+        return code::BUSY;
+    }
     match Vec::from_slice(alloc, value) {
         Ok(copy) => perform(alloc, joined, Op::Put(tag, Bytes::new(copy))),
         Err(_) => code::MEMORY,

@@ -12,34 +12,13 @@ is_false : (b : Bool) → (b ≡ true → ⊥) → b ≡ false
 is_false true fails = absurd (fails refl)
 is_false false fails = refl
 
-pub returns-then-takes_plan : goal.returns-then-takes_plan
-returns-then-takes_plan c =
+pub returns : goal.returns
+returns c =
     let e = c.in-Sends.ensures in let stage = c.args.end.now.stage in
-    let plans = c.args.plans.now in let left = c.advance.new.self in
+    let plans = c.args.plans.now in let left = c.advance_if.new.self in
     let left_is : left ≡ (if takes_plan stage then advanced plans else plans) =
-    c.advance.ensures ∙ ap (λ (b : Bool). if b then advanced plans else plans)
-    c.if-takes_plan.ensures in
-    let same : c.turn.new.plans ≡ left = e.plan
-    ∙ ap (λ (p : Cursor). if takes_plan stage then advanced p else p) c.cursor.ensures
-    ∙ sym left_is in (
-      is_false _ (λ h. let never : Turn.Sends c.in-Sends.byte
-          ≡ Turn.Listens = e.whose.1 h in absurd (cc)),
-      left_is,
-      (λ first events led. e.led first events c.in-Sends.byte refl led),
-      (λ first came taken led last.
-          subst (λ (p : Cursor). HaveLedUnder first (came ++ (Card, c.in-Sends.byte) ∷ [])
-          (if takes_plan stage then taken ++ plan_kept p ∷ [] else taken) c.turn.new.self) same
-          (e.led_under first came taken c.in-Sends.byte refl led
-          (λ same_plan. subst (λ (p : Cursor). IsTakenLast (plan_kept p) taken)
-          (sym c.cursor.ensures) (last same_plan)))),
-    )
-
-pub returns-else-takes_plan : goal.returns-else-takes_plan
-returns-else-takes_plan c =
-    let e = c.in-Sends.ensures in let stage = c.args.end.now.stage in
-    let plans = c.args.plans.now in let left = c.args.plans.now in
-    let left_is : left ≡ (if takes_plan stage then advanced plans else plans) =
-    ap (λ (b : Bool). if b then advanced plans else plans) c.if-takes_plan.ensures in
+    c.advance_if.ensures ∙ ap (λ (b : Bool). if b then advanced plans else plans)
+    c.takes_plan-takes_plan.ensures in
     let same : c.turn.new.plans ≡ left = e.plan
     ∙ ap (λ (p : Cursor). if takes_plan stage then advanced p else p) c.cursor.ensures
     ∙ sym left_is in (

@@ -10,6 +10,9 @@ typedef int32_t call(void *, void *, void *, void *, void *, void *, void *, voi
 typedef const char *text(uint32_t);
 typedef uint32_t number(void);
 
+/* what the library would call, did it not go by its own functions */
+uint32_t galliumtoad_version(void) { return 0; }
+
 static void *library;
 
 static int ends(const char *name, const char *end) {

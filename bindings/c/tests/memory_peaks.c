@@ -9,7 +9,9 @@ enum {
     DIALOGUE = 26466,
     FULL_CARD = 4240592,
     SMALL_SESSION = 26667,
-    LARGE_SESSION = 116584
+    LARGE_SESSION = 116584,
+    PLAN = 192,
+    LETTERS = 8
 };
 
 static uint8_t value[GT_VALUE_LIMIT];
@@ -107,6 +109,29 @@ static void carries_out(gt_card *c, const uint8_t *tpdu, size_t n, uint16_t stat
     CHECK(peak <= before + takes, 1);
 }
 
+/* Some are given, then some taken, up to all of them. */
+static void plans_that_wait(void) {
+    static const uint8_t other[] = { 0x00, 0x6D, 0x00, 0x00 };
+    gt_card c = GT_INIT;
+    size_t i, round, waiting = 0, most = 0, before;
+    build(&c, 1, 1, 3);
+    before = taken;
+    for (round = 0; round < 200; round++) {
+        for (i = 0; i < round * 13 % 31; i++) {
+            peak = taken;
+            CHECK(gt_card_plan(&c, "nnnnnnnn", 256), GT_OK);
+            waiting++;
+            if (waiting > most) most = waiting;
+            CHECK(peak <= before + most * PLAN + (waiting + 1) * LETTERS, 1);
+        }
+        for (i = 0; i < round * 11 % 37 && waiting; i++, waiting--)
+            carries_out(&c, other, sizeof other, 0x6D00, 0);
+        if (!waiting) most = 0;
+    }
+    gt_card_free(&c);
+    CHECK(taken, 0);
+}
+
 static void a_put(void) {
     static const uint8_t select[] = { 0x00, 0xA4, 0x04, 0x00, 0x07, 0xA0, 0x00,
                                       0x00, 0x00, 0x03, 0x10, 0x10 };
@@ -120,6 +145,7 @@ static void a_put(void) {
 
 int main(void) {
     a_small_card();
+    plans_that_wait();
     a_put();
     a_full_card();
     a_session(3, SMALL_SESSION);

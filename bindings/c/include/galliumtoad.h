@@ -24,7 +24,7 @@
  * What a function gets it copies: nothing is kept of any buffer after a call. No function
  * blocks, prints, aborts or calls back.
  *
- * Every function but gt_text, those of the version and the .._free ones answers a code of the list
+ * Every function but those of texts, of the version and the .._free ones answers a code of the list
  * below: 0 or above where it went well, below 0 a fault: compare with < 0, not with != 0. The
  * numbers are fixed. A function's comment names all faults that it may answer, but for two: GT_NULL
  * (above), and GT_EMPTY, which each function with a handle answers where that holds nothing, unless

@@ -396,6 +396,8 @@ def echoes():
                ["send", "CACA5F2002"], "= 9000 CA5F\n", echo=False, heaps=True)
     yield Case("INS that is CLA, before data", "< 3B00 > DADA5F2003 < DA > 414E4E < 9000",
                ["send", "DADA5F2003414E4E"], "= 9000\n", echo=False)
+    yield Case("data that are procedure bytes", "< 3B00 > 00DA5F2003 < 25 > 25 < 25 > 25 < 25 > 25 "
+               "< 9000", ["put", "5F20", "252525"], "= 9000\n", echo=False)
     yield Case("a NULL that is CLA", "< 3B00 > 6020000000 < 609000", ["send", "6020000000"],
                "= 9000\n", echo=False, heaps=True)
     yield Case("silent behind the front of its header", "< 3B804002 > 9000000000 < 90", command,

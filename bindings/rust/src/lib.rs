@@ -1,3 +1,5 @@
+//! Safe Rust over the proved library galliumtoad: both ends of a smart card dialogue.
+//!
 #![doc = include_str!("../README.md")]
 //!
 //! ```compile_fail

@@ -7,7 +7,7 @@ use galliumtoad::{ANSWER_LIMIT, LEVELS_LIMIT, OBJECT_LIMIT, RESPONSE_LIMIT};
 use std::collections::HashSet;
 
 /// The faults of the header's list, with what this crate calls them.
-const FAULTS: [(&str, Error); 28] = [
+const FAULTS: [(&str, Error); 29] = [
     ("GT_STATE", Error::State),
     ("GT_MEMORY", Error::Memory),
     ("GT_ARGUMENT", Error::Argument),

@@ -7,6 +7,7 @@ import os
 import shutil
 import signal
 import tempfile
+import termios
 import time
 from pathlib import Path
 
@@ -429,6 +430,8 @@ def keeps_others_out():
                 else:
                     tty.line.write(b"\x90\x00")
                 first.end()
+                # an echo may be left that a signal has kept it from reading
+                termios.tcflush(tty.line.near, termios.TCIOFLUSH)
                 third = Program(copy, ["--slack", "0", *words[2:]], user=user)
                 look(third, third.end(), "", "the card does not answer to reset\n", 1)
                 tty.log.write_text("", encoding="utf-8")

@@ -23,7 +23,9 @@ mod wanted;
 
 pub use answer::Answer;
 pub use answers::Answers;
+pub use attempt::{Attempt, GET_RESPONSE, Next};
 pub use bytes::Bytes;
+pub use commands::{get_command, put_header, select_command};
 pub use exchange::{Exchange, OwnedExchange, RESPONSE_LIMIT};
 pub use handed_out::HandedOut;
 pub use operation::{Op, PUT_LIMIT};
@@ -32,3 +34,4 @@ pub use session_fault::SessionFault;
 pub use start_fault::StartFault;
 pub use taken::Taken;
 pub use terminal::{BeginFault, Terminal};
+pub use wanted::Wanted;

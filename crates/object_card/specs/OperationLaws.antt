@@ -122,7 +122,7 @@ carried_out_alike a b new operation status content same (after, answers, tables,
 
 -- ---- SELECT
 
-select_is_taken : (state : CardState) (aid : List ℕ) → is_idle state.pending ≡ true → IsAid aid
+pub select_is_taken : (state : CardState) (aid : List ℕ) → is_idle state.pending ≡ true → IsAid aid
     → refusal state select_header (length aid) ≡ None
 select_is_taken state aid idle is =
     rw (
@@ -266,13 +266,13 @@ get_case state tag p1 p2 p3 idle is_named =
                 (ltb-false (length (object_bytes tag value)) (count p3) l))
 
 -- the value under a tag of the application that is selected
-record IsHeld (state : CardState) (tag value : List ℕ) : Type 0 where
-  entries : List Entry
-  is_selected : selected_entries state ≡ Some entries
-  is_under : value_under tag entries ≡ Some value
+pub record IsHeld (state : CardState) (tag value : List ℕ) : Type 0 where
+  pub entries : List Entry
+  pub is_selected : selected_entries state ≡ Some entries
+  pub is_under : value_under tag entries ≡ Some value
 
-one_held : (a b : CardState) (tag u v : List ℕ) → SameTables a b → IsHeld a tag u → IsHeld b tag v
-    → u ≡ v
+pub one_held : (a b : CardState) (tag u v : List ℕ) → SameTables a b → IsHeld a tag u
+    → IsHeld b tag v → u ≡ v
 one_held a b tag u v same first second =
     let both : Some first.entries ≡ Some second.entries =
     sym first.is_selected ∙ same_entries a b same ∙ second.is_selected in
@@ -280,7 +280,7 @@ one_held a b tag u v same first second =
     let values : Some u ≡ Some v = sym first.is_under ∙ ap (λ es. value_under tag es) entries
     ∙ second.is_under in cc
 
-some_bytes : (tag value : List ℕ) → 1 ≤ length (object_bytes tag value)
+pub some_bytes : (tag value : List ℕ) → 1 ≤ length (object_bytes tag value)
 some_bytes tag value =
     omega (
       arith,
@@ -328,7 +328,8 @@ stops old new cut t status does refused =
     }
 
 -- how a GET DATA ends, or goes on
-data GetStep (old : CardState) (tag : List ℕ) (cut : ℕ) (t : Tpdu) (new : CardState) : Type 0 where
+pub data GetStep (old : CardState) (tag : List ℕ) (cut : ℕ) (t : Tpdu) (new : CardState)
+    : Type 0 where
   get_refused : Answers old (Get tag) (reply t.status) old → announces t.status ≡ None
       → corrects t.status ≡ None → t.received ≡ [] → SameTables old new → is_idle new.pending ≡ true
       → GetStep old tag cut t new
@@ -343,7 +344,7 @@ data GetStep (old : CardState) (tag : List ℕ) (cut : ℕ) (t : Tpdu) (new : Ca
       → new.pending ≡ pending_of (drop (count t.p3) (object_bytes tag value))
       → GetStep old tag cut t new
 
-get_step : (old new : CardState) (tag : List ℕ) (p1 p2 cut : ℕ) (t : Tpdu)
+pub get_step : (old new : CardState) (tag : List ℕ) (p1 p2 cut : ℕ) (t : Tpdu)
     → is_idle old.pending ≡ true → NamesTag tag p1 p2 → t.header ≡ get_header p1 p2
     → Does old cut t new → GetStep old tag cut t new
 get_step old new tag p1 p2 cut t idle is header does =

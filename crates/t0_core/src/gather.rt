@@ -76,14 +76,14 @@ impl<A: Allocator> Gather<A> {
     }
 
     /// Whether there is room for so many bytes more.
-    pub(crate) fn has_room(&self, count: usize) -> bool
+    pub fn has_room(&self, count: usize) -> bool
         ensures { result ≡ nat_le (length self.now.bytes + count) self.now.limit }
     {
         count <= self.limit - self.bytes.len()
     }
 
     /// Adds bytes, for which there is room.
-    pub(crate) fn extend(&mut self, bytes: &[u8])
+    pub fn extend(&mut self, bytes: &[u8])
         requires { length self.old.bytes + length bytes.now ≤ self.old.limit }
         ensures { self.new ≡ record {
           bytes = self.old.bytes ++ bytes.now;

@@ -17,5 +17,4 @@ mod ScriptFaultLemmas
 mod ScriptLoopLemmas
 mod PlayLemmas
 mod OpeningLemmas
-mod PlanQueueLemmas
 mod CardLemmas

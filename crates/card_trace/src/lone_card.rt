@@ -11,14 +11,13 @@ ghost use Rattle.card_trace.specs.LineFaults.{IsWritingFault};
 use crate::card_table::CardTable;
 use crate::fixed_line::FixedLine;
 use crate::opening::Opening;
-use crate::plan_queue::PlanQueue;
 use crate::play_fault::PlayFault;
 use crate::printing::{write_fixed, write_handed_out, write_table};
 use crate::script::card_line::CardAct;
 use object_card::ObjectCard;
 use std::alloc::{AllocError, Allocator};
 use std::io::Write;
-use t0_core::{CardEnd, Turn};
+use t0_core::{CardEnd, PlanQueue, Turn};
 
 /// A card without a terminal: what it hands out first, its end of the line, and the plans for it.
 #[derive(Drop)]

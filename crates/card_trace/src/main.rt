@@ -13,7 +13,6 @@ mod main_status;
 mod objects;
 mod objects_fault;
 mod opening;
-mod plan_queue;
 mod play;
 mod play_fault;
 mod player;

@@ -505,6 +505,21 @@ def puts_back(number):
         line.close()
 
 
+def turn_time():
+    """After a character of the card the terminal sends at the earliest 16 etu later, so 6 after it
+    has come whole: 5 ms at 1,200 baud."""
+    line = Line()
+    try:
+        words = ["--baud", "1200", "--slack", "5000", line.name, *SHORT, *SHORT]
+        program = Program("gt_serial", words)
+        other = Other(line)
+        play(other, "< 3B00 " + (SHORT_WORDS + DONE) * 2, card=True)
+        look(program, program.end(), "= 9000\n" * 2, "", 0)
+        assert other.gaps[5] >= 0.005, f"{other.gaps}"
+    finally:
+        line.close()
+
+
 def wrong_echo():
     """An echo that is another, at the first place and at a later one."""
     for echo in ("55", "00201000"):
@@ -707,7 +722,7 @@ def tests():
         (f"signal {number.name}", lambda number=number: puts_back(number))
         for number in (signal.SIGTERM, signal.SIGINT, signal.SIGHUP, signal.SIGQUIT)
     )
-    for test in (guard_time, wrong_echo, passes_over_a_signal, line_gone, nulls_for_ever, settings,
-                 full_device, full_device_for_an_answer, nobody_reads, closed_descriptors, words,
-                 helps):
+    for test in (guard_time, turn_time, wrong_echo, passes_over_a_signal, line_gone,
+                 nulls_for_ever, settings, full_device, full_device_for_an_answer, nobody_reads,
+                 closed_descriptors, words, helps):
         yield (f"terminal: {test.__name__}", test)

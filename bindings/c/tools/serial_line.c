@@ -107,12 +107,18 @@ static enum line_end other_of(const struct line *line)
     return line->own == LINE_CARD ? LINE_TERMINAL : LINE_CARD;
 }
 
+/* Notes the first of the characters that were looked at, which is at fault. */
+static void note_first(struct line *line)
+{
+    line_note(line, other_of(line), by_convention(line, line->come[0].raw));
+}
+
 const char *line_refuse_early(struct line *line, int64_t wait)
 {
     const enum port_result result = come_in(line, 1, port_now() + wait);
     if (result != PORT_IS_WELL)
         return result == PORT_IS_SILENT ? NULL : text_of(result);
-    line_note(line, other_of(line), by_convention(line, line->come[0].raw));
+    note_first(line);
     return line->sent_until == 0 ? "a byte behind the answer to reset" : UNEXPECTED;
 }
 
@@ -137,25 +143,12 @@ static const char *hand_out(struct line *line, const uint8_t *raw, size_t n)
     return result == PORT_IS_SILENT ? "the tty takes no more characters" : text_of(result);
 }
 
-/* Reads a character: the first of those that were looked at, or the next one of the port. */
-static enum port_result read_raw(struct line *line, uint8_t *raw, bool *has_other_parity,
-                                 int64_t then)
-{
-    if (line->come_count == 0)
-        return read_port(line, raw, has_other_parity, then);
-    *raw = line->come[0].raw;
-    *has_other_parity = line->come[0].has_other_parity;
-    line->come_count--;
-    memmove(line->come, line->come + 1, line->come_count * sizeof *line->come);
-    return PORT_IS_WELL;
-}
-
 /* Takes the echo of a byte back, which has gone by then. */
 static const char *take_echo(struct line *line, uint8_t raw, int64_t then)
 {
     uint8_t found;
     bool has_other_parity;
-    const enum port_result result = read_raw(line, &found, &has_other_parity, then + line->slack);
+    const enum port_result result = read_port(line, &found, &has_other_parity, then + line->slack);
     if (result == PORT_IS_SILENT)
         return "no echo has come back";
     if (result != PORT_IS_WELL)
@@ -214,8 +207,8 @@ static void note_turn(struct line *line)
 const char *line_receive_first(struct line *line, uint8_t *byte, bool *has_other_parity,
                                int64_t wait)
 {
-    const enum port_result result = read_raw(line, byte, has_other_parity,
-                                             waits_until(line, wait));
+    const enum port_result result = read_port(line, byte, has_other_parity,
+                                              waits_until(line, wait));
     note_turn(line);
     return line->is_early ? UNEXPECTED : text_of(result);
 }
@@ -269,11 +262,15 @@ const char *line_look(struct line *line, uint8_t bytes[LINE_RUN], size_t *n, int
     *n = 0;
     if (result != PORT_IS_WELL)
         return text_of(result);
-    while (*n < line->come_count && is_well(line, line->come[*n].has_other_parity)) {
+    while (!line->is_early && *n < line->come_count
+           && is_well(line, line->come[*n].has_other_parity)) {
         const uint8_t raw = line->come[*n].raw;
         bytes[(*n)++] = by_convention(line, raw);
     }
-    return *n == 0 || line->is_early ? line_receive(line, bytes, wait) : NULL;
+    if (*n > 0)
+        return NULL;
+    note_first(line);
+    return line->is_early ? UNEXPECTED : WRONG_PARITY;
 }
 
 void line_take(struct line *line, const uint8_t *bytes, size_t n)

@@ -29,7 +29,8 @@ fn statuses_have_two_bytes() {
     let status = Status(0x6C1A);
     assert_eq!((status.sw1(), status.sw2()), (0x6C, 0x1A));
     assert_eq!(status, 0x6C1A);
-    assert_ne!(status, 0x1A6C);
+    assert_ne!(status, 0x6C19);
+    assert_ne!(status, 0x6C1B);
     assert_eq!(status.to_string(), "6C1A");
     assert_eq!(Status(0x0007).to_string(), "0007");
     assert_eq!(format!("{status:?}"), "Status(6C1A)");

@@ -511,7 +511,7 @@ GT_MUST_CHECK int32_t gt_find(const uint8_t *bytes, size_t n, const uint32_t *pa
  * nothing else. The data of an answer to GET DATA are. Some cards answer 9000 with the value alone.
  *
  * 1: they are. 0: they are not, or there are none, or `bytes` is NULL. */
-static inline int gt_is_object(const uint8_t *bytes, size_t n, uint32_t tag) {
+GT_MUST_CHECK int gt_is_object(const uint8_t *bytes, size_t n, uint32_t tag) {
     gt_object object;
     size_t place;
     return gt_find(bytes, n, &tag, 1, &object, &place) == GT_OK && object.size == n;

@@ -1,7 +1,7 @@
 //! What `--help` and `--version` say, and what is said of words that are not UTF-8.
 
 /// What `--version` says behind the program's name.
-pub const VERSION: &str = "0.1.0";
+pub const VERSION: &str = "0.2.0";
 
 /// Of the program.
 pub const PROGRAM: &str = "A smart card and a terminal in dialogue over T=0, and the trace of it";

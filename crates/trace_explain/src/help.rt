@@ -5,7 +5,7 @@ pub const PROGRAM: &str = "Explains the trace of a dialogue with a smart card ov
     command, and what it brought";
 
 /// The version.
-pub const VERSION: &str = "0.1.0";
+pub const VERSION: &str = "0.2.0";
 
 /// Of `--diff`.
 pub const DIFF: &str = "Compares the traces of two files, and shows the first TPDU that differs";

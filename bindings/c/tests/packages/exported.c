@@ -38,6 +38,8 @@ static void is_exported(const char *name) {
         CHECK(version(), GT_VERSION);
     else if (strcmp(name, "gt_version_fits") == 0)
         CHECK(version(), 1);
+    else if (strcmp(name, "gt_is_object") == 0)
+        CHECK(function(NULL, NULL, NULL, NULL, NULL, NULL, NULL, NULL), 0);
     else if (ends(name, "_free"))
         function(NULL, NULL, NULL, NULL, NULL, NULL, NULL, NULL);
     else

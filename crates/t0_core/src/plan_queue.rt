@@ -10,7 +10,7 @@ use std::mem;
 /// The plans that wait, and the one that was taken last. Contracts see it as a cursor over the
 /// plans that wait.
 ///
-/// A plan that waits takes 32 bytes and the block of its steps; while the queue grows, up to four
+/// A plan that waits takes 32 bytes and the block of its steps; while the queue grows, up to six
 /// times the 32. Taking one takes no memory. Its steps are given back when the next one is taken,
 /// and the queue's own block when none waits.
 #[derive(Drop)]

@@ -402,9 +402,10 @@ def echoes():
                "= 9000\n", echo=False, heaps=True)
     yield Case("silent behind the front of its header", "< 3B804002 > 9000000000 < 90", command,
                fault="operation 1: the card is silent\n", status=1, echo=False, waits=0.2)
-    yield Case("silent after a header, without echo", "< 3B804002 " + SHORT_WORDS, SHORT,
-               fault="operation 1: the card is silent\n", status=1, echo=False, waits=0.2,
-               quick=True)
+    # it waits once, and not again for what is no echo
+    yield Case("silent after a header, without echo", "< 3B00 " + SHORT_WORDS, SHORT,
+               fault="operation 1: the card is silent\n", status=1, echo=False, waits=1.0,
+               slack=3200, quick=True)
 
 
 def pps():

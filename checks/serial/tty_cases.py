@@ -561,4 +561,4 @@ def tests():
                  card_settings):
         yield from part()
     for test in (is_held, gone_at_reset, inverse_odd, is_locked, keeps_others_out):
-        yield (f"tty: {test.__name__}", test)
+        yield (f"tty: {test.__name__}", lambda test=test: in_time(test))

@@ -394,6 +394,11 @@ def echoes():
                ["send", "CACA5F2003"], "= 9000 CA5F20\n", echo=False, heaps=True)
     yield Case("an answer that is its header but for the last", "< 3B00 > CACA5F2002 < CACA5F9000",
                ["send", "CACA5F2002"], "= 9000 CA5F\n", echo=False, heaps=True)
+    whole = "< 3B00 > CACA5F2004 < CACA5F2004"
+    yield Case("an answer that is its header", whole, ["send", "CACA5F2004"], fault=fault, status=1,
+               echo=False, heaps=True)
+    yield Case("an answer that is its header, with an echo", whole + "9000",
+               ["send", "CACA5F2004"], "= 9000 CA5F2004\n", heaps=True)
     yield Case("INS that is CLA, before data", "< 3B00 > DADA5F2003 < DA > 414E4E < 9000",
                ["send", "DADA5F2003414E4E"], "= 9000\n", echo=False)
     yield Case("data that are procedure bytes", "< 3B00 > 00DA5F2003 < 25 > 25 < 25 > 25 < 25 > 25 "

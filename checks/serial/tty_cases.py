@@ -347,6 +347,7 @@ def without_echo():
         ("a status, in time", "~ 0.1 < 9000", SHORT, ""),
         ("a status within its header", "< 9000", SHORT, fault),
         ("a NULL within its header", "< 60", SHORT, fault),
+        ("a status at the end of its header", "~ 0.02 < 9000", SHORT, fault),
         ("an echo", "< 0020000000", SHORT, "operation 1: the line echoes\n"),
         ("a status within data", "> 0020000103 ~ 0.1 < 20 > 414E4E < 9000", put, fault),
         ("a status behind data, in time", "> 0020000103 ~ 0.1 < 20 > 414E4E ~ 0.1 < 9000", put, ""),

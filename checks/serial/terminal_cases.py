@@ -518,12 +518,13 @@ def turn_time():
     has come whole: 5 ms at 1,200 baud."""
     line = Line()
     try:
-        words = ["--baud", "1200", "--slack", "5000", line.name, *SHORT, *SHORT]
+        # a busy machine is late at many of them, but not at all
+        words = ["--baud", "1200", "--slack", "5000", line.name, *SHORT * 20]
         program = Program("gt_serial", words)
         other = Other(line)
-        play(other, "< 3B00 " + (SHORT_WORDS + DONE) * 2, card=True)
-        look(program, program.end(), "= 9000\n" * 2, "", 0)
-        assert other.gaps[5] >= 0.005, f"{other.gaps}"
+        play(other, "< 3B00 " + (SHORT_WORDS + DONE) * 20, card=True)
+        look(program, program.end(), "= 9000\n" * 20, "", 0)
+        assert min(other.gaps[5::5]) >= 0.005, f"{other.gaps}"
     finally:
         line.close()
 

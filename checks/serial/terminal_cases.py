@@ -518,12 +518,12 @@ def turn_time():
     has come whole: 5 ms at 1,200 baud."""
     line = Line()
     try:
-        # a busy machine is late at many of them, but not at all
-        words = ["--baud", "1200", "--slack", "5000", line.name, *SHORT * 20]
+        # the last character of a header has left after 50 ms; a busy machine is late at some turns
+        words = ["--baud", "1200", "--slack", "5000", line.name, *SHORT * 12]
         program = Program("gt_serial", words)
         other = Other(line)
-        play(other, "< 3B00 " + (SHORT_WORDS + DONE) * 20, card=True)
-        look(program, program.end(), "= 9000\n" * 20, "", 0)
+        play(other, "< 3B00 " + (SHORT_WORDS + "~ 0.08 " + DONE) * 12, card=True)
+        look(program, program.end(), "= 9000\n" * 12, "", 0)
         assert min(other.gaps[5::5]) >= 0.005, f"{other.gaps}"
     finally:
         line.close()

@@ -6,6 +6,7 @@ import fcntl
 import os
 import shutil
 import signal
+import subprocess
 import tempfile
 import termios
 import time
@@ -426,6 +427,9 @@ def keeps_others_out():
                 play(Marking(tty.line), "< 3B00 " + SHORT_WORDS, card=True)
                 second = Program(copy, words, user=user)
                 look(second, second.end(), "", f"process {first.process.pid} has the tty\n", 1)
+                opened = subprocess.run(["sh", "-c", f": < {tty.line.name}"], user=user, cwd="/",
+                                        check=False, stderr=subprocess.DEVNULL)
+                assert (opened.returncode == 0) == is_pseudo, f"opened: {opened.returncode}"
                 if number:
                     first.kill(number)
                 else:

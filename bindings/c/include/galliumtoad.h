@@ -22,11 +22,11 @@
  *   threads.
  *
  * What a function gets it copies: nothing is kept of any buffer after a call. No function
- * blocks, prints, aborts or calls back.
+ * blocks, prints or aborts, and it calls nothing of the caller's but the functions for memory.
  *
- * Every function but those of texts, of the version and the .._free ones answers a code of the list
- * below: 0 or above where it went well, below 0 a fault: compare with < 0, not with != 0. The
- * numbers are fixed. A function's comment names all faults that it may answer, but for two: GT_NULL
+ * Every function but those of texts, of the version, gt_is_object and the .._free ones answers a
+ * code of the list below: 0 or above where it went well, below 0 a fault: compare with < 0, not
+ * with != 0. The numbers are fixed. A function's comment names all faults that it may answer, but for two: GT_NULL
  * (above), and GT_EMPTY, which each function with a handle answers where that holds nothing, unless
  * its comment says otherwise. Where more than one holds it is the first of GT_NULL, GT_EMPTY,
  * GT_STATE, and then of the comment's, in its order; in gt_session_start and gt_session_end, which
@@ -351,8 +351,8 @@ typedef struct {
  *                 where none is given, and the bytes that it has sent as data, of an identifier, a
  *                 value or a command, in the operation with the most. Where one has more than any
  *                 before, the copy of those is held until that of these is made
- *   a card        9,963 with one application and one object of 3 bytes, and 26,466 with an exchange
- *                 of SELECT or GET DATA with it; 4,240,592 with all that a card can hold
+ *   a card        9,963 with one application and one object of 3 bytes, and 26,466 together with a
+ *                 gt_exchange of SELECT or GET DATA; 4,240,592 with all that a card can hold
  *   a session     26,667 with that small card, for a select, a put of 3 bytes and a get; 116,584
  *                 for a put and a get of 8,192 bytes
  *   plans         at most 192 for each of the most plans that waited at once since none did; and
@@ -990,7 +990,7 @@ GT_MUST_CHECK int32_t gt_card_tpdu(gt_card *c, const uint8_t *tpdu, size_t n,
  * TPDU without a plan is answered as by "" and 256.
  *
  * GT_OK. GT_STATE: the card is not finished yet. GT_ARGUMENT: another letter, or another cut.
- * GT_MEMORY. */
+ * GT_PLANS: GT_PLANS_LIMIT plans wait already. GT_MEMORY. */
 GT_MUST_CHECK int32_t gt_card_plan(gt_card *c, const char *steps, uint16_t cut) {
     size_t n = 0;
     if (!c || !steps) return GT_NULL;
@@ -1102,7 +1102,8 @@ GT_MUST_CHECK int32_t gt_session_idle(gt_session *s) {
  * short get come singly, plan "" first, and then an o for each byte of tag, length and value:
  * "oooooo" for a value of 3 bytes under 5F20.
  *
- * GT_OK. GT_ARGUMENT: another letter, or another cut. GT_MEMORY. */
+ * GT_OK. GT_ARGUMENT: another letter, or another cut. GT_PLANS: GT_PLANS_LIMIT plans wait already.
+ * GT_MEMORY. */
 GT_MUST_CHECK int32_t gt_session_plan(gt_session *s, const char *steps, uint16_t cut) {
     size_t n = 0;
     if (!s || !steps) return GT_NULL;

@@ -1,565 +1,467 @@
--- With as many tries as twice the bad blocks, the terminal does not give up.
-use Rattle.std.proofs.Common.{◌≡◌, ◌≢◌, refl, sym, ap, subst, ◌∙◌, ℕ, zero, suc, ◌+◌, ◌-◌, ◌*◌, ◌≤◌, Bool, true, false, List, [], ◌∷◌, ◌++◌, Option, Some, None, arith, ◌⊎◌, inl, inr}
+-- With twice as many tries as blocks that do not arrive, the terminal does not give up.
+use Rattle.std.proofs.Common.{◌≡◌, ◌≢◌, refl, sym, ap, subst, ◌∙◌, ℕ, zero, suc, ◌+◌, ◌-◌, ◌*◌, ◌≤◌, Bool, true, false, List, [], ◌∷◌, ◌++◌, take, drop, Option, Some, None, arith, ◌⊎◌, inl, inr}
 use Rattle.t1_core.specs.declared.line.Fate.{Fate}
 use Rattle.t1_core.specs.declared.line.Fate.TheVariants.{Delivers, Damages, Loses}
-use Rattle.t1_core.specs.Block.{Field, Fields, I, R, WtxRequest, other, more}
-use Rattle.t1_core.specs.declared.terminal.Phase.TheVariants.{Sending, Receiving, Over, GivenUp}
-use Rattle.t1_core.specs.declared.terminal.Out.{Out}
-use Rattle.t1_core.specs.declared.terminal.Out.TheVariants.{Own, Asks, Grants}
-use Rattle.t1_core.specs.declared.terminal.Limits.{Limits}
-use Rattle.t1_core.specs.TerminalSide.{Terminal, spend, takes}
-use Rattle.t1_core.specs.CardOfT1.{Meaning, asks_for_time}
 use Rattle.t1_core.specs.declared.line.Fates.{Fates}
-use Rattle.t1_core.specs.World.{World, arrives, next_command, settled, exchange, run, start}
-use Rattle.t1_core.specs.Mild.{bad_of, bad, IsMild, Enough}
-use Rattle.t1_core.proofs.Bits.{same_self, same_other, same_other_2, other_other}
-use Rattle.t1_core.proofs.Stands.{Kept, Place, Behind, Taken, Waits, Answering, Between, Repeating, Given_up, Finished, terminal_at, card_at, out_of, world, world_of}
+use Rattle.t1_core.specs.declared.settings.Settings.{Settings}
+use Rattle.t1_core.specs.declared.terminal.Cause.{Cause}
+use Rattle.t1_core.specs.declared.terminal.Out.{Out}
+use Rattle.t1_core.specs.declared.terminal.Out.TheVariants.{Own, Asks}
+use Rattle.t1_core.specs.declared.terminal.Phase.TheVariants.{Over, GivenUp}
+use Rattle.t1_core.specs.Block.{other, is_size}
+use Rattle.t1_core.specs.CardSide.{Meaning}
+use Rattle.t1_core.specs.Mild.{bad_of, bad, Stays, IsMild, Enough, IsSize, count_of}
+use Rattle.t1_core.specs.World.{World, exchange, run, start}
+use Rattle.t1_core.proofs.Places.{Kept, Place, Opens, Behind, Taken, Waits, Grows, Answering, Between, Repeating, Given_up, Finished, spends, extends, proceeds, starts, out_at, world_at, world_of, runs, heard, misses, comes, grows, flips, arrived, garbled, step, is_step}
+use Rattle.t1_core.proofs.Holding.{first, first_is}
 
 other_is_not : (n : Bool) → other n ≡ n → ⊥
 other_is_not true e = absurd (cc)
 other_is_not false e = absurd (cc)
 
--- R(N(R)) costs one try more than the block itself
+abbrev pair : Bool → Bool → Bool × Bool
+pair a b = (a, b)
+
+both : {a b c d : Bool} → a ≡ c → b ≡ d → pair a b ≡ pair c d
+both {a} {b} {c} {d} p q = ap (λ x. pair x b) p ∙ ap (λ y. pair c y) q
+
 abbrev one_if : Bool → ℕ
 one_if true = 1
 one_if false = 0
 
--- where the card has got S(WTX response), it will not repeat its request
-abbrev still : Out → ℕ
-still Own = 1
-still Asks = 1
-still (Grants times) = 0
+abbrev one_if_not : Bool → ℕ
+one_if_not true = 0
+one_if_not false = 1
 
-module _ (m : Meaning) (f : ℕ) where
-  pub record Quiet (left tries most : ℕ) (limits : Limits) : Type 0 where
-    pub enough_tries : most ≤ tries
+-- N(S) and N(R) of the terminal
+abbrev numbers : Place → Bool × Bool
+numbers (Opens k rest tries extensions asks) = (k.number, k.due)
+numbers (Behind k collected rest answering tries extensions asks) = (k.number, k.due)
+numbers (Taken k collected b bytes tries extensions) = (k.number, k.due)
+numbers (Waits k rest n size granted tries extensions) = (k.number, k.due)
+numbers (Grows k rest size granted tries extensions) = (k.number, k.due)
+numbers (Answering k rest tries extensions) = (k.number, k.due)
+numbers (Between k got b bytes tries extensions) = (k.number, k.due)
+numbers (Repeating k got rest tries extensions) = (k.number, k.due)
+numbers (Given_up w cause) = (w.terminal.number, w.terminal.due)
+numbers (Finished w) = (w.terminal.number, w.terminal.due)
+
+-- the place once the terminal has asked again
+abbrev asking : Place → Place
+asking (Behind k collected rest answering tries extensions asks) =
+    Behind k collected rest answering tries extensions true
+asking (Waits k rest n size granted tries extensions) = Waits k rest n size false tries extensions
+asking (Grows k rest size granted tries extensions) = Grows k rest size false tries extensions
+asking p = p
+
+module _ (m : Meaning) (before : List (List ℕ)) (f : ℕ) where
+  pub record Quiet (left tries most : ℕ) (settings : Settings) : Type 0 where
+    pub tries_left : most ≤ tries
     pub left_le : left ≤ f
-    pub enough : Enough m f limits
+    pub enough : Enough m f settings
 
-  -- so many bad blocks are borne from here to the next step
+  -- so many blocks may fail to arrive before the next step forward
   abbrev pub Calm : ℕ → Place → Type 0
-  Calm left (Behind k collected others tries extensions asks) =
-      Quiet left tries (2 * left + one_if asks) k.limits × (extensions ≡ k.limits.extensions)
-  Calm left (Taken k collected g gs tries extensions) =
-      Quiet left tries (2 * left) k.limits × (extensions ≡ k.limits.extensions)
-  Calm left (Waits k rest tries extensions out n) =
-      Quiet left tries (2 * left) k.limits × (n + left + still out ≤ extensions)
-  Calm left (Answering k rest tries extensions) = Quiet left tries (2 * left) k.limits
-  Calm left (Between k got g gs tries extensions) = Quiet left tries (2 * left) k.limits
-  Calm left (Repeating k got rest tries extensions) = Quiet left tries (2 * left) k.limits
-  Calm left (Given_up k t c) = ⊥
-  Calm left (Finished k t c) = Unit {0}
+  Calm left (Opens k rest tries extensions asks) =
+      Quiet left tries (2 * left) k.settings × (k.settings.extensions ≤ extensions)
+  Calm left (Behind k collected rest answering tries extensions asks) =
+      Quiet left tries (2 * left + one_if asks) k.settings × (k.settings.extensions ≤ extensions)
+  Calm left (Taken k collected b bytes tries extensions) =
+      Quiet left tries (2 * left) k.settings × (k.settings.extensions ≤ extensions)
+  Calm left (Waits k rest n size granted tries extensions) =
+      Quiet left tries (2 * left) k.settings
+      × (n + count_of size + left + one_if_not granted ≤ extensions) × IsSize size
+  Calm left (Grows k rest size granted tries extensions) =
+      Quiet left tries (2 * left) k.settings
+      × (left + one_if_not granted ≤ extensions) × (is_size size ≡ true)
+  Calm left (Answering k rest tries extensions) = Quiet left tries (2 * left) k.settings
+  Calm left (Between k got b bytes tries extensions) = Quiet left tries (2 * left) k.settings
+  Calm left (Repeating k got rest tries extensions) = Quiet left tries (2 * left) k.settings
+  Calm left (Given_up w cause) = ⊥
+  Calm left (Finished w) = Unit {0}
+
+  -- no step forward, and so many are still borne; or one, and all are
+  abbrev Goes : ℕ → Bool × Bool → Place → Type 0
+  Goes left old p = ((numbers p ≡ old) × Calm left p) ⊎ ((numbers p ≡ old → ⊥) × Calm f p)
+
+  quiet : {left tries most : ℕ} {settings : Settings} (rest now need : ℕ) → Quiet left tries most settings
+      → need ≤ now → rest ≤ f → Quiet rest now need settings
+  quiet rest now need q t l = record { tries_left = t; left_le = l; enough = q.enough }
+
+  afresh : (settings : Settings) → Enough m f settings → Quiet f settings.tries (2 * f) settings
+  afresh settings e = record { tries_left = e.tries; left_le = omega arith; enough = e }
+
+  spends_calm : (n left : ℕ) (w : World) (again : ℕ → Place) → 1 ≤ n → ((i : ℕ) → i + 1 ≡ n → Calm left (again i))
+      → Calm left (spends n w again)
+  spends_calm zero left w again some h = absurd (omega (arith, some))
+  spends_calm (suc n) left w again some h = h n (omega arith)
+
+  -- one block fewer
+  misses_calm : (out : Out) (p : Place) (left : ℕ) → Calm (left + 1) p → Calm left (misses m before out p)
+  misses_calm out (Opens k rest tries extensions asks) left h =
+      spends_calm tries left _ _ (let q = h.0.tries_left in omega (arith, q))
+      (λ i e. let q = h.0.tries_left in let l = h.0.left_le in (quiet left i (2 * left) h.0 (omega (arith, e, q)) (omega (arith, l)), h.1))
+  misses_calm out (Behind k collected rest answering tries extensions asks) left h =
+      spends_calm tries left _ _ (let q = h.0.tries_left in omega (arith, q))
+      (λ i e. let q = h.0.tries_left in let l = h.0.left_le in (quiet left i (2 * left + 1) h.0 (omega (arith, e, q)) (omega (arith, l)), h.1))
+  misses_calm out (Taken k collected b bytes tries extensions) left h =
+      spends_calm tries left _ _ (let q = h.0.tries_left in omega (arith, q))
+      (λ i e. let q = h.0.tries_left in let l = h.0.left_le in (quiet left i (2 * left) h.0 (omega (arith, e, q)) (omega (arith, l)), h.1))
+  misses_calm out (Waits k rest n size granted tries extensions) left h =
+      spends_calm tries left _ _ (let q = h.0.tries_left in omega (arith, q))
+      (λ i e. let q = h.0.tries_left in let l = h.0.left_le in let x = h.1 in
+      (quiet left i (2 * left) h.0 (omega (arith, e, q)) (omega (arith, l)), omega (arith, x), h.2))
+  misses_calm out (Grows k rest size granted tries extensions) left h =
+      spends_calm tries left _ _ (let q = h.0.tries_left in omega (arith, q))
+      (λ i e. let q = h.0.tries_left in let l = h.0.left_le in let x = h.1 in
+      (quiet left i (2 * left) h.0 (omega (arith, e, q)) (omega (arith, l)), omega (arith, x), h.2))
+  misses_calm out (Answering k rest tries extensions) left h =
+      spends_calm tries left _ _ (let q = h.tries_left in omega (arith, q))
+      (λ i e. let q = h.tries_left in let l = h.left_le in quiet left i (2 * left) h (omega (arith, e, q)) (omega (arith, l)))
+  misses_calm out (Between k got b bytes tries extensions) left h =
+      spends_calm tries left _ _ (let q = h.tries_left in omega (arith, q))
+      (λ i e. let q = h.tries_left in let l = h.left_le in quiet left i (2 * left) h (omega (arith, e, q)) (omega (arith, l)))
+  misses_calm out (Repeating k got rest tries extensions) left h =
+      spends_calm tries left _ _ (let q = h.tries_left in omega (arith, q))
+      (λ i e. let q = h.tries_left in let l = h.left_le in quiet left i (2 * left) h (omega (arith, e, q)) (omega (arith, l)))
+  misses_calm out (Given_up w cause) left h = h
+  misses_calm out (Finished w) left h = tt
+
+  -- a place from which nobody has moved
+  spends_stays : (n : ℕ) (w : World) (again : ℕ → Place) (old : Bool × Bool) → (w.terminal.number, w.terminal.due) ≡ old
+      → ((i : ℕ) → numbers (again i) ≡ old) → numbers (spends n w again) ≡ old
+  spends_stays zero w again old e h = e
+  spends_stays (suc n) w again old e h = h n
+
+  misses_stays : (out : Out) (p : Place) → numbers (misses m before out p) ≡ numbers p
+  misses_stays out (Opens k rest tries extensions asks) = spends_stays tries _ _ _ refl (λ i. refl)
+  misses_stays out (Behind k collected rest answering tries extensions asks) = spends_stays tries _ _ _ refl (λ i. refl)
+  misses_stays out (Taken k collected b bytes tries extensions) = spends_stays tries _ _ _ refl (λ i. refl)
+  misses_stays out (Waits k rest n size granted tries extensions) = spends_stays tries _ _ _ refl (λ i. refl)
+  misses_stays out (Grows k rest size granted tries extensions) = spends_stays tries _ _ _ refl (λ i. refl)
+  misses_stays out (Answering k rest tries extensions) = spends_stays tries _ _ _ refl (λ i. refl)
+  misses_stays out (Between k got b bytes tries extensions) = spends_stays tries _ _ _ refl (λ i. refl)
+  misses_stays out (Repeating k got rest tries extensions) = spends_stays tries _ _ _ refl (λ i. refl)
+  misses_stays out (Given_up w cause) = refl
+  misses_stays out (Finished w) = refl
+
+  missed : (out : Out) (p : Place) (left : ℕ) → Calm (left + 1) p → Goes left (numbers p) (misses m before out p)
+  missed out p left h = inl (misses_stays out p, misses_calm out p left h)
+
+  starts_calm : (k : Kept) (rest : List ℕ) (n : ℕ) (size : Option ℕ) (tries extensions left : ℕ)
+      → Quiet left tries (2 * left) k.settings → n + count_of size + left ≤ extensions → IsSize size
+      → Calm left (asking (starts k rest n size tries extensions))
+  starts_calm k rest (suc n) size tries extensions left q x s = (q, omega (arith, x), s)
+  starts_calm k rest zero (Some size) tries extensions left q x s = (q, omega (arith, x), s)
+  starts_calm k rest zero None tries extensions left q x s = q
+
+  starts_stays : (k : Kept) (rest : List ℕ) (n : ℕ) (size : Option ℕ) (tries extensions : ℕ)
+      → numbers (starts k rest n size tries extensions) ≡ (k.number, k.due)
+  starts_stays k rest (suc n) size tries extensions = refl
+  starts_stays k rest zero (Some size) tries extensions = refl
+  starts_stays k rest zero None tries extensions = refl
+
+  heard_stays : (p : Place) → numbers (heard m before p) ≡ numbers p
+  heard_stays (Opens k rest tries extensions asks) = refl
+  heard_stays (Behind k collected [] answering tries extensions true) = refl
+  heard_stays (Behind k collected (b ∷ bytes) answering tries extensions true) = refl
+  heard_stays (Behind k collected [] answering tries extensions false) = starts_stays _ _ _ _ tries extensions
+  heard_stays (Behind k collected (b ∷ bytes) answering tries extensions false) = refl
+  heard_stays (Taken k collected b bytes tries extensions) = refl
+  heard_stays (Waits k rest n size true tries extensions) = starts_stays k rest n size tries extensions
+  heard_stays (Waits k rest n size false tries extensions) = refl
+  heard_stays (Grows k rest size true tries extensions) = refl
+  heard_stays (Grows k rest size false tries extensions) = refl
+  heard_stays (Answering k rest tries extensions) = refl
+  heard_stays (Between k got b bytes tries extensions) = refl
+  heard_stays (Repeating k got rest tries extensions) = refl
+  heard_stays (Given_up w cause) = refl
+  heard_stays (Finished w) = refl
+
+  heard_calm : (p : Place) (left : ℕ) → Calm left p → Calm left (asking (heard m before p))
+  heard_calm (Opens k rest tries extensions asks) left h = h
+  heard_calm (Behind k collected [] answering tries extensions true) left h = h
+  heard_calm (Behind k collected (b ∷ bytes) answering tries extensions true) left h = h
+  heard_calm (Behind k collected [] answering tries extensions false) left h =
+      let done : List (List ℕ) = before ++ (k.done ++ (collected ++ k.field) ∷ []) in
+      let q = h.0.tries_left in let l = h.0.left_le in let x = h.1 in
+      let y = h.0.enough.extensions done in
+      starts_calm _ _ (m.asks done).extensions (m.asks done).size tries extensions left
+      (quiet left tries (2 * left) h.0 (omega (arith, q)) l) (omega (arith, l, x, y)) (h.0.enough.sizes done)
+  heard_calm (Behind k collected (b ∷ bytes) answering tries extensions false) left h =
+      let q = h.0.tries_left in (quiet left tries (2 * left) h.0 (omega (arith, q)) h.0.left_le, h.1)
+  heard_calm (Taken k collected b bytes tries extensions) left h = h
+  heard_calm (Waits k rest n size true tries extensions) left h =
+      let x = h.1 in starts_calm k rest n size tries extensions left h.0 (omega (arith, x)) h.2
+  heard_calm (Waits k rest n size false tries extensions) left h = h
+  heard_calm (Grows k rest size true tries extensions) left h = h.0
+  heard_calm (Grows k rest size false tries extensions) left h = h
+  heard_calm (Answering k rest tries extensions) left h = h
+  heard_calm (Between k got b bytes tries extensions) left h = h
+  heard_calm (Repeating k got rest tries extensions) left h = h
+  heard_calm (Given_up w cause) left h = h
+  heard_calm (Finished w) left h = h
+
+  -- to have asked again is the worse place
+  unasked : (p : Place) (left : ℕ) → Calm left (asking p) → Calm left p
+  unasked (Opens k rest tries extensions asks) left h = h
+  unasked (Behind k collected rest answering tries extensions true) left h = h
+  unasked (Behind k collected rest answering tries extensions false) left h =
+      let q = h.0.tries_left in (quiet left tries (2 * left + 0) h.0 (omega (arith, q)) h.0.left_le, h.1)
+  unasked (Taken k collected b bytes tries extensions) left h = h
+  unasked (Waits k rest n size true tries extensions) left h = let x = h.1 in (h.0, omega (arith, x), h.2)
+  unasked (Waits k rest n size false tries extensions) left h = h
+  unasked (Grows k rest size true tries extensions) left h = let x = h.1 in (h.0, omega (arith, x), h.2)
+  unasked (Grows k rest size false tries extensions) left h = h
+  unasked (Answering k rest tries extensions) left h = h
+  unasked (Between k got b bytes tries extensions) left h = h
+  unasked (Repeating k got rest tries extensions) left h = h
+  unasked (Given_up w cause) left h = h
+  unasked (Finished w) left h = h
+
+  -- and it is borne with a block more
+  asked : (p : Place) (left : ℕ) → Calm (left + 1) p → Calm left (asking p)
+  asked (Opens k rest tries extensions asks) left h =
+      let q = h.0.tries_left in let l = h.0.left_le in (quiet left tries (2 * left) h.0 (omega (arith, q)) (omega (arith, l)), h.1)
+  asked (Behind k collected rest answering tries extensions asks) left h =
+      let q = h.0.tries_left in let l = h.0.left_le in
+      (quiet left tries (2 * left + 1) h.0 (omega (arith, q)) (omega (arith, l)), h.1)
+  asked (Taken k collected b bytes tries extensions) left h =
+      let q = h.0.tries_left in let l = h.0.left_le in (quiet left tries (2 * left) h.0 (omega (arith, q)) (omega (arith, l)), h.1)
+  asked (Waits k rest n size granted tries extensions) left h =
+      let q = h.0.tries_left in let l = h.0.left_le in let x = h.1 in
+      (quiet left tries (2 * left) h.0 (omega (arith, q)) (omega (arith, l)), omega (arith, x), h.2)
+  asked (Grows k rest size granted tries extensions) left h =
+      let q = h.0.tries_left in let l = h.0.left_le in let x = h.1 in
+      (quiet left tries (2 * left) h.0 (omega (arith, q)) (omega (arith, l)), omega (arith, x), h.2)
+  asked (Answering k rest tries extensions) left h =
+      let q = h.tries_left in let l = h.left_le in quiet left tries (2 * left) h (omega (arith, q)) (omega (arith, l))
+  asked (Between k got b bytes tries extensions) left h =
+      let q = h.tries_left in let l = h.left_le in quiet left tries (2 * left) h (omega (arith, q)) (omega (arith, l))
+  asked (Repeating k got rest tries extensions) left h =
+      let q = h.tries_left in let l = h.left_le in quiet left tries (2 * left) h (omega (arith, q)) (omega (arith, l))
+  asked (Given_up w cause) left h = h
+  asked (Finished w) left h = tt
+
+  -- the card's block arrives
+
+  extends_calm : (n left : ℕ) (w : World) (again : ℕ → Place) → 1 ≤ n → ((i : ℕ) → i + 1 ≡ n → Calm left (again i))
+      → Calm left (extends n w again)
+  extends_calm zero left w again some h = absurd (omega (arith, some))
+  extends_calm (suc n) left w again some h = h n (omega arith)
+
+  extends_stays : (n : ℕ) (w : World) (again : ℕ → Place) (old : Bool × Bool) → (w.terminal.number, w.terminal.due) ≡ old
+      → ((i : ℕ) → numbers (again i) ≡ old) → numbers (extends n w again) ≡ old
+  extends_stays zero w again old e h = e
+  extends_stays (suc n) w again old e h = h n
+
+  grows_goes : (v : Bool) (out : Out) (k : Kept) (rest : List ℕ) (size : ℕ) (granted : Bool) (tries extensions left : ℕ)
+      → is_size size ≡ v → Calm left (Grows k rest size false tries extensions)
+      → Goes left (k.number, k.due) (grows m before v out k rest size granted tries extensions)
+  grows_goes true out k rest size granted tries extensions left e h =
+      let x = h.1 in inl (
+        extends_stays extensions _ _ _ refl (λ i. refl),
+        extends_calm extensions left _ _ (omega (arith, x)) (λ i is. (
+          quiet left tries (2 * left) h.0 h.0.tries_left h.0.left_le,
+          omega (arith, x, is),
+          h.2,
+        )),
+      )
+  grows_goes false out k rest size granted tries extensions left e h = absurd (let s = h.2 in cc)
+
+  proceeds_calm : (k : Kept) (todo : List (List ℕ)) (w : World) → Enough m f k.settings → Calm f (proceeds k todo w)
+  proceeds_calm k [] w e = tt
+  proceeds_calm k (c ∷ cs) w e =
+      let t = e.tries in (record { tries_left = omega (arith, t); left_le = omega arith; enough = e }, omega arith)
+
+  proceeds_numbers : (k : Kept) (todo : List (List ℕ)) (w : World) → pair w.terminal.number w.terminal.due ≡ pair k.number k.due
+      → numbers (proceeds k todo w) ≡ pair k.number k.due
+  proceeds_numbers k [] w e = e
+  proceeds_numbers k (c ∷ cs) w e = refl
+
+  abbrev IsHeard : Place → Type 0
+  IsHeard (Between k got b bytes tries extensions) = ⊥
+  IsHeard _ = Unit {0}
+
+  comes_goes : (out : Out) (p : Place) (left : ℕ) → IsHeard p → Calm left (asking p) → Goes left (numbers p) (comes m before out p)
+  comes_goes out (Opens k rest tries extensions asks) left a h =
+      let q = h.0.tries_left in inl (refl, (quiet left tries (2 * left + 0) h.0 (omega (arith, q)) h.0.left_le, h.1))
+  comes_goes out (Behind k collected rest answering tries extensions asks) left a h =
+      let q = h.0.tries_left in inl (
+        spends_stays tries _ _ _ refl (λ i. refl),
+        spends_calm tries left _ _ (omega (arith, q))
+            (λ i e. (quiet left i (2 * left + 0) h.0 (omega (arith, e, q)) h.0.left_le, h.1)),
+      )
+  comes_goes out (Taken k collected b bytes tries extensions) left a h =
+      let t = h.0.enough.tries in inr (
+        λ e. other_is_not k.number (ap (λ x. x.0) e),
+        (record { tries_left = omega (arith, t); left_le = omega arith; enough = h.0.enough }, h.1),
+      )
+  comes_goes out (Waits k rest n size granted tries extensions) left a h =
+      let x = h.1 in inl (
+        extends_stays extensions _ _ _ refl (λ i. refl),
+        extends_calm extensions left _ _ (omega (arith, x)) (λ i is. (h.0, omega (arith, x, is), h.2)),
+      )
+  comes_goes out (Grows k rest size granted tries extensions) left a h =
+      grows_goes (is_size size) out k rest size granted tries extensions left refl h
+  comes_goes out (Answering k [] tries extensions) left a h = inr (
+    λ e. other_is_not k.number (ap (λ x. x.0) (sym (proceeds_numbers
+        (record (flips k) { answers = k.answers ++ k.last ∷ [] }) k.todo _ refl) ∙ e)),
+    proceeds_calm (record (flips k) { answers = k.answers ++ k.last ∷ [] }) k.todo _ h.enough,
+  )
+  comes_goes out (Answering k (b ∷ bytes) tries extensions) left a h =
+      inr (λ e. other_is_not k.number (ap (λ x. x.0) e), afresh k.settings h.enough)
+  comes_goes out (Between k got b bytes tries extensions) left a h = absurd a
+  comes_goes out (Repeating k got [] tries extensions) left a h = inr (
+    λ e. other_is_not k.due (ap (λ x. x.1) (sym (proceeds_numbers
+        (record k { due = other k.due; answers = k.answers ++ (got ++ k.last) ∷ [] }) k.todo _ refl) ∙ e)),
+    proceeds_calm (record k { due = other k.due; answers = k.answers ++ (got ++ k.last) ∷ [] }) k.todo _ h.enough,
+  )
+  comes_goes out (Repeating k got (b ∷ bytes) tries extensions) left a h =
+      inr (λ e. other_is_not k.due (ap (λ x. x.1) e), afresh k.settings h.enough)
+  comes_goes out (Given_up w cause) left a h = absurd h
+  comes_goes out (Finished w) left a h = inl (refl, tt)
+
+  starts_heard : (k : Kept) (rest : List ℕ) (n : ℕ) (size : Option ℕ) (tries extensions : ℕ)
+      → IsHeard (starts k rest n size tries extensions)
+  starts_heard k rest (suc n) size tries extensions = tt
+  starts_heard k rest zero (Some size) tries extensions = tt
+  starts_heard k rest zero None tries extensions = tt
+
+  is_heard : (p : Place) → IsHeard (heard m before p)
+  is_heard (Opens k rest tries extensions asks) = tt
+  is_heard (Behind k collected [] answering tries extensions true) = tt
+  is_heard (Behind k collected (b ∷ bytes) answering tries extensions true) = tt
+  is_heard (Behind k collected [] answering tries extensions false) = starts_heard _ _ _ _ tries extensions
+  is_heard (Behind k collected (b ∷ bytes) answering tries extensions false) = tt
+  is_heard (Taken k collected b bytes tries extensions) = tt
+  is_heard (Waits k rest n size true tries extensions) = starts_heard k rest n size tries extensions
+  is_heard (Waits k rest n size false tries extensions) = tt
+  is_heard (Grows k rest size true tries extensions) = tt
+  is_heard (Grows k rest size false tries extensions) = tt
+  is_heard (Answering k rest tries extensions) = tt
+  is_heard (Between k got b bytes tries extensions) = tt
+  is_heard (Repeating k got rest tries extensions) = tt
+  is_heard (Given_up w cause) = tt
+  is_heard (Finished w) = tt
+
+  weaker : (p : Place) (left : ℕ) → Calm (left + 1) p → Calm left p
+  weaker p left h = unasked p left (asked p left h)
+
+  heard_goes : (p q : Place) (left : ℕ) → numbers q ≡ numbers p → (r : Place) → Goes left (numbers q) r → Goes left (numbers p) r
+  heard_goes p q left e r g = subst (λ n. Goes left n r) e g
+
+  arrived_goes : (up : Fate) (out : Out) (p : Place) (left : ℕ) → IsHeard p → Calm (left + 1) p
+      → Goes left (numbers p) (arrived m before out up p)
+  arrived_goes Delivers out p left a h = comes_goes out p left a (asked p left h)
+  arrived_goes Damages out p left a h = missed out p left h
+  arrived_goes Loses out p left a h = missed out p left h
+
+  garbled_goes : (up : Fate) (p : Place) (left : ℕ) → Calm (left + 1) p → Goes left (numbers p) (garbled m before up p)
+  garbled_goes up (Opens k rest tries extensions asks) left h = missed _ (Opens k rest tries extensions asks) left h
+  garbled_goes up (Behind k collected rest answering tries extensions asks) left h = arrived_goes up _ _ left tt h
+  garbled_goes up (Taken k collected b bytes tries extensions) left h = arrived_goes up _ _ left tt h
+  garbled_goes up (Waits k rest n size granted tries extensions) left h = arrived_goes up _ _ left tt h
+  garbled_goes up (Grows k rest size granted tries extensions) left h = arrived_goes up _ _ left tt h
+  garbled_goes up (Answering k rest tries extensions) left h = missed _ (Answering k rest tries extensions) left h
+  garbled_goes up (Between k got b bytes tries extensions) left h = missed _ (Between k got b bytes tries extensions) left h
+  garbled_goes up (Repeating k got rest tries extensions) left h = missed _ (Repeating k got rest tries extensions) left h
+  garbled_goes up (Given_up w cause) left h = absurd h
+  garbled_goes up (Finished w) left h = arrived_goes up _ _ left tt h
+
+  -- so many of both blocks do not arrive
+  step_goes : (down up : Fate) (p : Place) (left : ℕ) → Calm (left + (bad_of down + bad_of up)) p
+      → Goes left (numbers p) (step m before down up p)
+  step_goes Delivers Delivers p left h =
+      let h0 : Calm left p = subst (λ l. Calm l p) (omega arith) h in
+      heard_goes p (heard m before p) left (heard_stays p) _
+      (comes_goes (out_at p) (heard m before p) left (is_heard p) (heard_calm p left h0))
+  step_goes Delivers Damages p left h =
+      heard_goes p (heard m before p) left (heard_stays p) _
+      (missed (out_at p) (heard m before p) left (unasked _ (left + 1) (heard_calm p (left + 1) h)))
+  step_goes Delivers Loses p left h =
+      heard_goes p (heard m before p) left (heard_stays p) _
+      (missed (out_at p) (heard m before p) left (unasked _ (left + 1) (heard_calm p (left + 1) h)))
+  step_goes Damages Delivers p left h = garbled_goes Delivers p left h
+  step_goes Damages Damages p left h =
+      garbled_goes Damages p left (weaker p (left + 1) (subst (λ l. Calm l p) (omega arith) h))
+  step_goes Damages Loses p left h =
+      garbled_goes Loses p left (weaker p (left + 1) (subst (λ l. Calm l p) (omega arith) h))
+  step_goes Loses Delivers p left h = missed (out_at p) p left h
+  step_goes Loses Damages p left h =
+      missed (out_at p) p left (weaker p (left + 1) (subst (λ l. Calm l p) (omega arith) h))
+  step_goes Loses Loses p left h =
+      missed (out_at p) p left (weaker p (left + 1) (subst (λ l. Calm l p) (omega arith) h))
+
+  -- every world
+
+  numbers_are : (p : Place) → let t = (world_of m before p).terminal in pair t.number t.due ≡ numbers p
+  numbers_are (Opens k rest tries extensions asks) = refl
+  numbers_are (Behind k collected rest answering tries extensions asks) = refl
+  numbers_are (Taken k collected b bytes tries extensions) = refl
+  numbers_are (Waits k rest n size granted tries extensions) = refl
+  numbers_are (Grows k rest size granted tries extensions) = refl
+  numbers_are (Answering k rest tries extensions) = refl
+  numbers_are (Between k got b bytes tries extensions) = refl
+  numbers_are (Repeating k got rest tries extensions) = refl
+  numbers_are (Given_up w cause) = refl
+  numbers_are (Finished w) = refl
 
   abbrev pub IsCalm : ℕ → World → Type 0
-  IsCalm left w = (place : Place) × (w ≡ world_of place) × Calm left place
+  IsCalm left w = (p : Place) × (w ≡ world_of m before p) × Calm left p
 
-  abbrev StaysAt : Bool → Bool → World → Type 0
-  StaysAt number due w = (w.terminal.number ≡ number) × (w.terminal.due ≡ due)
+  abbrev GoesOn : ℕ → World → World → Type 0
+  GoesOn left old new =
+      (Stays old.terminal new.terminal × IsCalm left new) ⊎ ((Stays old.terminal new.terminal → ⊥) × IsCalm f new)
 
-  -- no step forward, and so many bad blocks are still borne; or a step forward, and all are
-  abbrev pub Goes : ℕ → Bool → Bool → World → Type 0
-  Goes rest number due w = (StaysAt number due w × IsCalm rest w) ⊎
-      ((StaysAt number due w → ⊥) × IsCalm f w)
+  goes_at : (x : Fates) (left : ℕ) (p : Place) → Calm (left + bad x) p
+      → GoesOn left (world_of m before p) (exchange m x (world_of m before p))
+  goes_at x left p h =
+      let q : Place = step m before x.down x.up p in
+      let e : exchange m x (world_of m before p) ≡ world_of m before q = is_step m before x.down x.up p in
+      subst (λ v. GoesOn left (world_of m before p) v) (sym e)
+      (elim (step_goes x.down x.up p left h) [
+        | inl g ↦
+            let same = numbers_are q ∙ g.0 ∙ sym (numbers_are p) in
+            inl ((ap (λ n. n.0) same, ap (λ n. n.1) same), (q, refl, g.1))
+        | inr g ↦
+            inr (λ s. g.0 (sym (numbers_are q) ∙ both s.0 s.1 ∙ numbers_are p), (q, refl, g.1))
+      ])
 
-  afresh : (limits : Limits) → Enough m f limits → Quiet f limits.tries (2 * f) limits
-  afresh limits e = record { enough_tries = e.tries; left_le = omega arith; enough = e }
-
-  -- the terminal spends a try
-
-  spent_behind : (k : Kept) (collected : List ℕ) (others : List Field) (tries : ℕ)
-      (now asks : Bool) (rest : ℕ)
-      → 2 * rest + one_if asks + 1 ≤ tries → rest ≤ f → Enough m f k.limits
-      → Goes rest k.number k.due (settled (world k
-      (spend tries (terminal_at k others [] tries k.limits.extensions Sending (out_of now))
-      (out_of asks))
-      (card_at k collected [] k.number k.due None)))
-  spent_behind k collected others zero now asks rest t b e = absurd (omega (arith, t))
-  spent_behind k collected others (suc n) now asks rest t b e =
-      inl (
-        (refl, refl),
-        (
-          Behind k collected others n k.limits.extensions asks,
-          refl,
-          (record { enough_tries = omega (arith, t); left_le = b; enough = e }, refl),
-        ),
-      )
-
-  spent_taken : (k : Kept) (collected : List ℕ) (g : Field) (gs : List Field) (tries : ℕ)
-      (out : Out) (rest : ℕ)
-      → 2 * rest + 1 ≤ tries → rest ≤ f → Enough m f k.limits
-      → Goes rest k.number k.due (settled (world k
-      (spend tries (terminal_at k (g ∷ gs) [] tries k.limits.extensions Sending out) Asks)
-      (card_at k collected [] (other k.number) k.due None)))
-  spent_taken k collected g gs zero out rest t b e = absurd (omega (arith, t))
-  spent_taken k collected g gs (suc n) out rest t b e =
-      inl (
-        (refl, refl),
-        (
-          Taken k collected g gs n k.limits.extensions,
-          refl,
-          (record { enough_tries = omega (arith, t); left_le = b; enough = e }, refl),
-        ),
-      )
-
-  spent_waits : (k : Kept) (fields : List Field) (tries extensions : ℕ) (out : Out) (n rest : ℕ)
-      → 2 * rest + 1 ≤ tries → n + rest + 1 ≤ extensions → rest ≤ f → Enough m f k.limits
-      → Goes rest k.number k.due (settled (world k
-      (spend tries (terminal_at k [] [] tries extensions Sending out) Asks)
-      (card_at k [] fields (other k.number) k.due (Some n))))
-  spent_waits k fields zero extensions out n rest t x b e = absurd (omega (arith, t))
-  spent_waits k fields (suc s) extensions out n rest t x b e =
-      inl (
-        (refl, refl),
-        (
-          Waits k fields s extensions Asks n,
-          refl,
-          (record { enough_tries = omega (arith, t); left_le = b; enough = e }, x),
-        ),
-      )
-
-  spent_answering : (k : Kept) (fields : List Field) (tries extensions : ℕ) (out : Out) (rest : ℕ)
-      → 2 * rest + 1 ≤ tries → rest ≤ f → Enough m f k.limits
-      → Goes rest k.number k.due (settled (world k
-      (spend tries (terminal_at k [] [] tries extensions Sending out) Asks)
-      (card_at k [] fields (other k.number) (other k.due) None)))
-  spent_answering k fields zero extensions out rest t b e = absurd (omega (arith, t))
-  spent_answering k fields (suc n) extensions out rest t b e =
-      inl (
-        (refl, refl),
-        (
-          Answering k fields n extensions,
-          refl,
-          record { enough_tries = omega (arith, t); left_le = b; enough = e },
-        ),
-      )
-
-  spent_between : (k : Kept) (got : List ℕ) (g : Field) (gs : List Field)
-      (tries extensions rest : ℕ)
-      → 2 * rest + 1 ≤ tries → rest ≤ f → Enough m f k.limits
-      → Goes rest k.number k.due (settled (world k
-      (spend tries (terminal_at k [] got tries extensions Receiving Asks) Asks)
-      (card_at k [] (g ∷ gs) k.number k.due None)))
-  spent_between k got g gs zero extensions rest t b e = absurd (omega (arith, t))
-  spent_between k got g gs (suc n) extensions rest t b e =
-      inl (
-        (refl, refl),
-        (
-          Between k got g gs n extensions,
-          refl,
-          record { enough_tries = omega (arith, t); left_le = b; enough = e },
-        ),
-      )
-
-  spent_repeating : (k : Kept) (got : List ℕ) (fields : List Field) (tries extensions rest : ℕ)
-      → 2 * rest + 1 ≤ tries → rest ≤ f → Enough m f k.limits
-      → Goes rest k.number k.due (settled (world k
-      (spend tries (terminal_at k [] got tries extensions Receiving Asks) Asks)
-      (card_at k [] fields k.number (other k.due) None)))
-  spent_repeating k got fields zero extensions rest t b e = absurd (omega (arith, t))
-  spent_repeating k got fields (suc n) extensions rest t b e =
-      inl (
-        (refl, refl),
-        (
-          Repeating k got fields n extensions,
-          refl,
-          record { enough_tries = omega (arith, t); left_le = b; enough = e },
-        ),
-      )
-
-  -- what the card has sent comes, or does not
-
-  asked_behind : (k : Kept) (collected : List ℕ) (others : List Field) (tries : ℕ) (now : Bool)
-      (up : Fate) (rest : ℕ)
-      → 2 * rest + 1 + bad_of up ≤ tries → rest ≤ f → Enough m f k.limits
-      → Goes rest k.number k.due (settled (world k
-      (takes (terminal_at k others [] tries k.limits.extensions Sending (out_of now))
-      (arrives up (Some (R k.number))))
-      (card_at k collected [] k.number k.due None)))
-  asked_behind k collected others tries now Delivers rest t b e =
-      rw (same_self k.number) (spent_behind k collected others tries now false rest
-      (omega (arith, t)) b e)
-  asked_behind k collected others tries now Damages rest t b e = spent_behind k collected others
-      tries now true rest (omega (arith, t)) b e
-  asked_behind k collected others tries now Loses rest t b e = spent_behind k collected others
-      tries now true rest (omega (arith, t)) b e
-
-  acknowledges : (k : Kept) (collected : List ℕ) (g : Field) (gs : List Field) (tries : ℕ)
-      (out : Out) (up : Fate) (rest : ℕ)
-      → 2 * rest + bad_of up ≤ tries → rest ≤ f → Enough m f k.limits
-      → Goes rest k.number k.due (settled (world k
-      (takes (terminal_at k (g ∷ gs) [] tries k.limits.extensions Sending out)
-      (arrives up (Some (R (other k.number)))))
-      (card_at k collected [] (other k.number) k.due None)))
-  acknowledges k collected g gs tries out Delivers rest t b e =
-      rw (same_other k.number) (inr (
-        λ s. other_is_not k.number s.0,
-        (
-          Behind (record k { field = g; number = other k.number }) collected gs k.limits.tries
-              k.limits.extensions false,
-          refl,
-          (
-            record { enough_tries = omega (arith, e.tries); left_le = omega arith; enough = e },
-            refl,
-          ),
-        ),
-      ))
-  acknowledges k collected g gs tries out Damages rest t b e = spent_taken k collected g gs tries
-      out rest t b e
-  acknowledges k collected g gs tries out Loses rest t b e = spent_taken k collected g gs tries
-      out rest t b e
-
-  wants_time : (k : Kept) (fields : List Field) (tries extensions : ℕ) (out : Out) (n : ℕ)
-      (up : Fate) (rest : ℕ)
-      → 2 * rest + bad_of up ≤ tries → n + rest + 1 ≤ extensions → rest ≤ f → Enough m f k.limits
-      → Goes rest k.number k.due (settled (world k
-      (takes (terminal_at k [] [] tries extensions Sending out) (arrives up (Some (WtxRequest 1))))
-      (card_at k [] fields (other k.number) k.due (Some n))))
-  wants_time k fields tries zero out n Delivers rest t x b e = absurd (omega (arith, x))
-  wants_time k fields tries (suc s) out n Delivers rest t x b e =
-      inl (
-        (refl, refl),
-        (
-          Waits k fields tries s (Grants 1) n,
-          refl,
-          (record { enough_tries = omega (arith, t); left_le = b; enough = e }, omega (arith, x)),
-        ),
-      )
-  wants_time k fields tries extensions out n Damages rest t x b e = spent_waits k fields tries
-      extensions out n rest t x b e
-  wants_time k fields tries extensions out n Loses rest t x b e = spent_waits k fields tries
-      extensions out n rest t x b e
-
-  goes_next : (before todo : List Fields) (t : Terminal) (answers : List (List ℕ)) (last : Field)
-      (ran : List (List ℕ))
-      → Enough m f t.limits
-      → IsCalm f (next_command todo (record {
-        terminal = record t { phase = Over };
-        card = record {
-          due = t.number;
-          next = t.due;
-          collected = [];
-          field = last;
-          rest = [];
-          waits = None;
-          ran = ran;
-        };
-        todo = before;
-        answers = answers;
-      }))
-  goes_next before [] t answers last ran e = (
-    Finished (record {
-      limits = t.limits;
-      todo = [];
-      answers = answers;
-      field = t.field;
-      number = t.number;
-      due = t.due;
-      last = last;
-      ran = ran;
-    }) t _,
-    refl,
-    tt,
-  )
-  goes_next before (c ∷ cs) t answers last ran e = (
-    Behind (record {
-      limits = t.limits;
-      todo = cs;
-      answers = answers;
-      field = c.first;
-      number = t.number;
-      due = t.due;
-      last = last;
-      ran = ran;
-    }) [] c.others t.limits.tries t.limits.extensions false,
-    refl,
-    (record { enough_tries = omega (arith, e.tries); left_le = omega arith; enough = e }, refl),
-  )
-
-  -- the next command leaves N(R)
-  next_due : (todo : List Fields) (w : World) → (next_command todo w).terminal.due ≡ w.terminal.due
-  next_due [] w = refl
-  next_due (c ∷ cs) w = refl
-
-  first_comes : (k : Kept) (fields : List Field) (tries extensions : ℕ) (out : Out) (up : Fate)
-      (rest : ℕ)
-      → 2 * rest + bad_of up ≤ tries → rest ≤ f → Enough m f k.limits
-      → Goes rest k.number k.due (settled (world k
-      (takes (terminal_at k [] [] tries extensions Sending out)
-      (arrives up (Some (I k.due (more fields) k.last))))
-      (card_at k [] fields (other k.number) (other k.due) None)))
-  first_comes k [] tries extensions out Delivers rest t b e =
-      rw (same_self k.due) (inr (
-        λ s. other_is_not k.due (sym (next_due k.todo _) ∙ s.1),
-        goes_next k.todo k.todo
-            (terminal_at (record k { number = other k.number; due = other k.due }) [] k.last
-            tries extensions Over out)
-            (k.answers ++ k.last ∷ []) k.last k.ran e,
-      ))
-  first_comes k (g ∷ gs) tries extensions out Delivers rest t b e =
-      rw (same_self k.due) (inr (
-        λ s. other_is_not k.due s.1,
-        (
-          Between (record k { number = other k.number; due = other k.due }) k.last g gs
-              k.limits.tries extensions,
-          refl,
-          afresh k.limits e,
-        ),
-      ))
-  first_comes k fields tries extensions out Damages rest t b e = spent_answering k fields tries
-      extensions out rest t b e
-  first_comes k fields tries extensions out Loses rest t b e = spent_answering k fields tries
-      extensions out rest t b e
-
-  next_comes : (k : Kept) (got : List ℕ) (fields : List Field) (tries extensions : ℕ) (up : Fate)
-      (rest : ℕ)
-      → 2 * rest + bad_of up ≤ tries → rest ≤ f → Enough m f k.limits
-      → Goes rest k.number k.due (settled (world k
-      (takes (terminal_at k [] got tries extensions Receiving Asks)
-      (arrives up (Some (I k.due (more fields) k.last))))
-      (card_at k [] fields k.number (other k.due) None)))
-  next_comes k got [] tries extensions Delivers rest t b e =
-      rw (same_self k.due) (inr (
-        λ s. other_is_not k.due (sym (next_due k.todo _) ∙ s.1),
-        goes_next k.todo k.todo
-            (terminal_at (record k { due = other k.due }) [] (got ++ k.last) tries extensions
-            Over Asks)
-            (k.answers ++ (got ++ k.last) ∷ []) k.last k.ran e,
-      ))
-  next_comes k got (g ∷ gs) tries extensions Delivers rest t b e =
-      rw (same_self k.due) (inr (
-        λ s. other_is_not k.due s.1,
-        (
-          Between (record k { due = other k.due }) (got ++ k.last) g gs k.limits.tries extensions,
-          refl,
-          afresh k.limits e,
-        ),
-      ))
-  next_comes k got fields tries extensions Damages rest t b e = spent_repeating k got fields
-      tries extensions rest t b e
-  next_comes k got fields tries extensions Loses rest t b e = spent_repeating k got fields tries
-      extensions rest t b e
-
-  answers_now : (count : ℕ) (k : Kept) (fields : List Field) (tries extensions : ℕ) (out : Out)
-      (waits : Option ℕ) (up : Fate) (rest : ℕ)
-      → 2 * rest + bad_of up ≤ tries → count + rest ≤ extensions → rest ≤ f → Enough m f k.limits
-      → let t = asks_for_time count (card_at k [] fields (other k.number) k.due waits) in
-      Goes rest k.number k.due (settled (world k
-      (takes (terminal_at k [] [] tries extensions Sending out) (arrives up t.block))
-      (t.card)))
-  answers_now zero k fields tries extensions out waits up rest t x b e = first_comes k fields
-      tries extensions out up rest t b e
-  answers_now (suc n) k fields tries extensions out waits up rest t x b e =
-      wants_time k fields tries extensions out n up rest t (omega (arith, x)) b e
-
-  -- a step from each place
-
-  abbrev Afterwards : Fate → Fate → ℕ → Place → Type 0
-  Afterwards down up left place =
-      Goes (left - (bad_of down + bad_of up)) (world_of place).terminal.number
-      (world_of place).terminal.due
-      (exchange m (record { down = down; up = up }) (world_of place))
-
-  from_behind : (k : Kept) (collected : List ℕ) (others : List Field) (tries : ℕ) (asks : Bool)
-      (down up : Fate) (left : ℕ)
-      → bad_of down + bad_of up ≤ left → 2 * left + one_if asks ≤ tries → left ≤ f → Enough m f
-      k.limits
-      → Afterwards down up left (Behind k collected others tries k.limits.extensions asks)
-  from_behind k collected others tries true Delivers up left le t b e =
-      rw (same_self k.due) (asked_behind k collected others tries true up _
-      (omega (arith, t, le)) (omega (arith, b)) e)
-  from_behind k collected others tries true Damages up left le t b e =
-      asked_behind k collected others tries true up _ (omega (arith, t, le)) (omega (arith, b)) e
-  from_behind k collected others tries true Loses up left le t b e =
-      spent_behind k collected others tries true true _ (omega (arith, t, le)) (omega (arith, b)) e
-  from_behind k collected [] tries false Delivers up left le t b e =
-      let ran = k.ran ++ (collected ++ k.field) ∷ [] in
-      let most = e.extensions ran in
-      rw (same_self k.number) (
-      answers_now (m.waits ran) (record k { ran = ran; last = (m.does ran).first })
-      (m.does ran).others tries k.limits.extensions
-      Own None up _ (omega (arith, t, le)) (omega (arith, most, b)) (omega (arith, b)) e
-      )
-  from_behind k collected (g ∷ gs) tries false Delivers up left le t b e =
-      rw (same_self k.number) (
-      acknowledges k (collected ++ k.field) g gs tries Own up _ (omega (arith, t, le))
-      (omega (arith, b)) e
-      )
-  from_behind k collected others tries false Damages up left le t b e =
-      asked_behind k collected others tries false up _ (omega (arith, t, le)) (omega (arith, b)) e
-  from_behind k collected others tries false Loses up left le t b e =
-      spent_behind k collected others tries false true _ (omega (arith, t, le)) (omega (arith, b)) e
-
-  from_taken : (k : Kept) (collected : List ℕ) (g : Field) (gs : List Field) (tries : ℕ)
-      (down up : Fate) (left : ℕ)
-      → bad_of down + bad_of up ≤ left → 2 * left ≤ tries → left ≤ f → Enough m f k.limits
-      → Afterwards down up left (Taken k collected g gs tries k.limits.extensions)
-  from_taken k collected g gs tries Delivers up left le t b e =
-      rw (same_self k.due) (acknowledges k collected g gs tries Asks up _ (omega (arith, t, le))
-      (omega (arith, b)) e)
-  from_taken k collected g gs tries Damages up left le t b e =
-      acknowledges k collected g gs tries Asks up _ (omega (arith, t, le)) (omega (arith, b)) e
-  from_taken k collected g gs tries Loses up left le t b e =
-      spent_taken k collected g gs tries Asks _ (omega (arith, t, le)) (omega (arith, b)) e
-
-  -- S(WTX request) goes out again
-  requests : (k : Kept) (fields : List Field) (tries extensions : ℕ) (out : Out) (n : ℕ)
-      (up : Fate) (left less : ℕ)
-      → less + bad_of up ≤ left → 2 * left ≤ tries → n + left + 1 ≤ extensions + less → left ≤ f
-      → Enough m f k.limits
-      → Goes (left - (less + bad_of up)) k.number k.due (settled (world k
-      (takes (terminal_at k [] [] tries extensions Sending out) (arrives up (Some (WtxRequest 1))))
-      (card_at k [] fields (other k.number) k.due (Some n))))
-  requests k fields tries extensions out n up left less le t x b e =
-      wants_time k fields tries extensions out n up _ (omega (arith, t, le))
-      (omega (arith, x, le)) (omega (arith, b)) e
-
-  from_waits : (k : Kept) (fields : List Field) (tries extensions : ℕ) (out : Out) (n : ℕ)
-      (down up : Fate) (left : ℕ)
-      → bad_of down + bad_of up ≤ left → 2 * left ≤ tries → n + left + still out ≤ extensions →
-      left ≤ f → Enough m f k.limits
-      → Afterwards down up left (Waits k fields tries extensions out n)
-  from_waits k fields tries extensions Own n Delivers up left le t x b e =
-      requests k fields tries extensions Own n up left 0 le t (omega (arith, x)) b e
-  from_waits k fields tries extensions Asks n Delivers up left le t x b e =
-      requests k fields tries extensions Asks n up left 0 le t (omega (arith, x)) b e
-  from_waits k fields tries extensions (Grants times) n Delivers up left le t x b e =
-      answers_now n k fields tries extensions (Grants times) (Some n) up _ (omega (arith, t, le))
-      (omega (arith, x))
-      (omega (arith, b)) e
-  from_waits k fields tries extensions Own n Damages up left le t x b e =
-      requests k fields tries extensions Own n up left 1 le t (omega (arith, x)) b e
-  from_waits k fields tries extensions Asks n Damages up left le t x b e =
-      requests k fields tries extensions Asks n up left 1 le t (omega (arith, x)) b e
-  from_waits k fields tries extensions (Grants times) n Damages up left le t x b e =
-      requests k fields tries extensions (Grants times) n up left 1 le t (omega (arith, x)) b e
-  from_waits k fields tries extensions Own n Loses up left le t x b e =
-      spent_waits k fields tries extensions Own n _ (omega (arith, t, le)) (omega (arith, x, le))
-      (omega (arith, b)) e
-  from_waits k fields tries extensions Asks n Loses up left le t x b e =
-      spent_waits k fields tries extensions Asks n _ (omega (arith, t, le))
-      (omega (arith, x, le)) (omega (arith, b)) e
-  from_waits k fields tries extensions (Grants times) n Loses up left le t x b e =
-      spent_waits k fields tries extensions (Grants times) n _ (omega (arith, t, le))
-      (omega (arith, x, le)) (omega (arith, b)) e
-
-  from_answering : (k : Kept) (fields : List Field) (tries extensions : ℕ) (down up : Fate)
-      (left : ℕ)
-      → bad_of down + bad_of up ≤ left → 2 * left ≤ tries → left ≤ f → Enough m f k.limits
-      → Afterwards down up left (Answering k fields tries extensions)
-  from_answering k fields tries extensions Delivers up left le t b e =
-      rw (same_other_2 k.due) (rw (other_other k.due) (
-      first_comes k fields tries extensions Asks up _ (omega (arith, t, le)) (omega (arith, b)) e))
-  from_answering k fields tries extensions Damages Delivers left le t b e =
-      rw (same_other k.number) (spent_answering k fields tries extensions Asks _
-      (omega (arith, t, le)) (omega (arith, b)) e)
-  from_answering k fields tries extensions Damages Damages left le t b e =
-      spent_answering k fields tries extensions Asks _ (omega (arith, t, le)) (omega (arith, b)) e
-  from_answering k fields tries extensions Damages Loses left le t b e =
-      spent_answering k fields tries extensions Asks _ (omega (arith, t, le)) (omega (arith, b)) e
-  from_answering k fields tries extensions Loses up left le t b e =
-      spent_answering k fields tries extensions Asks _ (omega (arith, t, le)) (omega (arith, b)) e
-
-  from_between : (k : Kept) (got : List ℕ) (g : Field) (gs : List Field) (tries extensions : ℕ)
-      (down up : Fate) (left : ℕ)
-      → bad_of down + bad_of up ≤ left → 2 * left ≤ tries → left ≤ f → Enough m f k.limits
-      → Afterwards down up left (Between k got g gs tries extensions)
-  from_between k got g gs tries extensions Delivers up left le t b e =
-      rw (same_self k.due) (
-      next_comes (record k { last = g }) got gs tries extensions up _ (omega (arith, t, le))
-      (omega (arith, b)) e)
-  from_between k got g gs tries extensions Damages Delivers left le t b e =
-      spent_between k got g gs tries extensions _ (omega (arith, t, le)) (omega (arith, b)) e
-  from_between k got g gs tries extensions Damages Damages left le t b e =
-      spent_between k got g gs tries extensions _ (omega (arith, t, le)) (omega (arith, b)) e
-  from_between k got g gs tries extensions Damages Loses left le t b e =
-      spent_between k got g gs tries extensions _ (omega (arith, t, le)) (omega (arith, b)) e
-  from_between k got g gs tries extensions Loses up left le t b e =
-      spent_between k got g gs tries extensions _ (omega (arith, t, le)) (omega (arith, b)) e
-
-  from_repeating : (k : Kept) (got : List ℕ) (fields : List Field) (tries extensions : ℕ)
-      (down up : Fate) (left : ℕ)
-      → bad_of down + bad_of up ≤ left → 2 * left ≤ tries → left ≤ f → Enough m f k.limits
-      → Afterwards down up left (Repeating k got fields tries extensions)
-  from_repeating k got fields tries extensions Delivers up left le t b e =
-      rw (same_other_2 k.due) (rw (other_other k.due) (
-      next_comes k got fields tries extensions up _ (omega (arith, t, le)) (omega (arith, b)) e))
-  from_repeating k got fields tries extensions Damages Delivers left le t b e =
-      spent_repeating k got fields tries extensions _ (omega (arith, t, le)) (omega (arith, b)) e
-  from_repeating k got fields tries extensions Damages Damages left le t b e =
-      spent_repeating k got fields tries extensions _ (omega (arith, t, le)) (omega (arith, b)) e
-  from_repeating k got fields tries extensions Damages Loses left le t b e =
-      spent_repeating k got fields tries extensions _ (omega (arith, t, le)) (omega (arith, b)) e
-  from_repeating k got fields tries extensions Loses up left le t b e =
-      spent_repeating k got fields tries extensions _ (omega (arith, t, le)) (omega (arith, b)) e
-
-  from : (place : Place) (down up : Fate) (left : ℕ) → bad_of down + bad_of up ≤ left → Calm left
-      place → Afterwards down up left place
-  from (Behind k collected others tries extensions asks) down up left le h =
-      let q = h.0 in
-      subst (λ x. Afterwards down up left (Behind k collected others tries x asks)) (sym h.1)
-      (from_behind k collected others tries asks down up left le q.enough_tries q.left_le q.enough)
-  from (Taken k collected g gs tries extensions) down up left le h =
-      let q = h.0 in
-      subst (λ x. Afterwards down up left (Taken k collected g gs tries x)) (sym h.1)
-      (from_taken k collected g gs tries down up left le q.enough_tries q.left_le q.enough)
-  from (Waits k fields tries extensions out n) down up left le h =
-      from_waits k fields tries extensions out n down up left le h.0.enough_tries h.1 h.0.left_le
-      h.0.enough
-  from (Answering k fields tries extensions) down up left le h =
-      from_answering k fields tries extensions down up left le h.enough_tries h.left_le h.enough
-  from (Between k got g gs tries extensions) down up left le h =
-      from_between k got g gs tries extensions down up left le h.enough_tries h.left_le h.enough
-  from (Repeating k got fields tries extensions) down up left le h =
-      from_repeating k got fields tries extensions down up left le h.enough_tries h.left_le h.enough
-  from (Given_up k t c) down up left le h = absurd h
-  from (Finished k t c) down up left le h = inl ((refl, refl), (Finished k t c, refl, tt))
-
-  one_more : (x : Fates) (left : ℕ) (w : World) → bad x ≤ left → IsCalm left w
-      → Goes (left - bad x) w.terminal.number w.terminal.due (exchange m x w)
+  one_more : (x : Fates) (left : ℕ) (w : World) → bad x ≤ left → IsCalm left w → GoesOn (left - bad x) w (exchange m x w)
   one_more x left w le s =
-      subst (λ v. Goes (left - bad x) v.terminal.number v.terminal.due (exchange m x v)) (sym s.1)
-      (from s.0 x.down x.up left le s.2)
+      subst (λ v. GoesOn (left - bad x) v (exchange m x v)) (sym s.1)
+      (goes_at x (left - bad x) s.0 (subst (λ l. Calm l s.0) (omega (arith, le)) s.2))
 
-  not_given_up : (place : Place) (left : ℕ) → Calm left place → (world_of place).terminal.phase ≡
-      GivenUp → ⊥
-  not_given_up (Behind k collected others tries extensions asks) left h e = absurd (cc)
-  not_given_up (Taken k collected g gs tries extensions) left h e = absurd (cc)
-  not_given_up (Waits k fields tries extensions out n) left h e = absurd (cc)
-  not_given_up (Answering k fields tries extensions) left h e = absurd (cc)
-  not_given_up (Between k got g gs tries extensions) left h e = absurd (cc)
-  not_given_up (Repeating k got fields tries extensions) left h e = absurd (cc)
-  not_given_up (Given_up k t c) left h e = h
-  not_given_up (Finished k t c) left h e = absurd (cc)
+  not_given_up : (p : Place) (left : ℕ) (cause : Cause) → Calm left p → (world_of m before p).terminal.phase ≡ GivenUp cause → ⊥
+  not_given_up (Opens k rest tries extensions asks) left cause h e = absurd (cc)
+  not_given_up (Behind k collected rest answering tries extensions asks) left cause h e = absurd (cc)
+  not_given_up (Taken k collected b bytes tries extensions) left cause h e = absurd (cc)
+  not_given_up (Waits k rest n size granted tries extensions) left cause h e = absurd (cc)
+  not_given_up (Grows k rest size granted tries extensions) left cause h e = absurd (cc)
+  not_given_up (Answering k rest tries extensions) left cause h e = absurd (cc)
+  not_given_up (Between k got b bytes tries extensions) left cause h e = absurd (cc)
+  not_given_up (Repeating k got rest tries extensions) left cause h e = absurd (cc)
+  not_given_up (Given_up w c) left cause h e = h
+  not_given_up (Finished w) left cause h e = absurd (cc)
 
-  stays_calm : (fates : List Fates) (left : ℕ) (w : World) → IsCalm left w → IsMild m f left w fates
-      → (run m fates w).terminal.phase ≡ GivenUp → ⊥
-  stays_calm [] left w s mild = λ e. not_given_up s.0 left s.2
-      (ap (λ v. v.terminal.phase) (sym s.1) ∙ e)
-  stays_calm (x ∷ xs) left w s mild =
+  stays_calm : (fates : List Fates) (left : ℕ) (w : World) (cause : Cause) → IsCalm left w → IsMild m f left w fates
+      → (run m fates w).terminal.phase ≡ GivenUp cause → ⊥
+  stays_calm [] left w cause s mild =
+      λ e. not_given_up s.0 left cause s.2 (ap (λ v. v.terminal.phase) (sym s.1) ∙ e)
+  stays_calm (x ∷ xs) left w cause s mild =
       elim (one_more x left w mild.0 s) [
-        | inl g ↦ stays_calm xs (left - bad x) (exchange m x w) g.1 (mild.1 g.0)
-        | inr g ↦ stays_calm xs f (exchange m x w) g.1 (mild.2 g.0)
+        | inl g ↦ stays_calm xs (left - bad x) (exchange m x w) cause g.1 (mild.1 g.0)
+        | inr g ↦ stays_calm xs f (exchange m x w) cause g.1 (mild.2 g.0)
       ]
 
-  pub starts_calm : (limits : Limits) (commands : List Fields) → Enough m f limits → IsCalm f
-      (start limits commands)
-  starts_calm limits commands e =
-      goes_next [] commands (record {
-        limits = limits;
-        field = [];
-        others = [];
-        got = [];
-        number = false;
-        due = false;
-        phase = Over;
-        out = Own;
-        tries = limits.tries;
-        extensions = limits.extensions;
-      }) [] [] [] e
+  first_calm : (settings : Settings) (commands : List (List ℕ)) → Enough m f settings → Calm f (first before settings commands)
+  first_calm settings [] e = tt
+  first_calm settings (c ∷ cs) e = (afresh settings e, omega arith)
 
-pub never_given_up : (m : Meaning) (f : ℕ) (limits : Limits) (commands : List Fields)
-    (fates : List Fates)
-    → Enough m f limits → IsMild m f f (start limits commands) fates
-    → (run m fates (start limits commands)).terminal.phase ≢ GivenUp
-never_given_up m f limits commands fates e mild =
-    stays_calm m f fates f (start limits commands) (starts_calm m f limits commands e) mild
+pub never_given_up : (m : Meaning) (f : ℕ) (settings : Settings) (before commands : List (List ℕ)) (fates : List Fates)
+    (cause : Cause) → Enough m f settings → IsMild m f f (start settings before commands) fates
+    → (run m fates (start settings before commands)).terminal.phase ≢ GivenUp cause
+never_given_up m f settings before commands fates cause e mild =
+    stays_calm m before f fates f (start settings before commands) cause
+    (first before settings commands, first_is m before settings commands, first_calm m before f settings commands e) mild

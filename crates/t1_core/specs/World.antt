@@ -1,40 +1,41 @@
--- Both ends and the line between them, over every schedule of losses and damages.
-use Rattle.std.specs.Prelude.{◌≡◌, ◌≢◌, ℕ, ◌+◌, ◌≤◌, true, List, [], ◌∷◌, ◌++◌, length, Option, Some, None, map}
+-- Both ends and the line between them, for every schedule of losses and damages.
+use Rattle.std.specs.Prelude.{◌≡◌, ℕ, ◌+◌, ◌*◌, ◌≤◌, true, List, [], ◌∷◌, ◌++◌, length, Option, Some, None}
 use Rattle.t1_core.specs.declared.line.Fate.{Fate}
 use Rattle.t1_core.specs.declared.line.Fate.TheVariants.{Delivers, Damages, Loses}
-use Rattle.t1_core.specs.Block.{Fields, Block, bytes_of, more}
-use Rattle.t1_core.specs.declared.terminal.Phase.{Phase}
-use Rattle.t1_core.specs.declared.terminal.Phase.TheVariants.{Sending, Receiving, Over, GivenUp}
-use Rattle.t1_core.specs.declared.terminal.Limits.{Limits}
 use Rattle.t1_core.specs.declared.line.Fates.{Fates}
-use Rattle.t1_core.specs.TerminalSide.{Terminal, fresh, begins, sends, takes}
-use Rattle.t1_core.specs.CardOfT1.{Card, fresh_card, Meaning, card_takes}
+use Rattle.t1_core.specs.declared.settings.Settings.{Settings}
+use Rattle.t1_core.specs.declared.terminal.Cause.{Cause}
+use Rattle.t1_core.specs.declared.terminal.Phase.{Phase}
+use Rattle.t1_core.specs.declared.terminal.Phase.TheVariants.{Over, GivenUp}
+use Rattle.t1_core.specs.declared.terminal.Outcome.{Outcome}
+use Rattle.t1_core.specs.declared.terminal.Outcome.TheVariants.{NotCarriedOut, InPart}
+use Rattle.t1_core.specs.Block.{Block}
+use Rattle.t1_core.specs.CardSide.{Card, card_after, Meaning, card_meets}
+use Rattle.t1_core.specs.TerminalSide.{Terminal, fresh, begins, sends, takes, outcome_of}
 
 pub record World : Type 0 where
   pub terminal : Terminal
   pub card : Card
-  pub todo : List Fields  -- commands behind the one under way
+  pub todo : List (List ℕ)  -- the commands behind the one in progress
   pub answers : List (List ℕ)
 
+-- the block that the terminal takes
 abbrev pub came : Fate → Block → Option Block
 came Delivers b = Some b
-came Damages b = None
-came Loses b = None
+came _ b = None
 
 abbrev pub arrives : Fate → Option Block → Option Block
 arrives fate None = None
 arrives fate (Some b) = came fate b
 
-abbrev pub next_command : List Fields → World → World
+abbrev pub next_command : List (List ℕ) → World → World
 next_command [] w = record w { todo = [] }
 next_command (c ∷ cs) w = record w { terminal = begins c w.terminal; todo = cs }
 
--- an answered command is followed by the next one
+-- the next command follows an answer
 abbrev pub settle : Phase → World → World
 settle Over w = next_command w.todo (record w { answers = w.answers ++ w.terminal.got ∷ [] })
-settle Sending w = w
-settle Receiving w = w
-settle GivenUp w = w
+settle _ w = w
 
 abbrev pub settled : World → World
 settled w = settle w.terminal.phase w
@@ -42,7 +43,7 @@ settled w = settle w.terminal.phase w
 abbrev pub exchanged : Meaning → Fates → World → Option Block → World
 exchanged m fates w None = w
 exchanged m fates w (Some b) =
-    let t = card_takes m fates.down b w.card in
+    let t = card_meets m fates.down b w.card in
     settled (record w { terminal = takes w.terminal (arrives fates.up t.block); card = t.card })
 
 -- a block of the terminal, and the card's answer
@@ -53,37 +54,56 @@ abbrev pub run : Meaning → List Fates → World → World
 run m [] w = w
 run m (f ∷ fs) w = run m fs (exchange m f w)
 
-abbrev pub start : Limits → List Fields → World
-start limits commands =
+-- both ends after a reset, with commands to send to a card that has carried out others before
+abbrev pub start : Settings → List (List ℕ) → List (List ℕ) → World
+start settings before commands =
     next_command commands (record {
-      terminal = fresh limits;
-      card = fresh_card;
+      terminal = fresh settings;
+      card = card_after before;
       todo = [];
       answers = [];
     })
 
 -- the card's responses to these commands, after those before
-abbrev pub responses : Meaning → List (List ℕ) → List (List ℕ) → List (List ℕ)
-responses m before [] = []
-responses m before (c ∷ cs) =
-    bytes_of (m.does (before ++ c ∷ [])) ∷ responses m (before ++ c ∷ []) cs
+abbrev pub responses : (List (List ℕ) → List ℕ) → List (List ℕ) → List (List ℕ) → List (List ℕ)
+responses does before [] = []
+responses does before (c ∷ cs) =
+    does (before ++ c ∷ []) ∷ responses does (before ++ c ∷ []) cs
 
--- the first of these
-abbrev pub IsFrontOf : {A : Type 0} → List A → List A → Type 0
-IsFrontOf {A} xs ys = (rest : List A) × (xs ++ rest ≡ ys)
+abbrev pub IsFrontOf : List (List ℕ) → List (List ℕ) → Type 0
+IsFrontOf xs ys = (rest : List (List ℕ)) × (xs ++ rest ≡ ys)
 
--- Whatever the line did: the card has carried out the first of the commands, in order and each once; the
--- answers are its responses to the first of those, and at most one has no answer. Where the terminal is done,
--- each is carried out and answered.
-pub record IsRight (m : Meaning) (commands : List Fields) (w : World) : Type 0 where
-  pub carried_out : IsFrontOf w.card.ran (map bytes_of commands)
-  pub answers : IsFrontOf w.answers (responses m [] w.card.ran)
-  pub all_but_one : length w.card.ran ≤ length w.answers + 1
-  -- where it has given up: fields of the command were still to come, so the card has not carried it out;
-  -- or a part of the response has come, so it has
-  pub not_carried_out : w.terminal.phase ≡ GivenUp → more w.terminal.others ≡ true → length
-      w.card.ran ≡ length w.answers
-  pub in_part : w.terminal.phase ≡ GivenUp → w.terminal.got ≢ [] → length w.card.ran ≡ length
-      w.answers + 1
-  pub finished : w.terminal.phase ≡ Over → (w.card.ran ≡ map bytes_of commands) ×
-      (w.answers ≡ responses m [] w.card.ran)
+-- Whatever the line did. The card has carried out the first of the commands, in order and each once.
+-- The answers are its responses to the first of those, and at most one of those has no answer.
+pub record IsRight (does : List (List ℕ) → List ℕ) (before commands ran answers : List (List ℕ)) : Type 0 where
+  pub carried_out : IsFrontOf ran commands
+  pub answered : IsFrontOf answers (responses does before ran)
+  pub all_but_one : length ran ≤ length answers + 1
+
+-- What a terminal that has given up says of the command in progress is true.
+abbrev pub IsTrue : Outcome → (ran answers : List (List ℕ)) → Type 0
+IsTrue NotCarriedOut ran answers = length ran ≡ length answers
+IsTrue InPart ran answers = length ran ≡ length answers + 1
+IsTrue _ ran answers = Unit {0}
+
+-- a world in which all of this holds
+pub record IsAtMostOnce (m : Meaning) (before commands : List (List ℕ)) (w : World) : Type 0 where
+  pub ran : List (List ℕ)
+  pub ran_is : w.card.ran ≡ before ++ ran
+  pub right : IsRight m.does before commands ran w.answers
+  pub told : (cause : Cause) → w.terminal.phase ≡ GivenUp cause
+      → IsTrue (outcome_of w.terminal) ran w.answers
+  pub finished : w.terminal.phase ≡ Over
+      → (ran ≡ commands) × (w.answers ≡ responses m.does before ran)
+
+-- How many exchanges bring all answers at most, or a fault: each block but the first of a chain
+-- carries a byte at least, and each brings a step forward that `tries` receptions may come before.
+abbrev pub most_blocks : (List (List ℕ) → List ℕ) → (before commands : List (List ℕ)) → ℕ
+most_blocks does before [] = 0
+most_blocks does before (c ∷ cs) =
+    length c + 1 + length (does (before ++ c ∷ [])) + most_blocks does (before ++ c ∷ []) cs
+
+abbrev pub most_exchanges : Settings → (List (List ℕ) → List ℕ) → (before commands : List (List ℕ)) → ℕ
+most_exchanges settings does before commands =
+    most_blocks does before commands * (settings.tries + 1) + settings.tries
+    + length commands * settings.extensions + 1

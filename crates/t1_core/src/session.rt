@@ -1,142 +1,142 @@
-//! A list of commands, over a line.
+//! A whole dialogue: a list of commands, over a line.
 
-ghost use Rattle.std.specs.Prelude.{◌≡◌, ◌+◌, ◌<◌, ◌≤◌, ℕ, List, [], ◌++◌, OnOk, IfOk, map, length};
-ghost use Rattle.t1_core.specs.TerminalView.{terminal_of};
-ghost use Rattle.t1_core.specs.CardEndView.{fields_of, meaning_of, card_with};
-ghost use Rattle.t1_core.specs.World.{IsFrontOf, next_command, exchange, run, start, responses};
-ghost use Rattle.t1_core.specs.SessionView.{to_do, world_with, answers_to};
+ghost use Rattle.std.specs.Prelude.{◌≡◌, ◌<◌, ◌++◌, ◌∷◌, [], ℕ, List, true, OnOk, IfOk, map, drop};
+ghost use Rattle.t1_core.specs.TerminalSide.{Terminal, is_ready, has_stopped, fault_of};
+ghost use Rattle.t1_core.specs.World.{World, next_command, exchange, start};
+ghost use Rattle.t1_core.specs.Conversing.{Conversed};
 
 use crate::card::{Applet, CardEnd};
-use crate::line::Fates;
+use crate::line::{Fates, Line};
 use crate::pass::pass;
-use crate::terminal::{Limits, TerminalEnd};
+use crate::settings::Settings;
+use crate::terminal::{Fault, TerminalEnd};
 use std::alloc::{AllocError, Global};
+use std::marker::Model;
 
-/// Both ends, the commands, of which so many have begun, and the answers so far.
+/// Both ends, the commands, `begun` of which were begun, and the answers so far.
 #[derive(Drop)]
-pub struct Session<'a, C: Applet> {
-    pub(crate) terminal: TerminalEnd<'a>,
-    pub(crate) card: CardEnd<C>,
-    pub(crate) commands: &'a [Vec<u8>],
-    pub(crate) begun: usize,
-    pub(crate) answers: Vec<Vec<u8>>,
+struct Session<'a, C: Applet> {
+    terminal: TerminalEnd<'a>,
+    card: CardEnd<C>,
+    commands: &'a [Vec<u8>],
+    begun: usize,
+    answers: Vec<Vec<u8>>,
+}
+
+impl<'a, C: Applet> Model for Session<'a, C> {
+    ghost use Rattle.std.specs.Prelude.{map, drop};
+    ghost use Rattle.t1_core.specs.World.{World};
+
+    ghost Value = { World };
+
+    ghost view = { λ e. record {
+      terminal = e.terminal;
+      card = e.card;
+      todo = drop e.begun (map (λ v. v.items) e.commands.now);
+      answers = map (λ v. v.items) e.answers.items;
+    } };
 }
 
 impl<'a, C: Applet> Session<'a, C> {
-    /// The next command, if there is one.
+    /// Both ends after a reset.
+    fn new(alloc: Global, applet: C, settings: Settings, commands: &'a [Vec<u8>]) -> Session<'a, C>
+        ensures { result ≡ start settings (C.ran applet) (map (λ v. v.items) commands.now) }
+    {
+        let mut session = Session {
+            terminal: TerminalEnd::new(alloc, settings),
+            card: CardEnd::new(alloc, applet),
+            commands,
+            begun: 0,
+            answers: Vec::new(alloc),
+        };
+        session.begin_next();
+        session
+    }
+
+    /// Begins the next command, if there is one.
     fn begin_next(&mut self)
-        ensures world { (world_with (terminal_of self.new.terminal)
-            (card_with self.new.card.due self.new.card.next self.new.card.collected.items
-            self.new.card.response.items self.new.card.place self.new.card.size
-            self.new.card.waits (C.ran self.new.card.applet)) self.new.terminal.size
-            self.new.begun (map (λ v. v.items) self.new.commands.now)
-            (map (λ v. v.items) self.new.answers.items)) ≡ next_command
-            (to_do self.old.terminal.size self.old.begun
-            (map (λ v. v.items) self.old.commands.now))
-            (world_with (terminal_of self.old.terminal)
-            (card_with self.old.card.due self.old.card.next self.old.card.collected.items
-            self.old.card.response.items self.old.card.place self.old.card.size
-            self.old.card.waits (C.ran self.old.card.applet)) self.old.terminal.size
-            self.old.begun (map (λ v. v.items) self.old.commands.now)
-            (map (λ v. v.items) self.old.answers.items)) }
-        ensures sizes { (self.new.terminal.size ≡ self.old.terminal.size) ×
-            (self.new.card.size ≡ self.old.card.size) ×
-            (self.new.commands.now ≡ self.old.commands.now) }
+        ensures { self.new ≡ next_command self.old.todo self.old }
     {
         let commands = self.commands;
         if self.begun < commands.len() {
             let command: &'a [u8] = &commands[self.begun];
-            self.terminal.begin(command);
+            self.terminal.load(command);
             self.begun += 1;
         }
     }
 
-    /// A block of the terminal and the card's answer, and the next command where one is answered.
-    pub fn exchange(&mut self, alloc: Global, fates: Fates) -> Result<(), AllocError>
-        ensures world { OnOk result ((world_with (terminal_of self.new.terminal)
-            (card_with self.new.card.due self.new.card.next self.new.card.collected.items
-            self.new.card.response.items self.new.card.place self.new.card.size
-            self.new.card.waits (C.ran self.new.card.applet)) self.new.terminal.size
-            self.new.begun (map (λ v. v.items) self.new.commands.now)
-            (map (λ v. v.items) self.new.answers.items)) ≡ exchange
-            (meaning_of self.old.card.size C.answer C.waits) fates
-            (world_with (terminal_of self.old.terminal)
-            (card_with self.old.card.due self.old.card.next self.old.card.collected.items
-            self.old.card.response.items self.old.card.place self.old.card.size
-            self.old.card.waits (C.ran self.old.card.applet)) self.old.terminal.size
-            self.old.begun (map (λ v. v.items) self.old.commands.now)
-            (map (λ v. v.items) self.old.answers.items))) }
-        ensures sizes { OnOk result ((self.new.terminal.size ≡ self.old.terminal.size) ×
-            (self.new.card.size ≡ self.old.card.size) ×
-            (self.new.commands.now ≡ self.old.commands.now)) }
+    /// Passes a block of the terminal and the card's answer. Behind an answer the next command
+    /// begins.
+    fn exchange(&mut self, alloc: Global, fates: Fates) -> Result<(), AllocError>
+        ensures { OnOk result (self.new
+            ≡ exchange (record { does = C.answer; asks = C.asks }) fates self.old) }
     {
-        let stood = self.terminal.is_over();
+        let stood = self.terminal.is_ready();
         pass(&mut self.terminal, &mut self.card, fates)?;
-        if !stood && self.terminal.is_over() {
-            let answer = self.terminal.answer(alloc)?;
+        if !stood && self.terminal.is_ready() {
+            let mut answer = Vec::new(alloc);
+            answer.extend_from_slice(self.terminal.response())?;
             self.answers.push(answer)?;
             self.begin_next();
         }
         Ok(())
     }
 
-    /// So many exchanges.
-    pub fn run(&mut self, alloc: Global, schedule: &[Fates]) -> Result<(), AllocError>
-        ensures world { OnOk result ((world_with (terminal_of self.new.terminal)
-            (card_with self.new.card.due self.new.card.next self.new.card.collected.items
-            self.new.card.response.items self.new.card.place self.new.card.size
-            self.new.card.waits (C.ran self.new.card.applet)) self.new.terminal.size
-            self.new.begun (map (λ v. v.items) self.new.commands.now)
-            (map (λ v. v.items) self.new.answers.items)) ≡ run
-            (meaning_of self.old.card.size C.answer C.waits) schedule.now
-            (world_with (terminal_of self.old.terminal)
-            (card_with self.old.card.due self.old.card.next self.old.card.collected.items
-            self.old.card.response.items self.old.card.place self.old.card.size
-            self.old.card.waits (C.ran self.old.card.applet)) self.old.terminal.size
-            self.old.begun (map (λ v. v.items) self.old.commands.now)
-            (map (λ v. v.items) self.old.answers.items))) }
+    fn has_stopped(&self) -> bool
+        ensures { result ≡ has_stopped self.now.terminal.phase }
     {
-        for fates in schedule {
-            self.exchange(alloc, *fates)?;
+        self.terminal.has_stopped()
+    }
+
+    fn finish(self) -> Conversation<C>
+        ensures ran { C.ran result.applet ≡ self.entry.card.ran }
+        ensures answers { map (λ v. v.items) result.answers.items ≡ self.entry.answers }
+        ensures fault { result.fault ≡ fault_of self.entry.terminal }
+    {
+        let fault = self.terminal.fault();
+        Conversation {
+            applet: self.card.into_applet(),
+            answers: self.answers,
+            fault,
         }
-        Ok(())
     }
 }
 
-/// Sends commands to a card, over a line that does what the schedule says. It hands back the answers
-/// and the card.
-pub fn converse<C: Applet + Drop>(
+/// What a dialogue leads to.
+#[derive(Drop)]
+pub struct Conversation<C> {
+    /// The card.
+    pub applet: C,
+    /// The responses, one for each of the first commands.
+    pub answers: Vec<Vec<u8>>,
+    /// Why the terminal gave up, if it did.
+    pub fault: Option<Fault>,
+}
+
+/// Sends commands to a card over a line, from a reset on, until all are answered or the terminal
+/// gives up.
+///
+/// Whatever the line damages or loses: the card carries out the first of the commands, in order and
+/// each once; each answer is its response; what a fault says of the command in progress is true.
+/// It ends. On a line that is mild enough for the settings there is no fault.
+///
+/// # Errors
+/// - `AllocError`: memory ran out; both ends are gone.
+pub fn converse<C: Applet + Drop, L: Line>(
     alloc: Global,
     applet: C,
-    limits: Limits,
-    command_size: usize,
-    response_size: usize,
+    line: &mut L,
+    settings: Settings,
     commands: &[Vec<u8>],
-    schedule: &[Fates],
-) -> Result<(Vec<Vec<u8>>, C), AllocError>
-    requires command_size { 0 < command_size }
-    requires response_size { 0 < response_size }
-    requires fresh { C.ran applet ≡ [] }
-    // The card has carried out the first of the commands, in order, each once.
-    ensures carried_out { IfOk result (λ r. IsFrontOf (C.ran r.1)
-        (map (λ v. v.items) commands.now)) }
-    // The answers are its responses to the first of those.
-    ensures answers { IfOk result (λ r. IsFrontOf (map (λ v. v.items) r.0.items)
-        (answers_to C.answer [] (C.ran r.1))) }
-    // At most one of them has no answer.
-    ensures all_but_one { IfOk result (λ r. length (C.ran r.1) ≤ length
-        (map (λ v. v.items) r.0.items) + 1) }
+) -> Result<Conversation<C>, AllocError>
+    ensures { IfOk result (λ r. Conversed (record { does = C.answer; asks = C.asks }) settings
+        (C.ran applet) (map (λ v. v.items) commands.now) (C.ran r.applet)
+        (map (λ v. v.items) r.answers.items) r.fault (L.passed line.old) (L.passed line.new)) }
 {
-    let mut session = Session {
-        terminal: TerminalEnd::new(alloc, limits, command_size),
-        card: CardEnd::new(alloc, applet, response_size),
-        commands,
-        begun: 0,
-        answers: Vec::new(alloc),
-    };
-    session.begin_next();
-    session.run(alloc, schedule)?;
-    let answers = session.answers;
-    let card = session.card;
-    Ok((answers, card.applet))
+    let mut session = Session::new(alloc, applet, settings, commands);
+    while !session.has_stopped() {
+        let fates = line.next();
+        session.exchange(alloc, fates)?;
+    }
+    Ok(session.finish())
 }

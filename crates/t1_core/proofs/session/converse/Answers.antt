@@ -1,36 +1,26 @@
-use Rattle.std.proofs.Common.{ap, ◌∙◌, map}
-use Rattle.t1_core.proofs.SessionSteps.{conversed_from}
+use Rattle.std.proofs.Common.{sym, ◌∙◌, map, ℕ, List}
+use Rattle.t1_core.specs.CardSide.{Meaning}
+use Rattle.t1_core.proofs.SessionSteps.{led_next, fewer_left, conversed}
 use Rattle.t1_core.proofs.session.converse.Goals as goal
 
-pub returns-clause-carried_out : goal.returns-clause-carried_out
-returns-clause-carried_out g c =
-    (conversed_from c.args.limits c.args.command_size c.args.response_size c.new.result.size
-    c.begin_next.new.self.card.size
-    g.C.Applet.answer g.C.Applet.waits _ _ _ _ c.args.schedule.now _ _ c.requires.command_size
-    c.requires.response_size
-    c.new.ensures.terminal c.new-2.ensures.card c.new.ensures.size
-    (ap (λ vs. map (λ v. v.items) vs) c.new-3.ensures.items)
-    (c.begin_next.ensures.sizes.1 ∙ c.new-2.ensures.size) c.begin_next.ensures.world
-    c.in_ok-run.ensures.world).0
+pub loop-alloc-smaller : goal.loop-alloc-smaller
+loop-alloc-smaller g c =
+    fewer_left (record { does = g.C.Applet.answer; asks = g.C.Applet.asks }) c.args.settings (g.C.Applet.ran c.args.applet)
+    (map (λ v. v.items) c.args.commands.now) (g.L.Line.passed c.args.line.now) (g.L.Line.passed c.loop-alloc.line)
+    (g.L.Line.passed c.next-fates.new.self) c.next-fates.result c.loop-alloc.session c.loop-alloc.invariant
+    (sym c.has_stopped.ensures ∙ c.loop-alloc-test.true) c.next-fates.ensures
 
-pub returns-clause-answers : goal.returns-clause-answers
-returns-clause-answers g c =
-    (conversed_from c.args.limits c.args.command_size c.args.response_size c.new.result.size
-    c.begin_next.new.self.card.size
-    g.C.Applet.answer g.C.Applet.waits _ _ _ _ c.args.schedule.now _ _ c.requires.command_size
-    c.requires.response_size
-    c.new.ensures.terminal c.new-2.ensures.card c.new.ensures.size
-    (ap (λ vs. map (λ v. v.items) vs) c.new-3.ensures.items)
-    (c.begin_next.ensures.sizes.1 ∙ c.new-2.ensures.size) c.begin_next.ensures.world
-    c.in_ok-run.ensures.world).1
+pub loop-alloc-preserved : goal.loop-alloc-preserved
+loop-alloc-preserved g c =
+    led_next (record { does = g.C.Applet.answer; asks = g.C.Applet.asks }) c.args.settings (g.C.Applet.ran c.args.applet)
+    (map (λ v. v.items) c.args.commands.now) (g.L.Line.passed c.args.line.now) (g.L.Line.passed c.loop-alloc.line)
+    (g.L.Line.passed c.next-fates.new.self) c.next-fates.result c.loop-alloc.session c.exchange.new.self
+    c.loop-alloc.invariant (sym c.has_stopped.ensures ∙ c.loop-alloc-test.true) c.next-fates.ensures c.in_ok-exchange.ensures
 
-pub returns-clause-all_but_one : goal.returns-clause-all_but_one
-returns-clause-all_but_one g c =
-    (conversed_from c.args.limits c.args.command_size c.args.response_size c.new.result.size
-    c.begin_next.new.self.card.size
-    g.C.Applet.answer g.C.Applet.waits _ _ _ _ c.args.schedule.now _ _ c.requires.command_size
-    c.requires.response_size
-    c.new.ensures.terminal c.new-2.ensures.card c.new.ensures.size
-    (ap (λ vs. map (λ v. v.items) vs) c.new-3.ensures.items)
-    (c.begin_next.ensures.sizes.1 ∙ c.new-2.ensures.size) c.begin_next.ensures.world
-    c.in_ok-run.ensures.world).2
+pub returns : goal.returns
+returns g c =
+    conversed (record { does = g.C.Applet.answer; asks = g.C.Applet.asks }) c.args.settings (g.C.Applet.ran c.args.applet)
+    (map (λ v. v.items) c.args.commands.now) (g.L.Line.passed c.args.line.now) (g.L.Line.passed c.loop-alloc.line)
+    c.loop-alloc.session (g.C.Applet.ran c.finish.result.applet) (map (λ v. v.items) c.finish.result.answers.items)
+    c.finish.result.fault c.loop-alloc.invariant (sym c.has_stopped.ensures ∙ c.loop-alloc-test.false)
+    c.finish.ensures.ran c.finish.ensures.answers c.finish.ensures.fault

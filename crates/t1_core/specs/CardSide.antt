@@ -1,0 +1,174 @@
+-- The card's end. It has no clock, and answers each block with one block (ISO/IEC 7816-3, clause
+-- 11, rules of operation).
+use Rattle.std.specs.Prelude.{ℕ, zero, suc, Bool, true, false, List, [], ◌∷◌, ◌++◌, take, drop, Option, Some, None, cond}
+use Rattle.t1_core.specs.declared.card.Requests.{Requests}
+use Rattle.t1_core.specs.declared.control.Control.{Control}
+use Rattle.t1_core.specs.declared.control.Control.TheVariants.{Resynch, Ifs, Abort, Wtx}
+use Rattle.t1_core.specs.declared.line.Fate.{Fate}
+use Rattle.t1_core.specs.declared.line.Fate.TheVariants.{Delivers, Damages, Loses}
+use Rattle.t1_core.specs.Block.{Block, I, R, Request, Response, other, same, more, answers, is_size}
+
+-- What the card above the end does. After these commands, the newest last: its response to the
+-- newest, and the S(WTX request) and S(IFS request) that it makes before that response.
+pub record Meaning : Type 0 where
+  pub does : List (List ℕ) → List ℕ
+  pub asks : List (List ℕ) → Requests
+
+pub record Card : Type 0 where
+  pub due : Bool  -- N(S) of the terminal's next I-block
+  pub next : Bool  -- N(S) of its own next I-block
+  pub collected : List ℕ  -- of a command
+  pub field : List ℕ  -- of the response: the field of the newest I-block
+  pub rest : List ℕ  -- of the response: the bytes behind that field
+  pub answering : Bool  -- that I-block may be asked for again
+  pub size : ℕ  -- IFSD: the longest field that the terminal takes
+  pub left : Requests  -- requests that have no response yet; the first of them was sent
+  pub ran : List (List ℕ)  -- the commands that it has carried out
+
+-- IFSD until the terminal asks for another one (rule of the IFS)
+abbrev pub first_ifsd : ℕ
+first_ifsd = 32
+
+abbrev pub no_requests : Requests
+no_requests = record { extensions = 0; multiple = 0; size = None }
+
+-- after a reset, and after S(RESYNCH response)
+abbrev pub card_after : List (List ℕ) → Card
+card_after ran =
+    record {
+      due = false;
+      next = false;
+      collected = [];
+      field = [];
+      rest = [];
+      answering = false;
+      size = first_ifsd;
+      left = no_requests;
+      ran = ran;
+    }
+
+pub record Turn : Type 0 where
+  pub card : Card
+  pub block : Option Block
+
+abbrev pub turn : Card → Block → Turn
+turn c b = record { card = c; block = Some b }
+
+-- the request that is out
+abbrev pub request_in : ℕ → ℕ → Option ℕ → Option Control
+request_in (suc n) multiple size = Some (Wtx multiple)
+request_in zero multiple (Some size) = Some (Ifs size)
+request_in zero multiple None = None
+
+abbrev pub request_of : Requests → Option Control
+request_of left = request_in left.extensions left.multiple left.size
+
+-- the requests behind it
+abbrev pub after_request : ℕ → Requests → Requests
+after_request (suc n) left = record left { extensions = n }
+after_request zero left = record left { size = None }
+
+-- the block after one that is of no use (rules of error handling)
+abbrev pub again : Option Control → Card → Turn
+again None c = turn c (R c.due)
+again (Some control) c = turn c (Request control)
+
+-- the first field of the response, behind the requests
+abbrev pub answers_with : Option Control → Card → Turn
+answers_with None c =
+    turn (record c { next = other c.next; answering = true }) (I c.next (more c.rest) c.field)
+answers_with (Some control) c = turn c (Request control)
+
+abbrev pub carries_out : Meaning → Card → List (List ℕ) → Turn
+carries_out m c ran =
+    answers_with (request_of (m.asks ran))
+    (record c {
+      ran = ran;
+      collected = [];
+      due = other c.due;
+      field = take c.size (m.does ran);
+      rest = drop c.size (m.does ran);
+      answering = false;
+      left = m.asks ran;
+    })
+
+-- a field of a command: the response before it is over
+abbrev pub collects : Meaning → List ℕ → Bool → Card → List ℕ → Turn
+collects m [] true c f =
+    turn (record c {
+      collected = c.collected ++ f;
+      due = other c.due;
+      field = [];
+      answering = false;
+    }) (R (other c.due))
+collects m [] false c f = carries_out m c (c.ran ++ (c.collected ++ f) ∷ [])
+collects m (b ∷ bytes) more c f = turn c (R c.due)
+
+-- R asks for the next field of the response
+abbrev pub goes_on : List ℕ → Card → Turn
+goes_on [] c = turn c (R c.due)
+goes_on (b ∷ bytes) c =
+    let rest : List ℕ = drop c.size (b ∷ bytes) in
+    let field : List ℕ = take c.size (b ∷ bytes) in
+    turn (record c { field = field; rest = rest; next = other c.next }) (I c.next (more rest) field)
+
+-- R asks for the newest I-block again, if there is one
+abbrev pub repeats : Bool → Card → Turn
+repeats true c = turn c (I (other c.next) (more c.rest) c.field)
+repeats false c = turn c (R c.due)
+
+-- a request of the terminal (rules of S-blocks)
+abbrev pub serves : Control → Card → Turn
+serves Resynch c = turn (card_after c.ran) (Response Resynch)
+serves (Ifs size) c =
+    cond (is_size size) (turn (record c { size = size }) (Response (Ifs size)))
+    (again (request_of c.left) c)
+serves Abort c =
+    turn (record c {
+      collected = [];
+      field = [];
+      rest = [];
+      answering = false;
+      left = no_requests;
+    }) (Response Abort)
+serves (Wtx multiple) c = again (request_of c.left) c
+
+abbrev pub takes_block : Meaning → Block → Card → Turn
+takes_block m (I n more f) c = cond (same n c.due) (collects m c.rest more c f) (turn c (R c.due))
+takes_block m (R n) c = cond (same n c.next) (goes_on c.rest c) (repeats c.answering c)
+takes_block m (Request control) c = serves control c
+takes_block m (Response control) c = turn c (R c.due)
+
+-- what the response to a request leads to
+abbrev pub granted : Card → Turn
+granted c =
+    let left : Requests = after_request c.left.extensions c.left in
+    answers_with (request_of left) (record c { left = left })
+
+-- while a request is out
+abbrev pub takes_waiting : Control → Block → Card → Turn
+takes_waiting control (Response response) c =
+    cond (answers response control) (granted c) (turn c (Request control))
+takes_waiting control (Request request) c = serves request c
+takes_waiting control _ c = turn c (Request control)
+
+abbrev pub takes_at : Meaning → Option Control → Block → Card → Turn
+takes_at m None b c = takes_block m b c
+takes_at m (Some control) b c = takes_waiting control b c
+
+abbrev pub card_takes : Meaning → Block → Card → Turn
+card_takes m b c = takes_at m (request_of c.left) b c
+
+-- an invalid block
+abbrev pub card_damaged : Card → Turn
+card_damaged c = again (request_of c.left) c
+
+abbrev pub card_meets : Meaning → Fate → Block → Card → Turn
+card_meets m Delivers b c = card_takes m b c
+card_meets m Damages b c = card_damaged c
+card_meets m Loses b c = record { card = c; block = None }
+
+-- Memory ran out in the course of a command: it is not carried out, and the response before it is
+-- over.
+abbrev pub forgets : Card → Card
+forgets c = record c { field = []; rest = []; answering = false }

@@ -1,18 +1,17 @@
 -- With twice as many tries as blocks that do not arrive, the terminal does not give up.
-use Rattle.std.proofs.Common.{◌≡◌, ◌≢◌, refl, sym, ap, subst, ◌∙◌, ℕ, zero, suc, ◌+◌, ◌-◌, ◌*◌, ◌≤◌, Bool, true, false, List, [], ◌∷◌, ◌++◌, take, drop, Option, Some, None, arith, ◌⊎◌, inl, inr}
+use Rattle.std.proofs.Common.{◌≡◌, ◌≢◌, refl, sym, ap, subst, ◌∙◌, ℕ, zero, suc, ◌+◌, ◌-◌, ◌*◌, ◌≤◌, Bool, true, false, List, [], ◌∷◌, ◌++◌, Option, Some, None, arith, ◌⊎◌, inl, inr}
 use Rattle.t1_core.specs.declared.line.Fate.{Fate}
 use Rattle.t1_core.specs.declared.line.Fate.TheVariants.{Delivers, Damages, Loses}
 use Rattle.t1_core.specs.declared.line.Fates.{Fates}
 use Rattle.t1_core.specs.declared.settings.Settings.{Settings}
 use Rattle.t1_core.specs.declared.terminal.Cause.{Cause}
 use Rattle.t1_core.specs.declared.terminal.Out.{Out}
-use Rattle.t1_core.specs.declared.terminal.Out.TheVariants.{Own, Asks}
-use Rattle.t1_core.specs.declared.terminal.Phase.TheVariants.{Over, GivenUp}
+use Rattle.t1_core.specs.declared.terminal.Phase.TheVariants.{GivenUp}
 use Rattle.t1_core.specs.Block.{other, is_size}
 use Rattle.t1_core.specs.CardSide.{Meaning}
 use Rattle.t1_core.specs.Mild.{bad_of, bad, Stays, IsMild, Enough, IsSize, count_of}
 use Rattle.t1_core.specs.World.{World, exchange, run, start}
-use Rattle.t1_core.proofs.Places.{Kept, Place, Opens, Behind, Taken, Waits, Grows, Answering, Between, Repeating, Given_up, Finished, spends, extends, proceeds, starts, out_at, world_at, world_of, runs, heard, misses, comes, grows, flips, arrived, garbled, step, is_step}
+use Rattle.t1_core.proofs.Places.{Kept, Place, Opens, Behind, Taken, Waits, Grows, Answering, Between, Repeating, Given_up, Finished, spends, extends, proceeds, starts, out_at, world_of, heard, misses, comes, grows, flips, arrived, garbled, step, is_step}
 use Rattle.t1_core.proofs.Holding.{first, first_is}
 
 other_is_not : (n : Bool) → other n ≡ n → ⊥
@@ -84,29 +83,35 @@ module _ (m : Meaning) (before : List (List ℕ)) (f : ℕ) where
   abbrev Goes : ℕ → Bool × Bool → Place → Type 0
   Goes left old p = ((numbers p ≡ old) × Calm left p) ⊎ ((numbers p ≡ old → ⊥) × Calm f p)
 
-  quiet : {left tries most : ℕ} {settings : Settings} (rest now need : ℕ) → Quiet left tries most settings
+  quiet : {left tries most : ℕ} {settings : Settings} (rest now need : ℕ) → Quiet left tries most
+      settings
       → need ≤ now → rest ≤ f → Quiet rest now need settings
   quiet rest now need q t l = record { tries_left = t; left_le = l; enough = q.enough }
 
   afresh : (settings : Settings) → Enough m f settings → Quiet f settings.tries (2 * f) settings
   afresh settings e = record { tries_left = e.tries; left_le = omega arith; enough = e }
 
-  spends_calm : (n left : ℕ) (w : World) (again : ℕ → Place) → 1 ≤ n → ((i : ℕ) → i + 1 ≡ n → Calm left (again i))
+  spends_calm : (n left : ℕ) (w : World) (again : ℕ → Place) → 1 ≤ n →
+      ((i : ℕ) → i + 1 ≡ n → Calm left (again i))
       → Calm left (spends n w again)
   spends_calm zero left w again some h = absurd (omega (arith, some))
   spends_calm (suc n) left w again some h = h n (omega arith)
 
   -- one block fewer
-  misses_calm : (out : Out) (p : Place) (left : ℕ) → Calm (left + 1) p → Calm left (misses m before out p)
+  misses_calm : (out : Out) (p : Place) (left : ℕ) → Calm (left + 1) p → Calm left
+      (misses m before out p)
   misses_calm out (Opens k rest tries extensions asks) left h =
       spends_calm tries left _ _ (let q = h.0.tries_left in omega (arith, q))
-      (λ i e. let q = h.0.tries_left in let l = h.0.left_le in (quiet left i (2 * left) h.0 (omega (arith, e, q)) (omega (arith, l)), h.1))
+      (λ i e. let q = h.0.tries_left in let l = h.0.left_le in
+      (quiet left i (2 * left) h.0 (omega (arith, e, q)) (omega (arith, l)), h.1))
   misses_calm out (Behind k collected rest answering tries extensions asks) left h =
       spends_calm tries left _ _ (let q = h.0.tries_left in omega (arith, q))
-      (λ i e. let q = h.0.tries_left in let l = h.0.left_le in (quiet left i (2 * left + 1) h.0 (omega (arith, e, q)) (omega (arith, l)), h.1))
+      (λ i e. let q = h.0.tries_left in let l = h.0.left_le in
+      (quiet left i (2 * left + 1) h.0 (omega (arith, e, q)) (omega (arith, l)), h.1))
   misses_calm out (Taken k collected b bytes tries extensions) left h =
       spends_calm tries left _ _ (let q = h.0.tries_left in omega (arith, q))
-      (λ i e. let q = h.0.tries_left in let l = h.0.left_le in (quiet left i (2 * left) h.0 (omega (arith, e, q)) (omega (arith, l)), h.1))
+      (λ i e. let q = h.0.tries_left in let l = h.0.left_le in
+      (quiet left i (2 * left) h.0 (omega (arith, e, q)) (omega (arith, l)), h.1))
   misses_calm out (Waits k rest n size granted tries extensions) left h =
       spends_calm tries left _ _ (let q = h.0.tries_left in omega (arith, q))
       (λ i e. let q = h.0.tries_left in let l = h.0.left_le in let x = h.1 in
@@ -117,35 +122,46 @@ module _ (m : Meaning) (before : List (List ℕ)) (f : ℕ) where
       (quiet left i (2 * left) h.0 (omega (arith, e, q)) (omega (arith, l)), omega (arith, x), h.2))
   misses_calm out (Answering k rest tries extensions) left h =
       spends_calm tries left _ _ (let q = h.tries_left in omega (arith, q))
-      (λ i e. let q = h.tries_left in let l = h.left_le in quiet left i (2 * left) h (omega (arith, e, q)) (omega (arith, l)))
+      (λ i e. let q = h.tries_left in let l = h.left_le in quiet left i (2 * left) h
+      (omega (arith, e, q)) (omega (arith, l)))
   misses_calm out (Between k got b bytes tries extensions) left h =
       spends_calm tries left _ _ (let q = h.tries_left in omega (arith, q))
-      (λ i e. let q = h.tries_left in let l = h.left_le in quiet left i (2 * left) h (omega (arith, e, q)) (omega (arith, l)))
+      (λ i e. let q = h.tries_left in let l = h.left_le in quiet left i (2 * left) h
+      (omega (arith, e, q)) (omega (arith, l)))
   misses_calm out (Repeating k got rest tries extensions) left h =
       spends_calm tries left _ _ (let q = h.tries_left in omega (arith, q))
-      (λ i e. let q = h.tries_left in let l = h.left_le in quiet left i (2 * left) h (omega (arith, e, q)) (omega (arith, l)))
+      (λ i e. let q = h.tries_left in let l = h.left_le in quiet left i (2 * left) h
+      (omega (arith, e, q)) (omega (arith, l)))
   misses_calm out (Given_up w cause) left h = h
   misses_calm out (Finished w) left h = tt
 
   -- a place from which nobody has moved
-  spends_stays : (n : ℕ) (w : World) (again : ℕ → Place) (old : Bool × Bool) → (w.terminal.number, w.terminal.due) ≡ old
+  spends_stays : (n : ℕ) (w : World) (again : ℕ → Place) (old : Bool × Bool) →
+      (w.terminal.number, w.terminal.due) ≡ old
       → ((i : ℕ) → numbers (again i) ≡ old) → numbers (spends n w again) ≡ old
   spends_stays zero w again old e h = e
   spends_stays (suc n) w again old e h = h n
 
   misses_stays : (out : Out) (p : Place) → numbers (misses m before out p) ≡ numbers p
   misses_stays out (Opens k rest tries extensions asks) = spends_stays tries _ _ _ refl (λ i. refl)
-  misses_stays out (Behind k collected rest answering tries extensions asks) = spends_stays tries _ _ _ refl (λ i. refl)
-  misses_stays out (Taken k collected b bytes tries extensions) = spends_stays tries _ _ _ refl (λ i. refl)
-  misses_stays out (Waits k rest n size granted tries extensions) = spends_stays tries _ _ _ refl (λ i. refl)
-  misses_stays out (Grows k rest size granted tries extensions) = spends_stays tries _ _ _ refl (λ i. refl)
+  misses_stays out (Behind k collected rest answering tries extensions asks) = spends_stays tries
+      _ _ _ refl (λ i. refl)
+  misses_stays out (Taken k collected b bytes tries extensions) = spends_stays tries _ _ _ refl
+      (λ i. refl)
+  misses_stays out (Waits k rest n size granted tries extensions) = spends_stays tries _ _ _ refl
+      (λ i. refl)
+  misses_stays out (Grows k rest size granted tries extensions) = spends_stays tries _ _ _ refl
+      (λ i. refl)
   misses_stays out (Answering k rest tries extensions) = spends_stays tries _ _ _ refl (λ i. refl)
-  misses_stays out (Between k got b bytes tries extensions) = spends_stays tries _ _ _ refl (λ i. refl)
-  misses_stays out (Repeating k got rest tries extensions) = spends_stays tries _ _ _ refl (λ i. refl)
+  misses_stays out (Between k got b bytes tries extensions) = spends_stays tries _ _ _ refl
+      (λ i. refl)
+  misses_stays out (Repeating k got rest tries extensions) = spends_stays tries _ _ _ refl
+      (λ i. refl)
   misses_stays out (Given_up w cause) = refl
   misses_stays out (Finished w) = refl
 
-  missed : (out : Out) (p : Place) (left : ℕ) → Calm (left + 1) p → Goes left (numbers p) (misses m before out p)
+  missed : (out : Out) (p : Place) (left : ℕ) → Calm (left + 1) p → Goes left (numbers p)
+      (misses m before out p)
   missed out p left h = inl (misses_stays out p, misses_calm out p left h)
 
   starts_calm : (k : Kept) (rest : List ℕ) (n : ℕ) (size : Option ℕ) (tries extensions left : ℕ)
@@ -165,10 +181,12 @@ module _ (m : Meaning) (before : List (List ℕ)) (f : ℕ) where
   heard_stays (Opens k rest tries extensions asks) = refl
   heard_stays (Behind k collected [] answering tries extensions true) = refl
   heard_stays (Behind k collected (b ∷ bytes) answering tries extensions true) = refl
-  heard_stays (Behind k collected [] answering tries extensions false) = starts_stays _ _ _ _ tries extensions
+  heard_stays (Behind k collected [] answering tries extensions false) = starts_stays _ _ _ _
+      tries extensions
   heard_stays (Behind k collected (b ∷ bytes) answering tries extensions false) = refl
   heard_stays (Taken k collected b bytes tries extensions) = refl
-  heard_stays (Waits k rest n size true tries extensions) = starts_stays k rest n size tries extensions
+  heard_stays (Waits k rest n size true tries extensions) = starts_stays k rest n size tries
+      extensions
   heard_stays (Waits k rest n size false tries extensions) = refl
   heard_stays (Grows k rest size true tries extensions) = refl
   heard_stays (Grows k rest size false tries extensions) = refl
@@ -187,9 +205,13 @@ module _ (m : Meaning) (before : List (List ℕ)) (f : ℕ) where
       let q = h.0.tries_left in let l = h.0.left_le in let x = h.1 in
       let y = h.0.enough.extensions done in
       starts_calm _ _ (m.asks done).extensions (m.asks done).size tries extensions left
-      (quiet left tries (2 * left) h.0 (omega (arith, q)) l) (omega (arith, l, x, y)) (h.0.enough.sizes done)
+      (quiet left tries (2 * left) h.0 (omega (arith, q)) l) (omega (arith, l, x, y))
+      (h.0.enough.sizes done)
   heard_calm (Behind k collected (b ∷ bytes) answering tries extensions false) left h =
-      let q = h.0.tries_left in (quiet left tries (2 * left) h.0 (omega (arith, q)) h.0.left_le, h.1)
+      let q = h.0.tries_left in (
+        quiet left tries (2 * left) h.0 (omega (arith, q)) h.0.left_le,
+        h.1,
+      )
   heard_calm (Taken k collected b bytes tries extensions) left h = h
   heard_calm (Waits k rest n size true tries extensions) left h =
       let x = h.1 in starts_calm k rest n size tries extensions left h.0 (omega (arith, x)) h.2
@@ -207,11 +229,17 @@ module _ (m : Meaning) (before : List (List ℕ)) (f : ℕ) where
   unasked (Opens k rest tries extensions asks) left h = h
   unasked (Behind k collected rest answering tries extensions true) left h = h
   unasked (Behind k collected rest answering tries extensions false) left h =
-      let q = h.0.tries_left in (quiet left tries (2 * left + 0) h.0 (omega (arith, q)) h.0.left_le, h.1)
+      let q = h.0.tries_left in (
+        quiet left tries (2 * left + 0) h.0 (omega (arith, q))
+            h.0.left_le,
+        h.1,
+      )
   unasked (Taken k collected b bytes tries extensions) left h = h
-  unasked (Waits k rest n size true tries extensions) left h = let x = h.1 in (h.0, omega (arith, x), h.2)
+  unasked (Waits k rest n size true tries extensions) left h = let x = h.1 in
+      (h.0, omega (arith, x), h.2)
   unasked (Waits k rest n size false tries extensions) left h = h
-  unasked (Grows k rest size true tries extensions) left h = let x = h.1 in (h.0, omega (arith, x), h.2)
+  unasked (Grows k rest size true tries extensions) left h = let x = h.1 in
+      (h.0, omega (arith, x), h.2)
   unasked (Grows k rest size false tries extensions) left h = h
   unasked (Answering k rest tries extensions) left h = h
   unasked (Between k got b bytes tries extensions) left h = h
@@ -222,12 +250,14 @@ module _ (m : Meaning) (before : List (List ℕ)) (f : ℕ) where
   -- and it is borne with a block more
   asked : (p : Place) (left : ℕ) → Calm (left + 1) p → Calm left (asking p)
   asked (Opens k rest tries extensions asks) left h =
-      let q = h.0.tries_left in let l = h.0.left_le in (quiet left tries (2 * left) h.0 (omega (arith, q)) (omega (arith, l)), h.1)
+      let q = h.0.tries_left in let l = h.0.left_le in
+      (quiet left tries (2 * left) h.0 (omega (arith, q)) (omega (arith, l)), h.1)
   asked (Behind k collected rest answering tries extensions asks) left h =
       let q = h.0.tries_left in let l = h.0.left_le in
       (quiet left tries (2 * left + 1) h.0 (omega (arith, q)) (omega (arith, l)), h.1)
   asked (Taken k collected b bytes tries extensions) left h =
-      let q = h.0.tries_left in let l = h.0.left_le in (quiet left tries (2 * left) h.0 (omega (arith, q)) (omega (arith, l)), h.1)
+      let q = h.0.tries_left in let l = h.0.left_le in
+      (quiet left tries (2 * left) h.0 (omega (arith, q)) (omega (arith, l)), h.1)
   asked (Waits k rest n size granted tries extensions) left h =
       let q = h.0.tries_left in let l = h.0.left_le in let x = h.1 in
       (quiet left tries (2 * left) h.0 (omega (arith, q)) (omega (arith, l)), omega (arith, x), h.2)
@@ -235,27 +265,33 @@ module _ (m : Meaning) (before : List (List ℕ)) (f : ℕ) where
       let q = h.0.tries_left in let l = h.0.left_le in let x = h.1 in
       (quiet left tries (2 * left) h.0 (omega (arith, q)) (omega (arith, l)), omega (arith, x), h.2)
   asked (Answering k rest tries extensions) left h =
-      let q = h.tries_left in let l = h.left_le in quiet left tries (2 * left) h (omega (arith, q)) (omega (arith, l))
+      let q = h.tries_left in let l = h.left_le in quiet left tries (2 * left) h
+      (omega (arith, q)) (omega (arith, l))
   asked (Between k got b bytes tries extensions) left h =
-      let q = h.tries_left in let l = h.left_le in quiet left tries (2 * left) h (omega (arith, q)) (omega (arith, l))
+      let q = h.tries_left in let l = h.left_le in quiet left tries (2 * left) h
+      (omega (arith, q)) (omega (arith, l))
   asked (Repeating k got rest tries extensions) left h =
-      let q = h.tries_left in let l = h.left_le in quiet left tries (2 * left) h (omega (arith, q)) (omega (arith, l))
+      let q = h.tries_left in let l = h.left_le in quiet left tries (2 * left) h
+      (omega (arith, q)) (omega (arith, l))
   asked (Given_up w cause) left h = h
   asked (Finished w) left h = tt
 
   -- the card's block arrives
 
-  extends_calm : (n left : ℕ) (w : World) (again : ℕ → Place) → 1 ≤ n → ((i : ℕ) → i + 1 ≡ n → Calm left (again i))
+  extends_calm : (n left : ℕ) (w : World) (again : ℕ → Place) → 1 ≤ n →
+      ((i : ℕ) → i + 1 ≡ n → Calm left (again i))
       → Calm left (extends n w again)
   extends_calm zero left w again some h = absurd (omega (arith, some))
   extends_calm (suc n) left w again some h = h n (omega arith)
 
-  extends_stays : (n : ℕ) (w : World) (again : ℕ → Place) (old : Bool × Bool) → (w.terminal.number, w.terminal.due) ≡ old
+  extends_stays : (n : ℕ) (w : World) (again : ℕ → Place) (old : Bool × Bool) →
+      (w.terminal.number, w.terminal.due) ≡ old
       → ((i : ℕ) → numbers (again i) ≡ old) → numbers (extends n w again) ≡ old
   extends_stays zero w again old e h = e
   extends_stays (suc n) w again old e h = h n
 
-  grows_goes : (v : Bool) (out : Out) (k : Kept) (rest : List ℕ) (size : ℕ) (granted : Bool) (tries extensions left : ℕ)
+  grows_goes : (v : Bool) (out : Out) (k : Kept) (rest : List ℕ) (size : ℕ) (granted : Bool)
+      (tries extensions left : ℕ)
       → is_size size ≡ v → Calm left (Grows k rest size false tries extensions)
       → Goes left (k.number, k.due) (grows m before v out k rest size granted tries extensions)
   grows_goes true out k rest size granted tries extensions left e h =
@@ -269,12 +305,22 @@ module _ (m : Meaning) (before : List (List ℕ)) (f : ℕ) where
       )
   grows_goes false out k rest size granted tries extensions left e h = absurd (let s = h.2 in cc)
 
-  proceeds_calm : (k : Kept) (todo : List (List ℕ)) (w : World) → Enough m f k.settings → Calm f (proceeds k todo w)
+  proceeds_calm : (k : Kept) (todo : List (List ℕ)) (w : World) → Enough m f k.settings → Calm f
+      (proceeds k todo w)
   proceeds_calm k [] w e = tt
   proceeds_calm k (c ∷ cs) w e =
-      let t = e.tries in (record { tries_left = omega (arith, t); left_le = omega arith; enough = e }, omega arith)
+      let t = e.tries in (
+        record {
+          tries_left = omega (arith, t);
+          left_le = omega arith;
+          enough =
+              e;
+        },
+        omega arith,
+      )
 
-  proceeds_numbers : (k : Kept) (todo : List (List ℕ)) (w : World) → pair w.terminal.number w.terminal.due ≡ pair k.number k.due
+  proceeds_numbers : (k : Kept) (todo : List (List ℕ)) (w : World) → pair w.terminal.number
+      w.terminal.due ≡ pair k.number k.due
       → numbers (proceeds k todo w) ≡ pair k.number k.due
   proceeds_numbers k [] w e = e
   proceeds_numbers k (c ∷ cs) w e = refl
@@ -283,9 +329,13 @@ module _ (m : Meaning) (before : List (List ℕ)) (f : ℕ) where
   IsHeard (Between k got b bytes tries extensions) = ⊥
   IsHeard _ = Unit {0}
 
-  comes_goes : (out : Out) (p : Place) (left : ℕ) → IsHeard p → Calm left (asking p) → Goes left (numbers p) (comes m before out p)
+  comes_goes : (out : Out) (p : Place) (left : ℕ) → IsHeard p → Calm left (asking p) → Goes left
+      (numbers p) (comes m before out p)
   comes_goes out (Opens k rest tries extensions asks) left a h =
-      let q = h.0.tries_left in inl (refl, (quiet left tries (2 * left + 0) h.0 (omega (arith, q)) h.0.left_le, h.1))
+      let q = h.0.tries_left in inl (
+        refl,
+        (quiet left tries (2 * left + 0) h.0 (omega (arith, q)) h.0.left_le, h.1),
+      )
   comes_goes out (Behind k collected rest answering tries extensions asks) left a h =
       let q = h.0.tries_left in inl (
         spends_stays tries _ _ _ refl (λ i. refl),
@@ -300,7 +350,8 @@ module _ (m : Meaning) (before : List (List ℕ)) (f : ℕ) where
   comes_goes out (Waits k rest n size granted tries extensions) left a h =
       let x = h.1 in inl (
         extends_stays extensions _ _ _ refl (λ i. refl),
-        extends_calm extensions left _ _ (omega (arith, x)) (λ i is. (h.0, omega (arith, x, is), h.2)),
+        extends_calm extensions left _ _ (omega (arith, x))
+            (λ i is. (h.0, omega (arith, x, is), h.2)),
       )
   comes_goes out (Grows k rest size granted tries extensions) left a h =
       grows_goes (is_size size) out k rest size granted tries extensions left refl h
@@ -314,8 +365,10 @@ module _ (m : Meaning) (before : List (List ℕ)) (f : ℕ) where
   comes_goes out (Between k got b bytes tries extensions) left a h = absurd a
   comes_goes out (Repeating k got [] tries extensions) left a h = inr (
     λ e. other_is_not k.due (ap (λ x. x.1) (sym (proceeds_numbers
-        (record k { due = other k.due; answers = k.answers ++ (got ++ k.last) ∷ [] }) k.todo _ refl) ∙ e)),
-    proceeds_calm (record k { due = other k.due; answers = k.answers ++ (got ++ k.last) ∷ [] }) k.todo _ h.enough,
+        (record k { due = other k.due; answers = k.answers ++ (got ++ k.last) ∷ [] }) k.todo _
+        refl) ∙ e)),
+    proceeds_calm (record k { due = other k.due; answers = k.answers ++ (got ++ k.last) ∷ [] })
+        k.todo _ h.enough,
   )
   comes_goes out (Repeating k got (b ∷ bytes) tries extensions) left a h =
       inr (λ e. other_is_not k.due (ap (λ x. x.1) e), afresh k.settings h.enough)
@@ -332,7 +385,8 @@ module _ (m : Meaning) (before : List (List ℕ)) (f : ℕ) where
   is_heard (Opens k rest tries extensions asks) = tt
   is_heard (Behind k collected [] answering tries extensions true) = tt
   is_heard (Behind k collected (b ∷ bytes) answering tries extensions true) = tt
-  is_heard (Behind k collected [] answering tries extensions false) = starts_heard _ _ _ _ tries extensions
+  is_heard (Behind k collected [] answering tries extensions false) = starts_heard _ _ _ _ tries
+      extensions
   is_heard (Behind k collected (b ∷ bytes) answering tries extensions false) = tt
   is_heard (Taken k collected b bytes tries extensions) = tt
   is_heard (Waits k rest n size true tries extensions) = starts_heard k rest n size tries extensions
@@ -348,7 +402,8 @@ module _ (m : Meaning) (before : List (List ℕ)) (f : ℕ) where
   weaker : (p : Place) (left : ℕ) → Calm (left + 1) p → Calm left p
   weaker p left h = unasked p left (asked p left h)
 
-  heard_goes : (p q : Place) (left : ℕ) → numbers q ≡ numbers p → (r : Place) → Goes left (numbers q) r → Goes left (numbers p) r
+  heard_goes : (p q : Place) (left : ℕ) → numbers q ≡ numbers p → (r : Place) → Goes left
+      (numbers q) r → Goes left (numbers p) r
   heard_goes p q left e r g = subst (λ n. Goes left n r) e g
 
   arrived_goes : (up : Fate) (out : Out) (p : Place) (left : ℕ) → IsHeard p → Calm (left + 1) p
@@ -357,15 +412,24 @@ module _ (m : Meaning) (before : List (List ℕ)) (f : ℕ) where
   arrived_goes Damages out p left a h = missed out p left h
   arrived_goes Loses out p left a h = missed out p left h
 
-  garbled_goes : (up : Fate) (p : Place) (left : ℕ) → Calm (left + 1) p → Goes left (numbers p) (garbled m before up p)
-  garbled_goes up (Opens k rest tries extensions asks) left h = missed _ (Opens k rest tries extensions asks) left h
-  garbled_goes up (Behind k collected rest answering tries extensions asks) left h = arrived_goes up _ _ left tt h
-  garbled_goes up (Taken k collected b bytes tries extensions) left h = arrived_goes up _ _ left tt h
-  garbled_goes up (Waits k rest n size granted tries extensions) left h = arrived_goes up _ _ left tt h
-  garbled_goes up (Grows k rest size granted tries extensions) left h = arrived_goes up _ _ left tt h
-  garbled_goes up (Answering k rest tries extensions) left h = missed _ (Answering k rest tries extensions) left h
-  garbled_goes up (Between k got b bytes tries extensions) left h = missed _ (Between k got b bytes tries extensions) left h
-  garbled_goes up (Repeating k got rest tries extensions) left h = missed _ (Repeating k got rest tries extensions) left h
+  garbled_goes : (up : Fate) (p : Place) (left : ℕ) → Calm (left + 1) p → Goes left (numbers p)
+      (garbled m before up p)
+  garbled_goes up (Opens k rest tries extensions asks) left h = missed _
+      (Opens k rest tries extensions asks) left h
+  garbled_goes up (Behind k collected rest answering tries extensions asks) left h = arrived_goes
+      up _ _ left tt h
+  garbled_goes up (Taken k collected b bytes tries extensions) left h = arrived_goes up _ _ left
+      tt h
+  garbled_goes up (Waits k rest n size granted tries extensions) left h = arrived_goes up _ _
+      left tt h
+  garbled_goes up (Grows k rest size granted tries extensions) left h = arrived_goes up _ _ left
+      tt h
+  garbled_goes up (Answering k rest tries extensions) left h = missed _
+      (Answering k rest tries extensions) left h
+  garbled_goes up (Between k got b bytes tries extensions) left h = missed _
+      (Between k got b bytes tries extensions) left h
+  garbled_goes up (Repeating k got rest tries extensions) left h = missed _
+      (Repeating k got rest tries extensions) left h
   garbled_goes up (Given_up w cause) left h = absurd h
   garbled_goes up (Finished w) left h = arrived_goes up _ _ left tt h
 
@@ -395,7 +459,8 @@ module _ (m : Meaning) (before : List (List ℕ)) (f : ℕ) where
 
   -- every world
 
-  numbers_are : (p : Place) → let t = (world_of m before p).terminal in pair t.number t.due ≡ numbers p
+  numbers_are : (p : Place) → let t = (world_of m before p).terminal in pair t.number t.due ≡
+      numbers p
   numbers_are (Opens k rest tries extensions asks) = refl
   numbers_are (Behind k collected rest answering tries extensions asks) = refl
   numbers_are (Taken k collected b bytes tries extensions) = refl
@@ -412,13 +477,15 @@ module _ (m : Meaning) (before : List (List ℕ)) (f : ℕ) where
 
   abbrev GoesOn : ℕ → World → World → Type 0
   GoesOn left old new =
-      (Stays old.terminal new.terminal × IsCalm left new) ⊎ ((Stays old.terminal new.terminal → ⊥) × IsCalm f new)
+      (Stays old.terminal new.terminal × IsCalm left new) ⊎
+      ((Stays old.terminal new.terminal → ⊥) × IsCalm f new)
 
   goes_at : (x : Fates) (left : ℕ) (p : Place) → Calm (left + bad x) p
       → GoesOn left (world_of m before p) (exchange m x (world_of m before p))
   goes_at x left p h =
       let q : Place = step m before x.down x.up p in
-      let e : exchange m x (world_of m before p) ≡ world_of m before q = is_step m before x.down x.up p in
+      let e : exchange m x (world_of m before p) ≡ world_of m before q = is_step m before x.down
+      x.up p in
       subst (λ v. GoesOn left (world_of m before p) v) (sym e)
       (elim (step_goes x.down x.up p left h) [
         | inl g ↦
@@ -428,14 +495,17 @@ module _ (m : Meaning) (before : List (List ℕ)) (f : ℕ) where
             inr (λ s. g.0 (sym (numbers_are q) ∙ both s.0 s.1 ∙ numbers_are p), (q, refl, g.1))
       ])
 
-  one_more : (x : Fates) (left : ℕ) (w : World) → bad x ≤ left → IsCalm left w → GoesOn (left - bad x) w (exchange m x w)
+  one_more : (x : Fates) (left : ℕ) (w : World) → bad x ≤ left → IsCalm left w → GoesOn
+      (left - bad x) w (exchange m x w)
   one_more x left w le s =
       subst (λ v. GoesOn (left - bad x) v (exchange m x v)) (sym s.1)
       (goes_at x (left - bad x) s.0 (subst (λ l. Calm l s.0) (omega (arith, le)) s.2))
 
-  not_given_up : (p : Place) (left : ℕ) (cause : Cause) → Calm left p → (world_of m before p).terminal.phase ≡ GivenUp cause → ⊥
+  not_given_up : (p : Place) (left : ℕ) (cause : Cause) → Calm left p →
+      (world_of m before p).terminal.phase ≡ GivenUp cause → ⊥
   not_given_up (Opens k rest tries extensions asks) left cause h e = absurd (cc)
-  not_given_up (Behind k collected rest answering tries extensions asks) left cause h e = absurd (cc)
+  not_given_up (Behind k collected rest answering tries extensions asks) left cause h e = absurd
+      (cc)
   not_given_up (Taken k collected b bytes tries extensions) left cause h e = absurd (cc)
   not_given_up (Waits k rest n size granted tries extensions) left cause h e = absurd (cc)
   not_given_up (Grows k rest size granted tries extensions) left cause h e = absurd (cc)
@@ -445,7 +515,8 @@ module _ (m : Meaning) (before : List (List ℕ)) (f : ℕ) where
   not_given_up (Given_up w c) left cause h e = h
   not_given_up (Finished w) left cause h e = absurd (cc)
 
-  stays_calm : (fates : List Fates) (left : ℕ) (w : World) (cause : Cause) → IsCalm left w → IsMild m f left w fates
+  stays_calm : (fates : List Fates) (left : ℕ) (w : World) (cause : Cause) → IsCalm left w →
+      IsMild m f left w fates
       → (run m fates w).terminal.phase ≡ GivenUp cause → ⊥
   stays_calm [] left w cause s mild =
       λ e. not_given_up s.0 left cause s.2 (ap (λ v. v.terminal.phase) (sym s.1) ∙ e)
@@ -455,13 +526,19 @@ module _ (m : Meaning) (before : List (List ℕ)) (f : ℕ) where
         | inr g ↦ stays_calm xs f (exchange m x w) cause g.1 (mild.2 g.0)
       ]
 
-  first_calm : (settings : Settings) (commands : List (List ℕ)) → Enough m f settings → Calm f (first before settings commands)
+  first_calm : (settings : Settings) (commands : List (List ℕ)) → Enough m f settings → Calm f
+      (first before settings commands)
   first_calm settings [] e = tt
   first_calm settings (c ∷ cs) e = (afresh settings e, omega arith)
 
-pub never_given_up : (m : Meaning) (f : ℕ) (settings : Settings) (before commands : List (List ℕ)) (fates : List Fates)
+pub never_given_up : (m : Meaning) (f : ℕ) (settings : Settings)
+    (before commands : List (List ℕ)) (fates : List Fates)
     (cause : Cause) → Enough m f settings → IsMild m f f (start settings before commands) fates
     → (run m fates (start settings before commands)).terminal.phase ≢ GivenUp cause
 never_given_up m f settings before commands fates cause e mild =
-    stays_calm m before f fates f (start settings before commands) cause
-    (first before settings commands, first_is m before settings commands, first_calm m before f settings commands e) mild
+    stays_calm m before f fates f (start settings before commands) cause (
+      first before settings commands,
+      first_is m before settings commands,
+      first_calm m before f
+          settings commands e,
+    ) mild

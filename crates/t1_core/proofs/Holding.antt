@@ -1,21 +1,19 @@
 -- What holds wherever both ends stand: the commands done, in progress and to do are all commands.
 use Rattle.std.proofs.Common.{◌≡◌, refl, sym, ap, subst, ◌∙◌, ℕ, zero, suc, ◌+◌, ◌≤◌, Bool, true, false, List, [], ◌∷◌, ◌++◌, length, take, drop, Option, Some, None, append_assoc, append-nil, length-append, arith}
-use Rattle.std.proofs.lemmas.Bool.{eq-eqb}
 use Rattle.std.proofs.lemmas.List.{take-append-drop}
-use Rattle.t1_core.specs.declared.card.Requests.{Requests}
 use Rattle.t1_core.specs.declared.line.Fate.{Fate}
 use Rattle.t1_core.specs.declared.line.Fate.TheVariants.{Delivers, Damages, Loses}
 use Rattle.t1_core.specs.declared.line.Fates.{Fates}
 use Rattle.t1_core.specs.declared.settings.Settings.{Settings}
 use Rattle.t1_core.specs.declared.terminal.Cause.{Cause}
 use Rattle.t1_core.specs.declared.terminal.Out.{Out}
-use Rattle.t1_core.specs.declared.terminal.Out.TheVariants.{Own, Asks}
+use Rattle.t1_core.specs.declared.terminal.Out.TheVariants.{Asks}
 use Rattle.t1_core.specs.declared.terminal.Phase.TheVariants.{Over, GivenUp}
 use Rattle.t1_core.specs.Block.{is_size, other}
 use Rattle.t1_core.specs.CardSide.{Meaning, first_ifsd, card_after}
 use Rattle.t1_core.specs.TerminalSide.{outcome_with, outcome_of, fresh}
-use Rattle.t1_core.specs.World.{World, responses, IsFrontOf, IsRight, IsTrue, IsAtMostOnce, next_command, exchange, run, start}
-use Rattle.t1_core.proofs.Places.{Kept, Place, Opens, Behind, Taken, Waits, Grows, Answering, Between, Repeating, Given_up, Finished, spends, extends, proceeds, starts, out_at, world_at, world_of, runs, heard, misses, comes, grows, flips, arrived, garbled, step, is_step}
+use Rattle.t1_core.specs.World.{World, responses, IsRight, IsTrue, IsAtMostOnce, next_command, exchange, run, start}
+use Rattle.t1_core.proofs.Places.{Kept, Place, Opens, Behind, Taken, Waits, Grows, Answering, Between, Repeating, Given_up, Finished, spends, extends, proceeds, starts, out_at, world_of, runs, heard, misses, comes, grows, flips, arrived, garbled, step, is_step}
 
 module _ (m : Meaning) (before commands : List (List ℕ)) where
   abbrev answers_of : List (List ℕ) → List (List ℕ)
@@ -51,7 +49,8 @@ module _ (m : Meaning) (before commands : List (List ℕ)) where
 
   abbrev pub Holds : Place → Type 0
   Holds (Opens k rest tries extensions asks) = Sends k (k.field ++ rest)
-  Holds (Behind k collected rest answering tries extensions asks) = Sends k (collected ++ (k.field ++ rest))
+  Holds (Behind k collected rest answering tries extensions asks) = Sends k
+      (collected ++ (k.field ++ rest))
   Holds (Taken k collected b bytes tries extensions) = Sends k (collected ++ (b ∷ bytes))
   Holds (Waits k rest n size granted tries extensions) = Responds k (k.last ++ rest)
   Holds (Grows k rest size granted tries extensions) = Responds k (k.last ++ rest)
@@ -64,34 +63,42 @@ module _ (m : Meaning) (before commands : List (List ℕ)) where
   -- answers and commands
 
   responses_last : (does : List (List ℕ) → List ℕ) (past cs : List (List ℕ)) (c : List ℕ)
-      → responses does past (cs ++ c ∷ []) ≡ responses does past cs ++ does (past ++ (cs ++ c ∷ [])) ∷ []
+      → responses does past (cs ++ c ∷ []) ≡ responses does past cs ++ does
+      (past ++ (cs ++ c ∷ [])) ∷ []
   responses_last does past [] c = refl
   responses_last does past (d ∷ cs) c =
       ap (λ rs. does (past ++ d ∷ []) ∷ rs)
       (responses_last does (past ++ d ∷ []) cs c
-      ∙ ap (λ h. responses does (past ++ d ∷ []) cs ++ does h ∷ []) (append_assoc past (d ∷ []) (cs ++ c ∷ [])))
+      ∙ ap (λ h. responses does (past ++ d ∷ []) cs ++ does h ∷ [])
+      (append_assoc past (d ∷ []) (cs ++ c ∷ [])))
 
-  responses_many : (does : List (List ℕ) → List ℕ) (past cs : List (List ℕ)) → length (responses does past cs) ≡ length cs
+  responses_many : (does : List (List ℕ) → List ℕ) (past cs : List (List ℕ)) → length
+      (responses does past cs) ≡ length cs
   responses_many does past [] = refl
   responses_many does past (c ∷ cs) = ap suc (responses_many does (past ++ c ∷ []) cs)
 
-  sending_right : (k : Kept) (command : List ℕ) → Sends k command → IsRight m.does before commands k.done k.answers
+  sending_right : (k : Kept) (command : List ℕ) → Sends k command → IsRight m.does before
+      commands k.done k.answers
   sending_right k command h = record {
     carried_out = (command ∷ k.todo, h.whole);
     answered = ([], append-nil k.answers ∙ h.answers);
     all_but_one =
-        let e : length k.answers ≡ length k.done = ap length h.answers ∙ responses_many m.does before k.done in
+        let e : length k.answers ≡ length k.done = ap length h.answers ∙ responses_many m.does
+        before k.done in
         omega (arith, e);
   }
 
   sending_many : (k : Kept) (command : List ℕ) → Sends k command → length k.done ≡ length k.answers
   sending_many k command h = sym (ap length h.answers ∙ responses_many m.does before k.done)
 
-  responding_many : (k : Kept) (response : List ℕ) → Responds k response → length k.done ≡ length k.answers + 1
+  responding_many : (k : Kept) (response : List ℕ) → Responds k response → length k.done ≡ length
+      k.answers + 1
   responding_many k response h =
-      sym (sym (length-append k.answers (response ∷ [])) ∙ ap length h.answers ∙ responses_many m.does before k.done)
+      sym (sym (length-append k.answers (response ∷ [])) ∙ ap length h.answers ∙ responses_many
+      m.does before k.done)
 
-  responding_right : (k : Kept) (response : List ℕ) → Responds k response → IsRight m.does before commands k.done k.answers
+  responding_right : (k : Kept) (response : List ℕ) → Responds k response → IsRight m.does before
+      commands k.done k.answers
   responding_right k response h = record {
     carried_out = (k.todo, h.whole);
     answered = (response ∷ [], h.answers);
@@ -103,11 +110,13 @@ module _ (m : Meaning) (before commands : List (List ℕ)) where
     carried_out = ([], append-nil h.done ∙ h.each);
     answered = ([], append-nil w.answers ∙ h.answers_are);
     all_but_one =
-        let e : length w.answers ≡ length h.done = ap length h.answers_are ∙ responses_many m.does before h.done in
+        let e : length w.answers ≡ length h.done = ap length h.answers_are ∙ responses_many
+        m.does before h.done in
         omega (arith, e);
   }
 
-  sending_told : (opened : Bool) (rest : List ℕ) (done answers : List (List ℕ)) → length done ≡ length answers
+  sending_told : (opened : Bool) (rest : List ℕ) (done answers : List (List ℕ)) → length done ≡
+      length answers
       → IsTrue (outcome_with opened rest []) done answers
   sending_told false rest done answers e = e
   sending_told true [] done answers e = tt
@@ -120,12 +129,14 @@ module _ (m : Meaning) (before commands : List (List ℕ)) where
 
   -- a fault says what is true
   sending_ends : (w : World) (k : Kept) (command rest : List ℕ) (opened : Bool) → Sends k command
-      → w.card.ran ≡ before ++ k.done → w.answers ≡ k.answers → outcome_of w.terminal ≡ outcome_with opened rest []
+      → w.card.ran ≡ before ++ k.done → w.answers ≡ k.answers → outcome_of w.terminal ≡
+      outcome_with opened rest []
       → Ends w
   sending_ends w k command rest opened h ran answers outcome = record {
     done = k.done;
     ran_is = ran;
-    right = subst (λ a. IsRight m.does before commands k.done a) (sym answers) (sending_right k command h);
+    right = subst (λ a. IsRight m.does before commands k.done a) (sym answers)
+        (sending_right k command h);
     told =
         subst (λ a. IsTrue (outcome_of w.terminal) k.done a) (sym answers)
         (subst (λ o. IsTrue o k.done k.answers) (sym outcome)
@@ -133,12 +144,14 @@ module _ (m : Meaning) (before commands : List (List ℕ)) where
   }
 
   responding_ends : (w : World) (k : Kept) (response got : List ℕ) → Responds k response
-      → w.card.ran ≡ before ++ k.done → w.answers ≡ k.answers → outcome_of w.terminal ≡ outcome_with true [] got
+      → w.card.ran ≡ before ++ k.done → w.answers ≡ k.answers → outcome_of w.terminal ≡
+      outcome_with true [] got
       → Ends w
   responding_ends w k response got h ran answers outcome = record {
     done = k.done;
     ran_is = ran;
-    right = subst (λ a. IsRight m.does before commands k.done a) (sym answers) (responding_right k response h);
+    right = subst (λ a. IsRight m.does before commands k.done a) (sym answers)
+        (responding_right k response h);
     told =
         subst (λ a. IsTrue (outcome_of w.terminal) k.done a) (sym answers)
         (subst (λ o. IsTrue o k.done k.answers) (sym outcome)
@@ -147,21 +160,25 @@ module _ (m : Meaning) (before commands : List (List ℕ)) where
 
   -- one step
 
-  spends_hold : (n : ℕ) (w : World) (again : ℕ → Place) → Ends w → ((i : ℕ) → Holds (again i)) → Holds (spends n w again)
+  spends_hold : (n : ℕ) (w : World) (again : ℕ → Place) → Ends w → ((i : ℕ) → Holds (again i)) →
+      Holds (spends n w again)
   spends_hold zero w again e h = e
   spends_hold (suc n) w again e h = h n
 
-  extends_hold : (n : ℕ) (w : World) (again : ℕ → Place) → Ends w → ((i : ℕ) → Holds (again i)) → Holds (extends n w again)
+  extends_hold : (n : ℕ) (w : World) (again : ℕ → Place) → Ends w → ((i : ℕ) → Holds (again i)) →
+      Holds (extends n w again)
   extends_hold zero w again e h = e
   extends_hold (suc n) w again e h = h n
 
-  starts_hold : (k : Kept) (rest : List ℕ) (n : ℕ) (size : Option ℕ) (tries extensions : ℕ) → Responds k (k.last ++ rest)
+  starts_hold : (k : Kept) (rest : List ℕ) (n : ℕ) (size : Option ℕ) (tries extensions : ℕ) →
+      Responds k (k.last ++ rest)
       → Holds (starts k rest n size tries extensions)
   starts_hold k rest (suc n) size tries extensions h = h
   starts_hold k rest zero (Some size) tries extensions h = h
   starts_hold k rest zero None tries extensions h = h
 
-  proceeds_hold : (k : Kept) (todo : List (List ℕ)) (w : World) → Sizes k → k.done ++ todo ≡ commands → k.answers ≡ answers_of k.done
+  proceeds_hold : (k : Kept) (todo : List (List ℕ)) (w : World) → Sizes k → k.done ++ todo ≡
+      commands → k.answers ≡ answers_of k.done
       → w.card.ran ≡ before ++ k.done → w.answers ≡ k.answers → Holds (proceeds k todo w)
   proceeds_hold k [] w sizes whole are ran answers = record {
     done = k.done;
@@ -185,7 +202,8 @@ module _ (m : Meaning) (before commands : List (List ℕ)) where
   heard_holds (Behind k collected (b ∷ bytes) answering tries extensions true) h = h
   heard_holds (Behind k collected [] answering tries extensions false) h =
       let done : List (List ℕ) = k.done ++ (collected ++ k.field) ∷ [] in
-      starts_hold (runs m before k done) (drop k.ifsd (m.does (before ++ done))) (m.asks (before ++ done)).extensions
+      starts_hold (runs m before k done) (drop k.ifsd (m.does (before ++ done)))
+      (m.asks (before ++ done)).extensions
       (m.asks (before ++ done)).size tries extensions (record {
         whole =
             append_assoc k.done ((collected ++ k.field) ∷ []) k.todo
@@ -202,14 +220,16 @@ module _ (m : Meaning) (before commands : List (List ℕ)) where
     sizes = h.sizes;
   }
   heard_holds (Taken k collected b bytes tries extensions) h = h
-  heard_holds (Waits k rest n size true tries extensions) h = starts_hold k rest n size tries extensions h
+  heard_holds (Waits k rest n size true tries extensions) h = starts_hold k rest n size tries
+      extensions h
   heard_holds (Waits k rest n size false tries extensions) h = h
   heard_holds (Grows k rest size true tries extensions) h = h
   heard_holds (Grows k rest size false tries extensions) h = h
   heard_holds (Answering k rest tries extensions) h = h
   heard_holds (Between k got b bytes tries extensions) h = record {
     whole = h.whole;
-    answers = ap (λ r. k.answers ++ (got ++ r) ∷ []) (take-append-drop k.ifsd (b ∷ bytes)) ∙ h.answers;
+    answers = ap (λ r. k.answers ++ (got ++ r) ∷ []) (take-append-drop k.ifsd (b ∷ bytes)) ∙
+        h.answers;
     sizes = h.sizes;
   }
   heard_holds (Repeating k got rest tries extensions) h = h
@@ -240,8 +260,10 @@ module _ (m : Meaning) (before commands : List (List ℕ)) where
   some_size zero e = absurd (cc)
   some_size (suc n) e = omega arith
 
-  grows_hold : (v : Bool) (out : Out) (k : Kept) (rest : List ℕ) (size : ℕ) (granted : Bool) (tries extensions : ℕ)
-      → is_size size ≡ v → Responds k (k.last ++ rest) → Holds (grows m before v out k rest size granted tries extensions)
+  grows_hold : (v : Bool) (out : Out) (k : Kept) (rest : List ℕ) (size : ℕ) (granted : Bool)
+      (tries extensions : ℕ)
+      → is_size size ≡ v → Responds k (k.last ++ rest) → Holds
+      (grows m before v out k rest size granted tries extensions)
   grows_hold true out k rest size granted tries extensions e h =
       extends_hold extensions _ _ (responding_ends _ k _ [] h refl refl refl)
       (λ i. record { whole = h.whole; answers = h.answers; sizes = (some_size size e, h.sizes.1) })
@@ -253,7 +275,8 @@ module _ (m : Meaning) (before commands : List (List ℕ)) where
   comes_hold out (Behind k collected rest answering tries extensions asks) h =
       spends_hold tries _ _ (sending_ends _ k _ rest true h refl refl refl) (λ i. h)
   comes_hold out (Taken k collected b bytes tries extensions) h = record {
-    whole = ap (λ c. k.done ++ (collected ++ c) ∷ k.todo) (take-append-drop k.size (b ∷ bytes)) ∙ h.whole;
+    whole = ap (λ c. k.done ++ (collected ++ c) ∷ k.todo) (take-append-drop k.size (b ∷ bytes)) ∙
+        h.whole;
     answers = h.answers;
     sizes = h.sizes;
   }
@@ -262,13 +285,16 @@ module _ (m : Meaning) (before commands : List (List ℕ)) where
   comes_hold out (Grows k rest size granted tries extensions) h =
       grows_hold (is_size size) out k rest size granted tries extensions refl h
   comes_hold out (Answering k [] tries extensions) h =
-      proceeds_hold (record (flips k) { answers = k.answers ++ k.last ∷ [] }) k.todo _ h.sizes h.whole
+      proceeds_hold (record (flips k) { answers = k.answers ++ k.last ∷ [] }) k.todo _ h.sizes
+      h.whole
       (ap (λ r. k.answers ++ r ∷ []) (sym (append-nil k.last)) ∙ h.answers) refl refl
   comes_hold out (Answering k (b ∷ bytes) tries extensions) h =
       record { whole = h.whole; answers = h.answers; sizes = h.sizes }
-  comes_hold out (Between k got b bytes tries extensions) h = misses_hold out (Between k got b bytes tries extensions) h
+  comes_hold out (Between k got b bytes tries extensions) h = misses_hold out
+      (Between k got b bytes tries extensions) h
   comes_hold out (Repeating k got [] tries extensions) h =
-      proceeds_hold (record k { due = other k.due; answers = k.answers ++ (got ++ k.last) ∷ [] }) k.todo _ h.sizes h.whole
+      proceeds_hold (record k { due = other k.due; answers = k.answers ++ (got ++ k.last) ∷ [] })
+      k.todo _ h.sizes h.whole
       (ap (λ r. k.answers ++ (got ++ r) ∷ []) (sym (append-nil k.last)) ∙ h.answers) refl refl
   comes_hold out (Repeating k got (b ∷ bytes) tries extensions) h = record {
     whole = h.whole;
@@ -284,14 +310,19 @@ module _ (m : Meaning) (before commands : List (List ℕ)) where
   arrived_holds out Loses p h = misses_hold out p h
 
   garbled_holds : (up : Fate) (p : Place) → Holds p → Holds (garbled m before up p)
-  garbled_holds up (Opens k rest tries extensions asks) h = misses_hold _ (Opens k rest tries extensions asks) h
-  garbled_holds up (Behind k collected rest answering tries extensions asks) h = arrived_holds _ up _ h
+  garbled_holds up (Opens k rest tries extensions asks) h = misses_hold _
+      (Opens k rest tries extensions asks) h
+  garbled_holds up (Behind k collected rest answering tries extensions asks) h = arrived_holds _
+      up _ h
   garbled_holds up (Taken k collected b bytes tries extensions) h = arrived_holds _ up _ h
   garbled_holds up (Waits k rest n size granted tries extensions) h = arrived_holds _ up _ h
   garbled_holds up (Grows k rest size granted tries extensions) h = arrived_holds _ up _ h
-  garbled_holds up (Answering k rest tries extensions) h = misses_hold Asks (Answering k rest tries extensions) h
-  garbled_holds up (Between k got b bytes tries extensions) h = misses_hold Asks (Between k got b bytes tries extensions) h
-  garbled_holds up (Repeating k got rest tries extensions) h = misses_hold Asks (Repeating k got rest tries extensions) h
+  garbled_holds up (Answering k rest tries extensions) h = misses_hold Asks
+      (Answering k rest tries extensions) h
+  garbled_holds up (Between k got b bytes tries extensions) h = misses_hold Asks
+      (Between k got b bytes tries extensions) h
+  garbled_holds up (Repeating k got rest tries extensions) h = misses_hold Asks
+      (Repeating k got rest tries extensions) h
   garbled_holds up (Given_up w cause) h = arrived_holds _ up _ h
   garbled_holds up (Finished w) h = arrived_holds _ up _ h
 
@@ -316,24 +347,28 @@ module _ (m : Meaning) (before commands : List (List ℕ)) where
   all_stand [] w s = s
   all_stand (x ∷ xs) w s = all_stand xs (exchange m x w) (stands_after x w s)
 
-  sending_once : (w : World) (k : Kept) (command : List ℕ) → Sends k command → w.card.ran ≡ before ++ k.done
+  sending_once : (w : World) (k : Kept) (command : List ℕ) → Sends k command → w.card.ran ≡
+      before ++ k.done
       → w.answers ≡ k.answers → ((cause : Cause) → w.terminal.phase ≡ GivenUp cause → ⊥)
       → (w.terminal.phase ≡ Over → ⊥) → IsAtMostOnce m before commands w
   sending_once w k command h ran answers going moving = record {
     ran = k.done;
     ran_is = ran;
-    right = subst (λ a. IsRight m.does before commands k.done a) (sym answers) (sending_right k command h);
+    right = subst (λ a. IsRight m.does before commands k.done a) (sym answers)
+        (sending_right k command h);
     told = λ cause e. absurd (going cause e);
     finished = λ e. absurd (moving e);
   }
 
-  responding_once : (w : World) (k : Kept) (response : List ℕ) → Responds k response → w.card.ran ≡ before ++ k.done
+  responding_once : (w : World) (k : Kept) (response : List ℕ) → Responds k response → w.card.ran
+      ≡ before ++ k.done
       → w.answers ≡ k.answers → ((cause : Cause) → w.terminal.phase ≡ GivenUp cause → ⊥)
       → (w.terminal.phase ≡ Over → ⊥) → IsAtMostOnce m before commands w
   responding_once w k response h ran answers going moving = record {
     ran = k.done;
     ran_is = ran;
-    right = subst (λ a. IsRight m.does before commands k.done a) (sym answers) (responding_right k response h);
+    right = subst (λ a. IsRight m.does before commands k.done a) (sym answers)
+        (responding_right k response h);
     told = λ cause e. absurd (going cause e);
     finished = λ e. absurd (moving e);
   }
@@ -376,7 +411,13 @@ module _ (m : Meaning) (before commands : List (List ℕ)) where
 -- both ends after a reset: the first command waits behind S(IFS request)
 abbrev pub first : (before : List (List ℕ)) → Settings → List (List ℕ) → Place
 first before settings [] =
-    Finished (record { terminal = fresh settings; card = card_after before; todo = []; answers = [] })
+    Finished (record {
+      terminal = fresh settings;
+      card = card_after before;
+      todo = [];
+      answers =
+          [];
+    })
 first before settings (c ∷ cs) =
     Opens (record {
       settings = settings;
@@ -392,7 +433,8 @@ first before settings (c ∷ cs) =
       multiple = 0;
     }) (drop settings.ifsc c) settings.tries settings.extensions false
 
-pub first_is : (m : Meaning) (before : List (List ℕ)) (settings : Settings) (commands : List (List ℕ))
+pub first_is : (m : Meaning) (before : List (List ℕ)) (settings : Settings)
+    (commands : List (List ℕ))
     → start settings before commands ≡ world_of m before (first before settings commands)
 first_is m before settings [] = refl
 first_is m before settings (c ∷ cs) =
@@ -403,7 +445,8 @@ first_is m before settings (c ∷ cs) =
       answers = [];
     })) (sym (append-nil before))
 
-pub first_holds : (m : Meaning) (before : List (List ℕ)) (settings : Settings) (commands : List (List ℕ))
+pub first_holds : (m : Meaning) (before : List (List ℕ)) (settings : Settings)
+    (commands : List (List ℕ))
     → Holds m before commands (first before settings commands)
 first_holds m before settings [] = record {
   done = [];
@@ -417,12 +460,18 @@ first_holds m before settings (c ∷ cs) = record {
   sizes = (let some = settings.inside.0 in omega (arith, some), omega arith);
 }
 
-pub first_stands : (m : Meaning) (before : List (List ℕ)) (settings : Settings) (commands : List (List ℕ))
+pub first_stands : (m : Meaning) (before : List (List ℕ)) (settings : Settings)
+    (commands : List (List ℕ))
     → Stands m before commands (start settings before commands)
-first_stands m before settings commands =
-    (first before settings commands, first_holds m before settings commands, first_is m before settings commands)
+first_stands m before settings commands = (
+  first before settings commands,
+  first_holds m before settings commands,
+  first_is m before
+      settings commands,
+)
 
-pub at_most_once : (m : Meaning) (settings : Settings) (before commands : List (List ℕ)) (fates : List Fates)
+pub at_most_once : (m : Meaning) (settings : Settings) (before commands : List (List ℕ))
+    (fates : List Fates)
     → IsAtMostOnce m before commands (run m fates (start settings before commands))
 at_most_once m settings before commands fates =
     stands_once m before commands _

@@ -1,5 +1,5 @@
 -- How many exchanges can still come, at most.
-use Rattle.std.proofs.Common.{◌≡◌, refl, sym, ap, subst, ◌∙◌, ℕ, zero, suc, ◌+◌, ◌-◌, ◌*◌, ◌≤◌, ◌<◌, Bool, true, false, List, [], ◌∷◌, ◌++◌, length, take, drop, length-drop, Option, Some, None, append_assoc, append-nil, arith, ◌⊎◌, inl, inr}
+use Rattle.std.proofs.Common.{◌≡◌, refl, sym, ap, subst, ◌∙◌, ℕ, zero, suc, ◌+◌, ◌*◌, ◌≤◌, Bool, true, false, List, [], ◌∷◌, ◌++◌, length, take, drop, length-drop, Option, Some, None, append_assoc, append-nil, arith, ◌⊎◌, inl, inr}
 use Rattle.std.proofs.lemmas.List.{take-append-drop}
 use Rattle.std.proofs.Math.Nat.{suc-mul, mul-le-mul_right}
 use Rattle.t1_core.specs.declared.line.Fate.{Fate}
@@ -7,13 +7,13 @@ use Rattle.t1_core.specs.declared.line.Fate.TheVariants.{Delivers, Damages, Lose
 use Rattle.t1_core.specs.declared.line.Fates.{Fates}
 use Rattle.t1_core.specs.declared.settings.Settings.{Settings}
 use Rattle.t1_core.specs.declared.terminal.Out.{Out}
-use Rattle.t1_core.specs.declared.terminal.Out.TheVariants.{Own, Asks}
+use Rattle.t1_core.specs.declared.terminal.Out.TheVariants.{Asks}
 use Rattle.t1_core.specs.Block.{other, is_size}
 use Rattle.t1_core.specs.CardSide.{Meaning}
 use Rattle.t1_core.specs.TerminalSide.{has_stopped}
 use Rattle.t1_core.specs.World.{World, exchange, run, start, most_blocks, most_exchanges}
-use Rattle.t1_core.proofs.Places.{Kept, Place, Opens, Behind, Taken, Waits, Grows, Answering, Between, Repeating, Given_up, Finished, spends, extends, proceeds, starts, out_at, world_at, world_of, runs, heard, misses, comes, grows, flips, arrived, garbled, step, is_step, IsActive}
-use Rattle.t1_core.proofs.Holding.{Sends, Responds, Holds, heard_holds, step_holds, first, first_is, first_holds}
+use Rattle.t1_core.proofs.Places.{Kept, Place, Opens, Behind, Taken, Waits, Grows, Answering, Between, Repeating, Given_up, Finished, spends, extends, proceeds, starts, out_at, world_of, runs, heard, misses, comes, grows, flips, arrived, garbled, step, is_step, IsActive}
+use Rattle.t1_core.proofs.Holding.{Holds, heard_holds, step_holds, first, first_is, first_holds}
 
 -- one step less is a try for each reception less
 weigh : (x y t : ℕ) → x + 1 ≤ y → x * t + t ≤ y * t
@@ -27,7 +27,8 @@ same_weigh x y t le = mul-le-mul_right t le
 one_more_todo : (n e : ℕ) → suc n * e ≡ n * e + e
 one_more_todo n e = suc-mul n e
 
-drop_less : (size b : ℕ) (bytes : List ℕ) → 1 ≤ size → length (drop size (b ∷ bytes)) + 1 ≤ length (b ∷ bytes)
+drop_less : (size b : ℕ) (bytes : List ℕ) → 1 ≤ size → length (drop size (b ∷ bytes)) + 1 ≤
+    length (b ∷ bytes)
 drop_less size b bytes some = let e = length-drop size (b ∷ bytes) in omega (arith, e, some)
 
 drop_le : (size : ℕ) (bytes : List ℕ) → length (drop size bytes) ≤ length bytes
@@ -47,7 +48,8 @@ module _ (m : Meaning) (before commands : List (List ℕ)) where
   blocks (Opens k rest tries extensions asks) = ahead k (k.field ++ rest) (length rest)
   blocks (Behind k collected rest answering tries extensions asks) =
       ahead k (collected ++ (k.field ++ rest)) (length rest)
-  blocks (Taken k collected b bytes tries extensions) = ahead k (collected ++ (b ∷ bytes)) (length (b ∷ bytes))
+  blocks (Taken k collected b bytes tries extensions) = ahead k (collected ++ (b ∷ bytes))
+      (length (b ∷ bytes))
   blocks (Waits k rest n size granted tries extensions) = behind k (length rest + 1)
   blocks (Grows k rest size granted tries extensions) = behind k (length rest + 1)
   blocks (Answering k rest tries extensions) = behind k (length rest + 1)
@@ -67,11 +69,16 @@ module _ (m : Meaning) (before commands : List (List ℕ)) where
       weight k (ahead k (collected ++ (k.field ++ rest)) (length rest)) tries extensions
   measure (Taken k collected b bytes tries extensions) =
       weight k (ahead k (collected ++ (b ∷ bytes)) (length (b ∷ bytes))) tries extensions
-  measure (Waits k rest n size granted tries extensions) = weight k (behind k (length rest + 1)) tries extensions
-  measure (Grows k rest size granted tries extensions) = weight k (behind k (length rest + 1)) tries extensions
-  measure (Answering k rest tries extensions) = weight k (behind k (length rest + 1)) tries extensions
-  measure (Between k got b bytes tries extensions) = weight k (behind k (length (b ∷ bytes))) tries extensions
-  measure (Repeating k got rest tries extensions) = weight k (behind k (length rest + 1)) tries extensions
+  measure (Waits k rest n size granted tries extensions) = weight k (behind k (length rest + 1))
+      tries extensions
+  measure (Grows k rest size granted tries extensions) = weight k (behind k (length rest + 1))
+      tries extensions
+  measure (Answering k rest tries extensions) = weight k (behind k (length rest + 1)) tries
+      extensions
+  measure (Between k got b bytes tries extensions) = weight k (behind k (length (b ∷ bytes)))
+      tries extensions
+  measure (Repeating k got rest tries extensions) = weight k (behind k (length rest + 1)) tries
+      extensions
   measure (Given_up w cause) = 0
   measure (Finished w) = 0
 
@@ -96,27 +103,36 @@ module _ (m : Meaning) (before commands : List (List ℕ)) where
   spends_less (suc n) w again most some h = h n (omega arith)
 
   extends_less : (n : ℕ) (w : World) (again : ℕ → Place) (most : ℕ) → 1 ≤ most
-      → ((i : ℕ) → i + 1 ≡ n → measure (again i) + 1 ≤ most) → measure (extends n w again) + 1 ≤ most
+      → ((i : ℕ) → i + 1 ≡ n → measure (again i) + 1 ≤ most) → measure (extends n w again) + 1 ≤
+      most
   extends_less zero w again most some h = omega (arith, some)
   extends_less (suc n) w again most some h = h n (omega arith)
 
-  misses_less : (out : Out) (p : Place) → IsActive m before p → measure (misses m before out p) + 1 ≤ measure p
+  misses_less : (out : Out) (p : Place) → IsActive m before p → measure (misses m before out p) +
+      1 ≤ measure p
   misses_less out (Opens k rest tries extensions asks) a =
       spends_less tries _ _ _ (omega arith) (λ i e. omega (arith, e))
   misses_less out (Behind k collected rest answering tries extensions asks) a =
-      spends_less tries _ _ _ (some_weight k _ tries extensions (omega arith)) (λ i e. omega (arith, e))
+      spends_less tries _ _ _ (some_weight k _ tries extensions (omega arith))
+      (λ i e. omega (arith, e))
   misses_less out (Taken k collected b bytes tries extensions) a =
-      spends_less tries _ _ _ (some_weight k _ tries extensions (omega arith)) (λ i e. omega (arith, e))
+      spends_less tries _ _ _ (some_weight k _ tries extensions (omega arith))
+      (λ i e. omega (arith, e))
   misses_less out (Waits k rest n size granted tries extensions) a =
-      spends_less tries _ _ _ (some_weight k _ tries extensions (omega arith)) (λ i e. omega (arith, e))
+      spends_less tries _ _ _ (some_weight k _ tries extensions (omega arith))
+      (λ i e. omega (arith, e))
   misses_less out (Grows k rest size granted tries extensions) a =
-      spends_less tries _ _ _ (some_weight k _ tries extensions (omega arith)) (λ i e. omega (arith, e))
+      spends_less tries _ _ _ (some_weight k _ tries extensions (omega arith))
+      (λ i e. omega (arith, e))
   misses_less out (Answering k rest tries extensions) a =
-      spends_less tries _ _ _ (some_weight k _ tries extensions (omega arith)) (λ i e. omega (arith, e))
+      spends_less tries _ _ _ (some_weight k _ tries extensions (omega arith))
+      (λ i e. omega (arith, e))
   misses_less out (Between k got b bytes tries extensions) a =
-      spends_less tries _ _ _ (some_weight k _ tries extensions (omega arith)) (λ i e. omega (arith, e))
+      spends_less tries _ _ _ (some_weight k _ tries extensions (omega arith))
+      (λ i e. omega (arith, e))
   misses_less out (Repeating k got rest tries extensions) a =
-      spends_less tries _ _ _ (some_weight k _ tries extensions (omega arith)) (λ i e. omega (arith, e))
+      spends_less tries _ _ _ (some_weight k _ tries extensions (omega arith))
+      (λ i e. omega (arith, e))
   misses_less out (Given_up w cause) a = absurd a
   misses_less out (Finished w) a = absurd a
 
@@ -136,26 +152,35 @@ module _ (m : Meaning) (before commands : List (List ℕ)) where
       let done : List (List ℕ) = k.done ++ command ∷ [] in
       let response : List ℕ = m.does (before ++ done) in
       let shorter = drop_le k.ifsd response in
-      let e : weight k (ahead k (collected ++ (k.field ++ [])) 0) tries extensions ≡ weight k (ahead k command 0) tries extensions =
+      let e : weight k (ahead k (collected ++ (k.field ++ [])) 0) tries extensions ≡ weight k
+      (ahead k command 0) tries extensions =
       ap (λ f. weight k (ahead k (collected ++ f) 0) tries extensions) (append-nil k.field) in
-      starts_le (runs m before k done) (drop k.ifsd response) (m.asks (before ++ done)).extensions (m.asks (before ++ done)).size
+      starts_le (runs m before k done) (drop k.ifsd response)
+      (m.asks (before ++ done)).extensions (m.asks (before ++ done)).size
       tries extensions _
-      (subst (λ n. weight k (behind (runs m before k done) (length (drop k.ifsd response) + 1)) tries extensions ≤ n) (sym e)
-      (less_weight k _ (ahead k command 0) tries tries extensions (omega (arith, shorter)) (omega arith)))
+      (subst (λ n. weight k (behind (runs m before k done) (length (drop k.ifsd response) + 1))
+      tries extensions ≤ n) (sym e)
+      (less_weight k _ (ahead k command 0) tries tries extensions (omega (arith, shorter))
+      (omega arith)))
   heard_le (Behind k collected (b ∷ bytes) answering tries extensions false) h =
-      let e : weight k (ahead k ((collected ++ k.field) ++ (b ∷ bytes)) (length (b ∷ bytes))) tries extensions
-      ≡ weight k (ahead k (collected ++ (k.field ++ (b ∷ bytes))) (length (b ∷ bytes))) tries extensions =
-      ap (λ c. weight k (ahead k c (length (b ∷ bytes))) tries extensions) (append_assoc collected k.field (b ∷ bytes)) in
+      let e : weight k (ahead k ((collected ++ k.field) ++ (b ∷ bytes)) (length (b ∷ bytes)))
+      tries extensions
+      ≡ weight k (ahead k (collected ++ (k.field ++ (b ∷ bytes))) (length (b ∷ bytes))) tries
+      extensions =
+      ap (λ c. weight k (ahead k c (length (b ∷ bytes))) tries extensions)
+      (append_assoc collected k.field (b ∷ bytes)) in
       omega (arith, e)
   heard_le (Taken k collected b bytes tries extensions) h = omega arith
-  heard_le (Waits k rest n size true tries extensions) h = starts_le k rest n size tries extensions _ (omega arith)
+  heard_le (Waits k rest n size true tries extensions) h = starts_le k rest n size tries
+      extensions _ (omega arith)
   heard_le (Waits k rest n size false tries extensions) h = omega arith
   heard_le (Grows k rest size true tries extensions) h = omega arith
   heard_le (Grows k rest size false tries extensions) h = omega arith
   heard_le (Answering k rest tries extensions) h = omega arith
   heard_le (Between k got b bytes tries extensions) h =
       let less = drop_less k.ifsd b bytes h.sizes.1 in
-      less_weight k (behind k (length (drop k.ifsd (b ∷ bytes)) + 1)) (behind k (length (b ∷ bytes))) tries tries extensions
+      less_weight k (behind k (length (drop k.ifsd (b ∷ bytes)) + 1))
+      (behind k (length (b ∷ bytes))) tries tries extensions
       (omega (arith, less)) (omega arith)
   heard_le (Repeating k got rest tries extensions) h = omega arith
   heard_le (Given_up w cause) h = omega arith
@@ -164,7 +189,8 @@ module _ (m : Meaning) (before commands : List (List ℕ)) where
   -- the next command, behind an answer
   proceeds_less : (k : Kept) (todo : List (List ℕ)) (w : World) (tries extensions : ℕ)
       → measure (proceeds k todo w) + 1
-      ≤ (1 + most_blocks m.does (before ++ k.done) todo) * (k.settings.tries + 1) + tries + extensions
+      ≤ (1 + most_blocks m.does (before ++ k.done) todo) * (k.settings.tries + 1) + tries +
+      extensions
       + length todo * k.settings.extensions
   proceeds_less k [] w tries extensions =
       let w = weigh 0 (1 + 0) (k.settings.tries + 1) (omega arith) in omega (arith, w)
@@ -173,20 +199,26 @@ module _ (m : Meaning) (before commands : List (List ℕ)) where
       let shorter = drop_le k.size c in
       let many = one_more_todo (length cs) k.settings.extensions in
       let next : Kept = record k { todo = cs; field = take k.size c } in
-      let e : ahead next (take k.size c ++ drop k.size c) (length (drop k.size c)) ≡ ahead next c (length (drop k.size c)) =
+      let e : ahead next (take k.size c ++ drop k.size c) (length (drop k.size c)) ≡ ahead next c
+      (length (drop k.size c)) =
       ap (λ x. ahead next x (length (drop k.size c))) whole in
       let same : most_blocks m.does (before ++ k.done) (c ∷ cs)
-      ≡ length c + 1 + length (m.does (before ++ (k.done ++ c ∷ []))) + most_blocks m.does (before ++ (k.done ++ c ∷ [])) cs =
-      ap (λ r. length c + 1 + length (m.does r) + most_blocks m.does r cs) (append_assoc before k.done (c ∷ [])) in
+      ≡ length c + 1 + length (m.does (before ++ (k.done ++ c ∷ []))) + most_blocks m.does
+      (before ++ (k.done ++ c ∷ [])) cs =
+      ap (λ r. length c + 1 + length (m.does r) + most_blocks m.does r cs)
+      (append_assoc before k.done (c ∷ [])) in
       let w = weigh (ahead next (take k.size c ++ drop k.size c) (length (drop k.size c)))
-      (1 + most_blocks m.does (before ++ k.done) (c ∷ cs)) (k.settings.tries + 1) (omega (arith, e, same, shorter)) in
+      (1 + most_blocks m.does (before ++ k.done) (c ∷ cs)) (k.settings.tries + 1)
+      (omega (arith, e, same, shorter)) in
       omega (arith, w, many)
 
-  grows_less : (v : Bool) (out : Out) (k : Kept) (rest : List ℕ) (size : ℕ) (granted : Bool) (tries extensions : ℕ)
+  grows_less : (v : Bool) (out : Out) (k : Kept) (rest : List ℕ) (size : ℕ) (granted : Bool)
+      (tries extensions : ℕ)
       → measure (grows m before v out k rest size granted tries extensions) + 1
       ≤ measure (Grows k rest size granted tries extensions)
   grows_less true out k rest size granted tries extensions =
-      extends_less extensions _ _ _ (some_weight k _ tries extensions (omega arith)) (λ i e. omega (arith, e))
+      extends_less extensions _ _ _ (some_weight k _ tries extensions (omega arith))
+      (λ i e. omega (arith, e))
   grows_less false out k rest size granted tries extensions =
       misses_less out (Grows k rest size granted tries extensions) tt
 
@@ -194,32 +226,45 @@ module _ (m : Meaning) (before commands : List (List ℕ)) where
       → measure (comes m before out p) + 1 ≤ measure p
   comes_less out (Opens k rest tries extensions asks) a h = omega arith
   comes_less out (Behind k collected rest answering tries extensions asks) a h =
-      spends_less tries _ _ _ (some_weight k _ tries extensions (omega arith)) (λ i e. omega (arith, e))
+      spends_less tries _ _ _ (some_weight k _ tries extensions (omega arith))
+      (λ i e. omega (arith, e))
   comes_less out (Taken k collected b bytes tries extensions) a h =
       let next : Kept = record k { field = take k.size (b ∷ bytes); number = other k.number } in
       let less = drop_less k.size b bytes h.sizes.0 in
-      let e : ahead next (collected ++ (take k.size (b ∷ bytes) ++ drop k.size (b ∷ bytes))) (length (drop k.size (b ∷ bytes)))
+      let e : ahead next (collected ++ (take k.size (b ∷ bytes) ++ drop k.size (b ∷ bytes)))
+      (length (drop k.size (b ∷ bytes)))
       ≡ ahead next (collected ++ (b ∷ bytes)) (length (drop k.size (b ∷ bytes))) =
-      ap (λ x. ahead next (collected ++ x) (length (drop k.size (b ∷ bytes)))) (take-append-drop k.size (b ∷ bytes)) in
-      step_weight k (ahead next (collected ++ (take k.size (b ∷ bytes) ++ drop k.size (b ∷ bytes))) (length (drop k.size (b ∷ bytes))))
-      (ahead k (collected ++ (b ∷ bytes)) (length (b ∷ bytes))) tries extensions (omega (arith, e, less))
+      ap (λ x. ahead next (collected ++ x) (length (drop k.size (b ∷ bytes))))
+      (take-append-drop k.size (b ∷ bytes)) in
+      step_weight k (ahead next (collected ++
+      (take k.size (b ∷ bytes) ++ drop k.size (b ∷ bytes)))
+      (length (drop k.size (b ∷ bytes))))
+      (ahead k (collected ++ (b ∷ bytes)) (length (b ∷ bytes))) tries extensions
+      (omega (arith, e, less))
   comes_less out (Waits k rest n size granted tries extensions) a h =
-      extends_less extensions _ _ _ (some_weight k _ tries extensions (omega arith)) (λ i e. omega (arith, e))
+      extends_less extensions _ _ _ (some_weight k _ tries extensions (omega arith))
+      (λ i e. omega (arith, e))
   comes_less out (Grows k rest size granted tries extensions) a h =
       grows_less (is_size size) out k rest size granted tries extensions
   comes_less out (Answering k [] tries extensions) a h =
-      proceeds_less (record (flips k) { answers = k.answers ++ k.last ∷ [] }) k.todo _ tries extensions
+      proceeds_less (record (flips k) { answers = k.answers ++ k.last ∷ [] }) k.todo _ tries
+      extensions
   comes_less out (Answering k (b ∷ bytes) tries extensions) a h =
-      step_weight k (behind k (length (b ∷ bytes))) (behind k (length (b ∷ bytes) + 1)) tries extensions (omega arith)
-  comes_less out (Between k got b bytes tries extensions) a h = misses_less out (Between k got b bytes tries extensions) tt
+      step_weight k (behind k (length (b ∷ bytes))) (behind k (length (b ∷ bytes) + 1)) tries
+      extensions (omega arith)
+  comes_less out (Between k got b bytes tries extensions) a h = misses_less out
+      (Between k got b bytes tries extensions) tt
   comes_less out (Repeating k got [] tries extensions) a h =
-      proceeds_less (record k { due = other k.due; answers = k.answers ++ (got ++ k.last) ∷ [] }) k.todo _ tries extensions
+      proceeds_less (record k { due = other k.due; answers = k.answers ++ (got ++ k.last) ∷ [] })
+      k.todo _ tries extensions
   comes_less out (Repeating k got (b ∷ bytes) tries extensions) a h =
-      step_weight k (behind k (length (b ∷ bytes))) (behind k (length (b ∷ bytes) + 1)) tries extensions (omega arith)
+      step_weight k (behind k (length (b ∷ bytes))) (behind k (length (b ∷ bytes) + 1)) tries
+      extensions (omega arith)
   comes_less out (Given_up w cause) a h = absurd a
   comes_less out (Finished w) a h = absurd a
 
-  arrived_less : (up : Fate) (out : Out) (p : Place) → IsActive m before p → Holds m before commands p
+  arrived_less : (up : Fate) (out : Out) (p : Place) → IsActive m before p → Holds m before
+      commands p
       → measure (arrived m before out up p) + 1 ≤ measure p
   arrived_less Delivers out p a h = comes_less out p a h
   arrived_less Damages out p a h = misses_less out p a
@@ -227,14 +272,19 @@ module _ (m : Meaning) (before commands : List (List ℕ)) where
 
   garbled_less : (up : Fate) (p : Place) → IsActive m before p → Holds m before commands p
       → measure (garbled m before up p) + 1 ≤ measure p
-  garbled_less up (Opens k rest tries extensions asks) a h = misses_less _ (Opens k rest tries extensions asks) tt
-  garbled_less up (Behind k collected rest answering tries extensions asks) a h = arrived_less up _ _ tt h
+  garbled_less up (Opens k rest tries extensions asks) a h = misses_less _
+      (Opens k rest tries extensions asks) tt
+  garbled_less up (Behind k collected rest answering tries extensions asks) a h = arrived_less up
+      _ _ tt h
   garbled_less up (Taken k collected b bytes tries extensions) a h = arrived_less up _ _ tt h
   garbled_less up (Waits k rest n size granted tries extensions) a h = arrived_less up _ _ tt h
   garbled_less up (Grows k rest size granted tries extensions) a h = arrived_less up _ _ tt h
-  garbled_less up (Answering k rest tries extensions) a h = misses_less _ (Answering k rest tries extensions) tt
-  garbled_less up (Between k got b bytes tries extensions) a h = misses_less _ (Between k got b bytes tries extensions) tt
-  garbled_less up (Repeating k got rest tries extensions) a h = misses_less _ (Repeating k got rest tries extensions) tt
+  garbled_less up (Answering k rest tries extensions) a h = misses_less _
+      (Answering k rest tries extensions) tt
+  garbled_less up (Between k got b bytes tries extensions) a h = misses_less _
+      (Between k got b bytes tries extensions) tt
+  garbled_less up (Repeating k got rest tries extensions) a h = misses_less _
+      (Repeating k got rest tries extensions) tt
   garbled_less up (Given_up w cause) a h = absurd a
   garbled_less up (Finished w) a h = absurd a
 
@@ -248,10 +298,12 @@ module _ (m : Meaning) (before commands : List (List ℕ)) where
   heard_active (Opens k rest tries extensions asks) a = tt
   heard_active (Behind k collected [] answering tries extensions true) a = tt
   heard_active (Behind k collected (b ∷ bytes) answering tries extensions true) a = tt
-  heard_active (Behind k collected [] answering tries extensions false) a = starts_active _ _ _ _ tries extensions
+  heard_active (Behind k collected [] answering tries extensions false) a = starts_active _ _ _ _
+      tries extensions
   heard_active (Behind k collected (b ∷ bytes) answering tries extensions false) a = tt
   heard_active (Taken k collected b bytes tries extensions) a = tt
-  heard_active (Waits k rest n size true tries extensions) a = starts_active k rest n size tries extensions
+  heard_active (Waits k rest n size true tries extensions) a = starts_active k rest n size tries
+      extensions
   heard_active (Waits k rest n size false tries extensions) a = tt
   heard_active (Grows k rest size true tries extensions) a = tt
   heard_active (Grows k rest size false tries extensions) a = tt
@@ -265,12 +317,14 @@ module _ (m : Meaning) (before commands : List (List ℕ)) where
       → measure (step m before down up p) + 1 ≤ measure p
   step_less Delivers up p a h =
       let le = heard_le p h in
-      let less = arrived_less up (out_at p) (heard m before p) (heard_active p a) (heard_holds m before commands p h) in
+      let less = arrived_less up (out_at p) (heard m before p) (heard_active p a)
+      (heard_holds m before commands p h) in
       omega (arith, le, less)
   step_less Damages up p a h = garbled_less up p a h
   step_less Loses up p a h = misses_less (out_at p) p a
 
-  active_or : (p : Place) → IsActive m before p ⊎ (has_stopped (world_of m before p).terminal.phase ≡ true)
+  active_or : (p : Place) → IsActive m before p ⊎
+      (has_stopped (world_of m before p).terminal.phase ≡ true)
   active_or (Opens k rest tries extensions asks) = inl tt
   active_or (Behind k collected rest answering tries extensions asks) = inl tt
   active_or (Taken k collected b bytes tries extensions) = inl tt
@@ -311,7 +365,8 @@ module _ (m : Meaning) (before commands : List (List ℕ)) where
       ]
   stops_at (x ∷ xs) p h some =
       let q : Place = step m before x.down x.up p in
-      let is : exchange m x (world_of m before p) ≡ world_of m before q = is_step m before x.down x.up p in
+      let is : exchange m x (world_of m before p) ≡ world_of m before q = is_step m before x.down
+      x.up p in
       subst (λ w. has_stopped (run m xs w).terminal.phase ≡ true) (sym is)
       (stops_at xs q (step_holds m before commands x.down x.up p h) (elim (active_or p) [
         | inl a ↦
@@ -322,12 +377,15 @@ module _ (m : Meaning) (before commands : List (List ℕ)) where
         | inr e ↦ inr (ap (λ w. has_stopped w.terminal.phase) (sym is) ∙ stays_stopped x p e)
       ]))
 
-pub stops : (m : Meaning) (settings : Settings) (before commands : List (List ℕ)) (fates : List Fates)
+pub stops : (m : Meaning) (settings : Settings) (before commands : List (List ℕ))
+    (fates : List Fates)
     → most_exchanges settings m.does before commands ≤ length fates
     → has_stopped (run m fates (start settings before commands)).terminal.phase ≡ true
 stops m settings before commands fates le =
-    subst (λ w. has_stopped (run m fates w).terminal.phase ≡ true) (sym (first_is m before settings commands))
-    (stops_at m before commands fates (first before settings commands) (first_holds m before settings commands)
+    subst (λ w. has_stopped (run m fates w).terminal.phase ≡ true)
+    (sym (first_is m before settings commands))
+    (stops_at m before commands fates (first before settings commands)
+    (first_holds m before settings commands)
     (inl (most_le commands le))) where
       most_le : (cs : List (List ℕ)) → most_exchanges settings m.does before cs ≤ length fates
           → measure m before cs (first before settings cs) ≤ length fates
@@ -336,9 +394,11 @@ stops m settings before commands fates le =
           let shorter = drop_le settings.ifsc c in
           let many = one_more_todo (length cs) settings.extensions in
           let k = settings.ifsc in
-          let e : length (m.does (before ++ ([] ++ (take k c ++ drop k c) ∷ []))) + most_blocks m.does (before ++ ([] ++ (take k c ++ drop k c) ∷ [])) cs
+          let e : length (m.does (before ++ ([] ++ (take k c ++ drop k c) ∷ []))) + most_blocks
+          m.does (before ++ ([] ++ (take k c ++ drop k c) ∷ [])) cs
           ≡ length (m.does (before ++ c ∷ [])) + most_blocks m.does (before ++ c ∷ []) cs =
-          ap (λ x. length (m.does (before ++ x ∷ [])) + most_blocks m.does (before ++ x ∷ []) cs) (take-append-drop k c) in
+          ap (λ x. length (m.does (before ++ x ∷ [])) + most_blocks m.does (before ++ x ∷ []) cs)
+          (take-append-drop k c) in
           let w = same_weigh
           (length (drop k c) + 1 + length (m.does (before ++ ([] ++ (take k c ++ drop k c) ∷ [])))
           + most_blocks m.does (before ++ ([] ++ (take k c ++ drop k c) ∷ [])) cs)

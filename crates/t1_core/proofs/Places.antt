@@ -1,11 +1,10 @@
 -- Where both ends stand between two exchanges, and where an exchange takes them.
-use Rattle.std.proofs.Common.{◌≡◌, refl, ap, ◌∙◌, ℕ, zero, suc, Bool, true, false, List, [], ◌∷◌, ◌++◌, take, drop, Option, Some, None, cond, append_assoc}
+use Rattle.std.proofs.Common.{◌≡◌, refl, ap, ◌∙◌, ℕ, zero, suc, Bool, true, false, List, [], ◌∷◌, ◌++◌, take, drop, Option, Some, None, append_assoc}
 use Rattle.std.proofs.lemmas.Bool.{eq-eqb}
 use Rattle.t1_core.specs.declared.card.Requests.{Requests}
 use Rattle.t1_core.specs.declared.control.Control.TheVariants.{Ifs, Wtx}
 use Rattle.t1_core.specs.declared.line.Fate.{Fate}
 use Rattle.t1_core.specs.declared.line.Fate.TheVariants.{Delivers, Damages, Loses}
-use Rattle.t1_core.specs.declared.line.Fates.{Fates}
 use Rattle.t1_core.specs.declared.settings.Settings.{Settings}
 use Rattle.t1_core.specs.declared.terminal.Cause.{Cause}
 use Rattle.t1_core.specs.declared.terminal.Cause.TheVariants.{TriesSpent, ExtensionsSpent}
@@ -15,7 +14,7 @@ use Rattle.t1_core.specs.declared.terminal.Phase.{Phase}
 use Rattle.t1_core.specs.declared.terminal.Phase.TheVariants.{Opening, Sending, Receiving, Over, GivenUp}
 use Rattle.t1_core.specs.Block.{Block, I, R, Request, Response, other, more, is_size}
 use Rattle.t1_core.specs.CardSide.{Card, Meaning, Turn, answers_with, request_of, carries_out}
-use Rattle.t1_core.specs.TerminalSide.{Terminal, takes, spend, longest}
+use Rattle.t1_core.specs.TerminalSide.{Terminal, takes, longest}
 use Rattle.t1_core.specs.World.{World, arrives, settled, next_command, exchange}
 use Rattle.t1_core.proofs.Bits.{same_self, same_other, same_other_2, other_other}
 
@@ -37,7 +36,8 @@ abbrev pub out_of : Bool → Out
 out_of true = Asks
 out_of false = Own
 
-abbrev pub terminal_at : Kept → (rest got : List ℕ) → Bool → (tries extensions : ℕ) → Phase → Out → Terminal
+abbrev pub terminal_at : Kept → (rest got : List ℕ) → Bool → (tries extensions : ℕ) → Phase → Out
+    → Terminal
 terminal_at k rest got opened tries extensions phase out =
     record {
       settings = k.settings;
@@ -93,9 +93,6 @@ out_at (Waits k rest n size true tries extensions) = Grants (Wtx k.multiple)
 out_at (Grows k rest size true tries extensions) = Grants (Ifs size)
 out_at _ = Asks
 
-abbrev pub with_out : Out → World → World
-with_out out w = record w { terminal = record w.terminal { out = out } }
-
 abbrev pub with_phase : Phase → World → World
 with_phase phase w = record w { terminal = record w.terminal { phase = phase } }
 
@@ -124,7 +121,8 @@ starts k rest zero (Some size) tries extensions = Grows k rest size false tries 
 starts k rest zero None tries extensions = Answering k rest tries extensions
 
 module _ (m : Meaning) (before : List (List ℕ)) where
-  abbrev pub card_at : Kept → (collected rest : List ℕ) → (due next answering : Bool) → Requests → Card
+  abbrev pub card_at : Kept → (collected rest : List ℕ) → (due next answering : Bool) → Requests
+      → Card
   card_at k collected rest due next answering left =
       record {
         due = due;
@@ -200,19 +198,22 @@ module _ (m : Meaning) (before : List (List ℕ)) where
   heard (Behind k collected [] answering tries extensions false) =
       let done : List (List ℕ) = k.done ++ (collected ++ k.field) ∷ [] in
       let asks : Requests = m.asks (before ++ done) in
-      starts (runs k done) (drop k.ifsd (m.does (before ++ done))) asks.extensions asks.size tries extensions
+      starts (runs k done) (drop k.ifsd (m.does (before ++ done))) asks.extensions asks.size
+      tries extensions
   heard (Behind k collected (b ∷ bytes) answering tries extensions false) =
       Taken (record k { last = [] }) (collected ++ k.field) b bytes tries extensions
   heard (Waits k rest n size true tries extensions) = starts k rest n size tries extensions
   heard (Grows k rest size true tries extensions) = Answering k rest tries extensions
   heard (Between k got b bytes tries extensions) =
-      Repeating (record k { last = take k.ifsd (b ∷ bytes) }) got (drop k.ifsd (b ∷ bytes)) tries extensions
+      Repeating (record k { last = take k.ifsd (b ∷ bytes) }) got (drop k.ifsd (b ∷ bytes)) tries
+      extensions
   heard p = p
 
   -- the card's block does not come
   abbrev pub misses : Out → Place → Place
   misses out (Opens k rest tries extensions asks) =
-      spends tries (world_at out (Opens k rest tries extensions asks)) (λ n. Opens k rest n extensions true)
+      spends tries (world_at out (Opens k rest tries extensions asks))
+      (λ n. Opens k rest n extensions true)
   misses out (Behind k collected rest answering tries extensions asks) =
       spends tries (world_at out (Behind k collected rest answering tries extensions asks))
       (λ n. Behind k collected rest answering n extensions true)
@@ -226,7 +227,8 @@ module _ (m : Meaning) (before : List (List ℕ)) where
       spends tries (world_at out (Grows k rest size granted tries extensions))
       (λ n. Grows k rest size false n extensions)
   misses out (Answering k rest tries extensions) =
-      spends tries (world_at out (Answering k rest tries extensions)) (λ n. Answering k rest n extensions)
+      spends tries (world_at out (Answering k rest tries extensions))
+      (λ n. Answering k rest n extensions)
   misses out (Between k got b bytes tries extensions) =
       spends tries (world_at out (Between k got b bytes tries extensions))
       (λ n. Between k got b bytes n extensions)
@@ -239,7 +241,8 @@ module _ (m : Meaning) (before : List (List ℕ)) where
   -- a size that is none is no use to the terminal
   abbrev pub grows : Bool → Out → Kept → List ℕ → ℕ → Bool → (tries extensions : ℕ) → Place
   grows true out k rest size granted tries extensions =
-      extends extensions (world_at out (Grows (record k { size = size }) rest size granted tries extensions))
+      extends extensions (world_at out (Grows (record k { size = size }) rest size granted tries
+      extensions))
       (λ n. Grows (record k { size = size }) rest size true tries n)
   grows false out k rest size granted tries extensions =
       misses out (Grows k rest size granted tries extensions)
@@ -260,14 +263,19 @@ module _ (m : Meaning) (before : List (List ℕ)) where
       grows (is_size size) out k rest size granted tries extensions
   comes out (Answering k [] tries extensions) =
       let now : Kept = record (flips k) { answers = k.answers ++ k.last ∷ [] } in
-      proceeds now k.todo (world now (terminal_at (flips k) [] k.last true tries extensions Over out)
+      proceeds now k.todo (world now (terminal_at (flips k) [] k.last true tries extensions Over
+      out)
       (card_at k [] [] (other k.number) (other k.due) true (idle k)))
   comes out (Answering k (b ∷ bytes) tries extensions) =
       Between (flips k) k.last b bytes k.settings.tries extensions
   comes out (Repeating k got [] tries extensions) =
-      let now : Kept = record k { due = other k.due; answers = k.answers ++ (got ++ k.last) ∷ [] } in
+      let now : Kept = record k {
+        due = other k.due;
+        answers = k.answers ++ (got ++ k.last) ∷ [];
+      } in
       proceeds now k.todo (world now
-      (terminal_at (record k { due = other k.due }) [] (got ++ k.last) true tries extensions Over out)
+      (terminal_at (record k { due = other k.due }) [] (got ++ k.last) true tries extensions Over
+      out)
       (card_at k [] [] k.number (other k.due) true (idle k)))
   comes out (Repeating k got (b ∷ bytes) tries extensions) =
       Between (record k { due = other k.due }) (got ++ k.last) b bytes k.settings.tries extensions
@@ -301,7 +309,8 @@ module _ (m : Meaning) (before : List (List ℕ)) where
   IsActive _ = Unit {0}
 
   abbrev pub took : Out → Place → Option Block → World
-  took out p b = let w : World = world_at out p in settled (record w { terminal = takes w.terminal b })
+  took out p b = let w : World = world_at out p in settled
+      (record w { terminal = takes w.terminal b })
 
   missed : (out : Out) (p : Place) → IsActive p → took out p None ≡ world_of (misses out p)
   missed out (Opens k rest zero extensions asks) a = refl
@@ -323,7 +332,8 @@ module _ (m : Meaning) (before : List (List ℕ)) where
   missed out (Given_up w cause) a = absurd a
   missed out (Finished w) a = absurd a
 
-  proceeds_is : (k : Kept) (todo old : List (List ℕ)) (out : Out) (got : List ℕ) (tries extensions : ℕ) (answers : List (List ℕ))
+  proceeds_is : (k : Kept) (todo old : List (List ℕ)) (out : Out) (got : List ℕ)
+      (tries extensions : ℕ) (answers : List (List ℕ))
       → next_command todo (record {
         terminal = terminal_at k [] got true tries extensions Over out;
         card = card_at k [] [] k.number k.due true (idle k);
@@ -339,7 +349,8 @@ module _ (m : Meaning) (before : List (List ℕ)) where
   proceeds_is k [] old out got tries extensions answers = refl
   proceeds_is k (c ∷ cs) old out got tries extensions answers = refl
 
-  grown : (out : Out) (k : Kept) (rest : List ℕ) (size : ℕ) (granted : Bool) (tries extensions : ℕ) (v : Bool)
+  grown : (out : Out) (k : Kept) (rest : List ℕ) (size : ℕ) (granted : Bool)
+      (tries extensions : ℕ) (v : Bool)
       → is_size size ≡ v
       → took out (Grows k rest size granted tries extensions) (Some (Request (Ifs size)))
       ≡ world_of (grows v out k rest size granted tries extensions)
@@ -348,22 +359,27 @@ module _ (m : Meaning) (before : List (List ℕ)) where
   grown out k rest size granted zero extensions false e = rw e refl
   grown out k rest size granted (suc n) extensions false e = rw e refl
 
-  comes_is : (out : Out) (p : Place) → IsActive p → took out p (Some (reply_of p)) ≡ world_of (comes out p)
+  comes_is : (out : Out) (p : Place) → IsActive p → took out p (Some (reply_of p)) ≡ world_of
+      (comes out p)
   comes_is out (Opens k rest tries extensions asks) a = refl
-  comes_is out (Behind k collected rest answering zero extensions asks) a = rw (same_self k.number) refl
-  comes_is out (Behind k collected rest answering (suc n) extensions asks) a = rw (same_self k.number) refl
+  comes_is out (Behind k collected rest answering zero extensions asks) a = rw
+      (same_self k.number) refl
+  comes_is out (Behind k collected rest answering (suc n) extensions asks) a = rw
+      (same_self k.number) refl
   comes_is out (Taken k collected b bytes tries extensions) a = rw (same_other k.number) refl
   comes_is out (Waits k rest n size granted tries zero) a = refl
   comes_is out (Waits k rest n size granted tries (suc e)) a = refl
   comes_is out (Grows k rest size granted tries extensions) a =
       grown out k rest size granted tries extensions (is_size size) refl
   comes_is out (Answering k [] tries extensions) a =
-      rw (same_self k.due) (proceeds_is (flips k) k.todo k.todo out k.last tries extensions (k.answers ++ k.last ∷ []))
+      rw (same_self k.due) (proceeds_is (flips k) k.todo k.todo out k.last tries extensions
+      (k.answers ++ k.last ∷ []))
   comes_is out (Answering k (b ∷ bytes) tries extensions) a = rw (same_self k.due) refl
   comes_is out (Between k got b bytes zero extensions) a = refl
   comes_is out (Between k got b bytes (suc n) extensions) a = refl
   comes_is out (Repeating k got [] tries extensions) a =
-      rw (same_self k.due) (proceeds_is (record k { due = other k.due }) k.todo k.todo out (got ++ k.last)
+      rw (same_self k.due) (proceeds_is (record k { due = other k.due }) k.todo k.todo out
+      (got ++ k.last)
       tries extensions (k.answers ++ (got ++ k.last) ∷ []))
   comes_is out (Repeating k got (b ∷ bytes) tries extensions) a = rw (same_self k.due) refl
   comes_is out (Given_up w cause) a = absurd a
@@ -379,44 +395,61 @@ module _ (m : Meaning) (before : List (List ℕ)) where
   abbrev Notices : Out → Fate → Place → Bool → Type 0
   Notices out up p number = took out p (arrives up (Some (R number))) ≡ world_of (misses out p)
 
-  notices_opening : (out : Out) (up : Fate) (k : Kept) (rest : List ℕ) (tries extensions : ℕ) (asks number : Bool)
+  notices_opening : (out : Out) (up : Fate) (k : Kept) (rest : List ℕ) (tries extensions : ℕ)
+      (asks number : Bool)
       → Notices out up (Opens k rest tries extensions asks) number
-  notices_opening out Delivers k rest tries extensions asks number = missed out (Opens k rest tries extensions asks) tt
-  notices_opening out Damages k rest tries extensions asks number = missed out (Opens k rest tries extensions asks) tt
-  notices_opening out Loses k rest tries extensions asks number = missed out (Opens k rest tries extensions asks) tt
+  notices_opening out Delivers k rest tries extensions asks number = missed out
+      (Opens k rest tries extensions asks) tt
+  notices_opening out Damages k rest tries extensions asks number = missed out
+      (Opens k rest tries extensions asks) tt
+  notices_opening out Loses k rest tries extensions asks number = missed out
+      (Opens k rest tries extensions asks) tt
 
   notices_answering : (up : Fate) (k : Kept) (rest : List ℕ) (tries extensions : ℕ)
       → Notices Asks up (Answering k rest tries extensions) (other k.number)
   notices_answering Delivers k rest tries extensions =
       rw (same_other k.number) (missed Asks (Answering k rest tries extensions) tt)
-  notices_answering Damages k rest tries extensions = missed Asks (Answering k rest tries extensions) tt
-  notices_answering Loses k rest tries extensions = missed Asks (Answering k rest tries extensions) tt
+  notices_answering Damages k rest tries extensions = missed Asks
+      (Answering k rest tries extensions) tt
+  notices_answering Loses k rest tries extensions = missed Asks
+      (Answering k rest tries extensions) tt
 
-  notices_between : (up : Fate) (k : Kept) (got : List ℕ) (b : ℕ) (bytes : List ℕ) (tries extensions : ℕ)
+  notices_between : (up : Fate) (k : Kept) (got : List ℕ) (b : ℕ) (bytes : List ℕ)
+      (tries extensions : ℕ)
       → Notices Asks up (Between k got b bytes tries extensions) k.number
-  notices_between Delivers k got b bytes tries extensions = missed Asks (Between k got b bytes tries extensions) tt
-  notices_between Damages k got b bytes tries extensions = missed Asks (Between k got b bytes tries extensions) tt
-  notices_between Loses k got b bytes tries extensions = missed Asks (Between k got b bytes tries extensions) tt
+  notices_between Delivers k got b bytes tries extensions = missed Asks
+      (Between k got b bytes tries extensions) tt
+  notices_between Damages k got b bytes tries extensions = missed Asks
+      (Between k got b bytes tries extensions) tt
+  notices_between Loses k got b bytes tries extensions = missed Asks
+      (Between k got b bytes tries extensions) tt
 
   notices_repeating : (up : Fate) (k : Kept) (got rest : List ℕ) (tries extensions : ℕ)
       → Notices Asks up (Repeating k got rest tries extensions) k.number
-  notices_repeating Delivers k got rest tries extensions = missed Asks (Repeating k got rest tries extensions) tt
-  notices_repeating Damages k got rest tries extensions = missed Asks (Repeating k got rest tries extensions) tt
-  notices_repeating Loses k got rest tries extensions = missed Asks (Repeating k got rest tries extensions) tt
+  notices_repeating Delivers k got rest tries extensions = missed Asks
+      (Repeating k got rest tries extensions) tt
+  notices_repeating Damages k got rest tries extensions = missed Asks
+      (Repeating k got rest tries extensions) tt
+  notices_repeating Loses k got rest tries extensions = missed Asks
+      (Repeating k got rest tries extensions) tt
 
   -- a world after the card's turn
   abbrev turned : Kept → Terminal → Fate → Turn → World
   turned k t up x = settled (world k (takes t (arrives up x.block)) x.card)
 
   -- the card answers, or makes a request first
-  answers_now : (out : Out) (up : Fate) (k : Kept) (rest : List ℕ) (n : ℕ) (size : Option ℕ) (tries extensions : ℕ)
+  answers_now : (out : Out) (up : Fate) (k : Kept) (rest : List ℕ) (n : ℕ) (size : Option ℕ)
+      (tries extensions : ℕ)
       → turned k (terminal_at k [] [] true tries extensions Sending out) up
       (answers_with (request_of (requests n k.multiple size))
       (card_at k [] rest (other k.number) k.due false (requests n k.multiple size)))
       ≡ world_of (arrived out up (starts k rest n size tries extensions))
-  answers_now out up k rest (suc n) size tries extensions = ups out up (Waits k rest n size false tries extensions) tt
-  answers_now out up k rest zero (Some size) tries extensions = ups out up (Grows k rest size false tries extensions) tt
-  answers_now out up k rest zero None tries extensions = ups out up (Answering k rest tries extensions) tt
+  answers_now out up k rest (suc n) size tries extensions = ups out up
+      (Waits k rest n size false tries extensions) tt
+  answers_now out up k rest zero (Some size) tries extensions = ups out up
+      (Grows k rest size false tries extensions) tt
+  answers_now out up k rest zero None tries extensions = ups out up
+      (Answering k rest tries extensions) tt
 
   abbrev After : Fate → Fate → Place → World
   After down up p = exchange m (record { down = down; up = up }) (world_of p)
@@ -428,10 +461,12 @@ module _ (m : Meaning) (before : List (List ℕ)) where
       let done : List (List ℕ) = k.done ++ (collected ++ k.field) ∷ [] in
       let c : Card = card_at k collected [] k.number k.due answering (idle k) in
       let after : List (List ℕ) → World =
-      λ ran. turned k (terminal_at k [] [] true tries extensions Sending Own) up (carries_out m c ran) in
+      λ ran. turned k (terminal_at k [] [] true tries extensions Sending Own) up
+      (carries_out m c ran) in
       rw (same_self k.number) (
       ap after (append_assoc before k.done ((collected ++ k.field) ∷ []))
-      ∙ answers_now Own up (runs k done) (drop k.ifsd (m.does (before ++ done))) (m.asks (before ++ done)).extensions
+      ∙ answers_now Own up (runs k done) (drop k.ifsd (m.does (before ++ done)))
+      (m.asks (before ++ done)).extensions
       (m.asks (before ++ done)).size tries extensions)
 
   -- nothing happens at the end
@@ -445,7 +480,8 @@ module _ (m : Meaning) (before : List (List ℕ)) where
   gone Damages Loses w cause = refl
   gone Loses up w cause = refl
 
-  over : (down up : Fate) (w : World) → After down up (Finished w) ≡ world_of (step down up (Finished w))
+  over : (down up : Fate) (w : World) → After down up (Finished w) ≡ world_of
+      (step down up (Finished w))
   over Delivers Delivers w = refl
   over Delivers Damages w = refl
   over Delivers Loses w = refl
@@ -459,18 +495,24 @@ module _ (m : Meaning) (before : List (List ℕ)) where
       ups Asks up (Opens (record k { ifsd = longest }) rest tries extensions true) tt
   is_step Delivers up (Opens k rest tries extensions false) =
       ups Own up (Opens (record k { ifsd = longest }) rest tries extensions false) tt
-  is_step Damages up (Opens k rest tries extensions true) = notices_opening Asks up k rest tries extensions true k.number
-  is_step Damages up (Opens k rest tries extensions false) = notices_opening Own up k rest tries extensions false k.number
-  is_step Loses up (Opens k rest tries extensions true) = missed Asks (Opens k rest tries extensions true) tt
-  is_step Loses up (Opens k rest tries extensions false) = missed Own (Opens k rest tries extensions false) tt
+  is_step Damages up (Opens k rest tries extensions true) = notices_opening Asks up k rest tries
+      extensions true k.number
+  is_step Damages up (Opens k rest tries extensions false) = notices_opening Own up k rest tries
+      extensions false k.number
+  is_step Loses up (Opens k rest tries extensions true) = missed Asks
+      (Opens k rest tries extensions true) tt
+  is_step Loses up (Opens k rest tries extensions false) = missed Own
+      (Opens k rest tries extensions false) tt
   is_step Delivers up (Behind k collected [] answering tries extensions true) =
       rw (same_self k.due) (ups Asks up (Behind k collected [] answering tries extensions true) tt)
   is_step Delivers up (Behind k collected (b ∷ bytes) answering tries extensions true) =
-      rw (same_self k.due) (ups Asks up (Behind k collected (b ∷ bytes) answering tries extensions true) tt)
+      rw (same_self k.due) (ups Asks up (Behind k collected (b ∷ bytes) answering tries
+      extensions true) tt)
   is_step Delivers up (Behind k collected [] answering tries extensions false) =
       runs_now up k collected answering tries extensions
   is_step Delivers up (Behind k collected (b ∷ bytes) answering tries extensions false) =
-      rw (same_self k.number) (ups Own up (Taken (record k { last = [] }) (collected ++ k.field) b bytes tries extensions) tt)
+      rw (same_self k.number) (ups Own up
+      (Taken (record k { last = [] }) (collected ++ k.field) b bytes tries extensions) tt)
   is_step Damages up (Behind k collected rest answering tries extensions true) =
       ups Asks up (Behind k collected rest answering tries extensions true) tt
   is_step Damages up (Behind k collected rest answering tries extensions false) =
@@ -481,10 +523,13 @@ module _ (m : Meaning) (before : List (List ℕ)) where
       missed Own (Behind k collected rest answering tries extensions false) tt
   is_step Delivers up (Taken k collected b bytes tries extensions) =
       rw (same_self k.due) (ups Asks up (Taken k collected b bytes tries extensions) tt)
-  is_step Damages up (Taken k collected b bytes tries extensions) = ups Asks up (Taken k collected b bytes tries extensions) tt
-  is_step Loses up (Taken k collected b bytes tries extensions) = missed Asks (Taken k collected b bytes tries extensions) tt
+  is_step Damages up (Taken k collected b bytes tries extensions) = ups Asks up
+      (Taken k collected b bytes tries extensions) tt
+  is_step Loses up (Taken k collected b bytes tries extensions) = missed Asks
+      (Taken k collected b bytes tries extensions) tt
   is_step Delivers up (Waits k rest n size true tries extensions) =
-      rw (eq-eqb k.multiple k.multiple refl) (answers_now (Grants (Wtx k.multiple)) up k rest n size tries extensions)
+      rw (eq-eqb k.multiple k.multiple refl)
+      (answers_now (Grants (Wtx k.multiple)) up k rest n size tries extensions)
   is_step Delivers up (Waits k rest n size false tries extensions) =
       ups Asks up (Waits k rest n size false tries extensions) tt
   is_step Damages up (Waits k rest n size true tries extensions) =
@@ -493,28 +538,41 @@ module _ (m : Meaning) (before : List (List ℕ)) where
       ups Asks up (Waits k rest n size false tries extensions) tt
   is_step Loses up (Waits k rest n size true tries extensions) =
       missed (Grants (Wtx k.multiple)) (Waits k rest n size true tries extensions) tt
-  is_step Loses up (Waits k rest n size false tries extensions) = missed Asks (Waits k rest n size false tries extensions) tt
+  is_step Loses up (Waits k rest n size false tries extensions) = missed Asks
+      (Waits k rest n size false tries extensions) tt
   is_step Delivers up (Grows k rest size true tries extensions) =
       rw (eq-eqb size size refl) (ups (Grants (Ifs size)) up (Answering k rest tries extensions) tt)
-  is_step Delivers up (Grows k rest size false tries extensions) = ups Asks up (Grows k rest size false tries extensions) tt
+  is_step Delivers up (Grows k rest size false tries extensions) = ups Asks up
+      (Grows k rest size false tries extensions) tt
   is_step Damages up (Grows k rest size true tries extensions) =
       ups (Grants (Ifs size)) up (Grows k rest size true tries extensions) tt
-  is_step Damages up (Grows k rest size false tries extensions) = ups Asks up (Grows k rest size false tries extensions) tt
+  is_step Damages up (Grows k rest size false tries extensions) = ups Asks up
+      (Grows k rest size false tries extensions) tt
   is_step Loses up (Grows k rest size true tries extensions) =
       missed (Grants (Ifs size)) (Grows k rest size true tries extensions) tt
-  is_step Loses up (Grows k rest size false tries extensions) = missed Asks (Grows k rest size false tries extensions) tt
+  is_step Loses up (Grows k rest size false tries extensions) = missed Asks
+      (Grows k rest size false tries extensions) tt
   is_step Delivers up (Answering k rest tries extensions) =
-      rw (same_other_2 k.due) (rw (other_other k.due) (ups Asks up (Answering k rest tries extensions) tt))
-  is_step Damages up (Answering k rest tries extensions) = notices_answering up k rest tries extensions
-  is_step Loses up (Answering k rest tries extensions) = missed Asks (Answering k rest tries extensions) tt
+      rw (same_other_2 k.due) (rw (other_other k.due)
+      (ups Asks up (Answering k rest tries extensions) tt))
+  is_step Damages up (Answering k rest tries extensions) = notices_answering up k rest tries
+      extensions
+  is_step Loses up (Answering k rest tries extensions) = missed Asks
+      (Answering k rest tries extensions) tt
   is_step Delivers up (Between k got b bytes tries extensions) =
       rw (same_self k.due) (ups Asks up
-      (Repeating (record k { last = take k.ifsd (b ∷ bytes) }) got (drop k.ifsd (b ∷ bytes)) tries extensions) tt)
-  is_step Damages up (Between k got b bytes tries extensions) = notices_between up k got b bytes tries extensions
-  is_step Loses up (Between k got b bytes tries extensions) = missed Asks (Between k got b bytes tries extensions) tt
+      (Repeating (record k { last = take k.ifsd (b ∷ bytes) }) got (drop k.ifsd (b ∷ bytes))
+      tries extensions) tt)
+  is_step Damages up (Between k got b bytes tries extensions) = notices_between up k got b bytes
+      tries extensions
+  is_step Loses up (Between k got b bytes tries extensions) = missed Asks
+      (Between k got b bytes tries extensions) tt
   is_step Delivers up (Repeating k got rest tries extensions) =
-      rw (same_other_2 k.due) (rw (other_other k.due) (ups Asks up (Repeating k got rest tries extensions) tt))
-  is_step Damages up (Repeating k got rest tries extensions) = notices_repeating up k got rest tries extensions
-  is_step Loses up (Repeating k got rest tries extensions) = missed Asks (Repeating k got rest tries extensions) tt
+      rw (same_other_2 k.due) (rw (other_other k.due)
+      (ups Asks up (Repeating k got rest tries extensions) tt))
+  is_step Damages up (Repeating k got rest tries extensions) = notices_repeating up k got rest
+      tries extensions
+  is_step Loses up (Repeating k got rest tries extensions) = missed Asks
+      (Repeating k got rest tries extensions) tt
   is_step down up (Given_up w cause) = gone down up w cause
   is_step down up (Finished w) = over down up w

@@ -1,19 +1,15 @@
 -- Steps of a whole dialogue.
-use Rattle.std.proofs.Common.{◌≡◌, refl, sym, ap, subst, ◌∙◌, ℕ, zero, suc, ◌+◌, ◌-◌, ◌<◌, ◌≤◌, Bool, true, false, List, [], ◌∷◌, ◌++◌, length, drop, get_or, map, Option, Some, None, append_assoc, append-nil, length-append, arith, ◌⊎◌, inl, inr}
-use Rattle.std.proofs.lemmas.List.{map-append}
+use Rattle.std.proofs.Common.{◌≡◌, refl, sym, ap, subst, ◌∙◌, ℕ, zero, suc, ◌+◌, ◌-◌, ◌<◌, ◌≤◌, true, false, List, [], ◌∷◌, ◌++◌, length, drop, get_or, map, Option, Some, None, append_assoc, length-append, arith, ◌⊎◌, inl, inr}
 use Rattle.t1_core.specs.declared.line.Fates.{Fates}
 use Rattle.t1_core.specs.declared.settings.Settings.{Settings}
 use Rattle.t1_core.specs.declared.terminal.Cause.{Cause}
 use Rattle.t1_core.specs.declared.terminal.Fault.{Fault}
 use Rattle.t1_core.specs.declared.terminal.Phase.{Phase}
 use Rattle.t1_core.specs.declared.terminal.Phase.TheVariants.{Opening, Sending, Receiving, Aborting, Over, GivenUp}
-use Rattle.t1_core.specs.Block.{Block}
-use Rattle.t1_core.specs.CardSide.{Card, Meaning, card_meets}
+use Rattle.t1_core.specs.CardSide.{Card, Meaning}
 use Rattle.t1_core.specs.Conversing.{Conversed, Led}
-use Rattle.t1_core.specs.Mild.{Enough, IsMild}
-use Rattle.t1_core.specs.Passing.{Passes, PassesWith}
-use Rattle.t1_core.specs.TerminalSide.{Terminal, begins, sends, is_ready, has_stopped, fault_in, fault_of, outcome_of}
-use Rattle.t1_core.specs.World.{World, IsAtMostOnce, IsRight, IsTrue, next_command, settle, settled, exchange, exchanged, run, start, most_exchanges}
+use Rattle.t1_core.specs.TerminalSide.{Terminal, begins, has_stopped, fault_in, fault_of, outcome_of}
+use Rattle.t1_core.specs.World.{World, IsAtMostOnce, IsRight, IsTrue, next_command, exchange, run, start, most_exchanges}
 use Rattle.t1_core.proofs.Calm.{never_given_up}
 use Rattle.t1_core.proofs.Holding.{at_most_once}
 use Rattle.t1_core.proofs.Measure.{stops}
@@ -25,38 +21,35 @@ module _ {V : Type 0} (items : V → List ℕ) where
   first_left (v ∷ vs) zero d lt = refl
   first_left (v ∷ vs) (suc n) d lt = first_left vs n d (omega (arith, lt))
 
-  none_left : (vs : List V) (n : ℕ) → length vs ≤ n → drop n (map items vs) ≡ []
-  none_left [] zero le = refl
-  none_left [] (suc n) le = refl
-  none_left (v ∷ vs) zero le = absurd (omega (arith, le))
-  none_left (v ∷ vs) (suc n) le = none_left vs n (omega (arith, le))
-
   -- the next command begins
-  pub begins_next : (vs : List V) (begun : ℕ) (v : V) (t new : Terminal) (c : Card) (answers : List (List ℕ))
+  pub begins_next : (vs : List V) (begun : ℕ) (v : V) (t new : Terminal) (c : Card)
+      (answers : List (List ℕ))
       (command : List ℕ) (w : World)
       → record { terminal = t; card = c; todo = drop begun (map items vs); answers = answers } ≡ w
       → begun < length vs → v ≡ get_or vs begun v → command ≡ items v → new ≡ begins command t
-      → record { terminal = new; card = c; todo = drop (begun + 1) (map items vs); answers = answers }
+      → record {
+        terminal = new;
+        card = c;
+        todo = drop (begun + 1) (map items vs);
+        answers =
+            answers;
+      }
       ≡ next_command w.todo w
   begins_next vs begun v t new c answers command w seen lt is same begins_it =
-      let old : World = record { terminal = t; card = c; todo = drop begun (map items vs); answers = answers } in
-      let now : Terminal → List (List ℕ) → World = λ x todo. record { terminal = x; card = c; todo = todo; answers = answers } in
+      let old : World = record {
+        terminal = t;
+        card = c;
+        todo = drop begun (map items vs);
+        answers = answers;
+      } in
+      let now : Terminal → List (List ℕ) → World = λ x todo. record
+      { terminal = x; card = c; todo = todo; answers = answers } in
       let e : command ≡ items (get_or vs begun v) = same ∙ ap items is in
       ap (λ x. now x (drop (begun + 1) (map items vs))) begins_it
-      ∙ ap (λ n. now (begins command t) (drop n (map items vs))) (let n : begun + 1 ≡ suc begun = omega arith in n)
+      ∙ ap (λ n. now (begins command t) (drop n (map items vs)))
+      (let n : begun + 1 ≡ suc begun = omega arith in n)
       ∙ ap (λ x. now (begins x t) (drop (suc begun) (map items vs))) e
       ∙ sym (ap (λ todo. next_command todo old) (first_left vs begun v lt))
-      ∙ ap (λ x. next_command x.todo x) seen
-
-  -- there is none
-  pub begins_none : (vs : List V) (begun : ℕ) (t : Terminal) (c : Card) (answers : List (List ℕ)) (w : World)
-      → record { terminal = t; card = c; todo = drop begun (map items vs); answers = answers } ≡ w
-      → length vs ≤ begun → w ≡ next_command w.todo w
-  begins_none vs begun t c answers w seen le =
-      let old : World = record { terminal = t; card = c; todo = drop begun (map items vs); answers = answers } in
-      sym seen
-      ∙ ap (λ todo. record { terminal = t; card = c; todo = todo; answers = answers }) (none_left vs begun le)
-      ∙ sym (ap (λ todo. next_command todo old) (none_left vs begun le))
       ∙ ap (λ x. next_command x.todo x) seen
 
 -- the loop
@@ -65,7 +58,8 @@ abbrev or_else : Fault → Option Fault → Fault
 or_else f None = f
 or_else f (Some g) = g
 
-run_more : (m : Meaning) (fates : List Fates) (x : Fates) (w : World) → run m (fates ++ x ∷ []) w ≡ exchange m x (run m fates w)
+run_more : (m : Meaning) (fates : List Fates) (x : Fates) (w : World) → run m (fates ++ x ∷ []) w
+    ≡ exchange m x (run m fates w)
 run_more m [] x w = refl
 run_more m (y ∷ ys) x w = run_more m ys x (exchange m y w)
 
@@ -79,32 +73,27 @@ either (suc a) (suc b) =
     ]
 
 module _ (m : Meaning) (settings : Settings) (before commands : List (List ℕ)) where
-  pub led_first : (passed : List Fates) (w : World) → w ≡ start settings before commands
-      → Led m settings before commands passed passed w
-  led_first passed w is = record {
-    fates = [];
-    passed = sym (append-nil passed);
-    run_is = is;
-    few = omega arith;
-  }
-
   going : (fates : List Fates) (w : World) → w ≡ run m fates (start settings before commands)
-      → has_stopped w.terminal.phase ≡ false → length fates < most_exchanges settings m.does before commands
+      → has_stopped w.terminal.phase ≡ false → length fates < most_exchanges settings m.does
+      before commands
   going fates w is moving =
       elim (either (most_exchanges settings m.does before commands) (length fates)) [
         | inl le ↦
-            let stop = ap (λ v. has_stopped v.terminal.phase) is ∙ stops m settings before commands fates le in
+            let stop = ap (λ v. has_stopped v.terminal.phase) is ∙ stops m settings before
+            commands fates le in
             absurd (let e = sym moving ∙ stop in cc)
         | inr lt ↦ lt
       ]
 
-  pub led_next : (old now next : List Fates) (x : Fates) (w v : World) → Led m settings before commands old now w
+  pub led_next : (old now next : List Fates) (x : Fates) (w v : World) → Led m settings before
+      commands old now w
       → has_stopped w.terminal.phase ≡ false → next ≡ now ++ x ∷ [] → v ≡ exchange m x w
       → Led m settings before commands old next v
   led_next old now next x w v h moving more is = record {
     fates = h.fates ++ x ∷ [];
     passed = more ∙ ap (λ l. l ++ x ∷ []) h.passed ∙ append_assoc old h.fates (x ∷ []);
-    run_is = is ∙ ap (exchange m x) h.run_is ∙ sym (run_more m h.fates x (start settings before commands));
+    run_is = is ∙ ap (exchange m x) h.run_is ∙ sym
+        (run_more m h.fates x (start settings before commands));
     few =
         let lt = going h.fates w h.run_is moving in
         let e = length-append h.fates (x ∷ []) in
@@ -112,14 +101,16 @@ module _ (m : Meaning) (settings : Settings) (before commands : List (List ℕ))
   }
 
   -- what the loop counts down
-  pub fewer_left : (old now next : List Fates) (x : Fates) (w : World) → Led m settings before commands old now w
+  pub fewer_left : (old now next : List Fates) (x : Fates) (w : World) → Led m settings before
+      commands old now w
       → has_stopped w.terminal.phase ≡ false → next ≡ now ++ x ∷ []
       → most_exchanges settings m.does before commands + length old - length next
       < most_exchanges settings m.does before commands + length old - length now
   fewer_left old now next x w h moving more =
       let lt = going h.fates w h.run_is moving in
       let e : length next ≡ length now + 1 = ap length more ∙ length-append now (x ∷ []) in
-      let p : length now ≡ length old + length h.fates = ap length h.passed ∙ length-append old h.fates in
+      let p : length now ≡ length old + length h.fates = ap length h.passed ∙ length-append old
+      h.fates in
       omega (arith, lt, e, p)
 
   stopped : (p : Phase) (t : Terminal) → has_stopped p ≡ true → t.phase ≡ p
@@ -141,7 +132,8 @@ module _ (m : Meaning) (settings : Settings) (before commands : List (List ℕ))
   some_same : (f g : Fault) → Some f ≡ Some g → f ≡ g
   some_same f g e = ap (λ o. or_else f o) e
 
-  pub conversed : (old now : List Fates) (w : World) (after answers : List (List ℕ)) (fault : Option Fault)
+  pub conversed : (old now : List Fates) (w : World) (after answers : List (List ℕ))
+      (fault : Option Fault)
       → Led m settings before commands old now w → has_stopped w.terminal.phase ≡ true
       → after ≡ w.card.ran → answers ≡ w.answers → fault ≡ fault_of w.terminal
       → Conversed m settings before commands after answers fault old now
@@ -154,14 +146,16 @@ module _ (m : Meaning) (settings : Settings) (before commands : List (List ℕ))
       record {
         ran = once.ran;
         ran_is = same_ran ∙ once.ran_is;
-        right = subst (λ a. IsRight m.does before commands once.ran a) (sym same_answers) once.right;
+        right = subst (λ a. IsRight m.does before commands once.ran a) (sym same_answers)
+            once.right;
         told = λ f e. elim end [
           | inl over ↦ absurd (let n = sym (same_fault ∙ over_no_fault t over) ∙ e in cc)
           | inr given ↦
               let is : f ≡ record { cause = given.0; outcome = outcome_of t } =
               some_same f _ (sym e ∙ same_fault ∙ given_up_fault t given.0 given.1) in
               subst (λ a. IsTrue f.outcome once.ran a) (sym same_answers)
-              (subst (λ o. IsTrue o once.ran w.answers) (sym (ap (λ g. g.outcome) is)) (once.told given.0 given.1))
+              (subst (λ o. IsTrue o once.ran w.answers) (sym (ap (λ g. g.outcome) is))
+              (once.told given.0 given.1))
         ];
         finished = λ e. elim end [
           | inl over ↦

@@ -163,6 +163,11 @@ card_takes m b c = takes_at m (request_of c.left) b c
 abbrev pub card_damaged : Card → Turn
 card_damaged c = again (request_of c.left) c
 
+-- a block, or an invalid one
+abbrev pub card_hears : Meaning → Option Block → Card → Turn
+card_hears m None c = card_damaged c
+card_hears m (Some b) c = card_takes m b c
+
 abbrev pub card_meets : Meaning → Fate → Block → Card → Turn
 card_meets m Delivers b c = card_takes m b c
 card_meets m Damages b c = card_damaged c

@@ -8,7 +8,8 @@ use Rattle.t1_core.specs.Mild.{Enough, IsMild}
 use Rattle.t1_core.specs.World.{World, IsRight, IsTrue, responses, most_exchanges, run, start}
 
 -- `passed` is what the line has done in all, before the dialogue and after it
-pub record Conversed (m : Meaning) (settings : Settings) (before commands after answers : List (List ℕ))
+pub record Conversed (m : Meaning) (settings : Settings)
+    (before commands after answers : List (List ℕ))
     (fault : Option Fault) (passed_before passed_after : List Fates) : Type 0 where
   pub ran : List (List ℕ)
   pub ran_is : after ≡ before ++ ran

@@ -1,8 +1,7 @@
 -- Lines that are mild enough, and stretches in which a terminal makes no step forward.
-use Rattle.std.specs.Prelude.{◌≡◌, ℕ, ◌+◌, ◌-◌, ◌≤◌, ◌*◌, Bool, true, List, [], ◌∷◌, ◌⊎◌, Option, Some, None}
-use Rattle.t1_core.specs.declared.card.Requests.{Requests}
+use Rattle.std.specs.Prelude.{◌≡◌, ℕ, ◌+◌, ◌-◌, ◌≤◌, ◌*◌, true, List, [], ◌∷◌, Option, Some, None}
 use Rattle.t1_core.specs.declared.line.Fate.{Fate}
-use Rattle.t1_core.specs.declared.line.Fate.TheVariants.{Delivers, Damages, Loses}
+use Rattle.t1_core.specs.declared.line.Fate.TheVariants.{Delivers}
 use Rattle.t1_core.specs.declared.line.Fates.{Fates}
 use Rattle.t1_core.specs.declared.settings.Settings.{Settings}
 use Rattle.t1_core.specs.Block.{Block, is_size}
@@ -22,8 +21,8 @@ bad fates = bad_of fates.down + bad_of fates.up
 abbrev pub Stays : Terminal → Terminal → Type 0
 Stays old new = (new.number ≡ old.number) × (new.due ≡ old.due)
 
--- While N(S) and N(R) of the terminal stay, at most f blocks do not arrive; `left` of these are still
--- to come.
+-- While N(S) and N(R) of the terminal stay, at most f blocks do not arrive; `left` of these may
+-- still.
 abbrev pub IsMild : Meaning → (f left : ℕ) → World → List Fates → Type 0
 IsMild m f left w [] = Unit {0}
 IsMild m f left w (x ∷ xs) =
@@ -39,8 +38,8 @@ abbrev pub IsSize : Option ℕ → Type 0
 IsSize None = Unit {0}
 IsSize (Some size) = is_size size ≡ true
 
--- the settings survive f of them: twice as many tries, and an extension for each request of the card
--- and for each of the f; each IFSC that the card announces is one
+-- the settings survive f of them: twice as many tries, and an extension for each request of the
+-- card and for each of the f; each IFSC that the card announces is one
 pub record Enough (m : Meaning) (f : ℕ) (settings : Settings) : Type 0 where
   pub tries : 2 * f ≤ settings.tries
   pub extensions : (ran : List (List ℕ))

@@ -6,7 +6,8 @@ use Rattle.t1_core.specs.CardSide.{Card, Meaning, card_meets}
 use Rattle.t1_core.specs.TerminalSide.{Terminal, sends, takes}
 use Rattle.t1_core.specs.World.{arrives}
 
-abbrev pub PassesWith : Meaning → Fates → Option Block → (old new : Terminal) → (before after : Card) → Type 0
+abbrev pub PassesWith : Meaning → Fates → Option Block → (old new : Terminal) →
+    (before after : Card) → Type 0
 PassesWith m fates None old new before after = (new ≡ old) × (after ≡ before)
 PassesWith m fates (Some b) old new before after =
     let t = card_meets m fates.down b before in

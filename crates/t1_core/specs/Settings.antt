@@ -1,5 +1,5 @@
 -- What a terminal's end can be set to.
-use Rattle.std.specs.Prelude.{ℕ, ◌==◌, Option, Some, None, if◌then◌else◌, ◌||◌}
+use Rattle.std.specs.Prelude.{ℕ, ◌==◌, Option, Some, None, if◌then◌else◌}
 use Rattle.t1_core.specs.declared.settings.Edc.{Edc}
 use Rattle.t1_core.specs.declared.settings.Edc.TheVariants.{Lrc, Crc}
 use Rattle.t1_core.specs.declared.settings.SettingsFault.{SettingsFault}

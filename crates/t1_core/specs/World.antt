@@ -1,7 +1,7 @@
 -- Both ends and the line between them, for every schedule of losses and damages.
-use Rattle.std.specs.Prelude.{◌≡◌, ℕ, ◌+◌, ◌*◌, ◌≤◌, true, List, [], ◌∷◌, ◌++◌, length, Option, Some, None}
+use Rattle.std.specs.Prelude.{◌≡◌, ℕ, ◌+◌, ◌*◌, ◌≤◌, List, [], ◌∷◌, ◌++◌, length, Option, Some, None}
 use Rattle.t1_core.specs.declared.line.Fate.{Fate}
-use Rattle.t1_core.specs.declared.line.Fate.TheVariants.{Delivers, Damages, Loses}
+use Rattle.t1_core.specs.declared.line.Fate.TheVariants.{Delivers}
 use Rattle.t1_core.specs.declared.line.Fates.{Fates}
 use Rattle.t1_core.specs.declared.settings.Settings.{Settings}
 use Rattle.t1_core.specs.declared.terminal.Cause.{Cause}
@@ -73,9 +73,10 @@ responses does before (c ∷ cs) =
 abbrev pub IsFrontOf : List (List ℕ) → List (List ℕ) → Type 0
 IsFrontOf xs ys = (rest : List (List ℕ)) × (xs ++ rest ≡ ys)
 
--- Whatever the line did. The card has carried out the first of the commands, in order and each once.
+-- Whatever the line did: the card has carried out the first of the commands, in order, each once.
 -- The answers are its responses to the first of those, and at most one of those has no answer.
-pub record IsRight (does : List (List ℕ) → List ℕ) (before commands ran answers : List (List ℕ)) : Type 0 where
+pub record IsRight (does : List (List ℕ) → List ℕ) (before commands ran answers : List (List ℕ))
+    : Type 0 where
   pub carried_out : IsFrontOf ran commands
   pub answered : IsFrontOf answers (responses does before ran)
   pub all_but_one : length ran ≤ length answers + 1
@@ -103,7 +104,8 @@ most_blocks does before [] = 0
 most_blocks does before (c ∷ cs) =
     length c + 1 + length (does (before ++ c ∷ [])) + most_blocks does (before ++ c ∷ []) cs
 
-abbrev pub most_exchanges : Settings → (List (List ℕ) → List ℕ) → (before commands : List (List ℕ)) → ℕ
+abbrev pub most_exchanges : Settings → (List (List ℕ) → List ℕ) →
+    (before commands : List (List ℕ)) → ℕ
 most_exchanges settings does before commands =
     most_blocks does before commands * (settings.tries + 1) + settings.tries
     + length commands * settings.extensions + 1

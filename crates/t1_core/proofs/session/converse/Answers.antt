@@ -1,26 +1,36 @@
-use Rattle.std.proofs.Common.{sym, ◌∙◌, map, ℕ, List}
-use Rattle.t1_core.specs.CardSide.{Meaning}
+use Rattle.std.proofs.Common.{sym, ◌∙◌, map}
 use Rattle.t1_core.proofs.SessionSteps.{led_next, fewer_left, conversed}
 use Rattle.t1_core.proofs.session.converse.Goals as goal
 
 pub loop-alloc-smaller : goal.loop-alloc-smaller
 loop-alloc-smaller g c =
-    fewer_left (record { does = g.C.Applet.answer; asks = g.C.Applet.asks }) c.args.settings (g.C.Applet.ran c.args.applet)
-    (map (λ v. v.items) c.args.commands.now) (g.L.Line.passed c.args.line.now) (g.L.Line.passed c.loop-alloc.line)
-    (g.L.Line.passed c.next-fates.new.self) c.next-fates.result c.loop-alloc.session c.loop-alloc.invariant
+    fewer_left (record { does = g.C.Applet.answer; asks = g.C.Applet.asks }) c.args.settings
+    (g.C.Applet.ran c.args.applet)
+    (map (λ v. v.items) c.args.commands.now) (g.L.Line.passed c.args.line.now)
+    (g.L.Line.passed c.loop-alloc.line)
+    (g.L.Line.passed c.next-fates.new.self) c.next-fates.result c.loop-alloc.session
+    c.loop-alloc.invariant
     (sym c.has_stopped.ensures ∙ c.loop-alloc-test.true) c.next-fates.ensures
 
 pub loop-alloc-preserved : goal.loop-alloc-preserved
 loop-alloc-preserved g c =
-    led_next (record { does = g.C.Applet.answer; asks = g.C.Applet.asks }) c.args.settings (g.C.Applet.ran c.args.applet)
-    (map (λ v. v.items) c.args.commands.now) (g.L.Line.passed c.args.line.now) (g.L.Line.passed c.loop-alloc.line)
-    (g.L.Line.passed c.next-fates.new.self) c.next-fates.result c.loop-alloc.session c.exchange.new.self
-    c.loop-alloc.invariant (sym c.has_stopped.ensures ∙ c.loop-alloc-test.true) c.next-fates.ensures c.in_ok-exchange.ensures
+    led_next (record { does = g.C.Applet.answer; asks = g.C.Applet.asks }) c.args.settings
+    (g.C.Applet.ran c.args.applet)
+    (map (λ v. v.items) c.args.commands.now) (g.L.Line.passed c.args.line.now)
+    (g.L.Line.passed c.loop-alloc.line)
+    (g.L.Line.passed c.next-fates.new.self) c.next-fates.result c.loop-alloc.session
+    c.exchange.new.self
+    c.loop-alloc.invariant (sym c.has_stopped.ensures ∙ c.loop-alloc-test.true)
+    c.next-fates.ensures c.in_ok-exchange.ensures
 
 pub returns : goal.returns
 returns g c =
-    conversed (record { does = g.C.Applet.answer; asks = g.C.Applet.asks }) c.args.settings (g.C.Applet.ran c.args.applet)
-    (map (λ v. v.items) c.args.commands.now) (g.L.Line.passed c.args.line.now) (g.L.Line.passed c.loop-alloc.line)
-    c.loop-alloc.session (g.C.Applet.ran c.finish.result.applet) (map (λ v. v.items) c.finish.result.answers.items)
-    c.finish.result.fault c.loop-alloc.invariant (sym c.has_stopped.ensures ∙ c.loop-alloc-test.false)
+    conversed (record { does = g.C.Applet.answer; asks = g.C.Applet.asks }) c.args.settings
+    (g.C.Applet.ran c.args.applet)
+    (map (λ v. v.items) c.args.commands.now) (g.L.Line.passed c.args.line.now)
+    (g.L.Line.passed c.loop-alloc.line)
+    c.loop-alloc.session (g.C.Applet.ran c.finish.result.applet)
+    (map (λ v. v.items) c.finish.result.answers.items)
+    c.finish.result.fault c.loop-alloc.invariant
+    (sym c.has_stopped.ensures ∙ c.loop-alloc-test.false)
     c.finish.ensures.ran c.finish.ensures.answers c.finish.ensures.fault

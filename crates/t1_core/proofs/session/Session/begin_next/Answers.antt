@@ -5,5 +5,6 @@ pub returns-then-self-commands : goal.returns-then-self-commands
 returns-then-self-commands g c =
     let s = c.self.inside in
     begins_next (λ v. v.items) s.commands.now s.begun c.index-commands-self.result s.terminal
-    c.load.new.self s.card _ c.deref-command.result.now c.args.self.now c.self.view_is c.if-self-commands.true
+    c.load.new.self s.card _ c.deref-command.result.now c.args.self.now c.self.view_is
+    c.if-self-commands.true
     c.index-commands-self.is c.deref-command.ensures.value c.load.ensures

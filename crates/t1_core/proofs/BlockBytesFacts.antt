@@ -1,0 +1,82 @@
+-- A block is spelled in one way, and read as it is spelled.
+use Rattle.std.proofs.Common.{◌≡◌, refl, sym, ap, ◌∙◌, ℕ, ◌+◌, ◌≤◌, true, false, List, [], ◌∷◌, ◌++◌, length, take, Some, slice_index, length-append, arith, nat_lt, ◌==◌, eq-eqb}
+use Rattle.std.specs.List.{slice_range}
+use Rattle.std.proofs.Math.Seq.{take-append_seam, get_or-append_seam}
+use Rattle.t1_core.specs.declared.pcb.Pcb.{Pcb}
+use Rattle.t1_core.specs.declared.pcb.Pcb.TheVariants.{Information, Ready, Supervisory}
+use Rattle.t1_core.specs.declared.pcb.Reason.TheVariants.{NoError, Edc, Other}
+use Rattle.t1_core.specs.declared.pcb.Subject.TheVariants.{Resynch, Ifs, Abort, Wtx}
+use Rattle.t1_core.specs.PcbBytes.{pcb_byte, pcb_of}
+use Rattle.t1_core.specs.declared.control.Control.{Control}
+use Rattle.t1_core.specs.declared.control.Control.TheVariants as control
+use Rattle.t1_core.specs.Block.{Block, I, R, Request, Response}
+use Rattle.t1_core.specs.BlockBytes.{lrc, before_lrc, spelled, parts_of, block_in, block_of, bytes_of, pcb_for, info_of, control_of, controlled, field_of, subject_of}
+
+-- of all PCBs
+pub pcb_again : (p : Pcb) → pcb_of (pcb_byte p) ≡ Some p
+pcb_again (Information true true) = refl
+pcb_again (Information true false) = refl
+pcb_again (Information false true) = refl
+pcb_again (Information false false) = refl
+pcb_again (Ready true NoError) = refl
+pcb_again (Ready true Edc) = refl
+pcb_again (Ready true Other) = refl
+pcb_again (Ready false NoError) = refl
+pcb_again (Ready false Edc) = refl
+pcb_again (Ready false Other) = refl
+pcb_again (Supervisory true Resynch) = refl
+pcb_again (Supervisory true Ifs) = refl
+pcb_again (Supervisory true Abort) = refl
+pcb_again (Supervisory true Wtx) = refl
+pcb_again (Supervisory false Resynch) = refl
+pcb_again (Supervisory false Ifs) = refl
+pcb_again (Supervisory false Abort) = refl
+pcb_again (Supervisory false Wtx) = refl
+
+-- where each test holds
+reads : (bytes info : List ℕ) (p : Pcb) (len : ℕ) → slice_index bytes 2 ≡ len → length bytes ≡
+    len + 4 → len ≤ 254
+    → slice_index bytes 0 ≡ 0 → slice_index bytes 1 ≡ pcb_byte p → slice_index bytes (len + 3) ≡
+    lrc (take (len + 3) bytes)
+    → slice_range bytes 3 (len + 3) ≡ info → parts_of bytes ≡ Some (p, info)
+reads bytes info p len is_len long few nad is_pcb check is_info =
+    let long_enough : nat_lt (length bytes) 4 ≡ false = grind arith in
+    let not_255 : (len == 255) ≡ false = grind arith in
+    let as_long : (length bytes == len + 4) ≡ true = eq-eqb _ _ long in
+    let nad_is : (slice_index bytes 0 == 0) ≡ true = eq-eqb _ _ nad in
+    let holds : (slice_index bytes (len + 3) == lrc (take (len + 3) bytes)) ≡ true = eq-eqb _ _
+    check in
+    rw (long_enough, is_len) (rw (not_255, as_long, nad_is, holds)
+    (rw (is_pcb, pcb_again p) (rw is_info refl)))
+
+pub reads_spelled : (p : Pcb) (info : List ℕ) → length info ≤ 254 → parts_of (spelled p info) ≡
+    Some (p, info)
+reads_spelled p info few =
+    let front : List ℕ = before_lrc p info in
+    let n : length info + 3 ≡ length front = omega arith in
+    reads (spelled p info) info p (length info) refl
+    (length-append front (lrc front ∷ []) ∙ omega arith)
+    few refl refl
+    (ap (λ k. slice_index (spelled p info) k) n ∙ get_or-append_seam front (lrc front) [] 0
+    ∙ ap lrc (sym (take-append_seam front (lrc front ∷ []))) ∙ ap
+    (λ k. lrc (take k (spelled p info))) (sym n))
+    (ap (λ k. take k (info ++ lrc front ∷ [])) (omega arith) ∙ take-append_seam info
+    (lrc front ∷ []))
+
+-- a block is read as it is written
+controls : (c : Control) → control_of (subject_of c) (field_of c) ≡ Some c
+controls control.Resynch = refl
+controls (control.Ifs size) = refl
+controls control.Abort = refl
+controls (control.Wtx multiple) = refl
+
+block_again : (b : Block) → block_in (Some (pcb_for b, info_of b)) ≡ Some b
+block_again (I number more field) = refl
+block_again (R number) = refl
+block_again (Request c) = ap (controlled false) (controls c)
+block_again (Response c) = ap (controlled true) (controls c)
+
+pub reads_written : (b : Block) (bytes : List ℕ) → length (info_of b) ≤ 254 → bytes ≡ bytes_of b
+    → block_of bytes ≡ Some b
+reads_written b bytes few is =
+    ap block_of is ∙ ap block_in (reads_spelled (pcb_for b) (info_of b) few) ∙ block_again b

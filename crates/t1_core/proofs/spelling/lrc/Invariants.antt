@@ -1,0 +1,7 @@
+use Rattle.std.proofs.Common.{◌≡◌, drop}
+use Rattle.t1_core.specs.BlockBytes.{xor_onto}
+use Rattle.t1_core.proofs.spelling.lrc.Given as goal
+
+-- the sum so far with what is left
+abbrev pub invariant-loop-byte : goal.invariant-loop-byte
+invariant-loop-byte l = xor_onto l.sum (drop l.byte-index l.bytes) ≡ xor_onto 0 l.bytes

@@ -1,0 +1,9 @@
+use Rattle.std.proofs.Common.{◌≡◌, sym, subst, IfOk}
+use Rattle.t1_core.specs.BlockBytes.{bytes_of}
+use Rattle.t1_core.specs.BlockView.{said}
+use Rattle.t1_core.proofs.spelling.write.Goals as goal
+
+pub returns-in-Ready : goal.returns-in-Ready
+returns-in-Ready c =
+    subst (λ b. IfOk c.write_ready.result (λ v. v.items ≡ bytes_of (said b))) (sym c.in-Ready.is)
+    c.write_ready.ensures

@@ -1,0 +1,104 @@
+//! Finds the end of a block in the bytes of a line.
+
+ghost use Rattle.std.specs.Prelude.{◌≡◌, ◌≤◌, ◌<◌, ◌++◌, ◌∷◌, [], List, ℕ, true, false, length, take, if◌then◌else◌};
+ghost use Rattle.t1_core.specs.Receiving.{is_whole, received};
+
+use std::marker::Model;
+
+/// What a byte leads to.
+#[derive(Clone, Copy, Debug, PartialEq, Eq)]
+pub enum Received {
+    /// The block is not whole yet.
+    More,
+    /// The block is whole, as its LEN says.
+    Whole,
+    /// The block was whole before: the byte is none of it.
+    TooMany,
+}
+
+/// The bytes of a block so far (ISO/IEC 7816-3, clause 11).
+///
+/// Call `take` with each byte. At `Whole` hand `bytes` to an end's `take_bytes`; after a parity
+/// error, or a pause of more than CWT, call its `damaged`. Then `clear`.
+#[derive(Drop)]
+pub struct Receiver {
+    block: [u8; 259],
+    len: usize,
+}
+
+impl Model for Receiver {
+    ghost use Rattle.std.specs.Prelude.{List, ℕ, take, ◌≤◌, length, ◌≡◌};
+
+    ghost Value = { List ℕ };
+
+    ghost view = { λ r. take r.len r.block };
+
+    ghost invariant = { λ r. (r.len ≤ 259) × (length r.block ≡ 259) };
+}
+
+impl Receiver {
+    /// No byte of a block.
+    pub fn new() -> Receiver
+        ensures { result ≡ [] }
+    {
+        Receiver {
+            block: [0; 259],
+            len: 0,
+        }
+    }
+
+    /// The bytes of the block so far.
+    pub fn bytes(&self) -> &[u8]
+        ensures { result.now ≡ self.now }
+    {
+        &self.block[..self.len]
+    }
+
+    /// Drops the block.
+    pub fn clear(&mut self)
+        ensures { self.new ≡ [] }
+    {
+        self.len = 0;
+    }
+
+    /// Whether the block is whole.
+    pub fn is_whole(&self) -> bool
+        ensures { result ≡ is_whole self.now }
+    {
+        is_whole(self.bytes())
+    }
+
+    /// Takes a byte of the line. A byte after a whole block changes nothing.
+    pub fn take(&mut self, byte: u8) -> Received
+        ensures result { result ≡ received self.old byte }
+        ensures after { self.new
+            ≡ (if is_whole self.old then self.old else self.old ++ byte ∷ []) }
+    {
+        if self.is_whole() {
+            return Received::TooMany;
+        }
+        self.append(byte);
+        if self.is_whole() {
+            Received::Whole
+        } else {
+            Received::More
+        }
+    }
+
+    fn append(&mut self, byte: u8)
+        requires { is_whole self.old ≡ false }
+        ensures { self.new ≡ self.old ++ byte ∷ [] }
+    {
+        self.block[self.len] = byte;
+        self.len += 1;
+    }
+}
+
+fn is_whole(bytes: &[u8]) -> bool
+    ensures { result ≡ is_whole bytes.now }
+{
+    if bytes.len() < 4 {
+        return false;
+    }
+    bytes.len() >= usize::from(bytes[2]) + 4
+}

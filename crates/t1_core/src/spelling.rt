@@ -1,0 +1,205 @@
+//! The bytes of a block: NAD 00, PCB, LEN, the field and the LRC.
+
+ghost use Rattle.std.specs.Prelude.{◌≡◌, ◌≤◌, ◌<◌, ◌++◌, ◌∷◌, [], List, ℕ, length, IfOk, IfSome, Some, None};
+ghost use Rattle.std.specs.Option.{option_map};
+ghost use Rattle.t1_core.specs.BlockView.{said};
+ghost use Rattle.t1_core.specs.BlockBytes.{lrc, spelled, parts_of, block_of, block_in, bytes_of, info_of, control_of, field_of, one_byte, subject_of, Sent, Reads};
+ghost use Rattle.t1_core.specs.declared.pcb.Pcb.{Pcb};
+ghost use Rattle.t1_core.specs.declared.pcb.Pcb.TheVariants.{Ready, Supervisory};
+ghost use Rattle.t1_core.specs.declared.pcb.Reason.TheVariants.{NoError};
+
+use crate::block::Block;
+use crate::control::Control;
+use crate::pcb::{Pcb, Reason, Subject};
+use std::alloc::{AllocError, Global};
+
+/// The exclusive-or of all bytes (ISO/IEC 7816-3, clause 11: LRC).
+pub fn lrc(bytes: &[u8]) -> u8
+    ensures { result ≡ lrc bytes.now }
+{
+    let mut sum = 0;
+    for byte in bytes {
+        sum ^= *byte;
+    }
+    sum
+}
+
+/// Returns the bytes of a block, 4 to 258.
+///
+/// # Errors
+/// - `AllocError`: memory ran out; nothing changes.
+pub fn write(alloc: Global, block: Block<'_>) -> Result<Vec<u8>, AllocError>
+    requires { length (info_of (said block)) ≤ 254 }
+    ensures { IfOk result (λ v. v.items ≡ bytes_of (said block.entry)) }
+{
+    match block {
+        Block::Information {
+            number,
+            more,
+            field,
+        } => spell(alloc, Pcb::Information { number, more }, field),
+        Block::Ready { number } => write_ready(alloc, number),
+        Block::Request { control } => write_control(alloc, false, control),
+        Block::Response { control } => write_control(alloc, true, control),
+    }
+}
+
+fn write_ready(alloc: Global, number: bool) -> Result<Vec<u8>, AllocError>
+    ensures { IfOk result (λ v. v.items ≡ spelled (Ready number NoError) []) }
+{
+    let reason = Reason::NoError;
+    let pcb = Pcb::Ready { number, reason };
+    spell(alloc, pcb, &[])
+}
+
+fn write_control(alloc: Global, response: bool, control: Control) -> Result<Vec<u8>, AllocError>
+    ensures { IfOk result (λ v. v.items
+        ≡ spelled (Supervisory response (subject_of control)) (field_of control)) }
+{
+    let subject = subject_of(control);
+    let pcb = Pcb::Supervisory { response, subject };
+    match control {
+        Control::Ifs { size } => spell(alloc, pcb, &[size]),
+        Control::Wtx { multiple } => spell(alloc, pcb, &[multiple]),
+        _ => spell(alloc, pcb, &[]),
+    }
+}
+
+fn subject_of(control: Control) -> Subject
+    ensures { result ≡ subject_of control }
+{
+    match control {
+        Control::Resynch => Subject::Resynch,
+        Control::Ifs { .. } => Subject::Ifs,
+        Control::Abort => Subject::Abort,
+        Control::Wtx { .. } => Subject::Wtx,
+    }
+}
+
+fn spell(alloc: Global, pcb: Pcb, info: &[u8]) -> Result<Vec<u8>, AllocError>
+    requires { length info.now ≤ 254 }
+    ensures { IfOk result (λ v. v.items ≡ spelled pcb info.now) }
+{
+    let mut out = Vec::with_capacity(alloc, info.len() + 4)?;
+    out.push(0)?;
+    out.push(pcb.byte())?;
+    out.push(info.len() as u8)?;
+    out.extend_from_slice(info)?;
+    let check = lrc(&out);
+    out.push(check)?;
+    Ok(out)
+}
+
+/// Reads a whole block; `None` if a byte of it is wrong: NAD, PCB, LEN, the field of an R-block or
+/// an S-block, or the LRC. The owner of the line then calls `damaged`.
+pub fn read(bytes: &[u8]) -> Option<Block<'_>>
+    ensures exact { option_map said result ≡ block_of bytes.now }
+
+    // What is written so is read.
+    ensures written { (block : Sent) → length (info_of block) ≤ 254 → bytes.now ≡ bytes_of block →
+        option_map said result ≡ Some block }
+{
+    read_whole(bytes)
+}
+
+fn read_whole(bytes: &[u8]) -> Option<Block<'_>>
+    ensures { option_map said result ≡ block_of bytes.now }
+{
+    match parts(bytes) {
+        None => None,
+        Some((pcb, info)) => block_in(pcb, info),
+    }
+}
+
+/// The PCB and the field of a whole block.
+pub fn parts(bytes: &[u8]) -> Option<(Pcb, &[u8])>
+    ensures exact { Reads (λ b. (b.0, b.1.now)) result (parts_of bytes.now) }
+
+    // What is read is spelled so, each byte of it.
+    ensures spelled { IfSome result (λ b. (length b.1.now ≤ 254)
+        × (bytes.now ≡ spelled b.0 b.1.now)) }
+{
+    if bytes.len() < 4 {
+        return None;
+    }
+    let len = bytes[2];
+    if len == 255 {
+        return None;
+    }
+    let end = usize::from(len) + 3;
+    if bytes.len() != end + 1 {
+        return None;
+    }
+    if bytes[0] != 0 {
+        return None;
+    }
+    if bytes[end] != lrc(&bytes[..end]) {
+        return None;
+    }
+    match Pcb::of(bytes[1]) {
+        Some(pcb) => Some((pcb, &bytes[3..end])),
+        None => None,
+    }
+}
+
+fn block_in(pcb: Pcb, info: &[u8]) -> Option<Block<'_>>
+    ensures { option_map said result ≡ block_in (Some (pcb, info.now)) }
+{
+    match pcb {
+        Pcb::Information { number, more } => Some(Block::Information {
+            number,
+            more,
+            field: info,
+        }),
+        Pcb::Ready { number, .. } => {
+            if info.is_empty() {
+                Some(Block::Ready { number })
+            } else {
+                None
+            }
+        }
+        Pcb::Supervisory { response, subject } => match control_of(subject, info) {
+            Some(control) => Some(if response {
+                Block::Response { control }
+            } else {
+                Block::Request { control }
+            }),
+            None => None,
+        },
+    }
+}
+
+fn control_of(subject: Subject, info: &[u8]) -> Option<Control>
+    ensures { result ≡ control_of subject info.now }
+{
+    match subject {
+        Subject::Resynch => {
+            if info.is_empty() {
+                Some(Control::Resynch)
+            } else {
+                None
+            }
+        }
+        Subject::Ifs => match one_byte(info) {
+            Some(size) => Some(Control::Ifs { size }),
+            None => None,
+        },
+        Subject::Abort => {
+            if info.is_empty() {
+                Some(Control::Abort)
+            } else {
+                None
+            }
+        }
+        Subject::Wtx => match one_byte(info) {
+            Some(multiple) => Some(Control::Wtx { multiple }),
+            None => None,
+        },
+    }
+}
+
+fn one_byte(info: &[u8]) -> Option<u8>
+    ensures { result ≡ one_byte info.now }
+{
+    if info.len() == 1 { Some(info[0]) } else { None }
+}

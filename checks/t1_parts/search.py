@@ -1,8 +1,8 @@
-"""Both ends of a T=1 dialogue (ISO/IEC 7816-3, clause 11) as machines, and an exhaustive search over
-all that a line can do.
+"""Both ends of a T=1 dialogue (ISO/IEC 7816-3, clause 11) as machines, and an exhaustive search
+over all that a line can do.
 
-The machines are written from the rules, apart from the proved definitions. They can also break rules,
-so that the search shows what a broken rule leads to.
+The machines are written from the rules, not from the proved definitions. They can also break rules:
+the search then shows what a broken rule leads to.
 
 Blocks: ('I', ns, more, symbols) ('R', nr) ('S', kind, 'q' or 'p', value), q for a request. The line
 delivers a block, damages it ('bad': the LRC shows it), loses it (the terminal: 'timeout'; the card:
@@ -10,16 +10,17 @@ nothing), delays it until after the terminal's time-out, or doubles it."""
 
 from collections import namedtuple
 
+# mode: start ifs send recv resync idle done broken; k: command; i: block of it; air: the last block
+# of the command may have reached the card; res: results so far, one for each command
 T = namedtuple('T', 'mode k i got ns nr fails naks resy wtx air ifsd res')
-# mode: start ifs send recv resync idle done broken; k: command; i: block of it; air: the last block of the
-# command may have reached the card; res: results so far, one for each command
+# vr: N(S) due from the terminal; vs: N(S) of the card's next I-block; coll: the received part of a
+# command; ans: blocks of the response (None: none yet), j: the newest sent; pend: the card's
+# S(request) that waits for its response; busy: WTX requests still to make; ran: carried out
 C = namedtuple('C', 'vr vs coll ans j pend busy ifsd ran fresh bads')
-# vr: N(S) due from the terminal; vs: N(S) of the card's next I-block; coll: what has come of a command;
-# ans: blocks of the response under way (None: none yet), j: which was sent last; pend: an S(request) of the
-# card's waits for its response; busy: WTX requests still to be made; ran: what was carried out
-Cfg = namedtuple('Cfg', 'cmds limit nak resync wtx_limit wtx_asks ifs ack_r first_r dup late term_after_last '
-                        'ifs_fail accept_max budget sticky wtx_counts timeout_i ifs_limit go_on card_ifs card_limit '
-                        'double_down double_up ifs_step card_ifs_value')
+Cfg = namedtuple('Cfg', """
+    cmds limit nak resync wtx_limit wtx_asks ifs ack_r first_r dup late term_after_last ifs_fail
+    accept_max budget sticky wtx_counts timeout_i ifs_limit go_on card_ifs card_limit double_down
+    double_up ifs_step card_ifs_value""")
 
 def default(cmds, **kw):
     d = dict(cmds=cmds,      # a list of (blocks of the command, symbols of the response)
@@ -28,22 +29,29 @@ def default(cmds, **kw):
              resync='none',  # 'none' | 'resend' | 'careful'
              wtx_limit=3, wtx_asks=0,
              ifs=False,      # S(IFS) first
-             ack_r='R',      # the card, when R acknowledges its last block: 'R' | 'repeat' | 'silent'
+             # the card, when R acknowledges its last block: 'R' | 'repeat' | 'silent'
+             ack_r='R',
              first_r='R',    # the card, R before any I: 'R' | 'silent'
-             dup='R',        # the card, I-block that came already: 'R' (invalid) | 'take' (no test of N(S))
+             # the card, I-block that came already: 'R' (invalid) | 'take' (no test of N(S))
+             dup='R',
              late=False,
-             term_after_last='R',   # the terminal, R(other number) after its last block: 'R' | 'ack'
+             # the terminal, R(other number) after its last block: 'R' | 'ack'
+             term_after_last='R',
              ifs_fail='giveup',     # S(IFS) not answered: 'giveup' | 'goon'
              ifs_step=False,        # the response to S(IFS) is a step forward
              card_ifs_value=1,
-             accept_max=True,       # the terminal takes blocks up to the IFSD it has asked for, from then on
+             # the terminal takes blocks up to the IFSD it has asked for, from then on
+             accept_max=True,
              budget=None,    # at most n bad blocks between two steps
-             sticky=False,   # once the last block was sent the terminal never again says 'not carried out'
+             # once the last block was sent the terminal never again says 'not carried out'
+             sticky=False,
              wtx_counts=True,       # a WTX request is progress: it clears the counter of failures
              timeout_i=False,       # a terminal that repeats its I-block after a time-out
              ifs_limit=None,        # tries of S(IFS), where they are others
-             go_on=False,           # after it has given up the terminal begins the next command all the same
-             card_ifs=False,        # the card sends S(IFS request) before it answers the first I-block
+             # after it has given up the terminal begins the next command all the same
+             go_on=False,
+             # the card sends S(IFS request) before it answers the first I-block
+             card_ifs=False,
              double_down=False,     # the line doubles a block to the card
              double_up=False,       # the line doubles a block to the terminal
              card_limit=None)       # after n damaged blocks in a row the card only listens
@@ -62,7 +70,8 @@ def response(cfg, cmd):      # a function of what was carried out
 def cut(symbols, size):
     return tuple(symbols[a:a + size] for a in range(0, len(symbols), size)) or ((),)
 
-# ---- the terminal -------------------------------------------------------------------------------
+# ---- the terminal
+# -------------------------------------------------------------------------------
 def iblock(cfg, t):
     cmd = command(cfg, t.k)
     return ('I', t.ns, int(t.i < len(cmd) - 1), (cmd[t.i],))
@@ -74,10 +83,12 @@ def sends_i(cfg, t):
 def begin(cfg, t):           # the next command, if there is one
     if t.k == len(cfg.cmds):
         return t._replace(mode='done'), None
-    return sends_i(cfg, t._replace(mode='send', i=0, got=(), fails=0, naks=0, resy=0, wtx=0, air=False))
+    return sends_i(cfg, t._replace(mode='send', i=0, got=(), fails=0, naks=0, resy=0, wtx=0,
+        air=False))
 
 def answers(cfg, t, result):
-    t = t._replace(res=t.res + (result,), k=t.k + 1, got=(), fails=0, naks=0, resy=0, wtx=0, air=False, i=0)
+    t = t._replace(res=t.res + (result,), k=t.k + 1, got=(), fails=0, naks=0, resy=0, wtx=0,
+        air=False, i=0)
     return begin(cfg, t._replace(mode='idle'))
 
 def fault(t):
@@ -88,7 +99,8 @@ def gives_up(cfg, t):
         return t._replace(mode='resync', fails=0, naks=0), ('S', 'RESYNCH', 'q', 0)
     if cfg.go_on:
         return answers(cfg, t, fault(t))
-    return t._replace(mode='broken', res=t.res + (fault(t),), fails=0, naks=0, i=0, air=False, got=()), None
+    return t._replace(mode='broken', res=t.res + (fault(t),), fails=0, naks=0, i=0, air=False,
+        got=()), None
 
 def again(t):                # what is sent after something that is no progress
     if t.mode == 'ifs':
@@ -104,14 +116,16 @@ def no_progress(cfg, t):
     if t.mode == 'ifs':
         if cfg.ifs_fail == 'goon':
             return begin(cfg, t._replace(mode='idle'))
-        return t._replace(mode='broken', res=t.res + (('fault', 'not carried out'),), fails=0), None
+        return t._replace(mode='broken', res=t.res + (('fault', 'not carried out'),),
+            fails=0), None
     return gives_up(cfg, t)
 
 def terminal(cfg, t, e):
     """-> (state, block or None, progress)"""
     if t.mode == 'start':
         if cfg.ifs:
-            return t._replace(mode='ifs', ifsd=LARGE if cfg.accept_max else SMALL), ('S', 'IFS', 'q', LARGE), True
+            return t._replace(mode='ifs', ifsd=LARGE if cfg.accept_max else SMALL), ('S', 'IFS',
+                'q', LARGE), True
         return (*begin(cfg, t), True)
     if t.mode in ('done', 'broken', 'idle'):
         return t, None, False
@@ -130,13 +144,15 @@ def terminal(cfg, t, e):
             if cfg.resync == 'careful' and (t.air or t.got):
                 return (*answers(cfg, t, fault(t)), True)
             if t.resy == 2:
-                return t._replace(mode='broken', res=t.res + (fault(t),), fails=0, air=False, got=()), None, True
+                return t._replace(mode='broken', res=t.res + (fault(t),), fails=0, air=False,
+                    got=()), None, True
             return (*sends_i(cfg, t._replace(mode='send', resy=t.resy + 1, got=())), True)
         return (*no_progress(cfg, t), False)
     if b and b[0] == 'S' and b[2] == 'q' and b[1] in ('WTX', 'IFS'):       # rules 3, 4
         if t.wtx >= cfg.wtx_limit:
             return (*gives_up(cfg, t), False)
-        return t._replace(wtx=t.wtx + 1, fails=0 if cfg.wtx_counts else t.fails), ('S', b[1], 'p', b[3]), cfg.wtx_counts
+        return t._replace(wtx=t.wtx + 1, fails=0 if cfg.wtx_counts else t.fails), ('S', b[1],
+            'p', b[3]), cfg.wtx_counts
     last = t.i == len(command(cfg, t.k)) - 1
     if t.mode == 'send':
         if b and b[0] == 'R':
@@ -144,9 +160,12 @@ def terminal(cfg, t, e):
                 f = {'count': t.fails + 1, 'reset': 0, 'keep': t.fails, 'two': 0}[cfg.nak]
                 n = t.naks + 1 if cfg.nak == 'two' else 0
                 if f >= cfg.limit or n >= cfg.limit:
-                    return (*gives_up(cfg, t._replace(air=t.air and (cfg.sticky or not last))), False)
-                # the card asks for the last block: it had not come yet, but now it is in the air again
-                return (*sends_i(cfg, t._replace(fails=f, naks=n, air=t.air and cfg.sticky)), False)
+                    return (*gives_up(cfg, t._replace(air=t.air and (cfg.sticky or not last))),
+                        False)
+                # the card asks for the last block: it had not come yet, but now it is in the air
+                # again
+                return (*sends_i(cfg, t._replace(fails=f, naks=n, air=t.air and cfg.sticky)),
+                    False)
             if not last:
                 return (*sends_i(cfg, t._replace(i=t.i + 1, ns=1 - t.ns, fails=0, naks=0)), True)
             return (*no_progress(cfg, t), False)
@@ -167,7 +186,8 @@ def terminal(cfg, t, e):
         return (*no_progress(cfg, t), False)
     raise ValueError(t)
 
-# ---- the card -----------------------------------------------------------------------------------
+# ---- the card
+# -----------------------------------------------------------------------------------
 def c_iblock(c):
     return ('I', 1 - c.vs, int(c.j < len(c.ans) - 1), c.ans[c.j])
 
@@ -190,7 +210,8 @@ def card(cfg, c, b):
     c = c._replace(bads=0)
     if b[0] == 'S':
         if b[1] == 'RESYNCH' and b[2] == 'q':
-            return c._replace(vr=0, vs=0, coll=(), ans=None, j=0, pend=None, ifsd=SMALL, busy=cfg.wtx_asks,
+            return c._replace(vr=0, vs=0, coll=(), ans=None, j=0, pend=None, ifsd=SMALL,
+                busy=cfg.wtx_asks,
                               fresh=True), ('S', 'RESYNCH', 'p', 0)
         if b[1] == 'IFS' and b[2] == 'q':
             return c._replace(ifsd=b[3]), ('S', 'IFS', 'p', b[3])
@@ -209,7 +230,8 @@ def card(cfg, c, b):
                 c = c._replace(j=c.j + 1, vs=1 - c.vs)
                 return c, c_iblock(c)
             if cfg.ack_r == 'R':
-                return c, ('R', c.vr)                  # a gap of the rules: its response has come; it asks
+                # a gap of the rules: its response has come; it asks
+                return c, ('R', c.vr)
             if cfg.ack_r == 'repeat':
                 return c, c_iblock(c)
             return c, None
@@ -231,7 +253,8 @@ def card(cfg, c, b):
         return c._replace(pend=('S', 'WTX', 'q', 2), busy=cfg.wtx_asks - 1), ('S', 'WTX', 'q', 2)
     return c_answer(c)
 
-# ---- what is asked of both ----------------------------------------------------------------------
+# ---- what is asked of both
+# ----------------------------------------------------------------------
 def claims(cfg, t, c):
     sent = [tuple(command(cfg, k)) for k in range(len(cfg.cmds))]
     out = []
@@ -245,9 +268,11 @@ def claims(cfg, t, c):
             out.append('(i) carried out: %r' % (c.ran,))
             break
         pos += 1
-    # (v) with no RESYNCH: what was carried out are the first commands, those answered and at most one more
+    # (v) with no RESYNCH: what was carried out are the first commands, those answered and at
+    # most one more
     oks = sum(1 for r in t.res if r[0] == 'ok')
-    if cfg.resync == 'none' and (list(c.ran) != sent[:len(c.ran)] or not oks <= len(c.ran) <= oks + 1):
+    in_order = list(c.ran) == sent[:len(c.ran)] and oks <= len(c.ran) <= oks + 1
+    if cfg.resync == 'none' and not in_order:
         out.append('(v) carried out %r after %d answers' % (c.ran, oks))
     # (ii) each answer is that of the card, which carried the command out once
     for k, r in enumerate(t.res):
@@ -264,7 +289,8 @@ def search(cfg, most=400000):
     t0 = T('start', 0, 0, (), 0, 0, 0, 0, 0, 0, False, SMALL, ())
     c0 = C(0, 0, (), None, 0, None, 0, SMALL, (), True, 0)
     bud0 = cfg.budget if cfg.budget is not None else 0
-    # a state: terminal, card, block for the card or None, blocks for the terminal (at most two), bad ones left
+    # a state: terminal, card, block for the card or None, blocks for the terminal (at most two),
+    # bad ones left
     def feed(t, c, e, queue, bud):
         t, out, progress = terminal(cfg, t, e)
         if progress and cfg.budget is not None:
@@ -293,7 +319,8 @@ def search(cfg, most=400000):
                     c2, out = card(cfg, c, down if what == 'deliver' else 'bad')
                 q = queue + ((out,) if out else ())
                 if len(q) <= 2:
-                    nexts.append((('to card', what, down), (t, c2, None, q, bud if what == 'deliver' else less)))
+                    nexts.append((('to card', what, down), (t, c2, None, q,
+                        bud if what == 'deliver' else less)))
             if cfg.double_down and may and len(queue) == 0:
                 c2, first_out = card(cfg, c, down)
                 c2, out = card(cfg, c2, down)
@@ -304,14 +331,17 @@ def search(cfg, most=400000):
                 b = queue[0]
                 nexts.append((('to terminal', 'deliver', b), feed(t, c, b, queue[1:], bud)))
                 if may:
-                    nexts.append((('to terminal', 'damage', b), feed(t, c, 'bad', queue[1:], less)))
+                    nexts.append((('to terminal', 'damage', b), feed(t, c, 'bad', queue[1:],
+                        less)))
                     nexts.append((('to terminal', 'lose', b), (t, c, None, queue[1:], less)))
                     if cfg.double_up and len(queue) == 1:
                         nexts.append((('to terminal', 'double', b), feed(t, c, b, queue, less)))
                     if cfg.late and len(queue) == 1:
-                        nexts.append((('to terminal', 'late', b), feed(t, c, 'timeout', queue, less)))
+                        nexts.append((('to terminal', 'late', b), feed(t, c, 'timeout', queue,
+                            less)))
             else:
-                nexts.append((('to terminal', 'timeout', None), feed(t, c, 'timeout', queue, bud)))
+                nexts.append((('to terminal', 'timeout', None), feed(t, c, 'timeout', queue,
+                    bud)))
         graph[s] = [n for _, n in nexts]
         for how, n in nexts:
             if n not in parent:
@@ -334,7 +364,8 @@ def search(cfg, most=400000):
                 found[key] = (p, path(s))
         if s[0].mode in ('done', 'broken'):
             ends.add((s[0].mode,) + tuple(r[0] if r[0] == 'ok' else r[1] for r in s[0].res))
-            if cfg.budget is not None and (s[0].mode == 'broken' or any(r[0] != 'ok' for r in s[0].res)):
+            gave_up = s[0].mode == 'broken' or any(r[0] != 'ok' for r in s[0].res)
+            if cfg.budget is not None and gave_up:
                 if '(iii)' not in found or len(path(s)) < len(found['(iii)'][1]):
                     found['(iii)'] = ('(iii) no answer', path(s))
     # (iv) a cycle: the terminal goes on for ever
@@ -370,8 +401,10 @@ def show(b):
     return 'S(%s %s)' % (b[1], {'q': 'req', 'p': 'resp'}[b[2]])
 
 def show_path(p):
-    mark = {'deliver': '', 'damage': '~', 'lose': 'x', 'late': '(late)', 'double': '(twice)', 'timeout': 'time-out'}
-    return '  '.join(('> ' if w == 'to card' else '< ') + (show(b) if b else '') + mark[h] for w, h, b in p)
+    mark = {'deliver': '', 'damage': '~', 'lose': 'x', 'late': '(late)', 'double': '(twice)',
+        'timeout': 'time-out'}
+    return '  '.join(('> ' if w == 'to card' else '< ') + (show(b) if b else '') + mark[h] for w,
+        h, b in p)
 
 # Lists of commands: the blocks of each, and the symbols of its response.
 ONE = [[(a, b)] for a in (1, 2, 3) for b in (1, 2, 3)]

@@ -1,6 +1,6 @@
 //! Finds the end of a block in the bytes of a line.
 
-ghost use Rattle.std.specs.Prelude.{◌≡◌, ◌≤◌, ◌<◌, ◌++◌, ◌∷◌, [], List, ℕ, true, false, length, take, if◌then◌else◌};
+ghost use Rattle.std.specs.Prelude.{◌≡◌, ◌≤◌, ◌<◌, ◌++◌, ◌∷◌, [], List, ℕ, true, false, length, take, ◌⊎◌, if◌then◌else◌};
 ghost use Rattle.t1_core.specs.Receiving.{is_whole, received};
 
 use std::marker::Model;
@@ -83,6 +83,21 @@ impl Receiver {
         } else {
             Received::More
         }
+    }
+
+    /// Takes bytes of the line up to the end of the block. Returns how many; those behind them
+    /// change nothing.
+    pub fn take_bytes(&mut self, bytes: &[u8]) -> usize
+        ensures after { self.new ≡ self.old ++ take result bytes.now }
+        ensures all { (result ≡ length bytes.now) ⊎ (is_whole self.new ≡ true) }
+    {
+        for at in 0..bytes.len() {
+            if self.is_whole() {
+                return at;
+            }
+            self.append(bytes[at]);
+        }
+        bytes.len()
     }
 
     fn append(&mut self, byte: u8)

@@ -26,12 +26,12 @@
  *
  * Every function but those of texts, of the version, gt_is_object and the .._free ones answers a
  * code of the list below: 0 or above where it went well, below 0 a fault: compare with < 0, not
- * with != 0. The numbers are fixed. A function's comment names all faults that it may answer, but for two: GT_NULL
- * (above), and GT_EMPTY, which each function with a handle answers where that holds nothing, unless
- * its comment says otherwise. Where more than one holds it is the first of GT_NULL, GT_EMPTY,
- * GT_STATE, and then of the comment's, in its order; in gt_session_start and gt_session_end, which
- * have two handles, GT_STATE comes before GT_EMPTY. After a fault nothing has changed, neither the
- * handle nor what the other pointers point to, but for what the comment says.
+ * with != 0. The numbers are fixed. A function's comment names all faults that it may answer, but
+ * for two: GT_NULL (above), and GT_EMPTY, which each function with a handle answers where that
+ * holds nothing, unless its comment says otherwise. Where more than one holds it is the first of
+ * GT_NULL, GT_EMPTY, GT_STATE, and then of the comment's, in its order; in gt_session_start and
+ * gt_session_end, which have two handles, GT_STATE comes before GT_EMPTY. After a fault nothing has
+ * changed, neither the handle nor what the other pointers point to, but for what the comment says.
  *
  * A code is about the call, a status about the card: GT_OK with status 6982 is a call that went
  * well, and a value that is not stored. Look at both; the statuses are listed above "A session".

@@ -140,9 +140,9 @@ static void faults(void)
     CHECK_ANSWER(ONE, GET_NAME, "\x5F\x20\x03JOE\x90\x00");
     CHECK(send_at(ONE, 0, GET_NAME, 5, 8), IFD_SUCCESS);
     CHECK(length, 8);
+    /* too little room for the answer changes nothing at the card */
     CHECK_FAULT(ONE, 0, GET_NAME, 7, IFD_COMMUNICATION_ERROR);
-    CHECK_ANSWER(ONE, GET_NAME, "\x69\x85");
-    CHECK_ANSWER(ONE, SELECT, "\x61\x0B");
+    CHECK_ANSWER(ONE, GET_NAME, "\x5F\x20\x03JOE\x90\x00");
     CHECK_FAULT(ONE, 0, "\x00\xCA\x5F\x20\x06JOEJOE", 258, IFD_COMMUNICATION_ERROR);
     CHECK_ANSWER(ONE, GET_NAME, "\x69\x85");
     CHECK_FAULT(ONE, 0, "\x00\xA4\x04\x00\x05", 258, IFD_COMMUNICATION_ERROR);

@@ -1,0 +1,420 @@
+-- A SELECT and a GET DATA over a transport of whole commands: what the first TPDU begins, and what
+-- is read after it, by the reader and by the terminal.
+use Rattle.std.proofs.Common.{◌≡◌, ℕ, ◌-◌, ◌≤◌, List, [], ◌∷◌, ◌++◌, length, take, drop, refl, sym, subst, ◌∙◌, ap, arith, inl, inr, ◌⊎◌, true, Option, Some, None, append-nil, append_assoc}
+use Rattle.std.specs.Prelude.{is_some}
+use Rattle.std.proofs.lemmas.Bool.{le-leb}
+use Rattle.std.proofs.lemmas.List.{take-append-drop}
+use Rattle.apdu_core.specs.declared.header.Header.{Header}
+use Rattle.apdu_core.specs.StatusWord.{StatusWord, ok, count, announces, corrects}
+use Rattle.apdu_core.specs.CommandBytes.{Command}
+use Rattle.t0_core.specs.Meaning.{Tpdu}
+use Rattle.tlv_core.specs.Address.{NamesTag}
+use Rattle.tlv_core.specs.Spelling.{object_bytes}
+use Rattle.object_card.specs.Tables.{IsAid, entries_in}
+use Rattle.object_card.specs.State.{CardState, is_idle, waiting, pending_of, with_selected}
+use Rattle.object_card.specs.OneStep.{Operation, Select, Get, reply, Answers, selects, finds_no_application, gives, control_information, SameTables}
+use Rattle.object_card.specs.Refusals.{is_select, refusal}
+use Rattle.object_card.specs.CardMeaning.{Does, announcing}
+use Rattle.object_card.specs.CarryingOut.{select_header, get_header, IsCarriedOut}
+use Rattle.object_card.specs.OperationLaws.{no_correction}
+use Rattle.object_card.specs.ResponseLaws.{rest_waits, rest_is_idle}
+use Rattle.object_card.specs.StepLaws.{select_step, select_refused, is_selected, is_missed}
+use Rattle.object_card.specs.AnswerLaws.{answers_alike}
+use Rattle.card_terminal.specs.declared.wanted.Wanted.TheVariants.{Bytes, Everything}
+use Rattle.card_terminal.specs.Gathered.{less, fetched_after}
+use Rattle.card_terminal.specs.Talk.{select_command, get_command}
+use Rattle.apdu_terminal.specs.Apdus.{Pair, Place, first_place, asking, may_bring, Goes, Ends, follow, repeated, Suits, all_content, Brings}
+use Rattle.apdu_terminal.specs.CardApdu.{p3_of, tpdu_command, le_of_tpdu, IsTpduOf, GoesBy, Responds, RespondsToAll}
+use Rattle.apdu_terminal.proofs.RestLemmas.{Whole, at_end, further, brings_whole, goes_by_fetch, ends_without_fetch, told_by, waits_for, all_read, all_responses, none_announced, count_told}
+use Rattle.object_card.specs.OperationLaws.{select_is_taken, IsHeld, one_held, some_bytes, get_refused, get_corrected, get_given, get_step}
+
+-- what an operation has come to after some of its TPDUs: it is answered without data; or a response
+-- has begun, with word of what is left
+pub data FirstOf (old : CardState) (operation : Operation) (content : List ℕ) (status : StatusWord)
+    (mid : CardState) : Type 0 where
+  answered : (after : CardState) → Answers old operation (reply status) after
+      → announces status ≡ None → corrects status ≡ None → content ≡ [] → SameTables after mid
+      → is_idle mid.pending ≡ true → FirstOf old operation content status mid
+  begun : (whole : List ℕ) (after : CardState)
+      → Answers old operation (record { status = ok; content = whole }) after
+      → content ++ waiting mid.pending ≡ whole → status ≡ announcing (waiting mid.pending) 256
+      → SameTables after mid → is_idle mid.pending ≡ true → FirstOf old operation content status mid
+
+same_first : (old : CardState) (operation : Operation) (a b : List ℕ) (s t : StatusWord)
+    (m n : CardState) → a ≡ b → s ≡ t → m ≡ n → FirstOf old operation a s m
+    → FirstOf old operation b t n
+same_first old operation a b s t m n ab st mn first =
+    subst (λ x. FirstOf old operation b t x) mn (subst (λ x. FirstOf old operation b x m) st
+    (subst (λ x. FirstOf old operation x s m) ab first))
+
+-- a whole exchange by its first pair
+abbrev pub WholeBy : Place → Pair → List Pair → StatusWord → Type 0
+WholeBy at p rest status =
+    ((rest ≡ []) × (status ≡ p.status) × Suits at p
+    × (follow at (length p.content) p.status ≡ Ends))
+    ⊎ ((next : Place) × Suits at p × (follow at (length p.content) p.status ≡ Goes next)
+    × Whole next rest status)
+
+pub whole_by : (at : Place) (pairs : List Pair) (status : StatusWord) → Whole at pairs status
+    → (p : Pair) × (rest : List Pair) × (pairs ≡ p ∷ rest) × WholeBy at p rest status
+whole_by at pairs status (at_end here p suits ends) =
+    (p, [], refl, inl (refl, refl, suits, ends))
+whole_by at pairs status (further here next p rest last suits goes whole) =
+    (p, rest, refl, inr (next, suits, goes, whole))
+
+pub suits_of : (at : Place) (p : Pair) (rest : List Pair) (status : StatusWord)
+    → WholeBy at p rest status → Suits at p
+suits_of at p rest status (inl (none, is, suits, ends)) = suits
+suits_of at p rest status (inr (next, suits, goes, whole)) = suits
+
+-- nothing is fetched where nothing is announced
+no_fetch : (at next : Place) (came : ℕ) (status : StatusWord) → announces status ≡ None
+    → corrects status ≡ None → follow at came status ≡ Goes next → ⊥
+no_fetch at next came status none once goes =
+    let f = goes_by_fetch at next came status once goes in
+    let (m, told, few, some) = told_by (less at.left came) status f.n f.told in
+    let no_more : None ≡ Some m = sym none ∙ told in absurd (cc)
+
+-- the reader goes on to the end of its exchange
+pub reader_goes_on : (old mid new : CardState) (operation : Operation) (at : Place) (p : Pair)
+    (rest : List Pair) (status : StatusWord) (content : List ℕ)
+    → FirstOf old operation content p.status mid → WholeBy at p rest status
+    → GoesBy Does mid rest new → FirstOf old operation (content ++ all_content rest) status new
+reader_goes_on old mid new operation at p rest status content first (inl (none, is, suits, ends))
+    goes =
+    let P : List Pair → Type 0 = λ ps. GoesBy Does mid ps new in
+    let stays : new ≡ mid = subst P none goes in
+    same_first old operation content (content ++ all_content rest) p.status status mid new
+    (sym (append-nil content) ∙ ap (λ ps. content ++ all_content ps) (sym none)) (sym is)
+    (sym stays)
+    first
+reader_goes_on old mid new operation at p rest status content
+    (answered after answers none once empty same idle) (inr (next, suits, goes_next, whole)) goes =
+    absurd (no_fetch at next (length p.content) p.status none once goes_next)
+reader_goes_on old mid new operation at p rest status content
+    (begun all after answers both told same idle) (inr (next, suits, goes_next, whole)) goes =
+    let once : corrects p.status ≡ None = ap corrects told ∙ no_correction (waiting mid.pending) 256
+    in
+    let f = goes_by_fetch at next (length p.content) p.status once goes_next in
+    let w = waits_for (waiting mid.pending) (less at.left (length p.content)) f.n
+    (ap (λ s. fetched_after (less at.left (length p.content)) s) (sym told) ∙ f.told) in
+    let r = all_read next rest status f.n mid new whole f.due w.0 w.2 w.1 goes in
+    begun all after answers
+    (append_assoc content (all_content rest) (waiting new.pending)
+    ∙ ap (λ bs. content ++ bs) r.whole ∙ both) r.status_is
+    (same.0 ∙ r.same.0, same.1 ∙ r.same.1) r.idle
+
+answered_so : (old after new : CardState) (operation : Operation) (s t : StatusWord) (a b : List ℕ)
+    → Answers old operation (record { status = s; content = a }) after → s ≡ t → a ≡ b
+    → SameTables after new → is_idle new.pending ≡ true → IsCarriedOut old operation t b new
+answered_so old after new operation s t a b answers st ab same idle = (
+  after,
+  subst (λ x. Answers old operation (record { status = t; content = x }) after) ab
+      (subst (λ x. Answers old operation (record { status = x; content = a }) after) st answers),
+  same,
+  idle,
+)
+
+-- the terminal goes on to the end of its exchange
+pub terminal_goes_on : (old mid new : CardState) (operation : Operation) (at : Place) (p : Pair)
+    (rest : List Pair) (status : StatusWord) → at.left ≡ Everything
+    → FirstOf old operation p.content p.status mid → WholeBy at p rest status
+    → RespondsToAll Does mid rest new
+    → IsCarriedOut old operation status (all_content (p ∷ rest)) new
+terminal_goes_on old mid new operation at p rest status left
+    (answered after answers none once empty same idle) (inl (over, is, suits, ends)) goes =
+    let P : List Pair → Type 0 = λ ps. RespondsToAll Does mid ps new in
+    let stays : new ≡ mid = subst P over goes in
+    answered_so old after new operation p.status status [] (p.content ++ all_content rest) answers
+    (sym is) (sym (ap (λ ps. p.content ++ all_content ps) over ∙ append-nil p.content ∙ empty))
+    (same.0 ∙ sym (ap (λ s. s.applications) stays), same.1 ∙ sym (ap (λ s. s.selected) stays))
+    (ap (λ s. is_idle s.pending) stays ∙ idle)
+terminal_goes_on old mid new operation at p rest status left
+    (answered after answers none once empty same idle) (inr (next, suits, goes_next, whole)) goes =
+    absurd (no_fetch at next (length p.content) p.status none once goes_next)
+terminal_goes_on old mid new operation at p rest status left
+    (begun all after answers both told same idle) (inl (over, is, suits, ends)) goes =
+    let P : List Pair → Type 0 = λ ps. RespondsToAll Does mid ps new in
+    let stays : new ≡ mid = subst P over goes in
+    let nothing : waiting mid.pending ≡ [] =
+    none_announced (waiting mid.pending) (ap (λ s. fetched_after Everything s) (sym told)
+    ∙ ap (λ w. fetched_after (less w (length p.content)) p.status) (sym left)
+    ∙ ends_without_fetch at (length p.content) p.status ends) in
+    let fine : p.status ≡ ok = told ∙ ap (λ bs. announcing bs 256) nothing in
+    answered_so old after new operation ok status all (p.content ++ all_content rest) answers
+    (sym fine ∙ sym is)
+    (sym both ∙ ap (λ bs. p.content ++ bs) nothing
+    ∙ sym (ap (λ ps. p.content ++ all_content ps) over))
+    (same.0 ∙ sym (ap (λ s. s.applications) stays), same.1 ∙ sym (ap (λ s. s.selected) stays))
+    (ap (λ s. is_idle s.pending) stays ∙ idle)
+terminal_goes_on old mid new operation at p rest status left
+    (begun all after answers both told same idle) (inr (next, suits, goes_next, whole)) goes =
+    let once : corrects p.status ≡ None = ap corrects told ∙ no_correction (waiting mid.pending) 256
+    in
+    let f = goes_by_fetch at next (length p.content) p.status once goes_next in
+    let w = waits_for (waiting mid.pending) (less at.left (length p.content)) f.n
+    (ap (λ s. fetched_after (less at.left (length p.content)) s) (sym told) ∙ f.told) in
+    let (r, none) = all_responses next rest status f.n mid new whole f.due
+    (f.left ∙ ap (λ x. less x (length p.content)) left) w.0 w.2 w.1 goes in
+    let fine : status ≡ ok = r.status_is ∙ ap (λ bs. announcing bs 256) none in
+    answered_so old after new operation ok status all (p.content ++ all_content rest) answers
+    (sym fine)
+    (sym both ∙ ap (λ bs. p.content ++ bs)
+    (sym r.whole ∙ ap (λ bs. all_content rest ++ bs) none ∙ append-nil (all_content rest)))
+    (same.0 ∙ r.same.0, same.1 ∙ r.same.1) r.idle
+
+-- ---- SELECT
+
+p3_some : (content : List ℕ) (le : Option ℕ) → 1 ≤ length content
+    → p3_of content le ≡ length content
+p3_some [] le some = absurd (omega (arith, some))
+p3_some (b ∷ bs) le some = refl
+
+all_sent : (aid sent : List ℕ) → 1 ≤ length aid → length aid ≡ length sent
+    → (sent ≡ []) ⊎ (sent ≡ aid) → sent ≡ aid
+all_sent aid sent some counts (inl none) = absurd (omega (arith, some, counts, ap length none))
+all_sent aid sent some counts (inr all) = all
+
+select_first : (old mid : CardState) (aid : List ℕ) (p : Pair) (t : Tpdu)
+    → is_idle old.pending ≡ true → IsAid aid → p.command ≡ tpdu_command (select_command aid)
+    → IsTpduOf p t → Does old 256 t mid → FirstOf old (Select aid) p.content p.status mid
+select_first old mid aid p t idle is due of does =
+    let some : 1 ≤ length aid = omega (arith, is.0) in
+    let header : t.header ≡ select_header = of.header_is ∙ ap (λ (c : Command). c.header) due in
+    let p3 : t.p3 ≡ length aid =
+    of.p3_is ∙ ap (λ (c : Command). p3_of c.content c.le) due
+    ∙ p3_some aid (le_of_tpdu aid (Some 256)) some in
+    let which : (t.sent ≡ []) ⊎ (t.sent ≡ aid) =
+    subst (λ (c : Command). (t.sent ≡ []) ⊎ (t.sent ≡ c.content)) due of.all_or_none in
+    let taken : refusal old t.header t.p3 ≡ None =
+    subst (λ n. refusal old t.header n ≡ None) (sym p3)
+    (subst (λ h. refusal old h (length aid) ≡ None) (sym header)
+    (select_is_taken old aid idle is)) in
+    elim (select_step old mid 256 t does (ap (λ h. is_select h) header)) [
+      | select_refused refused none_sent none new_is ↦ let no : None ≡ Some t.status =
+          sym taken ∙ refused in absurd (cc)
+      | is_selected e counts found none status new_is ↦
+          let moved : t.sent ≡ aid = all_sent aid t.sent some (sym p3 ∙ counts) which in
+          let info : List ℕ = control_information aid in
+          let empty : p.content ≡ [] = sym of.received_is ∙ none in
+          let waits : waiting mid.pending ≡ info =
+          ap (λ s. waiting s.pending) new_is ∙ ap (λ x. control_information x) moved in
+          begun info (with_selected old aid)
+          (selects aid (ap (λ x. is_some (entries_in x old.applications)) (sym moved) ∙ found))
+          (ap (λ bs. bs ++ waiting mid.pending) empty ∙ waits)
+          (sym of.status_is ∙ status ∙ ap (λ x. announcing (control_information x) 256) moved
+          ∙ ap (λ bs. announcing bs 256) (sym waits)) (
+            sym (ap (λ s. s.applications) new_is),
+            sym (ap (λ x. Some x) moved) ∙ sym (ap (λ s. s.selected) new_is),
+          )
+          (ap (λ s. is_idle s.pending) new_is)
+      | is_missed e counts missed none status new_is ↦
+          let moved : t.sent ≡ aid = all_sent aid t.sent some (sym p3 ∙ counts) which in
+          let told : p.status ≡ (0x6A, 0x82) = sym of.status_is ∙ status in
+          answered old
+          (subst (λ s. Answers old (Select aid) (reply s) old) (sym told)
+          (finds_no_application aid
+          (ap (λ x. entries_in x old.applications) (sym moved) ∙ missed)))
+          (ap announces told) (ap corrects told) (sym of.received_is ∙ none)
+          (sym (ap (λ s. s.applications) new_is), sym (ap (λ s. s.selected) new_is))
+          (ap (λ s. is_idle s.pending) new_is)
+    ]
+
+-- a whole SELECT, as the card responds
+pub select_responds : (old mid : CardState) (aid : List ℕ) (p : Pair) → is_idle old.pending ≡ true
+    → IsAid aid → p.command ≡ select_command aid → Responds Does old p mid
+    → FirstOf old (Select aid) p.content p.status mid
+select_responds old mid aid p idle is due (inner, brings, goes) =
+    let at = first_place (tpdu_command p.command) (Bytes _) in
+    let (q, rest, are, by) = whole_by at inner p.status
+    (brings_whole _ _ inner p.content p.status brings) in
+    let P : List Pair → Type 0 = λ ps. GoesBy Does old ps mid in
+    let (t, next, of, does, others) = subst P are goes in
+    let suits : Suits at q = suits_of at q rest p.status by in
+    let first = select_first old next aid q t idle is (suits.is_due ∙ ap tpdu_command due) of
+    does in
+    same_first old (Select aid) (q.content ++ all_content rest) p.content p.status p.status mid mid
+    (sym (brings.gathered_is ∙ ap all_content are)) refl refl
+    (reader_goes_on old next mid (Select aid) at q rest p.status q.content first by others)
+
+-- ---- GET DATA
+
+-- a card with the same tables comes to the same
+first_alike : (a b mid : CardState) (operation : Operation) (content : List ℕ)
+    (status : StatusWord) → SameTables a b → FirstOf a operation content status mid
+    → FirstOf b operation content status mid
+first_alike a b mid operation content status tables
+    (answered after answers none once empty same idle) =
+    let (here, now, alike) = answers_alike a b after operation (reply status) tables answers in
+    answered here now none once empty (sym alike.0 ∙ same.0, sym alike.1 ∙ same.1) idle
+first_alike a b mid operation content status tables
+    (begun all after answers both told same idle) =
+    let (here, now, alike) =
+    answers_alike a b after operation (record { status = ok; content = all }) tables answers in
+    begun all here now both told (sym alike.0 ∙ same.0, sym alike.1 ∙ same.1) idle
+
+get_refuses : (old mid : CardState) (tag : List ℕ) (p : Pair) (t : Tpdu) → IsTpduOf p t
+    → Answers old (Get tag) (reply t.status) old → announces t.status ≡ None
+    → corrects t.status ≡ None → t.received ≡ [] → SameTables old mid
+    → is_idle mid.pending ≡ true → FirstOf old (Get tag) p.content p.status mid
+get_refuses old mid tag p t of answers none once nothing same idle =
+    answered old (subst (λ s. Answers old (Get tag) (reply s) old) of.status_is answers)
+    (ap announces (sym of.status_is) ∙ none) (ap corrects (sym of.status_is) ∙ once)
+    (sym of.received_is ∙ nothing) same idle
+
+get_gives : (old mid : CardState) (tag value : List ℕ) (p : Pair) (t : Tpdu) → IsTpduOf p t
+    → IsHeld old tag value → t.received ≡ take (count t.p3) (object_bytes tag value)
+    → t.status ≡ announcing (drop (count t.p3) (object_bytes tag value)) 256 → SameTables old mid
+    → mid.pending ≡ pending_of (drop (count t.p3) (object_bytes tag value))
+    → FirstOf old (Get tag) p.content p.status mid
+get_gives old mid tag value p t of held brought status same pending =
+    let whole : List ℕ = object_bytes tag value in
+    let rest : List ℕ = drop (count t.p3) whole in
+    let waits : waiting mid.pending ≡ rest = ap waiting pending ∙ rest_waits rest in
+    begun whole old (gives tag value held.entries held.is_selected held.is_under)
+    (ap (λ bs. bs ++ waiting mid.pending) (sym of.received_is ∙ brought)
+    ∙ ap (λ bs. take (count t.p3) whole ++ bs) waits ∙ take-append-drop (count t.p3) whole)
+    (sym of.status_is ∙ status ∙ ap (λ bs. announcing bs 256) (sym waits)) same
+    (ap is_idle pending ∙ rest_is_idle rest)
+
+-- a GET DATA that is told its count is repeated
+is_repeated : (h : Header) (came n : ℕ) (status : StatusWord) → corrects status ≡ Some n → came ≡ 0
+    → n ≤ 256
+    → follow (first_place (asking h 256) (Bytes 256)) came status
+    ≡ Goes (repeated (first_place (asking h 256) (Bytes 256)) came n)
+is_repeated h came n status told none few =
+    rw (told, le-leb n (256 - came) (omega (arith, none, few))) refl
+
+-- with the count that it was told it brings all
+get_again : (old mid : CardState) (tag value : List ℕ) (p1 p2 n : ℕ) (p : Pair) (t : Tpdu)
+    (before : CardState) → is_idle old.pending ≡ true → NamesTag tag p1 p2
+    → p.command ≡ asking (get_header p1 p2) n → n ≡ length (object_bytes tag value) → n ≤ 256
+    → IsHeld before tag value → SameTables before old → IsTpduOf p t → Does old 256 t mid
+    → FirstOf old (Get tag) p.content p.status mid
+get_again old mid tag value p1 p2 n p t before idle names due all few held_before tables of does =
+    let header : t.header ≡ get_header p1 p2 =
+    of.header_is ∙ ap (λ (c : Command). c.header) due in
+    let some : 1 ≤ n = omega (arith, all, some_bytes tag value) in
+    let counts : count t.p3 ≡ n =
+    ap count (of.p3_is ∙ ap (λ (c : Command). p3_of c.content c.le) due) ∙ count_told n some few in
+    elim (get_step old mid tag p1 p2 256 t idle names header does) [
+      | get_refused answers none once nothing same rests ↦
+          get_refuses old mid tag p t of answers none once nothing same rests
+      | get_corrected other held short corrected nothing same rests ↦
+          let one : value ≡ other = one_held before old tag value other tables held_before held in
+          absurd (omega (
+            arith,
+            short,
+            counts,
+            all,
+            ap (λ v. length (object_bytes tag v)) one,
+          ))
+      | get_given other held brought status same pending ↦
+          get_gives old mid tag other p t of held brought status same pending
+    ]
+
+-- a whole GET DATA, as the card responds
+get_responds : (old mid : CardState) (tag : List ℕ) (p1 p2 : ℕ) (p : Pair)
+    → is_idle old.pending ≡ true → NamesTag tag p1 p2 → p.command ≡ get_command p1 p2
+    → Responds Does old p mid → FirstOf old (Get tag) p.content p.status mid
+get_responds old mid tag p1 p2 p idle names due (inner, brings, goes) =
+    let h = get_header p1 p2 in
+    let at = first_place (asking h 256) (Bytes 256) in
+    let same_at : first_place (tpdu_command p.command) (Bytes (may_bring p.command.le)) ≡ at =
+    ap (λ (c : Command). first_place (tpdu_command c) (Bytes (may_bring c.le))) due in
+    let whole : Whole at inner p.status =
+    subst (λ x. Whole x inner p.status) same_at
+    (brings_whole _ _ inner p.content p.status brings) in
+    let (q, rest, are, by) = whole_by at inner p.status whole in
+    let P : List Pair → Type 0 = λ ps. GoesBy Does old ps mid in
+    let (t, next, of, does, others) = subst P are goes in
+    let content : q.content ++ all_content rest ≡ p.content =
+    sym (brings.gathered_is ∙ ap all_content are) in
+    let suits : Suits at q = suits_of at q rest p.status by in
+    let header : t.header ≡ h = of.header_is ∙ ap (λ (c : Command). c.header) suits.is_due in
+    let counts : count t.p3 ≡ 256 =
+    ap count (of.p3_is ∙ ap (λ (c : Command). p3_of c.content c.le) suits.is_due) in
+    elim (get_step old next tag p1 p2 256 t idle names header does) [
+      | get_refused answers none once nothing same rests ↦
+          same_first old (Get tag) (q.content ++ all_content rest) p.content p.status p.status mid
+          mid
+          content refl refl
+          (reader_goes_on old next mid (Get tag) at q rest p.status q.content
+          (get_refuses old next tag q t of answers none once nothing same rests) by others)
+      | get_given value held brought status same pending ↦
+          same_first old (Get tag) (q.content ++ all_content rest) p.content p.status p.status mid
+          mid
+          content refl refl
+          (reader_goes_on old next mid (Get tag) at q rest p.status q.content
+          (get_gives old next tag value q t of held brought status same pending) by others)
+      | get_corrected value held short corrected nothing same rests ↦
+          let n : ℕ = length (object_bytes tag value) in
+          let few : n ≤ 256 = omega (arith, short, counts) in
+          let empty : q.content ≡ [] = sym of.received_is ∙ nothing in
+          let goes_on : follow at (length q.content) q.status
+          ≡ Goes (repeated at (length q.content) n) =
+          is_repeated h (length q.content) n q.status (ap corrects (sym of.status_is) ∙ corrected)
+          (ap length empty) few in
+          elim by [
+            | inl (none, is, suits_q, ends) ↦
+                let no : Goes (repeated at (length q.content) n) ≡ Ends = sym goes_on ∙ ends in
+                absurd (cc)
+            | inr (after, suits_q, goes_q, whole_q) ↦
+                let both : Goes (repeated at (length q.content) n) ≡ Goes after =
+                sym goes_on ∙ goes_q in
+                let here : repeated at (length q.content) n ≡ after = cc in
+                let (r, more, are_r, by_r) = whole_by after rest p.status whole_q in
+                let Q : List Pair → Type 0 = λ ps. GoesBy Does next ps mid in
+                let (u, later, of_u, does_u, others_u) = subst Q are_r others in
+                let suits_r : Suits after r = suits_of after r more p.status by_r in
+                let due_r : r.command ≡ asking h n =
+                suits_r.is_due ∙ ap (λ (x : Place). x.due) (sym here) in
+                let first = get_again next later tag value p1 p2 n r u old rests names due_r refl
+                few
+                held same of_u does_u in
+                let last = first_alike next old mid (Get tag) (r.content ++ all_content more)
+                p.status
+                (sym same.0, sym same.1)
+                (reader_goes_on next later mid (Get tag) after r more p.status r.content first by_r
+                others_u) in
+                same_first old (Get tag) (r.content ++ all_content more) p.content p.status p.status
+                mid mid
+                (ap all_content (sym are_r) ∙ ap (λ bs. bs ++ all_content rest) (sym empty)
+                ∙ content)
+                refl refl last
+          ]
+    ]
+
+-- all pairs of a SELECT
+pub select_is_answered : (old new : CardState) (aid : List ℕ) (pairs : List Pair)
+    (content : List ℕ) (status : StatusWord) → is_idle old.pending ≡ true → IsAid aid
+    → Brings (select_command aid) Everything pairs content status
+    → RespondsToAll Does old pairs new → IsCarriedOut old (Select aid) status content new
+select_is_answered old new aid pairs content status idle is brings goes =
+    let at = first_place (select_command aid) Everything in
+    let (p, rest, are, by) = whole_by at pairs status
+    (brings_whole (select_command aid) Everything pairs content status brings) in
+    let P : List Pair → Type 0 = λ ps. RespondsToAll Does old ps new in
+    let (mid, responds, others) = subst P are goes in
+    let suits : Suits at p = suits_of at p rest status by in
+    let first = select_responds old mid aid p idle is suits.is_due responds in
+    subst (λ bs. IsCarriedOut old (Select aid) status bs new)
+    (sym (brings.gathered_is ∙ ap all_content are))
+    (terminal_goes_on old mid new (Select aid) at p rest status refl first by others)
+
+-- all pairs of a GET DATA
+pub get_is_answered : (old new : CardState) (tag : List ℕ) (p1 p2 : ℕ) (pairs : List Pair)
+    (content : List ℕ) (status : StatusWord) → is_idle old.pending ≡ true → NamesTag tag p1 p2
+    → Brings (get_command p1 p2) Everything pairs content status
+    → RespondsToAll Does old pairs new → IsCarriedOut old (Get tag) status content new
+get_is_answered old new tag p1 p2 pairs content status idle names brings goes =
+    let at = first_place (get_command p1 p2) Everything in
+    let (p, rest, are, by) = whole_by at pairs status
+    (brings_whole (get_command p1 p2) Everything pairs content status brings) in
+    let P : List Pair → Type 0 = λ ps. RespondsToAll Does old ps new in
+    let (mid, responds, others) = subst P are goes in
+    let suits : Suits at p = suits_of at p rest status by in
+    let first = get_responds old mid tag p1 p2 p idle names suits.is_due responds in
+    subst (λ bs. IsCarriedOut old (Get tag) status bs new)
+    (sym (brings.gathered_is ∙ ap all_content are))
+    (terminal_goes_on old mid new (Get tag) at p rest status refl first by others)

@@ -1,0 +1,279 @@
+-- What a card of data objects has left of a response comes by GET RESPONSE, if a reader fetches
+-- it, or the terminal.
+use Rattle.std.proofs.Common.{◌≡◌, ℕ, ◌+◌, ◌%◌, ◌≤◌, min, List, [], ◌∷◌, ◌++◌, length, take, drop, refl, sym, subst, ◌∙◌, ap, arith, true, false, not, ◌&&◌, ◌==◌, Bool, Option, Some, None, append-nil, append_assoc, if◌then◌else◌}
+use Rattle.std.specs.Prelude.{nat_le}
+use Rattle.std.proofs.lemmas.Bool.{eqb-true, eqb-false, leb-true}
+use Rattle.std.proofs.lemmas.List.{take-append-drop}
+use Rattle.apdu_core.specs.StatusWord.{StatusWord, count, announces, corrects}
+use Rattle.apdu_core.specs.CommandBytes.{Command}
+use Rattle.t0_core.specs.Meaning.{Tpdu}
+use Rattle.t0_core.specs.Plan.{IsCut}
+use Rattle.object_card.specs.State.{CardState, is_idle, waiting}
+use Rattle.object_card.specs.OneStep.{SameTables}
+use Rattle.object_card.specs.CardMeaning.{Does, announcing}
+use Rattle.object_card.specs.CarryingOut.{get_response}
+use Rattle.object_card.specs.OperationLaws.{no_correction}
+use Rattle.object_card.specs.ResponseLaws.{announced_count, announces_some, fetched, rest_waits, rest_is_idle}
+use Rattle.card_terminal.specs.declared.wanted.Wanted.{Wanted}
+use Rattle.card_terminal.specs.declared.wanted.Wanted.TheVariants.{Bytes, Everything}
+use Rattle.card_terminal.specs.Gathered.{less, smaller, wants_some, fetched_of, fetched_after}
+use Rattle.apdu_terminal.specs.Apdus.{Pair, Place, first_place, asking, is_case_2, correction, Follow, Goes, Stalls, Ends, follow, follow_by, Suits, GoesThrough, all_content, Brings}
+use Rattle.apdu_terminal.specs.Apdus as spec
+use Rattle.apdu_terminal.specs.CardApdu.{p3_of, IsTpduOf, GoesBy, Responds, RespondsToAll, tpdu_command}
+
+-- a whole exchange from a place on, with its status
+pub data Whole : Place → List Pair → StatusWord → Type 0 where
+  at_end : (at : Place) (p : Pair) → Suits at p
+      → follow at (length p.content) p.status ≡ Ends → Whole at (p ∷ []) p.status
+  further : (at next : Place) (p : Pair) (pairs : List Pair) (status : StatusWord) → Suits at p
+      → follow at (length p.content) p.status ≡ Goes next → Whole next pairs status
+      → Whole at (p ∷ pairs) status
+
+whole_of : (at : Place) (before : List Pair) (mid : Place) (last : Pair) → GoesThrough at before mid
+    → Suits mid last → follow mid (length last.content) last.status ≡ Ends
+    → Whole at (before ++ last ∷ []) last.status
+whole_of at [] mid last through suits ends =
+    let P : Place → Type 0 = λ x. Whole x (last ∷ []) last.status in
+    subst P through (at_end mid last suits ends)
+whole_of at (p ∷ before) mid last (next, is, follows, rest) suits ends =
+    further at next p (before ++ last ∷ []) last.status is follows
+    (whole_of next before mid last rest suits ends)
+
+pub brings_whole : (c : Command) (wanted : Wanted) (pairs : List Pair) (gathered : List ℕ)
+    (status : StatusWord) → Brings c wanted pairs gathered status
+    → Whole (first_place c wanted) pairs status
+brings_whole c wanted pairs gathered status b =
+    let P : List Pair → Type 0 = λ ps. Whole (first_place c wanted) ps status in
+    let Q : StatusWord → Type 0 = λ s. Whole (first_place c wanted) (b.before ++ b.last ∷ []) s in
+    subst P (sym b.pairs_are) (subst Q (sym b.status_is)
+    (whole_of (first_place c wanted) b.before b.at b.last b.through b.suits b.ends))
+
+-- ---- where no count is told by 6CXX
+
+none_corrected : (may : Bool) (left : Wanted) (corrected : Option ℕ) → corrected ≡ None
+    → correction may left corrected ≡ None
+none_corrected may left corrected is = ap (correction may left) is
+
+-- more is fetched
+pub record IsFetchOf (at : Place) (came : ℕ) (status : StatusWord) (next : Place) : Type 0 where
+  pub n : ℕ
+  pub told : fetched_after (less at.left came) status ≡ Some n
+  pub due : next.due ≡ asking get_response n
+  pub left : next.left ≡ less at.left came
+
+fetch_when : (v : Bool) (at : Place) (came n : ℕ) (next : Place)
+    → (if v then Stalls else Goes (spec.fetched at came n)) ≡ Goes next
+    → spec.fetched at came n ≡ next
+fetch_when true at came n next e = absurd (cc)
+fetch_when false at came n next e = cc
+
+pub goes_by_fetch : (at next : Place) (came : ℕ) (status : StatusWord) → corrects status ≡ None
+    → follow at came status ≡ Goes next → IsFetchOf at came status next
+goes_by_fetch at next came status none goes =
+    by (correction (is_case_2 at.due.content at.due.le && not at.repeats) (less at.left came)
+    (corrects status)) (fetched_after (less at.left came) status)
+    (none_corrected _ (less at.left came) (corrects status) none) refl goes
+  where
+    by : (again announced : Option ℕ) → again ≡ None
+        → fetched_after (less at.left came) status ≡ announced
+        → follow_by at came again announced ≡ Goes next → IsFetchOf at came status next
+    by (Some k) announced once is e = absurd (cc)
+    by None None once is e = absurd (cc)
+    by None (Some n) once is e =
+        let same : spec.fetched at came n ≡ next =
+        fetch_when (at.fetches && (at.brought + came == 0)) at came n next e in
+        record {
+          n = n;
+          told = is;
+          due = ap (λ (x : Place). x.due) (sym same);
+          left = ap (λ (x : Place). x.left) (sym same);
+        }
+
+ends_when : (v : Bool) (next : Place) → (if v then Stalls else Goes next) ≡ Ends → ⊥
+ends_when true next e = absurd (cc)
+ends_when false next e = absurd (cc)
+
+-- no more is
+pub ends_without_fetch : (at : Place) (came : ℕ) (status : StatusWord)
+    → follow at came status ≡ Ends → fetched_after (less at.left came) status ≡ None
+ends_without_fetch at came status ends =
+    by (correction (is_case_2 at.due.content at.due.le && not at.repeats) (less at.left came)
+    (corrects status)) (fetched_after (less at.left came) status) refl ends
+  where
+    by : (again announced : Option ℕ) → fetched_after (less at.left came) status ≡ announced
+        → follow_by at came again announced ≡ Ends
+        → fetched_after (less at.left came) status ≡ None
+    by (Some k) announced is e = absurd (cc)
+    by None None is e = is
+    by None (Some n) is e =
+        absurd (ends_when (at.fetches && (at.brought + came == 0)) (spec.fetched at came n) e)
+
+-- a fetch is of what is announced, and of some
+pub told_by : (left : Wanted) (status : StatusWord) (n : ℕ) → fetched_after left status ≡ Some n
+    → (m : ℕ) × (announces status ≡ Some m) × (n ≤ m) × (1 ≤ m → 1 ≤ n)
+told_by left status n is = by (announces status) refl is
+  where
+    of_some : (left : Wanted) (m : ℕ) → (if wants_some left then Some (smaller m left) else None)
+        ≡ Some n → (n ≤ m) × (1 ≤ m → 1 ≤ n)
+    of_some Everything m is =
+        let same : m ≡ n = cc in (omega (arith, same), λ some. omega (arith, same, some))
+    of_some (Bytes k) m is = of_bytes (nat_le 1 k) refl is
+      where
+        of_bytes : (v : Bool) → nat_le 1 k ≡ v → (if v then Some (min m k) else None) ≡ Some n
+            → (n ≤ m) × (1 ≤ m → 1 ≤ n)
+        of_bytes true e is =
+            let same : min m k ≡ n = cc in
+            (omega (arith, same), λ some. omega (arith, same, some, leb-true 1 k e))
+        of_bytes false e is = absurd (cc)
+
+    by : (v : Option ℕ) → announces status ≡ v → fetched_of left v ≡ Some n
+        → (m : ℕ) × (announces status ≡ Some m) × (n ≤ m) × (1 ≤ m → 1 ≤ n)
+    by None told is = absurd (cc)
+    by (Some m) told is = let few = of_some left m is in (m, told, few.0, few.1)
+
+-- a count of 1 to 256, told in a byte
+pub count_told : (n : ℕ) → 1 ≤ n → n ≤ 256 → count (n % 256) ≡ n
+count_told n low high = split (n % 256 == 0) refl
+  where
+    split : (v : Bool) → (n % 256 == 0) ≡ v → (if v then 256 else n % 256) ≡ n
+    split true e = omega (arith, low, high, eqb-true (n % 256) 0 e)
+    split false e = omega (arith, low, high, eqb-false (n % 256) 0 e)
+
+-- ---- what is left of a response
+
+-- These bytes are the first of what waits; what then waits is the rest, and the status tells it.
+pub record Reads (old new : CardState) (content : List ℕ) (status : StatusWord) : Type 0 where
+  pub whole : content ++ waiting new.pending ≡ waiting old.pending
+  pub status_is : status ≡ announcing (waiting new.pending) 256
+  pub same : SameTables old new
+  pub idle : is_idle new.pending ≡ true
+
+in_range : IsCut 256
+in_range = (omega arith, omega arith)
+
+-- where some of it is announced, so much waits
+pub waits_for : (rest : List ℕ) (left : Wanted) (n : ℕ)
+    → fetched_after left (announcing rest 256) ≡ Some n
+    → (1 ≤ n) × (n ≤ length rest) × (n ≤ 256)
+waits_for rest left n told =
+    let (m, announced, few, some) = told_by left (announcing rest 256) n told in
+    let waits = announces_some rest 256 m in_range announced in
+    let most = announced_count rest 256 m in_range announced in
+    (some waits.0, omega (arith, few, waits.1), omega (arith, few, most))
+
+-- one TPDU of a GET RESPONSE for some of what waits
+pub one_read : (old new : CardState) (k : ℕ) (p : Pair) (t : Tpdu)
+    → 1 ≤ k → k ≤ 256 → k ≤ length (waiting old.pending) → p.command ≡ asking get_response k
+    → IsTpduOf p t → Does old 256 t new → Reads old new p.content p.status
+one_read old new k p t low high few due is does =
+    let rest : List ℕ = waiting old.pending in
+    let p3 : t.p3 ≡ k % 256 = is.p3_is ∙ ap (λ (c : Command). p3_of c.content c.le) due in
+    let counts : count t.p3 ≡ k = ap count p3 ∙ count_told k low high in
+    let f = fetched old new 256 t does (is.header_is ∙ ap (λ c. c.header) due)
+    (omega (arith, counts, few)) in
+    let waits : waiting new.pending ≡ drop (count t.p3) rest =
+    ap waiting f.left ∙ rest_waits (drop (count t.p3) rest) in
+    record {
+      whole = ap (λ bs. bs ++ waiting new.pending) (sym is.received_is ∙ f.brought)
+          ∙ ap (λ bs. take (count t.p3) rest ++ bs) waits ∙ take-append-drop (count t.p3) rest;
+      status_is = sym is.status_is ∙ f.status_is ∙ ap (λ bs. announcing bs 256) (sym waits);
+      same = (sym f.same_applications, sym f.same_selected);
+      idle = ap is_idle f.left ∙ rest_is_idle (drop (count t.p3) rest);
+    }
+
+-- then another
+both_read : (old mid new : CardState) (first second : List ℕ) (told status : StatusWord)
+    → Reads old mid first told → Reads mid new second status
+    → Reads old new (first ++ second) status
+both_read old mid new first second told status a b = record {
+  whole = append_assoc first second (waiting new.pending) ∙ ap (λ bs. first ++ bs) b.whole
+      ∙ a.whole;
+  status_is = b.status_is;
+  same = (a.same.0 ∙ b.same.0, a.same.1 ∙ b.same.1);
+  idle = b.idle;
+}
+
+told_none : (old new : CardState) (content : List ℕ) (status : StatusWord)
+    → Reads old new content status → corrects status ≡ None
+told_none old new content status r =
+    ap corrects r.status_is ∙ no_correction (waiting new.pending) 256
+
+-- where more is fetched after it, so much waits
+next_waits : (old new : CardState) (content : List ℕ) (status : StatusWord) (left : Wanted) (n : ℕ)
+    → Reads old new content status → fetched_after left status ≡ Some n
+    → (1 ≤ n) × (n ≤ length (waiting new.pending)) × (n ≤ 256)
+next_waits old new content status left n r told =
+    waits_for (waiting new.pending) left n
+    (ap (λ s. fetched_after left s) (sym r.status_is) ∙ told)
+
+-- GET RESPONSE and what is fetched after it, a TPDU each
+pub all_read : (at : Place) (pairs : List Pair) (status : StatusWord) (k : ℕ) (old new : CardState)
+    → Whole at pairs status → at.due ≡ asking get_response k → 1 ≤ k → k ≤ 256
+    → k ≤ length (waiting old.pending) → GoesBy Does old pairs new
+    → Reads old new (all_content pairs) status
+all_read at pairs status k old new (at_end here p suits ends) due low high few
+    (t, mid, is, does, stays) =
+    let Q : CardState → Type 0 = λ s. Reads old s p.content p.status in
+    let P : List ℕ → Type 0 = λ bs. Reads old new bs p.status in
+    subst P (sym (append-nil p.content))
+    (subst Q (sym stays) (one_read old mid k p t low high few (suits.is_due ∙ due) is does))
+all_read at pairs status k old new (further here next p others last suits goes whole) due low high
+    few (t, mid, is, does, rest) =
+    let r = one_read old mid k p t low high few (suits.is_due ∙ due) is does in
+    let f = goes_by_fetch at next (length p.content) p.status
+    (told_none old mid p.content p.status r)
+    goes in
+    let w = next_waits old mid p.content p.status (less at.left (length p.content)) f.n r f.told in
+    both_read old mid new p.content (all_content others) p.status status r
+    (all_read next others status f.n mid new whole f.due w.0 w.2 w.1 rest)
+
+-- a whole GET RESPONSE
+pub one_response : (old new : CardState) (k : ℕ) (p : Pair) → 1 ≤ k → k ≤ 256
+    → k ≤ length (waiting old.pending) → p.command ≡ asking get_response k
+    → Responds Does old p new → Reads old new p.content p.status
+one_response old new k p low high few due (inner, brings, goes) =
+    let P : List ℕ → Type 0 = λ bs. Reads old new bs p.status in
+    subst P (sym brings.gathered_is)
+    (all_read (first_place (tpdu_command p.command) (Bytes _)) inner p.status k old new
+    (brings_whole _ _ inner p.content p.status brings) (ap tpdu_command due) low high few goes)
+
+pub none_announced : (rest : List ℕ)
+    → fetched_after Everything (announcing rest 256) ≡ None → rest ≡ []
+none_announced [] e = refl
+none_announced (b ∷ rest) e = absurd (cc)
+
+-- who wants everything ends where nothing waits
+pub none_waits : (old new : CardState) (content : List ℕ) (status : StatusWord) (at : Place)
+    → Reads old new content status → at.left ≡ Everything
+    → fetched_after (less at.left (length content)) status ≡ None → waiting new.pending ≡ []
+none_waits old new content status at r left e =
+    none_announced (waiting new.pending)
+    (ap (λ s. fetched_after Everything s) (sym r.status_is)
+    ∙ ap (λ w. fetched_after (less w (length content)) status) (sym left) ∙ e)
+
+-- GET RESPONSE and what is fetched after it, whole
+pub all_responses : (at : Place) (pairs : List Pair) (status : StatusWord) (k : ℕ)
+    (old new : CardState) → Whole at pairs status → at.due ≡ asking get_response k
+    → at.left ≡ Everything → 1 ≤ k → k ≤ 256 → k ≤ length (waiting old.pending)
+    → RespondsToAll Does old pairs new
+    → Reads old new (all_content pairs) status × (waiting new.pending ≡ [])
+all_responses at pairs status k old new (at_end here p suits ends) due left low high few
+    (mid, responds, stays) =
+    let Q : CardState → Type 0 = λ s. Reads old s p.content p.status in
+    let P : List ℕ → Type 0 = λ bs. Reads old new bs p.status in
+    let r : Reads old new p.content p.status = subst Q (sym stays)
+    (one_response old mid k p low high few (suits.is_due ∙ due) responds) in (
+      subst P (sym (append-nil p.content)) r,
+      none_waits old new p.content p.status at r left
+          (ends_without_fetch at (length p.content) p.status ends),
+    )
+all_responses at pairs status k old new (further here next p others last suits goes whole) due left
+    low high few (mid, responds, rest) =
+    let r = one_response old mid k p low high few (suits.is_due ∙ due) responds in
+    let f = goes_by_fetch at next (length p.content) p.status
+    (told_none old mid p.content p.status r)
+    goes in
+    let w = next_waits old mid p.content p.status (less at.left (length p.content)) f.n r f.told in
+    let (more, none) = all_responses next others status f.n mid new whole f.due
+    (f.left ∙ ap (λ x. less x (length p.content)) left) w.0 w.2 w.1 rest in
+    (both_read old mid new p.content (all_content others) p.status status r more, none)

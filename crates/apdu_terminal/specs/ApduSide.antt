@@ -1,0 +1,127 @@
+-- How far an exchange of whole commands has come.
+use Rattle.std.specs.Prelude.{◌≡◌, ℕ, ◌+◌, ◌-◌, ◌*◌, ◌≤◌, List, [], length, Option, Some, None, Bool, true, false, nat_lt, nat_le, if◌then◌else◌, ◌⊎◌, ◌<◌, Result, MatchResult}
+use Rattle.apdu_core.specs.StatusWord.{StatusWord}
+use Rattle.apdu_core.specs.CommandBytes.{Command, HasSizes}
+use Rattle.t0_core.specs.declared.answer_fault.AnswerFault.{AnswerFault}
+use Rattle.t0_core.specs.declared.answer_fault.AnswerFault.TheVariants.{NotDue, NotAsked, TooMany, TooLong}
+use Rattle.t0_core.specs.Room.{Room}
+use Rattle.card_terminal.specs.declared.start_fault.StartFault.{StartFault}
+use Rattle.card_terminal.specs.declared.start_fault.StartFault.TheVariants.{OutOfMemory, OverLimit}
+use Rattle.card_terminal.specs.declared.wanted.Wanted.{Wanted}
+use Rattle.card_terminal.specs.declared.attempt.Attempt.{Attempt}
+use Rattle.card_terminal.specs.Attempts.{IsCounted}
+use Rattle.card_terminal.specs.Gathered.{less}
+use Rattle.card_terminal.specs.ExchangeSide.{response_limit}
+use Rattle.apdu_terminal.specs.declared.stage.Stage.{Stage}
+use Rattle.apdu_terminal.specs.declared.stage.Stage.TheVariants.{Going, Done, Failed}
+use Rattle.apdu_terminal.specs.Apdus.{Pair, Place, first_place, is_case_2, may_bring, GoesThrough, all_content, Brings, StallsAt, IsTooLong}
+
+-- what an exchange keeps: data and Le of the command that went last or is due, the data so far, the
+-- place of that command, what is wanted, and whether one is due
+pub record ApduExchangeOf : Type 0 where
+  pub content : List ℕ
+  pub le : Option ℕ
+  pub gather : Room
+  pub attempt : Attempt
+  pub wanted : Wanted
+  pub stage : Stage
+
+abbrev pub command_of : ApduExchangeOf → Command
+command_of ex = record { header = ex.attempt.header; content = ex.content; le = ex.le }
+
+abbrev pub is_going : Stage → Bool
+is_going Going = true
+is_going (Done status) = false
+is_going Failed = false
+
+-- the command that is due
+abbrev pub due_of : ApduExchangeOf → Option Command
+due_of ex = if is_going ex.stage then Some (command_of ex) else None
+
+-- where it stands
+abbrev pub place_of : ApduExchangeOf → Place
+place_of ex = record {
+  due = command_of ex;
+  fetches = ex.attempt.fetches;
+  repeats = ex.attempt.repeats;
+  left = less ex.wanted (length ex.gather.bytes);
+  brought = length ex.gather.bytes - ex.attempt.before;
+}
+
+-- An exchange with this room has begun; or the limit is above the most that a response may have;
+-- or it is not, and memory ran out.
+abbrev pub IsLimitedTo : ℕ → Result ApduExchangeOf StartFault → Type 0
+IsLimitedTo limit result = MatchResult result
+    (λ ex. (limit ≤ response_limit) × (ex.gather.limit ≡ limit))
+    (λ fault. ((fault ≡ OverLimit) × (response_limit < limit))
+    ⊎ ((fault ≡ OutOfMemory) × (limit ≤ response_limit)))
+
+-- what holds of every exchange
+pub record IsSound (ex : ApduExchangeOf) : Type 0 where
+  pub counted : IsCounted ex.attempt (length ex.gather.bytes)
+  pub sizes : HasSizes ex.content ex.le
+  pub asks : ex.attempt.asks ≡ is_case_2 ex.content ex.le
+  pub room : ex.gather.limit ≤ response_limit
+  pub fits : length ex.gather.bytes ≤ ex.gather.limit
+
+-- with so many bytes gathered, at most twice two more commands have gone
+abbrev pub HasFew : ApduExchangeOf → Type 0
+HasFew ex = ex.attempt.number ≤ 2 * (length ex.gather.bytes + 2)
+
+-- the status and the data, where it is over
+abbrev pub answer_at : Stage → List ℕ → Option (StatusWord × List ℕ)
+answer_at Going bytes = None
+answer_at (Done status) bytes = Some (status, bytes)
+answer_at Failed bytes = None
+
+abbrev pub answer_of : ApduExchangeOf → Option (StatusWord × List ℕ)
+answer_of ex = answer_at ex.stage ex.gather.bytes
+
+abbrev pub has_failed : Stage → Bool
+has_failed Going = false
+has_failed (Done status) = false
+has_failed Failed = true
+
+-- a number that falls with each response: how many more commands may be due
+abbrev pub to_go : ApduExchangeOf → ℕ
+to_go ex =
+    if is_going ex.stage then (2 * (ex.gather.limit + 2) + 1) - ex.attempt.number else 0
+
+-- the data and Le of the command are those of the one before, or it has no data
+abbrev pub KeepsData : ApduExchangeOf → ApduExchangeOf → Type 0
+KeepsData old new = (new.content ≡ []) ⊎ ((new.content ≡ old.content) × (new.le ≡ old.le))
+
+-- the command goes as a TPDU: case 1, 2 or 3
+abbrev pub IsOfTpdu : ApduExchangeOf → Type 0
+IsOfTpdu ex = (ex.content ≡ []) ⊎ (ex.le ≡ None)
+
+-- These pairs lead to the exchange as it is: it goes on; or it is over; or it has failed.
+pub data ComesTo (c : Command) (wanted : Wanted) (pairs : List Pair) (ex : ApduExchangeOf)
+    : Type 0 where
+  to_place : ex.stage ≡ Going → GoesThrough (first_place c wanted) pairs (place_of ex)
+      → ex.gather.bytes ≡ all_content pairs → ex.wanted ≡ wanted
+      → ex.attempt.number ≡ length pairs + 1 → ComesTo c wanted pairs ex
+  to_end : (status : StatusWord) → ex.stage ≡ Done status
+      → Brings c wanted pairs ex.gather.bytes status
+      → ex.attempt.number ≡ length pairs → ComesTo c wanted pairs ex
+  to_stall : ex.stage ≡ Failed → StallsAt c wanted pairs → ComesTo c wanted pairs ex
+  to_fault : ex.stage ≡ Failed → IsTooLong c wanted pairs ex.gather.limit
+      → ComesTo c wanted pairs ex
+
+-- more came than may
+abbrev pub excess : Option ℕ → AnswerFault
+excess None = NotAsked
+excess (Some n) = TooMany
+
+-- the fault that a response with so many bytes is, if any
+abbrev pub response_fault : ApduExchangeOf → ℕ → Option AnswerFault
+response_fault ex came =
+    if is_going ex.stage then
+    (if nat_lt (may_bring ex.le) came then Some (excess ex.le)
+    else (if nat_le (length ex.gather.bytes + came) ex.gather.limit then None else Some TooLong))
+    else Some NotDue
+
+-- the command that is due, with this response
+abbrev pub answered_by : ApduExchangeOf → List ℕ → StatusWord → Pair
+answered_by ex content status =
+    record { command = command_of ex; content = content; status = status }

@@ -1,0 +1,65 @@
+-- A whole command at a card whose end takes TPDUs, as a card at T=1 answers it, and as a reader
+-- carries it out that fetches by itself (ISO/IEC 7816-3, 12.2).
+use Rattle.std.specs.Prelude.{◌≡◌, ℕ, ◌%◌, ◌⊎◌, List, [], ◌∷◌, length, Option, Some, None}
+use Rattle.apdu_core.specs.CommandBytes.{Command}
+use Rattle.t0_core.specs.Meaning.{Tpdu}
+use Rattle.card_terminal.specs.declared.wanted.Wanted.TheVariants.{Bytes}
+use Rattle.card_terminal.specs.declared.wanted.Wanted.{Wanted}
+use Rattle.apdu_terminal.specs.Apdus.{Pair, may_bring, Brings}
+use Rattle.apdu_terminal.specs.ApduSide.{ApduExchangeOf, ComesTo}
+
+-- P3 of the TPDU of a command of case 1, 2 or 3
+abbrev pub p3_of : List ℕ → Option ℕ → ℕ
+p3_of [] None = 0
+p3_of [] (Some n) = n % 256
+p3_of (b ∷ bs) le = length (b ∷ bs)
+
+-- a command of case 4 goes as a TPDU without its Le
+abbrev pub le_of_tpdu : List ℕ → Option ℕ → Option ℕ
+le_of_tpdu [] le = le
+le_of_tpdu (b ∷ bs) le = None
+
+abbrev pub tpdu_command : Command → Command
+tpdu_command c =
+    record { header = c.header; content = c.content; le = le_of_tpdu c.content c.le }
+
+-- the TPDU of such a command and its response: all data go to the card or none
+pub record IsTpduOf (p : Pair) (t : Tpdu) : Type 0 where
+  pub header_is : t.header ≡ p.command.header
+  pub p3_is : t.p3 ≡ p3_of p.command.content p.command.le
+  pub all_or_none : (t.sent ≡ []) ⊎ (t.sent ≡ p.command.content)
+  pub received_is : t.received ≡ p.content
+  pub status_is : t.status ≡ p.status
+
+-- the card goes from state to state, a TPDU for each pair; its 61XX announce up to 256 bytes
+abbrev pub GoesBy : {State : Type 0} → (State → ℕ → Tpdu → State → Type 0) → State → List Pair
+    → State → Type 0
+GoesBy Does old [] new = new ≡ old
+GoesBy {State = State} Does old (p ∷ pairs) new = (t : Tpdu) × (mid : State) × IsTpduOf p t
+    × Does old 256 t mid × GoesBy Does mid pairs new
+
+-- The card's response to a whole command: what its TPDUs bring to who wants Le bytes, 256 with 00.
+abbrev pub Responds : {State : Type 0} → (State → ℕ → Tpdu → State → Type 0) → State → Pair
+    → State → Type 0
+Responds Does old p new = (pairs : List Pair)
+    × Brings (tpdu_command p.command) (Bytes (may_bring p.command.le)) pairs p.content p.status
+    × GoesBy Does old pairs new
+
+-- whole commands in turn
+abbrev pub RespondsToAll : {State : Type 0} → (State → ℕ → Tpdu → State → Type 0) → State
+    → List Pair → State → Type 0
+RespondsToAll Does old [] new = new ≡ old
+RespondsToAll {State = State} Does old (p ∷ pairs) new = (mid : State) × Responds Does old p mid
+    × RespondsToAll Does mid pairs new
+
+-- What a card's end has carried out of an exchange: the pairs that led there are the card's TPDUs.
+abbrev pub HasCome : {State : Type 0} → (State → ℕ → Tpdu → State → Type 0) → Command → Wanted
+    → State → State → ApduExchangeOf → Type 0
+HasCome Does c wanted old new ex =
+    (pairs : List Pair) × ComesTo c wanted pairs ex × GoesBy Does old pairs new
+
+-- What a terminal has carried out of an exchange: the card has responded to all that led there.
+abbrev pub HasHad : {State : Type 0} → (State → ℕ → Tpdu → State → Type 0) → Command → Wanted
+    → State → State → ApduExchangeOf → Type 0
+HasHad Does c wanted old new ex =
+    (pairs : List Pair) × ComesTo c wanted pairs ex × RespondsToAll Does old pairs new

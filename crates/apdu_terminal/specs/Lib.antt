@@ -1,0 +1,5 @@
+pub mod Apdus
+pub mod ApduSide
+pub mod CardApdu
+pub mod ApduTalk
+pub mod SameExchange

@@ -1,0 +1,262 @@
+//! The terminal's side of one command over a transport of whole commands.
+ghost use Rattle.std.specs.Prelude.{◌≡◌, ◌≤◌, ◌<◌, OnOk, ◌⊎◌, ◌↔◌, ◌++◌, ◌∷◌, ℕ, List, [], Option, Some, None, true, false, IfOk, IfErr, IfSome, MatchResult, length};
+ghost use Rattle.std.specs.Option.{option_map};
+ghost use Rattle.apdu_core.specs.CommandBytes as spec;
+ghost use Rattle.apdu_core.specs.StatusWord.{StatusWord};
+ghost use Rattle.t0_core.specs.declared.answer_fault.AnswerFault.{AnswerFault};
+ghost use Rattle.t0_core.specs.HostAnswer.{fails_with};
+ghost use Rattle.card_terminal.specs.Gathered.{wanted_by};
+ghost use Rattle.card_terminal.specs.ExchangeSide.{response_limit};
+ghost use Rattle.apdu_terminal.specs.Apdus.{Pair, is_case_2, Brings};
+ghost use Rattle.apdu_terminal.specs.ApduSide.{ComesTo, IsLimitedTo, HasFew, KeepsData, answer_of, command_of, due_of, has_failed, to_go, response_fault, answered_by};
+ghost use Rattle.apdu_terminal.specs.declared.stage.Stage.TheVariants as stage;
+
+use crate::stage::Stage;
+use apdu_core::{Command, Status};
+use card_terminal::{Attempt, Next, RESPONSE_LIMIT, StartFault, Wanted};
+use std::alloc::{AllocError, Allocator, Global};
+use std::marker::Model;
+use t0_core::{AnswerFault, Gather};
+
+/// The terminal's side of one command: the command itself, once more after `6CXX`, and a GET
+/// RESPONSE after each `61XX` while more is wanted.
+///
+/// Send what `apdu` returns, and give `responded` the response, until `apdu` is `None`.
+#[derive(Drop)]
+pub struct ApduExchange<'a, A: Allocator = Global> {
+    content: &'a [u8],
+    le: Option<u16>,
+    gather: Gather<A>,
+    attempt: Attempt,
+    wanted: Wanted,
+    stage: Stage,
+}
+
+impl<'a, A: Allocator> Model for ApduExchange<'a, A> {
+    ghost use Rattle.apdu_terminal.specs.ApduSide.{ApduExchangeOf, IsSound};
+
+    ghost Value = { ApduExchangeOf };
+
+    ghost view = { λ e. record {
+      content = e.content.now;
+      le = e.le;
+      gather = e.gather;
+      attempt = e.attempt;
+      wanted = e.wanted;
+      stage = e.stage;
+    } };
+
+    ghost invariant = { λ e. IsSound
+        (record {
+          content = e.content.now;
+          le = e.le;
+          gather = e.gather;
+          attempt = e.attempt;
+          wanted = e.wanted;
+          stage = e.stage;
+        }) };
+}
+
+impl<'a, A: Allocator> ApduExchange<'a, A> {
+    /// Starts the exchange of a command, with room for `RESPONSE_LIMIT` bytes of the response.
+    /// Returns `AllocError` if memory ran out.
+    pub fn start(alloc: A, command: Command<'a>) -> Result<ApduExchange<'a, A>, AllocError>
+        ensures led { IfOk result
+            (λ ex. ComesTo command.entry (wanted_by command.entry.le) [] ex) }
+        ensures limit { IfOk result (λ ex. ex.gather.limit ≡ RESPONSE_LIMIT) }
+    {
+        let wanted = Wanted::by(command.le());
+        ApduExchange::wanting(alloc, command, wanted, RESPONSE_LIMIT)
+    }
+
+    /// Starts the exchange of a command, with room for `limit` bytes of the response (profile).
+    ///
+    /// # Errors
+    /// - `OverLimit`: the limit is above `RESPONSE_LIMIT`. Nothing has begun.
+    /// - `OutOfMemory`: memory for the response ran out. Nothing has begun.
+    pub fn start_within(
+        alloc: A,
+        command: Command<'a>,
+        limit: usize,
+    ) -> Result<ApduExchange<'a, A>, StartFault>
+        ensures led { IfOk result
+            (λ ex. ComesTo command.entry (wanted_by command.entry.le) [] ex) }
+        ensures limited { IsLimitedTo limit result }
+    {
+        if limit > RESPONSE_LIMIT {
+            return Err(StartFault::OverLimit);
+        }
+        let wanted = Wanted::by(command.le());
+        Ok(ApduExchange::wanting(alloc, command, wanted, limit)?)
+    }
+
+    /// Starts an exchange that wants this much, with room for `limit` bytes. Returns `AllocError`
+    /// if memory ran out.
+    pub(crate) fn wanting(
+        alloc: A,
+        command: Command<'a>,
+        wanted: Wanted,
+        limit: usize,
+    ) -> Result<ApduExchange<'a, A>, AllocError>
+        requires { limit ≤ response_limit }
+        ensures led { IfOk result (λ ex. ComesTo command.entry wanted [] ex) }
+        ensures limit { IfOk result (λ ex. ex.gather.limit ≡ limit) }
+        ensures command { IfOk result (λ ex. command_of ex ≡ command.entry) }
+        ensures going { IfOk result (λ ex. ex.stage ≡ stage.Going) }
+        ensures empty { IfOk result (λ ex. ex.gather.bytes ≡ []) }
+    {
+        let gather = Gather::with_room(alloc, limit)?;
+        let (content, le) = (command.data(), command.le());
+        let attempt = Attempt {
+            header: command.header(),
+            asks: asks_alone(content, le),
+            fetches: false,
+            repeats: false,
+            before: 0,
+            number: 1,
+        };
+        Ok(ApduExchange {
+            content,
+            le,
+            gather,
+            attempt,
+            wanted,
+            stage: Stage::Going,
+        })
+    }
+
+    /// Returns an exchange that has ended with this status, without data. Returns `AllocError` if
+    /// memory ran out.
+    pub(crate) fn refused(
+        alloc: A,
+        command: Command<'a>,
+        status: Status,
+    ) -> Result<ApduExchange<'a, A>, AllocError>
+        ensures over { IfOk result (λ ex. ex.stage ≡ stage.Done status) }
+        ensures empty { IfOk result (λ ex. ex.gather.bytes ≡ []) }
+    {
+        let mut exchange = ApduExchange::wanting(alloc, command, Wanted::Bytes(0), 0)?;
+        exchange.stage = Stage::Done(status);
+        Ok(exchange)
+    }
+
+    /// The command to send now; `None` if the exchange is over or has failed.
+    pub fn apdu(&self) -> Option<Command<'a>>
+        ensures { result ≡ due_of self.now }
+    {
+        match self.stage {
+            Stage::Going => Command::new(self.attempt.header, self.content, self.le),
+            _ => None,
+        }
+    }
+
+    /// The fault of a response with `came` bytes, if any.
+    fn fault(&self, came: usize) -> Option<AnswerFault>
+        ensures { result ≡ response_fault self.now came }
+    {
+        if !matches!(self.stage, Stage::Going) {
+            return Some(AnswerFault::NotDue);
+        }
+        match self.le {
+            None if came > 0 => Some(AnswerFault::NotAsked),
+            Some(le) if came > usize::from(le) => Some(AnswerFault::TooMany),
+            _ if self.gather.has_room(came) => None,
+            _ => Some(AnswerFault::TooLong),
+        }
+    }
+
+    /// Takes the response to the command that is due: its data and its status. If a command
+    /// follows, `apdu` returns it next.
+    ///
+    /// # Errors
+    /// In this order (profile):
+    /// - `NotDue`: `apdu` is `None`. Nothing changes.
+    /// - `NotAsked`: data came, and the command has no Le. Nothing changes.
+    /// - `TooMany`: more data came than Le asks for. Nothing changes.
+    /// - `TooLong`: the data exceed the room. The exchange has failed for good.
+    /// - `Stalled`: a GET RESPONSE that the exchange sent itself brought nothing, and the card
+    ///   announces more. The exchange has failed for good.
+    pub fn responded(&mut self, bytes: &[u8], status: Status) -> Result<(), AnswerFault>
+        ensures fault { MatchResult result
+            (λ _. response_fault self.old (length bytes.now) ≡ None)
+            (λ f. (response_fault self.old (length bytes.now) ≡ Some f)
+            ⊎ ((f ≡ AnswerFault.Stalled)
+            × (response_fault self.old (length bytes.now) ≡ None))) }
+        ensures few { HasFew self.new }
+        ensures limit { self.new.gather.limit ≡ self.old.gather.limit }
+        ensures data { KeepsData self.old self.new }
+        ensures taken { OnOk result (has_failed self.new.stage ≡ false) }
+        ensures falls { OnOk result (to_go self.new < to_go self.old) }
+        ensures unchanged { IfErr result (λ f. fails_with f ≡ false → self.new ≡ self.old) }
+        ensures failed { IfErr result (λ f. fails_with f ≡ true → self.new.stage ≡ stage.Failed) }
+        ensures led { (c : spec.Command) (wanted : Wanted) (pairs : List Pair)
+            → ComesTo c wanted pairs self.old → MatchResult result
+            (λ _. ComesTo c wanted (pairs ++ answered_by self.old bytes.now status ∷ []) self.new)
+            (λ f. fails_with f ≡ true
+            → ComesTo c wanted (pairs ++ answered_by self.old bytes.now status ∷ []) self.new) }
+    {
+        if let Some(fault) = self.fault(bytes.len()) {
+            if matches!(fault, AnswerFault::TooLong) {
+                self.stage = Stage::Failed;
+            }
+            return Err(fault);
+        }
+        self.gather.extend(bytes);
+        let gathered = self.gather.bytes().len();
+        let left = self.wanted.less(gathered);
+        match self.attempt.followed(gathered, left, status) {
+            Next::Asks { attempt, count } => {
+                self.content = &[];
+                self.le = Some(count);
+                self.attempt = attempt;
+                Ok(())
+            }
+            Next::Stalls => {
+                self.stage = Stage::Failed;
+                Err(AnswerFault::Stalled)
+            }
+            Next::Ends => {
+                self.stage = Stage::Done(status);
+                Ok(())
+            }
+        }
+    }
+
+    /// The status, if the exchange is over.
+    pub fn status(&self) -> Option<Status>
+        ensures { (status : StatusWord) → (result ≡ Some status)
+            ↔ (self.now.stage ≡ stage.Done status) }
+    {
+        match self.stage {
+            Stage::Done(status) => Some(status),
+            _ => None,
+        }
+    }
+
+    /// The data that have come so far.
+    pub fn data(&self) -> &[u8]
+        ensures { result.now ≡ self.now.gather.bytes }
+    {
+        self.gather.bytes()
+    }
+
+    /// The status and the data, if the exchange is over.
+    pub fn answer(&self) -> Option<(Status, &[u8])>
+        ensures done { answer_of self.now ≡ option_map (λ a. (a.0, a.1.now)) result }
+        ensures led { (c : spec.Command) (wanted : Wanted) (pairs : List Pair)
+            → ComesTo c wanted pairs self.now
+            → IfSome result (λ a. Brings c wanted pairs a.1.now a.0) }
+    {
+        match self.stage {
+            Stage::Done(status) => Some((status, self.gather.bytes())),
+            _ => None,
+        }
+    }
+}
+
+/// Whether a command with these data and this Le is of case 2: it asks for data and sends none.
+fn asks_alone(content: &[u8], le: Option<u16>) -> bool
+    ensures { result ≡ is_case_2 content.now le }
+{
+    content.is_empty() && le.is_some()
+}

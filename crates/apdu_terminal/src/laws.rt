@@ -1,0 +1,89 @@
+//! Laws of exchanges of whole commands: the contract of each function is one.
+ghost use Rattle.std.specs.Prelude.{◌≡◌, ◌≤◌, ◌++◌, ◌∷◌, ℕ, List, length, Some, true, ◌+◌, ◌*◌, ◌⊎◌};
+ghost use Rattle.apdu_core.specs.CommandBytes.{Command};
+ghost use Rattle.apdu_core.specs.StatusWord.{StatusWord};
+ghost use Rattle.card_terminal.specs.declared.wanted.Wanted.{Wanted};
+ghost use Rattle.apdu_terminal.specs.declared.stage.Stage.TheVariants.{Done, Failed};
+ghost use Rattle.apdu_terminal.specs.Apdus.{Pair, Brings, StallsAt, IsTooLong, all_content};
+ghost use Rattle.apdu_terminal.specs.ApduSide.{ApduExchangeOf, ComesTo, due_of};
+ghost use Rattle.std.specs.List.{AllByRecursion, flat_map};
+ghost use Rattle.t0_core.specs.Dialogue.{IsDialogue};
+ghost use Rattle.card_terminal.specs.Gathered.{UnitOf, Gathers, dialogues_of, wanted_by};
+ghost use Rattle.apdu_terminal.specs.SameExchange.{ArePairsOf};
+ghost use Rattle.apdu_terminal.specs.CardApdu.{RespondsToAll, tpdu_command};
+ghost use Rattle.apdu_terminal.specs.ApduTalk.{AreApduTalksOf, IsApduTalkOf, talk_pairs};
+ghost use Rattle.object_card.specs.State.{CardState, is_idle};
+ghost use Rattle.object_card.specs.OneStep.{Operation, Reply, Answers, AnswersAll, SameTables};
+ghost use Rattle.object_card.specs.CardMeaning.{Does};
+
+/// The pairs leave an exchange no choice. If what led to it continues to a whole exchange, for
+/// whose data there is room, the next command of that is due.
+pub fn the_next_command_is_settled()
+    ensures { (c : Command) (wanted : Wanted) (came rest : List Pair) (p : Pair)
+        (ex : ApduExchangeOf) (gathered : List ℕ) (status : StatusWord) →
+        ComesTo c wanted came ex → Brings c wanted (came ++ p ∷ rest) gathered status →
+        length gathered ≤ ex.gather.limit → due_of ex ≡ Some p.command }
+{}
+
+/// If the pairs that led to an exchange are those of a whole one, for whose data there is room, it
+/// is over, with the status and the data of that one.
+pub fn a_whole_exchange_of_commands_is_done()
+    ensures { (c : Command) (wanted : Wanted) (pairs : List Pair)
+        (ex : ApduExchangeOf) (gathered : List ℕ) (status : StatusWord) →
+        ComesTo c wanted pairs ex → Brings c wanted pairs gathered status →
+        length gathered ≤ ex.gather.limit →
+        (ex.stage ≡ Done status) × (ex.gather.bytes ≡ gathered) }
+{}
+
+/// With any card, and after every list of pairs, an exchange holds what they brought, or has failed
+/// for one of two reasons: it stalled, or the data exceed its room.
+pub fn an_exchange_holds_what_came()
+    ensures { (c : Command) (wanted : Wanted) (pairs : List Pair) (ex : ApduExchangeOf) →
+        ComesTo c wanted pairs ex → (ex.gather.bytes ≡ all_content pairs)
+        ⊎ ((ex.stage ≡ Failed)
+        × (StallsAt c wanted pairs ⊎ IsTooLong c wanted pairs ex.gather.limit)) }
+{}
+
+/// An exchange that brings r bytes has at most 2(r + 2) commands.
+pub fn an_exchange_has_few_commands()
+    ensures { (c : Command) (wanted : Wanted) (pairs : List Pair) (gathered : List ℕ)
+        (status : StatusWord) → Brings c wanted pairs gathered status →
+        length pairs ≤ 2 * (length gathered + 2) }
+{}
+
+/// What goes over a transport of whole commands for an operation, with a card that responds by its
+/// TPDUs, is that operation in one step. A card with no chain pending then has what the step
+/// leaves, and again no chain is pending.
+pub fn an_operation_by_whole_commands_is_one_step()
+    ensures { (old new : CardState) (operation : Operation) (exchanges : List (List Pair))
+        (answer : Reply) → is_idle old.pending ≡ true
+        → IsApduTalkOf operation exchanges answer
+        → RespondsToAll Does old (talk_pairs exchanges) new →
+        (after : CardState) × Answers old operation answer after × SameTables after new
+        × (is_idle new.pending ≡ true) }
+{}
+
+/// An exchange of TPDUs is one of whole commands: it begins with the command without its Le in case
+/// 4, and wants the same.
+pub fn an_exchange_of_tpdus_is_one_of_commands()
+    ensures { (c : Command) (units : List UnitOf) (gathered : List ℕ) (status : StatusWord) →
+        Gathers c units gathered status →
+        AllByRecursion IsDialogue (flat_map dialogues_of units) →
+        (pairs : List Pair) × ArePairsOf (flat_map dialogues_of units) pairs
+        × Brings (tpdu_command c) (wanted_by c.le) pairs gathered status }
+{}
+
+/// A list of operations has the answers of the card that answers each in one step, and its tables.
+pub fn operations_by_whole_commands_are_single_steps()
+    ensures { (old new : CardState) (operations : List Operation)
+        (talks : List (List (List Pair))) (replies : List Reply) → is_idle old.pending ≡ true
+        → AreApduTalksOf operations talks replies
+        → RespondsToAll Does old (flat_map talk_pairs talks) new →
+        AnswersAll old operations replies new × (is_idle new.pending ≡ true) }
+{}
+
+/// No exchange of any command with a card of data objects stalls: each GET RESPONSE brings data.
+pub fn no_exchange_of_commands_stalls()
+    ensures { (c : Command) (wanted : Wanted) (pairs : List Pair) (old new : CardState) →
+        StallsAt c wanted pairs → RespondsToAll Does old pairs new → ⊥ }
+{}

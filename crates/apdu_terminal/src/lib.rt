@@ -1,0 +1,29 @@
+//! Both ends of whole commands (ISO/IEC 7816-4, 5.1): for cards at T=1 or without contacts, and for
+//! readers that fetch by themselves.
+//!
+//! - `ApduExchange` is the terminal's side of one command.
+//! - `apdu` and `respond` are a card's side, over its TPDUs.
+//! - `transmit` joins both; `select`, `get` and `put` are operations.
+//!
+//! Proved is that each operation is the one of a card that answers in one step (`operations.rt`).
+//! README says more, with the rules in docs/RULES.md.
+#![tactic(auto)]
+
+mod apdu_fault;
+mod card_apdu;
+mod card_response;
+mod command_bytes;
+mod exchange;
+pub mod laws;
+mod operations;
+mod stage;
+mod transmission;
+
+pub use apdu_fault::ApduFault;
+pub use card_apdu::apdu;
+pub use card_response::respond;
+pub use command_bytes::{COMMAND_LIMIT, write_command};
+pub use exchange::ApduExchange;
+pub use operations::{get, put, select};
+pub use stage::Stage;
+pub use transmission::transmit;

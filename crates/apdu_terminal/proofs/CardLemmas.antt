@@ -20,10 +20,9 @@ use Rattle.card_terminal.specs.declared.wanted.Wanted.TheVariants.{Bytes}
 use Rattle.card_terminal.specs.declared.attempt.Attempt.{Attempt}
 use Rattle.card_terminal.specs.declared.attempt.Next.TheVariants as next
 use Rattle.card_terminal.specs.Attempts.{following, most_begun, one_more}
-use Rattle.apdu_terminal.specs.declared.stage.Stage.{Stage}
 use Rattle.apdu_terminal.specs.declared.stage.Stage.TheVariants.{Going, Done, Failed}
 use Rattle.apdu_terminal.specs.Apdus.{Pair, may_bring, Brings}
-use Rattle.apdu_terminal.specs.ApduSide.{ApduExchangeOf, IsSound, ComesTo, to_place, to_end, to_stall, to_fault, command_of, due_of, is_going, has_failed, to_go, response_fault, answered_by}
+use Rattle.apdu_terminal.specs.ApduSide.{ApduExchangeOf, IsSound, ComesTo, to_place, to_end, to_stall, to_fault, command_of, due_of, is_going, to_go, response_fault, answered_by}
 use Rattle.apdu_terminal.specs.CardApdu.{p3_of, tpdu_command, IsTpduOf, GoesBy, HasCome, Responds, RespondsToAll, HasHad}
 use Rattle.apdu_terminal.proofs.LedLemmas.{IsTaken, is_taken, asked_number, asks_with, more_room}
 use Rattle.apdu_terminal.proofs.RestLemmas.{count_told}

@@ -1,7 +1,7 @@
 -- What goes over a transport of whole commands for operations.
 use Rattle.std.specs.Prelude.{◌≡◌, ◌≢◌, ℕ, List, [], ◌∷◌, ◌⊎◌}
 use Rattle.std.specs.List.{flat_map}
-use Rattle.apdu_core.specs.StatusWord.{StatusWord, ok}
+use Rattle.apdu_core.specs.StatusWord.{ok}
 use Rattle.apdu_core.specs.CommandBytes.{Command}
 use Rattle.object_card.specs.OneStep.{Operation, Reply}
 use Rattle.card_terminal.specs.Talk.{AreCommandsOf}

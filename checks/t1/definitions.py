@@ -189,6 +189,10 @@ class Definitions:
             return values[1][values[0] :]
         if name == "not":
             return not values[0]
+        if name == "length":
+            return len(values[0])
+        if name == "nat_lt":
+            return values[0] < values[1]
         return (name, *values) if name[0].isupper() else self(name, *values)
 
 

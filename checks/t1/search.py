@@ -20,7 +20,7 @@ C = namedtuple('C', 'vr vs coll ans j pend busy ifsd ran fresh bads')
 Cfg = namedtuple('Cfg', """
     cmds limit nak resync wtx_limit wtx_asks ifs ack_r first_r dup late term_after_last ifs_fail
     accept_max budget sticky wtx_counts timeout_i ifs_limit go_on card_ifs card_limit double_down
-    double_up ifs_step card_ifs_value""")
+    double_up ifs_step card_ifs_value most""")
 
 def default(cmds, **kw):
     d = dict(cmds=cmds,      # a list of (blocks of the command, symbols of the response)
@@ -40,6 +40,7 @@ def default(cmds, **kw):
              ifs_fail='giveup',     # S(IFS) not answered: 'giveup' | 'goon'
              ifs_step=False,        # the response to S(IFS) is a step forward
              card_ifs_value=1,
+             most=100,       # symbols of a response: a longer one is a fault
              # the terminal takes blocks up to the IFSD it has asked for, from then on
              accept_max=True,
              budget=None,    # at most n bad blocks between two steps
@@ -172,6 +173,8 @@ def terminal(cfg, t, e):
         if e == 'timeout' and cfg.timeout_i and t.fails + 1 < cfg.limit:
             return (*sends_i(cfg, t._replace(fails=t.fails + 1)), False)
         if b and b[0] == 'I' and b[1] == t.nr and last:
+            if len(b[3]) > cfg.most:
+                return (*gives_up(cfg, t), False)
             t = t._replace(ns=1 - t.ns, nr=1 - t.nr, got=b[3], fails=0, naks=0)
             if b[2]:
                 return t._replace(mode='recv'), ('R', t.nr), True
@@ -179,6 +182,8 @@ def terminal(cfg, t, e):
         return (*no_progress(cfg, t), False)
     if t.mode == 'recv':
         if b and b[0] == 'I' and b[1] == t.nr:
+            if len(t.got) + len(b[3]) > cfg.most:
+                return (*gives_up(cfg, t), False)
             t = t._replace(nr=1 - t.nr, got=t.got + b[3], fails=0, naks=0)
             if b[2]:
                 return t, ('R', t.nr), True

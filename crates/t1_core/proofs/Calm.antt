@@ -1,22 +1,21 @@
 -- With twice as many tries as blocks that do not arrive, the terminal does not give up.
-use Rattle.std.proofs.Common.{◌≡◌, ◌≢◌, refl, sym, ap, subst, ◌∙◌, ℕ, zero, suc, ◌+◌, ◌-◌, ◌*◌, ◌≤◌, Bool, true, false, List, [], ◌∷◌, ◌++◌, Option, Some, None, arith, ◌⊎◌, inl, inr}
+use Rattle.std.proofs.Common.{◌≡◌, ◌≢◌, refl, sym, ap, subst, ◌∙◌, ℕ, zero, suc, ◌+◌, ◌-◌, ◌*◌, ◌≤◌, Bool, true, false, List, [], ◌∷◌, ◌++◌, length, take, drop, nat_lt, length-append, Option, Some, None, arith, ◌⊎◌, inl, inr}
+use Rattle.std.proofs.lemmas.List.{take-append-drop}
 use Rattle.t1_core.specs.declared.line.Fate.{Fate}
 use Rattle.t1_core.specs.declared.line.Fate.TheVariants.{Delivers, Damages, Loses}
 use Rattle.t1_core.specs.declared.line.Fates.{Fates}
 use Rattle.t1_core.specs.declared.settings.Settings.{Settings}
 use Rattle.t1_core.specs.declared.terminal.Cause.{Cause}
+use Rattle.t1_core.specs.declared.terminal.Cause.TheVariants.{TriesSpent, ExtensionsSpent}
 use Rattle.t1_core.specs.declared.terminal.Out.{Out}
 use Rattle.t1_core.specs.declared.terminal.Phase.TheVariants.{GivenUp}
 use Rattle.t1_core.specs.Block.{other, is_size}
 use Rattle.t1_core.specs.CardSide.{Meaning}
 use Rattle.t1_core.specs.Mild.{bad_of, bad, Stays, IsMild, Enough, IsSize, count_of}
 use Rattle.t1_core.specs.World.{World, exchange, run, start}
-use Rattle.t1_core.proofs.Places.{Kept, Place, Opens, Behind, Taken, Waits, Grows, Answering, Between, Repeating, Given_up, Finished, spends, extends, proceeds, starts, out_at, world_of, heard, misses, comes, grows, flips, arrived, garbled, step, is_step}
+use Rattle.t1_core.proofs.Places.{Kept, Place, Opens, Behind, Taken, Waits, Grows, Answering, Between, Repeating, Given_up, Finished, uses, proceeds, starts, out_at, world_of, heard, misses, comes, comes_first, comes_next, is_long, IsHeard, is_heard, grows, flips, arrived, garbled, step, is_step}
 use Rattle.t1_core.proofs.Holding.{first, first_is}
-
-other_is_not : (n : Bool) → other n ≡ n → ⊥
-other_is_not true e = absurd (cc)
-other_is_not false e = absurd (cc)
+use Rattle.t1_core.proofs.Bits.{other_is_not}
 
 abbrev pair : Bool → Bool → Bool × Bool
 pair a b = (a, b)
@@ -54,28 +53,33 @@ asking (Grows k rest size granted tries extensions) = Grows k rest size false tr
 asking p = p
 
 module _ (m : Meaning) (before : List (List ℕ)) (f : ℕ) where
-  pub record Quiet (left tries most : ℕ) (settings : Settings) : Type 0 where
+  -- `long` is the length of the response in progress
+  pub record Quiet (left tries most : ℕ) (settings : Settings) (long : ℕ) : Type 0 where
     pub tries_left : most ≤ tries
     pub left_le : left ≤ f
     pub enough : Enough m f settings
+    pub fits : long ≤ settings.limit
 
   -- so many blocks may fail to arrive before the next step forward
   abbrev pub Calm : ℕ → Place → Type 0
   Calm left (Opens k rest tries extensions asks) =
-      Quiet left tries (2 * left) k.settings × (k.settings.extensions ≤ extensions)
+      Quiet left tries (2 * left) k.settings 0 × (k.settings.extensions ≤ extensions)
   Calm left (Behind k collected rest answering tries extensions asks) =
-      Quiet left tries (2 * left + one_if asks) k.settings × (k.settings.extensions ≤ extensions)
+      Quiet left tries (2 * left + one_if asks) k.settings 0 × (k.settings.extensions ≤ extensions)
   Calm left (Taken k collected b bytes tries extensions) =
-      Quiet left tries (2 * left) k.settings × (k.settings.extensions ≤ extensions)
+      Quiet left tries (2 * left) k.settings 0 × (k.settings.extensions ≤ extensions)
   Calm left (Waits k rest n size granted tries extensions) =
-      Quiet left tries (2 * left) k.settings
+      Quiet left tries (2 * left) k.settings (length k.last + length rest)
       × (n + count_of size + left + one_if_not granted ≤ extensions) × IsSize size
   Calm left (Grows k rest size granted tries extensions) =
-      Quiet left tries (2 * left) k.settings
+      Quiet left tries (2 * left) k.settings (length k.last + length rest)
       × (left + one_if_not granted ≤ extensions) × (is_size size ≡ true)
-  Calm left (Answering k rest tries extensions) = Quiet left tries (2 * left) k.settings
-  Calm left (Between k got b bytes tries extensions) = Quiet left tries (2 * left) k.settings
-  Calm left (Repeating k got rest tries extensions) = Quiet left tries (2 * left) k.settings
+  Calm left (Answering k rest tries extensions) =
+      Quiet left tries (2 * left) k.settings (length k.last + length rest)
+  Calm left (Between k got b bytes tries extensions) =
+      Quiet left tries (2 * left) k.settings (length got + length (b ∷ bytes))
+  Calm left (Repeating k got rest tries extensions) =
+      Quiet left tries (2 * left) k.settings (length got + (length k.last + length rest))
   Calm left (Given_up w cause) = ⊥
   Calm left (Finished w) = Unit {0}
 
@@ -83,80 +87,84 @@ module _ (m : Meaning) (before : List (List ℕ)) (f : ℕ) where
   abbrev Goes : ℕ → Bool × Bool → Place → Type 0
   Goes left old p = ((numbers p ≡ old) × Calm left p) ⊎ ((numbers p ≡ old → ⊥) × Calm f p)
 
-  quiet : {left tries most : ℕ} {settings : Settings} (rest now need : ℕ) → Quiet left tries most
-      settings
-      → need ≤ now → rest ≤ f → Quiet rest now need settings
-  quiet rest now need q t l = record { tries_left = t; left_le = l; enough = q.enough }
+  quiet : {left tries most long : ℕ} {settings : Settings} (rest now need : ℕ) → Quiet left tries
+      most settings long
+      → need ≤ now → rest ≤ f → Quiet rest now need settings long
+  quiet rest now need q t l =
+      record { tries_left = t; left_le = l; enough = q.enough; fits = q.fits }
 
-  afresh : (settings : Settings) → Enough m f settings → Quiet f settings.tries (2 * f) settings
-  afresh settings e = record { tries_left = e.tries; left_le = omega arith; enough = e }
+  afresh : (settings : Settings) (long : ℕ) → Enough m f settings → long ≤ settings.limit
+      → Quiet f settings.tries (2 * f) settings long
+  afresh settings long e fits =
+      record { tries_left = e.tries; left_le = omega arith; enough = e; fits = fits }
 
-  spends_calm : (n left : ℕ) (w : World) (again : ℕ → Place) → 1 ≤ n →
-      ((i : ℕ) → i + 1 ≡ n → Calm left (again i))
-      → Calm left (spends n w again)
-  spends_calm zero left w again some h = absurd (omega (arith, some))
-  spends_calm (suc n) left w again some h = h n (omega arith)
+  uses_calm : (cause : Cause) (n left : ℕ) (w : World) (again : ℕ → Place) → 1 ≤ n
+      → ((i : ℕ) → i + 1 ≡ n → Calm left (again i)) → Calm left (uses cause n w again)
+  uses_calm cause zero left w again some h = absurd (omega (arith, some))
+  uses_calm cause (suc n) left w again some h = h n (omega arith)
 
   -- one block fewer
   misses_calm : (out : Out) (p : Place) (left : ℕ) → Calm (left + 1) p → Calm left
       (misses m before out p)
   misses_calm out (Opens k rest tries extensions asks) left h =
-      spends_calm tries left _ _ (let q = h.0.tries_left in omega (arith, q))
+      uses_calm TriesSpent tries left _ _ (let q = h.0.tries_left in omega (arith, q))
       (λ i e. let q = h.0.tries_left in let l = h.0.left_le in
       (quiet left i (2 * left) h.0 (omega (arith, e, q)) (omega (arith, l)), h.1))
   misses_calm out (Behind k collected rest answering tries extensions asks) left h =
-      spends_calm tries left _ _ (let q = h.0.tries_left in omega (arith, q))
+      uses_calm TriesSpent tries left _ _ (let q = h.0.tries_left in omega (arith, q))
       (λ i e. let q = h.0.tries_left in let l = h.0.left_le in
       (quiet left i (2 * left + 1) h.0 (omega (arith, e, q)) (omega (arith, l)), h.1))
   misses_calm out (Taken k collected b bytes tries extensions) left h =
-      spends_calm tries left _ _ (let q = h.0.tries_left in omega (arith, q))
+      uses_calm TriesSpent tries left _ _ (let q = h.0.tries_left in omega (arith, q))
       (λ i e. let q = h.0.tries_left in let l = h.0.left_le in
       (quiet left i (2 * left) h.0 (omega (arith, e, q)) (omega (arith, l)), h.1))
   misses_calm out (Waits k rest n size granted tries extensions) left h =
-      spends_calm tries left _ _ (let q = h.0.tries_left in omega (arith, q))
+      uses_calm TriesSpent tries left _ _ (let q = h.0.tries_left in omega (arith, q))
       (λ i e. let q = h.0.tries_left in let l = h.0.left_le in let x = h.1 in
       (quiet left i (2 * left) h.0 (omega (arith, e, q)) (omega (arith, l)), omega (arith, x), h.2))
   misses_calm out (Grows k rest size granted tries extensions) left h =
-      spends_calm tries left _ _ (let q = h.0.tries_left in omega (arith, q))
+      uses_calm TriesSpent tries left _ _ (let q = h.0.tries_left in omega (arith, q))
       (λ i e. let q = h.0.tries_left in let l = h.0.left_le in let x = h.1 in
       (quiet left i (2 * left) h.0 (omega (arith, e, q)) (omega (arith, l)), omega (arith, x), h.2))
   misses_calm out (Answering k rest tries extensions) left h =
-      spends_calm tries left _ _ (let q = h.tries_left in omega (arith, q))
+      uses_calm TriesSpent tries left _ _ (let q = h.tries_left in omega (arith, q))
       (λ i e. let q = h.tries_left in let l = h.left_le in quiet left i (2 * left) h
       (omega (arith, e, q)) (omega (arith, l)))
   misses_calm out (Between k got b bytes tries extensions) left h =
-      spends_calm tries left _ _ (let q = h.tries_left in omega (arith, q))
+      uses_calm TriesSpent tries left _ _ (let q = h.tries_left in omega (arith, q))
       (λ i e. let q = h.tries_left in let l = h.left_le in quiet left i (2 * left) h
       (omega (arith, e, q)) (omega (arith, l)))
   misses_calm out (Repeating k got rest tries extensions) left h =
-      spends_calm tries left _ _ (let q = h.tries_left in omega (arith, q))
+      uses_calm TriesSpent tries left _ _ (let q = h.tries_left in omega (arith, q))
       (λ i e. let q = h.tries_left in let l = h.left_le in quiet left i (2 * left) h
       (omega (arith, e, q)) (omega (arith, l)))
   misses_calm out (Given_up w cause) left h = h
   misses_calm out (Finished w) left h = tt
 
   -- a place from which nobody has moved
-  spends_stays : (n : ℕ) (w : World) (again : ℕ → Place) (old : Bool × Bool) →
-      (w.terminal.number, w.terminal.due) ≡ old
-      → ((i : ℕ) → numbers (again i) ≡ old) → numbers (spends n w again) ≡ old
-  spends_stays zero w again old e h = e
-  spends_stays (suc n) w again old e h = h n
+  uses_stays : (cause : Cause) (n : ℕ) (w : World) (again : ℕ → Place) (old : Bool × Bool)
+      → (w.terminal.number, w.terminal.due) ≡ old → ((i : ℕ) → numbers (again i) ≡ old)
+      → numbers (uses cause n w again) ≡ old
+  uses_stays cause zero w again old e h = e
+  uses_stays cause (suc n) w again old e h = h n
 
   misses_stays : (out : Out) (p : Place) → numbers (misses m before out p) ≡ numbers p
-  misses_stays out (Opens k rest tries extensions asks) = spends_stays tries _ _ _ refl (λ i. refl)
-  misses_stays out (Behind k collected rest answering tries extensions asks) = spends_stays tries
-      _ _ _ refl (λ i. refl)
-  misses_stays out (Taken k collected b bytes tries extensions) = spends_stays tries _ _ _ refl
-      (λ i. refl)
-  misses_stays out (Waits k rest n size granted tries extensions) = spends_stays tries _ _ _ refl
-      (λ i. refl)
-  misses_stays out (Grows k rest size granted tries extensions) = spends_stays tries _ _ _ refl
-      (λ i. refl)
-  misses_stays out (Answering k rest tries extensions) = spends_stays tries _ _ _ refl (λ i. refl)
-  misses_stays out (Between k got b bytes tries extensions) = spends_stays tries _ _ _ refl
-      (λ i. refl)
-  misses_stays out (Repeating k got rest tries extensions) = spends_stays tries _ _ _ refl
-      (λ i. refl)
+  misses_stays out (Opens k rest tries extensions asks) =
+      uses_stays TriesSpent tries _ _ _ refl (λ i. refl)
+  misses_stays out (Behind k collected rest answering tries extensions asks) =
+      uses_stays TriesSpent tries _ _ _ refl (λ i. refl)
+  misses_stays out (Taken k collected b bytes tries extensions) =
+      uses_stays TriesSpent tries _ _ _ refl (λ i. refl)
+  misses_stays out (Waits k rest n size granted tries extensions) =
+      uses_stays TriesSpent tries _ _ _ refl (λ i. refl)
+  misses_stays out (Grows k rest size granted tries extensions) =
+      uses_stays TriesSpent tries _ _ _ refl (λ i. refl)
+  misses_stays out (Answering k rest tries extensions) =
+      uses_stays TriesSpent tries _ _ _ refl (λ i. refl)
+  misses_stays out (Between k got b bytes tries extensions) =
+      uses_stays TriesSpent tries _ _ _ refl (λ i. refl)
+  misses_stays out (Repeating k got rest tries extensions) =
+      uses_stays TriesSpent tries _ _ _ refl (λ i. refl)
   misses_stays out (Given_up w cause) = refl
   misses_stays out (Finished w) = refl
 
@@ -165,7 +173,8 @@ module _ (m : Meaning) (before : List (List ℕ)) (f : ℕ) where
   missed out p left h = inl (misses_stays out p, misses_calm out p left h)
 
   starts_calm : (k : Kept) (rest : List ℕ) (n : ℕ) (size : Option ℕ) (tries extensions left : ℕ)
-      → Quiet left tries (2 * left) k.settings → n + count_of size + left ≤ extensions → IsSize size
+      → Quiet left tries (2 * left) k.settings (length k.last + length rest)
+      → n + count_of size + left ≤ extensions → IsSize size
       → Calm left (asking (starts k rest n size tries extensions))
   starts_calm k rest (suc n) size tries extensions left q x s = (q, omega (arith, x), s)
   starts_calm k rest zero (Some size) tries extensions left q x s = (q, omega (arith, x), s)
@@ -196,6 +205,13 @@ module _ (m : Meaning) (before : List (List ℕ)) (f : ℕ) where
   heard_stays (Given_up w cause) = refl
   heard_stays (Finished w) = refl
 
+  parts_fit : (n : ℕ) (bytes : List ℕ) (most : ℕ) → length bytes ≤ most
+      → length (take n bytes) + length (drop n bytes) ≤ most
+  parts_fit n bytes most le =
+      let e = length-append (take n bytes) (drop n bytes) in
+      let w = ap length (take-append-drop n bytes) in
+      omega (arith, le, e, w)
+
   heard_calm : (p : Place) (left : ℕ) → Calm left p → Calm left (asking (heard m before p))
   heard_calm (Opens k rest tries extensions asks) left h = h
   heard_calm (Behind k collected [] answering tries extensions true) left h = h
@@ -205,8 +221,12 @@ module _ (m : Meaning) (before : List (List ℕ)) (f : ℕ) where
       let q = h.0.tries_left in let l = h.0.left_le in let x = h.1 in
       let y = h.0.enough.extensions done in
       starts_calm _ _ (m.asks done).extensions (m.asks done).size tries extensions left
-      (quiet left tries (2 * left) h.0 (omega (arith, q)) l) (omega (arith, l, x, y))
-      (h.0.enough.sizes done)
+      (record {
+        tries_left = omega (arith, q);
+        left_le = l;
+        enough = h.0.enough;
+        fits = parts_fit k.ifsd (m.does done) _ (h.0.enough.fits done);
+      }) (omega (arith, l, x, y)) (h.0.enough.sizes done)
   heard_calm (Behind k collected (b ∷ bytes) answering tries extensions false) left h =
       let q = h.0.tries_left in (
         quiet left tries (2 * left) h.0 (omega (arith, q)) h.0.left_le,
@@ -219,7 +239,15 @@ module _ (m : Meaning) (before : List (List ℕ)) (f : ℕ) where
   heard_calm (Grows k rest size true tries extensions) left h = h.0
   heard_calm (Grows k rest size false tries extensions) left h = h
   heard_calm (Answering k rest tries extensions) left h = h
-  heard_calm (Between k got b bytes tries extensions) left h = h
+  heard_calm (Between k got b bytes tries extensions) left h =
+      let e = h.fits in
+      let p = parts_fit k.ifsd (b ∷ bytes) (length (b ∷ bytes)) (omega arith) in
+      record {
+        tries_left = h.tries_left;
+        left_le = h.left_le;
+        enough = h.enough;
+        fits = omega (arith, e, p);
+      }
   heard_calm (Repeating k got rest tries extensions) left h = h
   heard_calm (Given_up w cause) left h = h
   heard_calm (Finished w) left h = h
@@ -278,26 +306,14 @@ module _ (m : Meaning) (before : List (List ℕ)) (f : ℕ) where
 
   -- the card's block arrives
 
-  extends_calm : (n left : ℕ) (w : World) (again : ℕ → Place) → 1 ≤ n →
-      ((i : ℕ) → i + 1 ≡ n → Calm left (again i))
-      → Calm left (extends n w again)
-  extends_calm zero left w again some h = absurd (omega (arith, some))
-  extends_calm (suc n) left w again some h = h n (omega arith)
-
-  extends_stays : (n : ℕ) (w : World) (again : ℕ → Place) (old : Bool × Bool) →
-      (w.terminal.number, w.terminal.due) ≡ old
-      → ((i : ℕ) → numbers (again i) ≡ old) → numbers (extends n w again) ≡ old
-  extends_stays zero w again old e h = e
-  extends_stays (suc n) w again old e h = h n
-
   grows_goes : (v : Bool) (out : Out) (k : Kept) (rest : List ℕ) (size : ℕ) (granted : Bool)
       (tries extensions left : ℕ)
       → is_size size ≡ v → Calm left (Grows k rest size false tries extensions)
       → Goes left (k.number, k.due) (grows m before v out k rest size granted tries extensions)
   grows_goes true out k rest size granted tries extensions left e h =
       let x = h.1 in inl (
-        extends_stays extensions _ _ _ refl (λ i. refl),
-        extends_calm extensions left _ _ (omega (arith, x)) (λ i is. (
+        uses_stays ExtensionsSpent extensions _ _ _ refl (λ i. refl),
+        uses_calm ExtensionsSpent extensions left _ _ (omega (arith, x)) (λ i is. (
           quiet left tries (2 * left) h.0 h.0.tries_left h.0.left_le,
           omega (arith, x, is),
           h.2,
@@ -313,8 +329,8 @@ module _ (m : Meaning) (before : List (List ℕ)) (f : ℕ) where
         record {
           tries_left = omega (arith, t);
           left_le = omega arith;
-          enough =
-              e;
+          enough = e;
+          fits = omega arith;
         },
         omega arith,
       )
@@ -325,12 +341,47 @@ module _ (m : Meaning) (before : List (List ℕ)) (f : ℕ) where
   proceeds_numbers k [] w e = e
   proceeds_numbers k (c ∷ cs) w e = refl
 
-  abbrev IsHeard : Place → Type 0
-  IsHeard (Between k got b bytes tries extensions) = ⊥
-  IsHeard _ = Unit {0}
+  -- no response of a mild line's card is too long
+  not_long : (limit n : ℕ) → nat_lt limit n ≡ true → n ≤ limit → ⊥
+  not_long limit n e le = absurd (grind (arith, e, le))
 
-  comes_goes : (out : Out) (p : Place) (left : ℕ) → IsHeard p → Calm left (asking p) → Goes left
-      (numbers p) (comes m before out p)
+  first_goes : (v : Bool) (out : Out) (k : Kept) (rest : List ℕ) (tries extensions left : ℕ)
+      → is_long m before k [] ≡ v
+      → Quiet left tries (2 * left) k.settings (length k.last + length rest)
+      → Goes left (k.number, k.due) (comes_first m before v out k rest tries extensions)
+  first_goes true out k rest tries extensions left e h =
+      let fits = h.fits in absurd (not_long _ _ e (omega (arith, fits)))
+  first_goes false out k [] tries extensions left e h = inr (
+    λ e. other_is_not k.number (ap (λ x. x.0) (sym (proceeds_numbers
+        (record (flips k) { answers = k.answers ++ k.last ∷ [] }) k.todo _ refl) ∙ e)),
+    proceeds_calm (record (flips k) { answers = k.answers ++ k.last ∷ [] }) k.todo _ h.enough,
+  )
+  first_goes false out k (b ∷ bytes) tries extensions left e h =
+      inr (λ e. other_is_not k.number (ap (λ x. x.0) e), afresh k.settings _ h.enough h.fits)
+
+  next_goes : (v : Bool) (out : Out) (k : Kept) (got rest : List ℕ) (tries extensions left : ℕ)
+      → is_long m before k got ≡ v
+      → Quiet left tries (2 * left) k.settings (length got + (length k.last + length rest))
+      → Goes left (k.number, k.due) (comes_next m before v out k got rest tries extensions)
+  next_goes true out k got rest tries extensions left e h =
+      let fits = h.fits in absurd (not_long _ _ e (omega (arith, fits)))
+  next_goes false out k got [] tries extensions left e h = inr (
+    λ e. other_is_not k.due (ap (λ x. x.1) (sym (proceeds_numbers
+        (record k { due = other k.due; answers = k.answers ++ (got ++ k.last) ∷ [] }) k.todo _
+        refl) ∙ e)),
+    proceeds_calm (record k { due = other k.due; answers = k.answers ++ (got ++ k.last) ∷ [] })
+        k.todo _ h.enough,
+  )
+  next_goes false out k got (b ∷ bytes) tries extensions left e h =
+      let fits = h.fits in
+      let n = length-append got k.last in
+      inr (
+        λ e. other_is_not k.due (ap (λ x. x.1) e),
+        afresh k.settings _ h.enough (omega (arith, fits, n)),
+      )
+
+  comes_goes : (out : Out) (p : Place) (left : ℕ) → IsHeard m before p → Calm left (asking p)
+      → Goes left (numbers p) (comes m before out p)
   comes_goes out (Opens k rest tries extensions asks) left a h =
       let q = h.0.tries_left in inl (
         refl,
@@ -338,66 +389,38 @@ module _ (m : Meaning) (before : List (List ℕ)) (f : ℕ) where
       )
   comes_goes out (Behind k collected rest answering tries extensions asks) left a h =
       let q = h.0.tries_left in inl (
-        spends_stays tries _ _ _ refl (λ i. refl),
-        spends_calm tries left _ _ (omega (arith, q))
+        uses_stays TriesSpent tries _ _ _ refl (λ i. refl),
+        uses_calm TriesSpent tries left _ _ (omega (arith, q))
             (λ i e. (quiet left i (2 * left + 0) h.0 (omega (arith, e, q)) h.0.left_le, h.1)),
       )
   comes_goes out (Taken k collected b bytes tries extensions) left a h =
       let t = h.0.enough.tries in inr (
         λ e. other_is_not k.number (ap (λ x. x.0) e),
-        (record { tries_left = omega (arith, t); left_le = omega arith; enough = h.0.enough }, h.1),
+        (
+          record {
+            tries_left = omega (arith, t);
+            left_le = omega arith;
+            enough = h.0.enough;
+            fits = omega arith;
+          },
+          h.1,
+        ),
       )
   comes_goes out (Waits k rest n size granted tries extensions) left a h =
       let x = h.1 in inl (
-        extends_stays extensions _ _ _ refl (λ i. refl),
-        extends_calm extensions left _ _ (omega (arith, x))
+        uses_stays ExtensionsSpent extensions _ _ _ refl (λ i. refl),
+        uses_calm ExtensionsSpent extensions left _ _ (omega (arith, x))
             (λ i is. (h.0, omega (arith, x, is), h.2)),
       )
   comes_goes out (Grows k rest size granted tries extensions) left a h =
       grows_goes (is_size size) out k rest size granted tries extensions left refl h
-  comes_goes out (Answering k [] tries extensions) left a h = inr (
-    λ e. other_is_not k.number (ap (λ x. x.0) (sym (proceeds_numbers
-        (record (flips k) { answers = k.answers ++ k.last ∷ [] }) k.todo _ refl) ∙ e)),
-    proceeds_calm (record (flips k) { answers = k.answers ++ k.last ∷ [] }) k.todo _ h.enough,
-  )
-  comes_goes out (Answering k (b ∷ bytes) tries extensions) left a h =
-      inr (λ e. other_is_not k.number (ap (λ x. x.0) e), afresh k.settings h.enough)
+  comes_goes out (Answering k rest tries extensions) left a h =
+      first_goes (is_long m before k []) out k rest tries extensions left refl h
   comes_goes out (Between k got b bytes tries extensions) left a h = absurd a
-  comes_goes out (Repeating k got [] tries extensions) left a h = inr (
-    λ e. other_is_not k.due (ap (λ x. x.1) (sym (proceeds_numbers
-        (record k { due = other k.due; answers = k.answers ++ (got ++ k.last) ∷ [] }) k.todo _
-        refl) ∙ e)),
-    proceeds_calm (record k { due = other k.due; answers = k.answers ++ (got ++ k.last) ∷ [] })
-        k.todo _ h.enough,
-  )
-  comes_goes out (Repeating k got (b ∷ bytes) tries extensions) left a h =
-      inr (λ e. other_is_not k.due (ap (λ x. x.1) e), afresh k.settings h.enough)
+  comes_goes out (Repeating k got rest tries extensions) left a h =
+      next_goes (is_long m before k got) out k got rest tries extensions left refl h
   comes_goes out (Given_up w cause) left a h = absurd h
   comes_goes out (Finished w) left a h = inl (refl, tt)
-
-  starts_heard : (k : Kept) (rest : List ℕ) (n : ℕ) (size : Option ℕ) (tries extensions : ℕ)
-      → IsHeard (starts k rest n size tries extensions)
-  starts_heard k rest (suc n) size tries extensions = tt
-  starts_heard k rest zero (Some size) tries extensions = tt
-  starts_heard k rest zero None tries extensions = tt
-
-  is_heard : (p : Place) → IsHeard (heard m before p)
-  is_heard (Opens k rest tries extensions asks) = tt
-  is_heard (Behind k collected [] answering tries extensions true) = tt
-  is_heard (Behind k collected (b ∷ bytes) answering tries extensions true) = tt
-  is_heard (Behind k collected [] answering tries extensions false) = starts_heard _ _ _ _ tries
-      extensions
-  is_heard (Behind k collected (b ∷ bytes) answering tries extensions false) = tt
-  is_heard (Taken k collected b bytes tries extensions) = tt
-  is_heard (Waits k rest n size true tries extensions) = starts_heard k rest n size tries extensions
-  is_heard (Waits k rest n size false tries extensions) = tt
-  is_heard (Grows k rest size true tries extensions) = tt
-  is_heard (Grows k rest size false tries extensions) = tt
-  is_heard (Answering k rest tries extensions) = tt
-  is_heard (Between k got b bytes tries extensions) = tt
-  is_heard (Repeating k got rest tries extensions) = tt
-  is_heard (Given_up w cause) = tt
-  is_heard (Finished w) = tt
 
   weaker : (p : Place) (left : ℕ) → Calm (left + 1) p → Calm left p
   weaker p left h = unasked p left (asked p left h)
@@ -406,8 +429,8 @@ module _ (m : Meaning) (before : List (List ℕ)) (f : ℕ) where
       (numbers q) r → Goes left (numbers p) r
   heard_goes p q left e r g = subst (λ n. Goes left n r) e g
 
-  arrived_goes : (up : Fate) (out : Out) (p : Place) (left : ℕ) → IsHeard p → Calm (left + 1) p
-      → Goes left (numbers p) (arrived m before out up p)
+  arrived_goes : (up : Fate) (out : Out) (p : Place) (left : ℕ) → IsHeard m before p
+      → Calm (left + 1) p → Goes left (numbers p) (arrived m before out up p)
   arrived_goes Delivers out p left a h = comes_goes out p left a (asked p left h)
   arrived_goes Damages out p left a h = missed out p left h
   arrived_goes Loses out p left a h = missed out p left h
@@ -439,7 +462,7 @@ module _ (m : Meaning) (before : List (List ℕ)) (f : ℕ) where
   step_goes Delivers Delivers p left h =
       let h0 : Calm left p = subst (λ l. Calm l p) (omega arith) h in
       heard_goes p (heard m before p) left (heard_stays p) _
-      (comes_goes (out_at p) (heard m before p) left (is_heard p) (heard_calm p left h0))
+      (comes_goes (out_at p) (heard m before p) left (is_heard m before p) (heard_calm p left h0))
   step_goes Delivers Damages p left h =
       heard_goes p (heard m before p) left (heard_stays p) _
       (missed (out_at p) (heard m before p) left (unasked _ (left + 1) (heard_calm p (left + 1) h)))
@@ -529,7 +552,7 @@ module _ (m : Meaning) (before : List (List ℕ)) (f : ℕ) where
   first_calm : (settings : Settings) (commands : List (List ℕ)) → Enough m f settings → Calm f
       (first before settings commands)
   first_calm settings [] e = tt
-  first_calm settings (c ∷ cs) e = (afresh settings e, omega arith)
+  first_calm settings (c ∷ cs) e = (afresh settings 0 e (omega arith), omega arith)
 
 pub never_given_up : (m : Meaning) (f : ℕ) (settings : Settings)
     (before commands : List (List ℕ)) (fates : List Fates)

@@ -1,14 +1,15 @@
 -- A terminal that makes no step forward stops, whatever any peer sends.
-use Rattle.std.proofs.Common.{◌≡◌, refl, ap, ℕ, zero, suc, ◌+◌, ◌≤◌, ◌<◌, Bool, true, false, List, [], ◌∷◌, length, Option, Some, None, cond, ◌==◌, arith, ◌⊎◌, inl, inr}
+use Rattle.std.proofs.Common.{◌≡◌, refl, ap, ℕ, zero, suc, ◌+◌, ◌≤◌, ◌<◌, Bool, true, false, List, [], ◌∷◌, length, nat_lt, Option, Some, None, cond, ◌==◌, arith, ◌⊎◌, inl, inr}
 use Rattle.t1_core.specs.declared.control.Control.{Control}
 use Rattle.t1_core.specs.declared.control.Control.TheVariants.{Resynch, Ifs, Abort, Wtx}
 use Rattle.t1_core.specs.declared.terminal.Out.{Out}
 use Rattle.t1_core.specs.declared.terminal.Out.TheVariants.{Own, Asks}
 use Rattle.t1_core.specs.declared.terminal.Phase.{Phase}
 use Rattle.t1_core.specs.declared.terminal.Phase.TheVariants.{Opening, Sending, Receiving, Aborting, Over, GivenUp}
-use Rattle.t1_core.specs.Block.{Block, I, R, Request, Response, other, same, is_size}
+use Rattle.t1_core.specs.Block.{Block, I, R, Request, Response, same, is_size}
 use Rattle.t1_core.specs.Mild.{Stays, StaysAlong, takes_all}
-use Rattle.t1_core.specs.TerminalSide.{Terminal, spend, takes, takes_in, takes_opening, takes_sending, takes_receiving, takes_field, acknowledged, answered, asked, extend, opens, longest, has_stopped}
+use Rattle.t1_core.specs.TerminalSide.{Terminal, spend, takes, takes_in, takes_opening, takes_sending, takes_receiving, takes_field, gathers, acknowledged, answered, asked, extend, opens, longest, has_stopped}
+use Rattle.t1_core.proofs.Bits.{other_is_not}
 
 -- what a phase can still come to without a step forward
 abbrev room : Phase → ℕ
@@ -26,10 +27,6 @@ left t = t.tries + t.extensions + room t.phase
 abbrev Takes : Terminal → Terminal → Type 0
 Takes old new = (Stays old new → ⊥) ⊎ (has_stopped new.phase ≡ true) ⊎ (left new + 1 ≤ left old)
 
-other_is_not : (n : Bool) → other n ≡ n → ⊥
-other_is_not true e = absurd (cc)
-other_is_not false e = absurd (cc)
-
 spends : (t : Terminal) (out : Out) → Takes t (spend t.tries t out)
 spends t out = Of t.tries refl where
   Of : (n : ℕ) → t.tries ≡ n → Takes t (spend n t out)
@@ -40,10 +37,14 @@ either : (t x y : Terminal) (c : Bool) → Takes t x → Takes t y → Takes t (
 either t x y true p q = p
 either t x y false p q = q
 
-field_spends : (t : Terminal) (number more : Bool) (f : List ℕ)
-    → Takes t (takes_field more (record t { number = number }) f)
-field_spends t number true f = inl (λ s. other_is_not t.due s.1)
-field_spends t number false f = inl (λ s. other_is_not t.due s.1)
+field_spends : (t : Terminal) (more : Bool) (f : List ℕ) → Takes t (takes_field more t f)
+field_spends t true f = inl (λ s. other_is_not t.due s.1)
+field_spends t false f = inl (λ s. other_is_not t.due s.1)
+
+gathers_spends : (t : Terminal) (more : Bool) (f : List ℕ) → Takes t (gathers more t f)
+gathers_spends t more f =
+    either t _ _ (nat_lt t.settings.limit (length t.got + length f)) (inr (inl refl))
+    (field_spends t more f)
 
 acknowledged_spends : (t : Terminal) (rest : List ℕ) → Takes t (acknowledged rest t)
 acknowledged_spends t [] = spends t Asks
@@ -51,7 +52,7 @@ acknowledged_spends t (b ∷ bytes) = inl (λ s. other_is_not t.number s.0)
 
 answered_spends : (t : Terminal) (rest : List ℕ) (more : Bool) (f : List ℕ)
     → Takes t (answered rest t more f)
-answered_spends t [] more f = field_spends t (other t.number) more f
+answered_spends t [] more f = inl (λ s. other_is_not t.number s.0)
 answered_spends t (b ∷ bytes) more f = spends t Asks
 
 extended : (t : Terminal) (size : ℕ) (control : Control) (n : ℕ) → t.extensions ≡ n
@@ -92,7 +93,7 @@ sending_spends t (Response control) e = spends t Asks
 
 receiving_spends : (t : Terminal) (b : Block) → t.phase ≡ Receiving → Takes t (takes_receiving b t)
 receiving_spends t (I n more f) e =
-    either t _ _ (same n t.due) (field_spends t t.number more f) (spends t Asks)
+    either t _ _ (same n t.due) (gathers_spends t more f) (spends t Asks)
 receiving_spends t (R n) e = spends t Asks
 receiving_spends t (Request control) e =
     asked_spends t control (let one : room t.phase ≡ 1 = ap room e in omega (arith, one))

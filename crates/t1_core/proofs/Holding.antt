@@ -6,22 +6,23 @@ use Rattle.t1_core.specs.declared.line.Fate.TheVariants.{Delivers, Damages, Lose
 use Rattle.t1_core.specs.declared.line.Fates.{Fates}
 use Rattle.t1_core.specs.declared.settings.Settings.{Settings}
 use Rattle.t1_core.specs.declared.terminal.Cause.{Cause}
+use Rattle.t1_core.specs.declared.terminal.Cause.TheVariants.{TriesSpent, ExtensionsSpent}
 use Rattle.t1_core.specs.declared.terminal.Out.{Out}
 use Rattle.t1_core.specs.declared.terminal.Out.TheVariants.{Asks}
 use Rattle.t1_core.specs.declared.terminal.Phase.TheVariants.{Over, GivenUp}
 use Rattle.t1_core.specs.Block.{is_size, other}
 use Rattle.t1_core.specs.CardSide.{Meaning, first_ifsd, card_after}
-use Rattle.t1_core.specs.TerminalSide.{outcome_with, outcome_of, fresh}
+use Rattle.t1_core.specs.TerminalSide.{longest, outcome_with, outcome_of, fresh}
 use Rattle.t1_core.specs.World.{World, responses, IsRight, IsTrue, IsAtMostOnce, next_command, exchange, run, start}
-use Rattle.t1_core.proofs.Places.{Kept, Place, Opens, Behind, Taken, Waits, Grows, Answering, Between, Repeating, Given_up, Finished, spends, extends, proceeds, starts, out_at, world_of, runs, heard, misses, comes, grows, flips, arrived, garbled, step, is_step}
+use Rattle.t1_core.proofs.Places.{Kept, Place, Opens, Behind, Taken, Waits, Grows, Answering, Between, Repeating, Given_up, Finished, uses, proceeds, starts, out_at, world_of, runs, heard, misses, comes, comes_first, comes_next, is_long, IsHeard, is_heard, grows, flips, arrived, garbled, step, is_step}
 
 module _ (m : Meaning) (before commands : List (List ℕ)) where
   abbrev answers_of : List (List ℕ) → List (List ℕ)
   answers_of done = responses m.does before done
 
-  -- a field carries a byte at least
+  -- a field of the command carries a byte at least, one of the response what IFSD says
   abbrev pub Sizes : Kept → Type 0
-  Sizes k = (1 ≤ k.size) × (1 ≤ k.ifsd)
+  Sizes k = (1 ≤ k.size) × (k.ifsd ≡ longest)
 
   -- a command is in progress
   pub record Sends (k : Kept) (command : List ℕ) : Type 0 where
@@ -47,13 +48,18 @@ module _ (m : Meaning) (before commands : List (List ℕ)) where
     pub each : done ≡ commands
     pub answers_are : w.answers ≡ answers_of done
 
+  -- what both ends keep once the card has taken S(IFS request)
+  abbrev pub opens_with : Kept → Kept
+  opens_with k = record k { ifsd = longest }
+
   abbrev pub Holds : Place → Type 0
-  Holds (Opens k rest tries extensions asks) = Sends k (k.field ++ rest)
+  Holds (Opens k rest tries extensions asks) = Sends (opens_with k) (k.field ++ rest)
   Holds (Behind k collected rest answering tries extensions asks) = Sends k
       (collected ++ (k.field ++ rest))
   Holds (Taken k collected b bytes tries extensions) = Sends k (collected ++ (b ∷ bytes))
   Holds (Waits k rest n size granted tries extensions) = Responds k (k.last ++ rest)
-  Holds (Grows k rest size granted tries extensions) = Responds k (k.last ++ rest)
+  Holds (Grows k rest size granted tries extensions) =
+      Responds k (k.last ++ rest) × (granted ≡ true → k.size ≡ size)
   Holds (Answering k rest tries extensions) = Responds k (k.last ++ rest)
   Holds (Between k got b bytes tries extensions) = Responds k (got ++ (b ∷ bytes))
   Holds (Repeating k got rest tries extensions) = Responds k (got ++ (k.last ++ rest))
@@ -160,21 +166,16 @@ module _ (m : Meaning) (before commands : List (List ℕ)) where
 
   -- one step
 
-  spends_hold : (n : ℕ) (w : World) (again : ℕ → Place) → Ends w → ((i : ℕ) → Holds (again i)) →
-      Holds (spends n w again)
-  spends_hold zero w again e h = e
-  spends_hold (suc n) w again e h = h n
-
-  extends_hold : (n : ℕ) (w : World) (again : ℕ → Place) → Ends w → ((i : ℕ) → Holds (again i)) →
-      Holds (extends n w again)
-  extends_hold zero w again e h = e
-  extends_hold (suc n) w again e h = h n
+  uses_hold : (cause : Cause) (n : ℕ) (w : World) (again : ℕ → Place) → Ends w
+      → ((i : ℕ) → Holds (again i)) → Holds (uses cause n w again)
+  uses_hold cause zero w again e h = e
+  uses_hold cause (suc n) w again e h = h n
 
   starts_hold : (k : Kept) (rest : List ℕ) (n : ℕ) (size : Option ℕ) (tries extensions : ℕ) →
       Responds k (k.last ++ rest)
       → Holds (starts k rest n size tries extensions)
   starts_hold k rest (suc n) size tries extensions h = h
-  starts_hold k rest zero (Some size) tries extensions h = h
+  starts_hold k rest zero (Some size) tries extensions h = (h, λ e. absurd (cc))
   starts_hold k rest zero None tries extensions h = h
 
   proceeds_hold : (k : Kept) (todo : List (List ℕ)) (w : World) → Sizes k → k.done ++ todo ≡
@@ -193,11 +194,7 @@ module _ (m : Meaning) (before commands : List (List ℕ)) where
   }
 
   pub heard_holds : (p : Place) → Holds p → Holds (heard m before p)
-  heard_holds (Opens k rest tries extensions asks) h = record {
-    whole = h.whole;
-    answers = h.answers;
-    sizes = (h.sizes.0, omega arith);
-  }
+  heard_holds (Opens k rest tries extensions asks) h = h
   heard_holds (Behind k collected [] answering tries extensions true) h = h
   heard_holds (Behind k collected (b ∷ bytes) answering tries extensions true) h = h
   heard_holds (Behind k collected [] answering tries extensions false) h =
@@ -223,7 +220,7 @@ module _ (m : Meaning) (before commands : List (List ℕ)) where
   heard_holds (Waits k rest n size true tries extensions) h = starts_hold k rest n size tries
       extensions h
   heard_holds (Waits k rest n size false tries extensions) h = h
-  heard_holds (Grows k rest size true tries extensions) h = h
+  heard_holds (Grows k rest size true tries extensions) h = h.0
   heard_holds (Grows k rest size false tries extensions) h = h
   heard_holds (Answering k rest tries extensions) h = h
   heard_holds (Between k got b bytes tries extensions) h = record {
@@ -238,21 +235,23 @@ module _ (m : Meaning) (before commands : List (List ℕ)) where
 
   misses_hold : (out : Out) (p : Place) → Holds p → Holds (misses m before out p)
   misses_hold out (Opens k rest tries extensions asks) h =
-      spends_hold tries _ _ (sending_ends _ k _ rest false h refl refl refl) (λ i. h)
+      uses_hold TriesSpent tries _ _ (sending_ends _ (opens_with k) _ rest false h refl refl refl)
+      (λ i. h)
   misses_hold out (Behind k collected rest answering tries extensions asks) h =
-      spends_hold tries _ _ (sending_ends _ k _ rest true h refl refl refl) (λ i. h)
+      uses_hold TriesSpent tries _ _ (sending_ends _ k _ rest true h refl refl refl) (λ i. h)
   misses_hold out (Taken k collected b bytes tries extensions) h =
-      spends_hold tries _ _ (sending_ends _ k _ (b ∷ bytes) true h refl refl refl) (λ i. h)
+      uses_hold TriesSpent tries _ _ (sending_ends _ k _ (b ∷ bytes) true h refl refl refl) (λ i. h)
   misses_hold out (Waits k rest n size granted tries extensions) h =
-      spends_hold tries _ _ (responding_ends _ k _ [] h refl refl refl) (λ i. h)
+      uses_hold TriesSpent tries _ _ (responding_ends _ k _ [] h refl refl refl) (λ i. h)
   misses_hold out (Grows k rest size granted tries extensions) h =
-      spends_hold tries _ _ (responding_ends _ k _ [] h refl refl refl) (λ i. h)
+      uses_hold TriesSpent tries _ _ (responding_ends _ k _ [] h.0 refl refl refl)
+      (λ i. (h.0, λ e. absurd (cc)))
   misses_hold out (Answering k rest tries extensions) h =
-      spends_hold tries _ _ (responding_ends _ k _ [] h refl refl refl) (λ i. h)
+      uses_hold TriesSpent tries _ _ (responding_ends _ k _ [] h refl refl refl) (λ i. h)
   misses_hold out (Between k got b bytes tries extensions) h =
-      spends_hold tries _ _ (responding_ends _ k _ got h refl refl refl) (λ i. h)
+      uses_hold TriesSpent tries _ _ (responding_ends _ k _ got h refl refl refl) (λ i. h)
   misses_hold out (Repeating k got rest tries extensions) h =
-      spends_hold tries _ _ (responding_ends _ k _ got h refl refl refl) (λ i. h)
+      uses_hold TriesSpent tries _ _ (responding_ends _ k _ got h refl refl refl) (λ i. h)
   misses_hold out (Given_up w cause) h = h
   misses_hold out (Finished w) h = h
 
@@ -262,72 +261,94 @@ module _ (m : Meaning) (before commands : List (List ℕ)) where
 
   grows_hold : (v : Bool) (out : Out) (k : Kept) (rest : List ℕ) (size : ℕ) (granted : Bool)
       (tries extensions : ℕ)
-      → is_size size ≡ v → Responds k (k.last ++ rest) → Holds
+      → is_size size ≡ v → Holds (Grows k rest size granted tries extensions) → Holds
       (grows m before v out k rest size granted tries extensions)
   grows_hold true out k rest size granted tries extensions e h =
-      extends_hold extensions _ _ (responding_ends _ k _ [] h refl refl refl)
-      (λ i. record { whole = h.whole; answers = h.answers; sizes = (some_size size e, h.sizes.1) })
+      uses_hold ExtensionsSpent extensions _ _ (responding_ends _ k _ [] h.0 refl refl refl)
+      (λ i. (
+        record {
+          whole = h.0.whole;
+          answers = h.0.answers;
+          sizes = (some_size size e, h.0.sizes.1);
+        },
+        λ e. refl,
+      ))
   grows_hold false out k rest size granted tries extensions e h =
       misses_hold out (Grows k rest size granted tries extensions) h
 
-  comes_hold : (out : Out) (p : Place) → Holds p → Holds (comes m before out p)
-  comes_hold out (Opens k rest tries extensions asks) h = h
-  comes_hold out (Behind k collected rest answering tries extensions asks) h =
-      spends_hold tries _ _ (sending_ends _ k _ rest true h refl refl refl) (λ i. h)
-  comes_hold out (Taken k collected b bytes tries extensions) h = record {
+  first_hold : (v : Bool) (out : Out) (k : Kept) (rest : List ℕ) (tries extensions : ℕ)
+      → Responds k (k.last ++ rest) → Holds (comes_first m before v out k rest tries extensions)
+  first_hold true out k rest tries extensions h = responding_ends _ k _ [] h refl refl refl
+  first_hold false out k [] tries extensions h =
+      proceeds_hold (record (flips k) { answers = k.answers ++ k.last ∷ [] }) k.todo _ h.sizes
+      h.whole
+      (ap (λ r. k.answers ++ r ∷ []) (sym (append-nil k.last)) ∙ h.answers) refl refl
+  first_hold false out k (b ∷ bytes) tries extensions h =
+      record { whole = h.whole; answers = h.answers; sizes = h.sizes }
+
+  next_hold : (v : Bool) (out : Out) (k : Kept) (got rest : List ℕ) (tries extensions : ℕ)
+      → Responds k (got ++ (k.last ++ rest))
+      → Holds (comes_next m before v out k got rest tries extensions)
+  next_hold true out k got rest tries extensions h = responding_ends _ k _ got h refl refl refl
+  next_hold false out k got [] tries extensions h =
+      proceeds_hold (record k { due = other k.due; answers = k.answers ++ (got ++ k.last) ∷ [] })
+      k.todo _ h.sizes h.whole
+      (ap (λ r. k.answers ++ (got ++ r) ∷ []) (sym (append-nil k.last)) ∙ h.answers) refl refl
+  next_hold false out k got (b ∷ bytes) tries extensions h = record {
+    whole = h.whole;
+    answers = ap (λ r. k.answers ++ r ∷ []) (append_assoc got k.last (b ∷ bytes)) ∙ h.answers;
+    sizes = h.sizes;
+  }
+
+  comes_hold : (out : Out) (p : Place) → IsHeard m before p → Holds p → Holds (comes m before out p)
+  comes_hold out (Opens k rest tries extensions asks) a h =
+      record { whole = h.whole; answers = h.answers; sizes = (h.sizes.0, a) }
+  comes_hold out (Behind k collected rest answering tries extensions asks) a h =
+      uses_hold TriesSpent tries _ _ (sending_ends _ k _ rest true h refl refl refl) (λ i. h)
+  comes_hold out (Taken k collected b bytes tries extensions) a h = record {
     whole = ap (λ c. k.done ++ (collected ++ c) ∷ k.todo) (take-append-drop k.size (b ∷ bytes)) ∙
         h.whole;
     answers = h.answers;
     sizes = h.sizes;
   }
-  comes_hold out (Waits k rest n size granted tries extensions) h =
-      extends_hold extensions _ _ (responding_ends _ k _ [] h refl refl refl) (λ i. h)
-  comes_hold out (Grows k rest size granted tries extensions) h =
+  comes_hold out (Waits k rest n size granted tries extensions) a h =
+      uses_hold ExtensionsSpent extensions _ _ (responding_ends _ k _ [] h refl refl refl) (λ i. h)
+  comes_hold out (Grows k rest size granted tries extensions) a h =
       grows_hold (is_size size) out k rest size granted tries extensions refl h
-  comes_hold out (Answering k [] tries extensions) h =
-      proceeds_hold (record (flips k) { answers = k.answers ++ k.last ∷ [] }) k.todo _ h.sizes
-      h.whole
-      (ap (λ r. k.answers ++ r ∷ []) (sym (append-nil k.last)) ∙ h.answers) refl refl
-  comes_hold out (Answering k (b ∷ bytes) tries extensions) h =
-      record { whole = h.whole; answers = h.answers; sizes = h.sizes }
-  comes_hold out (Between k got b bytes tries extensions) h = misses_hold out
-      (Between k got b bytes tries extensions) h
-  comes_hold out (Repeating k got [] tries extensions) h =
-      proceeds_hold (record k { due = other k.due; answers = k.answers ++ (got ++ k.last) ∷ [] })
-      k.todo _ h.sizes h.whole
-      (ap (λ r. k.answers ++ (got ++ r) ∷ []) (sym (append-nil k.last)) ∙ h.answers) refl refl
-  comes_hold out (Repeating k got (b ∷ bytes) tries extensions) h = record {
-    whole = h.whole;
-    answers = ap (λ r. k.answers ++ r ∷ []) (append_assoc got k.last (b ∷ bytes)) ∙ h.answers;
-    sizes = h.sizes;
-  }
-  comes_hold out (Given_up w cause) h = h
-  comes_hold out (Finished w) h = h
+  comes_hold out (Answering k rest tries extensions) a h =
+      first_hold (is_long m before k []) out k rest tries extensions h
+  comes_hold out (Between k got b bytes tries extensions) a h = absurd a
+  comes_hold out (Repeating k got rest tries extensions) a h =
+      next_hold (is_long m before k got) out k got rest tries extensions h
+  comes_hold out (Given_up w cause) a h = h
+  comes_hold out (Finished w) a h = h
 
-  arrived_holds : (out : Out) (up : Fate) (p : Place) → Holds p → Holds (arrived m before out up p)
-  arrived_holds out Delivers p h = comes_hold out p h
-  arrived_holds out Damages p h = misses_hold out p h
-  arrived_holds out Loses p h = misses_hold out p h
+  arrived_holds : (out : Out) (up : Fate) (p : Place) → IsHeard m before p → Holds p
+      → Holds (arrived m before out up p)
+  arrived_holds out Delivers p a h = comes_hold out p a h
+  arrived_holds out Damages p a h = misses_hold out p h
+  arrived_holds out Loses p a h = misses_hold out p h
 
   garbled_holds : (up : Fate) (p : Place) → Holds p → Holds (garbled m before up p)
   garbled_holds up (Opens k rest tries extensions asks) h = misses_hold _
       (Opens k rest tries extensions asks) h
   garbled_holds up (Behind k collected rest answering tries extensions asks) h = arrived_holds _
-      up _ h
-  garbled_holds up (Taken k collected b bytes tries extensions) h = arrived_holds _ up _ h
-  garbled_holds up (Waits k rest n size granted tries extensions) h = arrived_holds _ up _ h
-  garbled_holds up (Grows k rest size granted tries extensions) h = arrived_holds _ up _ h
+      up _ tt h
+  garbled_holds up (Taken k collected b bytes tries extensions) h = arrived_holds _ up _ tt h
+  garbled_holds up (Waits k rest n size granted tries extensions) h = arrived_holds _ up _ tt h
+  garbled_holds up (Grows k rest size granted tries extensions) h = arrived_holds _ up _ tt h
   garbled_holds up (Answering k rest tries extensions) h = misses_hold Asks
       (Answering k rest tries extensions) h
   garbled_holds up (Between k got b bytes tries extensions) h = misses_hold Asks
       (Between k got b bytes tries extensions) h
   garbled_holds up (Repeating k got rest tries extensions) h = misses_hold Asks
       (Repeating k got rest tries extensions) h
-  garbled_holds up (Given_up w cause) h = arrived_holds _ up _ h
-  garbled_holds up (Finished w) h = arrived_holds _ up _ h
+  garbled_holds up (Given_up w cause) h = arrived_holds _ up _ tt h
+  garbled_holds up (Finished w) h = arrived_holds _ up _ tt h
 
   pub step_holds : (down up : Fate) (p : Place) → Holds p → Holds (step m before down up p)
-  step_holds Delivers up p h = arrived_holds (out_at p) up (heard m before p) (heard_holds p h)
+  step_holds Delivers up p h = arrived_holds (out_at p) up (heard m before p) (is_heard m before p)
+      (heard_holds p h)
   step_holds Damages up p h = garbled_holds up p h
   step_holds Loses up p h = misses_hold (out_at p) p h
 
@@ -347,49 +368,37 @@ module _ (m : Meaning) (before commands : List (List ℕ)) where
   all_stand [] w s = s
   all_stand (x ∷ xs) w s = all_stand xs (exchange m x w) (stands_after x w s)
 
-  sending_once : (w : World) (k : Kept) (command : List ℕ) → Sends k command → w.card.ran ≡
-      before ++ k.done
-      → w.answers ≡ k.answers → ((cause : Cause) → w.terminal.phase ≡ GivenUp cause → ⊥)
+  going_once : (w : World) (k : Kept) → IsRight m.does before commands k.done k.answers
+      → w.card.ran ≡ before ++ k.done → w.answers ≡ k.answers
+      → ((cause : Cause) → w.terminal.phase ≡ GivenUp cause → ⊥)
       → (w.terminal.phase ≡ Over → ⊥) → IsAtMostOnce m before commands w
-  sending_once w k command h ran answers going moving = record {
+  going_once w k right ran answers going moving = record {
     ran = k.done;
     ran_is = ran;
-    right = subst (λ a. IsRight m.does before commands k.done a) (sym answers)
-        (sending_right k command h);
-    told = λ cause e. absurd (going cause e);
-    finished = λ e. absurd (moving e);
-  }
-
-  responding_once : (w : World) (k : Kept) (response : List ℕ) → Responds k response → w.card.ran
-      ≡ before ++ k.done
-      → w.answers ≡ k.answers → ((cause : Cause) → w.terminal.phase ≡ GivenUp cause → ⊥)
-      → (w.terminal.phase ≡ Over → ⊥) → IsAtMostOnce m before commands w
-  responding_once w k response h ran answers going moving = record {
-    ran = k.done;
-    ran_is = ran;
-    right = subst (λ a. IsRight m.does before commands k.done a) (sym answers)
-        (responding_right k response h);
+    right = subst (λ a. IsRight m.does before commands k.done a) (sym answers) right;
     told = λ cause e. absurd (going cause e);
     finished = λ e. absurd (moving e);
   }
 
   once_at : (p : Place) → Holds p → IsAtMostOnce m before commands (world_of m before p)
   once_at (Opens k rest tries extensions asks) h =
-      sending_once _ k _ h refl refl (λ cause e. absurd (cc)) (λ e. absurd (cc))
+      going_once _ (opens_with k) (sending_right _ _ h) refl refl (λ cause e. absurd (cc))
+      (λ e. absurd (cc))
   once_at (Behind k collected rest answering tries extensions asks) h =
-      sending_once _ k _ h refl refl (λ cause e. absurd (cc)) (λ e. absurd (cc))
+      going_once _ k (sending_right k _ h) refl refl (λ cause e. absurd (cc)) (λ e. absurd (cc))
   once_at (Taken k collected b bytes tries extensions) h =
-      sending_once _ k _ h refl refl (λ cause e. absurd (cc)) (λ e. absurd (cc))
+      going_once _ k (sending_right k _ h) refl refl (λ cause e. absurd (cc)) (λ e. absurd (cc))
   once_at (Waits k rest n size granted tries extensions) h =
-      responding_once _ k _ h refl refl (λ cause e. absurd (cc)) (λ e. absurd (cc))
+      going_once _ k (responding_right k _ h) refl refl (λ cause e. absurd (cc)) (λ e. absurd (cc))
   once_at (Grows k rest size granted tries extensions) h =
-      responding_once _ k _ h refl refl (λ cause e. absurd (cc)) (λ e. absurd (cc))
+      going_once _ k (responding_right k _ h.0) refl refl (λ cause e. absurd (cc))
+      (λ e. absurd (cc))
   once_at (Answering k rest tries extensions) h =
-      responding_once _ k _ h refl refl (λ cause e. absurd (cc)) (λ e. absurd (cc))
+      going_once _ k (responding_right k _ h) refl refl (λ cause e. absurd (cc)) (λ e. absurd (cc))
   once_at (Between k got b bytes tries extensions) h =
-      responding_once _ k _ h refl refl (λ cause e. absurd (cc)) (λ e. absurd (cc))
+      going_once _ k (responding_right k _ h) refl refl (λ cause e. absurd (cc)) (λ e. absurd (cc))
   once_at (Repeating k got rest tries extensions) h =
-      responding_once _ k _ h refl refl (λ cause e. absurd (cc)) (λ e. absurd (cc))
+      going_once _ k (responding_right k _ h) refl refl (λ cause e. absurd (cc)) (λ e. absurd (cc))
   once_at (Given_up w cause) h = record {
     ran = h.done;
     ran_is = h.ran_is;
@@ -457,7 +466,7 @@ first_holds m before settings [] = record {
 first_holds m before settings (c ∷ cs) = record {
   whole = ap (λ x. x ∷ cs) (take-append-drop settings.ifsc c);
   answers = refl;
-  sizes = (let some = settings.inside.0 in omega (arith, some), omega arith);
+  sizes = (let some = settings.inside.0 in omega (arith, some), refl);
 }
 
 pub first_stands : (m : Meaning) (before : List (List ℕ)) (settings : Settings)

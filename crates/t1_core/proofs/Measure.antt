@@ -1,19 +1,33 @@
 -- How many exchanges can still come, at most.
-use Rattle.std.proofs.Common.{◌≡◌, refl, sym, ap, subst, ◌∙◌, ℕ, zero, suc, ◌+◌, ◌*◌, ◌≤◌, Bool, true, false, List, [], ◌∷◌, ◌++◌, length, take, drop, length-drop, Option, Some, None, append_assoc, append-nil, arith, ◌⊎◌, inl, inr}
+use Rattle.std.proofs.Common.{◌≡◌, refl, sym, ap, subst, ◌∙◌, ℕ, zero, suc, ◌+◌, ◌-◌, ◌*◌, ◌/◌, ◌≤◌, Bool, true, false, List, [], ◌∷◌, ◌++◌, length, take, drop, length-drop, Option, Some, None, append_assoc, append-nil, arith, ◌⊎◌, inl, inr}
 use Rattle.std.proofs.lemmas.List.{take-append-drop}
-use Rattle.std.proofs.Math.Nat.{suc-mul, mul-le-mul_right}
+use Rattle.std.proofs.Math.Nat.{suc-mul, mul-le-mul_right, div-eq-sub-div}
 use Rattle.t1_core.specs.declared.line.Fate.{Fate}
 use Rattle.t1_core.specs.declared.line.Fate.TheVariants.{Delivers, Damages, Loses}
 use Rattle.t1_core.specs.declared.line.Fates.{Fates}
 use Rattle.t1_core.specs.declared.settings.Settings.{Settings}
+use Rattle.t1_core.specs.declared.terminal.Cause.{Cause}
+use Rattle.t1_core.specs.declared.terminal.Cause.TheVariants.{TriesSpent, ExtensionsSpent}
 use Rattle.t1_core.specs.declared.terminal.Out.{Out}
 use Rattle.t1_core.specs.declared.terminal.Out.TheVariants.{Asks}
 use Rattle.t1_core.specs.Block.{other, is_size}
 use Rattle.t1_core.specs.CardSide.{Meaning}
-use Rattle.t1_core.specs.TerminalSide.{has_stopped}
-use Rattle.t1_core.specs.World.{World, exchange, run, start, most_blocks, most_exchanges}
-use Rattle.t1_core.proofs.Places.{Kept, Place, Opens, Behind, Taken, Waits, Grows, Answering, Between, Repeating, Given_up, Finished, spends, extends, proceeds, starts, out_at, world_of, runs, heard, misses, comes, grows, flips, arrived, garbled, step, is_step, IsActive}
+use Rattle.t1_core.specs.TerminalSide.{longest, has_stopped}
+use Rattle.t1_core.specs.World.{World, exchange, run, start, blocks, size_after, all_blocks, most_exchanges}
+use Rattle.t1_core.proofs.Places.{Kept, Place, Opens, Behind, Taken, Waits, Grows, Answering, Between, Repeating, Given_up, Finished, uses, proceeds, starts, out_at, world_of, runs, heard, misses, comes, comes_first, comes_next, is_long, grows, flips, arrived, garbled, step, is_step, IsActive}
 use Rattle.t1_core.proofs.Holding.{Holds, heard_holds, step_holds, first, first_is, first_holds}
+
+as_le : (x y : ℕ) → x ≡ y → x ≤ y
+as_le x y e = omega (arith, e)
+
+sooner : (x r s y z : ℕ) → x ≡ r + y + z → r + 1 ≤ s → x + 1 ≤ s + y + z
+sooner x r s y z e le = omega (arith, e, le)
+
+one_more : (x z : ℕ) → x + z + 1 ≤ x + 1 + z
+one_more x z = omega arith
+
+le_plus : (x y z : ℕ) → x ≤ y → x + z ≤ y + z
+le_plus x y z le = omega (arith, le)
 
 -- one step less is a try for each reception less
 weigh : (x y t : ℕ) → x + 1 ≤ y → x * t + t ≤ y * t
@@ -21,64 +35,73 @@ weigh x y t le =
     let e : suc x * t ≡ x * t + t = suc-mul x t in
     subst (λ n. n ≤ y * t) e (mul-le-mul_right t (omega (arith, le)))
 
-same_weigh : (x y t : ℕ) → x ≤ y → x * t ≤ y * t
-same_weigh x y t le = mul-le-mul_right t le
+-- the blocks that so many more bytes need
+abbrev more_blocks : ℕ → ℕ → ℕ
+more_blocks size zero = 0
+more_blocks size (suc n) = blocks size (suc n)
 
-one_more_todo : (n e : ℕ) → suc n * e ≡ n * e + e
-one_more_todo n e = suc-mul n e
+plus_one : (n : ℕ) → 1 ≤ n + 1
+plus_one n = omega arith
 
-drop_less : (size b : ℕ) (bytes : List ℕ) → 1 ≤ size → length (drop size (b ∷ bytes)) + 1 ≤
-    length (b ∷ bytes)
-drop_less size b bytes some = let e = length-drop size (b ∷ bytes) in omega (arith, e, some)
+some_blocks : (size n : ℕ) → 1 ≤ blocks size n
+some_blocks size zero = omega arith
+some_blocks size (suc n) = plus_one (n / size)
 
-drop_le : (size : ℕ) (bytes : List ℕ) → length (drop size bytes) ≤ length bytes
-drop_le size bytes = let e = length-drop size bytes in omega (arith, e)
+one_sooner : (x y z : ℕ) → x ≡ y + 1 → z ≡ y → z + 1 + 1 ≤ x + 1
+one_sooner x y z e f = omega (arith, e, f)
+
+cut_less : (size n d : ℕ) → 1 ≤ size → n - size ≡ d → more_blocks size d + 1 ≤ blocks size n
+cut_less size n zero some e = some_blocks size n
+cut_less size zero (suc d) some e = absurd (omega (arith, e))
+cut_less size (suc n) (suc d) some e =
+    one_sooner (n / size) ((n - size) / size) (d / size)
+    (div-eq-sub-div (omega (arith, some)) (omega (arith, e)))
+    (ap (λ k. k / size) (omega (arith, e)))
+
+-- a field is one of them
+drop_less : (size : ℕ) (bytes : List ℕ) → 1 ≤ size
+    → more_blocks size (length (drop size bytes)) + 1 ≤ blocks size (length bytes)
+drop_less size bytes some =
+    cut_less size (length bytes) (length (drop size bytes)) some (sym (length-drop size bytes))
 
 module _ (m : Meaning) (before commands : List (List ℕ)) where
   -- blocks of a command in progress, and of all that follows
   abbrev ahead : Kept → List ℕ → ℕ → ℕ
   ahead k command rest =
-      rest + 1 + length (m.does (before ++ (k.done ++ command ∷ [])))
-      + most_blocks m.does (before ++ (k.done ++ command ∷ [])) k.todo
+      rest + blocks longest (length (m.does (before ++ (k.done ++ command ∷ []))))
+      + all_blocks m (size_after (m.asks (before ++ (k.done ++ command ∷ []))).size k.size)
+      (before ++ (k.done ++ command ∷ [])) k.todo
 
-  abbrev behind : Kept → ℕ → ℕ
-  behind k rest = rest + most_blocks m.does (before ++ k.done) k.todo
-
-  abbrev blocks : Place → ℕ
-  blocks (Opens k rest tries extensions asks) = ahead k (k.field ++ rest) (length rest)
-  blocks (Behind k collected rest answering tries extensions asks) =
-      ahead k (collected ++ (k.field ++ rest)) (length rest)
-  blocks (Taken k collected b bytes tries extensions) = ahead k (collected ++ (b ∷ bytes))
-      (length (b ∷ bytes))
-  blocks (Waits k rest n size granted tries extensions) = behind k (length rest + 1)
-  blocks (Grows k rest size granted tries extensions) = behind k (length rest + 1)
-  blocks (Answering k rest tries extensions) = behind k (length rest + 1)
-  blocks (Between k got b bytes tries extensions) = behind k (length (b ∷ bytes))
-  blocks (Repeating k got rest tries extensions) = behind k (length rest + 1)
-  blocks (Given_up w cause) = 0
-  blocks (Finished w) = 0
+  -- and of a response
+  abbrev behind : Kept → ℕ → ℕ → ℕ
+  behind k size rest = rest + all_blocks m size (before ++ k.done) k.todo
 
   abbrev weight : Kept → (blocks tries extensions : ℕ) → ℕ
   weight k blocks tries extensions =
       blocks * (k.settings.tries + 1) + tries + extensions + length k.todo * k.settings.extensions
 
+  abbrev response : Kept → List ℕ → ℕ
+  response k rest = more_blocks k.ifsd (length rest) + 1
+
   abbrev measure : Place → ℕ
   measure (Opens k rest tries extensions asks) =
-      weight k (ahead k (k.field ++ rest) (length rest)) tries extensions + 1
+      weight k (ahead k (k.field ++ rest) (more_blocks k.size (length rest))) tries extensions + 1
   measure (Behind k collected rest answering tries extensions asks) =
-      weight k (ahead k (collected ++ (k.field ++ rest)) (length rest)) tries extensions
+      weight k (ahead k (collected ++ (k.field ++ rest)) (more_blocks k.size (length rest))) tries
+      extensions
   measure (Taken k collected b bytes tries extensions) =
-      weight k (ahead k (collected ++ (b ∷ bytes)) (length (b ∷ bytes))) tries extensions
-  measure (Waits k rest n size granted tries extensions) = weight k (behind k (length rest + 1))
+      weight k (ahead k (collected ++ (b ∷ bytes)) (more_blocks k.size (length (b ∷ bytes))))
       tries extensions
-  measure (Grows k rest size granted tries extensions) = weight k (behind k (length rest + 1))
-      tries extensions
-  measure (Answering k rest tries extensions) = weight k (behind k (length rest + 1)) tries
-      extensions
-  measure (Between k got b bytes tries extensions) = weight k (behind k (length (b ∷ bytes)))
-      tries extensions
-  measure (Repeating k got rest tries extensions) = weight k (behind k (length rest + 1)) tries
-      extensions
+  measure (Waits k rest n size granted tries extensions) =
+      weight k (behind k (size_after size k.size) (response k rest)) tries extensions
+  measure (Grows k rest size granted tries extensions) =
+      weight k (behind k size (response k rest)) tries extensions
+  measure (Answering k rest tries extensions) =
+      weight k (behind k k.size (response k rest)) tries extensions
+  measure (Between k got b bytes tries extensions) =
+      weight k (behind k k.size (more_blocks k.ifsd (length (b ∷ bytes)))) tries extensions
+  measure (Repeating k got rest tries extensions) =
+      weight k (behind k k.size (response k rest)) tries extensions
   measure (Given_up w cause) = 0
   measure (Finished w) = 0
 
@@ -89,7 +112,7 @@ module _ (m : Meaning) (before commands : List (List ℕ)) where
   less_weight : (k : Kept) (x y tries now extensions : ℕ) → x ≤ y → now ≤ tries
       → weight k x now extensions ≤ weight k y tries extensions
   less_weight k x y tries now extensions le t =
-      let w = same_weigh x y (k.settings.tries + 1) le in omega (arith, w, t)
+      let w = mul-le-mul_right (k.settings.tries + 1) le in omega (arith, w, t)
 
   -- a step forward
   step_weight : (k : Kept) (x y tries extensions : ℕ) → x + 1 ≤ y
@@ -97,51 +120,62 @@ module _ (m : Meaning) (before commands : List (List ℕ)) where
   step_weight k x y tries extensions le =
       let w = weigh x y (k.settings.tries + 1) le in omega (arith, w)
 
-  spends_less : (n : ℕ) (w : World) (again : ℕ → Place) (most : ℕ) → 1 ≤ most
-      → ((i : ℕ) → i + 1 ≡ n → measure (again i) + 1 ≤ most) → measure (spends n w again) + 1 ≤ most
-  spends_less zero w again most some h = omega (arith, some)
-  spends_less (suc n) w again most some h = h n (omega arith)
+  some_ahead : (rest n later : ℕ) → 1 ≤ rest + blocks longest n + later
+  some_ahead rest n later = let s = some_blocks longest n in omega (arith, s)
 
-  extends_less : (n : ℕ) (w : World) (again : ℕ → Place) (most : ℕ) → 1 ≤ most
-      → ((i : ℕ) → i + 1 ≡ n → measure (again i) + 1 ≤ most) → measure (extends n w again) + 1 ≤
-      most
-  extends_less zero w again most some h = omega (arith, some)
-  extends_less (suc n) w again most some h = h n (omega arith)
+  some_behind : (rest later : ℕ) → 1 ≤ rest + 1 + later
+  some_behind rest later = omega arith
+
+  uses_less : (cause : Cause) (n : ℕ) (w : World) (again : ℕ → Place) (most : ℕ) → 1 ≤ most
+      → ((i : ℕ) → i + 1 ≡ n → measure (again i) + 1 ≤ most)
+      → measure (uses cause n w again) + 1 ≤ most
+  uses_less cause zero w again most some h = omega (arith, some)
+  uses_less cause (suc n) w again most some h = h n (omega arith)
 
   misses_less : (out : Out) (p : Place) → IsActive m before p → measure (misses m before out p) +
       1 ≤ measure p
   misses_less out (Opens k rest tries extensions asks) a =
-      spends_less tries _ _ _ (omega arith) (λ i e. omega (arith, e))
+      uses_less TriesSpent tries _ _ _ (omega arith) (λ i e. omega (arith, e))
   misses_less out (Behind k collected rest answering tries extensions asks) a =
-      spends_less tries _ _ _ (some_weight k _ tries extensions (omega arith))
+      uses_less TriesSpent tries _ _ _ (some_weight k _ tries extensions (some_ahead _ _ _))
       (λ i e. omega (arith, e))
   misses_less out (Taken k collected b bytes tries extensions) a =
-      spends_less tries _ _ _ (some_weight k _ tries extensions (omega arith))
+      uses_less TriesSpent tries _ _ _ (some_weight k _ tries extensions (some_ahead _ _ _))
       (λ i e. omega (arith, e))
   misses_less out (Waits k rest n size granted tries extensions) a =
-      spends_less tries _ _ _ (some_weight k _ tries extensions (omega arith))
+      uses_less TriesSpent tries _ _ _ (some_weight k _ tries extensions (some_behind _ _))
       (λ i e. omega (arith, e))
   misses_less out (Grows k rest size granted tries extensions) a =
-      spends_less tries _ _ _ (some_weight k _ tries extensions (omega arith))
+      uses_less TriesSpent tries _ _ _ (some_weight k _ tries extensions (some_behind _ _))
       (λ i e. omega (arith, e))
   misses_less out (Answering k rest tries extensions) a =
-      spends_less tries _ _ _ (some_weight k _ tries extensions (omega arith))
+      uses_less TriesSpent tries _ _ _ (some_weight k _ tries extensions (some_behind _ _))
       (λ i e. omega (arith, e))
   misses_less out (Between k got b bytes tries extensions) a =
-      spends_less tries _ _ _ (some_weight k _ tries extensions (omega arith))
+      uses_less TriesSpent tries _ _ _ (some_weight k _ tries extensions (some_behind _ _))
       (λ i e. omega (arith, e))
   misses_less out (Repeating k got rest tries extensions) a =
-      spends_less tries _ _ _ (some_weight k _ tries extensions (omega arith))
+      uses_less TriesSpent tries _ _ _ (some_weight k _ tries extensions (some_behind _ _))
       (λ i e. omega (arith, e))
   misses_less out (Given_up w cause) a = absurd a
   misses_less out (Finished w) a = absurd a
 
   starts_le : (k : Kept) (rest : List ℕ) (n : ℕ) (size : Option ℕ) (tries extensions most : ℕ)
-      → weight k (behind k (length rest + 1)) tries extensions ≤ most
+      → weight k (behind k (size_after size k.size) (response k rest)) tries extensions ≤ most
       → measure (starts k rest n size tries extensions) ≤ most
   starts_le k rest (suc n) size tries extensions most le = le
   starts_le k rest zero (Some size) tries extensions most le = le
   starts_le k rest zero None tries extensions most le = le
+
+  -- the response is counted once the command is carried out
+  runs_le : (ifsd later n : ℕ) (bytes : List ℕ) → ifsd ≡ longest
+      → more_blocks ifsd (length (drop ifsd bytes)) + 1 + later
+      ≤ 0 + blocks longest (length bytes) + later
+  runs_le ifsd later n bytes e =
+      let le : more_blocks ifsd (length (drop ifsd bytes)) + 1 ≤ blocks longest (length bytes) =
+      subst (λ i. more_blocks i (length (drop i bytes)) + 1 ≤ blocks longest (length bytes)) (sym e)
+      (drop_less longest bytes (omega arith)) in
+      omega (arith, le)
 
   heard_le : (p : Place) → Holds m before commands p → measure (heard m before p) ≤ measure p
   heard_le (Opens k rest tries extensions asks) h = omega arith
@@ -150,66 +184,67 @@ module _ (m : Meaning) (before commands : List (List ℕ)) where
   heard_le (Behind k collected [] answering tries extensions false) h =
       let command : List ℕ = collected ++ k.field in
       let done : List (List ℕ) = k.done ++ command ∷ [] in
-      let response : List ℕ = m.does (before ++ done) in
-      let shorter = drop_le k.ifsd response in
+      let bytes : List ℕ = m.does (before ++ done) in
+      let size : ℕ = size_after (m.asks (before ++ done)).size k.size in
       let e : weight k (ahead k (collected ++ (k.field ++ [])) 0) tries extensions ≡ weight k
       (ahead k command 0) tries extensions =
       ap (λ f. weight k (ahead k (collected ++ f) 0) tries extensions) (append-nil k.field) in
-      starts_le (runs m before k done) (drop k.ifsd response)
-      (m.asks (before ++ done)).extensions (m.asks (before ++ done)).size
-      tries extensions _
-      (subst (λ n. weight k (behind (runs m before k done) (length (drop k.ifsd response) + 1))
-      tries extensions ≤ n) (sym e)
-      (less_weight k _ (ahead k command 0) tries tries extensions (omega (arith, shorter))
+      starts_le (runs m before k done) (drop k.ifsd bytes)
+      (m.asks (before ++ done)).extensions (m.asks (before ++ done)).size tries extensions _
+      (subst (λ n. weight k (behind (runs m before k done) size
+      (response k (drop k.ifsd bytes))) tries extensions ≤ n) (sym e)
+      (less_weight k (behind (runs m before k done) size (response k (drop k.ifsd bytes)))
+      (ahead k command 0) tries tries extensions
+      (runs_le k.ifsd (all_blocks m size (before ++ done) k.todo) 0 bytes h.sizes.1)
       (omega arith)))
   heard_le (Behind k collected (b ∷ bytes) answering tries extensions false) h =
-      let e : weight k (ahead k ((collected ++ k.field) ++ (b ∷ bytes)) (length (b ∷ bytes)))
-      tries extensions
-      ≡ weight k (ahead k (collected ++ (k.field ++ (b ∷ bytes))) (length (b ∷ bytes))) tries
-      extensions =
-      ap (λ c. weight k (ahead k c (length (b ∷ bytes))) tries extensions)
+      let rest : ℕ = more_blocks k.size (length (b ∷ bytes)) in
+      let e : weight k (ahead k ((collected ++ k.field) ++ (b ∷ bytes)) rest) tries extensions
+      ≡ weight k (ahead k (collected ++ (k.field ++ (b ∷ bytes))) rest) tries extensions =
+      ap (λ c. weight k (ahead k c rest) tries extensions)
       (append_assoc collected k.field (b ∷ bytes)) in
-      omega (arith, e)
-  heard_le (Taken k collected b bytes tries extensions) h = omega arith
+      as_le _ _ e
+  heard_le (Taken k collected b bytes tries extensions) h = as_le _ _ refl
   heard_le (Waits k rest n size true tries extensions) h = starts_le k rest n size tries
-      extensions _ (omega arith)
-  heard_le (Waits k rest n size false tries extensions) h = omega arith
-  heard_le (Grows k rest size true tries extensions) h = omega arith
-  heard_le (Grows k rest size false tries extensions) h = omega arith
-  heard_le (Answering k rest tries extensions) h = omega arith
+      extensions _ (as_le _ _ refl)
+  heard_le (Waits k rest n size false tries extensions) h = as_le _ _ refl
+  heard_le (Grows k rest size true tries extensions) h =
+      as_le _ _ (ap (λ n. weight k (behind k n (response k rest)) tries extensions) (h.1 refl))
+  heard_le (Grows k rest size false tries extensions) h = as_le _ _ refl
+  heard_le (Answering k rest tries extensions) h = as_le _ _ refl
   heard_le (Between k got b bytes tries extensions) h =
-      let less = drop_less k.ifsd b bytes h.sizes.1 in
-      less_weight k (behind k (length (drop k.ifsd (b ∷ bytes)) + 1))
-      (behind k (length (b ∷ bytes))) tries tries extensions
-      (omega (arith, less)) (omega arith)
-  heard_le (Repeating k got rest tries extensions) h = omega arith
+      let e : k.ifsd ≡ longest = h.sizes.1 in
+      less_weight k (behind k k.size (response k (drop k.ifsd (b ∷ bytes))))
+      (behind k k.size (more_blocks k.ifsd (length (b ∷ bytes)))) tries tries extensions
+      (le_plus _ _ _ (drop_less k.ifsd (b ∷ bytes) (omega (arith, e)))) (omega arith)
+  heard_le (Repeating k got rest tries extensions) h = as_le _ _ refl
   heard_le (Given_up w cause) h = omega arith
   heard_le (Finished w) h = omega arith
 
   -- the next command, behind an answer
-  proceeds_less : (k : Kept) (todo : List (List ℕ)) (w : World) (tries extensions : ℕ)
+  proceeds_less : (k : Kept) (todo : List (List ℕ)) (w : World) (tries extensions : ℕ) → 1 ≤ k.size
       → measure (proceeds k todo w) + 1
-      ≤ (1 + most_blocks m.does (before ++ k.done) todo) * (k.settings.tries + 1) + tries +
-      extensions
-      + length todo * k.settings.extensions
-  proceeds_less k [] w tries extensions =
+      ≤ (0 + 1 + all_blocks m k.size (before ++ k.done) todo) * (k.settings.tries + 1) + tries
+      + extensions + length todo * k.settings.extensions
+  proceeds_less k [] w tries extensions some =
       let w = weigh 0 (1 + 0) (k.settings.tries + 1) (omega arith) in omega (arith, w)
-  proceeds_less k (c ∷ cs) w tries extensions =
-      let whole : take k.size c ++ drop k.size c ≡ c = take-append-drop k.size c in
-      let shorter = drop_le k.size c in
-      let many = one_more_todo (length cs) k.settings.extensions in
+  proceeds_less k (c ∷ cs) w tries extensions some =
+      let many = suc-mul (length cs) k.settings.extensions in
       let next : Kept = record k { todo = cs; field = take k.size c } in
-      let e : ahead next (take k.size c ++ drop k.size c) (length (drop k.size c)) ≡ ahead next c
-      (length (drop k.size c)) =
-      ap (λ x. ahead next x (length (drop k.size c))) whole in
-      let same : most_blocks m.does (before ++ k.done) (c ∷ cs)
-      ≡ length c + 1 + length (m.does (before ++ (k.done ++ c ∷ []))) + most_blocks m.does
+      let rest : ℕ = more_blocks k.size (length (drop k.size c)) in
+      let less = drop_less k.size c some in
+      let e : ahead next (take k.size c ++ drop k.size c) rest ≡ ahead next c rest =
+      ap (λ x. ahead next x rest) (take-append-drop k.size c) in
+      let same : all_blocks m k.size (before ++ k.done) (c ∷ cs)
+      ≡ blocks k.size (length c) + blocks longest (length (m.does (before ++ (k.done ++ c ∷ []))))
+      + all_blocks m (size_after (m.asks (before ++ (k.done ++ c ∷ []))).size k.size)
       (before ++ (k.done ++ c ∷ [])) cs =
-      ap (λ r. length c + 1 + length (m.does r) + most_blocks m.does r cs)
+      ap (λ r. blocks k.size (length c) + blocks longest (length (m.does r))
+      + all_blocks m (size_after (m.asks r).size k.size) r cs)
       (append_assoc before k.done (c ∷ [])) in
-      let w = weigh (ahead next (take k.size c ++ drop k.size c) (length (drop k.size c)))
-      (1 + most_blocks m.does (before ++ k.done) (c ∷ cs)) (k.settings.tries + 1)
-      (omega (arith, e, same, shorter)) in
+      let w = weigh (ahead next (take k.size c ++ drop k.size c) rest)
+      (0 + 1 + all_blocks m k.size (before ++ k.done) (c ∷ cs)) (k.settings.tries + 1)
+      (omega (arith, e, same, less)) in
       omega (arith, w, many)
 
   grows_less : (v : Bool) (out : Out) (k : Kept) (rest : List ℕ) (size : ℕ) (granted : Bool)
@@ -217,49 +252,62 @@ module _ (m : Meaning) (before commands : List (List ℕ)) where
       → measure (grows m before v out k rest size granted tries extensions) + 1
       ≤ measure (Grows k rest size granted tries extensions)
   grows_less true out k rest size granted tries extensions =
-      extends_less extensions _ _ _ (some_weight k _ tries extensions (omega arith))
-      (λ i e. omega (arith, e))
+      uses_less ExtensionsSpent extensions _ _ _
+      (some_weight k _ tries extensions (some_behind _ _)) (λ i e. omega (arith, e))
   grows_less false out k rest size granted tries extensions =
       misses_less out (Grows k rest size granted tries extensions) tt
+
+  first_less : (v : Bool) (out : Out) (k : Kept) (rest : List ℕ) (tries extensions : ℕ)
+      → 1 ≤ k.size → measure (comes_first m before v out k rest tries extensions) + 1
+      ≤ measure (Answering k rest tries extensions)
+  first_less true out k rest tries extensions some =
+      some_weight k _ tries extensions (some_behind _ _)
+  first_less false out k [] tries extensions some =
+      proceeds_less (record (flips k) { answers = k.answers ++ k.last ∷ [] }) k.todo _ tries
+      extensions some
+  first_less false out k (b ∷ bytes) tries extensions some =
+      step_weight k (behind k k.size (more_blocks k.ifsd (length (b ∷ bytes))))
+      (behind k k.size (response k (b ∷ bytes))) tries extensions (one_more _ _)
+
+  next_less : (v : Bool) (out : Out) (k : Kept) (got rest : List ℕ) (tries extensions : ℕ)
+      → 1 ≤ k.size → measure (comes_next m before v out k got rest tries extensions) + 1
+      ≤ measure (Repeating k got rest tries extensions)
+  next_less true out k got rest tries extensions some =
+      some_weight k _ tries extensions (some_behind _ _)
+  next_less false out k got [] tries extensions some =
+      proceeds_less (record k { due = other k.due; answers = k.answers ++ (got ++ k.last) ∷ [] })
+      k.todo _ tries extensions some
+  next_less false out k got (b ∷ bytes) tries extensions some =
+      step_weight k (behind k k.size (more_blocks k.ifsd (length (b ∷ bytes))))
+      (behind k k.size (response k (b ∷ bytes))) tries extensions (one_more _ _)
 
   comes_less : (out : Out) (p : Place) → IsActive m before p → Holds m before commands p
       → measure (comes m before out p) + 1 ≤ measure p
   comes_less out (Opens k rest tries extensions asks) a h = omega arith
   comes_less out (Behind k collected rest answering tries extensions asks) a h =
-      spends_less tries _ _ _ (some_weight k _ tries extensions (omega arith))
+      uses_less TriesSpent tries _ _ _ (some_weight k _ tries extensions (some_ahead _ _ _))
       (λ i e. omega (arith, e))
   comes_less out (Taken k collected b bytes tries extensions) a h =
       let next : Kept = record k { field = take k.size (b ∷ bytes); number = other k.number } in
-      let less = drop_less k.size b bytes h.sizes.0 in
-      let e : ahead next (collected ++ (take k.size (b ∷ bytes) ++ drop k.size (b ∷ bytes)))
-      (length (drop k.size (b ∷ bytes)))
-      ≡ ahead next (collected ++ (b ∷ bytes)) (length (drop k.size (b ∷ bytes))) =
-      ap (λ x. ahead next (collected ++ x) (length (drop k.size (b ∷ bytes))))
-      (take-append-drop k.size (b ∷ bytes)) in
-      step_weight k (ahead next (collected ++
-      (take k.size (b ∷ bytes) ++ drop k.size (b ∷ bytes)))
-      (length (drop k.size (b ∷ bytes))))
-      (ahead k (collected ++ (b ∷ bytes)) (length (b ∷ bytes))) tries extensions
-      (omega (arith, e, less))
+      let rest : ℕ = more_blocks k.size (length (drop k.size (b ∷ bytes))) in
+      let e : ahead next (collected ++ (take k.size (b ∷ bytes) ++ drop k.size (b ∷ bytes))) rest
+      ≡ ahead next (collected ++ (b ∷ bytes)) rest =
+      ap (λ x. ahead next (collected ++ x) rest) (take-append-drop k.size (b ∷ bytes)) in
+      step_weight k
+      (ahead next (collected ++ (take k.size (b ∷ bytes) ++ drop k.size (b ∷ bytes))) rest)
+      (ahead k (collected ++ (b ∷ bytes)) (more_blocks k.size (length (b ∷ bytes)))) tries
+      extensions (sooner _ _ _ _ _ e (drop_less k.size (b ∷ bytes) h.sizes.0))
   comes_less out (Waits k rest n size granted tries extensions) a h =
-      extends_less extensions _ _ _ (some_weight k _ tries extensions (omega arith))
-      (λ i e. omega (arith, e))
+      uses_less ExtensionsSpent extensions _ _ _
+      (some_weight k _ tries extensions (some_behind _ _)) (λ i e. omega (arith, e))
   comes_less out (Grows k rest size granted tries extensions) a h =
       grows_less (is_size size) out k rest size granted tries extensions
-  comes_less out (Answering k [] tries extensions) a h =
-      proceeds_less (record (flips k) { answers = k.answers ++ k.last ∷ [] }) k.todo _ tries
-      extensions
-  comes_less out (Answering k (b ∷ bytes) tries extensions) a h =
-      step_weight k (behind k (length (b ∷ bytes))) (behind k (length (b ∷ bytes) + 1)) tries
-      extensions (omega arith)
+  comes_less out (Answering k rest tries extensions) a h =
+      first_less (is_long m before k []) out k rest tries extensions h.sizes.0
   comes_less out (Between k got b bytes tries extensions) a h = misses_less out
       (Between k got b bytes tries extensions) tt
-  comes_less out (Repeating k got [] tries extensions) a h =
-      proceeds_less (record k { due = other k.due; answers = k.answers ++ (got ++ k.last) ∷ [] })
-      k.todo _ tries extensions
-  comes_less out (Repeating k got (b ∷ bytes) tries extensions) a h =
-      step_weight k (behind k (length (b ∷ bytes))) (behind k (length (b ∷ bytes) + 1)) tries
-      extensions (omega arith)
+  comes_less out (Repeating k got rest tries extensions) a h =
+      next_less (is_long m before k got) out k got rest tries extensions h.sizes.0
   comes_less out (Given_up w cause) a h = absurd a
   comes_less out (Finished w) a h = absurd a
 
@@ -379,7 +427,7 @@ module _ (m : Meaning) (before commands : List (List ℕ)) where
 
 pub stops : (m : Meaning) (settings : Settings) (before commands : List (List ℕ))
     (fates : List Fates)
-    → most_exchanges settings m.does before commands ≤ length fates
+    → most_exchanges settings m before commands ≤ length fates
     → has_stopped (run m fates (start settings before commands)).terminal.phase ≡ true
 stops m settings before commands fates le =
     subst (λ w. has_stopped (run m fates w).terminal.phase ≡ true)
@@ -387,20 +435,23 @@ stops m settings before commands fates le =
     (stops_at m before commands fates (first before settings commands)
     (first_holds m before settings commands)
     (inl (most_le commands le))) where
-      most_le : (cs : List (List ℕ)) → most_exchanges settings m.does before cs ≤ length fates
+      most_le : (cs : List (List ℕ)) → most_exchanges settings m before cs ≤ length fates
           → measure m before cs (first before settings cs) ≤ length fates
       most_le [] le = omega arith
       most_le (c ∷ cs) le =
-          let shorter = drop_le settings.ifsc c in
-          let many = one_more_todo (length cs) settings.extensions in
-          let k = settings.ifsc in
-          let e : length (m.does (before ++ ([] ++ (take k c ++ drop k c) ∷ []))) + most_blocks
-          m.does (before ++ ([] ++ (take k c ++ drop k c) ∷ [])) cs
-          ≡ length (m.does (before ++ c ∷ [])) + most_blocks m.does (before ++ c ∷ []) cs =
-          ap (λ x. length (m.does (before ++ x ∷ [])) + most_blocks m.does (before ++ x ∷ []) cs)
-          (take-append-drop k c) in
-          let w = same_weigh
-          (length (drop k c) + 1 + length (m.does (before ++ ([] ++ (take k c ++ drop k c) ∷ [])))
-          + most_blocks m.does (before ++ ([] ++ (take k c ++ drop k c) ∷ [])) cs)
-          (most_blocks m.does before (c ∷ cs)) (settings.tries + 1) (omega (arith, e, shorter)) in
+          let some = settings.inside.0 in
+          let many = suc-mul (length cs) settings.extensions in
+          let size : ℕ = settings.ifsc in
+          let rest : ℕ = more_blocks size (length (drop size c)) in
+          let less = drop_less size c (omega (arith, some)) in
+          let later : List ℕ → ℕ = λ x. blocks longest (length (m.does (before ++ x ∷ [])))
+          + all_blocks m (size_after (m.asks (before ++ x ∷ [])).size size) (before ++ x ∷ []) cs in
+          let e : later (take size c ++ drop size c) ≡ later c = ap later (take-append-drop size c)
+          in
+          let w = weigh
+          (rest + blocks longest (length (m.does (before ++ ((take size c ++ drop size c) ∷ []))))
+          + all_blocks m
+          (size_after (m.asks (before ++ ((take size c ++ drop size c) ∷ []))).size size)
+          (before ++ ((take size c ++ drop size c) ∷ [])) cs)
+          (all_blocks m size before (c ∷ cs)) (settings.tries + 1) (omega (arith, e, less)) in
           omega (arith, w, many, le)

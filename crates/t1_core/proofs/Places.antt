@@ -1,5 +1,5 @@
 -- Where both ends stand between two exchanges, and where an exchange takes them.
-use Rattle.std.proofs.Common.{◌≡◌, refl, ap, ◌∙◌, ℕ, zero, suc, Bool, true, false, List, [], ◌∷◌, ◌++◌, take, drop, Option, Some, None, append_assoc}
+use Rattle.std.proofs.Common.{◌≡◌, refl, ap, ◌∙◌, ℕ, zero, suc, Bool, true, false, List, [], ◌∷◌, ◌++◌, length, ◌+◌, nat_lt, take, drop, Option, Some, None, append_assoc}
 use Rattle.std.proofs.lemmas.Bool.{eq-eqb}
 use Rattle.t1_core.specs.declared.card.Requests.{Requests}
 use Rattle.t1_core.specs.declared.control.Control.TheVariants.{Ifs, Wtx}
@@ -7,7 +7,7 @@ use Rattle.t1_core.specs.declared.line.Fate.{Fate}
 use Rattle.t1_core.specs.declared.line.Fate.TheVariants.{Delivers, Damages, Loses}
 use Rattle.t1_core.specs.declared.settings.Settings.{Settings}
 use Rattle.t1_core.specs.declared.terminal.Cause.{Cause}
-use Rattle.t1_core.specs.declared.terminal.Cause.TheVariants.{TriesSpent, ExtensionsSpent}
+use Rattle.t1_core.specs.declared.terminal.Cause.TheVariants.{TriesSpent, ExtensionsSpent, TooLong}
 use Rattle.t1_core.specs.declared.terminal.Out.{Out}
 use Rattle.t1_core.specs.declared.terminal.Out.TheVariants.{Own, Asks, Grants}
 use Rattle.t1_core.specs.declared.terminal.Phase.{Phase}
@@ -96,14 +96,10 @@ out_at _ = Asks
 abbrev pub with_phase : Phase → World → World
 with_phase phase w = record w { terminal = record w.terminal { phase = phase } }
 
--- a terminal that spends a try stands here
-abbrev pub spends : ℕ → World → (ℕ → Place) → Place
-spends zero w again = Given_up w TriesSpent
-spends (suc n) w again = again n
-
-abbrev pub extends : ℕ → World → (ℕ → Place) → Place
-extends zero w again = Given_up w ExtensionsSpent
-extends (suc n) w again = again n
+-- a terminal that uses one of n tries or extensions stands here
+abbrev pub uses : Cause → ℕ → World → (ℕ → Place) → Place
+uses cause zero w again = Given_up w cause
+uses cause (suc n) w again = again n
 
 -- behind an answered command
 abbrev pub proceeds : Kept → List (List ℕ) → World → Place
@@ -209,31 +205,61 @@ module _ (m : Meaning) (before : List (List ℕ)) where
       extensions
   heard p = p
 
+  -- what a card that has taken the terminal's block is not
+  abbrev pub IsHeard : Place → Type 0
+  IsHeard (Opens k rest tries extensions asks) = k.ifsd ≡ longest
+  IsHeard (Between k got b bytes tries extensions) = ⊥
+  IsHeard _ = Unit {0}
+
+  starts_heard : (k : Kept) (rest : List ℕ) (n : ℕ) (size : Option ℕ) (tries extensions : ℕ)
+      → IsHeard (starts k rest n size tries extensions)
+  starts_heard k rest (suc n) size tries extensions = tt
+  starts_heard k rest zero (Some size) tries extensions = tt
+  starts_heard k rest zero None tries extensions = tt
+
+  pub is_heard : (p : Place) → IsHeard (heard p)
+  is_heard (Opens k rest tries extensions asks) = refl
+  is_heard (Behind k collected [] answering tries extensions true) = tt
+  is_heard (Behind k collected (b ∷ bytes) answering tries extensions true) = tt
+  is_heard (Behind k collected [] answering tries extensions false) = starts_heard _ _ _ _ tries
+      extensions
+  is_heard (Behind k collected (b ∷ bytes) answering tries extensions false) = tt
+  is_heard (Taken k collected b bytes tries extensions) = tt
+  is_heard (Waits k rest n size true tries extensions) = starts_heard k rest n size tries extensions
+  is_heard (Waits k rest n size false tries extensions) = tt
+  is_heard (Grows k rest size true tries extensions) = tt
+  is_heard (Grows k rest size false tries extensions) = tt
+  is_heard (Answering k rest tries extensions) = tt
+  is_heard (Between k got b bytes tries extensions) = tt
+  is_heard (Repeating k got rest tries extensions) = tt
+  is_heard (Given_up w cause) = tt
+  is_heard (Finished w) = tt
+
   -- the card's block does not come
   abbrev pub misses : Out → Place → Place
   misses out (Opens k rest tries extensions asks) =
-      spends tries (world_at out (Opens k rest tries extensions asks))
+      uses TriesSpent tries (world_at out (Opens k rest tries extensions asks))
       (λ n. Opens k rest n extensions true)
   misses out (Behind k collected rest answering tries extensions asks) =
-      spends tries (world_at out (Behind k collected rest answering tries extensions asks))
+      uses TriesSpent tries (world_at out (Behind k collected rest answering tries extensions asks))
       (λ n. Behind k collected rest answering n extensions true)
   misses out (Taken k collected b bytes tries extensions) =
-      spends tries (world_at out (Taken k collected b bytes tries extensions))
+      uses TriesSpent tries (world_at out (Taken k collected b bytes tries extensions))
       (λ n. Taken k collected b bytes n extensions)
   misses out (Waits k rest n size granted tries extensions) =
-      spends tries (world_at out (Waits k rest n size granted tries extensions))
+      uses TriesSpent tries (world_at out (Waits k rest n size granted tries extensions))
       (λ t. Waits k rest n size false t extensions)
   misses out (Grows k rest size granted tries extensions) =
-      spends tries (world_at out (Grows k rest size granted tries extensions))
+      uses TriesSpent tries (world_at out (Grows k rest size granted tries extensions))
       (λ n. Grows k rest size false n extensions)
   misses out (Answering k rest tries extensions) =
-      spends tries (world_at out (Answering k rest tries extensions))
+      uses TriesSpent tries (world_at out (Answering k rest tries extensions))
       (λ n. Answering k rest n extensions)
   misses out (Between k got b bytes tries extensions) =
-      spends tries (world_at out (Between k got b bytes tries extensions))
+      uses TriesSpent tries (world_at out (Between k got b bytes tries extensions))
       (λ n. Between k got b bytes n extensions)
   misses out (Repeating k got rest tries extensions) =
-      spends tries (world_at out (Repeating k got rest tries extensions))
+      uses TriesSpent tries (world_at out (Repeating k got rest tries extensions))
       (λ n. Repeating k got rest n extensions)
   misses out (Given_up w cause) = Given_up w cause
   misses out (Finished w) = Finished w
@@ -241,34 +267,37 @@ module _ (m : Meaning) (before : List (List ℕ)) where
   -- a size that is none is no use to the terminal
   abbrev pub grows : Bool → Out → Kept → List ℕ → ℕ → Bool → (tries extensions : ℕ) → Place
   grows true out k rest size granted tries extensions =
-      extends extensions (world_at out (Grows (record k { size = size }) rest size granted tries
-      extensions))
+      uses ExtensionsSpent extensions
+      (world_at out (Grows (record k { size = size }) rest size granted tries extensions))
       (λ n. Grows (record k { size = size }) rest size true tries n)
   grows false out k rest size granted tries extensions =
       misses out (Grows k rest size granted tries extensions)
 
-  -- it comes
-  abbrev pub comes : Out → Place → Place
-  comes out (Opens k rest tries extensions asks) = Behind k [] rest false tries extensions false
-  comes out (Behind k collected rest answering tries extensions asks) =
-      spends tries (world_at out (Behind k collected rest answering tries extensions asks))
-      (λ n. Behind k collected rest answering n extensions false)
-  comes out (Taken k collected b bytes tries extensions) =
-      Behind (record k { field = take k.size (b ∷ bytes); number = other k.number }) collected
-      (drop k.size (b ∷ bytes)) false k.settings.tries extensions false
-  comes out (Waits k rest n size granted tries extensions) =
-      extends extensions (world_at out (Waits k rest n size granted tries extensions))
-      (λ e. Waits k rest n size true tries e)
-  comes out (Grows k rest size granted tries extensions) =
-      grows (is_size size) out k rest size granted tries extensions
-  comes out (Answering k [] tries extensions) =
+  -- with the card's field the response is longer than the limit
+  abbrev pub is_long : Kept → List ℕ → Bool
+  is_long k got = nat_lt k.settings.limit (length got + length k.last)
+
+  -- the first field of the response comes
+  abbrev pub comes_first : Bool → Out → Kept → List ℕ → (tries extensions : ℕ) → Place
+  comes_first true out k rest tries extensions =
+      Given_up (world k
+      (terminal_at (flips k) [] [] true tries extensions Sending out)
+      (card_at k [] rest (other k.number) (other k.due) true (idle k))) TooLong
+  comes_first false out k [] tries extensions =
       let now : Kept = record (flips k) { answers = k.answers ++ k.last ∷ [] } in
       proceeds now k.todo (world now (terminal_at (flips k) [] k.last true tries extensions Over
       out)
       (card_at k [] [] (other k.number) (other k.due) true (idle k)))
-  comes out (Answering k (b ∷ bytes) tries extensions) =
+  comes_first false out k (b ∷ bytes) tries extensions =
       Between (flips k) k.last b bytes k.settings.tries extensions
-  comes out (Repeating k got [] tries extensions) =
+
+  -- another one
+  abbrev pub comes_next : Bool → Out → Kept → (got rest : List ℕ) → (tries extensions : ℕ) → Place
+  comes_next true out k got rest tries extensions =
+      Given_up (world k
+      (terminal_at (record k { due = other k.due }) [] got true tries extensions Receiving out)
+      (card_at k [] rest k.number (other k.due) true (idle k))) TooLong
+  comes_next false out k got [] tries extensions =
       let now : Kept = record k {
         due = other k.due;
         answers = k.answers ++ (got ++ k.last) ∷ [];
@@ -277,8 +306,27 @@ module _ (m : Meaning) (before : List (List ℕ)) where
       (terminal_at (record k { due = other k.due }) [] (got ++ k.last) true tries extensions Over
       out)
       (card_at k [] [] k.number (other k.due) true (idle k)))
-  comes out (Repeating k got (b ∷ bytes) tries extensions) =
+  comes_next false out k got (b ∷ bytes) tries extensions =
       Between (record k { due = other k.due }) (got ++ k.last) b bytes k.settings.tries extensions
+
+  -- it comes
+  abbrev pub comes : Out → Place → Place
+  comes out (Opens k rest tries extensions asks) = Behind k [] rest false tries extensions false
+  comes out (Behind k collected rest answering tries extensions asks) =
+      uses TriesSpent tries (world_at out (Behind k collected rest answering tries extensions asks))
+      (λ n. Behind k collected rest answering n extensions false)
+  comes out (Taken k collected b bytes tries extensions) =
+      Behind (record k { field = take k.size (b ∷ bytes); number = other k.number }) collected
+      (drop k.size (b ∷ bytes)) false k.settings.tries extensions false
+  comes out (Waits k rest n size granted tries extensions) =
+      uses ExtensionsSpent extensions (world_at out (Waits k rest n size granted tries extensions))
+      (λ e. Waits k rest n size true tries e)
+  comes out (Grows k rest size granted tries extensions) =
+      grows (is_size size) out k rest size granted tries extensions
+  comes out (Answering k rest tries extensions) =
+      comes_first (is_long k []) out k rest tries extensions
+  comes out (Repeating k got rest tries extensions) =
+      comes_next (is_long k got) out k got rest tries extensions
   comes out p = misses out p
 
   abbrev pub arrived : Out → Fate → Place → Place
@@ -359,6 +407,26 @@ module _ (m : Meaning) (before : List (List ℕ)) where
   grown out k rest size granted zero extensions false e = rw e refl
   grown out k rest size granted (suc n) extensions false e = rw e refl
 
+  first_is : (out : Out) (k : Kept) (rest : List ℕ) (tries extensions : ℕ) (v : Bool)
+      → is_long k [] ≡ v
+      → took out (Answering k rest tries extensions) (Some (I k.due (more rest) k.last))
+      ≡ world_of (comes_first v out k rest tries extensions)
+  first_is out k rest tries extensions true e = rw (same_self k.due) (rw e refl)
+  first_is out k [] tries extensions false e =
+      rw (same_self k.due) (rw e (proceeds_is (flips k) k.todo k.todo out k.last tries extensions
+      (k.answers ++ k.last ∷ [])))
+  first_is out k (b ∷ bytes) tries extensions false e = rw (same_self k.due) (rw e refl)
+
+  next_is : (out : Out) (k : Kept) (got rest : List ℕ) (tries extensions : ℕ) (v : Bool)
+      → is_long k got ≡ v
+      → took out (Repeating k got rest tries extensions) (Some (I k.due (more rest) k.last))
+      ≡ world_of (comes_next v out k got rest tries extensions)
+  next_is out k got rest tries extensions true e = rw (same_self k.due) (rw e refl)
+  next_is out k got [] tries extensions false e =
+      rw (same_self k.due) (rw e (proceeds_is (record k { due = other k.due }) k.todo k.todo out
+      (got ++ k.last) tries extensions (k.answers ++ (got ++ k.last) ∷ [])))
+  next_is out k got (b ∷ bytes) tries extensions false e = rw (same_self k.due) (rw e refl)
+
   comes_is : (out : Out) (p : Place) → IsActive p → took out p (Some (reply_of p)) ≡ world_of
       (comes out p)
   comes_is out (Opens k rest tries extensions asks) a = refl
@@ -371,17 +439,12 @@ module _ (m : Meaning) (before : List (List ℕ)) where
   comes_is out (Waits k rest n size granted tries (suc e)) a = refl
   comes_is out (Grows k rest size granted tries extensions) a =
       grown out k rest size granted tries extensions (is_size size) refl
-  comes_is out (Answering k [] tries extensions) a =
-      rw (same_self k.due) (proceeds_is (flips k) k.todo k.todo out k.last tries extensions
-      (k.answers ++ k.last ∷ []))
-  comes_is out (Answering k (b ∷ bytes) tries extensions) a = rw (same_self k.due) refl
+  comes_is out (Answering k rest tries extensions) a =
+      first_is out k rest tries extensions (is_long k []) refl
   comes_is out (Between k got b bytes zero extensions) a = refl
   comes_is out (Between k got b bytes (suc n) extensions) a = refl
-  comes_is out (Repeating k got [] tries extensions) a =
-      rw (same_self k.due) (proceeds_is (record k { due = other k.due }) k.todo k.todo out
-      (got ++ k.last)
-      tries extensions (k.answers ++ (got ++ k.last) ∷ []))
-  comes_is out (Repeating k got (b ∷ bytes) tries extensions) a = rw (same_self k.due) refl
+  comes_is out (Repeating k got rest tries extensions) a =
+      next_is out k got rest tries extensions (is_long k got) refl
   comes_is out (Given_up w cause) a = absurd a
   comes_is out (Finished w) a = absurd a
 

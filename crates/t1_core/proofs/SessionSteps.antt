@@ -1,5 +1,6 @@
 -- Steps of a whole dialogue.
-use Rattle.std.proofs.Common.{◌≡◌, refl, sym, ap, subst, ◌∙◌, ℕ, zero, suc, ◌+◌, ◌-◌, ◌<◌, ◌≤◌, true, false, List, [], ◌∷◌, ◌++◌, length, drop, get_or, map, Option, Some, None, append_assoc, length-append, arith, ◌⊎◌, inl, inr}
+use Rattle.std.proofs.Common.{◌≡◌, refl, sym, ap, subst, ◌∙◌, ℕ, zero, suc, ◌+◌, ◌-◌, ◌<◌, true, false, List, [], ◌∷◌, ◌++◌, length, drop, get_or, map, Option, Some, None, append_assoc, length-append, arith, ◌⊎◌, inl, inr}
+use Rattle.std.proofs.lemmas.Bool.{cases_lt}
 use Rattle.t1_core.specs.declared.line.Fates.{Fates}
 use Rattle.t1_core.specs.declared.settings.Settings.{Settings}
 use Rattle.t1_core.specs.declared.terminal.Cause.{Cause}
@@ -63,26 +64,17 @@ run_more : (m : Meaning) (fates : List Fates) (x : Fates) (w : World) → run m 
 run_more m [] x w = refl
 run_more m (y ∷ ys) x w = run_more m ys x (exchange m y w)
 
-either : (a b : ℕ) → (a ≤ b) ⊎ (b < a)
-either zero b = inl (omega arith)
-either (suc a) zero = inr (omega arith)
-either (suc a) (suc b) =
-    elim (either a b) [
-      | inl le ↦ inl (omega (arith, le))
-      | inr lt ↦ inr (omega (arith, lt))
-    ]
-
 module _ (m : Meaning) (settings : Settings) (before commands : List (List ℕ)) where
   going : (fates : List Fates) (w : World) → w ≡ run m fates (start settings before commands)
-      → has_stopped w.terminal.phase ≡ false → length fates < most_exchanges settings m.does
+      → has_stopped w.terminal.phase ≡ false → length fates < most_exchanges settings m
       before commands
   going fates w is moving =
-      elim (either (most_exchanges settings m.does before commands) (length fates)) [
-        | inl le ↦
+      elim (cases_lt (length fates) (most_exchanges settings m before commands)) [
+        | inl lt ↦ lt
+        | inr le ↦
             let stop = ap (λ v. has_stopped v.terminal.phase) is ∙ stops m settings before
             commands fates le in
             absurd (let e = sym moving ∙ stop in cc)
-        | inr lt ↦ lt
       ]
 
   pub led_next : (old now next : List Fates) (x : Fates) (w v : World) → Led m settings before
@@ -104,8 +96,8 @@ module _ (m : Meaning) (settings : Settings) (before commands : List (List ℕ))
   pub fewer_left : (old now next : List Fates) (x : Fates) (w : World) → Led m settings before
       commands old now w
       → has_stopped w.terminal.phase ≡ false → next ≡ now ++ x ∷ []
-      → most_exchanges settings m.does before commands + length old - length next
-      < most_exchanges settings m.does before commands + length old - length now
+      → most_exchanges settings m before commands + length old - length next
+      < most_exchanges settings m before commands + length old - length now
   fewer_left old now next x w h moving more =
       let lt = going h.fates w h.run_is moving in
       let e : length next ≡ length now + 1 = ap length more ∙ length-append now (x ∷ []) in

@@ -22,7 +22,7 @@ pub record Conversed (m : Meaning) (settings : Settings)
   pub fates : List Fates
   pub passed : passed_after ≡ passed_before ++ fates
   -- it ends
-  pub few : length fates ≤ most_exchanges settings m.does before commands
+  pub few : length fates ≤ most_exchanges settings m before commands
   -- on a mild line there is no fault
   pub survived : (f : ℕ) → Enough m f settings
       → IsMild m f f (start settings before commands) fates → fault ≡ None
@@ -33,4 +33,4 @@ pub record Led (m : Meaning) (settings : Settings) (before commands : List (List
   pub fates : List Fates
   pub passed : passed_after ≡ passed_before ++ fates
   pub run_is : w ≡ run m fates (start settings before commands)
-  pub few : length fates ≤ most_exchanges settings m.does before commands
+  pub few : length fates ≤ most_exchanges settings m before commands

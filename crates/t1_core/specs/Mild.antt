@@ -1,5 +1,5 @@
 -- Lines that are mild enough, and stretches in which a terminal makes no step forward.
-use Rattle.std.specs.Prelude.{◌≡◌, ℕ, ◌+◌, ◌-◌, ◌≤◌, ◌*◌, true, List, [], ◌∷◌, Option, Some, None}
+use Rattle.std.specs.Prelude.{◌≡◌, ℕ, ◌+◌, ◌-◌, ◌≤◌, ◌*◌, true, List, [], ◌∷◌, length, Option, Some, None}
 use Rattle.t1_core.specs.declared.line.Fate.{Fate}
 use Rattle.t1_core.specs.declared.line.Fate.TheVariants.{Delivers}
 use Rattle.t1_core.specs.declared.line.Fates.{Fates}
@@ -39,12 +39,13 @@ IsSize None = Unit {0}
 IsSize (Some size) = is_size size ≡ true
 
 -- the settings survive f of them: twice as many tries, and an extension for each request of the
--- card and for each of the f; each IFSC that the card announces is one
+-- card and for each of the f; each IFSC that the card announces is one; no response is too long
 pub record Enough (m : Meaning) (f : ℕ) (settings : Settings) : Type 0 where
   pub tries : 2 * f ≤ settings.tries
   pub extensions : (ran : List (List ℕ))
       → (m.asks ran).extensions + count_of (m.asks ran).size + f ≤ settings.extensions
   pub sizes : (ran : List (List ℕ)) → IsSize (m.asks ran).size
+  pub fits : (ran : List (List ℕ)) → length (m.does ran) ≤ settings.limit
 
 -- a terminal that takes what any peer sends
 abbrev pub takes_all : Terminal → List (Option Block) → Terminal

@@ -1,5 +1,5 @@
 -- Both ends and the line between them, for every schedule of losses and damages.
-use Rattle.std.specs.Prelude.{◌≡◌, ℕ, ◌+◌, ◌*◌, ◌≤◌, List, [], ◌∷◌, ◌++◌, length, Option, Some, None}
+use Rattle.std.specs.Prelude.{◌≡◌, ℕ, zero, suc, ◌+◌, ◌*◌, ◌/◌, ◌≤◌, List, [], ◌∷◌, ◌++◌, length, Option, Some, None}
 use Rattle.t1_core.specs.declared.line.Fate.{Fate}
 use Rattle.t1_core.specs.declared.line.Fate.TheVariants.{Delivers}
 use Rattle.t1_core.specs.declared.line.Fates.{Fates}
@@ -11,7 +11,7 @@ use Rattle.t1_core.specs.declared.terminal.Outcome.{Outcome}
 use Rattle.t1_core.specs.declared.terminal.Outcome.TheVariants.{NotCarriedOut, InPart}
 use Rattle.t1_core.specs.Block.{Block}
 use Rattle.t1_core.specs.CardSide.{Card, card_after, Meaning, card_meets}
-use Rattle.t1_core.specs.TerminalSide.{Terminal, fresh, begins, sends, takes, outcome_of}
+use Rattle.t1_core.specs.TerminalSide.{Terminal, longest, fresh, begins, sends, takes, outcome_of}
 
 pub record World : Type 0 where
   pub terminal : Terminal
@@ -97,15 +97,26 @@ pub record IsAtMostOnce (m : Meaning) (before commands : List (List ℕ)) (w : W
   pub finished : w.terminal.phase ≡ Over
       → (ran ≡ commands) × (w.answers ≡ responses m.does before ran)
 
--- How many exchanges bring all answers at most, or a fault: each block but the first of a chain
--- carries a byte at least, and each brings a step forward that `tries` receptions may come before.
-abbrev pub most_blocks : (List (List ℕ) → List ℕ) → (before commands : List (List ℕ)) → ℕ
-most_blocks does before [] = 0
-most_blocks does before (c ∷ cs) =
-    length c + 1 + length (does (before ++ c ∷ [])) + most_blocks does (before ++ c ∷ []) cs
+-- the I-blocks of a chain of so many bytes, in fields of `size` bytes: at least one
+abbrev pub blocks : (size bytes : ℕ) → ℕ
+blocks size zero = 1
+blocks size (suc n) = n / size + 1
 
-abbrev pub most_exchanges : Settings → (List (List ℕ) → List ℕ) →
-    (before commands : List (List ℕ)) → ℕ
-most_exchanges settings does before commands =
-    most_blocks does before commands * (settings.tries + 1) + settings.tries
-    + length commands * settings.extensions + 1
+-- IFSC after the card's request, if it makes one
+abbrev pub size_after : Option ℕ → ℕ → ℕ
+size_after None size = size
+size_after (Some other) size = other
+
+-- the I-blocks of these commands and of the card's responses; `size` is IFSC before them
+abbrev pub all_blocks : Meaning → (size : ℕ) → (before commands : List (List ℕ)) → ℕ
+all_blocks m size before [] = 0
+all_blocks m size before (c ∷ cs) =
+    blocks size (length c) + blocks longest (length (m.does (before ++ c ∷ [])))
+    + all_blocks m (size_after (m.asks (before ++ c ∷ [])).size size) (before ++ c ∷ []) cs
+
+-- After so many exchanges there are all answers, or a fault. Each I-block takes one and at most
+-- `tries` more, and each command has its extensions.
+abbrev pub most_exchanges : Settings → Meaning → (before commands : List (List ℕ)) → ℕ
+most_exchanges settings m before commands =
+    all_blocks m settings.ifsc before commands * (settings.tries + 1)
+    + length commands * settings.extensions

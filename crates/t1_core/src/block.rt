@@ -9,18 +9,12 @@ pub enum Block<'a> {
     Information {
         number: bool,
         more: bool,
-        field: &'a [u8],
+        info: &'a [u8],
     },
     /// An R-block: N(R). Which error it reports decides nothing.
-    Ready {
-        number: bool,
-    },
+    Ready(bool),
     /// An S-block with a request.
-    Request {
-        control: Control,
-    },
+    Request(Control),
     /// An S-block with a response.
-    Response {
-        control: Control,
-    },
+    Response(Control),
 }

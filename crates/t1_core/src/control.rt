@@ -5,10 +5,10 @@
 pub enum Control {
     /// Both ends begin anew.
     Resynch,
-    /// The sender of the request takes fields of `size` bytes, 1 to 254, from now on.
-    Ifs { size: u8 },
+    /// The sender of the request takes fields of so many bytes, 1 to 254, from now on.
+    Ifs(u8),
     /// The chain in progress ends.
     Abort,
-    /// The card wants `multiple` times BWT for the next block.
-    Wtx { multiple: u8 },
+    /// The card wants so many times BWT for the next block.
+    Wtx(u8),
 }

@@ -65,7 +65,7 @@ impl Receiver {
     pub fn is_whole(&self) -> bool
         ensures { result ≡ is_whole self.now }
     {
-        is_whole(self.bytes())
+        self.len >= 4 && self.len >= usize::from(self.block[2]) + 4
     }
 
     /// Takes a byte of the line. A byte after a whole block changes nothing.
@@ -107,13 +107,4 @@ impl Receiver {
         self.block[self.len] = byte;
         self.len += 1;
     }
-}
-
-fn is_whole(bytes: &[u8]) -> bool
-    ensures { result ≡ is_whole bytes.now }
-{
-    if bytes.len() < 4 {
-        return false;
-    }
-    bytes.len() >= usize::from(bytes[2]) + 4
 }

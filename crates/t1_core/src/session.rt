@@ -93,11 +93,10 @@ impl<'a, C: Applet> Session<'a, C> {
         ensures answers { map (λ v. v.items) result.answers.items ≡ self.entry.answers }
         ensures fault { result.fault ≡ fault_of self.entry.terminal }
     {
-        let fault = self.terminal.fault();
         Conversation {
+            fault: self.terminal.fault(),
             applet: self.card.into_applet(),
             answers: self.answers,
-            fault,
         }
     }
 }

@@ -37,19 +37,27 @@ pub struct Settings {
     pub tries: u8,
     /// Requests of the card that it grants in one command.
     pub extensions: u8,
+    /// The longest response that it takes, in bytes.
+    pub limit: usize,
     ghost inside: { (0 < ifsc) × (ifsc < 255) },
 }
 
 impl Settings {
-    /// Makes settings from an answer to reset.
+    /// Makes settings from EDC and IFSC of an answer to reset, and from the terminal's limits.
     ///
     /// # Errors
     /// - `Crc`: the card uses CRC.
     /// - `Ifsc`: `ifsc` is 0 or 255.
-    pub fn new(edc: Edc, ifsc: u8, tries: u8, extensions: u8) -> Result<Settings, SettingsFault>
+    pub fn new(
+        edc: Edc,
+        ifsc: u8,
+        tries: u8,
+        extensions: u8,
+        limit: usize,
+    ) -> Result<Settings, SettingsFault>
         ensures fault { result_err result ≡ fault_of edc ifsc }
         ensures settings { IfOk result (λ s. (s.ifsc ≡ ifsc) × (s.tries ≡ tries)
-            × (s.extensions ≡ extensions)) }
+            × (s.extensions ≡ extensions) × (s.limit ≡ limit)) }
     {
         if edc == Edc::Crc {
             return Err(SettingsFault::Crc);
@@ -61,6 +69,7 @@ impl Settings {
             ifsc,
             tries,
             extensions,
+            limit,
         })
     }
 }

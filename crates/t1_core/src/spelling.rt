@@ -3,7 +3,7 @@
 ghost use Rattle.std.specs.Prelude.{◌≡◌, ◌≤◌, ◌<◌, ◌++◌, ◌∷◌, [], List, ℕ, length, IfOk, IfSome, Some, None};
 ghost use Rattle.std.specs.Option.{option_map};
 ghost use Rattle.t1_core.specs.BlockView.{said};
-ghost use Rattle.t1_core.specs.BlockBytes.{lrc, spelled, parts_of, block_of, block_in, bytes_of, info_of, control_of, field_of, one_byte, subject_of, Sent, Reads};
+ghost use Rattle.t1_core.specs.BlockBytes.{lrc, spelled, parts_of, block_of, block_in, bytes_of, info_of, control_of, field_of, subject_of, Sent, Reads};
 ghost use Rattle.t1_core.specs.declared.pcb.Pcb.{Pcb};
 ghost use Rattle.t1_core.specs.declared.pcb.Pcb.TheVariants.{Ready, Supervisory};
 ghost use Rattle.t1_core.specs.declared.pcb.Reason.TheVariants.{NoError};
@@ -33,14 +33,12 @@ pub fn write(alloc: Global, block: Block<'_>) -> Result<Vec<u8>, AllocError>
     ensures { IfOk result (λ v. v.items ≡ bytes_of (said block.entry)) }
 {
     match block {
-        Block::Information {
-            number,
-            more,
-            field,
-        } => spell(alloc, Pcb::Information { number, more }, field),
-        Block::Ready { number } => write_ready(alloc, number),
-        Block::Request { control } => write_control(alloc, false, control),
-        Block::Response { control } => write_control(alloc, true, control),
+        Block::Information { number, more, info } => {
+            spell(alloc, Pcb::Information { number, more }, info)
+        }
+        Block::Ready(number) => write_ready(alloc, number),
+        Block::Request(control) => write_control(alloc, false, control),
+        Block::Response(control) => write_control(alloc, true, control),
     }
 }
 
@@ -59,8 +57,8 @@ fn write_control(alloc: Global, response: bool, control: Control) -> Result<Vec<
     let subject = subject_of(control);
     let pcb = Pcb::Supervisory { response, subject };
     match control {
-        Control::Ifs { size } => spell(alloc, pcb, &[size]),
-        Control::Wtx { multiple } => spell(alloc, pcb, &[multiple]),
+        Control::Ifs(size) => spell(alloc, pcb, &[size]),
+        Control::Wtx(multiple) => spell(alloc, pcb, &[multiple]),
         _ => spell(alloc, pcb, &[]),
     }
 }
@@ -70,9 +68,9 @@ fn subject_of(control: Control) -> Subject
 {
     match control {
         Control::Resynch => Subject::Resynch,
-        Control::Ifs { .. } => Subject::Ifs,
+        Control::Ifs(_) => Subject::Ifs,
         Control::Abort => Subject::Abort,
-        Control::Wtx { .. } => Subject::Wtx,
+        Control::Wtx(_) => Subject::Wtx,
     }
 }
 
@@ -146,23 +144,14 @@ fn block_in(pcb: Pcb, info: &[u8]) -> Option<Block<'_>>
     ensures { option_map said result ≡ block_in (Some (pcb, info.now)) }
 {
     match pcb {
-        Pcb::Information { number, more } => Some(Block::Information {
-            number,
-            more,
-            field: info,
-        }),
-        Pcb::Ready { number, .. } => {
-            if info.is_empty() {
-                Some(Block::Ready { number })
-            } else {
-                None
-            }
-        }
+        Pcb::Information { number, more } => Some(Block::Information { number, more, info }),
+        Pcb::Ready { number, .. } if info.is_empty() => Some(Block::Ready(number)),
+        Pcb::Ready { .. } => None,
         Pcb::Supervisory { response, subject } => match control_of(subject, info) {
             Some(control) => Some(if response {
-                Block::Response { control }
+                Block::Response(control)
             } else {
-                Block::Request { control }
+                Block::Request(control)
             }),
             None => None,
         },
@@ -172,34 +161,11 @@ fn block_in(pcb: Pcb, info: &[u8]) -> Option<Block<'_>>
 fn control_of(subject: Subject, info: &[u8]) -> Option<Control>
     ensures { result ≡ control_of subject info.now }
 {
-    match subject {
-        Subject::Resynch => {
-            if info.is_empty() {
-                Some(Control::Resynch)
-            } else {
-                None
-            }
-        }
-        Subject::Ifs => match one_byte(info) {
-            Some(size) => Some(Control::Ifs { size }),
-            None => None,
-        },
-        Subject::Abort => {
-            if info.is_empty() {
-                Some(Control::Abort)
-            } else {
-                None
-            }
-        }
-        Subject::Wtx => match one_byte(info) {
-            Some(multiple) => Some(Control::Wtx { multiple }),
-            None => None,
-        },
+    match (subject, info) {
+        (Subject::Resynch, []) => Some(Control::Resynch),
+        (Subject::Ifs, [size]) => Some(Control::Ifs(*size)),
+        (Subject::Abort, []) => Some(Control::Abort),
+        (Subject::Wtx, [multiple]) => Some(Control::Wtx(*multiple)),
+        _ => None,
     }
-}
-
-fn one_byte(info: &[u8]) -> Option<u8>
-    ensures { result ≡ one_byte info.now }
-{
-    if info.len() == 1 { Some(info[0]) } else { None }
 }

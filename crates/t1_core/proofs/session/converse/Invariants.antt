@@ -13,6 +13,6 @@ invariant-loop-alloc g l =
 -- the exchanges that may still come
 abbrev pub decreases-loop-alloc : goal.decreases-loop-alloc
 decreases-loop-alloc g l =
-    most_exchanges l.fn.settings g.C.Applet.answer (g.C.Applet.ran l.fn.applet)
-    (map (λ v. v.items) l.commands)
+    most_exchanges l.fn.settings (record { does = g.C.Applet.answer; asks = g.C.Applet.asks })
+    (g.C.Applet.ran l.fn.applet) (map (λ v. v.items) l.commands)
     + length (g.L.Line.passed l.fn.line) - length (g.L.Line.passed l.line)

@@ -1,0 +1,474 @@
+-- A fault comes exactly when there is a reason, whatever any peer sends.
+use Rattle.std.proofs.Common.{◌≡◌, refl, sym, ap, subst, ℕ, zero, suc, ◌+◌, ◌≤◌, ◌<◌, Bool, true, false, List, [], ◌∷◌, ◌++◌, length, length-append, nat_lt, Option, Some, None, cond, ◌==◌, arith}
+use Rattle.t1_core.specs.declared.control.Control.{Control}
+use Rattle.t1_core.specs.declared.control.Control.TheVariants.{Resynch, Ifs, Abort, Wtx}
+use Rattle.t1_core.specs.declared.settings.Settings.{Settings}
+use Rattle.t1_core.specs.declared.terminal.Cause.TheVariants.{TriesSpent, ExtensionsSpent, Aborted, TooLong}
+use Rattle.t1_core.specs.declared.terminal.Out.{Out}
+use Rattle.t1_core.specs.declared.terminal.Out.TheVariants.{Own, Asks, Grants}
+use Rattle.t1_core.specs.declared.terminal.Phase.{Phase}
+use Rattle.t1_core.specs.declared.terminal.Phase.TheVariants.{Opening, Sending, Receiving, Aborting, Over, GivenUp}
+use Rattle.t1_core.specs.Block.{Block, I, R, Request, Response, other, same, is_size}
+use Rattle.t1_core.specs.BlockBytes.{block_of}
+use Rattle.t1_core.specs.History.{Event, Begins, Takes, Misses, Resets, happens, Account, nothing, stays, without_step, counted, counts, account, after, accounts, reason, cause_in, IsAccounted}
+use Rattle.t1_core.specs.TerminalSide.{Terminal, fresh, begins, first_phase, spend, takes, gathers, acknowledged, answered, asked, extend, longest}
+use Rattle.t1_core.proofs.Bits.{same_self, same_other_2}
+
+module _ (s : Settings) where
+  -- within the limits
+  abbrev Within : Terminal → Type 0
+  Within t =
+      (t.settings ≡ s) × (t.tries ≤ s.tries) × (t.extensions ≤ s.extensions)
+      × (length t.got ≤ s.limit) × (is_size t.size ≡ true)
+
+  -- while a block is awaited
+  abbrev Active : ℕ → Terminal → Account → Type 0
+  Active aborts t a =
+      (a.fruitless + t.tries ≡ s.tries) × (a.grants + t.extensions ≡ s.extensions)
+      × (a.arrived ≡ length t.got) × (a.aborts ≡ aborts)
+
+  abbrev InPhase : Phase → Terminal → Account → Type 0
+  InPhase Opening t a = Active 0 t a
+  InPhase Sending t a = Active 0 t a
+  InPhase Receiving t a = Active 0 t a
+  InPhase Aborting t a = Active 1 t a
+  InPhase Over t a = reason s a ≡ None
+  InPhase (GivenUp cause) t a = reason s a ≡ Some cause
+
+  record Stands (t : Terminal) (a : Account) : Type 0 where
+    within : Within t
+    in_phase : InPhase t.phase t a
+
+  no_reason : (a : Account) → a.fruitless ≤ s.tries → a.grants ≤ s.extensions → a.arrived ≤ s.limit
+      → a.aborts ≤ 1 → reason s a ≡ None
+  no_reason a f g l b =
+      let e : nat_lt s.tries a.fruitless ≡ false = grind (arith, f) in
+      let d : nat_lt s.extensions a.grants ≡ false = grind (arith, g) in
+      let c : nat_lt s.limit a.arrived ≡ false = grind (arith, l) in
+      let x : nat_lt 1 a.aborts ≡ false = grind (arith, b) in
+      rw (e, d, c, x) refl
+
+  tries_reason : (a : Account) → s.tries < a.fruitless → reason s a ≡ Some TriesSpent
+  tries_reason a f = let e : nat_lt s.tries a.fruitless ≡ true = grind (arith, f) in rw e refl
+
+  extensions_reason : (a : Account) → a.fruitless ≤ s.tries → s.extensions < a.grants
+      → reason s a ≡ Some ExtensionsSpent
+  extensions_reason a f g =
+      let e : nat_lt s.tries a.fruitless ≡ false = grind (arith, f) in
+      let d : nat_lt s.extensions a.grants ≡ true = grind (arith, g) in
+      rw (e, d) refl
+
+  long_reason : (a : Account) → a.fruitless ≤ s.tries → a.grants ≤ s.extensions
+      → s.limit < a.arrived → reason s a ≡ Some TooLong
+  long_reason a f g l =
+      let e : nat_lt s.tries a.fruitless ≡ false = grind (arith, f) in
+      let d : nat_lt s.extensions a.grants ≡ false = grind (arith, g) in
+      let c : nat_lt s.limit a.arrived ≡ true = grind (arith, l) in
+      rw (e, d, c) refl
+
+  abort_reason : (a : Account) → a.fruitless ≤ s.tries → a.grants ≤ s.extensions
+      → a.arrived ≤ s.limit → 1 < a.aborts → reason s a ≡ Some Aborted
+  abort_reason a f g l b =
+      let e : nat_lt s.tries a.fruitless ≡ false = grind (arith, f) in
+      let d : nat_lt s.extensions a.grants ≡ false = grind (arith, g) in
+      let c : nat_lt s.limit a.arrived ≡ false = grind (arith, l) in
+      let x : nat_lt 1 a.aborts ≡ true = grind (arith, b) in
+      rw (e, d, c, x) refl
+
+  -- one reception: whether N(S) and N(R) stay decides what counts
+  abbrev Next : Option Block → (old new : Terminal) → Account → Type 0
+  Next b old new a = (v : Bool) × (stays old new ≡ v) × Stands new (counted v old.phase b a)
+
+  -- no step forward, and what then counts
+  abbrev Stays : (old new : Terminal) → Account → Type 0
+  Stays old new a = (stays old new ≡ true) × Stands new a
+
+  abbrev Waits : Phase → Type 0
+  Waits Opening = Unit {0}
+  Waits Sending = Unit {0}
+  Waits Receiving = Unit {0}
+  Waits _ = ⊥
+
+  waiting : (p : Phase) (t : Terminal) (a : Account) → Waits p → Active 0 t a → InPhase p t a
+  waiting Opening t a w h = h
+  waiting Sending t a w h = h
+  waiting Receiving t a w h = h
+  waiting Aborting t a w h = absurd w
+  waiting Over t a w h = absurd w
+  waiting (GivenUp cause) t a w h = absurd w
+
+  abbrev on : Phase → Terminal → Terminal
+  on p t = record t { phase = p }
+
+  abbrev fruitless : Account → Account
+  fruitless a = record a { fruitless = a.fruitless + 1 }
+
+  all_stay : (number due : Bool) → cond (same number number) (same due due) false ≡ true
+  all_stay number due = rw (same_self number, same_self due) refl
+
+  number_moves : (number due now : Bool)
+      → cond (same number (other number)) (same due now) false ≡ false
+  number_moves number due now = rw (same_other_2 number) refl
+
+  due_moves : (number due : Bool) → cond (same number number) (same due (other due)) false ≡ false
+  due_moves number due = rw (same_self number, same_other_2 due) refl
+
+  spends : (p : Phase) (t : Terminal) (a : Account) (out : Out) (n : ℕ) → t.tries ≡ n → Waits p
+      → Within t → Active 0 t a → Stays (on p t) (spend n (on p t) out) (fruitless a)
+  spends p t a out zero e w within h =
+      let x = h.0 in (
+        all_stay t.number t.due,
+        record { within = within; in_phase = tries_reason (fruitless a) (omega (arith, x, e)) },
+      )
+  spends p t a out (suc n) e w within h =
+      let x = h.0 in let y = within.1 in (
+        all_stay t.number t.due,
+        record {
+          within = (within.0, omega (arith, y, e), within.2, within.3, within.4);
+          in_phase = waiting p (record t { phase = p; tries = n; out = out }) (fruitless a) w
+              (omega (arith, x, e), h.1, h.2, h.3);
+        },
+      )
+
+  spent : (p : Phase) (t : Terminal) (a : Account) (out : Out) → Waits p → Within t
+      → Active 0 t a → Stays (on p t) (spend t.tries (on p t) out) (fruitless a)
+  spent p t a out w within h = spends p t a out t.tries refl w within h
+
+  either : (b : Option Block) (t x y : Terminal) (a : Account) (c : Bool)
+      → Next b t x a → Next b t y a → Next b t (cond c x y) a
+  either b t x y a true p q = p
+  either b t x y a false p q = q
+
+  -- a field of the response
+  field_counts : (t : Terminal) (a : Account) (more : Bool) (f : List ℕ) → Within t → Active 0 t a
+      → (stays t (gathers more t f) ≡ false)
+      × Stands (gathers more t f) (record a { fruitless = 0; arrived = a.arrived + length f })
+  field_counts t a more f within h =
+      Of (nat_lt t.settings.limit (length t.got + length f)) more refl where
+        now : Account
+        now = record a { fruitless = 0; arrived = a.arrived + length f }
+
+        grants_le : a.grants ≤ s.extensions
+        grants_le = let x = h.1 in omega (arith, x)
+
+        fits : nat_lt t.settings.limit (length t.got + length f) ≡ false
+            → length (t.got ++ f) ≤ s.limit
+        fits e =
+            let same = ap (λ x. x.limit) within.0 in
+            let n = length-append t.got f in
+            grind (arith, e, same, n)
+
+        Of : (v more : Bool) → nat_lt t.settings.limit (length t.got + length f) ≡ v
+            → (stays t (gathers more t f) ≡ false) × Stands (gathers more t f) now
+        Of true more e =
+            let same = ap (λ x. x.limit) within.0 in
+            let arrived = h.2 in
+            rw e (
+              due_moves t.number t.due,
+              record {
+                within = within;
+                in_phase = long_reason now (omega arith) grants_le
+                    (grind (arith, e, same, arrived));
+              },
+            )
+        Of false true e =
+            let same = ap (λ x. x.tries) within.0 in
+            let arrived = h.2 in
+            let n = length-append t.got f in
+            let fit = fits e in
+            rw e (
+              due_moves t.number t.due,
+              record {
+                within = (within.0, omega (arith, same), within.2, fit, within.4);
+                in_phase = (omega (arith, same), h.1, omega (arith, arrived, n), h.3);
+              },
+            )
+        Of false false e =
+            let arrived = h.2 in
+            let none = h.3 in
+            let n = length-append t.got f in
+            let fit = fits e in
+            rw e (
+              due_moves t.number t.due,
+              record {
+                within = (within.0, within.1, within.2, fit, within.4);
+                in_phase = no_reason now (omega arith) grants_le (omega (arith, fit, arrived, n))
+                    (omega (arith, none));
+              },
+            )
+
+  -- N(S) is no part of what stands
+  renumbered : (t : Terminal) (a : Account) (number : Bool) → Stands t a
+      → Stands (record t { number = number }) a
+  renumbered t a number h = record { within = h.within; in_phase = again t.phase h.in_phase } where
+    again : (p : Phase) → InPhase p t a → InPhase p (record t { number = number }) a
+    again Opening x = x
+    again Sending x = x
+    again Receiving x = x
+    again Aborting x = x
+    again Over x = x
+    again (GivenUp cause) x = x
+
+  answered_next : (t : Terminal) (a : Account) (n more : Bool) (rest f : List ℕ) → Within t
+      → Active 0 t a
+      → Next (Some (I n more f)) (on Sending t) (answered rest (on Sending t) more f) a
+  answered_next t a n more [] f within h = (
+    false,
+    number_moves t.number t.due _,
+    renumbered (gathers more (on Sending t) f) _ (other t.number)
+        (field_counts (on Sending t) a more f within h).1,
+  )
+  answered_next t a n more (b ∷ bytes) f within h =
+      let x = spent Sending t a Asks tt within h in (true, x.0, x.1)
+
+  acknowledged_next : (t : Terminal) (a : Account) (n : Bool) (rest : List ℕ) → Within t
+      → Active 0 t a → Next (Some (R n)) (on Sending t) (acknowledged rest (on Sending t)) a
+  acknowledged_next t a n [] within h =
+      let x = spent Sending t a Asks tt within h in (true, x.0, x.1)
+  acknowledged_next t a n (b ∷ bytes) within h =
+      let same = ap (λ x. x.tries) within.0 in
+      let arrived = h.2 in (
+        false,
+        number_moves t.number t.due _,
+        record {
+          within = (within.0, omega (arith, same), within.2, within.3, within.4);
+          in_phase = (omega (arith, same), h.1, omega (arith, arrived), h.3);
+        },
+      )
+
+  -- a request of the card
+  extended : (p : Phase) (t : Terminal) (a : Account) (size : ℕ) (control : Control) (n : ℕ)
+      → Waits p → t.extensions ≡ n → is_size size ≡ true → Within t → Active 0 t a
+      → Stays (on p t) (extend n (record t { phase = p; size = size }) control)
+      (record a { grants = a.grants + 1 })
+  extended p t a size control zero w e is within h =
+      let x = h.0 in let y = h.1 in (
+        all_stay t.number t.due,
+        record {
+          within = (within.0, within.1, within.2, within.3, is);
+          in_phase = extensions_reason (record a { grants = a.grants + 1 }) (omega (arith, x))
+              (omega (arith, y, e));
+        },
+      )
+  extended p t a size control (suc n) w e is within h =
+      let y = h.1 in let z = within.2 in (
+        all_stay t.number t.due,
+        record {
+          within = (within.0, within.1, omega (arith, z, e), within.3, is);
+          in_phase = waiting p
+              (record t { phase = p; size = size; extensions = n; out = Grants control })
+              (record a { grants = a.grants + 1 }) w (h.0, omega (arith, y, e), h.2, h.3);
+        },
+      )
+
+  resized : (p : Phase) (t : Terminal) (a : Account) (size : ℕ) (v : Bool) → Waits p
+      → is_size size ≡ v → Within t → Active 0 t a
+      → Stays (on p t)
+      (cond v (extend t.extensions (record t { phase = p; size = size }) (Ifs size))
+      (spend t.tries (on p t) Asks))
+      (cond v (record a { grants = a.grants + 1 }) (fruitless a))
+  resized p t a size true w e within h =
+      extended p t a size (Ifs size) t.extensions w refl e within h
+  resized p t a size false w e within h = spent p t a Asks w within h
+
+  aborting : (p : Phase) (t : Terminal) (a : Account) → Within t → Active 0 t a
+      → Stays (on p t) (on Aborting t) (record a { aborts = a.aborts + 1 })
+  aborting p t a within h =
+      let x = h.3 in (
+        all_stay t.number t.due,
+        record {
+          within = within;
+          in_phase = (h.0, h.1, h.2, omega (arith, x));
+        },
+      )
+
+  asked_stays : (p : Phase) (t : Terminal) (a : Account) (control : Control) → Waits p → Within t
+      → Active 0 t a
+      → Stays (on p t) (asked control (on p t)) (without_step Sending (Some (Request control)) a)
+  asked_stays p t a (Wtx multiple) w within h =
+      extended p t a t.size (Wtx multiple) t.extensions w refl within.4 within h
+  asked_stays p t a (Ifs size) w within h = resized p t a size (is_size size) w refl within h
+  asked_stays p t a Abort w within h = aborting p t a within h
+  asked_stays p t a Resynch w within h = spent p t a Asks w within h
+
+  asked_same : (p : Phase) (control : Control) (a : Account) → Waits p
+      → without_step Sending (Some (Request control)) a
+      ≡ without_step p (Some (Request control)) a
+  asked_same Opening (Wtx multiple) a w = refl
+  asked_same Opening (Ifs size) a w = refl
+  asked_same Opening Abort a w = refl
+  asked_same Opening Resynch a w = refl
+  asked_same Sending control a w = refl
+  asked_same Receiving (Wtx multiple) a w = refl
+  asked_same Receiving (Ifs size) a w = refl
+  asked_same Receiving Abort a w = refl
+  asked_same Receiving Resynch a w = refl
+  asked_same Aborting control a w = absurd w
+  asked_same Over control a w = absurd w
+  asked_same (GivenUp cause) control a w = absurd w
+
+  asked_next : (p : Phase) (t : Terminal) (a : Account) (control : Control) → Waits p → Within t
+      → Active 0 t a → Next (Some (Request control)) (on p t) (asked control (on p t)) a
+  asked_next p t a control w within h =
+      let x = asked_stays p t a control w within h in
+      (true, x.0, subst (Stands (asked control (on p t))) (asked_same p control a w) x.1)
+
+  -- the response to S(IFS request)
+  opened : (t : Terminal) (a : Account) (v : Bool) → Within t → Active 0 t a
+      → Stays (on Opening t) (cond v (record t { phase = Sending; opened = true; out = Own })
+      (spend t.tries (on Opening t) Asks)) (cond v a (fruitless a))
+  opened t a true within h =
+      (all_stay t.number t.due, record { within = within; in_phase = h })
+  opened t a false within h = spent Opening t a Asks tt within h
+
+  opening_next : (t : Terminal) (a : Account) (b : Option Block) → Within t → Active 0 t a
+      → Next b (on Opening t) (takes (on Opening t) b) a
+  opening_next t a (Some (Request control)) within h = asked_next Opening t a control tt within h
+  opening_next t a (Some (Response (Ifs size))) within h =
+      let x = opened t a (size == longest) within h in (true, x.0, x.1)
+  opening_next t a None within h =
+      let x = spent Opening t a Asks tt within h in (true, x.0, x.1)
+  opening_next t a (Some (I n more f)) within h =
+      let x = spent Opening t a Asks tt within h in (true, x.0, x.1)
+  opening_next t a (Some (R n)) within h =
+      let x = spent Opening t a Asks tt within h in (true, x.0, x.1)
+  opening_next t a (Some (Response (Wtx multiple))) within h =
+      let x = spent Opening t a Asks tt within h in (true, x.0, x.1)
+  opening_next t a (Some (Response Abort)) within h =
+      let x = spent Opening t a Asks tt within h in (true, x.0, x.1)
+  opening_next t a (Some (Response Resynch)) within h =
+      let x = spent Opening t a Asks tt within h in (true, x.0, x.1)
+
+  sending_next : (t : Terminal) (a : Account) (b : Option Block) → Within t → Active 0 t a
+      → Next b (on Sending t) (takes (on Sending t) b) a
+  sending_next t a (Some (I n more f)) within h =
+      let x = spent Sending t a Asks tt within h in
+      either _ (on Sending t) _ _ a (same n t.due) (answered_next t a n more t.rest f within h)
+      (true, x.0, x.1)
+  sending_next t a (Some (R n)) within h =
+      let x = spent Sending t a Own tt within h in
+      either _ (on Sending t) _ _ a (same n t.number) (true, x.0, x.1)
+      (acknowledged_next t a n t.rest within h)
+  sending_next t a (Some (Request control)) within h = asked_next Sending t a control tt within h
+  sending_next t a (Some (Response control)) within h =
+      let x = spent Sending t a Asks tt within h in (true, x.0, x.1)
+  sending_next t a None within h =
+      let x = spent Sending t a Asks tt within h in (true, x.0, x.1)
+
+  receiving_next : (t : Terminal) (a : Account) (b : Option Block) → Within t → Active 0 t a
+      → Next b (on Receiving t) (takes (on Receiving t) b) a
+  receiving_next t a (Some (I n more f)) within h =
+      let x = spent Receiving t a Asks tt within h in
+      let y = field_counts (on Receiving t) a more f within h in
+      either _ (on Receiving t) _ _ a (same n t.due) (false, y.0, y.1) (true, x.0, x.1)
+  receiving_next t a (Some (Request control)) within h =
+      asked_next Receiving t a control tt within h
+  receiving_next t a (Some (R n)) within h =
+      let x = spent Receiving t a Asks tt within h in (true, x.0, x.1)
+  receiving_next t a (Some (Response control)) within h =
+      let x = spent Receiving t a Asks tt within h in (true, x.0, x.1)
+  receiving_next t a None within h =
+      let x = spent Receiving t a Asks tt within h in (true, x.0, x.1)
+
+  aborted_next : (t : Terminal) (a : Account) (b : Option Block) → Within t → Active 1 t a
+      → Next b (on Aborting t) (on (GivenUp Aborted) t) a
+  aborted_next t a b within h =
+      let x = h.0 in let y = h.1 in let n = h.2 in let z = h.3 in let m = within.3 in (
+        true,
+        all_stay t.number t.due,
+        record {
+          within = within;
+          in_phase = abort_reason (record a { aborts = a.aborts + 1 }) (omega (arith, x))
+              (omega (arith, y)) (omega (arith, n, m)) (omega (arith, z));
+        },
+      )
+
+  by_next : (b : Option Block) (old new : Terminal) (a : Account) → Next b old new a
+      → Stands new (counted (stays old new) old.phase b a)
+  by_next b old new a n = subst (λ v. Stands new (counted v old.phase b a)) (sym n.1) n.2
+
+  reception : (p : Phase) (t : Terminal) (a : Account) (b : Option Block) → Stands (on p t) a
+      → Stands (takes (on p t) b) (counts (on p t) b a)
+  reception Opening t a b h =
+      by_next b (on Opening t) _ a (opening_next t a b h.within h.in_phase)
+  reception Sending t a b h =
+      by_next b (on Sending t) _ a (sending_next t a b h.within h.in_phase)
+  reception Receiving t a b h =
+      by_next b (on Receiving t) _ a (receiving_next t a b h.within h.in_phase)
+  reception Aborting t a b h =
+      by_next b (on Aborting t) _ a (aborted_next t a b h.within h.in_phase)
+  reception Over t a b h = h
+  reception (GivenUp cause) t a b h = h
+
+  is_ifsc : (n : ℕ) → 0 < n → n < 255 → is_size n ≡ true
+  is_ifsc n some few =
+      let zero_not : (n == 0) ≡ false = grind (arith, some) in
+      let full_not : (n == 255) ≡ false = grind (arith, few) in
+      rw (zero_not, full_not) refl
+
+  begun : (t : Terminal) (command : List ℕ) → Within t → Stands (begins command t) nothing
+  begun t command h =
+      let tries = ap (λ x. x.tries) h.0 in
+      let extensions = ap (λ x. x.extensions) h.0 in record {
+        within = (h.0, omega (arith, tries), omega (arith, extensions), omega arith, h.4);
+        in_phase = of_first t.opened
+            (omega (arith, tries), omega (arith, extensions), refl, refl);
+      } where
+        of_first : (v : Bool) → Active 0 (begins command t) nothing
+            → InPhase (first_phase v) (begins command t) nothing
+        of_first true x = x
+        of_first false x = x
+
+  reset : Stands (fresh s) nothing
+  reset = record {
+    within = (refl, omega arith, omega arith, omega arith, is_ifsc s.ifsc s.inside.0 s.inside.1);
+    in_phase = no_reason nothing (omega arith) (omega arith) (omega arith) (omega arith);
+  }
+
+  event : (e : Event) (p : Phase) (t : Terminal) (a : Account) → Stands (on p t) a
+      → Stands (happens e (on p t)) (account e (on p t) a)
+  event (Begins command) Over t a h = begun (on Over t) command h.within
+  event (Begins command) Opening t a h = h
+  event (Begins command) Sending t a h = h
+  event (Begins command) Receiving t a h = h
+  event (Begins command) Aborting t a h = h
+  event (Begins command) (GivenUp cause) t a h = h
+  event (Takes bytes) p t a h = reception p t a (block_of bytes) h
+  event Misses p t a h = reception p t a None h
+  event Resets p t a h = subst (λ x. Stands (fresh x) nothing) (sym h.within.0) reset
+
+  all_stand : (events : List Event) (t : Terminal) (a : Account) → Stands t a
+      → Stands (after t events) (accounts t a events)
+  all_stand [] t a h = h
+  all_stand (e ∷ es) t a h =
+      all_stand es (happens e t) (account e t a) (event e t.phase t a h)
+
+  none : (aborts : ℕ) (t : Terminal) (a : Account) → Within t → Active aborts t a → aborts ≤ 1
+      → None ≡ reason s a
+  none aborts t a w h le =
+      let x = h.0 in let y = h.1 in let n = h.2 in let z = h.3 in let m = w.3 in
+      sym (no_reason a (omega (arith, x)) (omega (arith, y)) (omega (arith, n, m))
+      (omega (arith, z, le)))
+
+  cause_is : (p : Phase) (t : Terminal) (a : Account) → Within t → InPhase p t a
+      → cause_in p ≡ reason s a
+  cause_is (GivenUp cause) t a w h = sym h
+  cause_is Over t a w h = sym h
+  cause_is Opening t a w h = none 0 t a w h (omega arith)
+  cause_is Sending t a w h = none 0 t a w h (omega arith)
+  cause_is Receiving t a w h = none 0 t a w h (omega arith)
+  cause_is Aborting t a w h = none 1 t a w h (omega arith)
+
+pub each_fault_has_its_reason : (settings : Settings) (events : List Event)
+    → IsAccounted settings (after (fresh settings) events)
+    (accounts (fresh settings) nothing events)
+each_fault_has_its_reason settings events =
+    let h = all_stand settings events (fresh settings) nothing (reset settings) in
+    let w = h.within in record {
+      fault = cause_is settings _ _ _ w h.in_phase;
+      settings_stay = w.0;
+      tries = w.1;
+      extensions = w.2;
+      gathered = w.3;
+      size = w.4;
+    }

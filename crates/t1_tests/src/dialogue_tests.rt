@@ -1,0 +1,185 @@
+//! Both ends with worked dialogues, and over a line of blocks.
+
+use super::echo::Echo;
+use std::alloc::{AllocGlobal, Global};
+use std::process::Abort;
+use t1_core::spelling::write;
+use t1_core::{
+    CardEnd, Cause, Edc, Fate, Fates, Fault, Line, Outcome, Settings, SettingsFault, TerminalEnd,
+    converse,
+};
+
+/// S(IFS request) with 254, and the response.
+const OPEN: &[u8] = b"\x00\xC1\x01\xFE\x3E";
+
+const OPENED: &[u8] = b"\x00\xE1\x01\xFE\x1E";
+
+/// R(0), and R(1).
+const R0: &[u8] = b"\x00\x80\x00\x80";
+
+const R1: &[u8] = b"\x00\x90\x00\x90";
+
+/// S(WTX request) with 2, and the response.
+const WAIT: &[u8] = b"\x00\xC3\x01\x02\xC0";
+
+const WAITS: &[u8] = b"\x00\xE3\x01\x02\xE0";
+
+/// No block comes.
+const NONE: &[u8] = b"";
+
+/// IFSC 3, and a limit of 4 bytes.
+fn settings(rt: &impl Abort, tries: u8, extensions: u8) -> Settings {
+    Settings::new(Edc::Lrc, 3, tries, extensions, 4).expect(rt, "settings")
+}
+
+/// The terminal sends this block.
+fn sends(rt: &impl Abort, alloc: Global, end: &TerminalEnd<'_>, bytes: &[u8]) {
+    let block = end.next().expect(rt, "a block");
+    let sent = write(alloc, block).expect(rt, "memory");
+    assert!(rt; sent.as_slice() == bytes, "{sent:?}");
+}
+
+/// The terminal sends the first block of each row, and takes the second.
+fn goes(rt: &(impl Abort + AllocGlobal), end: &mut TerminalEnd<'_>, rows: &[[&[u8]; 2]]) {
+    for [sent, taken] in rows {
+        sends(rt, rt.alloc(), end, sent);
+        if taken.is_empty() {
+            end.timed_out();
+        } else {
+            end.take_bytes(taken).expect(rt, "memory");
+        }
+    }
+}
+
+#[test]
+fn a_terminal_in_a_chain(rt: HostRuntime) {
+    let mut end = TerminalEnd::new(rt.alloc(), settings(&rt, 2, 1));
+    assert!(&rt; end.begin(b"\x00\xB0\x00\x00\x02").is_ok());
+    goes(
+        &rt,
+        &mut end,
+        &[
+            [OPEN, OPENED],
+            [b"\x00\x20\x03\x00\xB0\x00\x93", NONE],
+            [R0, R0],
+            [b"\x00\x20\x03\x00\xB0\x00\x93", R1],
+            [b"\x00\x40\x02\x00\x02\x40", WAIT],
+            [WAITS, b"\x00\x20\x02\x41\x42\x21"],
+            [R1, b"\x00\x40\x02\x90\x00\xD2"],
+        ],
+    );
+    assert!(&rt; end.is_ready() && end.response() == b"\x41\x42\x90\x00".as_slice());
+}
+
+/// These blocks lead to this fault, and a reset leads out of it.
+fn fails(rt: &(impl Abort + AllocGlobal), rows: &[[&[u8]; 2]], cause: Cause, outcome: Outcome) {
+    let mut end = TerminalEnd::new(rt.alloc(), settings(rt, 2, 1));
+    assert!(rt; end.begin(b"\xB0").is_ok());
+    goes(rt, &mut end, rows);
+    assert!(rt; end.fault() == Some(Fault { cause, outcome }));
+    assert!(rt; end.next().is_none() && end.begin(b"\xB0").is_err());
+    end.reset();
+    assert!(rt; end.begin(b"\xB0").is_ok() && end.fault().is_none());
+}
+
+#[test]
+fn each_fault(rt: HostRuntime) {
+    let command = b"\x00\x00\x01\xB0\xB1".as_slice();
+    let spent = [[OPEN, OPENED], [command, NONE], [R0, NONE], [R0, NONE]];
+    fails(&rt, &spent, Cause::TriesSpent, Outcome::Unknown);
+    // The second block has a wrong LRC.
+    let closed = [[OPEN, NONE], [OPEN, b"\x00\x80\x00\x81"], [OPEN, NONE]];
+    fails(&rt, &closed, Cause::TriesSpent, Outcome::NotCarriedOut);
+    let waits = [[OPEN, OPENED], [command, WAIT], [WAITS, WAIT]];
+    fails(&rt, &waits, Cause::ExtensionsSpent, Outcome::Unknown);
+    let aborted = [
+        [OPEN, OPENED],
+        [command, b"\x00\xC2\x00\xC2"],
+        [b"\x00\xE2\x00\xE2", NONE],
+    ];
+    fails(&rt, &aborted, Cause::Aborted, Outcome::Unknown);
+    let long = [
+        [OPEN, OPENED],
+        [command, b"\x00\x20\x03\x41\x42\x43\x63"],
+        [R1, b"\x00\x40\x02\x90\x00\xD2"],
+    ];
+    fails(&rt, &long, Cause::TooLong, Outcome::InPart);
+}
+
+#[test]
+fn a_card_answers(rt: HostRuntime) {
+    let mut end = CardEnd::new(rt.alloc(), Echo::new(rt.alloc()));
+    let waits = b"\x00\xC3\x01\x03\xC1".as_slice();
+    for [sent, answer] in &[
+        [OPEN, OPENED],
+        [b"\x00\x20\x01\x41\x60", R1],
+        [b"\x00\x40\x01\x42\x03", waits],
+        [b"\x00\xE3\x01\x03\xE1", waits],
+        [b"\x00\xE3\x01\x03\xE1", b"\x00\x00\x02\x41\x42\x01"],
+        // It repeats its block, and carries out no command whose N(S) is old.
+        [R0, b"\x00\x00\x02\x41\x42\x01"],
+        [b"\x00\x40\x01\x42\x03", R0],
+        [b"\x00\xC2\x00\xC2", b"\x00\xE2\x00\xE2"],
+        [R0, R0],
+        [b"\x00\xC0\x00\xC0", b"\x00\xE0\x00\xE0"],
+    ] {
+        let reply = end.take_bytes(sent).expect(&rt, "memory");
+        let bytes = write(rt.alloc(), end.block(reply)).expect(&rt, "memory");
+        assert!(&rt; bytes.as_slice() == *answer, "{sent:?}");
+    }
+    assert!(&rt; end.into_applet().ran.len() == 1);
+}
+
+/// Of each four blocks of the terminal one is lost, and the answer to the next one is damaged.
+#[derive(Drop)]
+struct Lossy<'r, R: Abort> {
+    rt: &'r R,
+    passed: Vec<Fates>,
+}
+
+impl<'r, R: Abort> Line for Lossy<'r, R> {
+    ghost passed = { λ e. e.passed.items };
+
+    fn next(&mut self) -> Fates {
+        let (down, up) = match self.passed.len() % 4 {
+            1 => (Fate::Loses, Fate::Delivers),
+            2 => (Fate::Delivers, Fate::Damages),
+            _ => (Fate::Delivers, Fate::Delivers),
+        };
+        let fates = Fates { down, up };
+        self.passed.push(fates).expect(self.rt, "memory");
+        fates
+    }
+}
+
+#[test]
+fn a_dialogue_over_a_line(rt: HostRuntime) {
+    let alloc = rt.alloc();
+    let mut commands: Vec<Vec<u8>> = Vec::new(alloc);
+    for command in [b"\x01\x02\x03\x04".as_slice(), b"\x05"] {
+        commands
+            .push(command.to_vec(alloc).expect(&rt, "memory"))
+            .expect(&rt, "memory");
+    }
+    let mut line = Lossy {
+        rt: &rt,
+        passed: Vec::new(alloc),
+    };
+    let settings = settings(&rt, 16, 32);
+    let ended = converse(alloc, Echo::new(alloc), &mut line, settings, &commands).expect(
+        &rt, "memory",
+    );
+    assert!(&rt; ended.fault.is_none() && ended.answers == commands);
+    assert!(&rt; ended.applet.ran == commands);
+}
+
+#[test]
+fn settings_are_refused(rt: HostRuntime) {
+    for (edc, ifsc, fault) in [
+        (Edc::Crc, 32, SettingsFault::Crc),
+        (Edc::Lrc, 0, SettingsFault::Ifsc),
+        (Edc::Lrc, 255, SettingsFault::Ifsc),
+    ] {
+        assert!(&rt; Settings::new(edc, ifsc, 4, 16, 258) == Err(fault));
+    }
+}

@@ -1,0 +1,62 @@
+//! A card that sends back each command, and keeps what it carried out.
+
+ghost use Rattle.std.specs.Prelude.{◌≡◌, map};
+ghost use Rattle.t1_tests.specs.Echo.{last_of, size_at, requests_at, requests_after};
+
+use std::alloc::{AllocError, Global};
+use t1_core::{Applet, Requests};
+
+/// A card that sends back each command.
+#[derive(Drop)]
+pub struct Echo {
+    alloc: Global,
+    /// What it carried out, the newest last.
+    pub ran: Vec<Vec<u8>>,
+}
+
+impl Echo {
+    pub fn new(alloc: Global) -> Echo {
+        Echo {
+            alloc,
+            ran: Vec::new(alloc),
+        }
+    }
+}
+
+impl Applet for Echo {
+    ghost ran = { λ e. map (λ v. v.items) e.ran.items };
+
+    ghost answer = { last_of };
+
+    ghost asks = { requests_after };
+
+    fn carry_out(
+        &mut self,
+        command: &[u8],
+        response: &mut Vec<u8>,
+    ) -> Result<Requests, AllocError> {
+        response.clear();
+        response.extend_from_slice(command)?;
+        let mut kept = Vec::new(self.alloc);
+        kept.extend_from_slice(command)?;
+        self.ran.push(kept)?;
+        Ok(requests_at(self.ran.len()))
+    }
+}
+
+/// Every second command waits twice, every third one announces 20 as IFSC.
+fn requests_at(count: usize) -> Requests
+    ensures { result ≡ requests_at count }
+{
+    Requests {
+        extensions: (count % 2 * 2) as u8,
+        multiple: 3,
+        size: size_at(count),
+    }
+}
+
+fn size_at(count: usize) -> Option<u8>
+    ensures { result ≡ size_at count }
+{
+    if count % 3 == 0 { Some(20) } else { None }
+}

@@ -1,12 +1,14 @@
 -- Rows that the definitions give, worked by hand from the standard's tables, and near misses.
 use Rattle.std.proofs.Common.{◌≡◌, ℕ, List, [], ◌∷◌, ◌++◌, replicate, Option, Some, None, Ok, Err, true, false, refl}
 use Rattle.atr_core.specs.Answer.{Answer, characters}
+use Rattle.atr_core.specs.BlockValues.{ifsc, edc_code, edc_of, block_waiting_integer, character_waiting_integer, character_waiting_time, block_waiting_time}
 use Rattle.atr_core.specs.Conventions.{as_sent, convention_shown}
 use Rattle.atr_core.specs.FirstFault.{first_fault, fault}
 use Rattle.atr_core.specs.HistoricalBytes.{category_of, status_of}
 use Rattle.atr_core.specs.PpsBytes.{pps_characters, pps_fault, agreed}
 use Rattle.atr_core.specs.Values.{protocols_of, fi_of, di_of, guard_time, waiting_integer, waiting_time, mode_of, clock_stop_of, classes_of, supply_code}
 use Rattle.atr_core.specs.declared.convention.Convention.TheVariants.{Direct, Inverse}
+use Rattle.atr_core.specs.declared.edc.Edc.TheVariants.{Lrc, Crc}
 use Rattle.atr_core.specs.declared.fault.Reason.TheVariants.{NoTs, Cut, TooLong, OutOfOrder, Surplus, CheckMissing, CheckNotDue, CheckWrong}
 use Rattle.atr_core.specs.declared.historical.Category.TheVariants as category
 use Rattle.atr_core.specs.declared.pps.Pps.{Pps}
@@ -221,6 +223,112 @@ wi_0 = refl
 
 waits_by_no_fi : waiting_time (answer (of (Some 0x75) None None) [] []) ≡ Err (record {})
 waits_by_no_fi = refl
+
+-- T=1 (clause 11): EMV's TA3 FE and TB3 45, so 11 + 32 etu and 16 * 960 * 372 cycles
+abbrev of_t1 : Option ℕ → Option ℕ → Option ℕ → Answer
+of_t1 ta tb tc = answer absent (behind 1 absent ∷ behind 1 (of ta tb tc) ∷ []) []
+
+emv_ifsc : ifsc (of_t1 (Some 0xFE) (Some 0x45) None) ≡ Ok 254
+emv_ifsc = refl
+
+emv_cwt : character_waiting_time (of_t1 (Some 0xFE) (Some 0x45) None) ≡ 43
+emv_cwt = refl
+
+emv_bwt : block_waiting_time (of_t1 (Some 0xFE) (Some 0x45) None) 1
+    ≡ Ok (record { etu = 11; cycles = 5713920 })
+emv_bwt = refl
+
+-- by default IFSC 32, BWI 4, CWI 13, LRC
+abbrev plain_t1 : Answer
+plain_t1 = of_t1 None None None
+
+default_ifsc : ifsc plain_t1 ≡ Ok 32
+default_ifsc = refl
+
+default_cwt : character_waiting_time plain_t1 ≡ 8203
+default_cwt = refl
+
+default_bwt : block_waiting_time plain_t1 1 ≡ Ok (record { etu = 11; cycles = 5713920 })
+default_bwt = refl
+
+default_edc : edc_of (edc_code plain_t1) ≡ Ok Lrc
+default_edc = refl
+
+-- TA2, TB2 and TC2 are none of T=1, where TD1 names it, nor is TA3 where TD2 names T=15
+abbrev second_of_t1 : Answer
+second_of_t1 = answer absent (behind 1 (of (Some 0x81) (Some 0x91) (Some 1)) ∷ []) []
+
+no_ifsc_in_ta2 : ifsc second_of_t1 ≡ Ok 32
+no_ifsc_in_ta2 = refl
+
+no_cwi_in_tb2 : character_waiting_integer second_of_t1 ≡ 13
+no_cwi_in_tb2 = refl
+
+no_edc_in_tc2 : edc_of (edc_code second_of_t1) ≡ Ok Lrc
+no_edc_in_tc2 = refl
+
+no_ifsc_behind_t15 : ifsc (answer absent
+    (behind 1 absent ∷ behind 15 (of (Some 0xC7) None None) ∷ []) []) ≡ Ok 32
+no_ifsc_behind_t15 = refl
+
+-- behind T=0 in TD1; of two groups each character is the first one
+ifsc_behind_t0 : ifsc (answer absent
+    (behind 0 absent ∷ behind 1 (of (Some 0x40) None None) ∷ []) []) ≡ Ok 64
+ifsc_behind_t0 = refl
+
+abbrev two_of_t1 : Answer
+two_of_t1 = answer absent (behind 1 absent ∷ behind 1 (of None (Some 0x92) None)
+    ∷ behind 1 (of (Some 0x50) (Some 0x45) (Some 1)) ∷ behind 1 (of (Some 0x60) None None) ∷ []) []
+
+first_ta : ifsc two_of_t1 ≡ Ok 80
+first_ta = refl
+
+first_tb : block_waiting_integer two_of_t1 ≡ Ok 9
+first_tb = refl
+
+first_tc : edc_of (edc_code two_of_t1) ≡ Ok Crc
+first_tc = refl
+
+-- 00 and FF are reserved for IFSC, 10 to 15 for BWI, and what is above 1 for the code
+ifsc_00 : ifsc (of_t1 (Some 0) None None) ≡ Err (record {})
+ifsc_00 = refl
+
+ifsc_01 : ifsc (of_t1 (Some 1) None None) ≡ Ok 1
+ifsc_01 = refl
+
+ifsc_FF : ifsc (of_t1 (Some 0xFF) None None) ≡ Err (record {})
+ifsc_FF = refl
+
+bwi_A : block_waiting_integer (of_t1 None (Some 0xA0) None) ≡ Err (record {})
+bwi_A = refl
+
+bwt_A : block_waiting_time (of_t1 None (Some 0xA0) None) 1 ≡ Err (record {})
+bwt_A = refl
+
+cwt_A0 : character_waiting_time (of_t1 None (Some 0xA0) None) ≡ 12
+cwt_A0 = refl
+
+edc_02 : edc_of 2 ≡ Err (record {})
+edc_02 = refl
+
+edc_80 : edc_of 0x80 ≡ Err (record {})
+edc_80 = refl
+
+-- the longest times, and S(WTX)
+cwt_9F : character_waiting_time (of_t1 None (Some 0x9F) None) ≡ 32779
+cwt_9F = refl
+
+bwt_9F : block_waiting_time (of_t1 None (Some 0x9F) None) 1
+    ≡ Ok (record { etu = 11; cycles = 182845440 })
+bwt_9F = refl
+
+bwt_extended : block_waiting_time (of_t1 None (Some 0x00) None) 255
+    ≡ Ok (record { etu = 2805; cycles = 91065600 })
+bwt_extended = refl
+
+bwt_by_0 : block_waiting_time (of_t1 None (Some 0x00) None) 0
+    ≡ Ok (record { etu = 11; cycles = 357120 })
+bwt_by_0 = refl
 
 -- TA2
 negotiable : mode_of None ≡ Negotiable

@@ -1,4 +1,5 @@
 pub mod Answer
+pub mod BlockValues
 pub mod Conventions
 pub mod FirstFault
 pub mod FaultText

@@ -2,7 +2,10 @@
 use Rattle.std.specs.Prelude.{ℕ, List, ◌++◌, ◌==◌, codes, decimal, if◌then◌else◌}
 use Rattle.atr_core.specs.declared.convention.Convention.{Convention}
 use Rattle.atr_core.specs.declared.convention.Convention.TheVariants.{Direct, Inverse}
+use Rattle.atr_core.specs.declared.edc.Edc.{Edc}
+use Rattle.atr_core.specs.declared.edc.Edc.TheVariants.{Lrc, Crc}
 use Rattle.atr_core.specs.declared.rate.Fi.{Fi}
+use Rattle.atr_core.specs.declared.timing.BlockWaitingTime.{BlockWaitingTime}
 use Rattle.atr_core.specs.declared.timing.GuardTime.{GuardTime}
 
 abbrev pub convention_text : Convention → List ℕ
@@ -19,3 +22,12 @@ guard_time_text time =
     if time.indicated == 0 then decimal time.etu ++ codes " etu"
     else decimal time.etu
     ++ (codes " etu and " ++ (decimal time.indicated ++ codes " Fi/Di cycles"))
+
+abbrev pub edc_text : Edc → List ℕ
+edc_text Lrc = codes "LRC"
+edc_text Crc = codes "CRC"
+
+-- so many etu, and so many clock cycles
+abbrev pub block_waiting_text : BlockWaitingTime → List ℕ
+block_waiting_text time = decimal time.etu ++ (codes " etu and " ++ (decimal time.cycles
+    ++ codes " cycles"))

@@ -2,9 +2,11 @@
 #![tactic(auto)]
 
 mod answer;
+mod blocks;
 mod build_fault;
 mod characters;
 mod convention;
+mod edc;
 mod fault;
 mod group;
 mod historical;
@@ -18,8 +20,10 @@ mod timing;
 mod written;
 
 pub use answer::Atr;
+pub use blocks::block_guard_time;
 pub use build_fault::BuildFault;
 pub use convention::Convention;
+pub use edc::Edc;
 pub use fault::{AtrFault, Reason};
 pub use group::{Group, TypedGroup};
 pub use historical::{CardStatus, Category};
@@ -27,4 +31,4 @@ pub use mode::Mode;
 pub use pps::{Pps, PpsFault, agreed};
 pub use rate::{Fi, Rfu, di};
 pub use supply::{Classes, ClockStop};
-pub use timing::GuardTime;
+pub use timing::{BlockWaitingTime, GuardTime};

@@ -11,6 +11,15 @@ pub struct GuardTime {
     pub indicated: u16,
 }
 
+/// The most from the last character of a block to the card to the first of its answer, BWT
+/// (ISO/IEC 7816-3, clause 11): `etu` elementary time units as they are in use, and so many clock
+/// cycles. Neither is rounded.
+#[derive(Clone, Copy, Debug, PartialEq, Eq)]
+pub struct BlockWaitingTime {
+    pub etu: u16,
+    pub cycles: u64,
+}
+
 impl fmt::Display for GuardTime {
     ghost use Rattle.std.specs.Prelude.{Some};
     ghost use Rattle.atr_core.specs.ValueTexts.{guard_time_text};
@@ -23,5 +32,16 @@ impl fmt::Display for GuardTime {
         } else {
             write!(f, "{} etu and {} Fi/Di cycles", self.etu, self.indicated)
         }
+    }
+}
+
+impl fmt::Display for BlockWaitingTime {
+    ghost use Rattle.std.specs.Prelude.{Some};
+    ghost use Rattle.atr_core.specs.ValueTexts.{block_waiting_text};
+
+    ghost output = { λ time. Some (block_waiting_text time) };
+
+    fn fmt<W: fmt::Write>(&self, f: &mut fmt::Formatter<W>) -> fmt::Result {
+        write!(f, "{} etu and {} cycles", self.etu, self.cycles)
     }
 }

@@ -1,6 +1,6 @@
 //! What is said of one answer.
 
-use atr_core::{Atr, Classes, ClockStop, Group, Mode};
+use atr_core::{Atr, Classes, ClockStop, Group, Mode, block_guard_time};
 use std::alloc::Global;
 use std::io;
 use std::io::Write;
@@ -82,8 +82,30 @@ fn say_values<W: Write>(answer: &Atr, output: &mut W) -> io::Result<()> {
         Ok(cycles) => writeln!(output, "  waiting time  {cycles} cycles")?,
         Err(rfu) => writeln!(output, "  waiting time  {rfu}")?,
     }
+    if answer.protocols().iter().any(|t| *t == 1) {
+        say_blocks(answer, output)?;
+    }
     say_mode(answer.mode(), output)?;
     say_supply(answer, output)
+}
+
+/// What the interface bytes say of T=1.
+fn say_blocks<W: Write>(answer: &Atr, output: &mut W) -> io::Result<()> {
+    match answer.ifsc() {
+        Ok(size) => writeln!(output, "  IFSC          {size}")?,
+        Err(rfu) => writeln!(output, "  IFSC          {rfu}")?,
+    }
+    match answer.edc() {
+        Ok(edc) => writeln!(output, "  EDC           {edc}")?,
+        Err(rfu) => writeln!(output, "  EDC           {rfu}")?,
+    }
+    let wait = answer.character_waiting_time();
+    writeln!(output, "  CWT           {wait} etu")?;
+    match answer.block_waiting_time(1) {
+        Ok(time) => writeln!(output, "  BWT           {time}")?,
+        Err(rfu) => writeln!(output, "  BWT           {rfu}")?,
+    }
+    writeln!(output, "  BGT           {} etu", block_guard_time())
 }
 
 fn say_mode<W: Write>(mode: Mode, output: &mut W) -> io::Result<()> {

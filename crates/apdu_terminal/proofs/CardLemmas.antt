@@ -1,30 +1,52 @@
 -- A whole command at a card's end: its bytes as a TPDU, and one TPDU more.
-use Rattle.std.proofs.Common.{◌≡◌, ℕ, ◌+◌, ◌*◌, ◌%◌, ◌<◌, ◌≤◌, List, [], ◌∷◌, ◌++◌, length, take, refl, sym, subst, ◌∙◌, ap, arith, inl, inr, ◌⊎◌, true, false, Bool, Option, Some, None, Ok, Result, length-append, append-nil, if◌then◌else◌}
-use Rattle.std.specs.Prelude.{unwrap_or}
+use Rattle.std.proofs.Common.{◌≡◌, ℕ, ◌+◌, ◌*◌, ◌%◌, ◌<◌, ◌≤◌, List, [], ◌∷◌, ◌++◌, length, take, refl, sym, subst, ◌∙◌, ap, arith, inl, inr, ◌⊎◌, true, false, Bool, Option, Some, None, Ok, Err, Result, length-append, append-nil, if◌then◌else◌}
+use Rattle.std.specs.Prelude.{unwrap_or, MatchResult, IfErr, OnOk, IsOk, nat_lt, nat_le}
 use Rattle.std.proofs.Math.Seq.{take-append_seam}
-use Rattle.std.proofs.lemmas.Bool.{eq-eqb, true≢false}
+use Rattle.std.proofs.lemmas.Bool.{eq-eqb, true≢false, le-ltb, le-leb}
 use Rattle.apdu_core.specs.declared.header.Header.{Header}
 use Rattle.apdu_core.specs.HeaderBytes.{header_bytes}
-use Rattle.apdu_core.specs.StatusWord.{StatusWord}
+use Rattle.apdu_core.specs.StatusWord.{StatusWord, count}
 use Rattle.apdu_core.specs.CommandBytes.{Command, HasSizes, command_bytes, lc_field, le_field}
 use Rattle.t0_core.specs.declared.tpdu_card.TpduCard.{Ghosts}
 use Rattle.t0_core.specs.declared.tpdu_fault.TpduFault.{TpduFault}
+use Rattle.t0_core.specs.declared.tpdu_fault.TpduFault.TheVariants as tpdu
+use Rattle.t0_core.specs.declared.answer_fault.AnswerFault.{AnswerFault}
+use Rattle.t0_core.specs.declared.answer_fault.AnswerFault.TheVariants.{NotDue, Stalled, TooLong}
+use Rattle.t0_core.specs.declared.direction.Direction.{Direction}
+use Rattle.t0_core.specs.declared.direction.Direction.TheVariants.{ToCard, FromCard}
+use Rattle.t0_core.specs.HostAnswer.{fails_with}
+use Rattle.t0_core.specs.Dialogue.{Body, foreseen, to_move}
+use Rattle.t0_core.specs.Front.{from_card}
+use Rattle.t0_core.specs.FrontLaws.{all_moves-within}
 use Rattle.t0_core.specs.Meaning.{Tpdu, tpdu_of, received}
-use Rattle.t0_core.specs.Plan.{Cursor, plan_kept}
+use Rattle.t0_core.specs.Plan.{Course, Cursor, advanced, plan_kept}
 use Rattle.t0_core.specs.Room.{Room}
-use Rattle.t0_core.specs.CardSide.{EndOf}
-use Rattle.t0_core.specs.TpduBytes.{asked_for, asked_with, asked_in}
-use Rattle.t0_core.specs.CardTpdu.{rests, CarriesOut, HasGone}
+use Rattle.t0_core.specs.CardSide.{EndOf, PermitsData}
+use Rattle.t0_core.specs.TpduBytes.{Asked, asked_for, asked_with, asked_in}
+use Rattle.t0_core.specs.CardTpdu.{rests, CarriesOut, HasGone, Answers, Fails, IsStuck, IsCause}
+use Rattle.object_card.specs.Agreed.{IsAgreed}
 use Rattle.card_terminal.specs.declared.wanted.Wanted.{Wanted}
 use Rattle.card_terminal.specs.declared.wanted.Wanted.TheVariants.{Bytes}
+use Rattle.card_terminal.specs.ExchangeSide.{response_limit}
+use Rattle.card_terminal.specs.Gathered.{wanted_by}
+use Rattle.object_card.specs.State.{CardState, IsCardState}
+use Rattle.object_card.specs.CardMeaning as meaning
+use Rattle.object_card.specs.DataCard.{StandsFor}
 use Rattle.card_terminal.specs.declared.attempt.Attempt.{Attempt}
 use Rattle.card_terminal.specs.declared.attempt.Next.TheVariants as next
 use Rattle.card_terminal.specs.Attempts.{following, most_begun, one_more}
+use Rattle.apdu_terminal.specs.declared.stage.Stage.{Stage}
 use Rattle.apdu_terminal.specs.declared.stage.Stage.TheVariants.{Going, Done, Failed}
-use Rattle.apdu_terminal.specs.Apdus.{Pair, may_bring, Brings}
-use Rattle.apdu_terminal.specs.ApduSide.{ApduExchangeOf, IsSound, ComesTo, to_place, to_end, to_stall, to_fault, command_of, due_of, is_going, to_go, response_fault, answered_by}
-use Rattle.apdu_terminal.specs.CardApdu.{p3_of, tpdu_command, IsTpduOf, GoesBy, HasCome, Responds, RespondsToAll, HasHad}
+use Rattle.apdu_terminal.specs.declared.apdu_fault.ApduFault.{ApduFault}
+use Rattle.apdu_terminal.specs.declared.apdu_fault.ApduFault.TheVariants as why
+use Rattle.apdu_terminal.specs.Apdus.{Pair, first_place, may_bring, GoesThrough, all_content, Brings, StallsAt}
+use Rattle.apdu_terminal.specs.ApduSide.{ApduExchangeOf, IsSound, ComesTo, to_place, to_end, to_stall, to_fault, place_of, command_of, excess, due_of, is_going, to_go, has_failed, response_fault, answered_by}
+use Rattle.apdu_terminal.specs.CardApdu.{p3_of, tpdu_command, le_of, IsTpduOf, GoesBy, HasCome, HasFailed, Responds, RespondsToAll, HasHad}
 use Rattle.apdu_terminal.proofs.LedLemmas.{IsTaken, is_taken, asked_number, asks_with, more_room}
+use Rattle.apdu_terminal.proofs.PlaceLemmas.{through, Fits, fits_first, fits_on, never_too_long, GoesAlone, alone_first, alone_on, Agrees, agrees_on, agrees_as_tpdu, agrees_first, total_within}
+use Rattle.apdu_terminal.proofs.StallLemmas.{never_stalls, never_overflows, card_never_stalls}
+use Rattle.apdu_terminal.proofs.TalkLemmas.{own_responds, own_goes}
+use Rattle.apdu_terminal.specs.ApduTalk.{HasBrought}
 use Rattle.apdu_terminal.proofs.RestLemmas.{count_told}
 
 -- ---- the number that falls
@@ -96,63 +118,159 @@ asked_at h (b ∷ bs) None sizes which =
 asked_at h (b ∷ bs) (Some n) sizes (inl none) = absurd (cc)
 asked_at h (b ∷ bs) (Some n) sizes (inr none) = absurd (cc)
 
--- A command that is carried out as a TPDU is one of the card's meaning.
-carried : {C : Type 0} (card : Ghosts C) (c : Command) (bytes : List ℕ) (old new : EndOf C)
-    (plans : Cursor) (room room' : Room) (status : StatusWord)
-    (result : Result StatusWord TpduFault)
+-- A command that is carried out as a TPDU, where none is in progress.
+gone_as : {C : Type 0} (card : Ghosts C) (c : Command) (bytes : List ℕ) (old new : EndOf C)
+    (before plans : Cursor) (room room' : Room) (result : Result StatusWord TpduFault)
     → HasSizes c.content c.le → (c.content ≡ []) ⊎ (c.le ≡ None) → bytes ≡ command_bytes c
-    → rests old.stage ≡ true → room.bytes ≡ [] → result ≡ Ok status
-    → CarriesOut card bytes old (record { rest = []; kept = None }) room result new plans room'
-    → (t : Tpdu) × IsTpduOf (record { command = c; content = room'.bytes; status = status }) t
-    × card.Does (card.standing old.card) 256 t (card.standing new.card)
-carried card c bytes old new plans room room' status result sizes which are at_rest empty is
+    → before ≡ record { rest = []; kept = None } → rests old.stage ≡ true
+    → CarriesOut card bytes old before room result new plans room'
+    → HasGone card (asked_for c.header (p3_of c.content c.le) c.content (may_bring c.le)) old
+    (record { rest = []; kept = None }) room result new plans room'
+gone_as card c bytes old new before plans room room' result sizes which are none at_rest
     (inl (going, refused, e, p, r)) = absurd (true≢false (sym at_rest ∙ going))
-carried card c bytes old new plans room room' status result sizes which are at_rest empty is
-    (inr (inl (resting, none, refused, e, p, r))) =
+gone_as card c bytes old new before plans room room' result sizes which are none at_rest
+    (inr (inl (resting, unasked, refused, e, p, r))) =
     let asked : None ≡ Some (asked_for c.header (p3_of c.content c.le) c.content (may_bring c.le)) =
-    sym none ∙ ap asked_in are ∙ asked_at c.header c.content c.le sizes which in
+    sym unasked ∙ ap asked_in are ∙ asked_at c.header c.content c.le sizes which in
     absurd (cc)
-carried {C} card c bytes old new plans room room' status result sizes which are at_rest empty is
+gone_as card c bytes old new before plans room room' result sizes which are none at_rest
     (inr (inr (resting, asked, asks, gone))) =
     let here = asked_for c.header (p3_of c.content c.le) c.content (may_bring c.le) in
     let both : Some asked ≡ Some here =
     sym asks ∙ ap asked_in are ∙ asked_at c.header c.content c.le sizes which in
     let same : asked ≡ here = cc in
-    by (subst (λ r. HasGone card here old (record { rest = []; kept = None }) room r new plans
-    room') is
-    (subst (λ x. HasGone card x old (record { rest = []; kept = None }) room result new plans
-    room') same gone))
+    subst (λ k. HasGone card here old k room result new plans room') none
+    (subst (λ x. HasGone card x old before room result new plans room') same gone)
+
+-- the card's own meaning, if it is answered; else it is reset, and the command was not agreed
+abbrev pub TpduGoes : {C : Type 0} (card : Ghosts C) → Command → EndOf C
+    → Result StatusWord TpduFault → EndOf C → List ℕ → Type 0
+TpduGoes card c old result new content = MatchResult result
+    (λ status. ((t : Tpdu)
+    × IsTpduOf (record { command = c; content = content; status = status }) t
+    × card.Does (card.standing old.card) 256 t (card.standing new.card))
+    × (length content ≤ may_bring c.le))
+    (λ fault. (card.standing new.card ≡ card.after_reset (card.standing old.card))
+    × (IsAgreed card.MayReceive card.MaySend c → ⊥))
+
+pub may_be_few : (content : List ℕ) (le : Option ℕ) → HasSizes content le → may_bring le ≤ 256
+may_be_few content None sizes = omega arith
+may_be_few content (Some n) sizes = sizes.le_in_range.1
+
+-- data to the card are all given, where they are agreed
+given_all : (R S : ℕ → Type 0) (c : Command) (b : Body) → IsAgreed R S c
+    → b.p3 ≡ p3_of c.content c.le → b.direction ≡ ToCard
+    → PermitsData R S c.header.ins b.direction → length b.moved < to_move b
+    → length c.content ≤ length b.moved → ⊥
+given_all R S c b agreed p3 to may due past =
+    by c.content c.le agreed p3 past
+    (subst (λ d. to_move b ≤ foreseen d b.p3) to
+    (all_moves-within b.segments (foreseen b.direction b.p3)))
   where
-    by : HasGone card (asked_for c.header (p3_of c.content c.le) c.content (may_bring c.le)) old
-        (record { rest = []; kept = None }) room (Ok status) new plans room'
-        → (t : Tpdu) × IsTpduOf (record { command = c; content = room'.bytes; status = status }) t
-        × card.Does (card.standing old.card) 256 t (card.standing new.card)
-    by (advances, limit, stage, (d, is, leads)) =
-        let cut : (plan_kept plans).cut ≡ 256 = ap (λ x. (plan_kept x).cut) advances in (
-          tpdu_of d,
-          record {
-            header_is = is.is_of.0;
-            p3_is = is.is_of.1;
-            all_or_none = is.all_or_none;
-            received_is = sym (is.gathers ∙ ap (λ bs. bs ++ received d) empty);
-            status_is = is.status_is;
-          },
-          subst (λ n. card.Does (card.standing old.card) n (tpdu_of d) (card.standing new.card)) cut
-              is.does,
+    by : (content : List ℕ) (le : Option ℕ)
+        → IsAgreed R S (record { header = c.header; content = content; le = le })
+        → b.p3 ≡ p3_of content le → length content ≤ length b.moved → to_move b ≤ b.p3 → ⊥
+    by [] None agreed p3 past most = omega (arith, due, most, p3)
+    by [] (Some n) agreed p3 past most =
+        let P : Direction → Type 0 = λ d. PermitsData R S c.header.ins d in
+        agreed.0 (subst P to may)
+    by (x ∷ xs) le agreed p3 past most = omega (arith, due, most, p3, past)
+
+-- those from the card all may come
+all_may_come : (R S : ℕ → Type 0) (c : Command) (b : Body) → HasSizes c.content c.le
+    → IsAgreed R S c → b.p3 ≡ p3_of c.content c.le → b.direction ≡ FromCard
+    → PermitsData R S c.header.ins b.direction → length b.moved < to_move b
+    → may_bring c.le ≤ length b.moved → ⊥
+all_may_come R S c b sizes agreed p3 from may due past =
+    by c.content c.le sizes agreed p3 past
+    (subst (λ d. to_move b ≤ foreseen d b.p3) from
+    (all_moves-within b.segments (foreseen b.direction b.p3)))
+  where
+    sends : S c.header.ins
+    sends = let P : Direction → Type 0 = λ d. PermitsData R S c.header.ins d in subst P from may
+
+    by : (content : List ℕ) (le : Option ℕ) → HasSizes content le
+        → IsAgreed R S (record { header = c.header; content = content; le = le })
+        → b.p3 ≡ p3_of content le → may_bring le ≤ length b.moved → to_move b ≤ count b.p3 → ⊥
+    by [] None sizes agreed p3 past most = agreed sends
+    by [] (Some n) sizes agreed p3 past most =
+        omega (
+          arith,
+          due,
+          most,
+          ap count p3,
+          count_told n sizes.le_in_range.0 sizes.le_in_range.1,
+          past,
         )
+    by (x ∷ xs) None sizes agreed p3 past most = agreed sends
+    by (x ∷ xs) (Some n) sizes agreed p3 past most = agreed.0 sends
+
+-- where it is agreed, the card does not get stuck in it
+no_cause : {C : Type 0} (card : Ghosts C) (first : card.State) (plan : Course) (c : Command)
+    (room : Room) (b : Body) (e : EndOf C) (fault : TpduFault) → HasSizes c.content c.le
+    → 256 ≤ room.limit
+    → IsStuck card first plan
+    (asked_for c.header (p3_of c.content c.le) c.content (may_bring c.le)) [] room b e
+    → IsCause (asked_for c.header (p3_of c.content c.le) c.content (may_bring c.le)) room b fault
+    → IsAgreed card.MayReceive card.MaySend c → ⊥
+no_cause card first plan c room b e tpdu.UnderWay sizes large stuck cause agreed = cause
+no_cause card first plan c room b e tpdu.NoTpdu sizes large stuck cause agreed = cause
+no_cause card first plan c room b e tpdu.WantsData sizes large stuck cause agreed =
+    given_all card.MayReceive card.MaySend c b agreed stuck.is_of.1 cause.0 stuck.permitted
+    stuck.due cause.1
+no_cause card first plan c room b e tpdu.SendsData sizes large stuck cause agreed =
+    all_may_come card.MayReceive card.MaySend c b sizes agreed stuck.is_of.1 cause.0
+    stuck.permitted stuck.due cause.1
+no_cause card first plan c room b e tpdu.TooLong sizes large stuck cause agreed =
+    let came : length room.bytes ≡ length b.moved =
+    ap length stuck.gathers ∙ ap (λ d. length (from_card d b.moved)) cause.0 in
+    omega (arith, came, cause.1, cause.2, large, may_be_few c.content c.le sizes)
 
 pub tpdu_goes : {C : Type 0} (card : Ghosts C) (c : Command) (bytes : List ℕ) (old new : EndOf C)
-    (before plans : Cursor) (room room' : Room) (status : StatusWord)
-    (result : Result StatusWord TpduFault)
+    (before plans : Cursor) (room room' : Room) (result : Result StatusWord TpduFault)
     → HasSizes c.content c.le → (c.content ≡ []) ⊎ (c.le ≡ None) → bytes ≡ command_bytes c
     → before ≡ record { rest = []; kept = None } → rests old.stage ≡ true → room.bytes ≡ []
-    → result ≡ Ok status → CarriesOut card bytes old before room result new plans room'
-    → (t : Tpdu) × IsTpduOf (record { command = c; content = room'.bytes; status = status }) t
-    × card.Does (card.standing old.card) 256 t (card.standing new.card)
-tpdu_goes card c bytes old new before plans room room' status result sizes which are none at_rest
-    empty is out =
-    carried card c bytes old new plans room room' status result sizes which are at_rest empty is
-    (subst (λ x. CarriesOut card bytes old x room result new plans room') none out)
+    → 256 ≤ room.limit → CarriesOut card bytes old before room result new plans room'
+    → (rests new.stage ≡ true) × (room'.limit ≡ room.limit)
+    × TpduGoes card c old result new room'.bytes
+tpdu_goes {C} card c bytes old new before plans room room' result sizes which are none at_rest empty
+    large out =
+    let (advances, limit, stage, over) = gone_as card c bytes old new before plans room room' result
+    sizes which are none at_rest out in
+    (ap rests stage, limit, by advances limit result over)
+  where
+    here : Asked
+    here = asked_for c.header (p3_of c.content c.le) c.content (may_bring c.le)
+
+    by : plans ≡ advanced (record { rest = []; kept = None }) → room'.limit ≡ room.limit
+        → (r : Result StatusWord TpduFault) → MatchResult r
+        (λ status. Answers card here (plan_kept plans) old room status new room')
+        (λ fault. Fails card here (plan_kept plans) old room fault new room')
+        → TpduGoes card c old r new room'.bytes
+    by advances limit (Ok status) (d, is, leads) =
+        let cut : (plan_kept plans).cut ≡ 256 = ap (λ x. (plan_kept x).cut) advances in
+        let gathers : room'.bytes ≡ received d = is.gathers ∙ ap (λ bs. bs ++ received d) empty in (
+          (
+            tpdu_of d,
+            record {
+              header_is = is.is_of.0;
+              p3_is = is.is_of.1;
+              all_or_none = is.all_or_none;
+              received_is = sym gathers;
+              status_is = is.status_is;
+            },
+            subst (λ n. card.Does (card.standing old.card) n (tpdu_of d) (card.standing new.card))
+                cut is.does,
+          ),
+          omega (arith, ap length gathers, is.fits),
+        )
+    by advances limit (Err fault) (b, stuck, is, cause, reset, leads) = (
+      reset,
+      no_cause card (card.standing old.card) (plan_kept plans) c room' b stuck fault sizes
+          (omega (arith, large, limit))
+          (subst (λ bs. IsStuck card (card.standing old.card) (plan_kept plans) here bs room' b
+          stuck) empty is) cause,
+    )
 
 pub taken_of : (n : ℕ) (bytes rest : List ℕ) → n ≡ length bytes → take n (bytes ++ rest) ≡ bytes
 taken_of n bytes rest is = ap (λ k. take k (bytes ++ rest)) is ∙ take-append_seam bytes rest
@@ -176,24 +294,156 @@ due_when false c due e = absurd (cc)
 pub is_due : (ex : ApduExchangeOf) (due : Command) → due_of ex ≡ Some due → command_of ex ≡ due
 is_due ex due e = (due_when (is_going ex.stage) (command_of ex) due e).1
 
-pub one_came : {State : Type 0} (Does : State → ℕ → Tpdu → State → Type 0) (c : Command)
-    (wanted : Wanted) (first mid last : State) (old new : ApduExchangeOf) (content came : List ℕ)
-    (status : StatusWord) (due : Command) → due_of old ≡ Some due → content ≡ came
-    → (t : Tpdu) × IsTpduOf (record { command = due; content = came; status = status }) t
+none_due : (ex : ApduExchangeOf) (due : Command) (s : Stage) → ex.stage ≡ s → is_going s ≡ false
+    → due_of ex ≡ Some due → ⊥
+none_due ex due s is over due_is =
+    let going = (due_when (is_going ex.stage) (command_of ex) due due_is).0 in
+    true≢false (sym going ∙ ap is_going is ∙ over)
+
+-- where a command is due, its pairs have led to its place
+pub at_place : (c : Command) (wanted : Wanted) (pairs : List Pair) (ex : ApduExchangeOf)
+    (due : Command) → due_of ex ≡ Some due → ComesTo c wanted pairs ex
+    → GoesThrough (first_place c wanted) pairs (place_of ex)
+    × (ex.gather.bytes ≡ all_content pairs) × (command_of ex ≡ due)
+at_place c wanted pairs ex due is (to_place going goes bytes left number) =
+    (goes, bytes, is_due ex due is)
+at_place c wanted pairs ex due is (to_end status done brings number) =
+    absurd (none_due ex due (Done status) done refl is)
+at_place c wanted pairs ex due is (to_stall failed stalls) =
+    absurd (none_due ex due Failed failed refl is)
+at_place c wanted pairs ex due is (to_fault failed long) =
+    absurd (none_due ex due Failed failed refl is)
+
+-- it goes as a TPDU
+pub goes_alone : {State : Type 0} (Does : State → ℕ → Tpdu → State → Type 0) (c : Command)
+    (first now : State) (ex : ApduExchangeOf) (due : Command) → due_of ex ≡ Some due
+    → HasCome Does c first now ex → (due.content ≡ []) ⊎ (due.le ≡ None)
+goes_alone Does c first now ex due is (pairs, comes, goes) =
+    let (way, bytes, same) = at_place (tpdu_command c) (le_of c) pairs ex due is comes in
+    let P : Command → Type 0 = λ x. (x.content ≡ []) ⊎ (x.le ≡ None) in
+    subst P same (through GoesAlone alone_on (first_place (tpdu_command c) (le_of c))
+    (place_of ex) 0 pairs (alone_first c) way)
+
+-- the TPDU of the command that is due
+abbrev pub WasTpdu : {State : Type 0} → (State → ℕ → Tpdu → State → Type 0) → State → Command
+    → List ℕ → StatusWord → State → Type 0
+WasTpdu Does mid due content status last = (t : Tpdu)
+    × IsTpduOf (record { command = due; content = content; status = status }) t
     × Does mid 256 t last
-    → ((pairs : List Pair) → ComesTo c wanted pairs old
-    → ComesTo c wanted (pairs ++ answered_by old content status ∷ []) new)
-    → HasCome Does c wanted first mid old → HasCome Does c wanted first last new
-one_came Does c wanted first mid last old new content came status due is same (t, is_t, does) led
-    (pairs, comes, goes) =
+
+gone_further : {State : Type 0} (Does : State → ℕ → Tpdu → State → Type 0)
+    (first mid last : State) (pairs : List Pair) (old : ApduExchangeOf) (content came : List ℕ)
+    (status : StatusWord) (due : Command) → due_of old ≡ Some due → content ≡ came
+    → WasTpdu Does mid due came status last → GoesBy Does first pairs mid
+    → GoesBy Does first (pairs ++ answered_by old content status ∷ []) last
+gone_further Does first mid last pairs old content came status due is same (t, is_t, does) goes =
     let Q : List ℕ → Type 0 =
     λ x. IsTpduOf (record { command = due; content = x; status = status }) t in
     let P : Command → Type 0 =
-    λ x. IsTpduOf (record { command = x; content = content; status = status }) t in (
+    λ x. IsTpduOf (record { command = x; content = content; status = status }) t in
+    goes_by_last Does first mid last pairs (answered_by old content status) t goes
+    (subst P (sym (is_due old due is)) (subst Q (sym same) is_t)) does
+
+-- the command is answered, or the exchange goes on
+pub one_came : {State : Type 0} (Does : State → ℕ → Tpdu → State → Type 0) (c : Command)
+    (first mid last : State) (old new : ApduExchangeOf) (content came : List ℕ)
+    (status : StatusWord) (due : Command) → due_of old ≡ Some due → content ≡ came
+    → WasTpdu Does mid due came status last
+    → ((pairs : List Pair) → ComesTo (tpdu_command c) (le_of c) pairs old
+    → ComesTo (tpdu_command c) (le_of c) (pairs ++ answered_by old content status ∷ []) new)
+    → HasCome Does c first mid old → HasCome Does c first last new
+one_came Does c first mid last old new content came status due is same tpdu led
+    (pairs, comes, goes) = (
       pairs ++ answered_by old content status ∷ [],
       led pairs comes,
-      goes_by_last Does first mid last pairs (answered_by old content status) t goes
-          (subst P (sym (is_due old due is)) (subst Q (sym same) is_t)) does,
+      gone_further Does first mid last pairs old content came status due is same tpdu goes,
+    )
+
+-- or the card is reset
+pub one_failed : {C : Type 0} (card : Ghosts C) (c : Command) (first mid last : card.State)
+    (ex : ApduExchangeOf) (fault : TpduFault) (due : Command) → due_of ex ≡ Some due
+    → last ≡ card.after_reset mid → (IsAgreed card.MayReceive card.MaySend due → ⊥)
+    → HasCome card.Does c first mid ex → HasFailed card c first (why.Tpdu fault) last
+one_failed card c first mid last ex fault due is reset refused (pairs, comes, goes) =
+    let (way, bytes, same) = at_place (tpdu_command c) (le_of c) pairs ex due is comes in (
+      (λ agreed.
+          let a = through (Agrees card.MayReceive card.MaySend)
+          (agrees_on card.MayReceive card.MaySend) (first_place (tpdu_command c) (le_of c))
+          (place_of ex) 0 pairs (agrees_as_tpdu card.MayReceive card.MaySend c agreed) way in
+          refused (subst (λ x. IsAgreed card.MayReceive card.MaySend x) same a.agreed)),
+      (pairs, place_of ex, mid, way, goes, reset),
+    )
+
+-- a response that was asked for, and has room, is no fault
+no_fault : (ex : ApduExchangeOf) (came : ℕ) (due : Command) → due_of ex ≡ Some due
+    → came ≤ may_bring due.le → length ex.gather.bytes + came ≤ ex.gather.limit
+    → response_fault ex came ≡ None
+no_fault ex came due is few room =
+    let (going, same) = due_when (is_going ex.stage) (command_of ex) due is in
+    let le : may_bring ex.le ≡ may_bring due.le = ap (λ (c : Command). may_bring c.le) same in
+    rw (
+      going,
+      le-ltb (may_bring ex.le) came (omega (arith, le, few)),
+      le-leb (length ex.gather.bytes + came) ex.gather.limit room,
+    ) refl
+
+pub fits_room : {State : Type 0} (Does : State → ℕ → Tpdu → State → Type 0) (c : Command)
+    (first now : State) (ex : ApduExchangeOf) (came : ℕ) (due : Command)
+    → due_of ex ≡ Some due → came ≤ may_bring due.le → may_bring c.le ≤ ex.gather.limit
+    → HasCome Does c first now ex → response_fault ex came ≡ None
+fits_room Does c first now ex came due is few room (pairs, comes, goes) =
+    let (way, bytes, same) = at_place (tpdu_command c) (le_of c) pairs ex due is comes in
+    let f = through (Fits (may_bring c.le)) (fits_on (may_bring c.le))
+    (first_place (tpdu_command c) (le_of c)) (place_of ex) 0 pairs (fits_first c) way in
+    no_fault ex came due is few (omega (
+      arith,
+      ap length bytes,
+      f.within,
+      f.asks,
+      few,
+      ap (λ (x : Command). may_bring x.le) same,
+      room,
+    ))
+
+stalled_so : (c : Command) (pairs : List Pair) (ex : ApduExchangeOf)
+    → may_bring c.le ≤ ex.gather.limit → ex.stage ≡ Failed
+    → ComesTo (tpdu_command c) (le_of c) pairs ex → StallsAt (tpdu_command c) (le_of c) pairs
+stalled_so c pairs ex room failed (to_place going goes bytes left number) =
+    let no : Failed ≡ Going = sym failed ∙ going in absurd (cc)
+stalled_so c pairs ex room failed (to_end status done brings number) =
+    let no : Failed ≡ Done status = sym failed ∙ done in absurd (cc)
+stalled_so c pairs ex room failed (to_stall is stalls) = stalls
+stalled_so c pairs ex room failed (to_fault is long) =
+    absurd (never_too_long c pairs ex.gather.limit room long)
+
+-- or the exchange has stalled
+pub one_stalled : {C : Type 0} (card : Ghosts C) (c : Command) (first mid last : card.State)
+    (old new : ApduExchangeOf) (content came : List ℕ) (status : StatusWord) (due : Command)
+    (f : AnswerFault) → due_of old ≡ Some due → content ≡ came
+    → WasTpdu card.Does mid due came status last → length came ≤ may_bring due.le
+    → may_bring c.le ≤ old.gather.limit → new.gather.limit ≡ old.gather.limit
+    → (response_fault old (length content) ≡ Some f)
+    ⊎ ((f ≡ Stalled) × (response_fault old (length content) ≡ None))
+    → (fails_with f ≡ true → new.stage ≡ Failed)
+    → ((pairs : List Pair) → ComesTo (tpdu_command c) (le_of c) pairs old → fails_with f ≡ true
+    → ComesTo (tpdu_command c) (le_of c) (pairs ++ answered_by old content status ∷ []) new)
+    → HasCome card.Does c first mid old → HasFailed card c first (why.Response f) last
+one_stalled card c first mid last old new content came status due f is same tpdu few room limit
+    (inl fault) failed led has =
+    let none = fits_room card.Does c first mid old (length content) due is
+    (omega (arith, few, ap length same)) room has in
+    let no : None ≡ Some f = sym none ∙ fault in absurd (cc)
+one_stalled card c first mid last old new content came status due f is same tpdu few room limit
+    (inr (stalled, none)) failed led (pairs, comes, goes) =
+    let fails : fails_with f ≡ true = ap fails_with stalled in
+    let pairs_then = pairs ++ answered_by old content status ∷ [] in (
+      stalled,
+      (
+        pairs_then,
+        stalled_so c pairs_then new (omega (arith, room, limit)) (failed fails)
+            (led pairs comes fails),
+        gone_further card.Does first mid last pairs old content came status due is same tpdu goes,
+      ),
     )
 
 -- ---- the whole command
@@ -213,27 +463,31 @@ done_brings c wanted pairs ex status done (to_fault failed long) =
     let no : Done status ≡ Failed = sym done ∙ failed in absurd (cc)
 
 pub finished : {State : Type 0} (Does : State → ℕ → Tpdu → State → Type 0) (c : Command)
-    (wanted : Wanted) (old new : State) (ex : ApduExchangeOf)
-    → HasCome Does c wanted old new ex → (status : StatusWord) × (ex.stage ≡ Done status)
+    (old new : State) (ex : ApduExchangeOf) → HasCome Does c old new ex
     → (status : StatusWord) × (ex.stage ≡ Done status)
-    × ((pairs : List Pair) × Brings c wanted pairs ex.gather.bytes status
-    × GoesBy Does old pairs new)
-finished Does c wanted old new ex (pairs, comes, goes) (status, done) =
-    (status, done, (pairs, done_brings c wanted pairs ex status done comes, goes))
+    → (status : StatusWord) × (ex.stage ≡ Done status)
+    × Responds Does old (record { command = c; content = ex.gather.bytes; status = status }) new
+finished Does c old new ex (pairs, comes, goes) (status, done) = (
+  status,
+  done,
+  (pairs, done_brings (tpdu_command c) (le_of c) pairs ex status done comes, goes),
+)
 
 unwrapped : (le : Option ℕ) → unwrap_or le 0 ≡ may_bring le
 unwrapped None = refl
 unwrapped (Some n) = refl
 
-pub begins_so : (c first : Command) (wanted : Wanted) (le : Option ℕ) (most : ℕ)
-    (ex : ApduExchangeOf)
+pub begins_so : {State : Type 0} (Does : State → ℕ → Tpdu → State → Type 0) (at : State)
+    (c first : Command) (wanted : Wanted) (le : Option ℕ) (most : ℕ) (ex : ApduExchangeOf)
     → first ≡ tpdu_command c → le ≡ c.le → most ≡ unwrap_or le 0 → wanted ≡ Bytes most
-    → ComesTo first wanted [] ex
-    → ComesTo (tpdu_command c) (Bytes (may_bring c.le)) [] ex
-begins_so c first wanted le most ex is le_is most_is wanted_is led =
-    let w : wanted ≡ Bytes (may_bring c.le) =
-    wanted_is ∙ ap Bytes (most_is ∙ ap (λ x. unwrap_or x 0) le_is ∙ unwrapped c.le) in
-    subst (λ x. ComesTo (tpdu_command c) x [] ex) w (subst (λ x. ComesTo x wanted [] ex) is led)
+    → ComesTo first wanted [] ex → HasCome Does c at at ex
+begins_so Does at c first wanted le most ex is le_is most_is wanted_is led =
+    let w : wanted ≡ le_of c =
+    wanted_is ∙ ap Bytes (most_is ∙ ap (λ x. unwrap_or x 0) le_is ∙ unwrapped c.le) in (
+      [],
+      subst (λ x. ComesTo (tpdu_command c) x [] ex) w (subst (λ x. ComesTo x wanted [] ex) is led),
+      refl,
+    )
 
 -- ---- whole commands in turn
 
@@ -246,38 +500,216 @@ responds_last {State} Does first mid last [] p goes responds =
 responds_last Does first mid last (q ∷ pairs) p (next, is, rest) responds =
     (next, is, responds_last Does next mid last pairs p rest responds)
 
-pub one_had : {State : Type 0} (Does : State → ℕ → Tpdu → State → Type 0) (c : Command)
+answered_last : {State : Type 0} (Own : State → ℕ → Tpdu → State → Type 0)
+    (first mid last : State) (pairs : List Pair) (old done : ApduExchangeOf) (content : List ℕ)
+    (told : StatusWord) (due : Command) → due_of old ≡ Some due
+    → (status : StatusWord) × (done.stage ≡ Done status)
+    × Responds Own mid
+    (record { command = due; content = done.gather.bytes; status = status }) last
+    → done.stage ≡ Done told → content ≡ done.gather.bytes → RespondsToAll Own first pairs mid
+    → RespondsToAll Own first (pairs ++ answered_by old content told ∷ []) last
+answered_last Own first mid last pairs old done content told due is (status, over, responds) ended
+    bytes_are goes =
+    let both : Done told ≡ Done status = sym ended ∙ over in
+    let one : told ≡ status = cc in
+    let P : Command → Type 0 = λ x. Responds Own mid
+    (record { command = x; content = content; status = told }) last in
+    let Q : List ℕ → Type 0 = λ x. Responds Own mid
+    (record { command = due; content = x; status = told }) last in
+    let R : StatusWord → Type 0 = λ x. Responds Own mid
+    (record { command = due; content = done.gather.bytes; status = x }) last in
+    responds_last Own first mid last pairs (answered_by old content told) goes
+    (subst P (sym (is_due old due is)) (subst Q (sym bytes_are) (subst R (sym one) responds)))
+
+pub one_had : {State : Type 0} (Own : State → ℕ → Tpdu → State → Type 0) (c : Command)
     (wanted : Wanted) (first mid last : State) (old new done : ApduExchangeOf) (content : List ℕ)
     (told : StatusWord) (due : Command) → due_of old ≡ Some due
     → (status : StatusWord) × (done.stage ≡ Done status)
-    × Responds Does mid
+    × Responds Own mid
     (record { command = due; content = done.gather.bytes; status = status }) last
     → done.stage ≡ Done told → content ≡ done.gather.bytes
     → ((pairs : List Pair) → ComesTo c wanted pairs old
     → ComesTo c wanted (pairs ++ answered_by old content told ∷ []) new)
-    → HasHad Does c wanted first mid old → HasHad Does c wanted first last new
-one_had Does c wanted first mid last old new done content told due is (status, over, responds)
-    ended bytes_are led (pairs, comes, goes) =
-    let both : Done told ≡ Done status = sym ended ∙ over in
-    let one : told ≡ status = cc in
-    let P : Command → Type 0 = λ x. Responds Does mid
-    (record { command = x; content = content; status = told }) last in
-    let Q : List ℕ → Type 0 = λ x. Responds Does mid
-    (record { command = due; content = x; status = told }) last in
-    let R : StatusWord → Type 0 = λ x. Responds Does mid
-    (record { command = due; content = done.gather.bytes; status = x }) last in (
+    → HasHad Own c wanted first mid old → HasHad Own c wanted first last new
+one_had Own c wanted first mid last old new done content told due is answer ended bytes_are led
+    (pairs, comes, goes) = (
       pairs ++ answered_by old content told ∷ [],
       led pairs comes,
-      responds_last Does first mid last pairs (answered_by old content told) goes
-          (subst P (sym (is_due old due is)) (subst Q (sym bytes_are)
-          (subst R (sym one) responds))),
+      answered_last Own first mid last pairs old done content told due is answer ended bytes_are
+          goes,
     )
 
-pub had : {State : Type 0} (Does : State → ℕ → Tpdu → State → Type 0) (c : Command)
-    (wanted : Wanted) (old new : State) (ex : ApduExchangeOf)
-    → HasHad Does c wanted old new ex → (status : StatusWord) × (ex.stage ≡ Done status)
-    → (status : StatusWord) × (ex.stage ≡ Done status)
-    × ((pairs : List Pair) × Brings c wanted pairs ex.gather.bytes status
-    × RespondsToAll Does old pairs new)
-had Does c wanted old new ex (pairs, comes, goes) (status, done) =
-    (status, done, (pairs, done_brings c wanted pairs ex status done comes, goes))
+-- ---- an exchange with a card of data objects
+
+-- it carries out each command that is agreed with it
+pub never_left : {C A : Type 0} (card : Ghosts C) (state_of : card.State → CardState) (c : Command)
+    (old new : card.State) (r : Result A ApduFault)
+    → StandsFor card.Does card.after_reset state_of → IsAgreed card.MayReceive card.MaySend c
+    → IfErr r (λ f. HasFailed card c old f new) → ((x : A) → r ≡ Ok x → ⊥) → ⊥
+never_left card state_of c old new (Ok x) means agreed failed never = never x refl
+never_left card state_of c old new (Err why.UnderWay) means agreed failed never = failed
+never_left card state_of c old new (Err why.OutOfMemory) means agreed failed never = failed
+never_left card state_of c old new (Err (why.Tpdu fault)) means agreed failed never =
+    failed.0 agreed
+never_left card state_of c old new (Err (why.Response fault)) means agreed failed never =
+    let (stalled, (pairs, stalls, goes)) = failed in
+    card_never_stalls (tpdu_command c) (le_of c) pairs (state_of old) (state_of new) stalls
+    (own_goes card.Does card.after_reset state_of old new pairs means goes)
+
+-- what is known of the command that is due
+pub due_agreed : {State : Type 0} (R S : ℕ → Type 0) (Own : State → ℕ → Tpdu → State → Type 0)
+    (c : Command) (first now : State) (ex : ApduExchangeOf) (due : Command)
+    → due_of ex ≡ Some due → IsAgreed R S c → HasHad Own c (wanted_by c.le) first now ex
+    → IsAgreed R S due
+due_agreed R S Own c first now ex due is agreed (pairs, comes, goes) =
+    let (way, bytes, same) = at_place c (wanted_by c.le) pairs ex due is comes in
+    let a = through (Agrees R S) (agrees_on R S) (first_place c (wanted_by c.le)) (place_of ex) 0
+    pairs (agrees_first R S c agreed) way in
+    subst (λ x. IsAgreed R S x) same a.agreed
+
+-- the card responds with no more than Le asks for
+responds_within : {State : Type 0} (Own : State → ℕ → Tpdu → State → Type 0) (old new : State)
+    (p : Pair) → Responds Own old p new → length p.content ≤ may_bring p.command.le
+responds_within Own old new p (pairs, b, goes) =
+    omega (
+      arith,
+      ap length b.gathered_is,
+      ap (λ ps. length (all_content ps)) b.pairs_are,
+      total_within p.command b.before b.last b.at b.through b.suits,
+    )
+
+fault_fails : (ex : ApduExchangeOf) (came : ℕ) (due : Command) (f : AnswerFault)
+    → due_of ex ≡ Some due → came ≤ may_bring due.le → response_fault ex came ≡ Some f
+    → fails_with f ≡ true
+fault_fails ex came due f is few fault =
+    let (going, same) = due_when (is_going ex.stage) (command_of ex) due is in
+    let le : may_bring ex.le ≡ may_bring due.le = ap (λ (c : Command). may_bring c.le) same in
+    by (nat_le (length ex.gather.bytes + came) ex.gather.limit)
+    (subst (λ v. (if v then (if nat_lt (may_bring ex.le) came then Some (excess ex.le)
+    else (if nat_le (length ex.gather.bytes + came) ex.gather.limit then None else Some TooLong))
+    else Some NotDue) ≡ Some f) going fault)
+    (le-ltb (may_bring ex.le) came (omega (arith, le, few)))
+  where
+    by : (v : Bool) → (if nat_lt (may_bring ex.le) came then Some (excess ex.le)
+        else (if v then None else Some TooLong)) ≡ Some f
+        → nat_lt (may_bring ex.le) came ≡ false → fails_with f ≡ true
+    by true e few =
+        let no : None ≡ Some f =
+        subst (λ w. (if w then Some (excess ex.le) else None) ≡ Some f) few e in absurd (cc)
+    by false e few =
+        let long : Some TooLong ≡ Some f =
+        subst (λ w. (if w then Some (excess ex.le) else Some TooLong) ≡ Some f) few e in
+        let same : TooLong ≡ f = cc in
+        ap fails_with (sym same)
+
+never_fails : (c : Command) (wanted : Wanted) (pairs : List Pair) (old new : CardState)
+    (ex : ApduExchangeOf) → IsCardState old → ex.gather.limit ≡ response_limit
+    → ex.stage ≡ Failed → ComesTo c wanted pairs ex → RespondsToAll meaning.Does old pairs new → ⊥
+never_fails c wanted pairs old new ex sound room failed (to_place going way bytes left number)
+    goes =
+    let no : Failed ≡ Going = sym failed ∙ going in absurd (cc)
+never_fails c wanted pairs old new ex sound room failed (to_end status done brings number) goes =
+    let no : Failed ≡ Done status = sym failed ∙ done in absurd (cc)
+never_fails c wanted pairs old new ex sound room failed (to_stall is stalls) goes =
+    never_stalls c wanted pairs old new stalls goes
+never_fails c wanted pairs old new ex sound room failed (to_fault is long) goes =
+    never_overflows c wanted pairs old new ex.gather.limit room sound long goes
+
+-- the response of a card of data objects is no fault
+pub never_refused : {State : Type 0} (Own : State → ℕ → Tpdu → State → Type 0)
+    (reset : State → State) (state_of : State → CardState) (c : Command) (wanted : Wanted)
+    (first mid last : State) (sound : CardState) (old new done : ApduExchangeOf)
+    (content : List ℕ) (told : StatusWord) (due : Command) (f : AnswerFault)
+    → StandsFor Own reset state_of → state_of first ≡ sound → IsCardState sound
+    → due_of old ≡ Some due → (status : StatusWord) × (done.stage ≡ Done status)
+    × Responds Own mid
+    (record { command = due; content = done.gather.bytes; status = status }) last
+    → done.stage ≡ Done told → content ≡ done.gather.bytes
+    → old.gather.limit ≡ response_limit → new.gather.limit ≡ old.gather.limit
+    → (response_fault old (length content) ≡ Some f)
+    ⊎ ((f ≡ Stalled) × (response_fault old (length content) ≡ None))
+    → (fails_with f ≡ true → new.stage ≡ Failed)
+    → ((pairs : List Pair) → ComesTo c wanted pairs old → fails_with f ≡ true
+    → ComesTo c wanted (pairs ++ answered_by old content told ∷ []) new)
+    → HasHad Own c wanted first mid old → ⊥
+never_refused {State} Own reset state_of c wanted first mid last sound old new done content told due
+    f means was is_sound is answer ended bytes_are room limit fault failed led
+    (pairs, comes, goes) =
+    let p : Pair = answered_by old content told in
+    let few : length content ≤ may_bring due.le =
+    omega (arith, ap length bytes_are, responds_within Own mid last _ answer.2) in
+    let fails : fails_with f ≡ true = elim fault [
+      | inl is_fault ↦ fault_fails old (length content) due f is few is_fault
+      | inr (stalled, none) ↦ ap fails_with stalled
+    ] in
+    let all = own_responds Own reset state_of first last (pairs ++ p ∷ []) means
+    (answered_last Own first mid last pairs old done content told due is answer ended bytes_are
+    goes) in
+    never_fails c wanted (pairs ++ p ∷ []) (state_of first) (state_of last) new
+    (subst IsCardState (sym was) is_sound) (limit ∙ room) (failed fails) (led pairs comes fails) all
+
+-- it is over when no command is due
+pub over_then : {State : Type 0} (Own : State → ℕ → Tpdu → State → Type 0) (c : Command)
+    (old new : State) (ex : ApduExchangeOf) → None ≡ due_of ex → has_failed ex.stage ≡ false
+    → HasHad Own c (wanted_by c.le) old new ex → HasBrought Own old c new ex
+over_then Own c old new ex none fine (pairs, comes, goes) =
+    let (status, done) = by ex.stage refl in
+    (status, done, (pairs, done_brings c (wanted_by c.le) pairs ex status done comes, goes))
+  where
+    by : (s : Stage) → ex.stage ≡ s → (status : StatusWord) × (ex.stage ≡ Done status)
+    by Going is =
+        let no : None ≡ Some (command_of ex) =
+        none ∙ ap (λ s. if is_going s then Some (command_of ex) else None) is in absurd (cc)
+    by (Done status) is = (status, is)
+    by Failed is = absurd (true≢false (sym (ap has_failed is) ∙ fine))
+
+-- so it is taken
+pub is_taken_so : {State A : Type 0} (Own : State → ℕ → Tpdu → State → Type 0)
+    (reset : State → State) (state_of : State → CardState) (c : Command) (wanted : Wanted)
+    (first mid last : State) (sound : CardState) (old new done : ApduExchangeOf)
+    (content : List ℕ) (told : StatusWord) (due : Command) (r : Result A AnswerFault)
+    → StandsFor Own reset state_of → state_of first ≡ sound → IsCardState sound
+    → due_of old ≡ Some due → (status : StatusWord) × (done.stage ≡ Done status)
+    × Responds Own mid
+    (record { command = due; content = done.gather.bytes; status = status }) last
+    → done.stage ≡ Done told → content ≡ done.gather.bytes
+    → old.gather.limit ≡ response_limit → new.gather.limit ≡ old.gather.limit
+    → MatchResult r (λ x. response_fault old (length content) ≡ None)
+    (λ f. (response_fault old (length content) ≡ Some f)
+    ⊎ ((f ≡ Stalled) × (response_fault old (length content) ≡ None)))
+    → IfErr r (λ f. fails_with f ≡ true → new.stage ≡ Failed)
+    → ((pairs : List Pair) → ComesTo c wanted pairs old → MatchResult r
+    (λ x. ComesTo c wanted (pairs ++ answered_by old content told ∷ []) new)
+    (λ f. fails_with f ≡ true
+    → ComesTo c wanted (pairs ++ answered_by old content told ∷ []) new))
+    → HasHad Own c wanted first mid old → IsOk r
+is_taken_so Own reset state_of c wanted first mid last sound old new done content told due (Ok x)
+    means was is_sound is answer ended bytes_are room limit fault failed led has = refl
+is_taken_so Own reset state_of c wanted first mid last sound old new done content told due (Err f)
+    means was is_sound is answer ended bytes_are room limit fault failed led has =
+    absurd (never_refused Own reset state_of c wanted first mid last sound old new done content told
+    due f means was is_sound is answer ended bytes_are room limit fault failed
+    (λ pairs comes. led pairs comes) has)
+
+pub when_ok : {A E : Type 0} (r : Result A E) (x : A) (P : A → Type 0) (Q : E → Type 0)
+    → r ≡ Ok x → MatchResult r P Q → P x
+when_ok {A = A} {E = E} r x P Q is holds =
+    let M : Result A E → Type 0 = λ s. MatchResult s P Q in
+    subst M is holds
+
+pub on_ok : {A E : Type 0} (r : Result A E) (P : Type 0) (x : A) → r ≡ Ok x → OnOk r P → P
+on_ok {A = A} {E = E} r P x is on = let Q : Result A E → Type 0 = λ s. OnOk s P in subst Q is on
+
+-- what has begun goes on
+pub begun_goes : (c : Command) (wanted : Wanted) (ex : ApduExchangeOf) → ComesTo c wanted [] ex
+    → has_failed ex.stage ≡ false
+begun_goes c wanted ex (to_place going way bytes left number) = ap has_failed going
+begun_goes c wanted ex (to_end status done brings number) = ap has_failed done
+begun_goes c wanted ex (to_stall failed stalls) =
+    absurd (omega (
+      arith,
+      ap length stalls.pairs_are,
+      length-append stalls.before (stalls.last ∷ []),
+    ))
+begun_goes c wanted ex (to_fault failed long) =
+    absurd (omega (arith, ap length long.pairs_are, length-append long.before (long.last ∷ [])))

@@ -25,7 +25,8 @@ use Rattle.card_terminal.specs.Gathered.{less, fetched_after}
 use Rattle.card_terminal.specs.Talk.{select_command, get_command}
 use Rattle.apdu_terminal.specs.Apdus.{Pair, Place, first_place, asking, may_bring, Goes, Ends, follow, repeated, Suits, all_content, Brings}
 use Rattle.apdu_terminal.specs.CardApdu.{p3_of, tpdu_command, le_of_tpdu, IsTpduOf, GoesBy, Responds, RespondsToAll}
-use Rattle.apdu_terminal.proofs.RestLemmas.{Whole, at_end, further, brings_whole, goes_by_fetch, ends_without_fetch, told_by, waits_for, all_read, all_responses, none_announced, count_told}
+use Rattle.apdu_terminal.proofs.PlaceLemmas.{Whole, at_end, further, brings_whole}
+use Rattle.apdu_terminal.proofs.RestLemmas.{goes_by_fetch, ends_without_fetch, told_by, waits_for, all_read, all_responses, none_announced, count_told}
 use Rattle.object_card.specs.OperationLaws.{select_is_taken, IsHeld, one_held, some_bytes, get_refused, get_corrected, get_given, get_step}
 
 -- what an operation has come to after some of its TPDUs: it is answered without data; or a response

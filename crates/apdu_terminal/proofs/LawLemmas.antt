@@ -1,84 +1,56 @@
 -- An exchange has one course: what has come settles what is due, and whether it is over.
-use Rattle.std.proofs.Common.{◌≡◌, ℕ, ◌+◌, ◌*◌, ◌≤◌, List, [], ◌∷◌, ◌++◌, length, refl, sym, subst, ◌∙◌, ap, arith, Bool, true, false, not, ◌&&◌, ◌==◌, if◌then◌else◌, Option, Some, None, length-append, append-nil, append_assoc, ◌⊎◌, inl, inr}
+use Rattle.std.proofs.Common.{◌≡◌, ℕ, ◌+◌, ◌*◌, ◌≤◌, List, [], ◌∷◌, ◌++◌, length, refl, sym, subst, ◌∙◌, ap, arith, Bool, true, false, not, ◌&&◌, ◌==◌, Some, length-append, append-nil, append_assoc, ◌⊎◌, inl, inr}
 use Rattle.std.proofs.lemmas.Bool.{eqb-false}
 use Rattle.std.proofs.lemmas.Grind.{flat_map-append}
-use Rattle.apdu_core.specs.StatusWord.{StatusWord, corrects}
-use Rattle.card_terminal.specs.Gathered.{less, fetched_after}
+use Rattle.apdu_core.specs.StatusWord.{StatusWord}
 use Rattle.apdu_core.specs.CommandBytes.{Command}
 use Rattle.card_terminal.specs.declared.wanted.Wanted.{Wanted}
 use Rattle.apdu_terminal.specs.declared.stage.Stage.TheVariants.{Done, Failed}
-use Rattle.apdu_terminal.specs.Apdus.{Pair, Place, first_place, Follow, Goes, Stalls, Ends, follow, Suits, GoesThrough, all_content, Brings, StallsAt, IsTooLong, is_case_2, correction, follow_by, repeated, fetched}
+use Rattle.apdu_terminal.specs.Apdus.{Pair, Place, first_place, Follow, Goes, Stalls, Ends, follow, Suits, GoesThrough, all_content, Brings, StallsAt, IsTooLong}
+use Rattle.apdu_terminal.proofs.PlaceLemmas.{Whole, at_end, further, brings_whole, Comes, again, fetch, comes}
 use Rattle.apdu_terminal.specs.ApduSide.{ApduExchangeOf, due_of, place_of, ComesTo, to_place, to_end, to_stall, to_fault}
 
--- what is left of a whole exchange from a place on
-data Course : Place → List Pair → StatusWord → Type 0 where
-  last_one : (at : Place) (p : Pair) → Suits at p
-      → follow at (length p.content) p.status ≡ Ends → Course at (p ∷ []) p.status
-  one_of_more : (at next : Place) (p : Pair) (pairs : List Pair) (status : StatusWord) → Suits at p
-      → follow at (length p.content) p.status ≡ Goes next → Course next pairs status
-      → Course at (p ∷ pairs) status
-
-course_of : (at : Place) (before : List Pair) (mid : Place) (last : Pair)
-    → GoesThrough at before mid → Suits mid last
-    → follow mid (length last.content) last.status ≡ Ends
-    → Course at (before ++ last ∷ []) last.status
-course_of at [] mid last through suits ends =
-    let P : Place → Type 0 = λ x. Course x (last ∷ []) last.status in
-    subst P through (last_one mid last suits ends)
-course_of at (p ∷ before) mid last (next, is, follows, rest) suits ends =
-    one_of_more at next p (before ++ last ∷ []) last.status is follows
-    (course_of next before mid last rest suits ends)
-
-whole_course : (c : Command) (wanted : Wanted) (pairs : List Pair) (gathered : List ℕ)
-    (status : StatusWord) → Brings c wanted pairs gathered status
-    → Course (first_place c wanted) pairs status
-whole_course c wanted pairs gathered status b =
-    let P : List Pair → Type 0 = λ ps. Course (first_place c wanted) ps status in
-    let Q : StatusWord → Type 0 = λ s. Course (first_place c wanted) (b.before ++ b.last ∷ []) s in
-    subst P (sym b.pairs_are) (subst Q (sym b.status_is)
-    (course_of (first_place c wanted) b.before b.at b.last b.through b.suits b.ends))
-
-same_next : (f : Follow) (a b : Place) → f ≡ Goes a → f ≡ Goes b → a ≡ b
+pub same_next : (f : Follow) (a b : Place) → f ≡ Goes a → f ≡ Goes b → a ≡ b
 same_next f a b e g = let both : Goes a ≡ Goes b = sym e ∙ g in cc
 
 -- after some of its pairs, the rest is a course from where these lead
 rest_of : (at : Place) (came : List Pair) (mid : Place) (rest whole : List Pair)
-    (status : StatusWord) → Course at whole status → whole ≡ came ++ rest → GoesThrough at came mid
-    → Course mid rest status
+    (status : StatusWord) → Whole at whole status → whole ≡ came ++ rest → GoesThrough at came mid
+    → Whole mid rest status
 rest_of at [] mid rest whole status course is through =
-    let P : List Pair → Type 0 = λ ps. Course mid ps status in
-    let Q : Place → Type 0 = λ x. Course x whole status in
+    let P : List Pair → Type 0 = λ ps. Whole mid ps status in
+    let Q : Place → Type 0 = λ x. Whole x whole status in
     subst P is (subst Q (sym through) course)
-rest_of at (p ∷ came) mid rest _ _ (last_one here q suits ends) is (next, suits_p, goes, through) =
+rest_of at (p ∷ came) mid rest _ _ (at_end here q suits ends) is (next, suits_p, goes, through) =
     let same : q ≡ p = cc in
     let Q : Pair → Type 0 = λ x. follow at (length x.content) x.status ≡ Ends in
     let both : Goes next ≡ Ends = sym goes ∙ subst Q same ends in
     absurd (cc)
-rest_of at (p ∷ came) mid rest _ status (one_of_more here other q pairs last suits follows course)
+rest_of at (p ∷ came) mid rest _ status (further here other q pairs last suits follows course)
     is (next, suits_p, goes, through) =
     let same : q ≡ p = cc in
     let others : pairs ≡ came ++ rest = cc in
     let Q : Pair → Type 0 = λ x. follow at (length x.content) x.status ≡ Goes other in
     let one : other ≡ next =
     same_next (follow at (length p.content) p.status) other next (subst Q same follows) goes in
-    let P : Place → Type 0 = λ x. Course x pairs status in
+    let P : Place → Type 0 = λ x. Whole x pairs status in
     rest_of next came mid rest pairs status (subst P one course) others through
 
-none_left : (at : Place) (pairs : List Pair) (status : StatusWord) → Course at pairs status
+none_left : (at : Place) (pairs : List Pair) (status : StatusWord) → Whole at pairs status
     → pairs ≡ [] → ⊥
-none_left at pairs status (last_one here p suits ends) is = absurd (cc)
-none_left at pairs status (one_of_more here next p others last suits goes course) is = absurd (cc)
+none_left at pairs status (at_end here p suits ends) is = absurd (cc)
+none_left at pairs status (further here next p others last suits goes course) is = absurd (cc)
 
 first_is_due : (at : Place) (pairs : List Pair) (status : StatusWord) (p : Pair)
-    (rest : List Pair) → Course at pairs status → pairs ≡ p ∷ rest → Suits at p
-first_is_due at pairs status p rest (last_one here q suits ends) is =
+    (rest : List Pair) → Whole at pairs status → pairs ≡ p ∷ rest → Suits at p
+first_is_due at pairs status p rest (at_end here q suits ends) is =
     let same : q ≡ p = cc in let P : Pair → Type 0 = λ x. Suits at x in subst P same suits
-first_is_due at pairs status p rest (one_of_more here next q others last suits goes course) is =
+first_is_due at pairs status p rest (further here next q others last suits goes course) is =
     let same : q ≡ p = cc in let P : Pair → Type 0 = λ x. Suits at x in subst P same suits
 
 -- a whole exchange goes no further than to its end
 no_more : (at : Place) (pairs : List Pair) (status : StatusWord) (mid : Place) (last : Pair)
-    (rest before : List Pair) (f : Follow) → Course at pairs status
+    (rest before : List Pair) (f : Follow) → Whole at pairs status
     → pairs ≡ (before ++ last ∷ []) ++ rest → GoesThrough at before mid → Suits mid last
     → follow mid (length last.content) last.status ≡ f
     → (f ≡ Ends → (rest ≡ []) × (status ≡ last.status))
@@ -87,9 +59,9 @@ no_more at pairs status mid last rest before f course is through suits follows =
     by (last ∷ rest) (rest_of at before mid (last ∷ rest) pairs status course
     (is ∙ append_assoc before (last ∷ []) rest) through) refl
   where
-    by : (ps : List Pair) → Course mid ps status → ps ≡ last ∷ rest
+    by : (ps : List Pair) → Whole mid ps status → ps ≡ last ∷ rest
         → (f ≡ Ends → (rest ≡ []) × (status ≡ last.status)) × (f ≡ Stalls → ⊥)
-    by _ (last_one here q same ends) e =
+    by _ (at_end here q same ends) e =
         let one : q ≡ last = cc in
         let none : rest ≡ [] = cc in
         let Q : Pair → Type 0 = λ x. follow mid (length x.content) x.status ≡ Ends in
@@ -97,7 +69,7 @@ no_more at pairs status mid last rest before f course is through suits follows =
           λ over. (none, ap (λ (x : Pair). x.status) one),
           λ stalls. let no : Ends ≡ Stalls = sym now ∙ stalls in absurd (cc),
         )
-    by _ (one_of_more here next q others end same goes course) e =
+    by _ (further here next q others end same goes course) e =
         let one : q ≡ last = cc in
         let Q : Pair → Type 0 = λ x. follow mid (length x.content) x.status ≡ Goes next in
         let now : f ≡ Goes next = sym follows ∙ subst Q one goes in (
@@ -114,19 +86,19 @@ pub next_due : (c : Command) (wanted : Wanted) (came rest : List Pair) (p : Pair
 next_due c wanted came rest p ex gathered status (to_place going through bytes is number) b room =
     let left = rest_of (first_place c wanted) came (place_of ex) (p ∷ rest) (came ++ p ∷ rest)
     status
-    (whole_course c wanted (came ++ p ∷ rest) gathered status b) refl through in
+    (brings_whole c wanted (came ++ p ∷ rest) gathered status b) refl through in
     let suits = first_is_due (place_of ex) (p ∷ rest) status p rest left refl in
     rw going (ap Some (sym suits.is_due))
 next_due c wanted came rest p ex gathered status (to_end other done brings number) b room =
     let over = no_more (first_place c wanted) (came ++ p ∷ rest) status brings.at brings.last
     (p ∷ rest)
-    brings.before Ends (whole_course c wanted (came ++ p ∷ rest) gathered status b)
+    brings.before Ends (brings_whole c wanted (came ++ p ∷ rest) gathered status b)
     (ap (λ ps. ps ++ p ∷ rest) brings.pairs_are) brings.through brings.suits brings.ends in
     let none : p ∷ rest ≡ [] = (over.0 refl).0 in absurd (cc)
 next_due c wanted came rest p ex gathered status (to_stall failed stalls) b room =
     let over = no_more (first_place c wanted) (came ++ p ∷ rest) status stalls.at stalls.last
     (p ∷ rest)
-    stalls.before Stalls (whole_course c wanted (came ++ p ∷ rest) gathered status b)
+    stalls.before Stalls (brings_whole c wanted (came ++ p ∷ rest) gathered status b)
     (ap (λ ps. ps ++ p ∷ rest) stalls.pairs_are) stalls.through stalls.suits stalls.stalls in
     absurd (over.1 refl)
 next_due c wanted came rest p ex gathered status (to_fault failed long) b room =
@@ -146,18 +118,18 @@ pub over_at_end : (c : Command) (wanted : Wanted) (pairs : List Pair)
     → (ex.stage ≡ Done status) × (ex.gather.bytes ≡ gathered)
 over_at_end c wanted pairs ex gathered status (to_place going through bytes is number) b room =
     let left = rest_of (first_place c wanted) pairs (place_of ex) [] pairs status
-    (whole_course c wanted pairs gathered status b) (sym (append-nil pairs)) through in
+    (brings_whole c wanted pairs gathered status b) (sym (append-nil pairs)) through in
     absurd (none_left (place_of ex) [] status left refl)
 over_at_end c wanted pairs ex gathered status (to_end other done brings number) b room =
     let over = no_more (first_place c wanted) pairs status brings.at brings.last []
-    brings.before Ends (whole_course c wanted pairs gathered status b)
+    brings.before Ends (brings_whole c wanted pairs gathered status b)
     (brings.pairs_are ∙ sym (append-nil (brings.before ++ brings.last ∷ []))) brings.through
     brings.suits brings.ends in
     let same : other ≡ status = brings.status_is ∙ sym (over.0 refl).1 in
     (done ∙ ap (λ s. Done s) same, brings.gathered_is ∙ sym b.gathered_is)
 over_at_end c wanted pairs ex gathered status (to_stall failed stalls) b room =
     let over = no_more (first_place c wanted) pairs status stalls.at stalls.last []
-    stalls.before Stalls (whole_course c wanted pairs gathered status b)
+    stalls.before Stalls (brings_whole c wanted pairs gathered status b)
     (stalls.pairs_are ∙ sym (append-nil (stalls.before ++ stalls.last ∷ []))) stalls.through
     stalls.suits stalls.stalls in
     absurd (over.1 refl)
@@ -180,63 +152,27 @@ one_at_least true true brought left = omega arith
 one_at_least false false brought left = omega arith
 one_at_least false true brought left = omega arith
 
--- what a place and its next have to do with each other
-data Passes (at next : Place) (came : ℕ) : Type 0 where
-  by_repetition : at.repeats ≡ false → next.repeats ≡ true → next.fetches ≡ at.fetches
-      → next.brought ≡ at.brought + came → Passes at next came
-  by_fetch : next.repeats ≡ false → next.fetches ≡ true → next.brought ≡ 0
-      → (at.fetches ≡ true → 1 ≤ at.brought + came) → Passes at next came
+some_came : (fetches : Bool) (k : ℕ) → (fetches && (k == 0)) ≡ false → fetches ≡ true → 1 ≤ k
+some_came true k e is = omega (arith, eqb-false k 0 e)
+some_came false k e is = absurd (cc)
 
-once : (may : Bool) (left : Wanted) (corrected : Option ℕ) (n : ℕ) (repeats : Bool)
-    → correction (may && not repeats) left corrected ≡ Some n → repeats ≡ false
-once may left None n repeats e = absurd (cc)
-once may left (Some k) n false e = refl
-once true left (Some k) n true e = absurd (cc)
-once false left (Some k) n true e = absurd (cc)
+once : (may repeats : Bool) → (may && not repeats) ≡ true → repeats ≡ false
+once true false e = refl
+once true true e = absurd (cc)
+once false repeats e = absurd (cc)
 
-passes : (at next : Place) (came : ℕ) (status : StatusWord) → follow at came status ≡ Goes next
-    → Passes at next came
-passes at next came status goes =
-    by (correction (is_case_2 at.due.content at.due.le && not at.repeats) (less at.left came)
-    (corrects status)) (fetched_after (less at.left came) status) refl goes
-  where
-    by_stall : (v : Bool) (n : ℕ) → (at.fetches && (at.brought + came == 0)) ≡ v
-        → (if v then Stalls else Goes (fetched at came n)) ≡ Goes next → Passes at next came
-    by_stall true n e is = absurd (cc)
-    by_stall false n e is =
-        let same : fetched at came n ≡ next = cc in
-        by_fetch (ap (λ (x : Place). x.repeats) (sym same))
-        (ap (λ (x : Place). x.fetches) (sym same)) (ap (λ (x : Place). x.brought) (sym same))
-        (λ is_fetch. some (at.brought + came)
-        (ap (λ v. v && (at.brought + came == 0)) (sym is_fetch) ∙ e))
-      where
-        some : (k : ℕ) → (true && (k == 0)) ≡ false → 1 ≤ k
-        some k e = omega (arith, eqb-false k 0 e)
-
-    by : (again announced : Option ℕ)
-        → correction (is_case_2 at.due.content at.due.le && not at.repeats) (less at.left came)
-        (corrects status) ≡ again
-        → follow_by at came again announced ≡ Goes next → Passes at next came
-    by (Some n) announced told is =
-        let same : repeated at came n ≡ next = cc in
-        by_repetition (once _ _ _ n at.repeats told) (ap (λ (x : Place). x.repeats) (sym same))
-        (ap (λ (x : Place). x.fetches) (sym same)) (ap (λ (x : Place). x.brought) (sym same))
-    by None None told is = absurd (cc)
-    by None (Some n) told is =
-        by_stall (at.fetches && (at.brought + came == 0)) n refl is
-
-one_less : (at next : Place) (came rest : ℕ) → Passes at next came
+one_less : (at next : Place) (came rest : ℕ) (status : StatusWord) → Comes at came status next
     → 1 + most_from next.fetches next.repeats next.brought rest
     ≤ most_from at.fetches at.repeats at.brought (came + rest)
-one_less at next came rest (by_repetition once again fetches brought) =
-    rw (once, again, fetches, brought) (by at.fetches)
+one_less at next came rest status (again n may wants told is) =
+    rw (once _ at.repeats may, is) (by at.fetches)
   where
     by : (v : Bool) → 1 + most_from v true (at.brought + came) rest
         ≤ most_from v false at.brought (came + rest)
     by true = omega arith
     by false = omega arith
-one_less at next came rest (by_fetch once fetches brought some) =
-    rw (once, fetches, brought) (by at.fetches at.repeats some)
+one_less at next came rest status (fetch n told some is) =
+    rw is (by at.fetches at.repeats (some_came at.fetches (at.brought + came) some))
   where
     by : (v r : Bool) → (v ≡ true → 1 ≤ at.brought + came)
         → 1 + most_from true false 0 rest ≤ most_from v r at.brought (came + rest)
@@ -245,16 +181,16 @@ one_less at next came rest (by_fetch once fetches brought some) =
     by false true some = omega arith
     by false false some = omega arith
 
-few_from : (at : Place) (pairs : List Pair) (status : StatusWord) → Course at pairs status
+few_from : (at : Place) (pairs : List Pair) (status : StatusWord) → Whole at pairs status
     → length pairs ≤ most_from at.fetches at.repeats at.brought (length (all_content pairs))
-few_from at pairs status (last_one here p suits ends) =
+few_from at pairs status (at_end here p suits ends) =
     omega (
       arith,
       one_at_least at.fetches at.repeats at.brought (length (all_content (p ∷ []))),
     )
-few_from at pairs status (one_of_more here next p others last suits goes course) =
-    let step = one_less at next (length p.content) (length (all_content others))
-    (passes at next (length p.content) p.status goes) in
+few_from at pairs status (further here next p others last suits goes course) =
+    let step = one_less at next (length p.content) (length (all_content others)) p.status
+    (comes at next (length p.content) p.status goes) in
     let same : length (all_content (p ∷ others))
     ≡ length p.content + length (all_content others) =
     length-append p.content (all_content others) in
@@ -269,7 +205,7 @@ few_commands c wanted pairs gathered status b =
     omega (
       arith,
       few_from (first_place c wanted) pairs status
-          (whole_course c wanted pairs gathered status b),
+          (brings_whole c wanted pairs gathered status b),
       ap length b.gathered_is,
     )
 

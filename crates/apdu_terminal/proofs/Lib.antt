@@ -1,4 +1,5 @@
 pub mod FollowLemmas
+pub mod PlaceLemmas
 pub mod LedLemmas
 pub mod LawLemmas
 pub mod RestLemmas
@@ -7,4 +8,6 @@ pub mod TalkLemmas
 pub mod CardLemmas
 pub mod SameLemmas
 pub mod StallLemmas
+pub mod OperationLemmas
+pub mod OperationCourse
 mod Vectors

@@ -17,42 +17,12 @@ use Rattle.object_card.specs.ResponseLaws.{announced_count, announces_some, fetc
 use Rattle.card_terminal.specs.declared.wanted.Wanted.{Wanted}
 use Rattle.card_terminal.specs.declared.wanted.Wanted.TheVariants.{Bytes, Everything}
 use Rattle.card_terminal.specs.Gathered.{less, smaller, wants_some, fetched_of, fetched_after}
-use Rattle.apdu_terminal.specs.Apdus.{Pair, Place, first_place, asking, is_case_2, correction, Follow, Goes, Stalls, Ends, follow, follow_by, Suits, GoesThrough, all_content, Brings}
+use Rattle.apdu_terminal.specs.Apdus.{Pair, Place, first_place, asking, is_case_2, correction, Goes, Stalls, Ends, follow, follow_by, all_content}
 use Rattle.apdu_terminal.specs.Apdus as spec
+use Rattle.apdu_terminal.proofs.PlaceLemmas.{Whole, at_end, further, brings_whole, Comes, again, fetch, comes}
 use Rattle.apdu_terminal.specs.CardApdu.{p3_of, IsTpduOf, GoesBy, Responds, RespondsToAll, tpdu_command}
 
--- a whole exchange from a place on, with its status
-pub data Whole : Place → List Pair → StatusWord → Type 0 where
-  at_end : (at : Place) (p : Pair) → Suits at p
-      → follow at (length p.content) p.status ≡ Ends → Whole at (p ∷ []) p.status
-  further : (at next : Place) (p : Pair) (pairs : List Pair) (status : StatusWord) → Suits at p
-      → follow at (length p.content) p.status ≡ Goes next → Whole next pairs status
-      → Whole at (p ∷ pairs) status
-
-whole_of : (at : Place) (before : List Pair) (mid : Place) (last : Pair) → GoesThrough at before mid
-    → Suits mid last → follow mid (length last.content) last.status ≡ Ends
-    → Whole at (before ++ last ∷ []) last.status
-whole_of at [] mid last through suits ends =
-    let P : Place → Type 0 = λ x. Whole x (last ∷ []) last.status in
-    subst P through (at_end mid last suits ends)
-whole_of at (p ∷ before) mid last (next, is, follows, rest) suits ends =
-    further at next p (before ++ last ∷ []) last.status is follows
-    (whole_of next before mid last rest suits ends)
-
-pub brings_whole : (c : Command) (wanted : Wanted) (pairs : List Pair) (gathered : List ℕ)
-    (status : StatusWord) → Brings c wanted pairs gathered status
-    → Whole (first_place c wanted) pairs status
-brings_whole c wanted pairs gathered status b =
-    let P : List Pair → Type 0 = λ ps. Whole (first_place c wanted) ps status in
-    let Q : StatusWord → Type 0 = λ s. Whole (first_place c wanted) (b.before ++ b.last ∷ []) s in
-    subst P (sym b.pairs_are) (subst Q (sym b.status_is)
-    (whole_of (first_place c wanted) b.before b.at b.last b.through b.suits b.ends))
-
 -- ---- where no count is told by 6CXX
-
-none_corrected : (may : Bool) (left : Wanted) (corrected : Option ℕ) → corrected ≡ None
-    → correction may left corrected ≡ None
-none_corrected may left corrected is = ap (correction may left) is
 
 -- more is fetched
 pub record IsFetchOf (at : Place) (came : ℕ) (status : StatusWord) (next : Place) : Type 0 where
@@ -61,33 +31,18 @@ pub record IsFetchOf (at : Place) (came : ℕ) (status : StatusWord) (next : Pla
   pub due : next.due ≡ asking get_response n
   pub left : next.left ≡ less at.left came
 
-fetch_when : (v : Bool) (at : Place) (came n : ℕ) (next : Place)
-    → (if v then Stalls else Goes (spec.fetched at came n)) ≡ Goes next
-    → spec.fetched at came n ≡ next
-fetch_when true at came n next e = absurd (cc)
-fetch_when false at came n next e = cc
-
 pub goes_by_fetch : (at next : Place) (came : ℕ) (status : StatusWord) → corrects status ≡ None
     → follow at came status ≡ Goes next → IsFetchOf at came status next
-goes_by_fetch at next came status none goes =
-    by (correction (is_case_2 at.due.content at.due.le && not at.repeats) (less at.left came)
-    (corrects status)) (fetched_after (less at.left came) status)
-    (none_corrected _ (less at.left came) (corrects status) none) refl goes
+goes_by_fetch at next came status none goes = by (comes at next came status goes)
   where
-    by : (again announced : Option ℕ) → again ≡ None
-        → fetched_after (less at.left came) status ≡ announced
-        → follow_by at came again announced ≡ Goes next → IsFetchOf at came status next
-    by (Some k) announced once is e = absurd (cc)
-    by None None once is e = absurd (cc)
-    by None (Some n) once is e =
-        let same : spec.fetched at came n ≡ next =
-        fetch_when (at.fetches && (at.brought + came == 0)) at came n next e in
-        record {
-          n = n;
-          told = is;
-          due = ap (λ (x : Place). x.due) (sym same);
-          left = ap (λ (x : Place). x.left) (sym same);
-        }
+    by : Comes at came status next → IsFetchOf at came status next
+    by (again n may wants told is) = let no : None ≡ Some n = sym none ∙ told in absurd (cc)
+    by (fetch n told some is) = record {
+      n = n;
+      told = told;
+      due = ap (λ (x : Place). x.due) is;
+      left = ap (λ (x : Place). x.left) is;
+    }
 
 ends_when : (v : Bool) (next : Place) → (if v then Stalls else Goes next) ≡ Ends → ⊥
 ends_when true next e = absurd (cc)

@@ -3,32 +3,35 @@
 use Rattle.std.proofs.Common.{Bool, ◌≡◌, ◌≢◌, ℕ, ◌-◌, ◌≤◌, List, [], ◌∷◌, ◌++◌, length, Option, Some, None, Result, Ok, Err, true, false, ◌⊎◌, inl, inr, refl, sym, ap, subst, ◌∙◌, arith, append-nil, not, ◌&&◌}
 use Rattle.std.specs.List.{flat_map}
 use Rattle.std.specs.Prelude.{IfOk, IsTrue}
-use Rattle.std.proofs.lemmas.Bool.Decides.{eqb_tells}
 use Rattle.apdu_core.specs.declared.header.Header.{Header}
 use Rattle.apdu_core.specs.StatusWord.{StatusWord, ok, announces, corrects}
 use Rattle.apdu_core.specs.CommandBytes.{Command}
-use Rattle.apdu_core.specs.Chaining.{IsPieces, with_more, link, chain_commands}
+use Rattle.apdu_core.specs.Chaining.{link, chain_commands}
 use Rattle.t0_core.specs.Meaning.{Tpdu}
-use Rattle.object_card.specs.Tables.{IsAid}
-use Rattle.tlv_core.specs.Address.{NamesTag}
+use Rattle.t0_core.specs.CardSide.{EndOf}
+use Rattle.t0_core.specs.declared.tpdu_card.TpduCard.{Ghosts}
 use Rattle.object_card.specs.State.{CardState, is_idle}
 use Rattle.object_card.specs.OneStep.{Operation, Select, Get, Put, Reply, Answers, AnswersAll, SameTables}
 use Rattle.object_card.specs.CardMeaning.{Does}
 use Rattle.object_card.specs.DataCard.{StandsFor}
-use Rattle.object_card.specs.CarryingOut.{put_header, IsCarriedOut, Carries, IsAnswered, EndsWith, all_taken, stopped}
-use Rattle.object_card.specs.AnswerLaws.{answers_alike}
+use Rattle.object_card.specs.CarryingOut.{put_header, IsCarriedOut, Carries, IsAnswered, EndsWith}
 use Rattle.object_card.specs.PutRunLaws.{chain_is_put}
 use Rattle.card_terminal.specs.declared.wanted.Wanted.{Wanted}
 use Rattle.card_terminal.specs.declared.wanted.Wanted.TheVariants.{Bytes}
 use Rattle.card_terminal.specs.Gathered.{less, fetched_of, fetched_after}
-use Rattle.card_terminal.specs.Talk.{select_command, get_command}
+use Rattle.card_terminal.specs.Talk.{select_command, get_command, AreCommandsOf}
+use Rattle.card_terminal.specs.declared.operation.Op.{Op}
+use Rattle.card_terminal.specs.RunLaws.{HaveReplies, replies_come}
+use Rattle.card_terminal.specs.Running.{new_answers, carried_out}
+use Rattle.card_terminal.specs.TalkLaws.{chains_end, talks_more, all_alike}
+use Rattle.t0_core.specs.DialogueLaws.{flat_map_last}
 use Rattle.apdu_terminal.specs.declared.stage.Stage.{Stage}
 use Rattle.apdu_terminal.specs.declared.stage.Stage.TheVariants.{Done}
 use Rattle.apdu_terminal.specs.ApduSide.{ApduExchangeOf}
 use Rattle.apdu_terminal.specs.Apdus.{Pair, first_place, is_case_2, may_bring, correction, Goes, Ends, follow, follow_by, Suits, all_content, Brings, GathersApdus}
 use Rattle.apdu_terminal.specs.CardApdu.{p3_of, tpdu_command, GoesBy, RespondsToAll}
-use Rattle.apdu_terminal.specs.ApduTalk.{AreApdusOf, IsApduTalkOf, talk_pairs, AreApduTalksOf}
-use Rattle.apdu_terminal.proofs.RestLemmas.{brings_whole}
+use Rattle.apdu_terminal.specs.ApduTalk.{AreApdusOf, IsApduTalkOf, talk_pairs, AreApduTalksOf, HasBrought}
+use Rattle.apdu_terminal.proofs.PlaceLemmas.{brings_whole}
 use Rattle.apdu_terminal.proofs.FirstLemmas.{whole_by, suits_of, select_is_answered, get_is_answered}
 
 -- a command without Le wants nothing, and nothing follows it
@@ -140,40 +143,6 @@ answered_by h piece pairs content status old new g goes =
       is.none_gathered,
     )
 
--- one more command at the front
-taken_first : (old mid new : CardState) (c : Command) (commands : List Command)
-    (status : StatusWord) → IsAnswered old c ok mid
-    → EndsWith mid commands new status → EndsWith old (c ∷ commands) new status
-taken_first old mid new c commands status answered (all_taken taken) =
-    all_taken (mid, answered, taken)
-taken_first old mid new c commands status answered
-    (stopped before other after last end split taken refused not_ok) =
-    stopped (c ∷ before) other after last end (ap (λ cs. c ∷ cs) split) (mid, answered, taken)
-    refused not_ok
-
-pub is_ok_or_not : (status : StatusWord) → (status ≡ ok) ⊎ (status ≢ ok)
-is_ok_or_not status = elim (eqb_tells status.0 0x90) [
-  | inl first ↦ elim (eqb_tells status.1 0x00) [
-    | inl second ↦ inl (ap (λ a. (a, status.1)) first.1 ∙ ap (λ b. (0x90, b)) second.1)
-    | inr other ↦ inr (λ e. other.1 (ap (λ (s : StatusWord). s.1) e))
-  ]
-  | inr other ↦ inr (λ e. other.1 (ap (λ (s : StatusWord). s.0) e))
-]
-
--- the last command of a chain, and one that is answered otherwise than 9000
-ends_here : (old new : CardState) (c : Command) (commands : List Command) (status : StatusWord)
-    → IsAnswered old c status new
-    → (commands ≡ []) ⊎ (status ≢ ok) → EndsWith old (c ∷ commands) new status
-ends_here old new c commands status answered (inr other) =
-    stopped [] c commands old status refl refl answered other
-ends_here old new c commands status answered (inl none) =
-    let Ends : List Command → Type 0 = λ cs. EndsWith old (c ∷ cs) new status in
-    subst Ends (sym none) (elim (is_ok_or_not status) [
-      | inl fine ↦ subst (λ s. EndsWith old (c ∷ []) new s) (sym fine)
-          (all_taken (new, subst (λ s. IsAnswered old c s new) fine answered, refl))
-      | inr other ↦ stopped [] c [] old status refl refl answered other
-    ])
-
 responds_apart : (old new : CardState) (xs ys : List Pair) → RespondsToAll Does old (xs ++ ys) new
     → (mid : CardState) × RespondsToAll Does old xs mid × RespondsToAll Does mid ys new
 responds_apart old new [] ys goes = (old, refl, goes)
@@ -181,41 +150,15 @@ responds_apart old new (x ∷ xs) ys (next, responds, others) =
     let (mid, before, after) = responds_apart next new xs ys others in
     (mid, (next, responds, before), after)
 
--- The exchanges of a chain's commands: how they end, and that they bring no data.
 chain_ends : (h : Header) (pieces : List (List ℕ)) (exchanges : List (List Pair))
     (answer : Reply) (old new : CardState)
     → AreApdusOf (chain_commands h pieces) exchanges answer
     → RespondsToAll Does old (talk_pairs exchanges) new
     → EndsWith old (chain_commands h pieces) new answer.status × (answer.content ≡ [])
-chain_ends h [] exchanges answer old new are goes = absurd are
-chain_ends h (last ∷ []) [] answer old new are goes = absurd are
-chain_ends h (last ∷ []) (pairs ∷ []) answer old new are goes =
-    let (answered, none) =
-    answered_by h last pairs answer.content answer.status old new are.0
-    (subst (λ ps. RespondsToAll Does old ps new) (append-nil pairs) goes) in
-    (ends_here old new (link h last) [] answer.status answered are.1, none)
-chain_ends h (last ∷ []) (pairs ∷ next ∷ exchanges) answer old new are goes = absurd are.2
-chain_ends h (piece ∷ second ∷ others) [] answer old new are goes = absurd are
-chain_ends h (piece ∷ second ∷ others) (pairs ∷ []) answer old new are goes =
-    let (answered, none) =
-    answered_by (with_more h) piece pairs answer.content answer.status old new are.0
-    (subst (λ ps. RespondsToAll Does old ps new) (append-nil pairs) goes) in (
-      ends_here old new (link (with_more h) piece) (chain_commands h
-          (second ∷ others)) answer.status
-          answered are.1,
-      none,
-    )
-chain_ends h (piece ∷ second ∷ others) (pairs ∷ next ∷ exchanges) answer old new
-    (brought, gathers, are) goes =
-    let (mid, first, rest) =
-    responds_apart old new pairs (talk_pairs (next ∷ exchanges)) goes in
-    let (answered, none) = answered_by (with_more h) piece pairs brought ok old mid gathers first in
-    let (ends, none_then) =
-    chain_ends h (second ∷ others) (next ∷ exchanges) answer mid new are rest in (
-      taken_first old mid new (link (with_more h) piece) (chain_commands h (second ∷ others))
-          answer.status answered ends,
-      none_then,
-    )
+chain_ends = chains_end GathersApdus (λ old pairs new. RespondsToAll Does old pairs new)
+    (λ old exchanges new. RespondsToAll Does old (talk_pairs exchanges) new)
+    (λ old new pairs others goes. responds_apart old new pairs (talk_pairs others) goes)
+    (λ old new goes. goes) answered_by
 
 -- of one command there is one exchange
 one_exchange : (old new : CardState) (operation : Operation) (answer : Reply) (c : Command)
@@ -266,7 +209,7 @@ talk_is_one_step old new (Put tag value) exchanges answer idle
 
 -- ---- any card of data objects
 
-own_goes : {State : Type 0} (Own : State → ℕ → Tpdu → State → Type 0) (reset : State → State)
+pub own_goes : {State : Type 0} (Own : State → ℕ → Tpdu → State → Type 0) (reset : State → State)
     (state_of : State → CardState) (old new : State) (pairs : List Pair)
     → StandsFor Own reset state_of → GoesBy Own old pairs new
     → GoesBy Does (state_of old) pairs (state_of new)
@@ -290,62 +233,6 @@ own_responds Own reset state_of old new (p ∷ pairs) means (mid, (inner, brings
   own_responds Own reset state_of mid new pairs means rest,
 )
 
--- a card's own states stand for states of a card
-pub own_selects : {State : Type 0} (Own : State → ℕ → Tpdu → State → Type 0)
-    (reset : State → State) (state_of : State → CardState) (old new : State)
-    (before after : CardState) (aid : List ℕ) (c : Command) (pairs : List Pair) (content : List ℕ)
-    (status : StatusWord) → StandsFor Own reset state_of → state_of old ≡ before
-    → state_of new ≡ after → is_idle before.pending ≡ true → IsAid aid
-    → c ≡ select_command aid → GathersApdus c pairs content status
-    → RespondsToAll Own old pairs new → IsCarriedOut before (Select aid) status content after
-own_selects Own reset state_of old new before after aid c pairs content status means was now idle
-    is c_is gathers goes =
-    let P : CardState → Type 0 = λ s. RespondsToAll Does s pairs (state_of new) in
-    let Q : CardState → Type 0 = λ s. RespondsToAll Does before pairs s in
-    select_is_answered before after aid pairs content status idle is
-    (subst (λ x. GathersApdus x pairs content status) c_is gathers)
-    (subst Q now (subst P was (own_responds Own reset state_of old new pairs means goes)))
-
-pub own_gets : {State : Type 0} (Own : State → ℕ → Tpdu → State → Type 0)
-    (reset : State → State) (state_of : State → CardState) (old new : State)
-    (before after : CardState) (tag : List ℕ) (p1 p2 : ℕ) (c : Command) (pairs : List Pair)
-    (content : List ℕ)
-    (status : StatusWord) → StandsFor Own reset state_of → state_of old ≡ before
-    → state_of new ≡ after → is_idle before.pending ≡ true → NamesTag tag p1 p2
-    → c ≡ get_command p1 p2 → GathersApdus c pairs content status
-    → RespondsToAll Own old pairs new → IsCarriedOut before (Get tag) status content after
-own_gets Own reset state_of old new before after tag p1 p2 c pairs content status means was now idle
-    is c_is gathers goes =
-    let P : CardState → Type 0 = λ s. RespondsToAll Does s pairs (state_of new) in
-    let Q : CardState → Type 0 = λ s. RespondsToAll Does before pairs s in
-    get_is_answered before after tag p1 p2 pairs content status idle is
-    (subst (λ x. GathersApdus x pairs content status) c_is gathers)
-    (subst Q now (subst P was (own_responds Own reset state_of old new pairs means goes)))
-
--- where it is Ok, what follows from that holds
-pub if_ok : {A E : Type 0} (P Q : A → Type 0) (r : Result A E) → IfOk r P
-    → ((x : A) → P x → Q x) → IfOk r Q
-if_ok P Q (Ok x) holds then_so = then_so x holds
-if_ok P Q (Err e) holds then_so = tt
-
--- ---- a put
-
-some_command : (h : Header) (value : List ℕ) (pieces : List (List ℕ)) (left : List Command)
-    → IsPieces value pieces → left ≡ chain_commands h pieces → left ≡ [] → ⊥
-some_command h [] [] left is same none = absurd (cc)
-some_command h (b ∷ value) [] left is same none = absurd is.1
-some_command h value (p ∷ []) left is same none = let e : [] ≡ link h p ∷ [] = sym none ∙ same in
-    absurd (cc)
-some_command h value (p ∷ q ∷ others) left is same none =
-    let e : [] ≡ link (with_more h) p ∷ chain_commands h (q ∷ others) = sym none ∙ same in
-    absurd (cc)
-
-pub a_command_comes : (h own : Header) (value : List ℕ) (left : List Command) → own ≡ h
-    → ((pieces : List (List ℕ)) × IsPieces value pieces × (left ≡ chain_commands own pieces))
-    → left ≡ [] → ⊥
-a_command_comes h own value left same (pieces, are, is) none =
-    some_command own value pieces left are is none
-
 -- one more command at the front
 more_apdus : (c n : Command) (left : List Command) (pairs : List Pair) (brought : List ℕ)
     (exchanges : List (List Pair)) (answer : Reply) → GathersApdus c pairs brought ok
@@ -362,85 +249,78 @@ responds_both {State} Own old mid new [] ys first second =
 responds_both Own old mid new (x ∷ xs) ys (next, is, rest) second =
     (next, is, responds_both Own next mid new xs ys rest second)
 
--- what a chain has brought, with its last exchange
-abbrev pub HasChained : {State : Type 0} → (State → ℕ → Tpdu → State → Type 0) → State
-    → List Command → State → ApduExchangeOf → Type 0
-HasChained Own old commands new ex = (status : StatusWord) × (ex.stage ≡ Done status)
-    × ((exchanges : List (List Pair))
-    × AreApdusOf commands exchanges (record { status = status; content = ex.gather.bytes })
-    × RespondsToAll Own old (talk_pairs exchanges) new)
+-- ---- commands in turn
 
--- what one command has brought
-abbrev pub HasBrought : {State : Type 0} → (State → ℕ → Tpdu → State → Type 0) → State
-    → Command → State → ApduExchangeOf → Type 0
-HasBrought Own old c new ex = (status : StatusWord) × (ex.stage ≡ Done status)
-    × ((pairs : List Pair) × GathersApdus c pairs ex.gather.bytes status
-    × RespondsToAll Own old pairs new)
+-- what commands have brought in turn
+abbrev pub Chained : {State : Type 0} → (State → ℕ → Tpdu → State → Type 0) → State
+    → List Command → Reply → State → Type 0
+Chained Own old commands answer new = (exchanges : List (List Pair))
+    × AreApdusOf commands exchanges answer × RespondsToAll Own old (talk_pairs exchanges) new
 
-pub chain_stops : {State : Type 0} (Own : State → ℕ → Tpdu → State → Type 0) (old new : State)
-    (c : Command) (left : List Command) (ex : ApduExchangeOf) → HasBrought Own old c new ex
-    → (left ≡ []) ⊎ (ex.stage ≡ Done ok → ⊥) → HasChained Own old (c ∷ left) new ex
-chain_stops {State} Own old new c left ex (status, done, (pairs, gathers, goes)) why =
-    let P : List Pair → Type 0 = λ ps. RespondsToAll Own old ps new in
-    let stops : (left ≡ []) ⊎ (status ≢ ok) = elim why [
+-- The exchange of one of them is over, and the others are left: with what these bring, the commands
+-- have brought it.
+abbrev pub IsInChain : {State : Type 0} → (State → ℕ → Tpdu → State → Type 0) → State
+    → List Command → List Command → State → ApduExchangeOf → Type 0
+IsInChain {State} Own from commands left now ex = (c : Command) × (mid : State)
+    × HasBrought Own mid c now ex
+    × ((new : State) (answer : Reply) → Chained Own mid (c ∷ left) answer new
+    → Chained Own from commands answer new)
+
+pub begins_chain : {State : Type 0} (Own : State → ℕ → Tpdu → State → Type 0) (from now : State)
+    (c : Command) (left : List Command) (ex : ApduExchangeOf) → HasBrought Own from c now ex
+    → IsInChain Own from (c ∷ left) left now ex
+begins_chain Own from now c left ex brought = (c, from, brought, λ new answer all. all)
+
+pub next_in_chain : {State : Type 0} (Own : State → ℕ → Tpdu → State → Type 0)
+    (from now later : State) (commands left all : List Command) (n : Command)
+    (ex after : ApduExchangeOf) → IsInChain Own from commands all now ex → all ≡ n ∷ left
+    → ex.stage ≡ Done ok → HasBrought Own now n later after
+    → IsInChain Own from commands left later after
+next_in_chain {State} Own from now later commands left all n ex after
+    (c, mid, (status, done, (pairs, gathers, goes)), rest) is fine brought = (
+      n,
+      now,
+      brought,
+      λ new answer more.
+          let both : Done status ≡ Done ok = sym done ∙ fine in
+          let same : status ≡ ok = cc in
+          let here : GathersApdus c pairs ex.gather.bytes ok =
+          subst (λ s. GathersApdus c pairs ex.gather.bytes s) same gathers in
+          let P : List Command → Type 0 = λ cs. Chained Own mid (c ∷ cs) answer new in
+          rest new answer (subst P (sym is) (
+            pairs ∷ more.0,
+            more_apdus c n left pairs ex.gather.bytes more.0 answer here more.1,
+            responds_both Own mid now new pairs (talk_pairs more.0) goes more.2,
+          )),
+    )
+
+pub ends_chain : {State : Type 0} (Own : State → ℕ → Tpdu → State → Type 0) (from now : State)
+    (commands left : List Command) (ex : ApduExchangeOf) (answer : Reply)
+    → IsInChain Own from commands left now ex → (left ≡ []) ⊎ (ex.stage ≡ Done ok → ⊥)
+    → ((status : StatusWord) → ex.stage ≡ Done status
+    → answer ≡ record { status = status; content = ex.gather.bytes })
+    → Chained Own from commands answer now
+ends_chain {State} Own from now commands left ex answer
+    (c, mid, (status, done, (pairs, gathers, goes)), rest) why told =
+    let is : answer ≡ record { status = status; content = ex.gather.bytes } = told status done in
+    let P : List Pair → Type 0 = λ ps. RespondsToAll Own mid ps now in
+    let stops : (left ≡ []) ⊎ (answer.status ≢ ok) = elim why [
       | inl none ↦ inl none
-      | inr other ↦ inr (λ e. other (done ∙ ap (λ s. Done s) e))
+      | inr other ↦ inr (λ e. other (done
+          ∙ ap (λ s. Done s) (sym (ap (λ (r : Reply). r.status) is) ∙ e)))
     ] in
-    (status, done, (pairs ∷ [], (gathers, stops), subst P (sym (append-nil pairs)) goes))
+    let brought : GathersApdus c pairs answer.content answer.status =
+    subst (λ r. GathersApdus c pairs r.content r.status) (sym is) gathers in
+    rest now answer (pairs ∷ [], (brought, stops), subst P (sym (append-nil pairs)) goes)
 
-pub chain_goes_on : {State : Type 0} (Own : State → ℕ → Tpdu → State → Type 0)
-    (old mid new : State) (c n : Command) (left : List Command) (first last : ApduExchangeOf)
-    → HasBrought Own old c mid first → first.stage ≡ Done ok
-    → HasChained Own mid (n ∷ left) new last → HasChained Own old (c ∷ n ∷ left) new last
-chain_goes_on Own old mid new c n left first last (status, done, (pairs, gathers, goes)) fine
-    (end, over, (exchanges, are, rest)) =
-    let both : Done status ≡ Done ok = sym done ∙ fine in
-    let same : status ≡ ok = cc in
-    let here : GathersApdus c pairs first.gather.bytes ok =
-    subst (λ s. GathersApdus c pairs first.gather.bytes s) same gathers in (
-      end,
-      over,
-      (
-        pairs ∷ exchanges,
-        more_apdus c n left pairs first.gather.bytes exchanges _ here are,
-        responds_both Own old mid new pairs (talk_pairs exchanges) goes rest,
-      ),
-    )
-
-pub own_puts : {State : Type 0} (Own : State → ℕ → Tpdu → State → Type 0)
-    (reset : State → State) (state_of : State → CardState) (old new : State)
-    (before after : CardState) (tag value : List ℕ) (p1 p2 : ℕ) (h : Header)
-    (commands chain : List Command) (ex : ApduExchangeOf) → StandsFor Own reset state_of
-    → state_of old ≡ before → state_of new ≡ after → is_idle before.pending ≡ true
-    → NamesTag tag p1 p2 → h ≡ put_header p1 p2
-    → ((pieces : List (List ℕ)) × IsPieces value pieces × (commands ≡ chain_commands h pieces))
-    → commands ≡ chain → HasChained Own old chain new ex
-    → (status : StatusWord) × (ex.stage ≡ Done status)
-    × IsCarriedOut before (Put tag value) status ex.gather.bytes after
-own_puts Own reset state_of old new before after tag value p1 p2 h commands chain ex means was now
-    idle names h_is (pieces, are_pieces, commands_are) chain_is
-    (status, done, (exchanges, are, goes)) =
-    let P : CardState → Type 0 = λ s. RespondsToAll Does s (talk_pairs exchanges) (state_of new) in
-    let Q : CardState → Type 0 = λ s. RespondsToAll Does before (talk_pairs exchanges) s in
-    let answer : Reply = record { status = status; content = ex.gather.bytes } in
-    let R : List Command → Type 0 = λ cs. AreApdusOf cs exchanges answer in (
-      status,
-      done,
-      talk_is_one_step before after (Put tag value) exchanges answer idle (
-        commands,
-        (
-          p1,
-          p2,
-          pieces,
-          names,
-          are_pieces,
-          commands_are ∙ ap (λ x. chain_commands x pieces) h_is,
-        ),
-        subst R (sym chain_is) are,
-      )
-          (subst Q now (subst P was
-          (own_responds Own reset state_of old new (talk_pairs exchanges) means goes))),
-    )
+-- an exchange that is over has no other status
+pub over_is : (ex : ApduExchangeOf) (told : StatusWord) (answer : Reply) → ex.stage ≡ Done told
+    → answer ≡ record { status = told; content = ex.gather.bytes } → (status : StatusWord)
+    → ex.stage ≡ Done status → answer ≡ record { status = status; content = ex.gather.bytes }
+over_is ex told answer here is status done =
+    let both : Done told ≡ Done status = sym here ∙ done in
+    let same : told ≡ status = cc in
+    is ∙ ap (λ s. record { status = s; content = ex.gather.bytes }) same
 
 pub well_so : (s : Stage) (status : StatusWord) (r : Bool) → s ≡ Done status
     → (IsTrue r → status ≡ ok) × (status ≡ ok → IsTrue r)
@@ -454,15 +334,6 @@ well_so s status r done iff = (
 )
 
 -- ---- operations in turn
-
-alike_all : (a b new : CardState) (operations : List Operation) (replies : List Reply)
-    → SameTables a b → AnswersAll a operations replies new → AnswersAll b operations replies new
-alike_all a b new [] [] same all = (sym same.0 ∙ all.0, sym same.1 ∙ all.1)
-alike_all a b new [] (r ∷ replies) same all = absurd all
-alike_all a b new (o ∷ operations) [] same all = absurd all
-alike_all a b new (o ∷ operations) (r ∷ replies) same (mid, answers, rest) =
-    let (here, now, alike) = answers_alike a b mid o r same answers in
-    (here, now, alike_all mid here new operations replies alike rest)
 
 pub talks_are_single_steps : (old new : CardState) (operations : List Operation)
     (talks : List (List (List Pair))) (replies : List Reply) → is_idle old.pending ≡ true
@@ -479,7 +350,106 @@ talks_are_single_steps old new (o ∷ operations) (t ∷ talks) (r ∷ replies) 
     let (after, answers, same, rests) = talk_is_one_step old mid o t r idle is first in
     let (all, idle_then) =
     talks_are_single_steps mid new operations talks replies rests are rest in (
-      (after, answers, alike_all mid after new operations replies (sym same.0, sym same.1) all),
+      (after, answers, all_alike operations replies mid after new (sym same.0, sym same.1) all),
       idle_then,
     )
 talks_are_single_steps old new _ _ _ idle are goes = absurd are
+
+-- what has come of operations in turn, from state to state
+abbrev pub HaveCome : {State : Type 0} → (State → ℕ → Tpdu → State → Type 0) → State → State
+    → List Operation → List Reply → Type 0
+HaveCome Own from to done replies = (talks : List (List (List Pair)))
+    × AreApduTalksOf done talks replies × RespondsToAll Own from (flat_map talk_pairs talks) to
+
+pub one_more_comes : {State : Type 0} (Own : State → ℕ → Tpdu → State → Type 0)
+    (from mid to : State) (done : List Operation) (replies : List Reply) (o : Operation)
+    (r : Reply) → HaveCome Own from mid done replies
+    → (exchanges : List (List Pair)) × IsApduTalkOf o exchanges r
+    × RespondsToAll Own mid (talk_pairs exchanges) to
+    → HaveCome Own from to (done ++ o ∷ []) (replies ++ r ∷ [])
+one_more_comes Own from mid to done replies o r (talks, are, goes) (exchanges, is, then_so) = (
+  talks ++ exchanges ∷ [],
+  talks_more GathersApdus done talks replies o exchanges r are is,
+  subst (λ ps. RespondsToAll Own from ps to) (sym (flat_map_last talk_pairs talks exchanges))
+      (responds_both Own from mid to (flat_map talk_pairs talks) (talk_pairs exchanges) goes
+      then_so),
+)
+
+-- they are single steps of any card of data objects
+pub own_steps : {State : Type 0} (Own : State → ℕ → Tpdu → State → Type 0)
+    (reset : State → State) (state_of : State → CardState) (from to : State)
+    (old new : CardState) (done : List Operation) (replies : List Reply)
+    → StandsFor Own reset state_of → state_of from ≡ old → state_of to ≡ new
+    → is_idle old.pending ≡ true → HaveCome Own from to done replies
+    → AnswersAll old done replies new × (is_idle new.pending ≡ true)
+own_steps Own reset state_of from to old new done replies means was now idle (talks, are, goes) =
+    let pairs = flat_map talk_pairs talks in
+    let P : CardState → Type 0 = λ s. RespondsToAll Does s pairs (state_of to) in
+    let Q : CardState → Type 0 = λ s. RespondsToAll Does old pairs s in
+    talks_are_single_steps old new done talks replies idle are
+    (subst Q now (subst P was (own_responds Own reset state_of from to pairs means goes)))
+
+-- it is so where nothing has changed
+pub still_replied : {State A : Type 0} (Own : State → ℕ → Tpdu → State → Type 0)
+    (from to to' : State) (ops : List (Op A)) (before : List Reply) (n : ℕ)
+    (given given' : List Reply)
+    → HaveReplies (λ done replies. HaveCome Own from to done replies) ops before n given
+    → to' ≡ to → given' ≡ given
+    → HaveReplies (λ done replies. HaveCome Own from to' done replies) ops before n given'
+still_replied {State} Own from to to' ops before n given given' have same_to same_given =
+    let P : State → Type 0 =
+    λ s. HaveReplies (λ done replies. HaveCome Own from s done replies) ops before n given' in
+    let Q : List Reply → Type 0 =
+    λ g. HaveReplies (λ done replies. HaveCome Own from to done replies) ops before n g in
+    subst P (sym same_to) (subst Q (sym same_given) have)
+
+pub still_at : {C A : Type 0} (card : Ghosts C) (from : card.State) (e e' : EndOf C)
+    (ops : List (Op A)) (before : List Reply) (n : ℕ) (given given' : List Reply)
+    → HaveReplies (λ done replies. HaveCome card.Does from (card.standing e.card) done replies) ops
+    before n given → e' ≡ e → given' ≡ given
+    → HaveReplies (λ done replies. HaveCome card.Does from (card.standing e'.card) done replies) ops
+    before n given'
+still_at {C} card from e e' ops before n given given' have same same_given =
+    still_replied card.Does from (card.standing e.card) (card.standing e'.card) ops before n given
+    given' have (ap (λ (x : EndOf C). card.standing x.card) same) same_given
+
+-- one command is a talk of an operation
+pub sent_is_talk : {State E : Type 0} (Own : State → ℕ → Tpdu → State → Type 0)
+    (from to : State) (c : Command) (o p : Operation) (r : Result Reply E) → o ≡ p
+    → AreCommandsOf o (c ∷ [])
+    → IfOk r (λ answer. (pairs : List Pair) × GathersApdus c pairs answer.content answer.status
+    × RespondsToAll Own from pairs to)
+    → IfOk r (λ answer. (exchanges : List (List Pair)) × IsApduTalkOf p exchanges answer
+    × RespondsToAll Own from (talk_pairs exchanges) to)
+sent_is_talk Own from to c o p (Err e) same are sent = tt
+sent_is_talk Own from to c o p (Ok answer) same are (pairs, gathers, goes) =
+    let P : List Pair → Type 0 = λ ps. RespondsToAll Own from ps to in
+    let Q : Operation → Type 0 = λ x. AreCommandsOf x (c ∷ []) in (
+      pairs ∷ [],
+      (c ∷ [], subst Q same are, (gathers, inl refl)),
+      subst P (sym (append-nil pairs)) goes,
+    )
+
+-- the answer of one
+pub brought_is : {State : Type 0} (Own : State → ℕ → Tpdu → State → Type 0) (old new : State)
+    (c : Command) (ex : ApduExchangeOf) (answer : Reply) → HasBrought Own old c new ex
+    → ((status : StatusWord) → ex.stage ≡ Done status
+    → answer ≡ record { status = status; content = ex.gather.bytes })
+    → (pairs : List Pair) × GathersApdus c pairs answer.content answer.status
+    × RespondsToAll Own old pairs new
+brought_is Own old new c ex answer (status, done, (pairs, gathers, goes)) told =
+    let P : Reply → Type 0 = λ r. GathersApdus c pairs r.content r.status in
+    (pairs, subst P (sym (told status done)) gathers, goes)
+
+pub steps_so_far : {State A : Type 0} (Own : State → ℕ → Tpdu → State → Type 0)
+    (reset : State → State) (state_of : State → CardState) (from to : State)
+    (old new : CardState) (ops : List (Op A)) (before : List Reply) (n : ℕ) (given : List Reply)
+    → StandsFor Own reset state_of → state_of from ≡ old → state_of to ≡ new
+    → is_idle old.pending ≡ true
+    → HaveReplies (λ done replies. HaveCome Own from to done replies) ops before n given
+    → AnswersAll old (carried_out ops (new_answers before given)) (new_answers before given) new
+    × (is_idle new.pending ≡ true)
+steps_so_far Own reset state_of from to old new ops before n given means was now idle have =
+    own_steps Own reset state_of from to old new (carried_out ops (new_answers before given))
+    (new_answers before given) means was now idle
+    (replies_come (λ done replies. HaveCome Own from to done replies) ops before n given have)

@@ -1,9 +1,10 @@
 -- How far an exchange of whole commands has come.
-use Rattle.std.specs.Prelude.{◌≡◌, ℕ, ◌+◌, ◌-◌, ◌*◌, ◌≤◌, List, [], length, Option, Some, None, Bool, true, false, nat_lt, nat_le, if◌then◌else◌, ◌⊎◌, ◌<◌, Result, MatchResult}
+use Rattle.std.specs.Prelude.{◌≡◌, ℕ, ◌+◌, ◌-◌, ◌*◌, ◌≤◌, List, [], ◌∷◌, ◌++◌, length, Option, Some, None, Bool, true, false, nat_lt, nat_le, if◌then◌else◌, ◌⊎◌, ◌<◌, Result, MatchResult, IfErr}
 use Rattle.apdu_core.specs.StatusWord.{StatusWord}
 use Rattle.apdu_core.specs.CommandBytes.{Command, HasSizes}
 use Rattle.t0_core.specs.declared.answer_fault.AnswerFault.{AnswerFault}
-use Rattle.t0_core.specs.declared.answer_fault.AnswerFault.TheVariants.{NotDue, NotAsked, TooMany, TooLong}
+use Rattle.t0_core.specs.declared.answer_fault.AnswerFault.TheVariants.{NotDue, NotAsked, TooMany, TooLong, Stalled}
+use Rattle.t0_core.specs.HostAnswer.{fails_with}
 use Rattle.t0_core.specs.Room.{Room}
 use Rattle.card_terminal.specs.declared.start_fault.StartFault.{StartFault}
 use Rattle.card_terminal.specs.declared.start_fault.StartFault.TheVariants.{OutOfMemory, OverLimit}
@@ -91,10 +92,6 @@ to_go ex =
 abbrev pub KeepsData : ApduExchangeOf → ApduExchangeOf → Type 0
 KeepsData old new = (new.content ≡ []) ⊎ ((new.content ≡ old.content) × (new.le ≡ old.le))
 
--- the command goes as a TPDU: case 1, 2 or 3
-abbrev pub IsOfTpdu : ApduExchangeOf → Type 0
-IsOfTpdu ex = (ex.content ≡ []) ⊎ (ex.le ≡ None)
-
 -- These pairs lead to the exchange as it is: it goes on; or it is over; or it has failed.
 pub data ComesTo (c : Command) (wanted : Wanted) (pairs : List Pair) (ex : ApduExchangeOf)
     : Type 0 where
@@ -125,3 +122,34 @@ response_fault ex came =
 abbrev pub answered_by : ApduExchangeOf → List ℕ → StatusWord → Pair
 answered_by ex content status =
     record { command = command_of ex; content = content; status = status }
+
+-- A response is taken, or is a fault, by an exchange.
+pub record IsResponding (old : ApduExchangeOf) (content : List ℕ) (status : StatusWord)
+    (result : Result (Unit {0}) AnswerFault) (new : ApduExchangeOf) : Type 0 where
+  pub fault : MatchResult result (λ _. response_fault old (length content) ≡ None)
+      (λ f. (response_fault old (length content) ≡ Some f)
+      ⊎ ((f ≡ Stalled) × (response_fault old (length content) ≡ None)))
+  pub few : HasFew new
+  pub limit : new.gather.limit ≡ old.gather.limit
+  pub unchanged : IfErr result (λ f. fails_with f ≡ false → new ≡ old)
+  pub failed : IfErr result (λ f. fails_with f ≡ true → new.stage ≡ Failed)
+  pub led : (c : Command) (wanted : Wanted) (pairs : List Pair) → ComesTo c wanted pairs old
+      → MatchResult result
+      (λ _. ComesTo c wanted (pairs ++ answered_by old content status ∷ []) new)
+      (λ f. fails_with f ≡ true
+      → ComesTo c wanted (pairs ++ answered_by old content status ∷ []) new)
+
+-- the same exchange over these data of its command
+abbrev pub over_data : ApduExchangeOf → List ℕ → ApduExchangeOf
+over_data ex content = record {
+  content = content;
+  le = ex.le;
+  gather = ex.gather;
+  attempt = ex.attempt;
+  wanted = ex.wanted;
+  stage = ex.stage;
+}
+
+-- the data of the next command: the same, or none
+abbrev pub kept_data : Bool → List ℕ → List ℕ
+kept_data keeps content = if keeps then content else []

@@ -1,11 +1,18 @@
 -- A whole command at a card whose end takes TPDUs, as a card at T=1 answers it, and as a reader
 -- carries it out that fetches by itself (ISO/IEC 7816-3, 12.2).
-use Rattle.std.specs.Prelude.{◌≡◌, ℕ, ◌%◌, ◌⊎◌, List, [], ◌∷◌, length, Option, Some, None}
+use Rattle.std.specs.Prelude.{◌≡◌, ℕ, ◌%◌, ◌⊎◌, List, [], ◌∷◌, length, Option, Some, None, false}
 use Rattle.apdu_core.specs.CommandBytes.{Command}
+use Rattle.t0_core.specs.declared.answer_fault.AnswerFault.TheVariants.{Stalled}
+use Rattle.t0_core.specs.declared.tpdu_card.TpduCard.{Ghosts}
+use Rattle.t0_core.specs.CardSide.{EndOf}
+use Rattle.t0_core.specs.CardTpdu.{rests}
 use Rattle.t0_core.specs.Meaning.{Tpdu}
+use Rattle.object_card.specs.Agreed.{IsAgreed}
 use Rattle.card_terminal.specs.declared.wanted.Wanted.TheVariants.{Bytes}
 use Rattle.card_terminal.specs.declared.wanted.Wanted.{Wanted}
-use Rattle.apdu_terminal.specs.Apdus.{Pair, may_bring, Brings}
+use Rattle.apdu_terminal.specs.declared.apdu_fault.ApduFault.{ApduFault}
+use Rattle.apdu_terminal.specs.declared.apdu_fault.ApduFault.TheVariants as why
+use Rattle.apdu_terminal.specs.Apdus.{Pair, Place, first_place, may_bring, GoesThrough, Brings, StallsAt}
 use Rattle.apdu_terminal.specs.ApduSide.{ApduExchangeOf, ComesTo}
 
 -- P3 of the TPDU of a command of case 1, 2 or 3
@@ -38,11 +45,15 @@ GoesBy Does old [] new = new ≡ old
 GoesBy {State = State} Does old (p ∷ pairs) new = (t : Tpdu) × (mid : State) × IsTpduOf p t
     × Does old 256 t mid × GoesBy Does mid pairs new
 
+-- what is wanted of a card that carries out this command: Le bytes
+abbrev pub le_of : Command → Wanted
+le_of c = Bytes (may_bring c.le)
+
 -- The card's response to a whole command: what its TPDUs bring to who wants Le bytes, 256 with 00.
 abbrev pub Responds : {State : Type 0} → (State → ℕ → Tpdu → State → Type 0) → State → Pair
     → State → Type 0
 Responds Does old p new = (pairs : List Pair)
-    × Brings (tpdu_command p.command) (Bytes (may_bring p.command.le)) pairs p.content p.status
+    × Brings (tpdu_command p.command) (le_of p.command) pairs p.content p.status
     × GoesBy Does old pairs new
 
 -- whole commands in turn
@@ -52,11 +63,36 @@ RespondsToAll Does old [] new = new ≡ old
 RespondsToAll {State = State} Does old (p ∷ pairs) new = (mid : State) × Responds Does old p mid
     × RespondsToAll Does mid pairs new
 
--- What a card's end has carried out of an exchange: the pairs that led there are the card's TPDUs.
-abbrev pub HasCome : {State : Type 0} → (State → ℕ → Tpdu → State → Type 0) → Command → Wanted
-    → State → State → ApduExchangeOf → Type 0
-HasCome Does c wanted old new ex =
-    (pairs : List Pair) × ComesTo c wanted pairs ex × GoesBy Does old pairs new
+-- What a card's end has carried out of a whole command: the pairs that led there are the card's
+-- TPDUs.
+abbrev pub HasCome : {State : Type 0} → (State → ℕ → Tpdu → State → Type 0) → Command → State
+    → State → ApduExchangeOf → Type 0
+HasCome Does c old new ex =
+    (pairs : List Pair) × ComesTo (tpdu_command c) (le_of c) pairs ex × GoesBy Does old pairs new
+
+-- How a card leaves a whole command that it does not answer. It did not carry out a TPDU of a
+-- command that is not agreed with it, and is reset after those before. Or a GET RESPONSE brought
+-- nothing, and it announced more.
+abbrev pub HasFailed : {C : Type 0} (card : Ghosts C) → Command → card.State → ApduFault
+    → card.State → Type 0
+HasFailed card c old why.UnderWay new = ⊥
+HasFailed card c old why.OutOfMemory new = ⊥
+HasFailed card c old (why.Tpdu fault) new = (IsAgreed card.MayReceive card.MaySend c → ⊥)
+    × ((pairs : List Pair) × (at : Place) × (mid : card.State)
+    × GoesThrough (first_place (tpdu_command c) (le_of c)) pairs at
+    × GoesBy card.Does old pairs mid × (new ≡ card.after_reset mid))
+HasFailed card c old (why.Response fault) new = (fault ≡ Stalled) × ((pairs : List Pair)
+    × StallsAt (tpdu_command c) (le_of c) pairs × GoesBy card.Does old pairs new)
+
+-- Or it has not begun, and nothing has changed.
+abbrev pub IsLeft : {C : Type 0} (card : Ghosts C) → Command → EndOf C → ApduFault → EndOf C
+    → Type 0
+IsLeft card c old why.UnderWay new = (rests old.stage ≡ false) × (new ≡ old)
+IsLeft card c old why.OutOfMemory new = new ≡ old
+IsLeft card c old (why.Tpdu fault) new =
+    HasFailed card c (card.standing old.card) (why.Tpdu fault) (card.standing new.card)
+IsLeft card c old (why.Response fault) new =
+    HasFailed card c (card.standing old.card) (why.Response fault) (card.standing new.card)
 
 -- What a terminal has carried out of an exchange: the card has responded to all that led there.
 abbrev pub HasHad : {State : Type 0} → (State → ℕ → Tpdu → State → Type 0) → Command → Wanted

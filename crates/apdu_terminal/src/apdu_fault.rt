@@ -9,9 +9,9 @@ pub enum ApduFault {
     OutOfMemory,
     /// A TPDU is in progress at the card's end.
     UnderWay,
-    /// The card did not carry out one of the command's TPDUs, and was reset.
+    /// The card did not carry out one of the command's TPDUs, and is reset.
     Tpdu(TpduFault),
-    /// What the card answered is no response to the command.
+    /// A GET RESPONSE brought nothing, and the card announces more.
     Response(AnswerFault),
 }
 

@@ -1,12 +1,15 @@
 //! Carries out whole commands at a card whose end takes TPDUs.
-ghost use Rattle.std.specs.Prelude.{◌≡◌, ◌<◌, ◌⊎◌, ℕ, [], Some, None, Err, false, true, IfOk, IfErr, OnOk};
+ghost use Rattle.std.specs.Prelude.{◌≡◌, ◌<◌, ◌≤◌, ◌⊎◌, ℕ, [], Some, None, Err, false, true, IfOk, IfErr, OnOk, MatchResult, length};
 ghost use Rattle.apdu_terminal.specs.declared.apdu_fault.ApduFault.TheVariants as ApduFault;
 ghost use Rattle.apdu_core.specs.CommandBytes as spec;
 ghost use Rattle.apdu_core.specs.StatusWord.{StatusWord};
+ghost use Rattle.object_card.specs.Agreed.{IsAgreed};
 ghost use Rattle.t0_core.specs.CardTpdu.{rests};
 ghost use Rattle.t0_core.specs.Meaning.{Tpdu};
-ghost use Rattle.apdu_terminal.specs.ApduSide.{IsOfTpdu, due_of, has_failed, to_go};
-ghost use Rattle.apdu_terminal.specs.CardApdu.{HasCome, IsTpduOf, Responds, tpdu_command};
+ghost use Rattle.card_terminal.specs.ExchangeSide.{response_limit};
+ghost use Rattle.apdu_terminal.specs.Apdus.{may_bring};
+ghost use Rattle.apdu_terminal.specs.ApduSide.{due_of, has_failed, to_go};
+ghost use Rattle.apdu_terminal.specs.CardApdu.{HasCome, HasFailed, IsLeft, IsTpduOf, Responds, tpdu_command};
 ghost use Rattle.apdu_terminal.specs.declared.stage.Stage.TheVariants.{Done};
 
 use crate::apdu_fault::ApduFault;
@@ -15,7 +18,7 @@ use crate::exchange::ApduExchange;
 use apdu_core::{Command, Status};
 use card_terminal::Wanted;
 use std::alloc::Allocator;
-use t0_core::{CardEnd, Gather, Plan, Plans, TpduCard};
+use t0_core::{CardEnd, Gather, Plan, Plans, TpduCard, TpduFault};
 
 /// Carries out a whole command at a card's end (profile). It goes as a TPDU, in case 4 without its
 /// Le. After `6CXX` it goes once more with that count. After `61XX` GET RESPONSE fetches what Le
@@ -25,8 +28,8 @@ use t0_core::{CardEnd, Gather, Plan, Plans, TpduCard};
 /// # Errors
 /// - `UnderWay`: a TPDU is in progress at the card's end. Nothing changes.
 /// - `OutOfMemory`: memory for the response ran out. Nothing changes.
-/// - `Tpdu`: the card did not carry out a TPDU, and was reset.
-/// - `Response`: the card answered what is no response. It is as after that answer.
+/// - `Tpdu`: the card did not carry out a TPDU, as the command is not agreed with it. It is reset.
+/// - `Response`: a GET RESPONSE brought nothing, and the card announces more. It is as after that.
 pub fn apdu<'c, C: TpduCard, A: Allocator + Copy>(
     alloc: A,
     end: &mut CardEnd<C>,
@@ -38,20 +41,45 @@ pub fn apdu<'c, C: TpduCard, A: Allocator + Copy>(
           content = ex.gather.bytes;
           status = status;
         }) (C.standing end.new.card)) }
-    ensures rests { OnOk result (rests end.new.stage ≡ true) }
-    ensures under_way { rests end.old.stage ≡ false → (result ≡ Err ApduFault.UnderWay)
-        × (end.new ≡ end.old) }
-    ensures known { IfErr result (λ f. f ≡ ApduFault.UnderWay → rests end.old.stage ≡ false) }
-    ensures memory { IfErr result (λ f. f ≡ ApduFault.OutOfMemory → end.new ≡ end.old) }
+    ensures left { IfErr result
+        (λ f. IsLeft C.TpduCard command.entry end.old f end.new) }
+    ensures rests { rests end.new.stage ≡ rests end.old.stage }
+    ensures under_way { rests end.old.stage ≡ false → result ≡ Err ApduFault.UnderWay }
 {
     if !end.is_at_rest() {
         return Err(ApduFault::UnderWay);
     }
+    let room = Gather::with_room(alloc, 256)?;
     let mut gather = Gather::with_room(alloc, 256)?;
+    carry_out(end, command, room, &mut gather)
+}
+
+/// Carries out a whole command in this room, with room for the data of its TPDUs.
+pub(crate) fn carry_out<'c, C: TpduCard, A: Allocator, B: Allocator>(
+    end: &mut CardEnd<C>,
+    command: Command<'c>,
+    mut room: Gather<A>,
+    gather: &mut Gather<B>,
+) -> Result<ApduExchange<'c, A>, ApduFault>
+    requires rests { rests end.old.stage ≡ true }
+    requires room { (256 ≤ room.limit) × (room.limit ≤ response_limit) × (256 ≤ gather.old.limit) }
+    ensures responds { IfOk result (λ ex. (status : StatusWord) × (ex.stage ≡ Done status)
+        × Responds C.Does (C.standing end.old.card) (record {
+          command = command.entry;
+          content = ex.gather.bytes;
+          status = status;
+        }) (C.standing end.new.card)) }
+    ensures failed { IfErr result (λ f. HasFailed C.TpduCard command.entry
+        (C.standing end.old.card) f (C.standing end.new.card)) }
+    ensures rests { rests end.new.stage ≡ true }
+    ensures room { IfOk result (λ ex. ex.gather.limit ≡ room.limit) }
+    ensures limit { gather.new.limit ≡ gather.old.limit }
+{
     let wanted = Wanted::Bytes(command.le().unwrap_or(0));
     let first = without_le(command);
-    let mut exchange = ApduExchange::wanting(alloc, first, wanted, 256)?;
-    converse(end, &mut exchange, &mut gather)?;
+    room.clear();
+    let mut exchange = ApduExchange::begin(room, first, wanted);
+    converse(end, &mut exchange, gather)?;
     Ok(exchange)
 }
 
@@ -71,15 +99,18 @@ fn converse<C: TpduCard, A: Allocator, B: Allocator>(
     gather: &mut Gather<B>,
 ) -> Result<(), ApduFault>
     requires rests { rests end.old.stage ≡ true }
-    requires tpdu { IsOfTpdu exchange.old }
     requires going { has_failed exchange.old.stage ≡ false }
-    ensures rests { OnOk result (rests end.new.stage ≡ true) }
+    requires room { (256 ≤ exchange.old.gather.limit) × (256 ≤ gather.old.limit) }
+    requires come { (c : spec.Command) × (first : C.State) × (may_bring c.le ≤ 256)
+        × HasCome C.Does c first (C.standing end.old.card) exchange.old }
+    ensures rests { rests end.new.stage ≡ true }
     ensures over { OnOk result ((status : StatusWord) × (exchange.new.stage ≡ Done status)) }
-    ensures fault { IfErr result (λ f. f ≡ ApduFault.OutOfMemory → ⊥) }
-    ensures begun { IfErr result (λ f. f ≡ ApduFault.UnderWay → ⊥) }
-    ensures came { (c : spec.Command) (wanted : Wanted) (first : C.State) →
-        HasCome C.Does c wanted first (C.standing end.old.card) exchange.old → OnOk result
-        (HasCome C.Does c wanted first (C.standing end.new.card) exchange.new) }
+    ensures limit { (exchange.new.gather.limit ≡ exchange.old.gather.limit)
+        × (gather.new.limit ≡ gather.old.limit) }
+    ensures come { (c : spec.Command) (first : C.State) → may_bring c.le ≤ 256 →
+        HasCome C.Does c first (C.standing end.old.card) exchange.old → MatchResult result
+        (λ _. HasCome C.Does c first (C.standing end.new.card) exchange.new)
+        (λ f. HasFailed C.TpduCard c first f (C.standing end.new.card)) }
 {
     'talk: while let Some(due) = exchange.apdu() {
         pass(end, exchange, &due, gather)?;
@@ -95,22 +126,24 @@ fn pass<C: TpduCard, A: Allocator, B: Allocator>(
     gather: &mut Gather<B>,
 ) -> Result<(), ApduFault>
     requires rests { rests end.old.stage ≡ true }
-    requires tpdu { IsOfTpdu exchange.old }
     requires due { due_of exchange.old ≡ Some due.now }
-    ensures rests { OnOk result (rests end.new.stage ≡ true) }
-    ensures tpdu { IsOfTpdu exchange.new }
+    requires room { (256 ≤ exchange.old.gather.limit) × (256 ≤ gather.old.limit) }
+    requires come { (c : spec.Command) × (first : C.State) × (may_bring c.le ≤ 256)
+        × HasCome C.Does c first (C.standing end.old.card) exchange.old }
+    ensures rests { rests end.new.stage ≡ true }
     ensures taken { OnOk result (has_failed exchange.new.stage ≡ false) }
-    ensures fault { IfErr result (λ f. f ≡ ApduFault.OutOfMemory → ⊥) }
-    ensures begun { IfErr result (λ f. f ≡ ApduFault.UnderWay → ⊥) }
     ensures falls { OnOk result (to_go exchange.new < to_go exchange.old) }
-    ensures came { (c : spec.Command) (wanted : Wanted) (first : C.State) →
-        HasCome C.Does c wanted first (C.standing end.old.card) exchange.old → OnOk result
-        (HasCome C.Does c wanted first (C.standing end.new.card) exchange.new) }
+    ensures limit { (exchange.new.gather.limit ≡ exchange.old.gather.limit)
+        × (gather.new.limit ≡ gather.old.limit) }
+    ensures come { (c : spec.Command) (first : C.State) → may_bring c.le ≤ 256 →
+        HasCome C.Does c first (C.standing end.old.card) exchange.old → MatchResult result
+        (λ _. HasCome C.Does c first (C.standing end.new.card) exchange.new)
+        (λ f. HasFailed C.TpduCard c first f (C.standing end.new.card)) }
 {
     gather.clear();
     let status = match sent(end, due, gather) {
         Ok(status) => status,
-        Err(fault) => return Err(fault),
+        Err(fault) => return Err(ApduFault::Tpdu(fault)),
     };
     match exchange.responded(gather.bytes(), status) {
         Ok(()) => Ok(()),
@@ -118,21 +151,26 @@ fn pass<C: TpduCard, A: Allocator, B: Allocator>(
     }
 }
 
-/// Carries out a command of case 1, 2 or 3 as a TPDU, and gathers its data.
+/// Carries out a command of case 1, 2 or 3 as a TPDU, and gathers its data. A card that does not
+/// is reset.
 fn sent<C: TpduCard, B: Allocator>(
     end: &mut CardEnd<C>,
     due: &Command<'_>,
     gather: &mut Gather<B>,
-) -> Result<Status, ApduFault>
+) -> Result<Status, TpduFault>
     requires rests { rests end.old.stage ≡ true }
     requires tpdu { (due.now.content ≡ []) ⊎ (due.now.le ≡ None) }
     requires empty { gather.old.bytes ≡ [] }
-    ensures fault { IfErr result (λ f. f ≡ ApduFault.OutOfMemory → ⊥) }
-    ensures begun { IfErr result (λ f. f ≡ ApduFault.UnderWay → ⊥) }
-    ensures rests { OnOk result (rests end.new.stage ≡ true) }
-    ensures goes { IfOk result (λ status. (t : Tpdu)
+    requires room { 256 ≤ gather.old.limit }
+    ensures rests { rests end.new.stage ≡ true }
+    ensures limit { gather.new.limit ≡ gather.old.limit }
+    ensures goes { MatchResult result
+        (λ status. ((t : Tpdu)
         × IsTpduOf (record { command = due.now; content = gather.new.bytes; status = status }) t
-        × C.Does (C.standing end.old.card) 256 t (C.standing end.new.card)) }
+        × C.Does (C.standing end.old.card) 256 t (C.standing end.new.card))
+        × (length gather.new.bytes ≤ may_bring due.now.le))
+        (λ fault. (C.standing end.new.card ≡ C.after_reset (C.standing end.old.card))
+        × (IsAgreed C.MayReceive C.MaySend due.now → ⊥)) }
 {
     let _le = due.le();
     let mut bytes = [0; COMMAND_LIMIT];
@@ -140,8 +178,5 @@ fn sent<C: TpduCard, B: Allocator>(
         unreachable!()
     };
     let none: &[Plan] = &[];
-    match end.tpdu(&bytes[..count], &mut Plans::over(none), gather) {
-        Ok(status) => Ok(status),
-        Err(fault) => Err(ApduFault::Tpdu(fault)),
-    }
+    end.tpdu(&bytes[..count], &mut Plans::over(none), gather)
 }

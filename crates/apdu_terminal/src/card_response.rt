@@ -1,27 +1,30 @@
 //! Answers whole commands, as a card of data objects does.
-ghost use Rattle.std.specs.Prelude.{◌≡◌, [], Err, false, true, IfOk, IfErr, OnOk};
+ghost use Rattle.std.specs.Prelude.{◌≡◌, ◌⊎◌, ◌≤◌, [], false, true, IfOk, IfErr};
 ghost use Rattle.apdu_core.specs.StatusWord.{StatusWord};
 ghost use Rattle.object_card.specs.Agreed.{IsAgreed};
 ghost use Rattle.object_card.specs.Instructions.{MayReceive, MaySend};
 ghost use Rattle.t0_core.specs.CardTpdu.{rests};
+ghost use Rattle.card_terminal.specs.ExchangeSide.{response_limit};
 ghost use Rattle.apdu_terminal.specs.CardApdu.{Responds};
 ghost use Rattle.apdu_terminal.specs.declared.apdu_fault.ApduFault.TheVariants as ApduFault;
 ghost use Rattle.apdu_terminal.specs.declared.stage.Stage.TheVariants.{Done};
 
 use crate::apdu_fault::ApduFault;
-use crate::card_apdu::apdu;
+use crate::card_apdu::carry_out;
 use crate::exchange::ApduExchange;
 use apdu_core::{Command, Status};
 use object_card::{DataCard, is_agreed};
 use std::alloc::Allocator;
-use t0_core::CardEnd;
+use t0_core::{CardEnd, Gather};
 
 /// Answers a whole command, as a card of data objects does (profile). A command that is not agreed
 /// with the card (`object_card::is_agreed`) is answered `6700` before any other refusal, and
-/// nothing changes: a chain or a response stays pending. Every other one is carried out by `apdu`.
+/// nothing changes: a chain or a response stays pending. Every other one is carried out, as `apdu`
+/// does.
 ///
 /// # Errors
-/// Those of `apdu`.
+/// - `UnderWay`: a TPDU is in progress at the card's end. Nothing changes.
+/// - `OutOfMemory`: memory for the response ran out. Nothing changes.
 pub fn respond<'c, C: DataCard, A: Allocator + Copy>(
     alloc: A,
     end: &mut CardEnd<C>,
@@ -37,11 +40,11 @@ pub fn respond<'c, C: DataCard, A: Allocator + Copy>(
           content = ex.gather.bytes;
           status = status;
         }) (C.standing end.new.card)) }
-    ensures rests { OnOk result (rests end.new.stage ≡ true) }
-    ensures under_way { rests end.old.stage ≡ false → (result ≡ Err ApduFault.UnderWay)
-        × (end.new ≡ end.old) }
-    ensures known { IfErr result (λ f. f ≡ ApduFault.UnderWay → rests end.old.stage ≡ false) }
-    ensures memory { IfErr result (λ f. f ≡ ApduFault.OutOfMemory → end.new ≡ end.old) }
+    ensures rests { rests end.new.stage ≡ rests end.old.stage }
+    ensures fault { IfErr result (λ f. (end.new ≡ end.old)
+        × (((f ≡ ApduFault.UnderWay) × (rests end.old.stage ≡ false))
+        ⊎ ((f ≡ ApduFault.OutOfMemory) × (rests end.old.stage ≡ true)))) }
+    ensures under_way { rests end.old.stage ≡ false → IfOk result (λ _. ⊥) }
 {
     if !end.is_at_rest() {
         return Err(ApduFault::UnderWay);
@@ -49,7 +52,36 @@ pub fn respond<'c, C: DataCard, A: Allocator + Copy>(
     if !is_agreed(&command) {
         return Ok(ApduExchange::refused(alloc, command, wrong_length())?);
     }
-    apdu(alloc, end, command)
+    let room = Gather::with_room(alloc, 256)?;
+    let mut gather = Gather::with_room(alloc, 256)?;
+    Ok(answered(end, command, room, &mut gather))
+}
+
+/// Answers a whole command that is agreed with the card in this room, with room for the data of its
+/// TPDUs.
+pub(crate) fn answered<'c, C: DataCard, A: Allocator, B: Allocator>(
+    end: &mut CardEnd<C>,
+    command: Command<'c>,
+    room: Gather<A>,
+    gather: &mut Gather<B>,
+) -> ApduExchange<'c, A>
+    requires rests { rests end.old.stage ≡ true }
+    requires room { (256 ≤ room.limit) × (room.limit ≤ response_limit) × (256 ≤ gather.old.limit) }
+    requires agreed { IsAgreed C.MayReceive C.MaySend command }
+    ensures responds { (status : StatusWord) × (result.stage ≡ Done status)
+        × Responds C.Does (C.standing end.old.card) (record {
+          command = command.entry;
+          content = result.gather.bytes;
+          status = status;
+        }) (C.standing end.new.card) }
+    ensures rests { rests end.new.stage ≡ true }
+    ensures room { result.gather.limit ≡ room.limit }
+    ensures limit { gather.new.limit ≡ gather.old.limit }
+{
+    let Ok(exchange) = carry_out(end, command, room, gather) else {
+        unreachable!()
+    };
+    exchange
 }
 
 /// `6700`, wrong length.

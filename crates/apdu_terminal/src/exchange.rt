@@ -11,9 +11,12 @@ ghost use Rattle.apdu_terminal.specs.Apdus.{Pair, is_case_2, Brings};
 ghost use Rattle.apdu_terminal.specs.ApduSide.{ComesTo, IsLimitedTo, HasFew, KeepsData, answer_of, command_of, due_of, has_failed, to_go, response_fault, answered_by};
 ghost use Rattle.apdu_terminal.specs.declared.stage.Stage.TheVariants as stage;
 
+mod detached;
+
 use crate::stage::Stage;
 use apdu_core::{Command, Status};
 use card_terminal::{Attempt, Next, RESPONSE_LIMIT, StartFault, Wanted};
+pub(crate) use detached::Detached;
 use std::alloc::{AllocError, Allocator, Global};
 use std::marker::Model;
 use t0_core::{AnswerFault, Gather};
@@ -106,6 +109,22 @@ impl<'a, A: Allocator> ApduExchange<'a, A> {
         ensures empty { IfOk result (λ ex. ex.gather.bytes ≡ []) }
     {
         let gather = Gather::with_room(alloc, limit)?;
+        Ok(ApduExchange::begin(gather, command, wanted))
+    }
+
+    /// Starts an exchange that wants this much, in an empty room.
+    pub(crate) fn begin(
+        gather: Gather<A>,
+        command: Command<'a>,
+        wanted: Wanted,
+    ) -> ApduExchange<'a, A>
+        requires empty { gather.bytes ≡ [] }
+        requires limit { gather.limit ≤ response_limit }
+        ensures led { ComesTo command.entry wanted [] result }
+        ensures command { command_of result ≡ command.entry }
+        ensures going { result.stage ≡ stage.Going }
+        ensures room { result.gather ≡ gather }
+    {
         let (content, le) = (command.data(), command.le());
         let attempt = Attempt {
             header: command.header(),
@@ -115,14 +134,14 @@ impl<'a, A: Allocator> ApduExchange<'a, A> {
             before: 0,
             number: 1,
         };
-        Ok(ApduExchange {
+        ApduExchange {
             content,
             le,
             gather,
             attempt,
             wanted,
             stage: Stage::Going,
-        })
+        }
     }
 
     /// Returns an exchange that has ended with this status, without data. Returns `AllocError` if
@@ -251,6 +270,14 @@ impl<'a, A: Allocator> ApduExchange<'a, A> {
             Stage::Done(status) => Some((status, self.gather.bytes())),
             _ => None,
         }
+    }
+
+    /// Returns the room, with the data so far.
+    pub(crate) fn into_gather(self) -> Gather<A>
+        ensures { result ≡ self.entry.gather }
+    {
+        let ApduExchange { gather, .. } = self;
+        gather
     }
 }
 

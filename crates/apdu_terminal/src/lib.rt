@@ -1,9 +1,10 @@
 //! Both ends of whole commands (ISO/IEC 7816-4, 5.1): for cards at T=1 or without contacts, and for
 //! readers that fetch by themselves.
 //!
-//! - `ApduExchange` is the terminal's side of one command.
+//! - `ApduExchange` is the terminal's side of one command; `ApduTerminal` that of operations,
+//!   without a borrow.
 //! - `apdu` and `respond` are a card's side, over its TPDUs.
-//! - `transmit` joins both; `select`, `get` and `put` are operations.
+//! - `send` joins both for a command, `run` for a list of operations.
 //!
 //! Proved is that each operation is the one of a card that answers in one step (`operations.rt`).
 //! README says more, with the rules in docs/RULES.md.
@@ -17,6 +18,8 @@ mod exchange;
 pub mod laws;
 mod operations;
 mod stage;
+mod terminal;
+pub mod terminal_laws;
 mod transmission;
 
 pub use apdu_fault::ApduFault;
@@ -24,6 +27,7 @@ pub use card_apdu::apdu;
 pub use card_response::respond;
 pub use command_bytes::{COMMAND_LIMIT, write_command};
 pub use exchange::ApduExchange;
-pub use operations::{get, put, select};
+pub use operations::run;
 pub use stage::Stage;
-pub use transmission::transmit;
+pub use terminal::ApduTerminal;
+pub use transmission::send;

@@ -1,93 +1,158 @@
-//! Runs the exchange of a command with a card, by whole commands.
-ghost use Rattle.std.specs.Prelude.{◌≡◌, ◌<◌, List, Some, false, true, IfOk, OnOk, IfErr};
-ghost use Rattle.t0_core.specs.CardTpdu.{rests};
-ghost use Rattle.apdu_terminal.specs.declared.apdu_fault.ApduFault.TheVariants as ApduFault;
+//! Has a card of data objects answer commands, by whole commands.
+ghost use Rattle.std.specs.Prelude.{◌≡◌, ◌∷◌, ◌↔◌, [], List, IsTrue, true, IfOk, OnErr};
+ghost use Rattle.std.specs.List.{AllByRecursion};
 ghost use Rattle.apdu_core.specs.CommandBytes as spec;
-ghost use Rattle.apdu_core.specs.StatusWord.{StatusWord};
-ghost use Rattle.card_terminal.specs.declared.wanted.Wanted.{Wanted};
+ghost use Rattle.apdu_core.specs.StatusWord.{StatusWord, ok};
+ghost use Rattle.object_card.specs.Agreed.{IsAgreed};
+ghost use Rattle.object_card.specs.State.{IsCardState};
+ghost use Rattle.t0_core.specs.CardTpdu.{rests};
+ghost use Rattle.card_terminal.specs.ExchangeSide.{response_limit};
+ghost use Rattle.card_terminal.specs.Gathered.{wanted_by};
 ghost use Rattle.apdu_terminal.specs.Apdus.{Pair, GathersApdus};
-ghost use Rattle.apdu_terminal.specs.ApduSide.{due_of, has_failed, to_go};
-ghost use Rattle.apdu_terminal.specs.CardApdu.{HasHad, RespondsToAll};
+ghost use Rattle.apdu_terminal.specs.ApduSide.{ComesTo};
+ghost use Rattle.apdu_terminal.specs.ApduTalk.{AreApdusOf, HasBrought, talk_pairs};
+ghost use Rattle.apdu_terminal.specs.CardApdu.{RespondsToAll};
 ghost use Rattle.apdu_terminal.specs.declared.stage.Stage.TheVariants.{Done};
 
-use crate::apdu_fault::ApduFault;
-use crate::card_apdu::apdu;
+use crate::card_response::answered;
 use crate::exchange::ApduExchange;
-use apdu_core::Command;
-use std::alloc::Allocator;
-use t0_core::{CardEnd, TpduCard};
+use apdu_core::{Command, Pieces};
+use card_terminal::{Answer, Wanted};
+use object_card::DataCard;
+use std::alloc::{AllocError, Allocator};
+use t0_core::{CardEnd, Gather};
 
-/// Runs the exchange of a command with a card, by whole commands. The exchange that it returns is
-/// over: it holds the data and the status.
-///
-/// # Errors
-/// - `UnderWay`: a TPDU is in progress at the card's end. Nothing changes.
-/// - `OutOfMemory`: memory ran out. The responses so far have been taken from the card.
-/// - `Tpdu`: the card did not carry out a TPDU, and was reset.
-/// - `Response`: the card answered what is no response. It is as after that answer.
-pub fn transmit<'c, C: TpduCard, A: Allocator + Copy>(
+/// Carries out a command that is agreed with the card, by whole commands. Returns `AllocError` if
+/// memory ran out, and then nothing has changed.
+pub fn send<C: DataCard, A: Allocator + Copy>(
     alloc: A,
     end: &mut CardEnd<C>,
-    command: Command<'c>,
-) -> Result<ApduExchange<'c, A>, ApduFault>
-    ensures known { IfErr result (λ f. f ≡ ApduFault.UnderWay → rests end.old.stage ≡ false) }
-    ensures rests { OnOk result (rests end.new.stage ≡ true) }
-    ensures answers { IfOk result (λ ex. (status : StatusWord) × (ex.stage ≡ Done status)
-        × ((pairs : List Pair) × GathersApdus command.entry pairs ex.gather.bytes status
-        × RespondsToAll C.Does (C.standing end.old.card) pairs (C.standing end.new.card))) }
+    command: Command<'_>,
+) -> Result<Answer<A>, AllocError>
+    requires rests { rests end.old.stage ≡ true }
+    requires agreed { IsAgreed C.MayReceive C.MaySend command }
+    ensures memory { OnErr result (end.new ≡ end.old) }
+    ensures rests { rests end.new.stage ≡ true }
+    ensures pairs { IfOk result (λ answer. (pairs : List Pair)
+        × GathersApdus command.entry pairs answer.content answer.status
+        × RespondsToAll C.Does (C.standing end.old.card) pairs (C.standing end.new.card)) }
 {
-    if !end.is_at_rest() {
-        return Err(ApduFault::UnderWay);
-    }
     let mut exchange = ApduExchange::start(alloc, command)?;
-    converse(alloc, end, &mut exchange)?;
-    Ok(exchange)
+    let room = Gather::with_room(alloc, 256)?;
+    let mut gather = Gather::with_room(alloc, 256)?;
+    let _room = go_through(end, &mut exchange, room, &mut gather);
+    Ok(answer_of(exchange))
 }
 
-/// Has the card respond to the commands that are due.
-fn converse<C: TpduCard, A: Allocator + Copy>(
+/// Carries out a command and those after it, up to the first that is answered with another status
+/// than `9000`, all in one room. Returns `AllocError` if memory ran out, and then nothing has
+/// changed.
+pub(crate) fn chain<'v, C: DataCard, A: Allocator + Copy>(
     alloc: A,
     end: &mut CardEnd<C>,
-    exchange: &mut ApduExchange<'_, A>,
-) -> Result<(), ApduFault>
-    requires going { has_failed exchange.old.stage ≡ false }
+    first: Command<'v>,
+    mut others: Pieces<'v>,
+) -> Result<Answer<A>, AllocError>
     requires rests { rests end.old.stage ≡ true }
-    ensures begun { IfErr result (λ f. f ≡ ApduFault.UnderWay → ⊥) }
-    ensures rests { OnOk result (rests end.new.stage ≡ true) }
-    ensures over { OnOk result ((status : StatusWord) × (exchange.new.stage ≡ Done status)) }
-    ensures came { (c : spec.Command) (wanted : Wanted) (first : C.State) →
-        HasHad C.Does c wanted first (C.standing end.old.card) exchange.old → OnOk result
-        (HasHad C.Does c wanted first (C.standing end.new.card) exchange.new) }
+    requires agreed { IsAgreed C.MayReceive C.MaySend first
+        × AllByRecursion (λ c. IsAgreed C.MayReceive C.MaySend c) others }
+    ensures memory { OnErr result (end.new ≡ end.old) }
+    ensures rests { rests end.new.stage ≡ true }
+    ensures exchanges { IfOk result (λ answer. (exchanges : List (List Pair))
+        × AreApdusOf (first.entry ∷ others.entry) exchanges answer
+        × RespondsToAll C.Does (C.standing end.old.card) (talk_pairs exchanges)
+        (C.standing end.new.card)) }
 {
-    'talk: while let Some(due) = exchange.apdu() {
-        pass(alloc, end, exchange, due)?;
+    let mut exchange = ApduExchange::start(alloc, first)?;
+    let mut room = Gather::with_room(alloc, 256)?;
+    let mut gather = Gather::with_room(alloc, 256)?;
+    room = go_through(end, &mut exchange, room, &mut gather);
+    'pieces: loop {
+        if !went_well(&exchange) {
+            return Ok(answer_of(exchange));
+        }
+        match others.next() {
+            None => return Ok(answer_of(exchange)),
+            Some(command) => {
+                exchange = again(exchange, command);
+                room = go_through(end, &mut exchange, room, &mut gather);
+            }
+        }
     }
-    Ok(())
 }
 
-/// Has the card respond to the command that is due.
-fn pass<C: TpduCard, A: Allocator + Copy>(
-    alloc: A,
-    end: &mut CardEnd<C>,
-    exchange: &mut ApduExchange<'_, A>,
-    due: Command<'_>,
-) -> Result<(), ApduFault>
-    requires due { due_of exchange.old ≡ Some due }
-    requires rests { rests end.old.stage ≡ true }
-    ensures begun { IfErr result (λ f. f ≡ ApduFault.UnderWay → ⊥) }
-    ensures rests { OnOk result (rests end.new.stage ≡ true) }
-    ensures taken { OnOk result (has_failed exchange.new.stage ≡ false) }
-    ensures falls { OnOk result (to_go exchange.new < to_go exchange.old) }
-    ensures came { (c : spec.Command) (wanted : Wanted) (first : C.State) →
-        HasHad C.Does c wanted first (C.standing end.old.card) exchange.old → OnOk result
-        (HasHad C.Does c wanted first (C.standing end.new.card) exchange.new) }
+/// Starts the exchange of the next command, in the room of the last.
+fn again<'v, A: Allocator>(
+    exchange: ApduExchange<'v, A>,
+    command: Command<'v>,
+) -> ApduExchange<'v, A>
+    requires { exchange.gather.limit ≡ response_limit }
+    ensures led { ComesTo command.entry (wanted_by command.entry.le) [] result }
+    ensures limit { result.gather.limit ≡ response_limit }
 {
-    let done = apdu(alloc, end, due)?;
-    let Some(status) = done.status() else {
+    let wanted = Wanted::by(command.le());
+    let mut gather = exchange.into_gather();
+    gather.clear();
+    ApduExchange::begin(gather, command, wanted)
+}
+
+/// Returns the answer of an exchange that is over, in memory of its size.
+fn answer_of<A: Allocator>(exchange: ApduExchange<'_, A>) -> Answer<A>
+    requires { (status : StatusWord) × (exchange.stage ≡ Done status) }
+    ensures { (status : StatusWord) → exchange.entry.stage ≡ Done status →
+        result ≡ record { status = status; content = exchange.entry.gather.bytes } }
+{
+    let Some(status) = exchange.status() else {
         unreachable!()
     };
-    match exchange.responded(done.data(), status) {
-        Ok(()) => Ok(()),
-        Err(fault) => Err(ApduFault::Response(fault)),
+    Answer::new(status, exchange.into_gather())
+}
+
+/// Has the card answer the commands of an exchange that has begun, until it is over. Returns the
+/// room for the answers.
+fn go_through<C: DataCard, A: Allocator, B: Allocator>(
+    end: &mut CardEnd<C>,
+    exchange: &mut ApduExchange<'_, A>,
+    mut room: Gather<B>,
+    gather: &mut Gather<B>,
+) -> Gather<B>
+    requires rests { rests end.old.stage ≡ true }
+    requires begun { (c : spec.Command) × IsAgreed C.MayReceive C.MaySend c
+        × ComesTo c (wanted_by c.le) [] exchange.old }
+    requires rooms { (exchange.old.gather.limit ≡ response_limit) × (room.limit ≡ 256)
+        × (gather.old.limit ≡ 256) }
+    ensures rests { rests end.new.stage ≡ true }
+    ensures brought { (c : spec.Command) → IsAgreed C.MayReceive C.MaySend c →
+        ComesTo c (wanted_by c.le) [] exchange.old →
+        HasBrought C.Does (C.standing end.old.card) c (C.standing end.new.card) exchange.new }
+    ensures rooms { (exchange.new.gather.limit ≡ response_limit) × (result.limit ≡ 256)
+        × (gather.new.limit ≡ 256) }
+{
+    let _sound = is_sound(end);
+    'talk: while let Some(due) = exchange.apdu() {
+        let response = answered(end, due, room, gather);
+        let Some(status) = response.status() else {
+            unreachable!()
+        };
+        exchange.responded(response.data(), status).unwrap();
+        room = response.into_gather();
+    }
+    room
+}
+
+/// For the proof: says that the card is in a sound state.
+fn is_sound<C: DataCard>(end: &CardEnd<C>) -> bool
+    ensures { IsCardState (C.state end.now.card) }
+{
+    end.card().is_idle()
+}
+
+/// Whether an exchange is over, with `9000`.
+fn went_well<A: Allocator>(exchange: &ApduExchange<'_, A>) -> bool
+    ensures { IsTrue result ↔ (exchange.now.stage ≡ Done ok) }
+{
+    match exchange.status() {
+        Some(status) => status.is_ok(),
+        None => false,
     }
 }

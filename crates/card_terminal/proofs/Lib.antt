@@ -27,5 +27,5 @@ mod TerminalLemmas
 mod TerminalStepLemmas
 mod TerminalCutting
 mod TurnLemmas
-mod PieceLemmas
 mod PartLemmas
+mod UnsentLemmas

@@ -1,12 +1,12 @@
 -- The data of a command lie within those of its operation.
-use Rattle.std.proofs.Common.{◌≡◌, ◌≤◌, ◌+◌, ◌-◌, ◌*◌, arith, true, false, Bool, ℕ, List, [], ◌∷◌, ◌++◌, length, take, drop, sym, subst, ◌∙◌, ap, Option, None, Some, if◌then◌else◌, append-nil, length-append}
-use Rattle.std.specs.List.{concat, slice_range}
-use Rattle.std.proofs.Math.Seq.{drop-append_seam, take-append_seam}
-use Rattle.std.proofs.lemmas.List.{take_rest, drop-drop, length-drop}
+use Rattle.std.proofs.Common.{◌≡◌, ◌≤◌, ◌+◌, ◌*◌, arith, true, false, Bool, ℕ, List, [], ◌∷◌, ◌++◌, length, drop, refl, sym, subst, ◌∙◌, ap, Option, None, Some, if◌then◌else◌, append-nil}
+use Rattle.std.specs.List.{slice_range}
+use Rattle.std.proofs.Math.Seq.{drop-append_seam}
+use Rattle.std.proofs.lemmas.List.{drop-drop, length-drop}
 use Rattle.apdu_core.specs.declared.header.Header.{Header}
 use Rattle.apdu_core.specs.StatusWord.{ok}
 use Rattle.apdu_core.specs.CommandBytes.{Command}
-use Rattle.apdu_core.specs.Chaining.{IsPieces, link, with_more, chain_commands}
+use Rattle.apdu_core.specs.Chaining.{IsPieces, chain_commands}
 use Rattle.tlv_core.specs.Address.{NamesTag}
 use Rattle.t0_core.specs.declared.host_end.HostTurn.TheVariants.{Sends, Done, Failed}
 use Rattle.t0_core.specs.Front.{fresh}
@@ -20,7 +20,7 @@ use Rattle.card_terminal.specs.ExchangeHistory.{ComesTo}
 use Rattle.card_terminal.specs.OwnedExchange.{DetachedOf, over_data, IsSound}
 use Rattle.card_terminal.specs.OperationRoom.{IsPart, BeginsWith}
 use Rattle.card_terminal.specs.TerminalSide.{OperationOf, AreLeft, LeadsTo, GoesToNext}
-use Rattle.card_terminal.proofs.PieceLemmas.{left_is, left_after}
+use Rattle.card_terminal.specs.PieceLaws.{IsFrontOf, left_is, left_after, chain_of, first_names, opening_front, next_front, rest_seen}
 use Rattle.card_terminal.proofs.TurnLemmas.{opening_turn}
 use Rattle.card_terminal.proofs.TerminalLemmas.{one_begins, first_begins}
 
@@ -39,52 +39,6 @@ bounded ex kept = record {
       (length ex.gather.bytes) ex.attempt.number kept.counted.begun kept.counted.number;
 }
 
--- what stands at the front of what is left of the data
-pub record IsFrontOf (items : List ℕ) (from until : ℕ) (content : List ℕ) : Type 0 where
-  pub slice : slice_range items from until ≡ content
-  pub begin : from ≤ until
-  pub within : until ≤ length items
-
-front_of : (items : List ℕ) (from until : ℕ) (content more : List ℕ) → from ≤ length items
-    → drop from items ≡ content ++ more → until ≡ from + length content
-    → IsFrontOf items from until content
-front_of items from until content more few is e =
-    let size : until - from ≡ length content = omega (arith, e) in
-    record {
-      slice = ap (λ k. take k (drop from items)) size
-          ∙ ap (λ z. take (length content) z) is ∙ take-append_seam content more;
-      begin = omega (arith, e);
-      within = omega (
-        arith,
-        e,
-        few,
-        sym (length-drop from items) ∙ ap length is ∙ length-append content more,
-      );
-    }
-
--- the data of a chain's first command are at the front of the value
-first_content : (h : Header) (pieces : List (List ℕ)) (c : Command) (others : List Command)
-    → chain_commands h pieces ≡ c ∷ others
-    → (more : List ℕ) × (concat pieces ≡ c.content ++ more)
-first_content h [] c others e = absurd (cc)
-first_content h (a ∷ []) c others e =
-    let head : link h a ≡ c = cc in
-    ([], ap (λ z. z ++ []) (ap (λ (d : Command). d.content) head))
-first_content h (a ∷ next ∷ pieces) c others e =
-    let head : link (with_more h) a ≡ c = cc in (
-      concat (next ∷ pieces),
-      ap (λ z. z ++ concat (next ∷ pieces)) (ap (λ (d : Command). d.content) head),
-    )
-
-pub at_front : (h : Header) (value : List ℕ) (pieces : List (List ℕ)) (c : Command)
-    (others : List Command) → IsPieces value pieces → chain_commands h pieces ≡ c ∷ others
-    → (more : List ℕ) × (value ≡ c.content ++ more)
-at_front h [] pieces c others are e =
-    let (more, is) = first_content h pieces c others e in
-    (more, ap (λ p. concat p) (sym are) ∙ is)
-at_front h (b ∷ bs) pieces c others are e =
-    let (more, is) = first_content h pieces c others e in (more, sym are.0 ∙ is)
-
 pub part_of : (items content : List ℕ) (from until : ℕ) (ex : DetachedOf)
     → IsFrontOf items from until content → IsSound (over_data ex content)
     → IsPart items from until (over_data ex (slice_range items from until))
@@ -101,12 +55,6 @@ begins_by_sending : (c : Command) (ex : ExchangeOf) → UnderWay c ex [] None fr
 begins_by_sending c ex under = let (byte, is) = opening_turn ex.host under.stands in
     (byte, ap (λ v. if v then Failed else turn_of ex.host) under.going ∙ is)
 
-pub opening_front : (value items : List ℕ) (until : ℕ) (content : List ℕ) → items ≡ value
-    → (more : List ℕ) × (value ≡ content ++ more) → until ≡ length content
-    → IsFrontOf items 0 until content
-opening_front value items until content copied (more, whole) is =
-    front_of items 0 until content more (omega arith) (copied ∙ whole) (omega (arith, is))
-
 pub begins_with : (first : Command) (value items : List ℕ) (ex : DetachedOf) (until p1 p2 : ℕ)
     → items ≡ value → (more : List ℕ) × (value ≡ first.content ++ more)
     → until ≡ length first.content → p1 ≡ first.header.p1 → p2 ≡ first.header.p2
@@ -116,6 +64,7 @@ pub begins_with : (first : Command) (value items : List ℕ) (ex : DetachedOf) (
       p1 = p1;
       p2 = p2;
       rest = drop until items;
+      first = true;
     })
 begins_with first value items ex until p1 p2 copied some is p1_is p2_is under led =
     let front = opening_front value items until first.content copied some is in
@@ -128,6 +77,7 @@ begins_with first value items ex until p1 p2 copied some is p1_is p2_is under le
       p2_is = p2_is;
       rest_is = ap (λ n. drop n items) is ∙ ap (λ z. drop (length first.content) z) copied;
       settled = λ done. absurd (never byte (sym turn ∙ done));
+      is_first = refl;
     }
   where
     never : (byte : ℕ) → Sends byte ≡ Done ok → ⊥
@@ -144,21 +94,6 @@ command_begins c content o new whole is begins =
     (one_begins c o (begins.rest_is ∙ none) begins.led, begins.settled)
 
 -- ---- a put
-
-chain_of : (header : Header) (p1 p2 : ℕ) (pieces : List (List ℕ)) (list others : List Command)
-    (c : Command) → header ≡ put_header p1 p2 → list ≡ chain_commands header pieces
-    → list ≡ c ∷ others → chain_commands (put_header p1 p2) pieces ≡ c ∷ others
-chain_of header p1 p2 pieces list others c is same steps =
-    ap (λ h. chain_commands h pieces) (sym is) ∙ sym same ∙ steps
-
--- the commands of a chain have its P1-P2
-first_names : (h : Header) (pieces : List (List ℕ)) (c : Command) (others : List Command)
-    → chain_commands h pieces ≡ c ∷ others → (c.header.p1 ≡ h.p1) × (c.header.p2 ≡ h.p2)
-first_names h [] c others e = absurd (cc)
-first_names h (a ∷ []) c others e = let head : link h a ≡ c = cc in
-    (ap (λ (d : Command). d.header.p1) (sym head), ap (λ (d : Command). d.header.p2) (sym head))
-first_names h (a ∷ next ∷ pieces) c others e = let head : link (with_more h) a ≡ c = cc in
-    (ap (λ (d : Command). d.header.p1) (sym head), ap (λ (d : Command). d.header.p2) (sym head))
 
 pub put_begins : (tag value : List ℕ) (p1 p2 : ℕ) (header : Header) (pieces : List (List ℕ))
     (list others : List Command) (c : Command) (o : OperationOf) (new : Option OperationOf)
@@ -183,25 +118,10 @@ put_begins tag value p1 p2 header pieces list others c o new header_is names are
 
 -- ---- the next piece
 
-rest_seen : (items seen : List ℕ) (until : ℕ) → seen ≡ items
-    → slice_range seen until (length seen) ≡ drop until items
-rest_seen items seen until same = take_rest seen until ∙ ap (λ z. drop until z) same
-
-pub next_front : (items seen : List ℕ) (until size : ℕ) (header : Header)
-    (pieces : List (List ℕ)) (list others : List Command) (c : Command) → seen ≡ items
-    → IsPieces (slice_range seen until (length seen)) pieces
-    → list ≡ chain_commands header pieces → list ≡ c ∷ others → until ≤ length items
-    → size ≡ length c.content → IsFrontOf items until (until + size) c.content
-next_front items seen until size header pieces list others c same_items are same steps few is =
-    let (more, whole) = at_front header (slice_range seen until (length seen)) pieces c others are
-    (sym same ∙ steps) in
-    front_of items until (until + size) c.content more few
-    (sym (rest_seen items seen until same_items) ∙ whole) (ap (λ n. until + n) is)
-
 pub next_begins : (old : OperationOf) (ex : ExchangeOf) (new : DetachedOf)
-    (items seen : List ℕ) (until p1 p2 size : ℕ) (header : Header) (pieces : List (List ℕ))
-    (list others : List Command) (c : Command)
-    → record { exchange = ex; p1 = p1; p2 = p2; rest = drop until items } ≡ old
+    (items seen : List ℕ) (until p1 p2 size : ℕ) (first : Bool) (header : Header)
+    (pieces : List (List ℕ)) (list others : List Command) (c : Command)
+    → record { exchange = ex; p1 = p1; p2 = p2; rest = drop until items; first = first } ≡ old
     → exchange_turn old.exchange ≡ Done ok → (old.rest ≡ [] → ⊥) → seen ≡ items
     → header ≡ put_header p1 p2 → IsPieces (slice_range seen until (length seen)) pieces
     → list ≡ chain_commands header pieces → list ≡ c ∷ others → until ≤ length items
@@ -212,8 +132,9 @@ pub next_begins : (old : OperationOf) (ex : ExchangeOf) (new : DetachedOf)
       p1 = p1;
       p2 = p2;
       rest = drop (until + size) items;
+      first = false;
     })
-next_begins old ex new items seen until p1 p2 size header pieces list others c view done more
+next_begins old ex new items seen until p1 p2 size first header pieces list others c view done more
     same_items header_is are same steps few is under led sound kept =
     let rest_is = rest_seen items seen until same_items in
     let are_now : IsPieces (drop until items) pieces =
@@ -237,6 +158,7 @@ next_begins old ex new items seen until p1 p2 size header pieces list others c v
         subst (λ z. AreLeft p1 p2 z others) after_is
             (left_after p1 p2 (drop until items) pieces c others are_now chain),
       );
+      later = refl;
       bounds = subst (λ (bs : List ℕ). IsBounded (over_data new bs)) (sym front.slice)
           (bounded (over_data new c.content) sound.1);
       limit = kept ∙ ap (λ (o : OperationOf). o.exchange.gather.limit) view;

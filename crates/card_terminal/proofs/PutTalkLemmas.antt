@@ -1,21 +1,20 @@
 -- The commands of a put, an exchange each, are the put in one step.
-use Rattle.std.proofs.Common.{◌≡◌, ◌≢◌, ℕ, ◌-◌, List, [], ◌∷◌, ◌++◌, length, Option, Some, None, ◌⊎◌, inl, inr, refl, sym, ap, subst, ◌∙◌, arith, append-nil}
+use Rattle.std.proofs.Common.{◌≡◌, ℕ, ◌-◌, List, [], ◌∷◌, ◌++◌, length, Option, Some, None, refl, sym, ap, subst, ◌∙◌, arith, append-nil}
 use Rattle.std.specs.List.{flat_map}
-use Rattle.std.proofs.lemmas.Bool.Decides.{eqb_tells}
 use Rattle.apdu_core.specs.declared.header.Header.{Header}
-use Rattle.apdu_core.specs.StatusWord.{StatusWord, ok, announces, corrects}
-use Rattle.apdu_core.specs.CommandBytes.{Command}
-use Rattle.apdu_core.specs.Chaining.{with_more, link, chain_commands}
+use Rattle.apdu_core.specs.StatusWord.{StatusWord, announces, corrects}
+use Rattle.apdu_core.specs.Chaining.{link, chain_commands}
 use Rattle.t0_core.specs.Dialogue.{Dialogue}
 use Rattle.t0_core.specs.Meaning.{tpdu_of, received}
 use Rattle.object_card.specs.State.{CardState}
 use Rattle.object_card.specs.OneStep.{Reply}
 use Rattle.object_card.specs.CardMeaning.{Does}
-use Rattle.object_card.specs.CarryingOut.{Carries, IsAnswered, EndsWith, all_taken, stopped}
+use Rattle.object_card.specs.CarryingOut.{Carries, IsAnswered, EndsWith}
 use Rattle.card_terminal.specs.declared.wanted.Wanted.{Wanted}
 use Rattle.card_terminal.specs.declared.wanted.Wanted.TheVariants.{Bytes}
 use Rattle.card_terminal.specs.Gathered.{UnitOf, Single, Repeated, Opening, By_command, Opens, OpensWith, SendsFrom, Gathers, first_of, last_of, dialogues_of, unit_data, after_dialogue, less, fetched_of, correction_of, IsUnit, AreFollowed}
 use Rattle.card_terminal.specs.Talk.{AreExchangesOf, talk_dialogues}
+use Rattle.card_terminal.specs.TalkLaws.{chains_end}
 use Rattle.card_terminal.proofs.FetchLemmas.{Goes, goes_apart, sent_data, received_none}
 
 -- a command without Le wants nothing, and nothing is fetched after it
@@ -103,39 +102,13 @@ answered_by h piece units content status old new g goes =
       is.none,
     )
 
--- one more command at the front
-taken_first : (old mid new : CardState) (c : Command) (commands : List Command)
-    (status : StatusWord) → IsAnswered old c ok mid
-    → EndsWith mid commands new status → EndsWith old (c ∷ commands) new status
-taken_first old mid new c commands status answered (all_taken taken) =
-    all_taken (mid, answered, taken)
-taken_first old mid new c commands status answered
-    (stopped before other after last end split taken refused not_ok) =
-    stopped (c ∷ before) other after last end (ap (λ cs. c ∷ cs) split) (mid, answered, taken)
-    refused not_ok
-
-pub is_ok_or_not : (status : StatusWord) → (status ≡ ok) ⊎ (status ≢ ok)
-is_ok_or_not status = elim (eqb_tells status.0 0x90) [
-  | inl first ↦ elim (eqb_tells status.1 0x00) [
-    | inl second ↦ inl (ap (λ a. (a, status.1)) first.1 ∙ ap (λ b. (0x90, b)) second.1)
-    | inr other ↦ inr (λ e. other.1 (ap (λ (s : StatusWord). s.1) e))
-  ]
-  | inr other ↦ inr (λ e. other.1 (ap (λ (s : StatusWord). s.0) e))
-]
-
--- the last command of a chain, and one that is answered otherwise than 9000
-ends_here : (old new : CardState) (c : Command) (commands : List Command) (status : StatusWord)
-    → IsAnswered old c status new
-    → (commands ≡ []) ⊎ (status ≢ ok) → EndsWith old (c ∷ commands) new status
-ends_here old new c commands status answered (inr other) =
-    stopped [] c commands old status refl refl answered other
-ends_here old new c commands status answered (inl none) =
-    let Ends : List Command → Type 0 = λ cs. EndsWith old (c ∷ cs) new status in
-    subst Ends (sym none) (elim (is_ok_or_not status) [
-      | inl fine ↦ subst (λ s. EndsWith old (c ∷ []) new s) (sym fine)
-          (all_taken (new, subst (λ s. IsAnswered old c s new) fine answered, refl))
-      | inr other ↦ stopped [] c [] old status refl refl answered other
-    ])
+-- one exchange and the others
+apart : (old new : CardState) (units : List UnitOf) (exchanges : List (List UnitOf))
+    → Goes old (talk_dialogues (units ∷ exchanges)) new
+    → (mid : CardState) × Goes old (flat_map dialogues_of units) mid
+    × Goes mid (talk_dialogues exchanges) new
+apart old new units exchanges goes =
+    goes_apart old new (flat_map dialogues_of units) (talk_dialogues exchanges) goes
 
 -- The exchanges of a chain's commands: how they end, and that they bring no data.
 pub chain_ends : (h : Header) (pieces : List (List ℕ)) (exchanges : List (List UnitOf))
@@ -143,32 +116,6 @@ pub chain_ends : (h : Header) (pieces : List (List ℕ)) (exchanges : List (List
     → AreExchangesOf (chain_commands h pieces) exchanges answer
     → Goes old (talk_dialogues exchanges) new
     → EndsWith old (chain_commands h pieces) new answer.status × (answer.content ≡ [])
-chain_ends h [] exchanges answer old new are goes = absurd are
-chain_ends h (last ∷ []) [] answer old new are goes = absurd are
-chain_ends h (last ∷ []) (units ∷ []) answer old new are goes =
-    let (answered, none) =
-    answered_by h last units answer.content answer.status old new are.0
-    (subst (λ ds. Goes old ds new) (append-nil (flat_map dialogues_of units)) goes) in
-    (ends_here old new (link h last) [] answer.status answered are.1, none)
-chain_ends h (last ∷ []) (units ∷ next ∷ exchanges) answer old new are goes = absurd are.2
-chain_ends h (piece ∷ second ∷ others) [] answer old new are goes = absurd are
-chain_ends h (piece ∷ second ∷ others) (units ∷ []) answer old new are goes =
-    let (answered, none) =
-    answered_by (with_more h) piece units answer.content answer.status old new are.0
-    (subst (λ ds. Goes old ds new) (append-nil (flat_map dialogues_of units)) goes) in (
-      ends_here old new (link (with_more h) piece) (chain_commands h
-          (second ∷ others)) answer.status
-          answered are.1,
-      none,
-    )
-chain_ends h (piece ∷ second ∷ others) (units ∷ next ∷ exchanges) answer old new
-    (brought, gathers, are) goes =
-    let (mid, first, rest) =
-    goes_apart old new (flat_map dialogues_of units) (talk_dialogues (next ∷ exchanges)) goes in
-    let (answered, none) = answered_by (with_more h) piece units brought ok old mid gathers first in
-    let (ends, none_then) =
-    chain_ends h (second ∷ others) (next ∷ exchanges) answer mid new are rest in (
-      taken_first old mid new (link (with_more h) piece) (chain_commands h (second ∷ others))
-          answer.status answered ends,
-      none_then,
-    )
+chain_ends = chains_end Gathers (λ old units new. Goes old (flat_map dialogues_of units) new)
+    (λ old exchanges new. Goes old (talk_dialogues exchanges) new) apart (λ old new goes. goes)
+    answered_by

@@ -1,9 +1,7 @@
 -- Operations with a card of data objects: no line fault comes, and talks come one after another.
-use Rattle.std.proofs.Common.{slice_index_or, append-nil, IfOk, Result, Ok, Err, IsOk, MatchResult, map, ◌≡◌, ◌≢◌, ℕ, zero, suc, ◌+◌, ◌-◌, ◌<◌, ◌≤◌, List, [], ◌∷◌, ◌++◌, length, take, drop, ◌⊎◌, ◌↔◌, inl, inr, refl, sym, ap, subst, ◌∙◌, arith, Option, Some, None, IfSome, Bool, true, false, ◌==◌, if◌then◌else◌, append_assoc, length-append}
-use Rattle.std.specs.List.{AllByRecursion, flat_map}
-use Rattle.apdu_core.specs.declared.header.Header.{Header}
+use Rattle.std.proofs.Common.{IfOk, Result, Ok, Err, IsOk, MatchResult, ◌≡◌, ◌≢◌, ℕ, ◌+◌, ◌-◌, ◌<◌, ◌≤◌, List, [], ◌∷◌, ◌++◌, length, take, drop, ◌⊎◌, inl, inr, refl, sym, ap, subst, ◌∙◌, arith, Option, Some, None, IfSome, Bool, true, false, ◌==◌, if◌then◌else◌, length-append}
+use Rattle.std.specs.List.{flat_map}
 use Rattle.apdu_core.specs.StatusWord.{StatusWord, count, ok}
-use Rattle.apdu_core.specs.Chaining.{HavePieceSizes, IsPieces, link, with_more, chain_commands}
 use Rattle.apdu_core.specs.CommandBytes.{Command}
 use Rattle.t0_core.specs.declared.direction.Direction.{Direction}
 use Rattle.t0_core.specs.declared.direction.Direction.TheVariants.{ToCard, FromCard}
@@ -21,24 +19,19 @@ use Rattle.t0_core.specs.Meaning.{Tpdu, Runs, received}
 use Rattle.t0_core.specs.Plan.{Course, Cursor, FollowInTurn}
 use Rattle.t0_core.specs.Watch.{Hearing, Hears}
 use Rattle.t0_core.specs.WatchLaws.{hears_more, hears_nothing}
-use Rattle.object_card.specs.Tables.{IsAid}
 use Rattle.object_card.specs.State.{CardState, IsCardState, is_idle}
 use Rattle.object_card.specs.CardMeaning.{Does}
 use Rattle.object_card.specs.DataCard.{StandsFor}
 use Rattle.object_card.specs.OneStep.{Operation, Reply, AnswersAll}
 use Rattle.card_terminal.specs.declared.operation.Op.{Op}
-use Rattle.object_card.specs.declared.instructions.Instruction.{Instruction}
-use Rattle.object_card.specs.declared.instructions.Instruction.TheVariants.{Select, PutData, GetResponse}
-use Rattle.object_card.specs.Instructions.{MayReceive, MaySend, ins_of, takes_data}
-use Rattle.object_card.specs.InstructionLaws.{one_way}
-use Rattle.object_card.specs.Agreed.{IsAgreed}
 use Rattle.card_terminal.specs.Gathered.{Gathers, Opening, By_command, By_fetch, UnitOf, dialogues_of, repeated_with}
 use Rattle.card_terminal.specs.declared.wanted.Wanted.{Wanted}
 use Rattle.card_terminal.specs.ExchangeSide.{ExchangeOf, exchange_turn, HostOpensBy, IsOver, IsOpenedAs, so_far}
 use Rattle.card_terminal.specs.Conversing.{Point, point, HaveGone, HasOverflown, IsCaused}
-use Rattle.card_terminal.specs.Talk.{AreTakenUpTo, HaveCuts, Talk, AreCommandsOf, AreExchangesOf, IsTalkOf, talk_dialogues, select_command}
+use Rattle.card_terminal.specs.Talk.{AreTakenUpTo, HaveCuts, Talk, AreCommandsOf, AreExchangesOf, IsTalkOf, talk_dialogues}
 use Rattle.card_terminal.specs.Operations.{operation_of}
 use Rattle.card_terminal.specs.Running.{new_answers, carried_out}
+use Rattle.card_terminal.specs.RunLaws.{HaveReplies, no_replies, one_more_reply, replies_come}
 use Rattle.card_terminal.proofs.FetchLemmas.{Goes, goes_by_runs, goes_sound}
 use Rattle.card_terminal.proofs.ComesToLemmas.{over_turn}
 use Rattle.card_terminal.proofs.SessionLemmas.{some_is}
@@ -305,47 +298,6 @@ have_answers Own own_reset state_of stands from to old new was is operations rep
 
 -- ---- the commands of an operation
 
--- what a card of data objects may take and send under
-pub record KeepsTo (R S : ℕ → Type 0) : Type 0 where
-  pub receives : (ins : ℕ) → R ins ↔ MayReceive ins
-  pub sends : (ins : ℕ) → S ins ↔ MaySend ins
-
-no_data_from : (R S : ℕ → Type 0) → KeepsTo R S → (i : Instruction) → takes_data i ≡ true
-    → S (ins_of i) → ⊥
-no_data_from R S keeps i takes sends =
-    one_way (ins_of i) (i, refl, takes) ((keeps.sends (ins_of i)).0 sends)
-
-no_data_to : (R S : ℕ → Type 0) → KeepsTo R S → (i : Instruction) → takes_data i ≡ false
-    → R (ins_of i) → ⊥
-no_data_to R S keeps i gives takes =
-    one_way (ins_of i) ((keeps.receives (ins_of i)).0 takes) (i, refl, gives)
-
-agreed_select_by : (R S : ℕ → Type 0) → KeepsTo R S → (aid : List ℕ) → 5 ≤ length aid
-    → IsAgreed R S (select_command aid)
-agreed_select_by R S keeps [] long = absurd (omega (arith, long))
-agreed_select_by R S keeps (b ∷ bs) long =
-    (no_data_from R S keeps Select refl, no_data_to R S keeps GetResponse refl)
-
-pub agreed_select : (R S : ℕ → Type 0) → KeepsTo R S → (aid : List ℕ) → IsAid aid
-    → IsAgreed R S (select_command aid)
-agreed_select R S keeps aid is = agreed_select_by R S keeps aid is.0
-
-agreed_link : (R S : ℕ → Type 0) → KeepsTo R S → (h : Header) → h.ins ≡ ins_of PutData
-    → (piece : List ℕ) → IsAgreed R S (link h piece)
-agreed_link R S keeps h is [] = λ sends. no_data_from R S keeps PutData refl (subst S is sends)
-agreed_link R S keeps h is (b ∷ bs) =
-    λ sends. no_data_from R S keeps PutData refl (subst S is sends)
-
-pub agreed_pieces : (R S : ℕ → Type 0) → KeepsTo R S → (h : Header) → h.ins ≡ ins_of PutData
-    → (pieces : List (List ℕ))
-    → AllByRecursion (λ c. IsAgreed R S c) (chain_commands h pieces)
-agreed_pieces R S keeps h is [] = tt
-agreed_pieces R S keeps h is (last ∷ []) = (agreed_link R S keeps h is last, tt)
-agreed_pieces R S keeps h is (piece ∷ next ∷ others) = (
-  agreed_link R S keeps (with_more h) is piece,
-  agreed_pieces R S keeps h is (next ∷ others),
-)
-
 -- The exchange of a command is over, and those of the commands before it, each answered 9000.
 pub record HaveBeen {State : Type 0} (Does : State → ℕ → Tpdu → State → Type 0)
     (from : Point State) (commands left : List Command) (ex : ExchangeOf) (status : StatusWord)
@@ -417,26 +369,6 @@ all_have_been Does from to commands left ex status answer been ends is =
       been.gone,
     )
 
--- ---- the answers that are new
-
-pub new_are : (before given now : List Reply) → now ≡ before ++ given
-    → new_answers before now ≡ given
-new_are before given now is = ap (λ l. new_answers before l) is ∙ by before
-  where
-    by : (rs : List Reply) → drop (length rs) (rs ++ given) ≡ given
-    by [] = refl
-    by (r ∷ rs) = by rs
-
-take_front : {A : Type 0} (xs ys : List A) → take (length xs) (xs ++ ys) ≡ xs
-take_front [] ys = refl
-take_front (x ∷ xs) ys = ap (λ l. x ∷ l) (take_front xs ys)
-
-pub carried_are : {A : Type 0} (ops : List (Op A)) (done left : List Operation)
-    (given : List Reply) → map operation_of ops ≡ done ++ left → length given ≡ length done
-    → carried_out ops given ≡ done
-carried_are ops done left given is same = ap (λ n. take n (map operation_of ops)) same
-    ∙ ap (λ l. take (length done) l) is ∙ take_front done left
-
 -- ---- an exchange that has been gone through
 
 pub ok_unless : {E : Type 0} (r : Result Unit E) (P : Unit → Type 0) (Q : E → Type 0)
@@ -499,10 +431,6 @@ never_both false one two = absurd (cc)
 
 -- ---- what an operation has been answered
 
-pub keeps_to : (R S : ℕ → Type 0) → ((ins : ℕ) → R ins ↔ MayReceive ins)
-    → ((ins : ℕ) → S ins ↔ MaySend ins) → KeepsTo R S
-keeps_to R S receives sends = record { receives = receives; sends = sends }
-
 -- a list of commands with some exchanges that are gone through
 abbrev pub Answered : {State : Type 0} → (State → ℕ → Tpdu → State → Type 0) → Point State
     → Point State → List Command → Reply → Type 0
@@ -549,49 +477,20 @@ pub talked_as : {State E : Type 0} (Does : State → ℕ → Tpdu → State → 
     → IfOk r (Talked Does from to a) → IfOk r (Talked Does from to b)
 talked_as Does from to a b r is talk = subst (λ o. IfOk r (Talked Does from to o)) is talk
 
-no_pieces : (value : List ℕ) (pieces : List (List ℕ)) → IsPieces value pieces → pieces ≡ [] → ⊥
-no_pieces [] pieces is e = let f : [] ≡ [] ∷ [] = sym e ∙ is in absurd (cc)
-no_pieces (b ∷ bs) pieces is e = subst HavePieceSizes e is.1
-
--- a value has at least one piece
-pub some_command : (h : Header) (value : List ℕ) (pieces : List (List ℕ)) (left : List Command)
-    → IsPieces value pieces → left ≡ chain_commands h pieces → left ≡ [] → ⊥
-some_command h value [] left is same none = no_pieces value [] is refl
-some_command h value (p ∷ []) left is same none = let e : [] ≡ link h p ∷ [] = sym none ∙ same in
-    absurd (cc)
-some_command h value (p ∷ q ∷ others) left is same none =
-    let e : [] ≡ link (with_more h) p ∷ chain_commands h (q ∷ others) = sym none ∙ same in
-    absurd (cc)
-
 -- ---- operations in turn
 
 -- The first of the operations are carried out, so many as there are new answers: their talk is
 -- heard.
-pub record HaveAnswers {State A : Type 0} (Does : State → ℕ → Tpdu → State → Type 0)
-    (from : Point State) (ops : List (Op A)) (before : List Reply) (n : ℕ) (given : List Reply)
-    (to : Point State) : Type 0 where
-  pub done : List Operation
-  pub replies : List Reply
-  pub given_is : given ≡ before ++ replies
-  pub ops_are : map operation_of ops ≡ done ++ map operation_of (drop n ops)
-  pub many : length replies ≡ length done
-  pub many_done : length done ≡ n
-  pub few : n ≤ length ops
-  pub come : HaveCome Does from done replies to
+abbrev pub HaveAnswers : {State A : Type 0} → (State → ℕ → Tpdu → State → Type 0) → Point State
+    → List (Op A) → List Reply → ℕ → List Reply → Point State → Type 0
+HaveAnswers Does from ops before n given to =
+    HaveReplies (λ done replies. HaveCome Does from done replies to) ops before n given
 
 pub none_answered : {State A : Type 0} (Does : State → ℕ → Tpdu → State → Type 0)
     (at : Point State) (ops : List (Op A)) (before : List Reply)
     → HaveAnswers Does at ops before 0 before at
-none_answered Does at ops before = record {
-  done = [];
-  replies = [];
-  given_is = sym (append-nil before);
-  ops_are = refl;
-  many = refl;
-  many_done = refl;
-  few = omega arith;
-  come = none_come Does at;
-}
+none_answered Does at ops before =
+    no_replies (λ done replies. HaveCome Does at done replies at) ops before (none_come Does at)
 
 -- it is so where nothing has changed
 pub still_answered : {State A : Type 0} (Does : State → ℕ → Tpdu → State → Type 0)
@@ -619,31 +518,11 @@ pub one_more_answered : {State A : Type 0} (Does : State → ℕ → Tpdu → St
     → drop n ops ≡ op ∷ drop (n + 1) ops → given' ≡ given ++ r ∷ []
     → Talked Does mid to (operation_of op) r → HaveAnswers Does from ops before (n + 1) given' to
 one_more_answered Does from mid to ops before n given given' op r have lt next given_is talked =
-    let o = operation_of op in
-    let rest = map operation_of (drop (n + 1) ops) in
-    record {
-      done = have.done ++ o ∷ [];
-      replies = have.replies ++ r ∷ [];
-      given_is = given_is ∙ ap (λ l. l ++ r ∷ []) have.given_is
-          ∙ append_assoc before have.replies (r ∷ []);
-      ops_are = have.ops_are ∙ ap (λ l. have.done ++ map operation_of l) next
-          ∙ sym (append_assoc have.done (o ∷ []) rest);
-      many = length-append have.replies (r ∷ []) ∙ ap (λ k. k + 1) have.many
-          ∙ sym (length-append have.done (o ∷ []));
-      many_done = length-append have.done (o ∷ []) ∙ ap (λ k. k + 1) have.many_done;
-      few = omega (arith, lt);
-      come = one_more_comes Does from mid to have.done have.replies o talked.0 r have.come
-          talked.1 talked.2;
-    }
-
-carried_here : {State A : Type 0} (Does : State → ℕ → Tpdu → State → Type 0)
-    (from to : Point State) (ops : List (Op A)) (before : List Reply) (n : ℕ)
-    (given : List Reply) (have : HaveAnswers Does from ops before n given to)
-    → carried_out ops (new_answers before given) ≡ have.done
-carried_here Does from to ops before n given have =
-    ap (λ l. carried_out ops l) (new_are before have.replies given have.given_is)
-    ∙ carried_are ops have.done (map operation_of (drop n ops)) have.replies have.ops_are
-    have.many
+    one_more_reply (λ done replies. HaveCome Does from done replies mid)
+    (λ done replies. HaveCome Does from done replies to) ops before n given given' op r have lt next
+    given_is
+    (λ done replies come. one_more_comes Does from mid to done replies (operation_of op) talked.0 r
+    come talked.1 talked.2)
 
 pub has_one_step : {State A : Type 0} (Own : State → ℕ → Tpdu → State → Type 0)
     (own_reset : State → State) (state_of : State → CardState)
@@ -655,16 +534,9 @@ pub has_one_step : {State A : Type 0} (Own : State → ℕ → Tpdu → State �
     × (is_idle new.pending ≡ true) × IsCardState new
 has_one_step Own own_reset state_of stands from to old new was is ops before n given sound idle
     have =
-    let (answers, is_idle_then, is_sound) =
-    have_answers Own own_reset state_of stands from to old new was is have.done have.replies
-    sound idle have.come in
-    let same = carried_here Own from to ops before n given have in
-    let replies = new_are before have.replies given have.given_is in (
-      subst (λ os. AnswersAll old os (new_answers before given) new) (sym same)
-          (subst (λ rs. AnswersAll old have.done rs new) (sym replies) answers),
-      is_idle_then,
-      is_sound,
-    )
+    have_answers Own own_reset state_of stands from to old new was is
+    (carried_out ops (new_answers before given)) (new_answers before given) sound idle
+    (replies_come (λ done replies. HaveCome Own from done replies to) ops before n given have)
 
 pub has_talk : {State A : Type 0} (Does : State → ℕ → Tpdu → State → Type 0)
     (from to : Point State) (ops : List (Op A)) (before : List Reply) (n : ℕ)
@@ -673,21 +545,5 @@ pub has_talk : {State A : Type 0} (Does : State → ℕ → Tpdu → State → T
     × Talk Does from.standing from.plans (carried_out ops (new_answers before given))
     (new_answers before given) to.standing to.plans line × Hears from.hearing line to.hearing
 has_talk Does from to ops before n given have =
-    let same = carried_here Does from to ops before n given have in
-    let replies = new_are before have.replies given have.given_is in (
-      have.come.line,
-      subst (λ os. Talk Does from.standing from.plans os (new_answers before given) to.standing
-          to.plans have.come.line) (sym same)
-          (subst (λ rs. Talk Does from.standing from.plans have.done rs to.standing to.plans
-          have.come.line) (sym replies) have.come.talk),
-      have.come.hears,
-    )
-
--- an item of a list, and those after it
-pub next_item : {X : Type 0} (xs : List X) (n : ℕ) (x : X) → n < length xs
-    → x ≡ slice_index_or xs n x → drop n xs ≡ x ∷ drop (n + 1) xs
-next_item [] n x lt is = absurd (omega (arith, lt))
-next_item (y ∷ ys) zero x lt is = ap (λ z. z ∷ ys) (sym is)
-next_item (y ∷ ys) (suc n) x lt is =
-    let e : suc (n + 1) ≡ suc n + 1 = omega arith in
-    subst (λ k. drop n ys ≡ x ∷ drop k (y ∷ ys)) e (next_item ys n x (omega (arith, lt)) is)
+    let come = replies_come (λ done replies. HaveCome Does from done replies to) ops before n given
+    have in (come.line, come.talk, come.hears)

@@ -9,18 +9,18 @@ use Rattle.t0_core.specs.Plan.{Course}
 use Rattle.tlv_core.specs.Address.{NamesTag}
 use Rattle.object_card.specs.Tables.{IsAid}
 use Rattle.object_card.specs.State.{CardState, IsCardState, is_idle}
-use Rattle.object_card.specs.OneStep.{Operation, Select, Get, Put, Reply, Answers, SameTables, AnswersAll}
+use Rattle.object_card.specs.OneStep.{Operation, Select, Get, Put, Reply, Answers, AnswersAll}
 use Rattle.object_card.specs.DataCard.{StandsFor}
 use Rattle.object_card.specs.CardMeaning.{Does}
 use Rattle.object_card.specs.CarryingOut.{put_header}
 use Rattle.object_card.specs.PutRunLaws.{chain_is_put}
-use Rattle.object_card.specs.AnswerLaws.{answers_alike}
 use Rattle.card_terminal.specs.Gathered.{UnitOf, Single, Opens, Gathers, first_of, dialogues_of, IsUnit}
 use Rattle.card_terminal.specs.declared.wanted.Wanted.TheVariants.{Everything}
 use Rattle.card_terminal.specs.Talk.{AreExchangesOf, IsTalkOf, AreTalksOf, Talk, talk_dialogues, select_command, get_command, HaveCuts}
 use Rattle.card_terminal.proofs.FetchLemmas.{Goes, goes_by_runs, goes_apart, goes_sound, begun, IsOneStep, Rest, sent_once, same_reply}
 use Rattle.card_terminal.proofs.OperationLemmas.{select_answers, get_answers}
 use Rattle.card_terminal.proofs.TalkListLemmas.{talk_stands}
+use Rattle.card_terminal.specs.TalkLaws.{all_alike}
 use Rattle.card_terminal.proofs.PutTalkLemmas.{chain_ends}
 
 -- one command has one exchange
@@ -108,16 +108,6 @@ talk_answers old new (Put tag value) exchanges answer idle
     (commands, (p1, p2, pieces, names, are_pieces, is), are) goes =
     put_talk old new tag value p1 p2 pieces exchanges answer idle names are_pieces
     (subst (λ cs. AreExchangesOf cs exchanges answer) is are) goes
-
--- what is pending is no matter to operations in turn
-all_alike : (operations : List Operation) (replies : List Reply) (a b new : CardState)
-    → SameTables a b → AnswersAll a operations replies new → AnswersAll b operations replies new
-all_alike [] [] a b new same answers = (sym same.0 ∙ answers.0, sym same.1 ∙ answers.1)
-all_alike [] (r ∷ replies) a b new same answers = answers
-all_alike (o ∷ operations) [] a b new same answers = answers
-all_alike (o ∷ operations) (r ∷ replies) a b new same (mid, first, others) =
-    let (next, here, tables) = answers_alike a b mid o r same first in
-    (next, here, all_alike operations replies mid next new tables others)
 
 -- Talks of operations in turn: their answers, one step each, and no chain is pending.
 pub talks_answer : (operations : List Operation) (talks : List (List (List UnitOf)))

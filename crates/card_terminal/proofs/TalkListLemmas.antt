@@ -16,7 +16,8 @@ use Rattle.object_card.specs.CardMeaning.{Does}
 use Rattle.object_card.specs.DataCard.{StandsFor}
 use Rattle.object_card.specs.OneStep.{Operation, Reply}
 use Rattle.card_terminal.specs.Gathered.{UnitOf, Gathers, dialogues_of}
-use Rattle.card_terminal.specs.Talk.{AreTakenUpTo, AreExchangesOf, IsTalkOf, AreTalksOf, Talk, talk_dialogues}
+use Rattle.card_terminal.specs.TalkLaws.{talks_more}
+use Rattle.card_terminal.specs.Talk.{AreTakenUpTo, AreExchangesOf, IsTalkOf, Talk, talk_dialogues}
 
 -- no plan is left of none
 no_plans : (xs ys : List Dialogue)
@@ -98,19 +99,6 @@ pub one_more_exchange : (exchanges : List (List UnitOf)) (units : List UnitOf)
     units
 one_more_exchange exchanges units = flat_map_last (λ us. flat_map dialogues_of us) exchanges units
 
--- one operation more
-pub talks_more : (operations : List Operation) (talks : List (List (List UnitOf)))
-    (replies : List Reply) (o : Operation) (exchanges : List (List UnitOf)) (r : Reply)
-    → AreTalksOf operations talks replies → IsTalkOf o exchanges r
-    → AreTalksOf (operations ++ o ∷ []) (talks ++ exchanges ∷ []) (replies ++ r ∷ [])
-talks_more [] [] [] o exchanges r are talk = (talk, tt)
-talks_more [] [] (q ∷ replies) o exchanges r are talk = absurd are
-talks_more [] (t ∷ talks) replies o exchanges r are talk = absurd are
-talks_more (p ∷ operations) [] replies o exchanges r are talk = absurd are
-talks_more (p ∷ operations) (t ∷ talks) [] o exchanges r are talk = absurd are
-talks_more (p ∷ operations) (t ∷ talks) (q ∷ replies) o exchanges r are talk =
-    (are.0, talks_more operations talks replies o exchanges r are.1 talk)
-
 -- A talk, and one operation more under the plans that are left.
 unfoldable pub talk_more : {State : Type 0} (Does : State → ℕ → Tpdu → State → Type 0)
     (first mid last : State)
@@ -142,7 +130,7 @@ talk_more Does first mid last plans left rest operations replies line more o exc
           ∙ sym (left_after_both talk.dialogues (talk_dialogues exchanges) plans);
       dialogues_are = ap (λ ds. ds ++ talk_dialogues exchanges) talk.dialogues_are
           ∙ sym (flat_map_last talk_dialogues talk.talks exchanges);
-      are_talks = talks_more operations talk.talks replies o exchanges r talk.are_talks one;
+      are_talks = talks_more Gathers operations talk.talks replies o exchanges r talk.are_talks one;
     }
 
 -- A card whose own states stand for states of a card of data objects: what runs over its own states

@@ -1,5 +1,5 @@
 -- What led to an operation at a terminal leads on with each call.
-use Rattle.std.proofs.Common.{◌≡◌, ◌≢◌, ℕ, List, [], ◌∷◌, ◌++◌, ◌⊎◌, inl, inr, refl, sym, subst, ◌∙◌, ap, append-nil, append_assoc}
+use Rattle.std.proofs.Common.{◌≡◌, ◌≢◌, ℕ, List, [], ◌∷◌, ◌++◌, ◌⊎◌, inl, inr, refl, sym, subst, ◌∙◌, ap, append-nil, append_assoc, true, false}
 use Rattle.std.specs.List.{AllByRecursion, flat_map}
 use Rattle.std.proofs.lemmas.Grind.{flat_map-append}
 use Rattle.apdu_core.specs.StatusWord.{StatusWord, ok}
@@ -14,7 +14,7 @@ use Rattle.card_terminal.specs.ExchangeHistory.{ComesTo, unit_characters}
 use Rattle.card_terminal.specs.TerminalSide.{OperationOf, AreLeft, HasCome, LeadsThrough, IsSettled, GoesToNext, GoesOver, with_exchange}
 use Rattle.card_terminal.proofs.ComesToLemmas.{end_leads}
 use Rattle.card_terminal.proofs.TalkListLemmas.{taken_more, taken_to_end, one_more_exchange, all_both}
-use Rattle.card_terminal.proofs.PutTalkLemmas.{is_ok_or_not}
+use Rattle.card_terminal.specs.TalkLaws.{is_ok_or_not}
 
 -- an operation of one command begins
 pub one_begins : (c : Command) (o : OperationOf) → o.rest ≡ [] → ComesTo c [] o.exchange
@@ -24,6 +24,7 @@ one_begins c o none led = record {
   current = c;
   left = [];
   taken = refl;
+  is_first = λ _. refl;
   are_dialogues = tt;
   are_left = subst (λ (bs : List ℕ). AreLeft o.p1 o.p2 bs []) (sym none) refl;
   here = [];
@@ -39,6 +40,7 @@ first_begins c left o are_left led = record {
   current = c;
   left = left;
   taken = refl;
+  is_first = λ _. refl;
   are_dialogues = tt;
   are_left = are_left;
   here = [];
@@ -56,6 +58,7 @@ come_on Led New commands came cs o ex l led = record {
   current = l.current;
   left = l.left;
   taken = l.taken;
+  is_first = l.is_first;
   are_dialogues = l.are_dialogues;
   are_left = l.are_left;
   here = l.here ++ cs;
@@ -72,6 +75,7 @@ come_as Led New commands came o ex l led = record {
   current = l.current;
   left = l.left;
   taken = l.taken;
+  is_first = l.is_first;
   are_dialogues = l.are_dialogues;
   are_left = l.are_left;
   here = l.here;
@@ -100,6 +104,7 @@ to_next commands came o new next l =
       left = after;
       taken = taken_more commands l.gone l.current (c ∷ after) units o.exchange.gather.bytes taken
           gathers;
+      is_first = λ is. absurd (never (sym is ∙ next.later));
       are_dialogues = subst (λ ds. AllByRecursion IsDialogue ds)
           (sym (one_more_exchange l.gone units))
           (all_both IsDialogue (talk_dialogues l.gone) (flat_map dialogues_of units)
@@ -111,6 +116,9 @@ to_next commands came o new next l =
           ∙ sym (talk_characters_more l.gone units)
           ∙ sym (append-nil (talk_characters (l.gone ++ units ∷ [])));
     }
+  where
+    never : true ≡ false → ⊥
+    never e = cc
 
 pub goes_over : (commands : List Command) (came : List Character) (o new : OperationOf)
     → GoesOver o new → LeadsThrough commands came o → LeadsThrough commands came new

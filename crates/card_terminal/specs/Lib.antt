@@ -13,7 +13,12 @@ pub mod Line
 pub mod OneObject
 pub mod FaultText
 pub mod Running
+pub mod AgreedLaws
+pub mod TalkLaws
+pub mod RunLaws
 pub mod TerminalSide
 pub mod TerminalSteps
 pub mod OperationRoom
+pub mod PieceLaws
 pub mod TerminalHistory
+pub mod Unsent

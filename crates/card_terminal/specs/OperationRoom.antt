@@ -1,5 +1,5 @@
 -- What a terminal keeps of an operation's data, and how an operation begins.
-use Rattle.std.specs.Prelude.{◌≡◌, ℕ, ◌≤◌, List, [], length, drop}
+use Rattle.std.specs.Prelude.{◌≡◌, ℕ, ◌≤◌, List, [], length, drop, true}
 use Rattle.apdu_core.specs.CommandBytes.{Command}
 use Rattle.card_terminal.specs.ExchangeSide.{ExchangeOf}
 use Rattle.card_terminal.specs.ExchangeHistory.{ComesTo}
@@ -21,3 +21,4 @@ pub record BeginsWith (first : Command) (content : List ℕ) (o : OperationOf) :
   pub p2_is : o.p2 ≡ first.header.p2
   pub rest_is : o.rest ≡ drop (length first.content) content
   pub settled : IsSettled o
+  pub is_first : o.first ≡ true

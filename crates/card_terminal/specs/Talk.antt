@@ -1,7 +1,7 @@
 -- What goes over the line for operations: which commands each becomes, and each command's exchange.
 use Rattle.std.specs.Prelude.{◌≡◌, ◌≢◌, ℕ, List, [], ◌∷◌, length, drop, Some, ◌⊎◌}
 use Rattle.std.specs.List.{AllByRecursion, flat_map}
-use Rattle.apdu_core.specs.StatusWord.{ok}
+use Rattle.apdu_core.specs.StatusWord.{StatusWord, ok}
 use Rattle.apdu_core.specs.CommandBytes.{Command}
 use Rattle.apdu_core.specs.Chaining.{IsPieces, chain_commands}
 use Rattle.tlv_core.specs.Address.{NamesTag}
@@ -40,16 +40,22 @@ AreCommandsOf (Put tag value) commands =
     (p1 p2 : ℕ) × (pieces : List (List ℕ)) × NamesTag tag p1 p2 × IsPieces value pieces
     × (commands ≡ chain_commands (put_header p1 p2) pieces)
 
--- An exchange is the units of one command. The commands come in turn, an exchange each, up to the
--- first that is answered with another status than 9000; the answer is that of the last exchange.
+-- A transport tells what an exchange of a command brings, and its status. The commands come in
+-- turn, an exchange each, up to the first that is answered with another status than 9000; the
+-- answer is that of the last exchange.
+abbrev pub AreExchangesBy : {E : Type 0} → (Command → E → List ℕ → StatusWord → Type 0)
+    → List Command → List E → Reply → Type 0
+AreExchangesBy Brings [] exchanges answer = ⊥
+AreExchangesBy Brings (c ∷ commands) [] answer = ⊥
+AreExchangesBy Brings (c ∷ commands) (exchange ∷ []) answer =
+    Brings c exchange answer.content answer.status × ((commands ≡ []) ⊎ (answer.status ≢ ok))
+AreExchangesBy Brings (c ∷ commands) (exchange ∷ next ∷ exchanges) answer =
+    (brought : List ℕ) × Brings c exchange brought ok
+    × AreExchangesBy Brings commands (next ∷ exchanges) answer
+
+-- at T=0 an exchange is the units of one command
 abbrev pub AreExchangesOf : List Command → List (List UnitOf) → Reply → Type 0
-AreExchangesOf [] exchanges answer = ⊥
-AreExchangesOf (c ∷ commands) [] answer = ⊥
-AreExchangesOf (c ∷ commands) (units ∷ []) answer =
-    Gathers c units answer.content answer.status × ((commands ≡ []) ⊎ (answer.status ≢ ok))
-AreExchangesOf (c ∷ commands) (units ∷ next ∷ exchanges) answer =
-    (brought : List ℕ) × Gathers c units brought ok
-    × AreExchangesOf commands (next ∷ exchanges) answer
+AreExchangesOf commands exchanges answer = AreExchangesBy Gathers commands exchanges answer
 
 -- Commands of which each has had its exchange and was answered 9000, and those that have not come
 -- yet.
@@ -60,17 +66,25 @@ AreTakenUpTo (c ∷ commands) (units ∷ exchanges) left =
     (brought : List ℕ) × Gathers c units brought ok × AreTakenUpTo commands exchanges left
 
 -- these are the exchanges of the operation, and this is its answer
-abbrev pub IsTalkOf : Operation → List (List UnitOf) → Reply → Type 0
-IsTalkOf operation exchanges answer =
+abbrev pub IsTalkBy : {E : Type 0} → (Command → E → List ℕ → StatusWord → Type 0) → Operation
+    → List E → Reply → Type 0
+IsTalkBy Brings operation exchanges answer =
     (commands : List Command) × AreCommandsOf operation commands
-    × AreExchangesOf commands exchanges answer
+    × AreExchangesBy Brings commands exchanges answer
+
+abbrev pub IsTalkOf : Operation → List (List UnitOf) → Reply → Type 0
+IsTalkOf operation exchanges answer = IsTalkBy Gathers operation exchanges answer
 
 -- operations in turn, each with its exchanges and its answer
+abbrev pub AreTalksBy : {E : Type 0} → (Command → E → List ℕ → StatusWord → Type 0)
+    → List Operation → List (List E) → List Reply → Type 0
+AreTalksBy Brings [] [] [] = Unit {0}
+AreTalksBy Brings (o ∷ operations) (exchanges ∷ talks) (r ∷ replies) =
+    IsTalkBy Brings o exchanges r × AreTalksBy Brings operations talks replies
+AreTalksBy Brings _ _ _ = ⊥
+
 abbrev pub AreTalksOf : List Operation → List (List (List UnitOf)) → List Reply → Type 0
-AreTalksOf [] [] [] = Unit {0}
-AreTalksOf (o ∷ operations) (exchanges ∷ talks) (r ∷ replies) =
-    IsTalkOf o exchanges r × AreTalksOf operations talks replies
-AreTalksOf _ _ _ = ⊥
+AreTalksOf operations talks replies = AreTalksBy Gathers operations talks replies
 
 -- the dialogues of exchanges, one after another
 abbrev pub talk_dialogues : List (List UnitOf) → List Dialogue

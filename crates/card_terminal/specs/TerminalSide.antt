@@ -1,6 +1,6 @@
 -- An operation at a terminal that is driven from outside: what is kept of it, and which characters
 -- led there.
-use Rattle.std.specs.Prelude.{◌≡◌, ◌≤◌, ◌⊎◌, ℕ, List, [], ◌∷◌, ◌++◌, Option, Some, None, IfSome, Bool, false, not}
+use Rattle.std.specs.Prelude.{◌≡◌, ◌≤◌, ◌⊎◌, ℕ, List, [], ◌∷◌, ◌++◌, Option, Some, None, IfSome, Bool, true, false, not}
 use Rattle.std.specs.List.{AllByRecursion}
 use Rattle.apdu_core.specs.StatusWord.{ok}
 use Rattle.apdu_core.specs.CommandBytes.{Command}
@@ -16,13 +16,14 @@ use Rattle.card_terminal.specs.ExchangeSide.{ExchangeOf, IsBounded, exchange_tur
 use Rattle.card_terminal.specs.ExchangeHistory.{ComesTo, ComesTooFar}
 use Rattle.card_terminal.specs.Conversing.{is_done}
 
--- The exchange of the operation's command that came last, and what is still to be put after its
--- data, under a tag that these P1-P2 name.
+-- The exchange of the operation's command that came last, what is still to be put after its data,
+-- under a tag that these P1-P2 name, and whether that command is the first.
 pub record OperationOf : Type 0 where
   pub exchange : ExchangeOf
   pub p1 : ℕ
   pub p2 : ℕ
   pub rest : List ℕ
+  pub first : Bool
 
 -- A terminal: the most bytes that a response may have, and the operation that it has begun last, if
 -- any.
@@ -58,6 +59,7 @@ pub record HasCome (Led : Command → List Character → Type 0) (commands : Lis
   pub current : Command
   pub left : List Command
   pub taken : AreTakenUpTo commands gone (current ∷ left)
+  pub is_first : o.first ≡ true → gone ≡ []
   pub are_dialogues : AllByRecursion IsDialogue (talk_dialogues gone)
   pub are_left : AreLeft o.p1 o.p2 o.rest left
   pub here : List Character
@@ -106,7 +108,8 @@ is_going None = false
 is_going (Some o) = not (is_done (exchange_turn o.exchange))
 
 abbrev pub with_exchange : OperationOf → ExchangeOf → OperationOf
-with_exchange o ex = record { exchange = ex; p1 = o.p1; p2 = o.p2; rest = o.rest }
+with_exchange o ex =
+    record { exchange = ex; p1 = o.p1; p2 = o.p2; rest = o.rest; first = o.first }
 
 -- the exchange of the next command has begun, and it is the terminal's turn to send
 pub record GoesToNext (old new : OperationOf) : Type 0 where
@@ -116,6 +119,7 @@ pub record GoesToNext (old new : OperationOf) : Type 0 where
       → (c : Command) × (after : List Command) × (left ≡ c ∷ after) × ComesTo c [] new.exchange
       × AreLeft new.p1 new.p2 new.rest after
   pub sends : (byte : ℕ) × (exchange_turn new.exchange ≡ Sends byte)
+  pub later : new.first ≡ false
   pub bounds : IsBounded new.exchange
   pub limit : new.exchange.gather.limit ≡ old.exchange.gather.limit
 

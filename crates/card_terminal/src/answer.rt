@@ -26,7 +26,7 @@ impl<A: Allocator> Model for Answer<A> {
 
 impl<A: Allocator> Answer<A> {
     /// An answer of these data, in memory of their size.
-    pub(crate) fn new(status: Status, gather: Gather<A>) -> Answer<A>
+    pub fn new(status: Status, gather: Gather<A>) -> Answer<A>
         ensures { result ≡ record { status = status; content = gather.bytes } }
     {
         Answer {

@@ -58,7 +58,7 @@ impl<A: Allocator> Answers<A> {
 
     /// Takes the room for one more answer. Its error is want of memory. Either way the answers
     /// stay.
-    pub(crate) fn make_room(&mut self) -> Result<(), AllocError>
+    pub fn make_room(&mut self) -> Result<(), AllocError>
         ensures stays { self.new.given ≡ self.old.given }
         ensures room { OnOk result (1 ≤ self.new.room) }
     {
@@ -66,7 +66,7 @@ impl<A: Allocator> Answers<A> {
     }
 
     /// Appends an answer, for which there is room.
-    pub(crate) fn append(&mut self, answer: Answer<A>)
+    pub fn append(&mut self, answer: Answer<A>)
         requires { 1 ≤ self.old.room }
         ensures { self.new.given ≡ self.old.given ++ answer ∷ [] }
     {

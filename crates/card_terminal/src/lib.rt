@@ -19,6 +19,7 @@ pub mod talk_laws;
 pub mod tap_laws;
 mod terminal;
 pub mod terminal_laws;
+mod unsent;
 mod wanted;
 
 pub use answer::Answer;
@@ -34,4 +35,5 @@ pub use session_fault::SessionFault;
 pub use start_fault::StartFault;
 pub use taken::Taken;
 pub use terminal::{BeginFault, Terminal};
+pub use unsent::Unsent;
 pub use wanted::Wanted;

@@ -9,6 +9,7 @@ ghost use Rattle.card_terminal.specs.TerminalSide.{OperationOf, KeepsLimit, at_r
 ghost use Rattle.card_terminal.specs.OperationRoom.{BeginsWith};
 ghost use Rattle.card_terminal.specs.Buffers.{IsTakingAll};
 ghost use Rattle.card_terminal.specs.TerminalSteps.{IsBeginning, IsTerminalTurn, IsTerminalHandingOut, IsTerminalTaking, IsTerminalAnswering, IsTerminalAnswer, terminal_due, terminal_data};
+ghost use Rattle.card_terminal.specs.Unsent.{IsUnsent};
 ghost use Rattle.t0_core.specs.TpduBytes.{asked_of};
 
 mod begin_fault;
@@ -19,6 +20,7 @@ use crate::exchange::RESPONSE_LIMIT;
 use crate::handed_out::HandedOut;
 use crate::start_fault::StartFault;
 use crate::taken::Taken;
+use crate::unsent::Unsent;
 use apdu_core::{Command, Status, pieces};
 pub use begin_fault::BeginFault;
 use object_card::Aid;
@@ -257,6 +259,17 @@ impl<A: Allocator + Copy> Terminal<A> {
         match &self.operation {
             None => None,
             Some(operation) => operation.tpdu(),
+        }
+    }
+
+    /// What the operation is to send, if nothing of it has gone over the line: so it may go another
+    /// way, as by whole commands.
+    pub fn unsent(&self) -> Option<Unsent<'_>>
+        ensures { IsUnsent self.now.operation result }
+    {
+        match &self.operation {
+            None => None,
+            Some(operation) => operation.unsent(),
         }
     }
 

@@ -1,6 +1,7 @@
 //! How much of a response a command still wants.
 ghost use Rattle.std.specs.Prelude.{◌≡◌, ◌≤◌, IfSome};
 ghost use Rattle.card_terminal.specs.Gathered.{wanted_by, less, wants_some, wants_at_least, smaller};
+ghost use Rattle.card_terminal.specs.Unsent.{le_by};
 
 /// How much of a response is wanted.
 #[derive(Clone, Copy, Debug, PartialEq, Eq)]
@@ -21,6 +22,17 @@ impl Wanted {
             None => Wanted::Bytes(0),
             Some(256) => Wanted::Everything,
             Some(count) => Wanted::Bytes(count),
+        }
+    }
+
+    /// The Le of a command that wants this much.
+    pub fn le(self) -> Option<u16>
+        ensures { result ≡ le_by self }
+    {
+        match self {
+            Wanted::Bytes(0) => None,
+            Wanted::Bytes(count) => Some(count),
+            Wanted::Everything => Some(256),
         }
     }
 

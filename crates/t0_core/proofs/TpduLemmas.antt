@@ -22,7 +22,7 @@ use Rattle.t0_core.specs.Front.{Front, fresh, front_characters, In_header, In_bo
 use Rattle.t0_core.specs.Room.{Room}
 use Rattle.t0_core.specs.CardHistory.{Leads, LeadsUnder, under_way}
 use Rattle.t0_core.specs.History.{Event, Whole, RunsOver, events_of, passed}
-use Rattle.t0_core.specs.CardSide.{EndOf, Stage, Taking_header, Refusing, Serving, Ending, StandsAt, Advances, IsOnPlan, SuitsFront, begins_with, listens, with_character, still_to_go}
+use Rattle.t0_core.specs.CardSide.{EndOf, Stage, Taking_header, Refusing, Serving, Ending, StandsAt, Advances, IsOnPlan, IsPermitted, PermitsData, SuitsFront, begins_with, listens, with_character, still_to_go}
 use Rattle.t0_core.specs.CardLaws.{begun, taken_stays}
 use Rattle.t0_core.specs.TpduBytes.{Asked}
 use Rattle.t0_core.specs.CardTpdu.{AreAsked, IsOf, IsCarriedOut, IsStuck, LeadsOnBy, rests}
@@ -31,7 +31,8 @@ use Rattle.t0_core.specs.FrontLaws.{goes_on}
 use Rattle.t0_core.specs.DialogueLaws.{flat_map_last, follow_each, all_more, runs_each, one_more_each}
 use Rattle.t0_core.proofs.PlannedFront.{at_front, at_fresh, planned_under}
 use Rattle.t0_core.proofs.HistoryLemmas.{whole_more}
-use Rattle.t0_core.proofs.CardLemmas.{direction_in, suits_itself}
+use Rattle.t0_core.specs.CardView.{KeepsDirection}
+use Rattle.t0_core.proofs.CardLemmas.{direction_in, suits_itself, stays_permitted}
 use Rattle.t0_core.proofs.PlanLemmas.{nulls_move_nothing}
 
 -- ---- data and directions
@@ -304,8 +305,9 @@ pub answers_header : {C : Type 0} (card : Ghosts C) (first : card.State) (plan :
     → ((at : Front) → SuitsFront e.stage at → StandsAt card.Does first prepared stage plan.cut at
     → Advances card.Does plan.cut plan stage at byte first (card.standing e.card)
     (card.prepared e.card) e.stage)
+    → IsPermitted card.MayReceive card.MaySend asked.header.ins e.stage
     → IsAnswering card first plan asked got got e
-answers_header card first plan asked got prepared stage e byte whole is advances =
+answers_header card first plan asked got prepared stage e byte whole is advances permitted =
     let d = direction_in e.stage FromCard in
     let b = header_only asked.header asked.p3 d in
     let begins : IsFront (In_body b) = record { in_last = refl; only_nulls = λ _. tt } in
@@ -326,6 +328,7 @@ answers_header card first plan asked got prepared stage e byte whole is advances
             on_plan = goes.4 tt;
             stays = goes.3;
             is_of = grows.0;
+            permitted = permitted;
             begun = begun card.Does (card.standing e.card) (card.prepared e.card) e.stage plan.cut
                 byte plan (In_body b) goes.0 goes.1 goes.2;
             gathers = sym (ap (λ x. got ++ x)
@@ -359,9 +362,10 @@ further : {C : Type 0} (card : Ghosts C) (first : card.State) (plan : Course) (a
     (before got more : List ℕ) (old new : EndOf C) (byte : ℕ) (b : Body)
     (on : IsAnswering card first plan asked before got old) → on.front ≡ In_body b
     → ((later : Front) → GoesOn (In_body b) (Card, byte) later → GrowsBy asked b more later)
-    → Falls plan old.stage new.stage → Steps card plan old byte new
+    → Falls plan old.stage new.stage → KeepsDirection old.stage new.stage
+    → Steps card plan old byte new
     → GoesFurther card first plan asked before (got ++ more) old new
-further card first plan asked before got more old new byte b on is grows falls steps =
+further card first plan asked before got more old new byte b on is grows falls keeps steps =
     let Goes : Front → Type 0 = λ x. Advances card.Does plan.cut plan old.stage x byte
     (card.standing old.card) (card.standing new.card) (card.prepared new.card) new.stage in
     let On : Front → Type 0 = λ x. IsOnPlan old.stage plan x in
@@ -379,6 +383,8 @@ further card first plan asked before got more old new byte b on is grows falls s
               on_plan = goes.4 (subst On is on.on_plan);
               stays = goes.3 ∙ on.stays;
               is_of = more_is.0;
+              permitted = stays_permitted card.MayReceive card.MaySend asked.header.ins old.stage
+                  new.stage keeps on.permitted;
               begun = under;
               gathers = ap (λ x. x ++ more) (on.gathers ∙ ap (λ x. before ++ brought x) is)
                   ∙ append_assoc before (brought (In_body b)) more
@@ -397,29 +403,31 @@ is_of_body asked at b is of = let P : Front → Type 0 = λ x. IsFrontOf asked x
 pub passes_procedure : {C : Type 0} (card : Ghosts C) (first : card.State) (plan : Course)
     (asked : Asked) (before got : List ℕ) (old new : EndOf C) (byte : ℕ)
     → IsAnswering card first plan asked before got old → awaited_in old.stage ≡ next.Procedure
-    → Falls plan old.stage new.stage → Steps card plan old byte new
+    → Falls plan old.stage new.stage → KeepsDirection old.stage new.stage
+    → Steps card plan old byte new
     → GoesFurther card first plan asked before got old new
-passes_procedure card first plan asked before got old new byte on is falls steps =
+passes_procedure card first plan asked before got old new byte on is falls keeps steps =
     let (b, at, between) = between_at card.Does (card.standing old.card) (card.prepared old.card)
     old.stage plan.cut on.front on.stands is in
     let P : List ℕ → Type 0 = λ x. GoesFurther card first plan asked before x old new in
     subst P (append-nil got)
     (further card first plan asked before got [] old new byte b on at
     (λ later goes. grows_between asked b byte later (is_of_body asked on.front b at on.is_of)
-    between goes) falls steps)
+    between goes) falls keeps steps)
 
 -- a data character of the card
 pub passes_data : {C : Type 0} (card : Ghosts C) (first : card.State) (plan : Course)
     (asked : Asked) (before got : List ℕ) (old new : EndOf C) (place byte : ℕ)
     → IsAnswering card first plan asked before got old → awaited_in old.stage ≡ next.OfCard place
-    → place < asked.may_come → Falls plan old.stage new.stage → Steps card plan old byte new
+    → place < asked.may_come → Falls plan old.stage new.stage → KeepsDirection old.stage new.stage
+    → Steps card plan old byte new
     → GoesFurther card first plan asked before (got ++ byte ∷ []) old new
-passes_data card first plan asked before got old new place byte on is fits falls steps =
+passes_data card first plan asked before got old new place byte on is fits falls keeps steps =
     let (b, at, due, from, place_is) = sending_at card.Does (card.standing old.card)
     (card.prepared old.card) old.stage plan.cut place on.front on.stands is in
     further card first plan asked before got (byte ∷ []) old new byte b on at
     (λ later goes. grows_sending asked b byte later (is_of_body asked on.front b at on.is_of) due
-    from (omega (arith, place_is, fits)) goes) falls steps
+    from (omega (arith, place_is, fits)) goes) falls keeps steps
 
 -- the second status character
 pub passes_second : {C : Type 0} (card : Ghosts C) (first : card.State) (plan : Course)
@@ -470,6 +478,12 @@ passes_second card first plan asked before room old new sw1 byte cut on is steps
           )
     ]
 
+taken_permitted : (MayReceive MaySend : ℕ → Type 0) (ins : ℕ) (stage : Stage) (byte : ℕ)
+    → IsPermitted MayReceive MaySend ins stage
+    → IsPermitted MayReceive MaySend ins (with_character stage byte)
+taken_permitted MayReceive MaySend ins (Taking_header bytes) byte may = tt
+taken_permitted _ _ _ _ _ may = may
+
 -- a data character of the terminal
 pub passes_own : {C : Type 0} (card : Ghosts C) (first : card.State) (plan : Course)
     (asked : Asked) (before got : List ℕ) (old new : EndOf C) (place byte : ℕ)
@@ -491,6 +505,8 @@ passes_own {C = C} card first plan asked before got old new place byte on is byt
     let of = is_of_body asked on.front b at on.is_of in
     let later = In_body (with_moved b byte) in
     let Goes : Front → Type 0 = λ x. GoesOn x (Terminal, byte) later in
+    let May : EndOf C → Type 0 =
+    λ x. IsPermitted card.MayReceive card.MaySend asked.header.ins x.stage in
     let step = steps plan.cut on.front later on.stands
     (subst Goes (sym at) (inl (lt, ap data_sender (sym to), refl))) in (
       record {
@@ -508,6 +524,9 @@ passes_own {C = C} card first plan asked before got old new place byte on is byt
               (own_one asked.content b.moved byte place
               (own_was b.direction asked b.moved to of.2) place_is byte_is),
         );
+        permitted = subst May (sym taken)
+            (taken_permitted card.MayReceive card.MaySend asked.header.ins old.stage byte
+            on.permitted);
         begun = ap (λ (e : EndOf C). under_way e.stage plan) taken
             ∙ taken_stays old.stage plan byte ∙ on.begun;
         gathers = on.gathers ∙ ap (λ x. before ++ brought x) at
@@ -518,6 +537,25 @@ passes_own {C = C} card first plan asked before got old new place byte on is byt
     )
 
 -- ---- faults
+
+-- data that are to move may
+moves_permitted : {State : Type 0} (Does : State → ℕ → Tpdu → State → Type 0) (s : State)
+    (p : Prepared State) (stage : Stage) (cut : ℕ) (b : Body) (MayReceive MaySend : ℕ → Type 0)
+    (ins : ℕ) → StandsAt Does s p stage cut (In_body b) → length b.moved < to_move b
+    → IsPermitted MayReceive MaySend ins stage → PermitsData MayReceive MaySend ins b.direction
+moves_permitted Does s p (Taking_header bytes) cut b MayReceive MaySend ins stands due may =
+    absurd (omega (arith, due, ap to_move stands.1))
+moves_permitted Does s p (Refusing h p3 status done) cut b MayReceive MaySend ins stands due may =
+    absurd (omega (
+      arith,
+      due,
+      nulls_move_nothing b.segments (foreseen b.direction b.p3) stands.nulls,
+    ))
+moves_permitted Does s p (Serving service came) cut b MayReceive MaySend ins stands due may =
+    let P : Direction → Type 0 = λ d. PermitsData MayReceive MaySend ins d in
+    subst P (sym stands.direction_is) may
+moves_permitted Does s p (Ending status) cut b MayReceive MaySend ins stands due may =
+    absurd stands
 
 stuck : {C : Type 0} (card : Ghosts C) (first : card.State) (plan : Course)
     (asked : Asked) (before : List ℕ) (room : Room) (e : EndOf C) (b : Body)
@@ -534,6 +572,9 @@ stuck card first plan asked before room e b on at lt =
       stays = on.stays;
       is_of = is_of_body asked on.front b at on.is_of;
       gathers = on.gathers ∙ ap (λ x. before ++ brought x) at;
+      permitted = moves_permitted card.Does (card.standing e.card) (card.prepared e.card) e.stage
+          plan.cut b card.MayReceive card.MaySend asked.header.ins (subst At at on.stands) lt
+          on.permitted;
       due = lt;
     }
 

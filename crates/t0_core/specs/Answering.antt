@@ -11,7 +11,7 @@ use Rattle.t0_core.specs.Dialogue.{Body, Dialogue}
 use Rattle.t0_core.specs.Plan.{Course}
 use Rattle.t0_core.specs.Front.{Front, In_header, In_body, After_first, IsFront, brought}
 use Rattle.t0_core.specs.CardHistory.{under_way}
-use Rattle.t0_core.specs.CardSide.{EndOf, Stage, Taking_header, Refusing, Serving, Ending, StandsAt, IsOnPlan, still_to_go}
+use Rattle.t0_core.specs.CardSide.{EndOf, Stage, Taking_header, Refusing, Serving, Ending, StandsAt, IsOnPlan, IsPermitted, still_to_go}
 use Rattle.t0_core.specs.Room.{Room}
 use Rattle.t0_core.specs.TpduBytes.{Asked}
 use Rattle.t0_core.specs.CardTpdu.{IsOf, IsCarriedOut, IsStuck, IsCause}
@@ -38,8 +38,8 @@ IsFrontOf asked (After_first b sw1) = IsOf asked b
 abbrev pub IsWhole : Asked → Type 0
 IsWhole asked = (asked.content ≡ []) ⊎ (length asked.content ≡ asked.p3)
 
--- the card has begun to answer, its state stands, and the data from it are gathered behind those
--- before
+-- the card has begun to answer, as it may under this instruction, its state stands, and the data
+-- from it are gathered behind those before
 pub record IsAnswering {C : Type 0} (card : Ghosts C) (first : card.State) (plan : Course)
     (asked : Asked) (before got : List ℕ) (e : EndOf C) : Type 0 where
   pub whole : IsWhole asked
@@ -50,6 +50,7 @@ pub record IsAnswering {C : Type 0} (card : Ghosts C) (first : card.State) (plan
   pub on_plan : IsOnPlan e.stage plan front
   pub stays : card.standing e.card ≡ first
   pub is_of : IsFrontOf asked front
+  pub permitted : IsPermitted card.MayReceive card.MaySend asked.header.ins e.stage
   pub begun : under_way e.stage plan ≡ plan ∷ []
   pub gathers : got ≡ before ++ brought front
 

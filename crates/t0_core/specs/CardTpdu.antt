@@ -14,7 +14,7 @@ use Rattle.t0_core.specs.Plan.{Course, Cursor, advanced, plan_kept}
 use Rattle.t0_core.specs.Front.{In_body, IsFront, brought}
 use Rattle.t0_core.specs.History.{Event, Reset, IsUnderPlan, passed}
 use Rattle.t0_core.specs.CardHistory.{Leads, LeadsUnder}
-use Rattle.t0_core.specs.CardSide.{EndOf, Stage, Taking_header, Refusing, Serving, Ending, StandsAt, IsOnPlan}
+use Rattle.t0_core.specs.CardSide.{EndOf, Stage, Taking_header, Refusing, Serving, Ending, StandsAt, IsOnPlan, PermitsData}
 use Rattle.t0_core.specs.Room.{Room}
 use Rattle.t0_core.specs.TpduBytes.{Asked, asked_in}
 
@@ -48,7 +48,8 @@ pub record IsCarriedOut {State : Type 0} (Does : State → ℕ → Tpdu → Stat
   pub gathers : got ≡ before ++ received d
   pub status_is : d.status ≡ status
 
--- The card's end has come so far with what was asked, its state stands, and data are to move next.
+-- The card's end has come so far with what was asked, its state stands, and data are to move next,
+-- as they may under this instruction.
 pub record IsStuck {C : Type 0} (card : Ghosts C) (first : card.State) (plan : Course)
     (asked : Asked) (before : List ℕ) (room : Room) (b : Body) (e : EndOf C) : Type 0 where
   pub is_front : IsFront (In_body b)
@@ -58,6 +59,7 @@ pub record IsStuck {C : Type 0} (card : Ghosts C) (first : card.State) (plan : C
   pub stays : card.standing e.card ≡ first
   pub is_of : IsOf asked b
   pub gathers : room.bytes ≡ before ++ brought (In_body b)
+  pub permitted : PermitsData card.MayReceive card.MaySend asked.header.ins b.direction
   pub due : length b.moved < to_move b
 
 -- Why they don't move: the card takes more than were given; it sends more than may come, or more

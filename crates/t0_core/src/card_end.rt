@@ -256,6 +256,8 @@ impl<C: TpduCard> CardEnd<C> {
         ensures permitted { (header : Header) (p3 : ℕ) →
             self.old.stage ≡ Taking_header (begins_with header p3) →
             IsPermitted C.MayReceive C.MaySend header.ins self.new.stage }
+        ensures keeps { (byte : ℕ) → result ≡ Turn.Sends byte →
+            takes_plan self.old.stage ≡ false → KeepsDirection self.old.stage self.new.stage }
 
         // The dialogue under way goes on with it, or ends.
         ensures advances { (byte cut : ℕ) (front : Front) → result ≡ Turn.Sends byte →
@@ -409,6 +411,8 @@ fn hand_out<C: TpduCard, A: Allocator>(
     ensures permitted { (header : Header) (p3 : ℕ)
         → stage_of phase.old came.now ≡ Taking_header (begins_with header p3) →
         IsPermitted C.MayReceive C.MaySend header.ins (stage_of phase.new came.now) }
+    ensures keeps { takes_plan (stage_of phase.old came.now) ≡ false →
+        KeepsDirection (stage_of phase.old came.now) (stage_of phase.new came.now) }
     ensures advances { (cut : ℕ) (front : Front) →
         (takes_plan (stage_of phase.old came.now) ≡ true → (cut ≡ (plan_kept plans.new).cut)
         × SuitsFront (stage_of phase.new came.now) front) →

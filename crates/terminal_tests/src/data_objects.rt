@@ -53,7 +53,7 @@ fn begun<A: Allocator + Copy>(rt: &(impl Abort + AllocGlobal), memory: A) -> Car
 }
 
 /// A card that holds these data objects in this memory.
-fn card<A: Allocator + Copy>(
+pub fn card_of<A: Allocator + Copy>(
     rt: &(impl Abort + AllocGlobal),
     memory: A,
     objects: &str,
@@ -79,7 +79,7 @@ pub fn holds<A: Allocator + Copy>(
     held: &ObjectCard<A>,
     objects: &str,
 ) {
-    let wanted = card(rt, rt.alloc(), objects);
+    let wanted = card_of(rt, rt.alloc(), objects);
     assert!(rt; entries(rt, held).eq(entries(rt, &wanted)), "{objects}");
 }
 
@@ -145,7 +145,7 @@ pub fn session_over<A: Allocator + Copy>(
     memory: A,
     objects: &str,
 ) -> Session<ObjectCard<A>> {
-    Session::new(CardEnd::new(card(rt, memory, objects)))
+    Session::new(CardEnd::new(card_of(rt, memory, objects)))
 }
 
 /// Selects the application.

@@ -1,7 +1,9 @@
-//! Tests of `card_terminal`, by its public calls alone: so no proof of it is made once more for the
-//! tests.
+//! Tests of `card_terminal` and `apdu_terminal`, by their public calls alone: so no proof of them
+//! is made once more for the tests.
 #![tactic(auto)]
 
+#[cfg(test)]
+mod apdu_tests;
 #[cfg(test)]
 mod buffer_tests;
 #[cfg(test)]

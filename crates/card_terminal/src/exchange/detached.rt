@@ -11,6 +11,7 @@ ghost use Rattle.card_terminal.specs.ExchangeHistory.{ComesTo};
 ghost use Rattle.card_terminal.specs.Buffers.{IsHandingOut, IsTakingAll};
 ghost use Rattle.card_terminal.specs.ExchangeSteps.{IsTurn, IsTaking, IsAnswering, IsAnswer};
 ghost use Rattle.card_terminal.specs.OwnedExchange.{exchange_of, over_data, IsSound};
+ghost use Rattle.card_terminal.specs.Unsent.{IsFirst};
 
 use crate::exchange::Exchange;
 use crate::exchange::handing::handed_by;
@@ -199,6 +200,20 @@ impl<A: Allocator + Copy> Detached<A> {
         ensures { option_map asked_of result ≡ due_by (over_data self.now content.now).host }
     {
         HostEnd::at(self.kept.mark, content).whole()
+    }
+
+    /// The command itself, if nothing of the exchange has gone.
+    pub fn unsent<'c>(&self, content: &'c [u8]) -> Option<Command<'c>>
+        requires { IsSound (over_data self.now content.now) }
+        ensures { IsFirst (over_data self.now content.now) result }
+    {
+        if self.kept.stalled || self.kept.attempt.number != 1 {
+            return None;
+        }
+        match self.tpdu(content) {
+            None => None,
+            Some(due) => Command::new(due.header, due.content, self.kept.wanted.le()),
+        }
     }
 
     /// Takes the answer to it, as `Exchange::answered`.

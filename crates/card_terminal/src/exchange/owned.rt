@@ -6,6 +6,7 @@ ghost use Rattle.t0_core.specs.TpduBytes.{asked_of, due_by};
 ghost use Rattle.card_terminal.specs.ExchangeSide.{UnderWay, response_limit};
 ghost use Rattle.card_terminal.specs.ExchangeHistory.{ComesTo};
 ghost use Rattle.card_terminal.specs.Buffers.{IsHandingOut, IsTakingAll};
+ghost use Rattle.card_terminal.specs.Unsent.{IsFirst};
 ghost use Rattle.card_terminal.specs.ExchangeSteps.{IsTurn, IsTaking, IsAnswering, IsAnswer, IsLimited};
 
 use crate::exchange::RESPONSE_LIMIT;
@@ -121,6 +122,14 @@ impl OwnedExchange {
             → IsSome result ↔ (front ≡ fresh) }
     {
         self.exchange.tpdu(self.content.as_slice())
+    }
+
+    /// The command itself, if nothing of the exchange has gone over the line: so it may go another
+    /// way.
+    pub fn unsent(&self) -> Option<Command<'_>>
+        ensures { IsFirst self.now result }
+    {
+        self.exchange.unsent(self.content.as_slice())
     }
 
     /// Takes the answer to it, as `Exchange::answered`.

@@ -9,12 +9,14 @@ ghost use Rattle.apdu_core.specs.StatusWord.{ok};
 ghost use Rattle.card_terminal.specs.Buffers.{IsHandingOut, IsTakingAll};
 ghost use Rattle.card_terminal.specs.TerminalSteps.{IsTerminalTaking};
 ghost use Rattle.card_terminal.specs.ExchangeSteps.{IsTurn, IsTaking, IsAnswering, IsAnswer};
+ghost use Rattle.card_terminal.specs.Unsent.{IsUnsent};
 ghost use Rattle.card_terminal.specs.TerminalSide.{GoesOver, GoesToNext, IsSettled, with_exchange};
 
 use crate::commands::put_header;
 use crate::exchange::Detached;
 use crate::handed_out::HandedOut;
 use crate::taken::Taken;
+use crate::unsent::Unsent;
 use apdu_core::{Command, Header, Status, pieces};
 use std::alloc::{AllocError, Allocator, Global};
 use std::marker::Model;
@@ -32,6 +34,8 @@ pub struct Operation<A: Allocator + Copy = Global> {
     until: usize,
     p1: u8,
     p2: u8,
+    /// The command that came last is the first.
+    first: bool,
 }
 
 impl<A: Allocator + Copy> Model for Operation<A> {
@@ -48,6 +52,7 @@ impl<A: Allocator + Copy> Model for Operation<A> {
       p1 = o.p1;
       p2 = o.p2;
       rest = drop o.until o.content.items;
+      first = o.first;
     } };
 
     ghost invariant = { λ o. IsPart o.content.items o.from o.until
@@ -81,6 +86,7 @@ impl<A: Allocator + Copy> Operation<A> {
             until,
             p1,
             p2,
+            first: true,
         })
     }
 
@@ -99,6 +105,7 @@ impl<A: Allocator + Copy> Operation<A> {
         self.until = first.data().len();
         self.p1 = p1;
         self.p2 = p2;
+        self.first = true;
         self.exchange.again(first);
         Ok(())
     }
@@ -200,6 +207,24 @@ impl<A: Allocator + Copy> Operation<A> {
         self.exchange.tpdu(&self.content[self.from..self.until])
     }
 
+    /// What the operation is to send, if nothing of it has gone.
+    pub fn unsent(&self) -> Option<Unsent<'_>>
+        ensures { IsUnsent (Some self.now) result }
+    {
+        if !self.first {
+            return None;
+        }
+        match self.exchange.unsent(&self.content[self.from..self.until]) {
+            None => None,
+            Some(first) => Some(Unsent {
+                first,
+                p1: self.p1,
+                p2: self.p2,
+                rest: &self.content[self.until..],
+            }),
+        }
+    }
+
     /// Takes the answer to it, as `Exchange::answered`. With a status `9000` the next piece of a
     /// put is begun, if one follows.
     pub fn answered(&mut self, bytes: &[u8], status: Status) -> Result<(), AnswerFault>
@@ -248,6 +273,7 @@ impl<A: Allocator + Copy> Operation<A> {
         };
         self.from = self.until;
         self.until += next.data().len();
+        self.first = false;
         self.exchange.again(next);
     }
 

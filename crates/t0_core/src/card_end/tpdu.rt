@@ -2,7 +2,7 @@
 ghost use Rattle.std.specs.Prelude.{◌≡◌, ℕ, ◌<◌, ◌⊎◌, List, [], ◌∷◌, length, false, true, MatchResult};
 ghost use Rattle.apdu_core.specs.declared.header.Header.{Header};
 ghost use Rattle.t0_core.specs.Plan.{Course, IsCut, advanced, plan_kept};
-ghost use Rattle.t0_core.specs.CardView.{IsHeld, stage_of};
+ghost use Rattle.t0_core.specs.CardView.{IsHeld, KeepsDirection, stage_of};
 ghost use Rattle.t0_core.specs.TpduBytes.{asked_of};
 ghost use Rattle.t0_core.specs.CardTpdu.{CarriesOut, HasGone, rests};
 ghost use Rattle.t0_core.specs.Answering.{IsWhole, IsAnswering, Passes, Ends, Sticks, awaited_in};
@@ -212,6 +212,7 @@ impl<C: TpduCard> CardEnd<C> {
         ensures falls { (self.new.stage ≡ Taking_header [])
             ⊎ (still_to_go self.new.stage (plan_kept plans.old)
             < still_to_go self.old.stage (plan_kept plans.old)) }
+        ensures keeps { KeepsDirection self.old.stage self.new.stage }
         ensures advances { (cut : ℕ) (front : Front) →
             StandsAt C.Does (C.standing self.old.card) (C.prepared self.old.card)
             self.old.stage cut front →

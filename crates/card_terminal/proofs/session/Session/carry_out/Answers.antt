@@ -3,7 +3,8 @@ use Rattle.object_card.specs.OneStep.{Select, Get}
 use Rattle.object_card.specs.Agreed.{IsAgreed}
 use Rattle.card_terminal.specs.Conversing.{point}
 use Rattle.card_terminal.specs.Operations.{operation_of}
-use Rattle.card_terminal.proofs.RunLemmas.{agreed_select, keeps_to, sent_alone, talked, talked_as}
+use Rattle.card_terminal.specs.AgreedLaws.{agreed_select, keeps_to}
+use Rattle.card_terminal.proofs.RunLemmas.{sent_alone, talked, talked_as}
 use Rattle.card_terminal.proofs.session.Session.carry_out.Goals as goal
 
 pub send-requires : goal.send-requires

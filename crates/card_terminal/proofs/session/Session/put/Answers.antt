@@ -3,7 +3,8 @@ use Rattle.std.specs.List.{AllByRecursion}
 use Rattle.apdu_core.specs.Chaining.{chain_commands}
 use Rattle.object_card.specs.CarryingOut.{put_header}
 use Rattle.object_card.specs.Agreed.{IsAgreed}
-use Rattle.card_terminal.proofs.RunLemmas.{agreed_pieces, keeps_to, some_command}
+use Rattle.card_terminal.specs.AgreedLaws.{agreed_pieces, keeps_to}
+use Rattle.card_terminal.specs.TalkLaws.{some_command}
 use Rattle.card_terminal.proofs.session.Session.put.Goals as goal
 
 pub unreachable-requires : goal.unreachable-requires

@@ -1,5 +1,6 @@
 use Rattle.std.proofs.Common.{refl, ap}
-use Rattle.card_terminal.proofs.RunLemmas.{none_answered, still_answered, same_point, one_more_answered, has_one_step, has_talk, next_item}
+use Rattle.card_terminal.specs.RunLaws.{next_item}
+use Rattle.card_terminal.proofs.RunLemmas.{none_answered, still_answered, same_point, one_more_answered, has_one_step, has_talk}
 use Rattle.card_terminal.proofs.session.Session.run.Goals as goal
 
 pub loop-op-init : goal.loop-op-init

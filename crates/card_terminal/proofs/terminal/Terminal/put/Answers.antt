@@ -1,6 +1,7 @@
 use Rattle.std.proofs.Common.{sym, ◌∙◌}
-use Rattle.card_terminal.proofs.PartLemmas.{at_front, put_begins}
-use Rattle.card_terminal.proofs.RunLemmas.{some_command}
+use Rattle.card_terminal.specs.PieceLaws.{at_front}
+use Rattle.card_terminal.proofs.PartLemmas.{put_begins}
+use Rattle.card_terminal.specs.TalkLaws.{some_command}
 use Rattle.card_terminal.proofs.terminal.Terminal.put.Goals as goal
 
 pub unreachable-requires : goal.unreachable-requires

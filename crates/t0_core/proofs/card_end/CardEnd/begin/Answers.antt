@@ -15,3 +15,4 @@ returns-clause-answering g c =
     c.requires.whole c.requires.opened
     (λ at suits stands. c.in-Sends.ensures.advances byte plan.cut at refl (λ takes. (refl, suits))
     stands)
+    (c.turn.ensures.permitted c.args.tpdu.now.header c.args.tpdu.now.p3 c.requires.opened)

@@ -12,7 +12,7 @@ returns-in-Procedure-clause-passes g c = λ first before on.
     passes_procedure g.C.TpduCard first (plan_kept c.args.plans.now)
     (asked_of c.args.tpdu.now) before c.args.gather.now.bytes
     c.args.self.now c.hand_on.new.self c.hand_on.result on (sym c.in-Procedure.ensures)
-    c.hand_on.ensures.falls c.hand_on.ensures.advances
+    c.hand_on.ensures.falls c.hand_on.ensures.keeps c.hand_on.ensures.advances
 
 pub returns-else-is_full-clause-passes : goal.returns-else-is_full-clause-passes
 returns-else-is_full-clause-passes g c = λ first before on.
@@ -25,7 +25,7 @@ returns-else-is_full-clause-passes g c = λ first before on.
     (passes_data g.C.TpduCard first plan asked before c.args.gather.now.bytes c.args.self.now
     c.hand_on-byte.new.self c.in-OfCard.place c.hand_on-byte.result on
     (sym c.in-OfCard.ensures) (omega (arith, c.if-place-from.false)) c.hand_on-byte.ensures.falls
-    c.hand_on-byte.ensures.advances)
+    c.hand_on-byte.ensures.keeps c.hand_on-byte.ensures.advances)
 
 pub returns-in-Some-clause-passes : goal.returns-in-Some-clause-passes
 returns-in-Some-clause-passes g c = λ first before on.

@@ -1,6 +1,7 @@
 use Rattle.std.proofs.Common.{ap, length}
-use Rattle.card_terminal.proofs.PartLemmas.{part_of, next_front, next_begins}
-use Rattle.card_terminal.proofs.RunLemmas.{some_command}
+use Rattle.card_terminal.specs.PieceLaws.{next_front}
+use Rattle.card_terminal.proofs.PartLemmas.{part_of, next_begins}
+use Rattle.card_terminal.specs.TalkLaws.{some_command}
 use Rattle.card_terminal.proofs.terminal.operation.Operation.begin_next.Goals as goal
 
 pub unreachable-requires : goal.unreachable-requires
@@ -22,7 +23,7 @@ returns g c =
     let (pieces, are, same) = c.pieces-commands.ensures in
     let size = ap length c.data.ensures.value in
     next_begins c.args.self.now _ c.again.new.self c.self.inside.content.items c.deref.result.now _
-    _ _ _ _ pieces _ _ c.in-Some.next c.self.view_is c.requires.done c.requires.more
+    _ _ _ _ _ pieces _ _ c.in-Some.next c.self.view_is c.requires.done c.requires.more
     c.deref.ensures.value c.put_header.ensures are same c.in-Some.ensures.steps
     c.self.invariant.within size c.again.ensures.begins c.again.ensures.led
     c.again.ensures.sound c.again.ensures.limit

@@ -1,0 +1,483 @@
+-- What led to an operation at a terminal leads on with each response.
+use Rattle.std.proofs.Common.{◌≡◌, ◌≢◌, ◌≤◌, ◌+◌, ◌-◌, ◌==◌, ℕ, List, [], ◌∷◌, ◌++◌, length, take, drop, ◌⊎◌, inl, inr, refl, sym, subst, ◌∙◌, ap, append-nil, append_assoc, length-append, arith, Option, Some, None, true, false, Bool, if◌then◌else◌}
+use Rattle.std.specs.Prelude.{not, Result, Ok, Err, MatchResult, IfErr, IfSome}
+use Rattle.std.specs.List.{AllByRecursion, slice_range}
+use Rattle.std.proofs.Math.Seq.{drop-append_seam, take-append_seam}
+use Rattle.std.proofs.lemmas.Bool.{eqb-true}
+use Rattle.std.proofs.lemmas.Bool.Decides.{eqb_tells}
+use Rattle.std.proofs.lemmas.List.{drop-drop, length-drop}
+use Rattle.apdu_core.specs.declared.header.Header.{Header}
+use Rattle.apdu_core.specs.StatusWord.{StatusWord, ok}
+use Rattle.apdu_core.specs.CommandBytes.{Command, IsCommand}
+use Rattle.apdu_core.specs.Chaining.{IsPieces, link, with_more, chain_commands}
+use Rattle.tlv_core.specs.Address.{NamesTag}
+use Rattle.t0_core.specs.declared.answer_fault.AnswerFault.{AnswerFault}
+use Rattle.t0_core.specs.declared.answer_fault.AnswerFault.TheVariants.{NotDue, Stalled}
+use Rattle.t0_core.specs.Character.{Character}
+use Rattle.t0_core.specs.DialogueLaws.{flat_map_last}
+use Rattle.t0_core.specs.HostAnswer.{fails_with}
+use Rattle.object_card.specs.CarryingOut.{put_header}
+use Rattle.object_card.specs.OneStep.{Put, Reply}
+use Rattle.card_terminal.specs.Gathered.{wanted_by}
+use Rattle.card_terminal.specs.PieceLaws.{IsFrontOf, left_is, left_after, chain_of, rest_seen}
+use Rattle.card_terminal.specs.Talk.{AreCommandsOf}
+use Rattle.card_terminal.specs.declared.unsent.Unsent.{Unsent}
+use Rattle.card_terminal.specs.Unsent.{IsUnsent}
+use Rattle.card_terminal.specs.TerminalSide.{AreLeft, OperationOf}
+use Rattle.card_terminal.specs.TerminalSide as tpdus
+use Rattle.apdu_terminal.specs.declared.stage.Stage.{Stage}
+use Rattle.apdu_terminal.specs.declared.stage.Stage.TheVariants.{Going, Done, Failed}
+use Rattle.apdu_terminal.specs.Apdus.{Pair, Brings, GathersApdus}
+use Rattle.apdu_terminal.specs.ApduTalk.{AreApdusOf, talk_pairs}
+use Rattle.apdu_terminal.specs.ApduSide.{ApduExchangeOf, ComesTo, to_place, to_end, to_stall, to_fault, HasFew, IsResponding, IsSound, KeepsData, kept_data, answer_at, answer_of, answered_by, over_data, response_fault}
+use Rattle.apdu_terminal.specs.ApduOperations.{ApduOperationOf, AreApdusUpTo, Begins, BeginsWith, GoesOver, GoesToNext, IsOperationAnswer, IsPart, IsSettled, IsTakingResponse, LeadsThrough, LeadsTo, has_failed_at, operation_answer, with_exchange}
+
+ok_or_not : (status : StatusWord) → (status ≡ ok) ⊎ (status ≢ ok)
+ok_or_not status = elim (eqb_tells status.0 0x90) [
+  | inl first ↦ elim (eqb_tells status.1 0x00) [
+    | inl second ↦ inl (ap (λ a. (a, status.1)) first.1 ∙ ap (λ b. (0x90, b)) second.1)
+    | inr other ↦ inr (λ e. other.1 (ap (λ (s : StatusWord). s.1) e))
+  ]
+  | inr other ↦ inr (λ e. other.1 (ap (λ (s : StatusWord). s.0) e))
+]
+
+-- a value has at least one piece, and so a command
+pub some_command : (h : Header) (value : List ℕ) (pieces : List (List ℕ)) (left : List Command)
+    → IsPieces value pieces → left ≡ chain_commands h pieces → left ≡ [] → ⊥
+some_command h [] [] left is same none = absurd (cc)
+some_command h (b ∷ value) [] left is same none = absurd is.1
+some_command h value (p ∷ []) left is same none = let e : [] ≡ link h p ∷ [] = sym none ∙ same in
+    absurd (cc)
+some_command h value (p ∷ q ∷ others) left is same none =
+    let e : [] ≡ link (with_more h) p ∷ chain_commands h (q ∷ others) = sym none ∙ same in
+    absurd (cc)
+
+-- whether more is to be put
+pub some_rest : (items : List ℕ) (until size : ℕ) → until ≤ length items → size ≡ length items
+    → (until ≡ size → ⊥) → drop until items ≡ [] → ⊥
+some_rest items until size fits is apart none = apart
+    (omega (arith, fits, is, sym (length-drop until items) ∙ ap length none))
+
+pub is_within : (value content more : List ℕ) (n : ℕ) → value ≡ content ++ more
+    → n ≡ length content → n ≤ length value
+is_within value content more n is size =
+    omega (arith, size, ap length is, length-append content more)
+
+-- ---- an operation begins
+
+not_done : (s : Stage) (status : StatusWord) → s ≡ Going → s ≡ Done status → ⊥
+not_done s status going done = let e : Going ≡ Done status = sym going ∙ done in absurd (cc)
+
+pub first_begins : (c : Command) (left : List Command) (p1 p2 : ℕ) (rest : List ℕ)
+    (o : ApduOperationOf) → BeginsWith c p1 p2 rest o → AreLeft p1 p2 rest left
+    → LeadsTo (c ∷ left) [] (Some o)
+first_begins c left p1 p2 rest o begins are_left = (
+  record {
+    gone = [];
+    current = c;
+    left = left;
+    taken = refl;
+    are_left = subst (λ n. AreLeft n o.p2 o.rest left) (sym begins.p1_is)
+        (subst (λ n. AreLeft p1 n o.rest left) (sym begins.p2_is)
+        (subst (λ bs. AreLeft p1 p2 bs left) (sym begins.rest_is) are_left));
+    here = [];
+    led = begins.led;
+    pairs_are = refl;
+  },
+  λ done. absurd (not_done o.exchange.stage ok begins.going done),
+)
+
+-- of one command
+pub one_begins : (c : Command) (p1 p2 : ℕ) (rest : List ℕ) (o : ApduOperationOf)
+    (new : Option ApduOperationOf) → rest ≡ [] → new ≡ Some o → BeginsWith c p1 p2 rest o
+    → LeadsTo (c ∷ []) [] new
+one_begins c p1 p2 rest o new none is begins =
+    subst (λ (n : Option ApduOperationOf). LeadsTo (c ∷ []) [] n) (sym is)
+    (first_begins c [] p1 p2 rest o begins
+    (subst (λ bs. AreLeft p1 p2 bs []) (sym none) refl))
+
+-- of a put
+pub put_begins : (tag value rest : List ℕ) (p1 p2 : ℕ) (header : Header)
+    (pieces : List (List ℕ)) (list others : List Command) (c : Command) (o : ApduOperationOf)
+    (new : Option ApduOperationOf) → header ≡ put_header p1 p2 → NamesTag tag p1 p2
+    → IsPieces value pieces → list ≡ chain_commands header pieces → list ≡ c ∷ others
+    → rest ≡ drop (length c.content) value → new ≡ Some o → BeginsWith c p1 p2 rest o
+    → (commands : List Command) × AreCommandsOf (Put tag value) commands × LeadsTo commands [] new
+put_begins tag value rest p1 p2 header pieces list others c o new header_is names are same steps
+    rest_is is begins =
+    let chain = chain_of header p1 p2 pieces list others c header_is same steps in
+    let left : AreLeft p1 p2 rest others =
+    subst (λ bs. AreLeft p1 p2 bs others) (sym rest_is)
+    (left_after p1 p2 value pieces c others are chain) in (
+      c ∷ others,
+      (p1, p2, pieces, names, are, sym chain),
+      subst (λ (n : Option ApduOperationOf). LeadsTo (c ∷ others) [] n) (sym is)
+          (first_begins c others p1 p2 rest o begins left),
+    )
+
+-- of what is to be sent at a terminal of TPDUs
+pub unsent_begins : (t : Option OperationOf) (u : Unsent) (o : ApduOperationOf)
+    (commands : List Command) (came : List Character) → IsUnsent t (Some u) → Begins u o
+    → AllByRecursion IsCommand commands → tpdus.LeadsTo commands came t
+    → LeadsTo commands [] (Some o)
+unsent_begins t u o commands came unsent begins are leads =
+    let (left, is, are_left) = unsent.led commands came are leads unsent.known in
+    subst (λ cs. LeadsTo cs [] (Some o)) (sym is)
+    (first_begins u.first left u.p1 u.p2 u.rest.now o begins are_left)
+
+-- ---- a command is over
+
+-- what led to the end of an exchange
+pub ended : (c : Command) (pairs : List Pair) (ex : ApduExchangeOf) (status : StatusWord)
+    → ex.stage ≡ Done status → ComesTo c (wanted_by c.le) pairs ex
+    → GathersApdus c pairs ex.gather.bytes status
+ended c pairs ex status done (to_place going through bytes is number) =
+    absurd (not_done ex.stage status going done)
+ended c pairs ex status done (to_end other is brings number) =
+    let both : Done other ≡ Done status = sym is ∙ done in
+    let same : other ≡ status = cc in
+    subst (λ s. GathersApdus c pairs ex.gather.bytes s) same brings
+ended c pairs ex status done (to_stall failed stalls) =
+    let e : Failed ≡ Done status = sym failed ∙ done in absurd (cc)
+ended c pairs ex status done (to_fault failed long) =
+    let e : Failed ≡ Done status = sym failed ∙ done in absurd (cc)
+
+taken_more : (commands : List Command) (gone : List (List Pair)) (c : Command)
+    (left : List Command) (pairs : List Pair) (brought : List ℕ)
+    → AreApdusUpTo commands gone (c ∷ left) → GathersApdus c pairs brought ok
+    → AreApdusUpTo commands (gone ++ pairs ∷ []) left
+taken_more commands [] c left pairs brought taken gathers =
+    subst (λ cs. AreApdusUpTo cs (pairs ∷ []) left) taken (brought, gathers, refl)
+taken_more [] (first ∷ gone) c left pairs brought taken gathers = absurd taken
+taken_more (d ∷ commands) (first ∷ gone) c left pairs brought taken gathers =
+    (taken.0, taken.1, taken_more commands gone c left pairs brought taken.2 gathers)
+
+taken_to_end : (commands : List Command) (gone : List (List Pair)) (c : Command)
+    (left : List Command) (pairs : List Pair) (answer : Reply)
+    → AreApdusUpTo commands gone (c ∷ left) → GathersApdus c pairs answer.content answer.status
+    → (left ≡ []) ⊎ (answer.status ≢ ok) → AreApdusOf commands (gone ++ pairs ∷ []) answer
+taken_to_end commands [] c left pairs answer taken gathers ends =
+    subst (λ cs. AreApdusOf cs (pairs ∷ []) answer) taken (gathers, ends)
+taken_to_end [] (first ∷ gone) c left pairs answer taken gathers ends = absurd taken
+taken_to_end (d ∷ commands) (first ∷ []) c left pairs answer taken gathers ends =
+    (taken.0, taken.1, taken_to_end commands [] c left pairs answer taken.2 gathers ends)
+taken_to_end (d ∷ commands) (first ∷ second ∷ gone) c left pairs answer taken gathers ends = (
+  taken.0,
+  taken.1,
+  taken_to_end commands (second ∷ gone) c left pairs answer taken.2 gathers ends,
+)
+
+one_more_exchange : (gone : List (List Pair)) (pairs : List Pair)
+    → talk_pairs (gone ++ pairs ∷ []) ≡ talk_pairs gone ++ pairs
+one_more_exchange gone pairs = flat_map_last (λ ps. ps) gone pairs
+
+-- a command is over with 9000, and the next begins
+to_next : (commands : List Command) (pairs : List Pair) (o new : ApduOperationOf)
+    → GoesToNext o new → LeadsThrough commands pairs o → LeadsThrough commands pairs new
+to_next commands pairs o new next l =
+    let gathers = ended l.current l.here o.exchange ok next.done l.led in
+    let (c, after, left_is, led, are_left) = next.next l.left l.are_left in
+    let taken : AreApdusUpTo commands l.gone (l.current ∷ c ∷ after) =
+    subst (λ cs. AreApdusUpTo commands l.gone (l.current ∷ cs)) left_is l.taken in
+    record {
+      gone = l.gone ++ l.here ∷ [];
+      current = c;
+      left = after;
+      taken = taken_more commands l.gone l.current (c ∷ after) l.here o.exchange.gather.bytes taken
+          gathers;
+      are_left = are_left;
+      here = [];
+      led = led;
+      pairs_are = l.pairs_are ∙ sym (one_more_exchange l.gone l.here)
+          ∙ sym (append-nil (talk_pairs (l.gone ++ l.here ∷ [])));
+    }
+
+goes_over : (commands : List Command) (pairs : List Pair) (o new : ApduOperationOf)
+    → GoesOver o new → LeadsThrough commands pairs o → LeadsThrough commands pairs new
+goes_over commands pairs o new (inl same) l =
+    subst (λ x. LeadsThrough commands pairs x) (sym same.1) l
+goes_over commands pairs o new (inr next) l = to_next commands pairs o new next l
+
+pub none_left : (p1 p2 : ℕ) (rest : List ℕ) (left : List Command) → rest ≡ []
+    → AreLeft p1 p2 rest left → left ≡ []
+none_left p1 p2 [] left none are = are
+none_left p1 p2 (b ∷ bs) left none are = absurd (cc)
+
+-- where no more is to be put, no command follows
+nothing_next : (o new : ApduOperationOf) → GoesToNext o new → o.rest ≡ [] → ⊥
+nothing_next o new next none =
+    let are : AreLeft o.p1 o.p2 o.rest [] =
+    subst (λ bs. AreLeft o.p1 o.p2 bs []) (sym none) refl in
+    let (c, after, is, led, left) = next.next [] are in absurd (cc)
+
+-- ---- a response
+
+stays : (o new : ApduOperationOf) (ex : ApduExchangeOf) → IsSettled o
+    → GoesOver (with_exchange o ex) new → ex ≡ o.exchange → new ≡ o
+stays o new ex settled (inl same) is = same.1 ∙ ap (λ x. with_exchange o x) is
+stays o new ex settled (inr next) is =
+    absurd (nothing_next (with_exchange o ex) new next
+    (settled (ap (λ (x : ApduExchangeOf). x.stage) (sym is) ∙ next.done)))
+
+pub settles : (o new : ApduOperationOf) → GoesOver o new → IsSettled new
+settles o new (inl same) = subst (λ x. IsSettled x) (sym same.1) same.0
+settles o new (inr next) = λ done. absurd (not_done new.exchange.stage ok next.going done)
+
+fails : (o new : ApduOperationOf) (ex : ApduExchangeOf) → GoesOver (with_exchange o ex) new
+    → ex.stage ≡ Failed → has_failed_at (Some new)
+fails o new ex (inl same) failed =
+    ap (λ (x : ApduOperationOf). x.exchange.stage) same.1 ∙ failed
+fails o new ex (inr next) failed =
+    let e : Done ok ≡ Failed = sym next.done ∙ failed in absurd (cc)
+
+few_over : (o new : ApduOperationOf) (ex : ApduExchangeOf) → HasFew ex
+    → GoesOver (with_exchange o ex) new → HasFew new.exchange
+few_over o new ex few (inl same) =
+    subst (λ (x : ApduOperationOf). HasFew x.exchange) (sym same.1) few
+few_over o new ex few (inr next) = next.few
+
+-- the command that is due, with this response
+abbrev pub took : ApduOperationOf → List ℕ → StatusWord → List Pair
+took o content status = answered_by o.exchange content status ∷ []
+
+pub responds : (o new : ApduOperationOf) (content : List ℕ) (status : StatusWord)
+    (result : Result (Unit {0}) AnswerFault) (ex : ApduExchangeOf) → IsSettled o
+    → IsResponding o.exchange content status result ex → GoesOver (with_exchange o ex) new
+    → IsTakingResponse (Some o) content status result (Some new)
+responds o new content status result ex settled step over = record {
+  fault = step.fault;
+  few = few_over o new ex step.few over;
+  unchanged = same result step.unchanged;
+  failed = broken result step.failed;
+  led = λ commands pairs l. on commands pairs l.0 result (step.led l.0.current
+      (wanted_by l.0.current.le) l.0.here l.0.led);
+}
+  where
+    same : (r : Result (Unit {0}) AnswerFault)
+        → IfErr r (λ f. fails_with f ≡ false → ex ≡ o.exchange)
+        → IfErr r (λ f. fails_with f ≡ false → Some new ≡ Some o)
+    same (Ok u) is = tt
+    same (Err f) is = λ not_final. ap (λ x. Some x) (stays o new ex settled over (is not_final))
+
+    broken : (r : Result (Unit {0}) AnswerFault)
+        → IfErr r (λ f. fails_with f ≡ true → ex.stage ≡ Failed)
+        → IfErr r (λ f. fails_with f ≡ true → has_failed_at (Some new))
+    broken (Ok u) is = tt
+    broken (Err f) is = λ final. fails o new ex over (is final)
+
+    went : (commands : List Command) (pairs : List Pair) (l : LeadsThrough commands pairs o)
+        → ComesTo l.current (wanted_by l.current.le) (l.here ++ took o content status) ex
+        → LeadsTo commands (pairs ++ took o content status) (Some new)
+    went commands pairs l led = (
+      goes_over commands (pairs ++ took o content status) (with_exchange o ex) new over
+          (record {
+            gone = l.gone;
+            current = l.current;
+            left = l.left;
+            taken = l.taken;
+            are_left = l.are_left;
+            here = l.here ++ took o content status;
+            led = led;
+            pairs_are = ap (λ z. z ++ took o content status) l.pairs_are
+                ∙ append_assoc (talk_pairs l.gone) l.here (took o content status);
+          }),
+      settles (with_exchange o ex) new over,
+    )
+
+    on : (commands : List Command) (pairs : List Pair) (l : LeadsThrough commands pairs o)
+        (r : Result (Unit {0}) AnswerFault)
+        → MatchResult r
+        (λ _. ComesTo l.current (wanted_by l.current.le) (l.here ++ took o content status) ex)
+        (λ f. fails_with f ≡ true
+        → ComesTo l.current (wanted_by l.current.le) (l.here ++ took o content status) ex)
+        → MatchResult r (λ _. LeadsTo commands (pairs ++ took o content status) (Some new))
+        (λ f. fails_with f ≡ true → LeadsTo commands (pairs ++ took o content status) (Some new))
+    on commands pairs l (Ok u) led = went commands pairs l led
+    on commands pairs l (Err f) led = λ final. went commands pairs l (led final)
+
+pub idle_responds : (content : List ℕ) (status : StatusWord)
+    → IsTakingResponse None content status (Err NotDue) None
+idle_responds content status = record {
+  fault = inl refl;
+  few = tt;
+  unchanged = λ not_final. refl;
+  failed = λ final. absurd (never final);
+  led = λ commands pairs l. absurd l;
+}
+  where
+    never : false ≡ true → ⊥
+    never e = cc
+
+-- as the call sees it
+pub responding_as : (seen old now new : Option ApduOperationOf) (content : List ℕ)
+    (status : StatusWord) (r result : Result (Unit {0}) AnswerFault) → old ≡ seen
+    → result ≡ r → now ≡ new → IsTakingResponse old content status r new
+    → IsTakingResponse seen content status result now
+responding_as seen old now new content status r result was is after step =
+    subst (λ x. IsTakingResponse x content status result now) was
+    (subst (λ x. IsTakingResponse old content status x now) (sym is)
+    (subst (λ x. IsTakingResponse old content status r x) (sym after) step))
+
+-- a response at an exchange that is kept without its data
+pub responds_over : (self of_it after : ApduExchangeOf) (content bytes : List ℕ)
+    (status : StatusWord) (result : Result (Unit {0}) AnswerFault) (old new : ApduExchangeOf)
+    (empty : Bool) → old ≡ over_data self content → after ≡ of_it
+    → over_data of_it new.content ≡ new → KeepsData old new
+    → empty ≡ (length new.content == 0) → IsResponding old bytes status result new
+    → IsResponding (over_data self content) bytes status result
+    (over_data after (kept_data (not empty) content))
+responds_over self of_it after content bytes status result old new empty was now same keeps none
+    step =
+    subst (λ x. IsResponding x bytes status result (over_data after
+    (kept_data (not empty) content))) was
+    (subst (λ x. IsResponding old bytes status result x) (sym is) step)
+  where
+    data_are : (bs : List ℕ) → new.content ≡ bs → (e : Bool) → e ≡ (length bs == 0)
+        → kept_data (not e) content ≡ new.content
+    data_are [] at true is = sym at
+    data_are [] at false is = absurd (cc)
+    data_are (b ∷ bs) at true is =
+        absurd (omega (arith, eqb-true (length (b ∷ bs)) 0 (sym is)))
+    data_are (b ∷ bs) at false is = elim keeps [
+      | inl gone ↦ let no : b ∷ bs ≡ [] = sym at ∙ gone in absurd (cc)
+      | inr stay ↦ ap (λ (x : ApduExchangeOf). x.content) (sym was) ∙ sym stay.0
+    ]
+
+    is : over_data after (kept_data (not empty) content) ≡ new
+    is = ap (λ e. over_data e (kept_data (not empty) content)) now
+        ∙ ap (λ bs. over_data of_it bs) (data_are new.content refl empty none) ∙ same
+
+-- ---- the answer
+
+-- these are exchanges of the commands, with this answer
+abbrev pub IsTalk : List Command → List Pair → StatusWord × List ℕ → Type 0
+IsTalk commands pairs a = (exchanges : List (List Pair))
+    × AreApdusOf commands exchanges (record { status = a.0; content = a.1 })
+    × (pairs ≡ talk_pairs exchanges)
+
+pub answers : (o : ApduOperationOf) (answer : Option (StatusWord × List ℕ)) → IsSettled o
+    → answer ≡ answer_of o.exchange → IsOperationAnswer (Some o) answer
+answers o answer settled is = record {
+  is = is;
+  led = λ commands pairs l.
+      let at : IfSome (answer_of o.exchange) (λ a. IsTalk commands pairs a) =
+      by commands pairs l.0 o.exchange.stage refl in
+      subst (λ (x : Option (StatusWord × List ℕ)). IfSome x (λ a. IsTalk commands pairs a))
+      (sym is) at;
+}
+  where
+    ends : (left : List Command) (status : StatusWord) → AreLeft o.p1 o.p2 o.rest left
+        → o.exchange.stage ≡ Done status → (status ≡ ok) ⊎ (status ≢ ok)
+        → (left ≡ []) ⊎ (status ≢ ok)
+    ends left status are done (inl fine) =
+        inl (none_left o.p1 o.p2 o.rest left (settled (done ∙ ap (λ s. Done s) fine)) are)
+    ends left status are done (inr other) = inr other
+
+    by : (commands : List Command) (pairs : List Pair) → LeadsThrough commands pairs o
+        → (s : Stage) → o.exchange.stage ≡ s
+        → IfSome (answer_at s o.exchange.gather.bytes) (λ a. IsTalk commands pairs a)
+    by commands pairs l Going is = tt
+    by commands pairs l Failed is = tt
+    by commands pairs l (Done status) is =
+        let gathers = ended l.current l.here o.exchange status is l.led in (
+          l.gone ++ l.here ∷ [],
+          taken_to_end commands l.gone l.current l.left l.here
+              (record { status = status; content = o.exchange.gather.bytes }) l.taken gathers
+              (ends l.left status l.are_left is (ok_or_not status)),
+          l.pairs_are ∙ sym (one_more_exchange l.gone l.here),
+        )
+
+pub answer_as : (old seen : Option ApduOperationOf) (answer : Option (StatusWord × List ℕ))
+    → old ≡ seen → IsOperationAnswer old answer → IsOperationAnswer seen answer
+answer_as old seen answer same is = subst (λ t. IsOperationAnswer t answer) same is
+
+-- ---- the data within those of the operation
+
+pub settled_at : (old : Option ApduOperationOf) (o : ApduOperationOf)
+    → IfSome old (λ x. IsSettled x) → old ≡ Some o → IsSettled o
+settled_at old o settled is =
+    subst (λ (x : Option ApduOperationOf). IfSome x (λ y. IsSettled y)) is settled
+
+pub part_of : (items content : List ℕ) (from until : ℕ) (ex : ApduExchangeOf)
+    → IsFrontOf items from until content → IsSound (over_data ex content)
+    → IsPart items from until (over_data ex (slice_range items from until))
+part_of items content from until ex front sound = record {
+  begin = front.begin;
+  within = front.within;
+  sound = subst (λ (bs : List ℕ). IsSound (over_data ex bs)) (sym front.slice) sound;
+}
+
+pub begins_with : (first : Command) (rest items : List ℕ) (ex : ApduExchangeOf)
+    (until p1 p2 : ℕ) → items ≡ first.content ++ rest → until ≡ length first.content
+    → ex.stage ≡ Going
+    → ComesTo first (wanted_by first.le) [] (over_data ex first.content)
+    → BeginsWith first p1 p2 rest (record {
+      exchange = over_data ex (slice_range items 0 until);
+      p1 = p1;
+      p2 = p2;
+      rest = drop until items;
+    })
+begins_with first rest items ex until p1 p2 whole is going led =
+    let size : until - 0 ≡ length first.content = omega (arith, is) in
+    let slice : slice_range items 0 until ≡ first.content =
+    ap (λ k. take k items) size ∙ ap (λ z. take (length first.content) z) whole
+    ∙ take-append_seam first.content rest in
+    record {
+      led = subst (λ (bs : List ℕ). ComesTo first (wanted_by first.le) [] (over_data ex bs))
+          (sym slice) led;
+      going = going;
+      p1_is = refl;
+      p2_is = refl;
+      rest_is = ap (λ n. drop n items) is ∙ ap (λ z. drop (length first.content) z) whole
+          ∙ drop-append_seam first.content rest;
+    }
+
+few_first : (ex : ApduExchangeOf) (c : Command) → ex.stage ≡ Going
+    → ComesTo c (wanted_by c.le) [] ex → HasFew ex
+few_first ex c going (to_place is through bytes wanted number) = omega (arith, number)
+few_first ex c going (to_end status is brings number) =
+    absurd (not_done ex.stage status going is)
+few_first ex c going (to_stall is stalls) = let e : Going ≡ Failed = sym going ∙ is in absurd (cc)
+few_first ex c going (to_fault is long) = let e : Going ≡ Failed = sym going ∙ is in absurd (cc)
+
+pub next_begins : (old : ApduOperationOf) (ex new : ApduExchangeOf) (items seen : List ℕ)
+    (until p1 p2 size : ℕ) (header : Header) (pieces : List (List ℕ))
+    (list others : List Command) (c : Command)
+    → record { exchange = ex; p1 = p1; p2 = p2; rest = drop until items } ≡ old
+    → old.exchange.stage ≡ Done ok → (old.rest ≡ [] → ⊥) → seen ≡ items
+    → header ≡ put_header p1 p2 → IsPieces (slice_range seen until (length seen)) pieces
+    → list ≡ chain_commands header pieces → list ≡ c ∷ others
+    → IsFrontOf items until (until + size) c.content → size ≡ length c.content
+    → new.stage ≡ Going → ComesTo c (wanted_by c.le) [] (over_data new c.content)
+    → new.gather.limit ≡ ex.gather.limit → GoesToNext old (record {
+      exchange = over_data new (slice_range items until (until + size));
+      p1 = p1;
+      p2 = p2;
+      rest = drop (until + size) items;
+    })
+next_begins old ex new items seen until p1 p2 size header pieces list others c view done more
+    same_items header_is are same steps front is going led kept =
+    let are_now : IsPieces (drop until items) pieces =
+    subst (λ z. IsPieces z pieces) (rest_seen items seen until same_items) are in
+    let chain = chain_of header p1 p2 pieces list others c header_is same steps in
+    let after_is : drop (length c.content) (drop until items) ≡ drop (until + size) items =
+    drop-drop (length c.content) until items ∙ ap (λ n. drop (until + n) items) (sym is) in
+    let led_now = subst (λ (bs : List ℕ). ComesTo c (wanted_by c.le) [] (over_data new bs))
+    (sym front.slice) led in
+    record {
+      done = done;
+      next = λ left are_left. (
+        c,
+        others,
+        left_is p1 p2 (drop until items) pieces left
+            (λ e. more (ap (λ (o : ApduOperationOf). o.rest) (sym view) ∙ e)) are_now
+            (subst (λ (o : ApduOperationOf). AreLeft o.p1 o.p2 o.rest left) (sym view) are_left)
+            ∙ chain,
+        led_now,
+        subst (λ z. AreLeft p1 p2 z others) after_is
+            (left_after p1 p2 (drop until items) pieces c others are_now chain),
+      );
+      going = going;
+      few = few_first _ c going led_now;
+      limit = kept ∙ ap (λ (o : ApduOperationOf). o.exchange.gather.limit) view;
+    }

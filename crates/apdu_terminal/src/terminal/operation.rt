@@ -1,0 +1,189 @@
+//! An operation by whole commands: the exchange of one of its commands, and what is still to be
+//! put.
+ghost use Rattle.std.specs.Prelude.{◌≡◌, ℕ, ◌≤◌, List, [], ◌++◌, length, IfOk, is_ok, MatchResult, if◌then◌else◌, true, false};
+ghost use Rattle.std.specs.Option.{option_map};
+ghost use Rattle.apdu_core.specs.StatusWord.{ok};
+ghost use Rattle.card_terminal.specs.ExchangeSide.{response_limit};
+ghost use Rattle.apdu_terminal.specs.ApduSide.{ApduExchangeOf, IsResponding, answer_of, due_of, is_going};
+ghost use Rattle.apdu_terminal.specs.ApduOperations.{Begins, GoesOver, GoesToNext, IsSettled, with_exchange};
+ghost use Rattle.apdu_terminal.specs.declared.stage.Stage.TheVariants.{Done};
+
+use crate::exchange::Detached;
+use crate::stage::Stage;
+use apdu_core::{Command, Status, pieces};
+use card_terminal::{Unsent, put_header};
+use std::alloc::{AllocError, Allocator, Global};
+use std::marker::Model;
+use t0_core::AnswerFault;
+
+/// An operation that has begun.
+#[derive(Drop)]
+pub struct ApduOperation<A: Allocator + Copy = Global> {
+    exchange: Detached<A>,
+    /// All that goes to the card as data.
+    content: Vec<u8, A>,
+    /// The data of the command that came last begin here..
+    from: usize,
+    /// ..and end here. The rest goes in more pieces of a put.
+    until: usize,
+    p1: u8,
+    p2: u8,
+}
+
+impl<A: Allocator + Copy> Model for ApduOperation<A> {
+    ghost use Rattle.std.specs.Prelude.{◌≡◌, ◌≤◌, length, drop};
+    ghost use Rattle.std.specs.List.{slice_range};
+    ghost use Rattle.apdu_terminal.specs.ApduSide.{over_data};
+    ghost use Rattle.apdu_terminal.specs.ApduOperations.{ApduOperationOf, IsPart};
+
+    ghost Value = { ApduOperationOf };
+
+    ghost view = { λ o. record {
+      exchange = over_data o.exchange (slice_range o.content.items o.from o.until);
+      p1 = o.p1;
+      p2 = o.p2;
+      rest = drop o.until o.content.items;
+    } };
+
+    ghost invariant = { λ o. IsPart o.content.items o.from o.until
+        (over_data o.exchange (slice_range o.content.items o.from o.until)) };
+}
+
+impl<A: Allocator + Copy> ApduOperation<A> {
+    /// Begins an operation. Takes all memory: room for `limit` bytes of a response, and for the
+    /// data. Returns `AllocError` if memory ran out.
+    pub fn start(alloc: A, limit: usize, unsent: Unsent<'_>) -> Result<ApduOperation<A>, AllocError>
+        requires { limit ≤ response_limit }
+        ensures begins { IfOk result (λ o. Begins unsent.entry o) }
+        ensures limit { IfOk result (λ o. o.exchange.gather.limit ≡ limit) }
+    {
+        let Unsent {
+            first,
+            p1,
+            p2,
+            rest,
+        } = unsent;
+        let data = first.data();
+        let until = data.len();
+        let mut content = Vec::new(alloc);
+        copy_again(&mut content, data, rest)?;
+        let exchange = Detached::start(alloc, first, limit)?;
+        Ok(ApduOperation {
+            exchange,
+            content,
+            from: 0,
+            until,
+            p1,
+            p2,
+        })
+    }
+
+    /// Begins another operation in the place of this one, as `start`, in the same memory. Takes
+    /// more only for longer data than any before. `AllocError`: memory ran out, nothing changes.
+    pub fn again(&mut self, unsent: Unsent<'_>) -> Result<(), AllocError>
+        ensures begins { MatchResult result (λ _. Begins unsent.entry self.new)
+            (λ _. self.new ≡ self.old) }
+        ensures limit { self.new.exchange.gather.limit ≡ self.old.exchange.gather.limit }
+    {
+        let Unsent {
+            first,
+            p1,
+            p2,
+            rest,
+        } = unsent;
+        let data = first.data();
+        copy_again(&mut self.content, data, rest)?;
+        self.from = 0;
+        self.until = data.len();
+        self.p1 = p1;
+        self.p2 = p2;
+        self.exchange.again(first);
+        Ok(())
+    }
+
+    /// Whether a command is due.
+    pub fn is_going(&self) -> bool
+        ensures { result ≡ is_going self.now.exchange.stage }
+    {
+        matches!(self.exchange.stage(), Stage::Going)
+    }
+
+    /// The command that is due.
+    pub fn apdu(&self) -> Option<Command<'_>>
+        ensures { result ≡ due_of self.now.exchange }
+    {
+        self.exchange.apdu(&self.content[self.from..self.until])
+    }
+
+    /// Takes the response to it, as `ApduExchange::responded`. With a status `9000` the next piece
+    /// of a put begins, if one follows.
+    pub fn responded(&mut self, bytes: &[u8], status: Status) -> Result<(), AnswerFault>
+        ensures responding { (ex : ApduExchangeOf)
+            × IsResponding self.old.exchange bytes.now status result ex
+            × GoesOver (with_exchange self.old ex) self.new }
+    {
+        let content = &self.content[self.from..self.until];
+        let (taken, keeps) = self.exchange.responded(bytes, status, content);
+        if !keeps {
+            self.from = self.until;
+        }
+        self.go_on();
+        taken
+    }
+
+    /// Begins the exchange of the next piece of a put, if the last was answered `9000` and one
+    /// follows.
+    fn go_on(&mut self)
+        ensures { GoesOver self.old self.new }
+    {
+        let is_last = self.until == self.content.as_slice().len();
+        if is_last {
+            return;
+        }
+        match self.exchange.stage() {
+            Stage::Done(status) if status.is_ok() => self.begin_next(),
+            _ => {}
+        }
+    }
+
+    /// Begins the exchange of the next piece of a put, in the same room.
+    fn begin_next(&mut self)
+        requires more { self.old.rest ≡ [] → ⊥ }
+        requires done { self.old.exchange.stage ≡ Done ok }
+        ensures { GoesToNext self.old self.new }
+    {
+        let mut commands = pieces(put_header(self.p1, self.p2), &self.content[self.until..]);
+        let Some(next) = commands.next() else {
+            unreachable!()
+        };
+        self.from = self.until;
+        self.until += next.data().len();
+        self.exchange.again(next);
+    }
+
+    /// The status and the data of the last command, if the operation is over.
+    pub fn answer(&self) -> Option<(Status, &[u8])>
+        ensures { answer_of self.now.exchange ≡ option_map (λ a. (a.0, a.1.now)) result }
+    {
+        self.exchange.answer()
+    }
+}
+
+/// Makes a vector a copy of these bytes, in the room that it has if they fit. `AllocError`: memory
+/// ran out, and its items stay.
+fn copy_again<A: Allocator>(
+    copy: &mut Vec<u8, A>,
+    front: &[u8],
+    rest: &[u8],
+) -> Result<(), AllocError>
+    requires { length front.now ≤ 255 }
+    ensures { copy.new.items ≡ (if is_ok result then front.now ++ rest.now else copy.old.items) }
+{
+    let len = front.len() + rest.len();
+    copy.reserve_exact(len.saturating_sub(copy.len()))?;
+    copy.clear();
+    if copy.extend_from_slice(front).is_err() || copy.extend_from_slice(rest).is_err() {
+        unreachable!()
+    }
+    Ok(())
+}

@@ -1,0 +1,43 @@
+//! Laws of operations at a terminal of whole commands: the contract of each function is one.
+ghost use Rattle.std.specs.Prelude.{◌≡◌, ◌++◌, ◌∷◌, [], List, Option, Some};
+ghost use Rattle.std.specs.List.{AllByRecursion};
+ghost use Rattle.apdu_core.specs.CommandBytes.{Command, IsCommand};
+ghost use Rattle.t0_core.specs.Character.{Character};
+ghost use Rattle.card_terminal.specs.TerminalSide.{OperationOf};
+ghost use Rattle.card_terminal.specs.TerminalSide as tpdus;
+ghost use Rattle.card_terminal.specs.declared.unsent.Unsent.{Unsent};
+ghost use Rattle.card_terminal.specs.Unsent.{IsUnsent};
+ghost use Rattle.object_card.specs.OneStep.{Reply};
+ghost use Rattle.apdu_terminal.specs.declared.stage.Stage.TheVariants.{Done};
+ghost use Rattle.apdu_terminal.specs.Apdus.{Pair};
+ghost use Rattle.apdu_terminal.specs.ApduTalk.{AreApdusOf, talk_pairs};
+ghost use Rattle.apdu_terminal.specs.ApduSide.{due_of};
+ghost use Rattle.apdu_terminal.specs.ApduOperations.{ApduOperationOf, Begins, HaveRoom, LeadsTo};
+
+/// The pairs leave an operation no choice. If what led to it continues to whole exchanges of its
+/// commands, for whose data there is room, the next command of those is due.
+pub fn the_next_command_of_an_operation_is_settled()
+    ensures { (commands : List Command) (came rest : List Pair) (p : Pair) (o : ApduOperationOf)
+        (exchanges : List (List Pair)) (answer : Reply) → LeadsTo commands came (Some o) →
+        AreApdusOf commands exchanges answer → HaveRoom o.exchange.gather.limit exchanges →
+        talk_pairs exchanges ≡ came ++ p ∷ rest → due_of o.exchange ≡ Some p.command }
+{}
+
+/// If the pairs that led to an operation are whole exchanges of its commands, for whose data there
+/// is room, it is over, with their answer.
+pub fn a_whole_operation_by_commands_is_done()
+    ensures { (commands : List Command) (came : List Pair) (o : ApduOperationOf)
+        (exchanges : List (List Pair)) (answer : Reply) → LeadsTo commands came (Some o) →
+        AreApdusOf commands exchanges answer → HaveRoom o.exchange.gather.limit exchanges →
+        came ≡ talk_pairs exchanges → (o.exchange.stage ≡ Done answer.status)
+        × (o.exchange.gather.bytes ≡ answer.content) }
+{}
+
+/// What a terminal of TPDUs is to send, of which nothing has gone, is the same operation at a
+/// terminal of whole commands.
+pub fn an_unsent_operation_begins_by_commands()
+    ensures { (t : Option OperationOf) (unsent : Unsent) (o : ApduOperationOf)
+        (commands : List Command) (came : List Character) → IsUnsent t (Some unsent) →
+        Begins unsent o → AllByRecursion IsCommand commands → tpdus.LeadsTo commands came t →
+        LeadsTo commands [] (Some o) }
+{}

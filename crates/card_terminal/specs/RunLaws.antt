@@ -1,0 +1,97 @@
+-- Operations that have been carried out in turn, over any transport: which have their answers.
+use Rattle.std.proofs.Common.{slice_index_or, map, ◌≡◌, ℕ, zero, suc, ◌+◌, ◌<◌, ◌≤◌, List, [], ◌∷◌, ◌++◌, length, take, drop, refl, sym, ap, subst, ◌∙◌, arith, append-nil, append_assoc, length-append}
+use Rattle.object_card.specs.OneStep.{Operation, Reply}
+use Rattle.card_terminal.specs.declared.operation.Op.{Op}
+use Rattle.card_terminal.specs.Operations.{operation_of}
+use Rattle.card_terminal.specs.Running.{new_answers, carried_out}
+
+new_are : (before given now : List Reply) → now ≡ before ++ given
+    → new_answers before now ≡ given
+new_are before given now is = ap (λ l. new_answers before l) is ∙ by before
+  where
+    by : (rs : List Reply) → drop (length rs) (rs ++ given) ≡ given
+    by [] = refl
+    by (r ∷ rs) = by rs
+
+take_front : {A : Type 0} (xs ys : List A) → take (length xs) (xs ++ ys) ≡ xs
+take_front [] ys = refl
+take_front (x ∷ xs) ys = ap (λ l. x ∷ l) (take_front xs ys)
+
+carried_are : {A : Type 0} (ops : List (Op A)) (done left : List Operation)
+    (given : List Reply) → map operation_of ops ≡ done ++ left → length given ≡ length done
+    → carried_out ops given ≡ done
+carried_are ops done left given is same = ap (λ n. take n (map operation_of ops)) same
+    ∙ ap (λ l. take (length done) l) is ∙ take_front done left
+
+-- The first of the operations are carried out, so many as there are new answers; what is known of
+-- them has come of these.
+pub record HaveReplies {A : Type 0} (Come : List Operation → List Reply → Type 0)
+    (ops : List (Op A)) (before : List Reply) (n : ℕ) (given : List Reply) : Type 0 where
+  pub done : List Operation
+  pub replies : List Reply
+  pub given_is : given ≡ before ++ replies
+  pub ops_are : map operation_of ops ≡ done ++ map operation_of (drop n ops)
+  pub many : length replies ≡ length done
+  pub many_done : length done ≡ n
+  pub few : n ≤ length ops
+  pub come : Come done replies
+
+pub no_replies : {A : Type 0} (Come : List Operation → List Reply → Type 0) (ops : List (Op A))
+    (before : List Reply) → Come [] [] → HaveReplies Come ops before 0 before
+no_replies Come ops before come = record {
+  done = [];
+  replies = [];
+  given_is = sym (append-nil before);
+  ops_are = refl;
+  many = refl;
+  many_done = refl;
+  few = omega arith;
+  come = come;
+}
+
+-- one more is carried out
+pub one_more_reply : {A : Type 0} (Come Then : List Operation → List Reply → Type 0)
+    (ops : List (Op A)) (before : List Reply) (n : ℕ) (given given' : List Reply) (op : Op A)
+    (r : Reply) → HaveReplies Come ops before n given → n < length ops
+    → drop n ops ≡ op ∷ drop (n + 1) ops → given' ≡ given ++ r ∷ []
+    → ((done : List Operation) (replies : List Reply) → Come done replies
+    → Then (done ++ operation_of op ∷ []) (replies ++ r ∷ []))
+    → HaveReplies Then ops before (n + 1) given'
+one_more_reply Come Then ops before n given given' op r have lt next given_is more =
+    let o = operation_of op in
+    let rest = map operation_of (drop (n + 1) ops) in
+    record {
+      done = have.done ++ o ∷ [];
+      replies = have.replies ++ r ∷ [];
+      given_is = given_is ∙ ap (λ l. l ++ r ∷ []) have.given_is
+          ∙ append_assoc before have.replies (r ∷ []);
+      ops_are = have.ops_are ∙ ap (λ l. have.done ++ map operation_of l) next
+          ∙ sym (append_assoc have.done (o ∷ []) rest);
+      many = length-append have.replies (r ∷ []) ∙ ap (λ k. k + 1) have.many
+          ∙ sym (length-append have.done (o ∷ []));
+      many_done = length-append have.done (o ∷ []) ∙ ap (λ k. k + 1) have.many_done;
+      few = omega (arith, lt);
+      come = more have.done have.replies have.come;
+    }
+
+-- what has come, of the answers that are new
+pub replies_come : {A : Type 0} (Come : List Operation → List Reply → Type 0) (ops : List (Op A))
+    (before : List Reply) (n : ℕ) (given : List Reply) → HaveReplies Come ops before n given
+    → Come (carried_out ops (new_answers before given)) (new_answers before given)
+replies_come Come ops before n given have =
+    let replies = new_are before have.replies given have.given_is in
+    let same : carried_out ops (new_answers before given) ≡ have.done =
+    ap (λ l. carried_out ops l) replies
+    ∙ carried_are ops have.done (map operation_of (drop n ops)) have.replies have.ops_are
+    have.many in
+    subst (λ os. Come os (new_answers before given)) (sym same)
+    (subst (λ rs. Come have.done rs) (sym replies) have.come)
+
+-- an item of a list, and those after it
+pub next_item : {X : Type 0} (xs : List X) (n : ℕ) (x : X) → n < length xs
+    → x ≡ slice_index_or xs n x → drop n xs ≡ x ∷ drop (n + 1) xs
+next_item [] n x lt is = absurd (omega (arith, lt))
+next_item (y ∷ ys) zero x lt is = ap (λ z. z ∷ ys) (sym is)
+next_item (y ∷ ys) (suc n) x lt is =
+    let e : suc (n + 1) ≡ suc n + 1 = omega arith in
+    subst (λ k. drop n ys ≡ x ∷ drop k (y ∷ ys)) e (next_item ys n x (omega (arith, lt)) is)

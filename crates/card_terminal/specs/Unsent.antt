@@ -1,0 +1,41 @@
+-- What an operation of which nothing has gone over the line is to send.
+use Rattle.std.specs.Prelude.{◌≡◌, ℕ, List, ◌∷◌, Option, Some, None, IfSome, MatchOption, Bool, true, false, not, ◌&&◌, ◌==◌, zero, suc}
+use Rattle.std.specs.List.{AllByRecursion}
+use Rattle.apdu_core.specs.CommandBytes.{Command, IsCommand}
+use Rattle.t0_core.specs.HostAnswer.{is_due}
+use Rattle.t0_core.specs.Character.{Character}
+use Rattle.card_terminal.specs.declared.unsent.Unsent.{Unsent}
+use Rattle.card_terminal.specs.declared.wanted.Wanted.{Wanted}
+use Rattle.card_terminal.specs.declared.wanted.Wanted.TheVariants.{Bytes, Everything}
+use Rattle.card_terminal.specs.ExchangeSide.{ExchangeOf}
+use Rattle.card_terminal.specs.ExchangeHistory.{ComesTo}
+use Rattle.card_terminal.specs.TerminalSide.{OperationOf, AreLeft, LeadsTo}
+
+-- the Le of a command that wants this much
+abbrev pub le_by : Wanted → Option ℕ
+le_by (Bytes zero) = None
+le_by (Bytes (suc n)) = Some (suc n)
+le_by Everything = Some 256
+
+-- its first TPDU is about to begin
+abbrev pub is_unsent : ExchangeOf → Bool
+is_unsent ex = not ex.stalled && ((ex.attempt.number == 1) && is_due ex.host)
+
+abbrev pub is_unsent_at : Option OperationOf → Bool
+is_unsent_at None = false
+is_unsent_at (Some o) = o.first && is_unsent o.exchange
+
+-- The command of an exchange of which nothing has gone; none of every other.
+pub record IsFirst (ex : ExchangeOf) (first : Option Command) : Type 0 where
+  pub known : IfSome first (λ c. is_unsent ex ≡ true)
+  pub led : (c : Command) (came : List Character) → IsCommand c → ComesTo c came ex
+      → is_unsent ex ≡ true → first ≡ Some c
+
+-- What an operation is to send of which nothing has gone: its first command, and then the rest of
+-- its data in the commands that are left. None of every other.
+pub record IsUnsent (t : Option OperationOf) (unsent : Option Unsent) : Type 0 where
+  pub known : IfSome unsent (λ u. is_unsent_at t ≡ true)
+  pub led : (commands : List Command) (came : List Character) → AllByRecursion IsCommand commands
+      → LeadsTo commands came t → is_unsent_at t ≡ true
+      → MatchOption unsent ⊥ (λ u. (left : List Command) × (commands ≡ u.first ∷ left)
+      × AreLeft u.p1 u.p2 u.rest.now left)

@@ -1,12 +1,14 @@
 -- The reasons to refuse a header, instruction by instruction.
-use Rattle.std.proofs.Common.{◌≡◌, ◌≢◌, ◌∙◌, ℕ, ◌+◌, ◌<◌, ◌≤◌, List, [], ◌∷◌, ◌++◌, length, Option, Some, None, Bool, true, false, refl, sym, ap, subst}
-use Rattle.std.specs.Prelude.{IsSome, option_map, option_and_then, is_none, if◌then◌else◌, nat_lt, ◌==◌, ◌||◌, ◌&&◌, not, bit_and, IfSome}
-use Rattle.std.proofs.lemmas.Bool.{lt-ltb, le-ltb, ne_eqb, eqb-true, not-false}
+use Rattle.std.proofs.Common.{◌≡◌, ◌∙◌, ℕ, ◌+◌, ◌<◌, ◌≤◌, List, [], ◌∷◌, ◌++◌, length, Option, Some, None, Bool, true, false, refl, sym, ap, subst}
+use Rattle.std.specs.Prelude.{IsSome, option_map, option_and_then, is_none, if◌then◌else◌, nat_lt, ◌==◌, ◌&&◌, not, bit_and, IfSome}
+use Rattle.std.proofs.lemmas.Bool.{lt-ltb, le-ltb, not-false}
 use Rattle.apdu_core.specs.declared.header.Header.{Header}
 use Rattle.apdu_core.specs.StatusWord.{StatusWord}
 use Rattle.apdu_core.specs.Chaining.{ChainState, as_last}
 use Rattle.tlv_core.specs.Spelling.{object_bytes}
 use Rattle.object_card.specs.declared.limits.TheConstants.{VALUE_LIMIT}
+use Rattle.object_card.specs.Instructions.{instruction_of}
+use Rattle.object_card.specs.InstructionLaws.{known_some}
 use Rattle.object_card.specs.Tables.{Entry, value_under, is_locked}
 use Rattle.object_card.specs.State.{CardState, chained, selected_entries}
 use Rattle.object_card.specs.Refusals.{Reason, first_of_them, holds, status_for, is_locked_among, named_tag, object_asked, parameters_fit, refusal, breaks_chain}
@@ -192,12 +194,7 @@ pub form_fits : (s : CardState) (h : Header) (p3 : ℕ) → first_of_them s h p3
     → parameters_fit h ≡ true
 form_fits s h p3 none = not-false _ (none_of_them s h p3 of_form none).1.1.1.0
 
-known_last : (n : ℕ) → ((n == 0xA4) || (n == 0xCA) || (n == 0xDA) || (n == 0xC0)) ≡ true → n ≢ 0xA4
-    → n ≢ 0xDA → n ≢ 0xCA → n ≡ 0xC0
-known_last n known a b c =
-    eqb-true n 0xC0
-    (subst (λ v. v ≡ true) (rw (ne_eqb n 0xA4 a, ne_eqb n 0xCA c, ne_eqb n 0xDA b) refl) known)
-
-pub form_last : (s : CardState) (h : Header) (p3 : ℕ) → first_of_them s h p3 of_form ≡ None
-    → h.ins ≢ 0xA4 → h.ins ≢ 0xDA → h.ins ≢ 0xCA → h.ins ≡ 0xC0
-form_last s h p3 none = known_last h.ins (not-false _ (none_of_them s h p3 of_form none).1.0)
+-- so is the instruction
+pub form_known : (s : CardState) (h : Header) (p3 : ℕ) → first_of_them s h p3 of_form ≡ None
+    → IsSome (instruction_of h.ins)
+form_known s h p3 none = known_some h.ins (not-false _ (none_of_them s h p3 of_form none).1.0)

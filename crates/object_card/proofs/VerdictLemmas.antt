@@ -1,7 +1,7 @@
 -- What a verdict on a header leaves ready, and what a header that is not refused has to send.
-use Rattle.std.proofs.Common.{◌≡◌, ◌≢◌, ◌∙◌, ℕ, zero, suc, ◌≤◌, List, [], length, Option, Some, None, Bool, true, false, ◌⊎◌, inl, inr, refl, sym, ap, subst, arith}
+use Rattle.std.proofs.Common.{◌≡◌, ◌≢◌, ◌∙◌, ℕ, zero, suc, ◌≤◌, List, [], length, Option, Some, None, Bool, true, false, inl, inr, refl, sym, ap, subst, arith}
 use Rattle.std.specs.Prelude.{unwrap_or, option_map, IfSome, IsSome, if◌then◌else◌, ◌==◌, ◌&&◌, ◌||◌, nat_lt}
-use Rattle.std.proofs.lemmas.Bool.{true≢false, ltb-false, ne_eqb, not-false, eqb-true}
+use Rattle.std.proofs.lemmas.Bool.{true≢false, ltb-false, not-false}
 use Rattle.std.proofs.lemmas.Bool.Decides.{eqb_tells}
 use Rattle.apdu_core.specs.declared.header.Header.{Header}
 use Rattle.apdu_core.specs.Chaining.{ChainState, idle}
@@ -12,7 +12,8 @@ use Rattle.object_card.specs.Tables.{Entry}
 use Rattle.object_card.specs.State.{CardState, IsCardState, NothingPending, ResponsePending, with_pending}
 use Rattle.object_card.specs.declared.instructions.Instruction.{Instruction}
 use Rattle.object_card.specs.declared.instructions.Instruction.TheVariants.{Select, GetData, PutData, GetResponse}
-use Rattle.object_card.specs.Instructions.{ins_of, MayReceive, MaySend}
+use Rattle.object_card.specs.Instructions.{ins_of, instruction_of, takes_data}
+use Rattle.object_card.specs.InstructionLaws.{ins_is, known_some}
 use Rattle.object_card.specs.Refusals.{refusal, UnknownInstruction, MoreThanIsLeft, is_get, is_get_response, to_send}
 use Rattle.object_card.specs.CardMeaning.{Does, refuses, after_refusal}
 use Rattle.object_card.specs.declared.response.Response.{Response}
@@ -81,20 +82,20 @@ leaves_standing held selected chain response next standing fits sound = record {
   alone = λ some. refl;
 }
 
--- a header that is not refused
-known_sending : (n : ℕ) → ((n == 0xA4) || (n == 0xCA) || (n == 0xDA) || (n == 0xC0)) ≡ true
-    → n ≢ 0xA4 → n ≢ 0xDA → ((n == 0xCA) || (n == 0xC0)) ≡ true
-known_sending n known a b = subst (λ v. v ≡ true)
-    (rw (ne_eqb n 0xA4 a, ne_eqb n 0xDA b) (split (n == 0xCA))) known
-  where
-    split : (v : Bool) → (((false || v) || false) || (n == 0xC0)) ≡ (v || (n == 0xC0))
-    split true = refl
-    split false = refl
+-- a header that is not refused has an instruction
+pub instruction_known : (s : CardState) (h : Header) (p3 : ℕ) → refusal s h p3 ≡ None
+    → IsSome (instruction_of h.ins)
+instruction_known s h p3 none =
+    known_some h.ins (not-false _ (none_holds s h p3 UnknownInstruction none))
 
-pub sends_where : (s : CardState) (h : Header) (p3 : ℕ) → refusal s h p3 ≡ None → h.ins ≢ 0xA4
-    → h.ins ≢ 0xDA → (is_get h || is_get_response h) ≡ true
-sends_where s h p3 none a b = known_sending h.ins
-    (not-false _ (none_holds s h p3 UnknownInstruction none)) a b
+pub sends_where : (h : Header) (i : Instruction) → instruction_of h.ins ≡ Some i
+    → takes_data i ≡ false → (is_get h || is_get_response h) ≡ true
+sends_where h Select is gives = absurd (true≢false gives)
+sends_where h GetData is gives =
+    ap (λ n. (n == 0xCA) || (n == 0xC0)) (ins_is h.ins GetData is)
+sends_where h PutData is gives = absurd (true≢false gives)
+sends_where h GetResponse is gives =
+    ap (λ n. (n == 0xCA) || (n == 0xC0)) (ins_is h.ins GetResponse is)
 
 pub enough_left : (s : CardState) (h : Header) (p3 : ℕ) → refusal s h p3 ≡ None
     → (is_get h || is_get_response h) ≡ true → count p3 ≤ length (to_send s h)
@@ -122,25 +123,12 @@ pub to_send_is : (f : Response → List ℕ) (r : Option Response) (x : Response
     ≡ Some x → unwrap_or (option_map f r) [] ≡ xs → f x ≡ xs
 to_send_is f r x xs is whole = sym (ap (λ o. unwrap_or (option_map f o) []) is) ∙ whole
 
-pub receiving_ins : (n : ℕ) → (n ≡ 0xA4) ⊎ ((n ≢ 0xA4) × (n ≡ 0xDA)) → MayReceive n
-receiving_ins n (inl e) = (Select, e, refl)
-receiving_ins n (inr e) = (PutData, e.1, refl)
-
-pub sending_ins : (n : ℕ) → ((n == 0xCA) || (n == 0xC0)) ≡ true → MaySend n
-sending_ins n is = split (n == 0xCA) refl
-  where
-    split : (v : Bool) → (n == 0xCA) ≡ v → MaySend n
-    split true e = (GetData, eqb-true n 0xCA e, refl)
-    split false e =
-        (GetResponse, eqb-true n 0xC0 (subst (λ v. (v || (n == 0xC0)) ≡ true) e is), refl)
-
 each_is_valid : (i : Instruction) → ins_is_valid (ins_of i) ≡ true
 each_is_valid Select = refl
 each_is_valid GetData = refl
 each_is_valid PutData = refl
 each_is_valid GetResponse = refl
 
-pub valid_sending : (n : ℕ) → ((n == 0xCA) || (n == 0xC0)) ≡ true → ins_is_valid n ≡ false → ⊥
-valid_sending n is invalid =
-    let sent = sending_ins n is in
-    true≢false (sym (each_is_valid sent.0) ∙ ap ins_is_valid (sym sent.1) ∙ invalid)
+pub is_valid : (n : ℕ) (i : Instruction) → instruction_of n ≡ Some i → ins_is_valid n ≡ false → ⊥
+is_valid n i is invalid =
+    true≢false (sym (each_is_valid i) ∙ ap ins_is_valid (sym (ins_is n i is)) ∙ invalid)

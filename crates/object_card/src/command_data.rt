@@ -15,7 +15,7 @@ use crate::put_data::put_value;
 use crate::ready::{Put, Ready};
 use crate::response::Response;
 use crate::select_command::select;
-use crate::status_words::status;
+use crate::status_words::{DONE, status};
 use crate::view::View;
 use apdu_core::{Chain, Header, Status};
 use std::alloc::Allocator;
@@ -105,7 +105,7 @@ fn take_put<A: Allocator + Copy>(
     join(chain, header, content);
     if is_piece(header) {
         return Taken {
-            status: status(0x90, 0x00),
+            status: status(DONE),
             ready: Ready::Joins { before },
             put: None,
         };

@@ -9,11 +9,14 @@ ghost use Rattle.object_card.specs.State.{CardState};
 ghost use Rattle.object_card.specs.HeaderReasons.{of_form, of_state};
 ghost use Rattle.object_card.specs.ViewState.{state_seen, entries_seen, IsStandingView};
 
-use crate::instructions::{CHAINED, GET_DATA, GET_RESPONSE, PUT_DATA, SELECT};
+use crate::instructions::{CHAINED, GET_DATA, Instruction, PUT_DATA};
 use crate::limits::VALUE_LIMIT;
 use crate::lookup::{chosen, named};
 use crate::response::Response;
-use crate::status_words::status;
+use crate::status_words::{
+    CHAIN_PENDING, FEWER, LOCKED, NO_OBJECT, NOT_CHAINED, NOT_NOW, UNKNOWN_CLASS,
+    UNKNOWN_INSTRUCTION, WRONG_LENGTH, WRONG_PARAMETERS, status,
+};
 use crate::view::View;
 use apdu_core::{Header, Status, count};
 use std::alloc::Allocator;
@@ -34,19 +37,16 @@ pub(crate) fn refusal<A: Allocator>(
     ensures { result ≡ refusal (state_seen view.now) header p3 }
 {
     if !view.chain.accepts(header) {
-        return Some(status(0x68, 0x83));
+        return Some(status(CHAIN_PENDING));
     }
     if let Some(status) = form_refusal(header) {
         return Some(status);
     }
-    if header.ins == SELECT {
-        select_refusal(p3)
-    } else if header.ins == PUT_DATA {
-        put_refusal(view, header, p3)
-    } else if header.ins == GET_DATA {
-        get_refusal(view, header, p3, asked)
-    } else {
-        get_response_refusal(view, header, p3)
+    match Instruction::of(header.ins).unwrap() {
+        Instruction::Select => select_refusal(p3),
+        Instruction::PutData => put_refusal(view, header, p3),
+        Instruction::GetData => get_refusal(view, header, p3, asked),
+        Instruction::GetResponse => get_response_refusal(view, header, p3),
     }
 }
 
@@ -55,16 +55,16 @@ fn form_refusal(header: Header) -> Option<Status>
     ensures { (state : CardState) (p3 : ℕ) → result ≡ first_of_them state header p3 of_form }
 {
     if !class_is_known(header) {
-        return Some(status(0x6E, 0x00));
+        return Some(status(UNKNOWN_CLASS));
     }
     if !instruction_is_known(header) {
-        return Some(status(0x6D, 0x00));
+        return Some(status(UNKNOWN_INSTRUCTION));
     }
     if header.cla == CHAINED && header.ins != PUT_DATA {
-        return Some(status(0x68, 0x84));
+        return Some(status(NOT_CHAINED));
     }
     if !parameters_fit(header) {
-        return Some(status(0x6A, 0x86));
+        return Some(status(WRONG_PARAMETERS));
     }
     None
 }
@@ -82,16 +82,16 @@ fn class_is_known(header: Header) -> bool
 fn instruction_is_known(header: Header) -> bool
     ensures { result ≡ instruction_is_known header }
 {
-    matches!(header.ins, SELECT | GET_DATA | PUT_DATA | GET_RESPONSE)
+    Instruction::of(header.ins).is_some()
 }
 
 fn parameters_fit(header: Header) -> bool
     ensures { result ≡ parameters_fit header }
 {
-    match header.ins {
-        SELECT => header.p1 == 0x04 && header.p2 == 0x00,
-        GET_RESPONSE => header.p1 == 0x00 && header.p2 == 0x00,
-        _ => named(header).is_some(),
+    match Instruction::of(header.ins) {
+        Some(Instruction::Select) => header.p1 == 0x04 && header.p2 == 0x00,
+        Some(Instruction::GetResponse) => header.p1 == 0x00 && header.p2 == 0x00,
+        Some(Instruction::GetData | Instruction::PutData) | None => named(header).is_some(),
     }
 }
 
@@ -100,7 +100,7 @@ fn select_refusal(p3: u8) -> Option<Status>
         result ≡ first_of_them state header p3 of_state }
 {
     if p3 < 5 || p3 > 16 {
-        Some(status(0x67, 0x00))
+        Some(status(WRONG_LENGTH))
     } else {
         None
     }
@@ -113,14 +113,14 @@ fn put_refusal<A: Allocator>(view: &View<A>, header: Header, p3: u8) -> Option<S
     ensures { result ≡ first_of_them (state_seen view.now) header p3 of_state }
 {
     let Some(application) = chosen(view.applications, view.selected) else {
-        return Some(status(0x69, 0x85));
+        return Some(status(NOT_NOW));
     };
     let tag = named(header).unwrap();
     if application.is_locked(tag) {
-        return Some(status(0x69, 0x82));
+        return Some(status(LOCKED));
     }
     if view.chain.len() + p3 as usize > VALUE_LIMIT {
-        return Some(status(0x67, 0x00));
+        return Some(status(WRONG_LENGTH));
     }
     None
 }
@@ -139,10 +139,10 @@ fn get_refusal<A: Allocator>(
     ensures { result ≡ first_of_them (state_seen view.now) header p3 of_state }
 {
     if chosen(view.applications, view.selected).is_none() {
-        return Some(status(0x69, 0x85));
+        return Some(status(NOT_NOW));
     }
     let Some(response) = asked else {
-        return Some(status(0x6A, 0x88));
+        return Some(status(NO_OBJECT));
     };
     too_much(response.left(view.applications, view.selected), p3)
 }
@@ -153,7 +153,7 @@ fn get_response_refusal<A: Allocator>(view: &View<A>, header: Header, p3: u8) ->
     ensures { result ≡ first_of_them (state_seen view.now) header p3 of_state }
 {
     let Some(response) = view.response else {
-        return Some(status(0x69, 0x85));
+        return Some(status(NOT_NOW));
     };
     too_much(response.left(view.applications, view.selected), p3)
 }
@@ -163,7 +163,7 @@ fn too_much(left: usize, p3: u8) -> Option<Status>
     ensures { result ≡ (if nat_lt left (count p3) then Some (0x6C, left) else None) }
 {
     if left < count(p3) as usize {
-        Some(status(0x6C, left as u8))
+        Some(status((FEWER, left as u8)))
     } else {
         None
     }

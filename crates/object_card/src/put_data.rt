@@ -13,7 +13,7 @@ use crate::command_data::Taken;
 use crate::limits::{ENTRY_LIMIT, VALUE_LIMIT};
 use crate::lookup::named;
 use crate::ready::{Put, Ready};
-use crate::status_words::status;
+use crate::status_words::{DONE, MEMORY_FAILURE, TABLE_FULL, WRONG_DATA, status};
 use apdu_core::{Header, Status};
 use std::alloc::Allocator;
 use tlv_core::{ObjectTag, value_fault};
@@ -34,7 +34,7 @@ pub(crate) fn put_value<A: Allocator + Copy>(
     let application = &mut applications[selected];
     match value_to_put(application, tag, value) {
         Ok(value) => Taken {
-            status: status(0x90, 0x00),
+            status: status(DONE),
             ready: Ready::Stores,
             put: Some(Put { tag, value }),
         },
@@ -76,10 +76,10 @@ pub(crate) fn value_to_put<A: Allocator + Copy>(
         return Err(status);
     }
     if application.make_room(tag).is_err() {
-        return Err(status(0x65, 0x81));
+        return Err(status(MEMORY_FAILURE));
     }
     let Ok(copy) = application.copied(value) else {
-        return Err(status(0x65, 0x81));
+        return Err(status(MEMORY_FAILURE));
     };
     Ok(copy)
 }
@@ -97,10 +97,10 @@ fn refused_value<A: Allocator>(
         × PutStatus application.now.entries tag value.now status) }
 {
     if value_fault(tag.tag(), value).is_some() {
-        return Some(status(0x6A, 0x80));
+        return Some(status(WRONG_DATA));
     }
     if application.len() >= ENTRY_LIMIT && application.find(tag).is_none() {
-        return Some(status(0x6A, 0x84));
+        return Some(status(TABLE_FULL));
     }
     None
 }

@@ -11,7 +11,7 @@ ghost use Rattle.object_card.specs.ViewState.{state_seen, IsStandingView, prepar
 use crate::application::Application;
 use crate::ready::Ready;
 use crate::response::Response;
-use crate::status_words::{announcing, status};
+use crate::status_words::{NO_APPLICATION, announcing, status};
 use crate::view::View;
 use apdu_core::{Header, Status};
 use std::alloc::Allocator;
@@ -33,7 +33,7 @@ pub(crate) fn select<A: Allocator>(
     ensures keeps { standing_chain view.now.chain.now result.0 ≡ view.now.chain.now }
 {
     let Some(application) = find(view.applications, aid) else {
-        return (Ready::Leaves { response: None }, status(0x6A, 0x82));
+        return (Ready::Leaves { response: None }, status(NO_APPLICATION));
     };
     let response = Response::information(view.applications[application].aid());
     let left = response.left(view.applications, Some(application));

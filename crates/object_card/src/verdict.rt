@@ -11,10 +11,11 @@ ghost use Rattle.object_card.specs.Refusals.{is_get, is_get_response, object_ask
 ghost use Rattle.object_card.specs.ViewState.{state_seen, entries_seen, IsStandingView, prepared_seen, FitsView};
 
 use crate::header_refusals::refusal;
-use crate::instructions::{GET_DATA, GET_RESPONSE, PUT_DATA, SELECT};
+use crate::instructions::{GET_RESPONSE, Instruction};
 use crate::lookup::object_asked;
 use crate::ready::Ready;
 use crate::response::Response;
+use crate::status_words::FEWER;
 use crate::view::View;
 use apdu_core::{Header, Status};
 use std::alloc::Allocator;
@@ -42,7 +43,7 @@ pub(crate) fn judged<A: Allocator>(
         let response = kept(view.response, header, &status);
         return (Verdict::Refuse(status), Ready::Leaves { response });
     }
-    if header.ins == SELECT || header.ins == PUT_DATA {
+    if Instruction::of(header.ins).unwrap().takes_data() {
         return (Verdict::Receive, Ready::Receives { header, p3, cut });
     }
     let response = sends.unwrap();
@@ -60,7 +61,7 @@ fn kept(response: Option<Response>, header: Header, status: &Status) -> Option<R
     ensures { result
         ≡ (if is_get_response header && (status.now.0 == 0x6C) then response else None) }
 {
-    if header.ins == GET_RESPONSE && status.sw1() == 0x6C {
+    if header.ins == GET_RESPONSE && status.sw1() == FEWER {
         response
     } else {
         None
@@ -78,9 +79,9 @@ fn to_send<A: Allocator>(view: &View<A>, header: Header) -> Option<Response>
         unwrap_or (option_map (left_of (entries_seen view.now)) result) []
         ≡ to_send (state_seen view.now) header }
 {
-    match header.ins {
-        GET_DATA => object_asked(view, header),
-        GET_RESPONSE => view.response,
-        _ => None,
+    match Instruction::of(header.ins) {
+        Some(Instruction::GetData) => object_asked(view, header),
+        Some(Instruction::GetResponse) => view.response,
+        Some(Instruction::Select | Instruction::PutData) | None => None,
     }
 }

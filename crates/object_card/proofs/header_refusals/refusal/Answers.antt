@@ -1,7 +1,8 @@
-use Rattle.std.specs.Prelude.{IfSome, true, false}
+use Rattle.std.specs.Prelude.{IfSome, IsSome, true, false}
 use Rattle.apdu_core.specs.Chaining.{as_last}
-use Rattle.std.proofs.Common.{◌≡◌, ◌∙◌, sym, ap, Some}
-use Rattle.std.proofs.Common.{◌∙◌, sym}
+use Rattle.std.proofs.Common.{◌≡◌, ◌∙◌, sym, ap, subst, Some}
+use Rattle.object_card.specs.declared.instructions.Instruction.TheVariants.{Select}
+use Rattle.object_card.specs.InstructionLaws.{ins_is}
 use Rattle.object_card.specs.CardFields.{entries_at, state_of}
 use Rattle.object_card.proofs.HeaderRefusalLemmas as refusals
 use Rattle.object_card.proofs.header_refusals.refusal.Goals as goal
@@ -27,34 +28,35 @@ put_refusal-requires-clause-fits g c = refusals.form_fits
     c.args.view.now.chain.now c.args.view.now.response) c.args.p3)
     ∙ c.in_default.is)
 
-pub get_response_refusal-requires-clause-ins : goal.get_response_refusal-requires-clause-ins
-get_response_refusal-requires-clause-ins g c =
-    refusals.form_last (state_of c.args.view.now.applications.now c.args.view.now.selected
-    c.args.view.now.chain.now c.args.view.now.response) c.args.header c.args.p3
+pub unwrap-requires : goal.unwrap-requires
+unwrap-requires g c =
+    subst IsSome (sym c.of.ensures) (refusals.form_known (state_of c.args.view.now.applications.now
+    c.args.view.now.selected c.args.view.now.chain.now c.args.view.now.response) c.args.header
+    c.args.p3
     (sym (c.form_refusal.ensures
     (state_of c.args.view.now.applications.now c.args.view.now.selected
     c.args.view.now.chain.now c.args.view.now.response) c.args.p3)
-    ∙ c.in_default.is) c.if-header-eq-SELECT.false c.if-header-eq-PUT_DATA.false
-    c.if-header-eq-GET_DATA.false
+    ∙ c.in_default.is))
 
-pub returns-then-header-eq-SELECT : goal.returns-then-header-eq-SELECT
-returns-then-header-eq-SELECT g c =
+pub returns-in-Select : goal.returns-in-Select
+returns-in-Select g c =
     let goes_on = refusals.goes_on_with
     (entries_at c.args.view.now.applications.now c.args.view.now.selected)
     c.args.view.now.chain.now c.args.view.now.response c.args.header
     (c.accepts.ensures.0 c.if-not-accepts.false) c.requires.standing.of_puts in
     c.select_refusal.ensures (state_of c.args.view.now.applications.now c.args.view.now.selected
-    c.args.view.now.chain.now c.args.view.now.response) c.args.header c.if-header-eq-SELECT.true
+    c.args.view.now.chain.now c.args.view.now.response) c.args.header
+    (ins_is c.args.header.ins Select (sym c.of.ensures ∙ c.unwrap.ensures ∙ ap Some c.in-Select.is))
     ∙ sym (refusals.turn_state
     (state_of c.args.view.now.applications.now c.args.view.now.selected
-    c.args.view.now.chain.now c.args.view.now.response) c.args.header c.args.p3
-    goes_on (sym (c.form_refusal.ensures
+    c.args.view.now.chain.now c.args.view.now.response) c.args.header c.args.p3 goes_on
+    (sym (c.form_refusal.ensures
     (state_of c.args.view.now.applications.now c.args.view.now.selected
     c.args.view.now.chain.now c.args.view.now.response) c.args.p3)
     ∙ c.in_default.is))
 
-pub returns-then-header-eq-PUT_DATA : goal.returns-then-header-eq-PUT_DATA
-returns-then-header-eq-PUT_DATA g c =
+pub returns-in-PutData : goal.returns-in-PutData
+returns-in-PutData g c =
     let goes_on = refusals.goes_on_with
     (entries_at c.args.view.now.applications.now c.args.view.now.selected)
     c.args.view.now.chain.now c.args.view.now.response c.args.header
@@ -68,8 +70,8 @@ returns-then-header-eq-PUT_DATA g c =
     c.args.view.now.chain.now c.args.view.now.response) c.args.p3)
     ∙ c.in_default.is))
 
-pub returns-then-header-eq-GET_DATA : goal.returns-then-header-eq-GET_DATA
-returns-then-header-eq-GET_DATA g c =
+pub returns-in-GetData : goal.returns-in-GetData
+returns-in-GetData g c =
     let goes_on = refusals.goes_on_with
     (entries_at c.args.view.now.applications.now c.args.view.now.selected)
     c.args.view.now.chain.now c.args.view.now.response c.args.header
@@ -83,8 +85,8 @@ returns-then-header-eq-GET_DATA g c =
     c.args.view.now.chain.now c.args.view.now.response) c.args.p3)
     ∙ c.in_default.is))
 
-pub returns-else-header-eq-GET_DATA : goal.returns-else-header-eq-GET_DATA
-returns-else-header-eq-GET_DATA g c =
+pub returns-in-GetResponse : goal.returns-in-GetResponse
+returns-in-GetResponse g c =
     let goes_on = refusals.goes_on_with
     (entries_at c.args.view.now.applications.now c.args.view.now.selected)
     c.args.view.now.chain.now c.args.view.now.response c.args.header

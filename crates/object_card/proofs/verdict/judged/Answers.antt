@@ -1,9 +1,10 @@
 use Rattle.std.proofs.Common.{◌∙◌, sym, subst, ap, refl, length, arith, length-take, Option}
-use Rattle.std.specs.Prelude.{IfSome}
+use Rattle.std.specs.Prelude.{IfSome, IsSome}
 use Rattle.apdu_core.specs.StatusWord.{count}
 use Rattle.apdu_core.specs.Chaining.{idle}
 use Rattle.object_card.specs.CardFields.{IsResponse, entries_at, left_of, state_of}
 use Rattle.object_card.specs.declared.response.Response.{Response}
+use Rattle.object_card.specs.InstructionLaws.{ins_is}
 use Rattle.object_card.proofs.VerdictLemmas as answer
 use Rattle.object_card.proofs.verdict.judged.Goals as goal
 
@@ -18,13 +19,18 @@ returns-in-Some-clause-judged g c = (
       (sym c.refusal.ensures ∙ c.in-Some.is) c.kept-response.ensures,
 )
 
+pub unwrap-requires : goal.unwrap-requires
+unwrap-requires g c =
+    subst IsSome (sym c.of.ensures) (answer.instruction_known
+    (state_of c.args.view.now.applications.now c.args.view.now.selected
+    c.args.view.now.chain.now c.args.view.now.response) c.args.header c.args.p3
+    (sym c.refusal.ensures ∙ c.in_default.is))
+
 pub unwrap-response-requires : goal.unwrap-response-requires
 unwrap-response-requires g c =
     let none = (sym c.refusal.ensures ∙ c.in_default.is) in
-    let sending = answer.sends_where
-    (state_of c.args.view.now.applications.now c.args.view.now.selected
-    c.args.view.now.chain.now c.args.view.now.response) c.args.header c.args.p3 none
-    c.if-header-eq-SELECT.false c.if-header-eq-PUT_DATA.false in
+    let sending = answer.sends_where c.args.header c.unwrap.result
+    (sym c.of.ensures ∙ c.unwrap.ensures) (sym c.takes_data.ensures ∙ c.if-takes_data.false) in
     answer.some_to_send
     (left_of (entries_at c.args.view.now.applications.now c.args.view.now.selected))
     c.to_send-sends.result _ (count c.args.p3) (c.to_send-sends.ensures.left sending)
@@ -35,10 +41,8 @@ unwrap-response-requires g c =
 pub returns-clause-judged : goal.returns-clause-judged
 returns-clause-judged g c =
     let none = (sym c.refusal.ensures ∙ c.in_default.is) in
-    let sending = answer.sends_where
-    (state_of c.args.view.now.applications.now c.args.view.now.selected
-    c.args.view.now.chain.now c.args.view.now.response) c.args.header c.args.p3 none
-    c.if-header-eq-SELECT.false c.if-header-eq-PUT_DATA.false in
+    let sending = answer.sends_where c.args.header c.unwrap.result
+    (sym c.of.ensures ∙ c.unwrap.ensures) (sym c.takes_data.ensures ∙ c.if-takes_data.false) in
     let whole = answer.to_send_is
     (left_of (entries_at c.args.view.now.applications.now c.args.view.now.selected))
     c.to_send-sends.result c.unwrap-response.result _ c.unwrap-response.ensures
@@ -56,35 +60,34 @@ returns-clause-judged g c =
       ),
     )
 
-pub returns-then-header-eq-SELECT-clause-permitted :
-    goal.returns-then-header-eq-SELECT-clause-permitted
-returns-then-header-eq-SELECT-clause-permitted g c =
-    answer.receiving_ins c.args.header.ins c.then-header-eq-SELECT.either
+pub returns-then-takes_data-clause-permitted : goal.returns-then-takes_data-clause-permitted
+returns-then-takes_data-clause-permitted g c = (
+  c.unwrap.result,
+  ins_is c.args.header.ins c.unwrap.result (sym c.of.ensures ∙ c.unwrap.ensures),
+  sym c.takes_data.ensures ∙ c.if-takes_data.true,
+)
+
+pub returns-then-takes_data-clause-invalid : goal.returns-then-takes_data-clause-invalid
+returns-then-takes_data-clause-invalid g c = λ invalid.
+    answer.is_valid c.args.header.ins c.unwrap.result (sym c.of.ensures ∙ c.unwrap.ensures) invalid
 
 pub returns-clause-invalid : goal.returns-clause-invalid
-returns-clause-invalid g c =
-    let none = (sym c.refusal.ensures ∙ c.in_default.is) in
-    let sending = answer.sends_where
-    (state_of c.args.view.now.applications.now c.args.view.now.selected
-    c.args.view.now.chain.now c.args.view.now.response) c.args.header c.args.p3 none
-    c.if-header-eq-SELECT.false c.if-header-eq-PUT_DATA.false in
-    λ invalid. answer.valid_sending c.args.header.ins sending invalid
+returns-clause-invalid g c = λ invalid.
+    answer.is_valid c.args.header.ins c.unwrap.result (sym c.of.ensures ∙ c.unwrap.ensures) invalid
 
 pub returns-clause-permitted : goal.returns-clause-permitted
-returns-clause-permitted g c =
-    let none = (sym c.refusal.ensures ∙ c.in_default.is) in
-    let sending = answer.sends_where
-    (state_of c.args.view.now.applications.now c.args.view.now.selected
-    c.args.view.now.chain.now c.args.view.now.response) c.args.header c.args.p3 none
-    c.if-header-eq-SELECT.false c.if-header-eq-PUT_DATA.false in
-    answer.sending_ins c.args.header.ins sending
+returns-clause-permitted g c = (
+  c.unwrap.result,
+  ins_is c.args.header.ins c.unwrap.result (sym c.of.ensures ∙ c.unwrap.ensures),
+  sym c.takes_data.ensures ∙ c.if-takes_data.false,
+)
 
 pub returns-clause-fits : goal.returns-clause-fits
 returns-clause-fits g c =
     let v = c.args.view.now in
     let none = (sym c.refusal.ensures ∙ c.in_default.is) in
-    let sending = answer.sends_where (state_of v.applications.now v.selected v.chain.now v.response)
-    c.args.header c.args.p3 none c.if-header-eq-SELECT.false c.if-header-eq-PUT_DATA.false in
+    let sending = answer.sends_where c.args.header c.unwrap.result
+    (sym c.of.ensures ∙ c.unwrap.ensures) (sym c.takes_data.ensures ∙ c.if-takes_data.false) in
     let Held : Option Response → Type 0 = λ r. IfSome r
     (IsResponse (entries_at v.applications.now v.selected)) in (
       record {

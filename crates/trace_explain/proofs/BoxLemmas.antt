@@ -8,11 +8,11 @@ use Rattle.trace_explain.specs.declared.mask.Mask.{Mask}
 use Rattle.trace_explain.specs.declared.mask.Shown.{Shown}
 use Rattle.trace_explain.specs.declared.mask.Shown.TheVariants.{All, Objects, Nothing}
 use Rattle.trace_explain.specs.declared.sheet.Sheet.{Sheet}
-use Rattle.trace_explain.specs.Boxes.{DataParts, IsTree, MayBeTree, Puts, PutsBox, PutsData, PutsDataOf, PutsPlain, PutsTree, status_side}
+use Rattle.trace_explain.specs.Boxes.{DataText, IsNoTree, IsTree, Puts, PutsBox, PutsData, PutsDataOf, PutsPlain, PutsTree, may_be_tree, status_side}
 use Rattle.trace_explain.specs.Sheets.{Adds, Joins, PutsTreeRow}
 use Rattle.trace_explain.specs.Told.{Told}
 use Rattle.trace_explain.specs.Written.{InTurn, IsRow, data_row, header_row, hidden, line_text, number_text, status_text}
-use Rattle.trace_explain.proofs.SheetLemmas.{adds_both}
+use Rattle.trace_explain.proofs.SheetLemmas.{adds_both, adds_nothing}
 
 -- words more before
 ahead : (parts : List (List ℕ)) (text more : List ℕ) → InTurn parts text
@@ -57,66 +57,89 @@ puts_one x a b h = record {
   text = λ w. (x, h.text w, ([], [], sym (append-nil x), tt));
 }
 
--- what has parts are words
-pub puts_less : (ps : List (List ℕ)) (a b : Sheet) → Puts ps a b → Puts [] a b
-puts_less ps a b h = record {
-  layout = h.layout;
-  whole = h.whole;
-  text = λ w. let (x, is, has) = h.text w in (x, is, tt);
-}
-
-pub puts_plain : (shown : Shown) (tags : List (List ℕ)) (s : Side) (may : Bool) (bytes : List ℕ)
-    (a b c : Sheet) → PutsTree false shown tags s may bytes a b → PutsPlain shown s bytes b c
-    → PutsData shown tags s may bytes a c
-puts_plain shown tags s may bytes a b c none h = of_kind shown h
+pub puts_plain : (shown : Shown) (tags : List (List ℕ)) (s : Side) (is_first may : Bool)
+    (bytes : List ℕ) (a b c : Sheet) → PutsTree false shown tags s is_first may bytes a b
+    → PutsPlain shown s is_first bytes b c → PutsData shown tags s is_first may bytes a c
+puts_plain shown tags s is_first may bytes a b c (none, no_tree) h = of_kind shown no_tree h
   where
     same : b.layout.medium ≡ a.layout.medium
     same = ap (λ (x : Layout). x.medium) none.layout
 
-    row : Adds b (data_row b.layout.medium s (hidden ∷ [])) c
-        → Puts (data_row a.layout.medium s (hidden ∷ []) ∷ []) a c
+    row : Adds b (data_row b.layout.medium s is_first (hidden ∷ [])) c
+        → Adds a (data_row a.layout.medium s is_first (hidden ∷ [])) c
     row h =
-        let P : Medium → Type 0 = λ m. Adds b (data_row m s (hidden ∷ [])) c in
-        puts_one (data_row a.layout.medium s (hidden ∷ [])) a c
-        (adds_both [] (data_row a.layout.medium s (hidden ∷ [])) a b c none (subst P same h))
+        let P : Medium → Type 0 = λ m. Adds b (data_row m s is_first (hidden ∷ [])) c in
+        adds_both [] (data_row a.layout.medium s is_first (hidden ∷ [])) a b c none
+        (subst P same h)
 
-    of_kind : (shown : Shown) → PutsPlain shown s bytes b c → PutsData shown tags s may bytes a c
-    of_kind All (text, row, h) =
-        let P : Medium → Type 0 = λ m. IsRow m s bytes text in (
-          text ∷ [],
-          inl (text, subst P same row, refl),
-          puts_one text a c (adds_both [] text a b c none h),
-        )
-    of_kind Objects h = (data_row a.layout.medium s (hidden ∷ []) ∷ [], inl refl, row h)
-    of_kind Nothing h = (data_row a.layout.medium s (hidden ∷ []) ∷ [], refl, row h)
+    of_kind : (shown : Shown) → IsNoTree a.layout.medium tags (may_be_tree shown may) bytes
+        → PutsPlain shown s is_first bytes b c → PutsData shown tags s is_first may bytes a c
+    of_kind All is_none (text, is_row, h) =
+        let P : Medium → Type 0 = λ m. IsRow m s is_first bytes text in
+        (text, inl (is_none, subst P same is_row), adds_both [] text a b c none h)
+    of_kind Objects is_none h =
+        (data_row a.layout.medium s is_first (hidden ∷ []), inl (is_none, refl), row h)
+    of_kind Nothing is_none h = (data_row a.layout.medium s is_first (hidden ∷ []), refl, row h)
 
-pub tree_put : (r : Bool) (shown : Shown) (tags : List (List ℕ)) (s : Side) (may : Bool)
-    (bytes : List ℕ) (a b : Sheet) → MayBeTree shown may → PutsTreeRow r tags s bytes a b
-    → PutsTree r shown tags s may bytes a b
-tree_put true shown tags s may bytes a b may_be h = (may_be, h)
-tree_put false shown tags s may bytes a b may_be h = h
+pub tree_put : (r : Bool) (shown : Shown) (tags : List (List ℕ)) (s : Side) (is_first may : Bool)
+    (bytes : List ℕ) (a b : Sheet) → may_be_tree shown may ≡ true
+    → PutsTreeRow r tags s is_first bytes a b → PutsTree r shown tags s is_first may bytes a b
+tree_put true shown tags s is_first may bytes a b may_be h = (may_be, h)
+tree_put false shown tags s is_first may bytes a b may_be h = (h.0, λ w are. h.1 are)
 
-pub puts_tree : (shown : Shown) (tags : List (List ℕ)) (s : Side) (may : Bool) (bytes : List ℕ)
-    (a b : Sheet) → PutsTree true shown tags s may bytes a b → PutsData shown tags s may bytes a b
-puts_tree shown tags s may bytes a b (may_be, (lines, some, are, shows, h)) = of_kind shown may_be
+pub no_tree_put : (r : Bool) (shown : Shown) (tags : List (List ℕ)) (s : Side)
+    (is_first may : Bool) (bytes : List ℕ) (a : Sheet) → r ≡ false → r ≡ may_be_tree shown may
+    → PutsTree r shown tags s is_first may bytes a a
+no_tree_put true shown tags s is_first may bytes a never is = absurd (cc)
+no_tree_put false shown tags s is_first may bytes a none is =
+    (adds_nothing a, λ w are. absurd (cc (w, is)))
+
+pub puts_tree : (shown : Shown) (tags : List (List ℕ)) (s : Side) (is_first may : Bool)
+    (bytes : List ℕ) (a b : Sheet) → PutsTree true shown tags s is_first may bytes a b
+    → PutsData shown tags s is_first may bytes a b
+puts_tree shown tags s is_first may bytes a b (may_be, (lines, some, are, shows, h)) =
+    of_kind shown may_be
   where
-    parts : List (List ℕ)
-    parts = data_row a.layout.medium s lines ∷ []
+    text : List ℕ
+    text = data_row a.layout.medium s is_first lines
 
-    tree : may ≡ true → IsTree a.layout.medium tags s may bytes parts
+    tree : may ≡ true → IsTree a.layout.medium tags s is_first may bytes text
     tree is = record {
       may_be = is;
       are_objects = are;
       lines = lines;
       some = some;
       shows = shows;
-      parts_are = refl;
+      text_is = refl;
     }
 
-    of_kind : (shown : Shown) → MayBeTree shown may → PutsData shown tags s may bytes a b
-    of_kind All is = (parts, inr (tree is), puts_one (data_row a.layout.medium s lines) a b h)
-    of_kind Objects is = (parts, inr (tree is), puts_one (data_row a.layout.medium s lines) a b h)
-    of_kind Nothing never = absurd never
+    of_kind : (shown : Shown) → may_be_tree shown may ≡ true
+        → PutsData shown tags s is_first may bytes a b
+    of_kind All is = (text, inr (tree is), h)
+    of_kind Objects is = (text, inr (tree is), h)
+    of_kind Nothing never = absurd (cc)
+
+pub puts_status : (header status given : List ℕ) (side : Side) (a b c : Sheet)
+    → given ≡ status → side ≡ status_side header status
+    → Adds a (status_text a.layout.medium side given) b → Joins b c
+    → Puts (status_text a.layout.medium (status_side header status) status ∷ []) a c
+puts_status header status given side a b c given_is side_is h joins =
+    let P : Side → Type 0 = λ s. Adds a (status_text a.layout.medium s status) b in
+    let Q : List ℕ → Type 0 = λ x. Adds a (status_text a.layout.medium side x) b in
+    let text : List ℕ = status_text a.layout.medium (status_side header status) status in
+    puts_both (text ∷ []) [] a b c (puts_one text a b (subst P side_is (subst Q given_is h)))
+    (puts_words b c joins)
+
+-- data behind words, and the end of a box behind those
+pub puts_behind : (shown : Shown) (tags : List (List ℕ)) (s : Side) (is_first may : Bool)
+    (bytes : List ℕ) (a b c : Sheet) → Joins a b → PutsData shown tags s is_first may bytes b c
+    → Puts [] a c
+puts_behind shown tags s is_first may bytes a b c words (text, shows, adds) =
+    puts_both [] [] a b c (puts_words a b words) (puts_words b c (text, adds))
+
+pub puts_end : (a b c d : Sheet) → Joins a b → Puts [] b c → Joins c d → Puts [] a d
+puts_end a b c d first more last = puts_both [] [] a c d
+    (puts_both [] [] a b c (puts_words a b first) more) (puts_words c d last)
 
 same_medium : (a b : Sheet) → b.layout ≡ a.layout → b.layout.medium ≡ a.layout.medium
 same_medium a b e = ap (λ (x : Layout). x.medium) e
@@ -146,15 +169,17 @@ pub boxed : (mask : Mask) (number line : ℕ) (t : Told) (given : List ℕ)
     → Adds c (header_row c.layout.medium given) d → given ≡ t.header → Joins d e
     → PutsDataOf mask t.way t.header t.moved e f → Puts [] f g
     → Puts (status_text g.layout.medium (status_side t.header t.status) t.status ∷ []) g h
-    → Joins h i → PutsBox mask number line t a i
+    → Puts [] h i → PutsBox mask number line t a i
 boxed mask number line t given a b c d e f g h i title time header given_is procedure
-    (parts, shows, moved) answer status end =
+    (text, shows, adds) answer status end =
+    let parts : List (List ℕ) = text ∷ [] in
+    let moved : Puts parts e f = puts_one text e f adds in
     let G : List ℕ → Type 0 = λ x. Adds c (header_row c.layout.medium x) d in
     let header_so : Puts (header_row b.layout.medium t.header ∷ []) b d =
     after_words (λ m. header_row m t.header) b c d time (subst G given_is header) in
     let words : Puts [] d e = puts_words d e procedure in
     let more : Puts [] f g = answer in
-    let last : Puts [] h i = puts_words h i end in
+    let last : Puts [] h i = end in
     let at_d : Puts (number_text number ∷ line_text a.layout.medium line
     ∷ header_row b.layout.medium t.header ∷ []) a d =
     puts_both (number_text number ∷ line_text a.layout.medium line ∷ [])
@@ -180,7 +205,7 @@ boxed mask number line t given a b c d e f g h i title time header given_is proc
     let g_is : g.layout.medium ≡ a.layout.medium = same_medium e g to_g.layout ∙ e_is in
     let flat : ((parts ++ []) ++ status_part) ++ [] ≡ parts ++ status_part =
     append-nil ((parts ++ []) ++ status_part) ∙ ap (λ p. p ++ status_part) (append-nil parts) in
-    let P : Medium → Type 0 = λ m. DataParts m mask t.way t.header t.moved parts in
+    let P : Medium → Type 0 = λ m. DataText m mask t.way t.header t.moved text in
     let Q : List (List ℕ) → Type 0 = λ p. Puts (number_text number ∷ line_text a.layout.medium line
     ∷ header_row b.layout.medium t.header ∷ p) a i in
     let R : Medium → Type 0 = λ m. Puts (number_text number ∷ line_text a.layout.medium line
@@ -190,6 +215,6 @@ boxed mask number line t given a b c d e f g h i title time header given_is proc
     ∷ (parts ++ status_text m (status_side t.header t.status) t.status ∷ [])) a i in (
       number_text number ∷ line_text a.layout.medium line ∷ header_row a.layout.medium t.header
           ∷ (parts ++ status_text a.layout.medium (status_side t.header t.status) t.status ∷ []),
-      record { moved_parts = parts; shows = subst P e_is shows; parts_are = refl },
+      record { moved = text; shows = subst P e_is shows; parts_are = refl },
       subst S g_is (subst R b_is (subst Q flat all)),
     )

@@ -284,7 +284,7 @@ heard_there start place o mid from bytes opens within =
     ap (λ n. dialogue_in o from (take n bytes)) same ∙ opens.dialogue (place + 1) in
     omega (arith, within, ap length is, length-take (place + 1) (drop start bytes))
 
-complains_rightly : (c : Complaint) (start place n : ℕ) (astray : Bool) (mid : Opening)
+complains_rightly : (c : Complaint) (start place n : ℕ) (astray hides : Bool) (mid : Opening)
     (from : End)
     (bytes heard : List ℕ) (events : List Event) (before : List Told) (old at : Explainer)
     → c ≡ record {
@@ -292,7 +292,7 @@ complains_rightly : (c : Complaint) (start place n : ℕ) (astray : Bool) (mid :
       place = start + place;
       due = due_at at.listener.tap;
       from = from;
-      byte = get_or bytes (start + place) 0;
+      came = record { byte = get_or bytes (start + place) 0; hides = hides };
       is_astray = astray;
     }
     → OpensUpTo start (opening_of old.preface) from bytes mid → heard ≡ drop start bytes
@@ -300,8 +300,8 @@ complains_rightly : (c : Complaint) (start place n : ℕ) (astray : Bool) (mid :
     → answers_again (opening_of old.preface) at.listener from (get_or bytes (start + place) 0)
     ≡ false
     → IsRight c (opening_of old.preface) from bytes events before
-complains_rightly c start place n astray mid from bytes heard events before old at is opens heard_is
-    (told, explained, within, none, boxes) not_again =
+complains_rightly c start place n astray hides mid from bytes heard events before old at is opens
+    heard_is (told, explained, within, none, boxes) not_again =
     let o : Opening = opening_of old.preface in
     let P : Complaint → Type 0 = λ x. IsRight x (opening_of old.preface) from bytes events before in
     let inside : place < length (drop start bytes) = omega (arith, within, ap length heard_is) in
@@ -322,14 +322,14 @@ complains_rightly c start place n astray mid from bytes heard events before old 
     })
 
 pub stops_rightly : {T : Type 0} (result : Result T ExplainFault) (start place ahead n line : ℕ)
-    (astray : Bool) (mid : Opening) (from : End) (bytes heard : List ℕ) (events : List Event)
+    (astray hides : Bool) (mid : Opening) (from : End) (bytes heard : List ℕ) (events : List Event)
     (before : List Told) (old at : Explainer)
     → Stopped result (record {
       line = n;
       place = ahead + (start + place);
       due = due_at at.listener.tap;
       from = from;
-      byte = get_or bytes (start + place) 0;
+      came = record { byte = get_or bytes (start + place) 0; hides = hides };
       is_astray = astray;
     })
     → n ≡ line → OpensUpTo start (opening_of old.preface) from bytes mid
@@ -338,60 +338,24 @@ pub stops_rightly : {T : Type 0} (result : Result T ExplainFault) (start place a
     ≡ false
     → IfErr result (λ f. StopsRightly f line ahead (opening_of old.preface) from bytes events
     before)
-stops_rightly (Ok x) start place ahead n line astray mid from bytes heard
+stops_rightly (Ok x) start place ahead n line astray hides mid from bytes heard
     events before old at is n_is opens heard_is hears not_again =
     tt
-stops_rightly (Err (fault.BadHex m)) start place ahead n line astray mid from bytes heard
-    events before old at is n_is opens heard_is hears not_again =
-    absurd is
-stops_rightly (Err (fault.OtherForm m known)) start place ahead n line astray mid from bytes heard
-    events before old at is n_is opens heard_is hears not_again =
-    absurd is
-stops_rightly (Err (fault.NoSign m)) start place ahead n line astray mid from bytes heard
-    events before old at is n_is opens heard_is hears not_again =
-    absurd is
-stops_rightly (Err (fault.Signed m)) start place ahead n line astray mid from bytes heard
-    events before old at is n_is opens heard_is hears not_again =
-    absurd is
-stops_rightly (Err (fault.NoTurn m k why)) start place ahead n line astray mid from bytes heard
-    events before old at is n_is opens heard_is hears not_again =
-    absurd is
-stops_rightly (Err (fault.LineTooLong m)) start place ahead n line astray mid from bytes heard
-    events before old at is n_is opens heard_is hears not_again =
-    absurd is
-stops_rightly (Err fault.NoCharacters) start place ahead n line astray mid from bytes heard
-    events before old at is n_is opens heard_is hears not_again =
-    absurd is
-stops_rightly (Err (fault.Resumed m first)) start place ahead n line astray mid from bytes heard
+stops_rightly (Err fault.OutOfMemory) start place ahead n line astray hides mid from bytes heard
     events before old at is n_is opens heard_is hears not_again =
     tt
-stops_rightly (Err (fault.BadExchanges m k why)) start place ahead n line astray mid from bytes
-    heard events before old at is n_is opens heard_is hears not_again =
-    tt
-stops_rightly (Err fault.Read) start place ahead n line astray mid from bytes heard
-    events before old at is n_is opens heard_is hears not_again =
-    tt
-stops_rightly (Err fault.Write) start place ahead n line astray mid from bytes heard
-    events before old at is n_is opens heard_is hears not_again =
-    tt
-stops_rightly (Err fault.Closed) start place ahead n line astray mid from bytes heard
-    events before old at is n_is opens heard_is hears not_again =
-    tt
-stops_rightly (Err fault.InputTooLong) start place ahead n line astray mid from bytes heard
-    events before old at is n_is opens heard_is hears not_again =
-    tt
-stops_rightly (Err fault.OutOfMemory) start place ahead n line astray mid from bytes heard
-    events before old at is n_is opens heard_is hears not_again =
-    tt
-stops_rightly (Err (fault.NoDialogue c)) start place ahead n line astray mid from bytes heard
+stops_rightly (Err (fault.NoDialogue c)) start place ahead n line astray hides mid from bytes heard
     events before old at is n_is opens heard_is hears not_again = (
       ap (λ (x : Complaint). x.line) is ∙ n_is,
       start + place,
       ap (λ (x : Complaint). x.place) is,
-      complains_rightly (at_place c (start + place)) start place n astray mid from bytes heard
+      complains_rightly (at_place c (start + place)) start place n astray hides mid from bytes heard
           events before old at (ap (λ x. at_place x (start + place)) is) opens heard_is hears
           not_again,
     )
+stops_rightly (Err other) start place ahead n line astray hides mid from bytes heard
+    events before old at is n_is opens heard_is hears not_again =
+    absurd is
 
 -- what a line says
 pub as_line : {T : Type 0} (result : Result T ExplainFault) (line : List ℕ) (said : TraceLine)
@@ -426,53 +390,35 @@ pub line_stops : {T : Type 0} (result : Result T ExplainFault) (line : List ℕ)
     → IfErr result (λ f. StopsRightly f n 0 (opening_of old.preface) (sender old.reading from) given
     events before)
     → IfErr result (λ f. StopsAtSigned f line old events before)
-line_stops (Ok x) line n form from bytes given events before old same spells
-    n_is h = tt
-line_stops (Err (fault.BadHex m)) line n form from bytes given events before old same spells
-    n_is h = absurd h
-line_stops (Err (fault.OtherForm m known)) line n form from bytes given events before old same
-    spells n_is h = absurd h
-line_stops (Err (fault.NoSign m)) line n form from bytes given events before old same spells
-    n_is h = absurd h
-line_stops (Err (fault.Signed m)) line n form from bytes given events before old same spells
-    n_is h = absurd h
-line_stops (Err (fault.NoTurn m k why)) line n form from bytes given events before old same spells
-    n_is h = absurd h
-line_stops (Err (fault.LineTooLong m)) line n form from bytes given events before old same spells
-    n_is h = absurd h
-line_stops (Err fault.NoCharacters) line n form from bytes given events before old same spells
-    n_is h = absurd h
-line_stops (Err (fault.Resumed m c)) line n form from bytes given events before old same spells
-    n_is h = tt
-line_stops (Err (fault.BadExchanges k m why)) line n form from bytes given events before old same
-    spells n_is h = tt
-line_stops (Err fault.Read) line n form from bytes given events before old same spells
-    n_is h = tt
-line_stops (Err fault.Write) line n form from bytes given events before old same spells
-    n_is h = tt
-line_stops (Err fault.Closed) line n form from bytes given events before old same spells
-    n_is h = tt
-line_stops (Err fault.InputTooLong) line n form from bytes given events before old same spells
-    n_is h = tt
-line_stops (Err fault.OutOfMemory) line n form from bytes given events before old same spells
-    n_is h = tt
-line_stops (Err (fault.NoDialogue c)) line n form from bytes given events before old same spells
-    n_is h =
-    let (number, place, place_is, is_right) = h in
-    let P : Complaint → Type 0 = λ x. IsRight x (opening_of old.preface) (sender old.reading from)
-    given events before in
-    let Q : List ℕ → Type 0 = λ bs. IsRight c (opening_of old.preface) (sender old.reading from) bs
-    events before in (
-      number ∙ n_is,
-      (
-        form,
-        from,
-        bytes,
-        spells.0,
-        spells.1,
-        subst Q same (subst P (at_its_place c place place_is) is_right),
-      ),
-    )
+line_stops (Ok x) line n form from bytes given events before old same spells n_is h = tt
+line_stops (Err f) line n form from bytes given events before old same spells n_is h = of_kind f h
+  where
+    of_kind : (g : ExplainFault)
+        → StopsRightly g n 0 (opening_of old.preface) (sender old.reading from) given events before
+        → StopsAtSigned g line old events before
+    of_kind (fault.NoDialogue c) (number, place, place_is, is_right) =
+        let P : Complaint → Type 0 = λ x. IsRight x (opening_of old.preface)
+        (sender old.reading from) given events before in
+        let Q : List ℕ → Type 0 = λ bs. IsRight c (opening_of old.preface)
+        (sender old.reading from) bs events before in (
+          number ∙ n_is,
+          (
+            form,
+            from,
+            bytes,
+            spells.0,
+            spells.1,
+            subst Q same (subst P (at_its_place c place place_is) is_right),
+          ),
+        )
+    of_kind (fault.BadHex m) h = absurd h
+    of_kind (fault.OtherForm m known) h = absurd h
+    of_kind (fault.NoSign m) h = absurd h
+    of_kind (fault.Signed m) h = absurd h
+    of_kind (fault.NoTurn m k why) h = absurd h
+    of_kind (fault.LineTooLong m) h = absurd h
+    of_kind fault.NoCharacters h = absurd h
+    of_kind other h = tt
 
 -- a line that is refused for what it is
 pub line_refused : (why : BadLine) (line : List ℕ) (n : ℕ) (f : ExplainFault) (events : List Event)

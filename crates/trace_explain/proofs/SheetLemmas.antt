@@ -14,11 +14,18 @@ adds_both x y a b c h k = record {
   whole = λ w. h.whole (k.whole w);
   text = λ w. k.text w ∙ ap (λ t. t ++ y) (h.text (k.whole w))
       ∙ append_assoc (string_bytes a.text) x y;
+  cut = λ w. k.cut (h.cut w);
+  stays = λ w. k.stays (h.cut w) ∙ h.stays w;
 }
 
 pub adds_nothing : (a : Sheet) → Adds a [] a
-adds_nothing a =
-    record { layout = refl; whole = λ w. w; text = λ w. sym (append-nil (string_bytes a.text)) }
+adds_nothing a = record {
+  layout = refl;
+  whole = λ w. w;
+  text = λ w. sym (append-nil (string_bytes a.text));
+  cut = λ w. w;
+  stays = λ w. refl;
+}
 
 pub adds_as : (x y : List ℕ) (a b : Sheet) → x ≡ y → Adds a x b → Adds a y b
 adds_as x y a b e h = let P : List ℕ → Type 0 = λ t. Adds a t b in subst P e h

@@ -257,21 +257,8 @@ too_long front reading all line bytes left b n e come bytes_is other long number
 -- faults of lines say nothing of the trace's length
 of_lines_kept : (f : ExplainFault) (bytes : List ℕ) → IsOfLines f
     → IsOver bytes f
-of_lines_kept (fault.BadHex m) bytes h = tt
-of_lines_kept (fault.OtherForm m known) bytes h = tt
-of_lines_kept (fault.NoSign m) bytes h = tt
-of_lines_kept (fault.Signed m) bytes h = tt
-of_lines_kept (fault.NoTurn m k why) bytes h = tt
-of_lines_kept (fault.LineTooLong m) bytes h = tt
-of_lines_kept (fault.NoDialogue c) bytes h = tt
-of_lines_kept (fault.Resumed m c) bytes h = tt
-of_lines_kept (fault.BadExchanges n m why) bytes h = tt
-of_lines_kept fault.OutOfMemory bytes h = tt
-of_lines_kept fault.Read bytes h = tt
-of_lines_kept fault.Write bytes h = tt
-of_lines_kept fault.Closed bytes h = tt
 of_lines_kept fault.InputTooLong bytes h = absurd h
-of_lines_kept fault.NoCharacters bytes h = absurd h
+of_lines_kept other bytes h = tt
 
 -- a complaint is right, as lines are read
 right_at : (u : Option Ways) (c : Complaint) (line : List ℕ) (old : Explainer)
@@ -373,15 +360,7 @@ line_stops_in front reading (fault.LineTooLong n) all line given left others old
 line_stops_in front reading fault.NoCharacters all line given left others old come ends stops =
     absurd (none_is_empty old.reading.unsigned given old come.events come.told
     (stops come.events come.told come.explained))
-line_stops_in front reading (fault.Resumed m c) all line given left others old come ends stops = tt
-line_stops_in front reading (fault.BadExchanges n m why) all line given left others old come ends
-    stops =
-    tt
-line_stops_in front reading fault.Read all line given left others old come ends stops = tt
-line_stops_in front reading fault.Write all line given left others old come ends stops = tt
-line_stops_in front reading fault.Closed all line given left others old come ends stops = tt
-line_stops_in front reading fault.InputTooLong all line given left others old come ends stops = tt
-line_stops_in front reading fault.OutOfMemory all line given left others old come ends stops = tt
+line_stops_in front reading other all line given left others old come ends stops = tt
 
 pub fed_stops : (front : Out) (reading : Reading) {T : Type 0} (r : Result T ExplainFault)
     (f : ExplainFault)
@@ -584,18 +563,7 @@ ended_at shown reading fault.NoCharacters (Some bytes) at ended explained =
     (explained.events, at, explained.says, ended)
 ended_at shown reading (fault.Resumed m c) (Some bytes) at ended explained = tt
 ended_at shown reading (fault.BadExchanges n m why) (Some bytes) at ended explained = tt
-ended_at shown reading (fault.NoDialogue c) (Some bytes) at ended explained = absurd ended
-ended_at shown reading (fault.BadHex m) (Some bytes) at ended explained = absurd ended
-ended_at shown reading (fault.OtherForm m known) (Some bytes) at ended explained = absurd ended
-ended_at shown reading (fault.NoSign m) (Some bytes) at ended explained = absurd ended
-ended_at shown reading (fault.Signed m) (Some bytes) at ended explained = absurd ended
-ended_at shown reading (fault.NoTurn m k why) (Some bytes) at ended explained = absurd ended
-ended_at shown reading (fault.LineTooLong m) (Some bytes) at ended explained = absurd ended
-ended_at shown reading fault.Read (Some bytes) at ended explained = tt
-ended_at shown reading fault.Write (Some bytes) at ended explained = tt
-ended_at shown reading fault.Closed (Some bytes) at ended explained = tt
-ended_at shown reading fault.InputTooLong (Some bytes) at ended explained = tt
-ended_at shown reading fault.OutOfMemory (Some bytes) at ended explained = tt
+ended_at shown reading other (Some bytes) at ended explained = absurd ended
 
 -- of known bytes so many have come
 abbrev pub HaveComeOf : Option (List ℕ) → Option (List ℕ) → ℕ → Type 0

@@ -9,7 +9,7 @@ use Rattle.trace_explain.specs.declared.layout.Layout.{Layout}
 use Rattle.trace_explain.specs.declared.layout.Medium.{Medium}
 use Rattle.trace_explain.specs.declared.layout.Side.{Side}
 use Rattle.trace_explain.specs.declared.sheet.Sheet.{Sheet}
-use Rattle.trace_explain.specs.Sheets.{Adds, PutsFurther, PutsObjects, PutsValue, still_first}
+use Rattle.trace_explain.specs.Sheets.{Adds, PutsFurther, PutsObjects, PutsValue, has_lines, still_first}
 use Rattle.trace_explain.specs.Trees.{AreFurther, AreTree, AreValueLines, further_line, indent, masked, object_line, piece, primitive, template, value_width}
 use Rattle.trace_explain.specs.Written.{content, is_text, line_of, lines_text}
 use Rattle.trace_explain.proofs.SheetLemmas.{Completes, adds_as, adds_both, completed, completes_more}
@@ -41,6 +41,11 @@ still_some : (is_first : Bool) (xs ys : List (List ℕ)) → 0 < length ys
 still_some is_first [] [] some = absurd (omega (arith, some))
 still_some is_first [] (y ∷ ys) some = refl
 still_some is_first (x ∷ xs) ys some = refl
+
+has_some : (xs ys : List (List ℕ)) → 0 < length ys → has_lines (xs ++ ys) ≡ true
+has_some [] [] some = absurd (omega (arith, some))
+has_some [] (y ∷ ys) some = refl
+has_some (x ∷ xs) ys some = refl
 
 -- lines, and then others
 pub lines_both : (m : Medium) (side : Side) (is_first : Bool) (xs ys : List (List ℕ))
@@ -169,25 +174,27 @@ no_value side is_first level tag (x ∷ value) a b none h = absurd (omega (arith
 
 -- A list has been gone through as far as `now`, and the lines of the objects so far were added.
 pub record Going (tags : List (List ℕ)) (side : Side) (is_first : Bool) (all now : ObjectList)
-    (old new : Sheet) (starts : Bool) : Type 0 where
+    (old new : Sheet) (starts some : Bool) : Type 0 where
   pub lines : List (List ℕ)
   pub leads : (more : List (List ℕ))
       → AreTree old.layout.medium tags now.bytes now.level more
       → AreTree old.layout.medium tags all.bytes all.level (lines ++ more)
   pub adds : Adds old (lines_text old.layout.medium side is_first lines) new
   pub still : starts ≡ still_first is_first lines
+  pub has : some ≡ has_lines lines
   pub same_level : now.level ≡ all.level
 
 -- one object more, which has these lines
 past_object : (tags : List (List ℕ)) (side : Side) (is_first : Bool) (all now next : ObjectList)
-    (old new after : Sheet) (starts : Bool) (own : List (List ℕ))
-    → Going tags side is_first all now old new starts → next.level ≡ now.level
+    (old new after : Sheet) (starts some : Bool) (own : List (List ℕ))
+    → Going tags side is_first all now old new starts some → next.level ≡ now.level
     → 0 < length own
     → ((others : List (List ℕ)) → AreTree old.layout.medium tags next.bytes now.level others
     → AreTree old.layout.medium tags now.bytes now.level (own ++ others))
     → Adds new (lines_text new.layout.medium side starts own) after
-    → Going tags side is_first all next old after false
-past_object tags side is_first all now next old new after starts own g level_is some step more =
+    → Going tags side is_first all next old after false true
+past_object tags side is_first all now next old new after starts some own g level_is own_some step
+    more =
     let m : Medium = old.layout.medium in
     let P : Bool → Type 0 = λ b. Adds new (lines_text new.layout.medium side b own) after in
     record {
@@ -198,7 +205,8 @@ past_object tags side is_first all now next old new after starts own g level_is 
           subst R (sym (append_assoc g.lines own others))
           (g.leads (own ++ others) (step others (subst Q level_is are)));
       adds = adds_lines side is_first g.lines own old new after g.adds (subst P g.still more);
-      still = sym (still_some is_first g.lines own some);
+      still = sym (still_some is_first g.lines own own_some);
+      has = sym (has_some g.lines own own_some);
       same_level = level_is ∙ g.same_level;
     }
 
@@ -210,15 +218,15 @@ adds_line side is_first line a b h = adds_as (line_of a.layout.medium side is_fi
     (sym (append-nil (line_of a.layout.medium side is_first line))) h
 
 pub past_masked : (tags : List (List ℕ)) (side : Side) (is_first : Bool)
-    (all now next : ObjectList) (old new after : Sheet) (starts : Bool)
+    (all now next : ObjectList) (old new after : Sheet) (starts some : Bool)
     (padding tag size value told : List ℕ) (level : ℕ)
-    → Going tags side is_first all now old new starts
+    → Going tags side is_first all now old new starts some
     → Begins now.bytes padding tag size value next.bytes now.level → next.level ≡ now.level
     → told ≡ tag → level ≡ now.level → Contains tags told
     → Adds new (line_of new.layout.medium side starts (object_line level told (codes " **"))) after
-    → Going tags side is_first all next old after false
-past_masked tags side is_first all now next old new after starts padding tag size value told level g
-    b next_is told_is level_is told_has told_more =
+    → Going tags side is_first all next old after false true
+past_masked tags side is_first all now next old new after starts some padding tag size value told
+    level g b next_is told_is level_is told_has told_more =
     let line = object_line now.level tag (codes " **") in
     let P : ℕ → Type 0 = λ l. Adds new (line_of new.layout.medium side starts
     (object_line l tag (codes " **"))) after in
@@ -227,7 +235,7 @@ past_masked tags side is_first all now next old new after starts padding tag siz
     let H : List ℕ → Type 0 = λ t. Contains tags t in
     let more = subst N told_is told_more in
     let has = subst H told_is told_has in
-    past_object tags side is_first all now next old new after starts (line ∷ []) g next_is
+    past_object tags side is_first all now next old new after starts some (line ∷ []) g next_is
     (omega arith)
     (λ others are. masked padding tag size value next.bytes others b has refl are)
     (adds_line side starts line new after (subst P level_is more))
@@ -238,15 +246,15 @@ some_lines m level tag [] lines is = omega (arith, ap length is)
 some_lines m level tag (b ∷ bytes) lines (further, is, are) = omega (arith, ap length is)
 
 pub past_primitive : (tags : List (List ℕ)) (side : Side) (is_first : Bool)
-    (all now next : ObjectList) (old new after : Sheet) (starts : Bool)
+    (all now next : ObjectList) (old new after : Sheet) (starts some : Bool)
     (padding tag size value told given : List ℕ) (level : ℕ)
-    → Going tags side is_first all now old new starts
+    → Going tags side is_first all now old new starts some
     → Begins now.bytes padding tag size value next.bytes now.level → next.level ≡ now.level
     → told ≡ tag → given ≡ value → level ≡ now.level → (Contains tags told → ⊥)
     → is_constructed tag ≡ false → PutsValue side starts level told given new after
-    → Going tags side is_first all next old after false
-past_primitive tags side is_first all now next old new after starts padding tag size value told
-    given level g b next_is told_is given_is level_is told_not plain (own, told_are, more) =
+    → Going tags side is_first all next old after false true
+past_primitive tags side is_first all now next old new after starts some padding tag size value
+    told given level g b next_is told_is given_is level_is told_not plain (own, told_are, more) =
     let N : List ℕ → Type 0 = λ t. AreValueLines new.layout.medium level t given own in
     let V : List ℕ → Type 0 = λ v. AreValueLines new.layout.medium level tag v own in
     let H : List ℕ → Type 0 = λ t. Contains tags t → ⊥ in
@@ -256,25 +264,25 @@ past_primitive tags side is_first all now next old new after starts padding tag 
     let Q : Medium → Type 0 = λ m. AreValueLines m now.level tag value own in
     let are_own : AreValueLines old.layout.medium now.level tag value own =
     subst Q (ap (λ (l : Layout). l.medium) g.adds.layout) (subst P level_is are) in
-    past_object tags side is_first all now next old new after starts own g next_is
+    past_object tags side is_first all now next old new after starts some own g next_is
     (some_lines old.layout.medium now.level tag value own are_own)
     (λ others rest. primitive padding tag size value next.bytes own others b has_not plain are_own
     refl rest) more
 
 pub past_template : (tags : List (List ℕ)) (side : Side) (is_first : Bool)
-    (all now next inner : ObjectList) (old new put after : Sheet) (starts none : Bool)
+    (all now next inner : ObjectList) (old new put after : Sheet) (starts some none : Bool)
     (padding tag size value told : List ℕ) (level deep : ℕ)
-    → Going tags side is_first all now old new starts
+    → Going tags side is_first all now old new starts some
     → Begins now.bytes padding tag size value next.bytes now.level → next.level ≡ now.level
     → told ≡ tag → level ≡ now.level → deep ≡ now.level → (Contains tags told → ⊥)
     → is_constructed tag ≡ true
     → Adds new (line_of new.layout.medium side starts (object_line level told [])) put
     → inner ≡ record { bytes = value; level = deep + 1 }
     → PutsObjects tags side false inner.bytes inner.level put none after
-    → Going tags side is_first all next old after false
-past_template tags side is_first all now next inner old new put after starts none padding tag size
-    value told level deep g b next_is told_is level_is deep_is told_not templ told_first inner_is
-    (inside, are, more, still) =
+    → Going tags side is_first all next old after false true
+past_template tags side is_first all now next inner old new put after starts some none padding tag
+    size value told level deep g b next_is told_is level_is deep_is told_not templ told_first
+    inner_is (inside, are, more, still) =
     let line = object_line now.level tag [] in
     let N : List ℕ → Type 0 = λ t. Adds new (line_of new.layout.medium side starts
     (object_line level t [])) put in
@@ -290,7 +298,7 @@ past_template tags side is_first all now next inner old new put after starts non
     let are_inside : AreTree old.layout.medium tags value (suc now.level) inside =
     subst S down (subst R (ap (λ (l : Layout). l.medium) (first.layout ∙ g.adds.layout))
     (subst Q inner_is are)) in
-    past_object tags side is_first all now next old new after starts (line ∷ inside) g next_is
+    past_object tags side is_first all now next old new after starts some (line ∷ inside) g next_is
     (omega arith)
     (λ others rest. template padding tag size value next.bytes inside others b has_not templ
     are_inside refl rest)

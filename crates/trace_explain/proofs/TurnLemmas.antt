@@ -213,13 +213,7 @@ in_turn_stops ways bytes given place line from events before old mid here f with
     of_kind (fault.NoTurn m k why) h = absurd h
     of_kind (fault.LineTooLong m) h = absurd h
     of_kind fault.NoCharacters h = absurd h
-    of_kind (fault.Resumed m c) h = tt
-    of_kind (fault.BadExchanges m k why) h = tt
-    of_kind fault.Read h = tt
-    of_kind fault.Write h = tt
-    of_kind fault.Closed h = tt
-    of_kind fault.InputTooLong h = tt
-    of_kind fault.OutOfMemory h = tt
+    of_kind other h = tt
 
 -- it can't be known whose a character is
 pub unsent_stops : (ways : Ways) (bytes : List ℕ) (place n line : ℕ) (why : NoTurn)
@@ -290,13 +284,7 @@ unsigned_stops (Err f) ways line n bytes given events before old same spells n_i
     of_kind (fault.Signed m) h = absurd h
     of_kind (fault.LineTooLong m) h = absurd h
     of_kind fault.NoCharacters h = absurd h
-    of_kind (fault.Resumed m c) h = tt
-    of_kind (fault.BadExchanges m k why) h = tt
-    of_kind fault.Read h = tt
-    of_kind fault.Write h = tt
-    of_kind fault.Closed h = tt
-    of_kind fault.InputTooLong h = tt
-    of_kind fault.OutOfMemory h = tt
+    of_kind other h = tt
 
 -- one that is refused for what it is
 pub unsigned_refused : (why : BadLine) (ways : Ways) (line : List ℕ) (n : ℕ) (f : ExplainFault)

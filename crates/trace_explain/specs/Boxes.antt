@@ -1,5 +1,5 @@
 -- The box of a TPDU: what shows it, with any words between.
-use Rattle.std.specs.Prelude.{◌≡◌, ◌<◌, ℕ, List, [], ◌∷◌, ◌++◌, length, get_or, Bool, true, false, ◌==◌, ◌&&◌, ◌⊎◌, if◌then◌else◌, Option, Some, None}
+use Rattle.std.specs.Prelude.{◌≡◌, ◌≢◌, ◌<◌, ℕ, List, [], ◌∷◌, ◌++◌, length, get_or, Bool, true, false, ◌==◌, ◌&&◌, ◌⊎◌, if◌then◌else◌, Option, Some, None, IfSome}
 use Rattle.std.specs.String.{string_bytes}
 use Rattle.t0_core.specs.declared.direction.Direction.{Direction}
 use Rattle.t0_core.specs.declared.direction.Direction.TheVariants.{ToCard, FromCard}
@@ -7,14 +7,16 @@ use Rattle.tlv_core.specs.Spelling.{AreObjects}
 use Rattle.trace_explain.specs.declared.layout.Medium.{Medium}
 use Rattle.trace_explain.specs.declared.layout.Side.{Side}
 use Rattle.trace_explain.specs.declared.layout.Side.TheVariants as side
+use Rattle.trace_explain.specs.declared.links.Links.{Links}
 use Rattle.trace_explain.specs.declared.mask.Mask.{Mask}
+use Rattle.trace_explain.specs.declared.mask.Origin.{Origin}
 use Rattle.trace_explain.specs.declared.mask.Shown.{Shown}
 use Rattle.trace_explain.specs.declared.mask.Shown.TheVariants.{All, Objects, Nothing}
 use Rattle.trace_explain.specs.declared.sheet.Sheet.{Sheet}
 use Rattle.trace_explain.specs.Noted.{are_status}
-use Rattle.trace_explain.specs.Secrets.{is_secret}
+use Rattle.trace_explain.specs.Secrets.{Shows}
 use Rattle.trace_explain.specs.Sheets.{Adds, PutsRow, PutsTreeRow}
-use Rattle.trace_explain.specs.Told.{Told}
+use Rattle.trace_explain.specs.Told.{IsOfCommand, Told}
 use Rattle.trace_explain.specs.Trees.{AreTree}
 use Rattle.trace_explain.specs.Written.{InTurn, IsRow, data_row, header_row, hidden, line_text, number_text, status_text}
 
@@ -28,49 +30,57 @@ abbrev pub status_side : List ℕ → List ℕ → Side
 status_side header status =
     if are_status status && (length header == 5) then side.Card else side.Told
 
--- data that are a list of objects, and hold one, may stand as a tree
-pub record IsTree (m : Medium) (tags : List (List ℕ)) (s : Side) (may_be_objects : Bool)
-    (bytes : List ℕ) (parts : List (List ℕ)) : Type 0 where
-  pub may_be : may_be_objects ≡ true
+-- data that are a list of objects, and hold one, stand as a tree if they may
+pub record IsTree (m : Medium) (tags : List (List ℕ)) (s : Side) (is_first may : Bool)
+    (bytes : List ℕ) (text : List ℕ) : Type 0 where
+  pub may_be : may ≡ true
   pub are_objects : AreObjects bytes 1
   pub lines : List (List ℕ)
   pub some : 0 < length lines
   pub shows : AreTree m tags bytes 1 lines
-  pub parts_are : parts ≡ data_row m s lines ∷ []
+  pub text_is : text ≡ data_row m s is_first lines
 
-abbrev pub IsHiddenRow : Medium → Side → List (List ℕ) → Type 0
-IsHiddenRow m s parts = parts ≡ data_row m s (hidden ∷ []) ∷ []
+abbrev pub IsNoTree : Medium → List (List ℕ) → Bool → List ℕ → Type 0
+IsNoTree m tags may bytes = may ≡ true → AreObjects bytes 1 → AreTree m tags bytes 1 []
 
 -- what shows data, as far as they are shown
 abbrev pub ShowsData
-    : Shown → Medium → List (List ℕ) → Side → Bool → List ℕ → List (List ℕ) → Type 0
-ShowsData All m tags s may bytes parts =
-    ((text : List ℕ) × IsRow m s bytes text × (parts ≡ text ∷ []))
-    ⊎ IsTree m tags s may bytes parts
-ShowsData Objects m tags s may bytes parts =
-    IsHiddenRow m s parts ⊎ IsTree m tags s may bytes parts
-ShowsData Nothing m tags s may bytes parts = IsHiddenRow m s parts
+    : Shown → Medium → List (List ℕ) → Side → Bool → Bool → List ℕ → List ℕ → Type 0
+ShowsData All m tags s is_first may bytes text =
+    (IsNoTree m tags may bytes × IsRow m s is_first bytes text)
+    ⊎ IsTree m tags s is_first may bytes text
+ShowsData Objects m tags s is_first may bytes text =
+    (IsNoTree m tags may bytes × (text ≡ data_row m s is_first (hidden ∷ [])))
+    ⊎ IsTree m tags s is_first may bytes text
+ShowsData Nothing m tags s is_first may bytes text = text ≡ data_row m s is_first (hidden ∷ [])
 
--- Where nothing is to be hidden all data are shown, and else none of those that the terminal sends
--- with such a command.
-pub record IsShown (hides : Bool) (way : Direction) (ins : ℕ) (shown : Shown) : Type 0 where
-  pub all : hides ≡ false → shown ≡ All
-  pub secret : hides ≡ true → way ≡ ToCard → is_secret ins ≡ true → shown ≡ Nothing
+-- Data are shown by the mask as those of their TPDU's command; under GET RESPONSE the card's are
+-- those of the command whose response they are.
+pub record IsShown (mask : Mask) (way : Direction) (header : List ℕ) (shown : Shown) : Type 0 where
+  pub origin : Origin
+  pub way_is : origin.way ≡ way
+  pub to_card : way ≡ ToCard → IsOfCommand header origin.header
+  pub from_card : get_or header 1 0 ≢ 0xC0 → IsOfCommand header origin.header
+  pub shows : Shows mask.hides mask.tags.items origin shown
+
+-- the command whose response a TPDU brings is its own, but for GET RESPONSE
+abbrev pub HasAsker : List ℕ → Links → Type 0
+HasAsker header links = get_or header 1 0 ≢ 0xC0 → IfSome links.asker (IsOfCommand header)
 
 -- what shows the data of a TPDU, if it moved any, behind a whole header
-abbrev pub DataParts : Medium → Mask → Option Direction → List ℕ → List ℕ → List (List ℕ) → Type 0
-DataParts m mask None header moved parts = parts ≡ []
-DataParts m mask (Some way) header moved parts = length header ≡ 5 → (shown : Shown)
-    × IsShown mask.hides way (get_or header 1 0) shown
-    × (may : Bool) × ShowsData shown m mask.tags.items (side_of way) may moved parts
+abbrev pub DataText : Medium → Mask → Option Direction → List ℕ → List ℕ → List ℕ → Type 0
+DataText m mask None header moved text = text ≡ []
+DataText m mask (Some way) header moved text = length header ≡ 5 → (shown : Shown)
+    × IsShown mask way header shown × (may : Bool) × (way ≡ FromCard → may ≡ true)
+    × ShowsData shown m mask.tags.items (side_of way) true may moved text
 
 -- What shows a TPDU: its number, the line in which it begins, its header, its data, and its status.
 pub record IsBox (m : Medium) (mask : Mask) (number line : ℕ) (t : Told) (parts : List (List ℕ))
     : Type 0 where
-  pub moved_parts : List (List ℕ)
-  pub shows : DataParts m mask t.way t.header t.moved moved_parts
+  pub moved : List ℕ
+  pub shows : DataText m mask t.way t.header t.moved moved
   pub parts_are : parts ≡ number_text number ∷ line_text m line ∷ header_row m t.header
-      ∷ moved_parts ++ status_text m (status_side t.header t.status) t.status ∷ []
+      ∷ moved ∷ status_text m (status_side t.header t.status) t.status ∷ []
 
 -- Where memory was not wanting, some text was added that has these parts in turn.
 pub record Puts (parts : List (List ℕ)) (old new : Sheet) : Type 0 where
@@ -80,32 +90,36 @@ pub record Puts (parts : List (List ℕ)) (old new : Sheet) : Type 0 where
       × (string_bytes new.text ≡ string_bytes old.text ++ more) × InTurn parts more
 
 -- the row of data that stand as no tree was added
-abbrev pub PutsPlain : Shown → Side → List ℕ → Sheet → Sheet → Type 0
-PutsPlain All s bytes old new = PutsRow old s bytes new
-PutsPlain Objects s bytes old new = Adds old (data_row old.layout.medium s (hidden ∷ [])) new
-PutsPlain Nothing s bytes old new = Adds old (data_row old.layout.medium s (hidden ∷ [])) new
+abbrev pub PutsPlain : Shown → Side → Bool → List ℕ → Sheet → Sheet → Type 0
+PutsPlain All s is_first bytes old new = PutsRow old s is_first bytes new
+PutsPlain Objects s is_first bytes old new =
+    Adds old (data_row old.layout.medium s is_first (hidden ∷ [])) new
+PutsPlain Nothing s is_first bytes old new =
+    Adds old (data_row old.layout.medium s is_first (hidden ∷ [])) new
 
 -- data may stand as a tree
-abbrev pub MayBeTree : Shown → Bool → Type 0
-MayBeTree All may = may ≡ true
-MayBeTree Objects may = may ≡ true
-MayBeTree Nothing may = ⊥
+abbrev pub may_be_tree : Shown → Bool → Bool
+may_be_tree All may = may
+may_be_tree Objects may = may
+may_be_tree Nothing may = false
 
 -- and they do, or nothing was added
 abbrev pub PutsTree
-    : Bool → Shown → List (List ℕ) → Side → Bool → List ℕ → Sheet → Sheet → Type 0
-PutsTree true shown tags s may bytes old new =
-    MayBeTree shown may × PutsTreeRow true tags s bytes old new
-PutsTree false shown tags s may bytes old new = PutsTreeRow false tags s bytes old new
+    : Bool → Shown → List (List ℕ) → Side → Bool → Bool → List ℕ → Sheet → Sheet → Type 0
+PutsTree true shown tags s is_first may bytes old new =
+    (may_be_tree shown may ≡ true) × PutsTreeRow true tags s is_first bytes old new
+PutsTree false shown tags s is_first may bytes old new = Adds old [] new
+    × IsNoTree old.layout.medium tags (may_be_tree shown may) bytes
 
--- the same of the parts of data
-abbrev pub PutsData : Shown → List (List ℕ) → Side → Bool → List ℕ → Sheet → Sheet → Type 0
-PutsData shown tags s may bytes old new = (parts : List (List ℕ))
-    × ShowsData shown old.layout.medium tags s may bytes parts × Puts parts old new
+-- the same of data
+abbrev pub PutsData
+    : Shown → List (List ℕ) → Side → Bool → Bool → List ℕ → Sheet → Sheet → Type 0
+PutsData shown tags s is_first may bytes old new = (text : List ℕ)
+    × ShowsData shown old.layout.medium tags s is_first may bytes text × Adds old text new
 
 abbrev pub PutsDataOf : Mask → Option Direction → List ℕ → List ℕ → Sheet → Sheet → Type 0
-PutsDataOf mask way header moved old new = (parts : List (List ℕ))
-    × DataParts old.layout.medium mask way header moved parts × Puts parts old new
+PutsDataOf mask way header moved old new = (text : List ℕ)
+    × DataText old.layout.medium mask way header moved text × Adds old text new
 
 -- the box of a TPDU was added
 abbrev pub PutsBox : Mask → ℕ → ℕ → Told → Sheet → Sheet → Type 0

@@ -108,7 +108,7 @@ pub record IsRight (c : Complaint) (o : Opening) (from : End) (bytes : List ℕ)
   pub not_again : answers_again o listener from (get_or bytes c.place 0) ≡ false
   pub due_is : c.due ≡ due_at listener.tap
   pub from_is : c.from ≡ from
-  pub byte_is : c.byte ≡ get_or bytes c.place 0
+  pub byte_is : c.came.byte ≡ get_or bytes c.place 0
 
 -- the complaint at another place
 abbrev pub at_place : Complaint → ℕ → Complaint

@@ -1,8 +1,62 @@
--- Commands whose data are secret, or may be.
-use Rattle.std.specs.Prelude.{ℕ, Bool, ◌==◌, ◌||◌}
+-- What a mask leaves of data: those of some commands are secret, and objects with some tags.
+use Rattle.std.specs.Prelude.{◌≡◌, ◌<◌, ℕ, List, [], ◌∷◌, length, Bool, true, false, not, ◌==◌, ◌&&◌, ◌||◌, nat_lt, if◌then◌else◌}
+use Rattle.std.specs.List.{Contains}
+use Rattle.apdu_core.specs.declared.header.Header.{Header}
+use Rattle.t0_core.specs.declared.direction.Direction.{Direction}
+use Rattle.t0_core.specs.declared.direction.Direction.TheVariants.{ToCard, FromCard}
+use Rattle.tlv_core.specs.Address.{NamesTag}
+use Rattle.tlv_core.specs.TagForm.{is_constructed}
+use Rattle.trace_explain.specs.declared.mask.Origin.{Origin}
+use Rattle.trace_explain.specs.declared.mask.Shown.{Shown}
+use Rattle.trace_explain.specs.declared.mask.Shown.TheVariants.{All, Objects, Nothing}
+use Rattle.trace_explain.specs.WaysOf.{is_among}
 
--- VERIFY, CHANGE REFERENCE DATA, DISABLE and ENABLE VERIFICATION REQUIREMENT, and RESET RETRY
--- COUNTER
+-- Reference data: VERIFY, CHANGE REFERENCE DATA, DISABLE and ENABLE VERIFICATION REQUIREMENT, and
+-- RESET RETRY COUNTER, of any class, with data of any form.
 abbrev pub is_secret : ℕ → Bool
-is_secret ins = (ins == 0x20) || (ins == 0x21) || (ins == 0x24) || (ins == 0x26) || (ins == 0x28)
-    || (ins == 0x2C)
+is_secret ins = is_among ins
+    (0x20 ∷ 0x21 ∷ 0x24 ∷ 0x25 ∷ 0x26 ∷ 0x28 ∷ 0x2C ∷ 0x2D ∷ [])
+
+-- Data may begin or end within an object: parts of a file or record that do not begin with it, what
+-- is fetched with nothing known before it, and ENVELOPE.
+abbrev pub may_be_cut : Header → Bool
+may_be_cut h = if is_among h.ins (0x0E ∷ 0xB0 ∷ 0xD0 ∷ 0xD6 ∷ [])
+    then (not (h.p2 == 0) || (nat_lt h.p1 0x80 && not (h.p1 == 0)))
+    else is_among h.ins (0xB1 ∷ 0xB3 ∷ 0xC0 ∷ 0xC2 ∷ 0xC3 ∷ 0xD1 ∷ 0xD7 ∷ 0xDD ∷ [])
+
+-- SELECT has a name or a path
+abbrev pub is_name : ℕ → Direction → Bool
+is_name ins ToCard = ins == 0xA4
+is_name ins FromCard = false
+
+-- P1-P2 of GET DATA and PUT DATA name an object
+abbrev pub Names : Header → List ℕ → Type 0
+Names h tag = (is_among h.ins (0xCA ∷ 0xDA ∷ []) ≡ true) × NamesTag tag h.p1 h.p2
+
+-- Data may be objects, or parts of some: parts are not shown.
+abbrev pub whole_or_nothing : Bool → Shown
+whole_or_nothing is_part = if is_part then Nothing else Objects
+
+-- the value of an object with this tag
+pub record ShowsValue (tags : List (List ℕ)) (tag : List ℕ) (goes_on : Bool) (shown : Shown)
+    : Type 0 where
+  pub masked : Contains tags tag → shown ≡ Nothing
+  pub primitive : (Contains tags tag → ⊥) → is_constructed tag ≡ false → shown ≡ All
+  pub template : (Contains tags tag → ⊥) → is_constructed tag ≡ true
+      → shown ≡ whole_or_nothing goes_on
+
+-- data that are no secret, where there are tags
+pub record ShowsTagged (tags : List (List ℕ)) (o : Origin) (shown : Shown) : Type 0 where
+  pub name : is_name o.header.ins o.way ≡ true → shown ≡ All
+  pub named : is_name o.header.ins o.way ≡ false → (t : List ℕ) → Names o.header t
+      → (tag : List ℕ) × Names o.header tag × ShowsValue tags tag o.goes_on shown
+  pub others : is_name o.header.ins o.way ≡ false → ((tag : List ℕ) → Names o.header tag → ⊥)
+      → shown ≡ whole_or_nothing (o.goes_on || may_be_cut o.header)
+
+-- Without a mask all data are shown. With one none that are secret are; without tags all others.
+pub record Shows (hides : Bool) (tags : List (List ℕ)) (o : Origin) (shown : Shown) : Type 0 where
+  pub all : hides ≡ false → shown ≡ All
+  pub secret : hides ≡ true → is_secret o.header.ins ≡ true → shown ≡ Nothing
+  pub no_tags : hides ≡ true → is_secret o.header.ins ≡ false → tags ≡ [] → shown ≡ All
+  pub tagged : hides ≡ true → is_secret o.header.ins ≡ false → 0 < length tags
+      → ShowsTagged tags o shown

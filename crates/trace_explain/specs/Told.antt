@@ -1,6 +1,7 @@
 -- What is told of a TPDU, and of which dialogue that is true.
-use Rattle.std.specs.Prelude.{◌≡◌, ℕ, ◌+◌, ◌-◌, ◌^◌, min, List, [], ◌∷◌, ◌++◌, Option, Some, None, Bool, true, false, fold}
+use Rattle.std.specs.Prelude.{◌≡◌, ℕ, ◌+◌, ◌-◌, ◌^◌, min, List, [], ◌∷◌, ◌++◌, get_or, Option, Some, None, Bool, true, false, fold}
 use Rattle.apdu_core.specs.HeaderBytes.{header_bytes}
+use Rattle.apdu_core.specs.declared.header.Header.{Header}
 use Rattle.t0_core.specs.declared.direction.Direction.{Direction}
 use Rattle.t0_core.specs.declared.plan.Step.{Step}
 use Rattle.t0_core.specs.declared.plan.Step.TheVariants.{Null, One, All}
@@ -90,3 +91,10 @@ is_last (heard.Procedure step) = false
 is_last (heard.Data direction) = false
 is_last heard.FirstStatus = false
 is_last (heard.SecondStatus said status) = true
+
+-- a header is that of the TPDU whose first characters these are
+pub record IsOfCommand (bytes : List ℕ) (header : Header) : Type 0 where
+  pub cla : header.cla ≡ get_or bytes 0 0
+  pub ins : header.ins ≡ get_or bytes 1 0
+  pub p1 : header.p1 ≡ get_or bytes 2 0
+  pub p2 : header.p2 ≡ get_or bytes 3 0

@@ -19,9 +19,9 @@ InTurn (part ∷ parts) text =
 abbrev pub newline : List ℕ
 newline = 10 ∷ []
 
--- a TPDU has a number, with which its title begins
+-- a TPDU has a number, with which its title begins, and behind which stands a space
 abbrev pub number_text : ℕ → List ℕ
-number_text n = codes "#" ++ decimal n
+number_text n = codes "#" ++ decimal n ++ codes " "
 
 -- and its title ends with the line in which it began
 abbrev pub line_before : Medium → List ℕ
@@ -60,7 +60,7 @@ header_row Text bytes = plain_header bytes
 header_row Html bytes = codes "<div class=\"m t\"><b>header</b><pre>" ++ named 0 bytes
     ++ (codes "</pre><i></i></div>" ++ newline)
 
--- a status as digits, behind which words say what it means
+-- a status as digits, and a space, behind which words say what it means
 abbrev pub status_before : Medium → Side → List ℕ
 status_before Text Terminal = codes "  > status     "
 status_before Text Card = codes "  < status     "
@@ -70,7 +70,9 @@ status_before Html Card = codes "<div class=\"m c\"><b>status</b><pre>"
 status_before Html Nobody = codes "<div class=\"m n\"><b>status</b><pre>"
 
 abbrev pub status_text : Medium → Side → List ℕ → List ℕ
-status_text m side status = status_before m side ++ encode_upper status
+status_text m side [] = status_before m side
+status_text m side (b ∷ status) =
+    status_before m side ++ encode_upper (b ∷ status) ++ codes " "
 
 -- Data stand in lines, whose first has the sign of the end that sends them.
 abbrev pub data_before : Medium → Side → Bool → List ℕ
@@ -101,9 +103,11 @@ lines_text m side is_first [] = []
 lines_text m side is_first (line ∷ lines) =
     line_of m side is_first line ++ lines_text m side false lines
 
-abbrev pub data_row : Medium → Side → List (List ℕ) → List ℕ
-data_row m side [] = []
-data_row m side (line ∷ lines) = lines_text m side true (line ∷ lines) ++ data_end m side
+-- the rest of a row from its first data on, or behind a line of words
+abbrev pub data_row : Medium → Side → Bool → List (List ℕ) → List ℕ
+data_row m side is_first [] = []
+data_row m side is_first (line ∷ lines) =
+    lines_text m side is_first (line ∷ lines) ++ data_end m side
 
 -- what stands in the place of data that are not shown
 abbrev pub hidden : List ℕ
@@ -148,6 +152,6 @@ AreLines m in_text bytes (line ∷ lines) = (0 < length bytes)
     × AreLines m in_text (drop (width in_text) bytes) lines
 
 -- the row of data as digits, with the text beside them where they are text
-abbrev pub IsRow : Medium → Side → List ℕ → List ℕ → Type 0
-IsRow m side bytes text = (lines : List (List ℕ))
-    × AreLines m (is_text bytes) bytes lines × (text ≡ data_row m side lines)
+abbrev pub IsRow : Medium → Side → Bool → List ℕ → List ℕ → Type 0
+IsRow m side is_first bytes text = (lines : List (List ℕ))
+    × AreLines m (is_text bytes) bytes lines × (text ≡ data_row m side is_first lines)

@@ -1,12 +1,12 @@
 //! What is told of an answer to reset, in plain words.
 
+use crate::ascii::{push_hex_lines, push_lines};
 use crate::draft::Draft;
 use crate::layout::{Kind, Side};
 use crate::mask::Mask;
 use crate::opening::{is_direct, is_short};
 use crate::page::Page;
 use crate::preface::Preface;
-use crate::tree::{push_hex_lines, push_lines};
 use atr_core::{Atr, AtrFault, Category, Fi, di};
 
 /// Adds the box of an answer: all of it, or how far it came. What is none may be data of which the

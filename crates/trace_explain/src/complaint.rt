@@ -7,6 +7,25 @@ use t0_core::{Direction, Due, End};
 /// What may be where a trace without signs leads to no dialogue from its beginning on.
 pub const ASTRAY: &str = "the trace may begin within a TPDU";
 
+/// A character of the trace, which is shown or not.
+#[derive(Clone, Copy, Debug)]
+pub struct Seen {
+    /// The character.
+    pub byte: u8,
+    /// Whether it is not shown.
+    pub hides: bool,
+}
+
+impl fmt::Display for Seen {
+    fn fmt<W: fmt::Write>(&self, f: &mut fmt::Formatter<W>) -> fmt::Result {
+        if self.hides {
+            return f.write_str(HIDDEN);
+        }
+        let byte = self.byte;
+        write!(f, "{byte:02X}")
+    }
+}
+
 /// A character with which no dialogue that a tap reads goes on: where it stands, what was due, and
 /// what came.
 #[derive(Clone, Copy, Debug)]
@@ -20,37 +39,17 @@ pub struct Complaint {
     /// Who sent the character.
     pub from: End,
     /// The character.
-    pub byte: u8,
+    pub came: Seen,
     /// Whether no sign says so, and no answer to reset, line `reset` or whole TPDU came before it.
     pub is_astray: bool,
 }
 
 impl fmt::Display for Complaint {
     fn fmt<W: fmt::Write>(&self, f: &mut fmt::Formatter<W>) -> fmt::Result {
-        self.tell(f, false)
-    }
-}
-
-/// A complaint of which is told all but the character that came.
-#[derive(Clone, Copy)]
-pub struct Masked(pub Complaint);
-
-impl fmt::Display for Masked {
-    fn fmt<W: fmt::Write>(&self, f: &mut fmt::Formatter<W>) -> fmt::Result {
-        self.0.tell(f, true)
-    }
-}
-
-impl Complaint {
-    /// Writes it, with the character that came or without.
-    fn tell<W: fmt::Write>(&self, f: &mut fmt::Formatter<W>, hides: bool) -> fmt::Result {
         let line = self.line;
         let character = self.place.saturating_add(1);
         let due = due_text(self.due);
-        let came = Came {
-            byte: self.byte,
-            hides,
-        };
+        let came = self.came;
         let from = end_text(self.from);
         let (or, astray) = if self.is_astray {
             ("; ", ASTRAY)
@@ -62,25 +61,6 @@ impl Complaint {
             "line {line}, character {character}: no dialogue that it reads: {due} was due, and \
              {came} of the {from} came{or}{astray}"
         )
-    }
-}
-
-/// The character that came, as far as it is shown.
-#[derive(Clone, Copy)]
-pub struct Came {
-    /// The character.
-    pub byte: u8,
-    /// Whether it is not shown.
-    pub hides: bool,
-}
-
-impl fmt::Display for Came {
-    fn fmt<W: fmt::Write>(&self, f: &mut fmt::Formatter<W>) -> fmt::Result {
-        if self.hides {
-            return f.write_str(HIDDEN);
-        }
-        let byte = self.byte;
-        write!(f, "{byte:02X}")
     }
 }
 

@@ -1,14 +1,14 @@
 //! What is told of a complaint: of a character with which no dialogue goes on, and of a command and
 //! its answer that are no TPDU.
 
-use crate::complaint::{ASTRAY, Came, Complaint, due_text, end_text};
+use crate::complaint::{ASTRAY, Complaint, due_text, end_text};
 use crate::exchange::BadExchange;
 use crate::layout::{Anchor, Head, Kind, Side};
 use crate::mask::Mask;
 use crate::page::Page;
 
 /// Adds the box of a complaint of this number, about a character.
-pub fn tell_complaint(number: u64, complaint: Complaint, hides: bool, page: &mut Page) {
+pub fn tell_complaint(number: u64, complaint: Complaint, page: &mut Page) {
     page.lines.push_str("no dialogue that it reads");
     page.open(head(number, complaint.line));
     let character = complaint.place.saturating_add(1);
@@ -16,10 +16,7 @@ pub fn tell_complaint(number: u64, complaint: Complaint, hides: bool, page: &mut
     page.row(Side::Told, "place");
     writeln!(page.lines, "{}", due_text(complaint.due));
     page.row(Side::Told, "due");
-    let came = Came {
-        byte: complaint.byte,
-        hides,
-    };
+    let came = complaint.came;
     writeln!(page.lines, "{came} of the {}", end_text(complaint.from));
     page.row(Side::Told, "came");
     if complaint.is_astray {

@@ -88,7 +88,7 @@ impl Counts {
             return Ok(());
         };
         match instruction(header) {
-            Some(name) => count(&mut self.named, name),
+            Some((_, name, _)) => count(&mut self.named, *name),
             None => count(&mut self.unnamed, header.ins),
         }
     }

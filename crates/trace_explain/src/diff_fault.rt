@@ -1,6 +1,6 @@
 //! The reasons why two traces can't be compared, with their texts.
 
-use crate::explain_fault::{ExplainFault, MaskedFault};
+use crate::explain_fault::ExplainFault;
 use std::alloc::AllocError;
 use std::fmt;
 use thiserror::Error;
@@ -51,18 +51,5 @@ pub enum DiffFault {
 impl From<AllocError> for DiffFault {
     fn from(_error: AllocError) -> DiffFault {
         DiffFault::OutOfMemory
-    }
-}
-
-/// A fault of which is told all but characters of a trace.
-#[derive(Drop)]
-pub struct MaskedDiffFault<'a>(pub &'a DiffFault);
-
-impl fmt::Display for MaskedDiffFault<'_> {
-    fn fmt<W: fmt::Write>(&self, f: &mut fmt::Formatter<W>) -> fmt::Result {
-        match self.0 {
-            DiffFault::Trace(which, fault) => write!(f, "{which}: {}", MaskedFault(fault)),
-            other => other.fmt(f),
-        }
     }
 }

@@ -29,7 +29,7 @@ pub fn bytes_of(alloc: Global, digits: &[u8]) -> Result<Vec<u8>, BadLine>
 }
 
 /// Appends a byte.
-fn push(bytes: &mut Vec<u8>, byte: u8) -> Result<(), AllocError>
+pub fn push(bytes: &mut Vec<u8>, byte: u8) -> Result<(), AllocError>
     ensures { OnOk result (bytes.new.items ≡ bytes.old.items ++ byte ∷ []) }
 {
     bytes.push(byte).map_err(AllocError::from)

@@ -53,11 +53,6 @@ impl Draft {
         self.text.as_str()
     }
 
-    /// How many bytes it has.
-    pub fn len(&self) -> usize {
-        self.text.len()
-    }
-
     /// Whether it has none.
     pub fn is_empty(&self) -> bool {
         self.text.is_empty()

@@ -1,5 +1,5 @@
 //! A whole trace.
-ghost use Rattle.std.specs.Prelude.{◌≡◌, ◌++◌, ◌∷◌, List, [], ℕ, false, IfErr, IfSome, OnOk};
+ghost use Rattle.std.specs.Prelude.{◌≡◌, ◌++◌, List, [], ℕ, false, IfErr, IfSome, OnOk};
 ghost use Rattle.std.specs.Io.KnownBytes.{Appends};
 ghost use Rattle.std.specs.String.{string_bytes};
 ghost use Rattle.std.specs.Str.Lines.{strip_carriage_return};
@@ -10,12 +10,13 @@ ghost use Rattle.trace_explain.specs.Lines.{first_of_all};
 ghost use Rattle.trace_explain.specs.Trace.{IsExplained, IsOfWriting, IsWhole, KeepsLimit, StopsIn, lines_of};
 ghost use Rattle.trace_explain.specs.UnderWay.{HasCome, IsOfLines};
 
+use crate::digits::push;
 use crate::explain_fault::ExplainFault;
 use crate::explainer::Explainer;
 use crate::layout::Layout;
 use crate::mask::Mask;
 use crate::reading::Reading;
-use std::alloc::{AllocError, Global};
+use std::alloc::Global;
 use std::io::{Read, Write};
 
 /// The most bytes of a trace (this project's profile).
@@ -120,13 +121,6 @@ pub fn explain_chunk(
         }
     }
     Ok(())
-}
-
-/// Adds a byte to the line that is kept.
-fn push(line: &mut Vec<u8>, byte: u8) -> Result<(), AllocError>
-    ensures { OnOk result (line.new.items ≡ line.old.items ++ byte ∷ []) }
-{
-    line.push(byte).map_err(AllocError::from)
 }
 
 /// Explains the last line, where it has no LF.

@@ -2,12 +2,12 @@
 
 ghost use Rattle.trace_explain.specs.Trace.{IsOfWriting};
 
-use crate::complaint::{Complaint, Masked};
+use crate::complaint::Complaint;
 use crate::exchange::BadExchange;
 use crate::form::Form;
 use crate::turn::NoTurn;
 use std::alloc::AllocError;
-use std::{fmt, io};
+use std::io;
 use thiserror::Error;
 
 /// Why the program ends with status 1.
@@ -87,23 +87,6 @@ pub enum ExplainFault {
     /// Memory was wanting.
     #[error("out of memory")]
     OutOfMemory,
-}
-
-/// A fault of which is told all but characters of the trace.
-#[derive(Drop)]
-pub struct MaskedFault<'a>(pub &'a ExplainFault);
-
-impl fmt::Display for MaskedFault<'_> {
-    fn fmt<W: fmt::Write>(&self, f: &mut fmt::Formatter<W>) -> fmt::Result {
-        match self.0 {
-            ExplainFault::NoDialogue(complaint) => Masked(*complaint).fmt(f),
-            ExplainFault::Resumed { complaints, first } => {
-                Masked(*first).fmt(f)?;
-                write!(f, " (complaints: {complaints})")
-            }
-            other => other.fmt(f),
-        }
-    }
 }
 
 impl ExplainFault {

@@ -8,6 +8,7 @@ ghost use Rattle.t0_core.specs.History.{Event, Reset, passed};
 ghost use Rattle.t0_core.specs.TapSide.{due_at};
 ghost use Rattle.trace_explain.specs.Explained.{HasExplained, ExplainsCharacters, ExplainsMore, ExplainsReset, ExplainsLine, ExplainsSigned, ExplainsUnsigned, ExplainsInTurn, HearsUpTo, StopsRightly, StopsAtLine, StopsAtSigned, StopsAtUnsigned, StopsInTurn, Stopped, KeepsAll, KeepsHeard, is_astray, next_line, refused, standing_of};
 ghost use Rattle.trace_explain.specs.Account.{AddsBox, AddsBoxes, HasWritten, StaysWritten, first_out};
+ghost use Rattle.trace_explain.specs.Boxes.{HasAsker};
 ghost use Rattle.trace_explain.specs.Trace.{IsOfEnd};
 ghost use Rattle.trace_explain.specs.UnderWay.{IsOfLines, OpensUpTo};
 ghost use Rattle.trace_explain.specs.Lines.{came_after, first_of_all};
@@ -16,7 +17,7 @@ ghost use Rattle.trace_explain.specs.Told.{Told, told_by};
 ghost use Rattle.trace_explain.specs.Turns.{turn_at};
 
 use crate::clock::Clock;
-use crate::complaint::Complaint;
+use crate::complaint::{Complaint, Seen};
 use crate::complaint_box::{tell_bad_exchange, tell_complaint};
 use crate::counts::Counts;
 use crate::diff::Kept;
@@ -630,7 +631,7 @@ impl Explainer {
           place = ahead + place;
           due = due_at self.old.listener.tap;
           from = from;
-          byte = get_or bytes.now place 0;
+          came = record { byte = get_or bytes.now place 0; hides = self.old.mask.hides };
           is_astray = is_astray self.old;
         }) }
         ensures counts { OnOk result (self.new.line ≡ self.old.line) }
@@ -641,18 +642,17 @@ impl Explainer {
             place: ahead + place,
             due: self.listener.due(),
             from,
-            byte: bytes.get(place).copied().unwrap_or(0),
+            came: Seen {
+                byte: bytes.get(place).copied().unwrap_or(0),
+                hides: self.mask.hides(),
+            },
             is_astray: self.reading.unsigned.is_some() && !self.is_led,
         };
         self.cut_off()?;
         self.story.lose_some();
         self.counts.complain(self.line)?;
-        tell_complaint(
-            self.counts.complaints(),
-            complaint,
-            self.mask.hides(),
-            &mut self.output.page,
-        );
+        let number = self.counts.complaints();
+        tell_complaint(number, complaint, &mut self.output.page);
         self.output.outcome()?;
         if !self.resumes {
             return Err(ExplainFault::NoDialogue(complaint));
@@ -831,13 +831,14 @@ impl Explainer {
 
     /// Tells of a TPDU, or keeps it.
     fn tell(&mut self, tpdu: &Tpdu, links: Links) -> Result<(), AllocError>
+        requires asker { HasAsker tpdu.now.header.items links }
         ensures keeps { OnOk result (KeepsAll self.old self.new) }
         ensures shows { OnOk result
             (AddsBox links.number (told_by tpdu.now) self.old self.new) }
     {
         if self.keeps {
             let kept = self.kept_of(tpdu, links, self.output.another(self.alloc))?;
-            return push(&mut self.kept, kept);
+            return self.kept.push(kept).map_err(AllocError::from);
         }
         let began = self.began;
         tell_box(
@@ -853,7 +854,9 @@ impl Explainer {
     }
 
     /// A TPDU with what is told of it as the only thing that is written.
-    fn kept_of(&self, tpdu: &Tpdu, links: Links, empty: Output) -> Result<Kept, AllocError> {
+    fn kept_of(&self, tpdu: &Tpdu, links: Links, empty: Output) -> Result<Kept, AllocError>
+        requires asker { HasAsker tpdu.now.header.items links }
+    {
         let mut output = empty;
         tell_box(
             tpdu,
@@ -894,11 +897,6 @@ fn refused(line: u64, why: BadLine) -> ExplainFault
 /// Whether a text ends within a line.
 fn ends_within_line(text: &str) -> bool {
     !text.is_empty() && !text.ends_with('\n')
-}
-
-/// Keeps a TPDU.
-fn push(all: &mut Vec<Kept>, kept: Kept) -> Result<(), AllocError> {
-    all.push(kept).map_err(AllocError::from)
 }
 
 /// Whether a character has come by then.

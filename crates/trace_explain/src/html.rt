@@ -174,24 +174,33 @@ pub fn row(out: &mut Draft, side: Side, label: &str, lines: &str) {
     if lines.is_empty() {
         return;
     }
-    let (class, arrow) = match side {
-        Side::Terminal => ("t", "<i></i>"),
-        Side::Card => ("c", "<i></i>"),
-        Side::Told => ("n", ""),
+    begin_row(out, side, label, lines);
+    end_row(out, side);
+}
+
+/// Begins a row with words.
+pub fn begin_row(out: &mut Draft, side: Side, label: &str, lines: &str) {
+    let class = match side {
+        Side::Terminal => "t",
+        Side::Card => "c",
+        Side::Told => "n",
     };
     write!(out, "<div class=\"m {class}\"><b>{label}</b><pre>");
     push_escaped(out, lines.trim_end());
-    writeln!(out, "</pre>{arrow}</div>");
 }
 
 /// Adds what a row says behind its first digits, and ends it.
 pub fn push_rest(out: &mut Draft, side: Side, lines: &str) {
     push_escaped(out, lines.trim_end());
-    let arrow = match side {
-        Side::Terminal | Side::Card => "<i></i>",
-        Side::Told => "",
-    };
-    writeln!(out, "</pre>{arrow}</div>");
+    end_row(out, side);
+}
+
+/// Ends a row.
+fn end_row(out: &mut Draft, side: Side) {
+    out.push_str(match side {
+        Side::Terminal | Side::Card => "</pre><i></i></div>\n",
+        Side::Told => "</pre></div>\n",
+    });
 }
 
 /// Opens the last block, which stands first on the page.

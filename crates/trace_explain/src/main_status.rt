@@ -4,9 +4,9 @@ ghost use Rattle.trace_explain.specs.Trace.{status_of};
 
 use crate::command_line::{Request, parsed};
 use crate::diff::diff;
-use crate::diff_fault::{DiffFault, MaskedDiffFault, Which};
+use crate::diff_fault::{DiffFault, Which};
 use crate::explain::explain;
-use crate::explain_fault::{ExplainFault, MaskedFault};
+use crate::explain_fault::ExplainFault;
 use crate::help;
 use crate::mask::Mask;
 use crate::reading::Reading;
@@ -57,15 +57,14 @@ fn carried_out<D: Files, R: Read, W: Write, F: Write>(
         reading,
         compared,
     } = request;
-    let hides = mask.hides();
     match compared {
         Some(paths) => {
             let outcome = diff_files(alloc, mask, resumes, reading, files, paths, output);
-            told_diff(&outcome, hides, faults)
+            told_diff(&outcome, faults)
         }
         None => {
             let outcome = explain(alloc, layout, mask, resumes, reading, input, output);
-            told(&outcome, hides, faults)
+            told(&outcome, faults)
         }
     }
 }
@@ -96,18 +95,14 @@ fn opened<D: Files>(files: &D, path: &str, which: Which) -> Result<D::File, Diff
 
 /// The status of a comparison: 0 where the traces are alike, and else 1, also for a fault, which is
 /// told on `faults` in one line.
-fn told_diff<F: Write>(outcome: &Result<bool, DiffFault>, hides: bool, faults: &mut F) -> u8
+fn told_diff<F: Write>(outcome: &Result<bool, DiffFault>, faults: &mut F) -> u8
     ensures status { result ≤ 2 }
 {
     match outcome {
         Ok(true) => 0,
         Ok(false) => 1,
         Err(fault) => {
-            let _ = if hides {
-                faults.writeln(&MaskedDiffFault(fault))
-            } else {
-                faults.writeln(fault)
-            };
+            let _ = faults.writeln(fault);
             1
         }
     }
@@ -119,9 +114,9 @@ fn answered<W: Write, F: Write>(error: &Error, output: &mut W, faults: &mut F) -
     ensures status { result ≤ 2 }
 {
     match error.kind() {
-        ErrorKind::OutOfMemory => told(&Err(ExplainFault::OutOfMemory), false, faults),
+        ErrorKind::OutOfMemory => told(&Err(ExplainFault::OutOfMemory), faults),
         ErrorKind::DisplayHelp | ErrorKind::DisplayVersion => {
-            told(&shown(error, output), false, faults)
+            told(&shown(error, output), faults)
         }
         _ => {
             let _ = faults.write_fmt(error);
@@ -139,19 +134,15 @@ fn shown<W: Write>(error: &Error, output: &mut W) -> Result<(), ExplainFault> {
 }
 
 /// The status for an outcome: 0, also where nobody reads what is written any more, or 1 for a
-/// fault, which is told on `faults` in one line, with characters of the trace or without.
-fn told<F: Write>(outcome: &Result<(), ExplainFault>, hides: bool, faults: &mut F) -> u8
+/// fault, which is told on `faults` in one line.
+fn told<F: Write>(outcome: &Result<(), ExplainFault>, faults: &mut F) -> u8
     ensures success { OnOk outcome.now (result ≡ 0) }
     ensures fault { IfErr outcome.now (λ fault. result ≡ status_of fault) }
 {
     match outcome {
         Ok(()) | Err(ExplainFault::Closed) => 0,
         Err(fault) => {
-            let _ = if hides {
-                faults.writeln(&MaskedFault(fault))
-            } else {
-                faults.writeln(fault)
-            };
+            let _ = faults.writeln(fault);
             1
         }
     }
@@ -163,7 +154,7 @@ pub fn status_without_words<F: Write>(error: &io::Error, faults: &mut F) -> u8
     ensures status { result ≤ 2 }
 {
     match error.kind() {
-        io::ErrorKind::OutOfMemory => told(&Err(ExplainFault::OutOfMemory), false, faults),
+        io::ErrorKind::OutOfMemory => told(&Err(ExplainFault::OutOfMemory), faults),
         _ => {
             let _ = faults.write_all(help::NO_UTF_8.as_bytes());
             2

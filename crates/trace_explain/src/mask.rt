@@ -1,15 +1,17 @@
 //! What of a trace is not shown: a trace gets passed around.
 
-ghost use Rattle.std.specs.Prelude.{◌≡◌, ◌↔◌, false, get_or, length, true, IfSome, IsSome, IsTrue};
+ghost use Rattle.std.specs.Prelude.{◌≡◌, ◌↔◌, ℕ, List, [], None, false, length, true, IfOk, IfSome, IsSome, IsTrue};
 ghost use Rattle.std.specs.List.{Contains};
 ghost use Rattle.t0_core.specs.declared.direction.Direction.TheVariants.{ToCard};
-ghost use Rattle.trace_explain.specs.Secrets.{is_secret};
+ghost use Rattle.trace_explain.specs.Secrets.{Names, Shows, ShowsTagged, ShowsValue, is_name, may_be_cut, whole_or_nothing};
+ghost use Rattle.trace_explain.specs.Told.{IsOfCommand};
 
+use crate::ascii::push_hex_lines;
 use crate::draft::Draft;
+use crate::instructions::is_secret;
 use crate::links::Links;
 use crate::story::header_of;
 use crate::tpdu::Tpdu;
-use crate::tree::{push_hex_lines, push_lines, push_tree};
 use apdu_core::Header;
 use std::alloc::{AllocError, Global};
 use t0_core::Direction;
@@ -54,14 +56,17 @@ pub struct Origin {
 impl Origin {
     /// That of the data that go this way in a TPDU; `None` where no whole header came.
     pub fn of(tpdu: &Tpdu, links: Links, way: Direction) -> Option<Origin>
+        ensures way { IfSome result (λ origin. origin.way ≡ way) }
         ensures own { IfSome result (λ origin. way ≡ ToCard →
-            origin.header.ins ≡ get_or tpdu.now.header.items 1 0) }
+            IsOfCommand tpdu.now.header.items origin.header) }
+        ensures asked { IfSome links.asker (IsOfCommand tpdu.now.header.items) →
+            IfSome result (λ origin. IsOfCommand tpdu.now.header.items origin.header) }
         ensures whole { length tpdu.now.header.items ≡ 5 → IsSome result }
     {
         let (header, _) = header_of(tpdu)?;
-        let header = match way {
-            Direction::ToCard => header,
-            Direction::FromCard => links.asker.unwrap_or(header),
+        let header = match (way, links.asker) {
+            (Direction::FromCard, Some(asker)) => asker,
+            _ => header,
         };
         let goes_on = links.goes_on;
         Some(Origin {
@@ -100,7 +105,9 @@ pub enum Shown {
 
 impl Mask {
     /// All is shown.
-    pub fn none(alloc: Global) -> Mask {
+    pub fn none(alloc: Global) -> Mask
+        ensures { result.hides ≡ false }
+    {
         Mask {
             hides: false,
             tags: Vec::new(alloc),
@@ -109,20 +116,26 @@ impl Mask {
 
     /// Reference data are not shown, nor objects with these tags, of which each stands between
     /// commas as hexadecimal digits. No tag is asked for where there are no words.
-    pub fn of(alloc: Global, words: &str) -> Result<Mask, BadTags> {
+    pub fn of(alloc: Global, words: &str) -> Result<Mask, BadTags>
+        ensures hides { IfOk result (λ mask. mask.hides ≡ true) }
+        ensures no_tags { words.now ≡ [] → IfOk result (λ mask. mask.tags.items ≡ []) }
+    {
         let mut tags = Vec::new(alloc);
         if words.is_empty() {
             return Ok(Mask { hides: true, tags });
         }
         for word in words.split(',') {
             let tag = tag_of(alloc, word)?;
-            push(&mut tags, tag)?;
+            tags.push(tag).map_err(AllocError::from)?;
         }
         Ok(Mask { hides: true, tags })
     }
 
     /// The same once more. The error is want of memory.
-    pub fn copied(&self, alloc: Global) -> Result<Mask, AllocError> {
+    pub fn copied(&self, alloc: Global) -> Result<Mask, AllocError>
+        ensures { IfOk result (λ mask. (mask.hides ≡ self.now.hides)
+            × (mask.tags.items ≡ self.now.tags.items)) }
+    {
         let mut tags = Vec::new(alloc);
         tags.extend_from_slice(self.tags.as_slice())?;
         let hides = self.hides;
@@ -131,7 +144,9 @@ impl Mask {
 
     /// Whether anything is not shown. Then nothing is of which it can't be known what it is: notes,
     /// characters out of turn, and a line that may be a header.
-    pub fn hides(&self) -> bool {
+    pub fn hides(&self) -> bool
+        ensures { result ≡ self.now.hides }
+    {
         self.hides
     }
 
@@ -149,55 +164,43 @@ impl Mask {
 
     /// What of these data is shown.
     pub fn shown(&self, origin: Origin) -> Shown
-        ensures all { self.now.hides ≡ false → result ≡ Shown.All }
-        ensures secret { self.now.hides ≡ true → is_secret origin.header.ins ≡ true →
-            result ≡ Shown.Nothing }
+        ensures { Shows self.now.hides self.now.tags.items origin result }
     {
         if !self.hides {
             return Shown::All;
         }
-        if is_secret(origin.header) {
+        if is_secret(origin.header.ins) {
             return Shown::Nothing;
         }
         if self.tags.is_empty() {
             return Shown::All;
         }
-        let Header { ins, p1, p2, .. } = origin.header;
-        match (ins, ObjectTag::from_p1p2(p1, p2)) {
-            (0xA4, _) if origin.way == Direction::ToCard => Shown::All,
-            (0xCA | 0xDA, Some(named)) => self.shown_of(named.tag(), origin),
-            _ if origin.goes_on || may_be_cut(origin.header) => Shown::Nothing,
-            _ => Shown::Objects,
+        self.shown_by_tags(origin)
+    }
+
+    /// What of data that are no secret is shown by the tags.
+    fn shown_by_tags(&self, origin: Origin) -> Shown
+        ensures { ShowsTagged self.now.tags.items origin result }
+    {
+        if is_name(origin.header.ins, origin.way) {
+            return Shown::All;
+        }
+        match named(origin.header) {
+            Some(tag) => self.shown_of(tag, origin.goes_on),
+            None => whole_or_nothing(origin.goes_on || may_be_cut(origin.header)),
         }
     }
 
-    /// What is shown of an object that P1-P2 name.
-    fn shown_of(&self, named: Tag, origin: Origin) -> Shown {
+    /// What is shown of an object with this tag, which P1-P2 name.
+    fn shown_of(&self, named: Tag, goes_on: bool) -> Shown
+        ensures { ShowsValue self.now.tags.items named goes_on result }
+    {
         if self.has(named) {
-            return Shown::Nothing;
-        }
-        match (named.is_constructed(), origin.goes_on) {
-            (false, _) => Shown::All,
-            (true, false) => Shown::Objects,
-            (true, true) => Shown::Nothing,
-        }
-    }
-
-    /// Adds data as lines: as a tree where they may be objects and are some, and else as digits,
-    /// with text beside them.
-    pub fn push_data(&self, text: &mut Draft, origin: Origin, may_be_objects: bool, bytes: &[u8]) {
-        match self.shown(origin) {
-            Shown::All => {
-                if !may_be_objects || !push_tree(text, bytes, self) {
-                    push_lines(text, bytes);
-                }
-            }
-            Shown::Objects => {
-                if !may_be_objects || !push_tree(text, bytes, self) {
-                    push_hidden_line(text);
-                }
-            }
-            Shown::Nothing => push_hidden_line(text),
+            Shown::Nothing
+        } else if named.is_constructed() {
+            whole_or_nothing(goes_on)
+        } else {
+            Shown::All
         }
     }
 
@@ -218,21 +221,46 @@ fn is_same(tag: Tag, other: Tag) -> bool
     tag.bytes() == other.bytes()
 }
 
-/// Whether the data of a command are secret, or may be: VERIFY, CHANGE REFERENCE DATA, DISABLE and
-/// ENABLE VERIFICATION REQUIREMENT, RESET RETRY COUNTER, of any class.
-fn is_secret(header: Header) -> bool
-    ensures { result ≡ is_secret header.ins }
+/// Whether the data are the name or path that SELECT has.
+fn is_name(ins: u8, way: Direction) -> bool
+    ensures { result ≡ is_name ins way }
 {
-    matches!(header.ins, 0x20 | 0x21 | 0x24 | 0x26 | 0x28 | 0x2C)
+    match way {
+        Direction::ToCard => ins == 0xA4,
+        Direction::FromCard => false,
+    }
+}
+
+/// The tag of the object that P1-P2 of GET DATA or PUT DATA name.
+fn named(header: Header) -> Option<Tag>
+    ensures some { IfSome result (Names header) }
+    ensures none { result ≡ None → (tag : List ℕ) → Names header tag → ⊥ }
+{
+    match header.ins {
+        0xCA | 0xDA => Some(ObjectTag::from_p1p2(header.p1, header.p2)?.tag()),
+        _ => None,
+    }
+}
+
+/// What is shown of objects, or of parts of some.
+fn whole_or_nothing(is_part: bool) -> Shown
+    ensures { result ≡ whole_or_nothing is_part }
+{
+    if is_part {
+        Shown::Nothing
+    } else {
+        Shown::Objects
+    }
 }
 
 /// Whether the data of a command may begin or end within an object: parts of a file or record that
 /// do not begin with it, what is fetched with nothing known before it, and ENVELOPE.
-fn may_be_cut(header: Header) -> bool {
+fn may_be_cut(header: Header) -> bool
+    ensures { result ≡ may_be_cut header }
+{
     let Header { ins, p1, p2, .. } = header;
     match ins {
-        0x0E | 0xB0 | 0xD0 | 0xD6 if p1 < 0x80 => p1 != 0 || p2 != 0,
-        0x0E | 0xB0 | 0xD0 | 0xD6 => p2 != 0,
+        0x0E | 0xB0 | 0xD0 | 0xD6 => p2 != 0 || (p1 < 0x80 && p1 != 0),
         0xB1 | 0xB3 | 0xC0 | 0xC2 | 0xC3 | 0xD1 | 0xD7 | 0xDD => true,
         _ => false,
     }
@@ -249,11 +277,6 @@ fn tag_of(alloc: Global, digits: &str) -> Result<Tag, BadTags> {
         Ok((tag, size)) if size == bytes.len() => Ok(tag),
         _ => Err(BadTags::Form),
     }
-}
-
-/// Adds a tag.
-fn push(tags: &mut Vec<Tag>, tag: Tag) -> Result<(), AllocError> {
-    tags.push(tag).map_err(AllocError::from)
 }
 
 /// Adds a line that shows nothing.

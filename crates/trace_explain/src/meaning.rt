@@ -1,21 +1,26 @@
 //! What is said of a status word (ISO/IEC 7816-4, 5.1.3).
 
 use crate::draft::Draft;
-use crate::instructions::counts_tries;
+use crate::instructions::{SIM_CLASS, counts_tries};
 use crate::phrases::unit_of;
-use crate::statuses::{KINDS, WORDS};
+use crate::statuses::{KINDS, SIM_WORDS, WORDS};
 use apdu_core::{Header, Status, count};
 
-/// The class of a SIM card, in which `9FXX` announces data (3GPP TS 51.011, 9.4.1).
-const SIM: u8 = 0xA0;
-
 /// How many bytes of the response wait after this status of a command: `count(XX)` of `61XX`, and
-/// of `9FXX` where the class is a SIM card's.
+/// of `9FXX` in the class of a SIM card (3GPP TS 51.011, 9.4.1).
 pub fn waiting(header: Header, status: Status) -> Option<u16> {
     match status.sw1() {
         0x61 => Some(count(status.sw2())),
-        0x9F if header.cla == SIM => Some(count(status.sw2())),
+        0x9F if header.cla == SIM_CLASS => Some(count(status.sw2())),
         _ => None,
+    }
+}
+
+/// Whether a command went well, or asks for one more: also `91XX` and `920X` of a SIM card.
+pub fn is_well(header: Header, status: Status) -> bool {
+    match (header.cla, status.sw1(), status.sw2()) {
+        (_, 0x6C, _) | (SIM_CLASS, 0x91, _) | (SIM_CLASS, 0x92, 0x00..=0x0F) => true,
+        _ => status.is_ok() || waiting(header, status).is_some(),
     }
 }
 
@@ -28,12 +33,36 @@ pub fn push_meaning(text: &mut Draft, header: Header, status: Status) {
         let unit = unit_of(u64::from(bytes));
         return write!(text, "wrong Le: {bytes} {unit} should have been asked for");
     }
-    match (status.sw1(), status.sw2()) {
-        (0x63, 0xC0..=0xCF) => push_counter(text, header, status.sw2() & 0x0F),
-        (0x62, 0x02..=0x80) => push_query(text, "a warning", status.sw2()),
-        (0x64, 0x02..=0x80) => push_query(text, "an error of execution", status.sw2()),
-        _ => text.push_str(fixed_meaning(status)),
+    match (header.cla, status.sw1(), status.sw2()) {
+        (_, 0x63, 0xC0..=0xCF) => push_counter(text, header, status.sw2() & 0x0F),
+        (_, 0x62, 0x02..=0x80) => push_query(text, "a warning", status.sw2()),
+        (_, 0x64, 0x02..=0x80) => push_query(text, "an error of execution", status.sw2()),
+        (SIM_CLASS, 0x91, bytes) => push_fetch(text, bytes),
+        (SIM_CLASS, 0x92, retries @ 0x00..=0x0F) => {
+            write!(
+                text,
+                "normal processing, with {retries} retries of an update"
+            );
+        }
+        (SIM_CLASS, 0x9E, bytes) => push_download(text, bytes),
+        _ => text.push_str(fixed_meaning(header, status)),
     }
+}
+
+/// Adds what `91XX` of a SIM card says (3GPP TS 51.011, 9.4.1).
+fn push_fetch(text: &mut Draft, bytes: u8) {
+    write!(
+        text,
+        "normal processing: a command of the card waits, of {bytes} bytes"
+    );
+}
+
+/// Adds what `9EXX` of a SIM card says (3GPP TS 51.011, 9.4.1).
+fn push_download(text: &mut Draft, bytes: u8) {
+    write!(
+        text,
+        "an error of data download: {bytes} bytes of the response wait"
+    );
 }
 
 /// Adds how many bytes wait: `6100` says that they are 256 or more (ISO/IEC 7816-3, 12).
@@ -68,18 +97,24 @@ fn push_query(text: &mut Draft, kind: &str, bytes: u8) {
     write!(text, "{kind}: the card has a query of {bytes} bytes");
 }
 
-/// What a status word means that counts nothing.
-fn fixed_meaning(status: Status) -> &'static str {
+/// What a status word means that counts nothing, in the class of a header.
+fn fixed_meaning(header: Header, status: Status) -> &'static str {
     let word = u16::from_be_bytes([status.sw1(), status.sw2()]);
-    for &(other, meaning) in &WORDS {
+    let own = match header.cla {
+        SIM_CLASS => meaning_in(&SIM_WORDS, word),
+        _ => None,
+    };
+    own.or(meaning_in(&WORDS, word))
+        .or(meaning_in(&KINDS, word & 0xFF00))
+        .unwrap_or("no meaning that is known here")
+}
+
+/// The meaning that a table gives a word.
+fn meaning_in(table: &'static [(u16, &'static str)], word: u16) -> Option<&'static str> {
+    for &(other, meaning) in table {
         if other == word {
-            return meaning;
+            return Some(meaning);
         }
     }
-    for &(sw1, meaning) in &KINDS {
-        if sw1 == status.sw1() {
-            return meaning;
-        }
-    }
-    "no meaning that is known here"
+    None
 }

@@ -116,13 +116,25 @@ impl Page {
         self.lines.clear();
     }
 
-    /// Adds what a row says behind so many digits, and ends it: the lines are its words.
-    pub fn push_rest(&mut self, side: Side, digits: usize) {
+    /// Adds what a row says behind so many bytes as digits, and ends it: the lines are its words.
+    pub fn push_rest(&mut self, side: Side, bytes: usize) {
         if self.tells() {
             let lines = self.lines.as_str();
             match self.layout.medium {
-                Medium::Text => text::push_rest(&mut self.out, digits, lines),
+                Medium::Text => text::push_rest(&mut self.out, bytes, lines),
                 Medium::Html => html::push_rest(&mut self.out, side, lines),
+            }
+        }
+        self.lines.clear();
+    }
+
+    /// Begins a row with this label, which goes on behind its first line: the lines are that.
+    pub fn begin_row(&mut self, side: Side, label: &str) {
+        if self.tells() {
+            let lines = self.lines.as_str();
+            match self.layout.medium {
+                Medium::Text => text::row(&mut self.out, side, label, lines),
+                Medium::Html => html::begin_row(&mut self.out, side, label, lines),
             }
         }
         self.lines.clear();

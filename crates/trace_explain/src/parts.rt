@@ -2,6 +2,7 @@
 
 use crate::draft::Draft;
 use apdu_core::Header;
+use tlv_core::ObjectTag;
 
 /// The most bytes of an identifier or a path that stands in a title.
 const LONGEST_NAME: usize = 16;
@@ -25,6 +26,17 @@ pub fn push_others(text: &mut Draft, header: Header) {
         return;
     }
     push_parameters(text, header);
+}
+
+/// Adds the tag of the object that P1-P2 name, or P1 and P2 if they name none.
+pub fn push_object(text: &mut Draft, header: Header) {
+    match ObjectTag::from_p1p2(header.p1, header.p2) {
+        Some(tag) => {
+            text.push_str(" of ");
+            text.push_hex(tag.tag().bytes());
+        }
+        None => push_others(text, header),
+    }
 }
 
 /// Adds what SELECT selects: P1 says what its data name, bits 2-1 of P2 which of several

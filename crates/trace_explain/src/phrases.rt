@@ -3,16 +3,15 @@
 use crate::command_name::push_command;
 use crate::draft::Draft;
 use crate::links::{Link, Links, Whole};
-use crate::story::{header_of, sent};
+use crate::outline::Outline;
 use crate::tally::Tally;
-use crate::tpdu::Tpdu;
 use apdu_core::count;
 use t0_core::Direction;
 
-/// Adds the title of a TPDU: its command by name, with its parts.
-pub fn push_title(text: &mut Draft, tpdu: &Tpdu) {
-    match header_of(tpdu) {
-        Some((header, _)) => push_command(text, header, sent(tpdu)),
+/// Adds the title of a TPDU: its command by name, with its parts, and what it selects.
+pub fn push_title(text: &mut Draft, outline: &Outline, selected: &[u8]) {
+    match outline.header {
+        Some((header, _)) => push_command(text, header, selected),
         None => text.push_str("part of a header"),
     }
 }
@@ -68,20 +67,17 @@ pub fn push_most(text: &mut Draft, le: u8) {
 
 /// Adds how far a TPDU came that was cut off: behind SW1, or within its header, or after how many
 /// of the bytes that P3 foresees, where some have come.
-pub fn push_cut_off(text: &mut Draft, tpdu: &Tpdu) {
-    if !tpdu.status.is_empty() {
-        text.push_str(" cut off\n");
-        return;
-    }
+pub fn push_cut_off(text: &mut Draft, outline: &Outline) {
     text.push_str("cut off");
-    match (header_of(tpdu), tpdu.way) {
+    match (outline.header, outline.way) {
+        _ if outline.has_sw1 => {}
         (None, _) => {
-            let came = tpdu.header.len();
+            let came = outline.came;
             write!(text, " after {came} of 5 characters");
         }
         (Some(_), None) => {}
         (Some((_, p3)), Some(way)) => {
-            let came = tpdu.moved.len();
+            let came = outline.moved;
             let foreseen = match way {
                 Direction::ToCard => u16::from(p3),
                 Direction::FromCard => count(p3),

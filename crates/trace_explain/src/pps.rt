@@ -1,12 +1,12 @@
 //! What is told of a PPS exchange, in plain words.
 
 use crate::answer::push_rate;
+use crate::ascii::push_hex_lines;
 use crate::draft::Draft;
 use crate::layout::{Kind, Side};
 use crate::mask::Mask;
 use crate::page::Page;
 use crate::preface::Preface;
-use crate::tree::push_hex_lines;
 use atr_core::{Pps, PpsFault, agreed};
 
 /// Adds the box of an exchange: the request with what it asks for, and the response, as far as they

@@ -71,11 +71,8 @@ impl Sheet {
     pub fn push_number(&mut self, number: u64)
         ensures { Adds self.old (decimal number) self.new }
     {
-        if self.is_cut {
-            return;
-        }
-        match write!(self.text, "{number}") {
-            Ok(()) => {}
+        match format!(in self.alloc; "{number}") {
+            Ok(digits) => self.push_str(digits.as_str()),
             Err(_) => self.is_cut = true,
         }
     }

@@ -5,23 +5,18 @@ ghost use Rattle.trace_explain.specs.declared.layout.Medium.TheVariants.{Html};
 ghost use Rattle.trace_explain.specs.Sheets.{Adds, PutsRow};
 ghost use Rattle.trace_explain.specs.Written.{character_text, content, data_before, data_end, data_row, header_row, hidden, letter, letters, line_before, line_behind, line_end, line_of, line_text, name_before, named, number_text, plain_header, quoted, status_before, status_text, width};
 
-use crate::ascii::is_text;
+use crate::ascii::{LINE_BYTES, LINE_TEXT, is_text};
 use crate::layout::{Medium, Side};
 use crate::mask::HIDDEN;
 use crate::sheet::Sheet;
 
-/// How many bytes of data stand in a line.
-const LINE_BYTES: usize = 40;
-
-/// The same of data that are text, which stands beside them.
-const LINE_TEXT: usize = 25;
-
-/// Adds the number of a TPDU.
+/// Adds the number of a TPDU, and a space.
 pub fn push_number(sheet: &mut Sheet, number: u64)
     ensures { Adds sheet.old (number_text number) sheet.new }
 {
     sheet.push_str("#");
     sheet.push_number(number);
+    sheet.push_str(" ");
 }
 
 /// Adds the line in which a TPDU begins, and ends its title.
@@ -116,13 +111,17 @@ fn name_before(place: usize) -> &'static str
     }
 }
 
-/// Begins the row of a status with its characters.
+/// Begins the row of a status with its characters, and a space if there are any.
 pub fn push_status(sheet: &mut Sheet, side: Side, status: &[u8])
     ensures { Adds sheet.old (status_text sheet.old.layout.medium side status.now) sheet.new }
 {
     let medium = sheet.layout().medium;
     sheet.push_str(status_before(medium, side));
+    if status.is_empty() {
+        return;
+    }
     sheet.push_hex(status);
+    sheet.push_str(" ");
 }
 
 /// What stands before a status.
@@ -139,21 +138,22 @@ fn status_before(medium: Medium, side: Side) -> &'static str
     }
 }
 
-/// Adds the row of data that are not shown.
-pub fn push_hidden(sheet: &mut Sheet, side: Side)
-    ensures { Adds sheet.old (data_row sheet.old.layout.medium side (hidden ∷ [])) sheet.new }
+/// Adds the row of data that are not shown, or the rest of a row.
+pub fn push_hidden(sheet: &mut Sheet, side: Side, is_first: bool)
+    ensures { Adds sheet.old (data_row sheet.old.layout.medium side is_first (hidden ∷ []))
+        sheet.new }
 {
     let medium = sheet.layout().medium;
-    sheet.push_str(data_before(medium, side, true));
+    sheet.push_str(data_before(medium, side, is_first));
     sheet.push_str(HIDDEN);
     sheet.push_str(line_end(medium));
     sheet.push_str(data_end(medium, side));
 }
 
-/// Adds the row of data as digits, with the text beside them where they are text: nothing where
-/// there are none.
-pub fn push_lines(sheet: &mut Sheet, side: Side, bytes: &[u8])
-    ensures { PutsRow sheet.old side bytes.now sheet.new }
+/// Adds the row of data as digits, or the rest of a row, with the text beside them where they are
+/// text: nothing where there are none.
+pub fn push_lines(sheet: &mut Sheet, side: Side, is_first: bool, bytes: &[u8])
+    ensures { PutsRow sheet.old side is_first bytes.now sheet.new }
 {
     if bytes.is_empty() {
         return;
@@ -161,12 +161,12 @@ pub fn push_lines(sheet: &mut Sheet, side: Side, bytes: &[u8])
     let is_text = is_text(bytes);
     let width = width(is_text);
     let mut rest = bytes;
-    let mut is_first = true;
+    let mut starts = is_first;
     'lines: while !rest.is_empty() {
         let (line, others) = cut(rest, width);
-        push_data_line(sheet, side, is_first, is_text, line);
+        push_data_line(sheet, side, starts, is_text, line);
         rest = others;
-        is_first = false;
+        starts = false;
     }
     let medium = sheet.layout().medium;
     sheet.push_str(data_end(medium, side));

@@ -81,28 +81,48 @@ pub static WORDS: [(u16, &str); 44] = [
     (0x6F00, "no precise diagnosis"),
 ];
 
-/// What a first status byte means, by table 5, where the word has no meaning of its own.
-pub static KINDS: [(u8, &str); 13] = [
-    (0x62, "a warning: what the card holds is unchanged"),
-    (0x63, "a warning: what the card holds may have changed"),
+/// The words of a SIM card, in its class `A0` (3GPP TS 51.011, 9.4).
+pub static SIM_WORDS: [(u16, &str); 12] = [
+    (0x9240, "memory problem"),
+    (0x9300, "the SIM application toolkit is busy"),
+    (0x9400, "no elementary file is selected"),
+    (0x9402, "out of range: invalid address"),
+    (0x9404, "file or pattern not found"),
+    (0x9408, "the command does not fit the file"),
+    (0x9802, "no CHV is initialized"),
     (
-        0x64,
+        0x9804,
+        "access condition not fulfilled, CHV wrong, or authentication failed",
+    ),
+    (0x9808, "in contradiction with the CHV status"),
+    (0x9810, "in contradiction with the invalidation status"),
+    (0x9840, "CHV wrong, and no try is left, or CHV is blocked"),
+    (0x9850, "increase not possible: the maximum is reached"),
+];
+
+/// What a first status byte means, by table 5, if the word has no meaning of its own: SW2 is `00`
+/// here.
+pub static KINDS: [(u16, &str); 13] = [
+    (0x6200, "a warning: what the card holds is unchanged"),
+    (0x6300, "a warning: what the card holds may have changed"),
+    (
+        0x6400,
         "an error of execution: what the card holds is unchanged",
     ),
     (
-        0x65,
+        0x6500,
         "an error of execution: what the card holds may have changed",
     ),
-    (0x66, "an error of execution, for security"),
-    (0x67, "an error of checking, of the length"),
+    (0x6600, "an error of execution, for security"),
+    (0x6700, "an error of checking, of the length"),
     (
-        0x68,
+        0x6800,
         "an error of checking: a function in CLA is not supported",
     ),
-    (0x69, "an error of checking: the command is not allowed"),
-    (0x6A, "an error of checking: wrong parameters"),
-    (0x6B, "an error of checking"),
-    (0x6D, "an error of checking"),
-    (0x6E, "an error of checking"),
-    (0x6F, "an error of checking"),
+    (0x6900, "an error of checking: the command is not allowed"),
+    (0x6A00, "an error of checking: wrong parameters"),
+    (0x6B00, "an error of checking"),
+    (0x6D00, "an error of checking"),
+    (0x6E00, "an error of checking"),
+    (0x6F00, "an error of checking"),
 ];

@@ -1,7 +1,8 @@
 //! What goes over several TPDUs: their numbers, chains, and responses in parts.
 
-ghost use Rattle.std.specs.Prelude.{◌≡◌, get_or, length, IfOk, IfSome, IsSome};
-ghost use Rattle.trace_explain.specs.Told.{one_more};
+ghost use Rattle.std.specs.Prelude.{◌≡◌, ◌≢◌, length, None, Some, IfOk, IfSome, IsSome};
+ghost use Rattle.trace_explain.specs.Boxes.{HasAsker};
+ghost use Rattle.trace_explain.specs.Told.{IsOfCommand, one_more};
 
 use crate::chain::{ChainHeard, VALUE_LIMIT};
 use crate::links::{Link, Links, Whole};
@@ -35,6 +36,7 @@ impl Story {
     pub fn tell(&mut self, tpdu: &Tpdu) -> Result<Links, AllocError>
         ensures next { self.new.number ≡ one_more self.old.number }
         ensures number { IfOk result (λ links. links.number ≡ self.new.number) }
+        ensures asker { IfOk result (HasAsker tpdu.now.header.items) }
     {
         self.number = self.number.saturating_add(1);
         match (header_of(tpdu), status_of(tpdu)) {
@@ -54,6 +56,8 @@ impl Story {
     ) -> Result<Links, AllocError>
         ensures stays { self.new.number ≡ self.old.number }
         ensures number { IfOk result (λ links. links.number ≡ self.old.number) }
+        ensures asker { IfOk result (λ links.
+            header.ins ≢ 0xC0 → links.asker ≡ Some header) }
     {
         let drops_before = self.chain.is_pending() && !self.chain.goes_on_with(header);
         let piece = self.chain.link_of(header);
@@ -81,13 +85,13 @@ impl Story {
     /// How a TPDU with this header, and this P3 or Le, goes on with those before it, and its data
     /// with theirs.
     fn linked(&self, tpdu: &Tpdu, header: Header, le: u8) -> Links
-        ensures { result.number ≡ self.now.number }
+        ensures number { result.number ≡ self.now.number }
+        ensures asker { header.ins ≢ 0xC0 → result.asker ≡ Some header }
     {
         let is_asked = self.response.link_of(header, le) != Link::None;
-        let asker = if is_asked {
-            self.response.asker()
-        } else {
-            Some(header)
+        let asker = match header.ins {
+            0xC0 if is_asked => self.response.asker(),
+            _ => Some(header),
         };
         let answer_goes_on = is_asked && self.response.has_come();
         let goes_on = match tpdu.way {
@@ -154,7 +158,8 @@ impl Story {
 
     /// A TPDU that goes on so with those before it, and does nothing else to them.
     fn with(&self, link: Link) -> Links
-        ensures { result.number ≡ self.now.number }
+        ensures number { result.number ≡ self.now.number }
+        ensures asker { result.asker ≡ None }
     {
         Links {
             number: self.number,
@@ -171,7 +176,7 @@ impl Story {
 
 /// The whole header of a TPDU, and P3.
 pub fn header_of(tpdu: &Tpdu) -> Option<(Header, u8)>
-    ensures ins { IfSome result (λ found. found.0.ins ≡ get_or tpdu.now.header.items 1 0) }
+    ensures header { IfSome result (λ found. IsOfCommand tpdu.now.header.items found.0) }
     ensures whole { length tpdu.now.header.items ≡ 5 → IsSome result }
 {
     match tpdu.header.as_slice() {

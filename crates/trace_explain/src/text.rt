@@ -17,7 +17,7 @@ pub fn open(out: &mut Draft, title: &str, line: u64) {
 
 /// Adds the title of a TPDU's box behind its number, and goes on to where its line is told.
 pub fn push_numbered(out: &mut Draft, title: &str, number: u64, line: u64) {
-    push_title(out, title, "#".len().saturating_add(digits(number)), line);
+    push_title(out, title, "# ".len().saturating_add(digits(number)), line);
 }
 
 /// Adds a title that begins in this column, and goes on to where its line is told.
@@ -57,9 +57,10 @@ pub fn row(out: &mut Draft, side: Side, label: &str, lines: &str) {
     }
 }
 
-/// Adds what a row says behind so many digits, and ends it.
-pub fn push_rest(out: &mut Draft, digits: usize, lines: &str) {
-    let mut begins = ROW_INDENT.saturating_add(digits);
+/// Adds what a row says behind so many bytes as digits, and a space if there are any, and ends it.
+pub fn push_rest(out: &mut Draft, bytes: usize, lines: &str) {
+    let space = usize::from(bytes > 0);
+    let mut begins = ROW_INDENT.saturating_add(bytes.saturating_mul(2).saturating_add(space));
     for line in lines.lines() {
         if begins == 0 {
             out.push_str("               ");

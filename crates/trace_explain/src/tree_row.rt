@@ -22,15 +22,16 @@ const VALUE_TEXT: usize = 15;
 /// What stands in the place of a value that is not shown.
 const NO_VALUE: &str = " **";
 
-/// Adds a row of data that are a list of objects, with a line for each object, two spaces further
-/// in for each level below the first, and more lines for a long value, but for values that are not
-/// shown. Nothing where they are no list of objects, or hold none; it answers whether it has.
-pub fn push_tree(sheet: &mut Sheet, side: Side, bytes: &[u8], mask: &Mask) -> bool
-    ensures { PutsTreeRow result mask.now.tags.items side bytes.now sheet.old sheet.new }
+/// Adds a row of data that are a list of objects, or the rest of a row, with a line for each
+/// object, two spaces further in for each level below the first, and more lines for a long value,
+/// but for values that are not shown. Nothing where they are no list of objects, or hold none; it
+/// answers whether it has.
+pub fn push_tree(sheet: &mut Sheet, side: Side, is_first: bool, bytes: &[u8], mask: &Mask) -> bool
+    ensures { PutsTreeRow result mask.now.tags.items side is_first bytes.now sheet.old sheet.new }
 {
     match Objects::over(bytes) {
         Ok(objects) => {
-            if push_objects(sheet, side, true, objects, mask) {
+            if !push_objects(sheet, side, is_first, objects, mask) {
                 return false;
             }
             let medium = sheet.layout().medium;
@@ -41,7 +42,7 @@ pub fn push_tree(sheet: &mut Sheet, side: Side, bytes: &[u8], mask: &Mask) -> bo
     }
 }
 
-/// Adds the lines of objects; it answers whether the next line is still the first of the row.
+/// Adds the lines of objects; it answers whether there are any.
 fn push_objects(
     sheet: &mut Sheet,
     side: Side,
@@ -54,6 +55,7 @@ fn push_objects(
 {
     let mut objects = objects;
     let mut starts = is_first;
+    let mut some = false;
     'listing: while let Some(object) = objects.next() {
         let tag = object.tag();
         let level = object.level();
@@ -66,8 +68,9 @@ fn push_objects(
             push_value(sheet, side, starts, level, tag, object.value());
         }
         starts = false;
+        some = true;
     }
-    starts
+    some
 }
 
 /// Adds the line of an object, with these words behind its tag.

@@ -15,7 +15,8 @@ listing-preserved-then-has t c =
     let g = c.in-Some.ensures.steps in
     past_masked c.args.mask.now.tags.items c.args.side c.args.is_first c.args.objects
     c.listing.objects c.next.new.self c.args.sheet.now c.listing.sheet c.push_line.new.sheet
-    c.listing.starts g.0.0 c.in-Some.object.tag c.in-Some.object.size c.in-Some.object.value
+    c.listing.starts c.listing.some g.0.0 c.in-Some.object.tag c.in-Some.object.size
+    c.in-Some.object.value
     c.tag-tag.result c.level-level.result c.listing.invariant g.0.1 g.2 c.tag-tag.ensures
     (c.level-level.ensures ∙ g.1) (c.has.ensures.0 c.if-has.true) c.push_line.ensures
 
@@ -24,7 +25,7 @@ listing-preserved-in-Some-children t c =
     let g = c.in-Some.ensures.steps in
     past_template c.args.mask.now.tags.items c.args.side c.args.is_first c.args.objects
     c.listing.objects c.next.new.self c.in-Some-children.children c.args.sheet.now c.listing.sheet
-    c.push_line-in-Some-children.new.sheet c.push_objects.new.sheet c.listing.starts
+    c.push_line-in-Some-children.new.sheet c.push_objects.new.sheet c.listing.starts c.listing.some
     c.push_objects.result g.0.0 c.in-Some.object.tag c.in-Some.object.size c.in-Some.object.value
     c.tag-tag.result c.level-level.result c.in-Some.object.level c.listing.invariant g.0.1 g.2
     c.tag-tag.ensures (c.level-level.ensures ∙ g.1) g.1
@@ -38,7 +39,8 @@ listing-preserved t c =
     let g = c.in-Some.ensures.steps in
     past_primitive c.args.mask.now.tags.items c.args.side c.args.is_first c.args.objects
     c.listing.objects c.next.new.self c.args.sheet.now c.listing.sheet c.push_value.new.sheet
-    c.listing.starts g.0.0 c.in-Some.object.tag c.in-Some.object.size c.in-Some.object.value
+    c.listing.starts c.listing.some g.0.0 c.in-Some.object.tag c.in-Some.object.size
+    c.in-Some.object.value
     c.tag-tag.result c.value.result.now c.level-level.result c.listing.invariant g.0.1 g.2
     c.tag-tag.ensures c.value.ensures (c.level-level.ensures ∙ g.1)
     (λ h. let e = c.has.ensures.1 h in absurd (cc (e, c.if-has.false)))
@@ -52,5 +54,5 @@ returns t c =
       i.lines,
       subst P (append-nil i.lines) (i.leads _ (no_object c.in_default.ensures.steps.0 refl)),
       i.adds,
-      i.still,
+      i.has,
     )

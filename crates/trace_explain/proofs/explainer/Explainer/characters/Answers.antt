@@ -116,7 +116,7 @@ returns-in-Some-2-clause-stops c = λ events before h.
       | else-begun w ↦ first_fails begun begins nothing (stage_is ∙ w.if-begun.false)
     ] in
     stops_rightly c.stop.result start place c.args.ahead c.hear.new.self.line c.args.self.now.line
-    (is_astray c.hear.new.self) after
+    (is_astray c.hear.new.self) c.hear.new.self.mask.hides after
     c.args.from bytes heard events before c.args.self.now c.hear.new.self
     (c.stop.ensures.stopped hears_so.1.resumes)
     (kept.4 ∙ opened.line ∙ c.is_passed_over.ensures.counts)

@@ -4,6 +4,8 @@
  *   session      a session, which joins both ends
  *   buffers      a terminal and a card, whose characters pass by buffers
  *   characters   the same, a character at a time
+ *   tpdus        the same, by whole TPDUs
+ *   apdus        the same, by whole commands; a character is one of those of the TPDUs
  *   by_hand      the two ends of ends_by_hand.c, a character at a time
  */
 #define _POSIX_C_SOURCE 199309L
@@ -156,6 +158,42 @@ static uint16_t buffers_carry_out(const struct load *load, size_t *len)
     }
 }
 
+static void pass_tpdu(const uint8_t *tpdu, size_t n)
+{
+    static uint8_t came[GT_ANSWER_LIMIT];
+    size_t size;
+    need(gt_card_tpdu(&card, tpdu, n, came, sizeof came, &size) == GT_OK
+         && gt_terminal_answered(&terminal, came, size) == GT_OK, "a TPDU");
+}
+
+static uint16_t tpdus_carry_out(const struct load *load, size_t *len)
+{
+    uint8_t tpdu[GT_TPDU_LIMIT];
+    size_t n, most;
+    begin(load);
+    while (gt_terminal_tpdu(&terminal, tpdu, &n, &most) == GT_OK)
+        pass_tpdu(tpdu, n);
+    return answer(len);
+}
+
+static void pass_apdu(const uint8_t *apdu, size_t n)
+{
+    static uint8_t came[GT_ANSWER_LIMIT];
+    size_t size;
+    need(gt_card_apdu(&card, apdu, n, came, sizeof came, &size) == GT_OK
+         && gt_terminal_responded(&terminal, came, size) == GT_OK, "a command");
+}
+
+static uint16_t apdus_carry_out(const struct load *load, size_t *len)
+{
+    uint8_t apdu[GT_APDU_LIMIT];
+    size_t n, most;
+    begin(load);
+    while (gt_terminal_apdu(&terminal, apdu, &n, &most) == GT_OK)
+        pass_apdu(apdu, n);
+    return answer(len);
+}
+
 /* ---- The two ends by hand -------------------------------------------------------------------- */
 
 static struct terminal hand_terminal;
@@ -211,6 +249,8 @@ static const struct way {
     { "session", session_start, session_carry_out },
     { "buffers", ends_start, buffers_carry_out },
     { "characters", ends_start, characters_carry_out },
+    { "tpdus", ends_start, tpdus_carry_out },
+    { "apdus", ends_start, apdus_carry_out },
     { "by_hand", hand_start, hand_carry_out },
 };
 
@@ -238,7 +278,7 @@ static void check_characters(const struct way *way, const struct load *load)
     size_t count = 0;
     carry_out(way, load);
     if (way->start == session_start)
-        (void)gt_session_heard(&session, NULL, 0, &count);
+        need(gt_session_heard(&session, NULL, 0, &count) == GT_BUFFER, "characters");
     else if (way->start == hand_start)
         count = passed;
     need(count == 0 || count == load->characters, "another number of characters");
@@ -271,6 +311,6 @@ int main(int argc, char **argv)
             measure(&WAYS[i], &LOADS[j]);
         return 0;
     }
-    fail("one word: session, buffers, characters or by_hand");
+    fail("one word: session, buffers, characters, tpdus, apdus or by_hand");
     return 1;
 }

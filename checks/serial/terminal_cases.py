@@ -167,6 +167,24 @@ def statuses():
                "= 9000\n= 9000 5F2081FCFF00FF" + "FF" * 249 + "\n")
 
 
+def verified():
+    """With --verify each put is read back before the next operation."""
+    put = ["put", "5F20", "414E4E"]
+    stored = "< 3B00 > 00DA5F2003 < DA > 414E4E < 9000 > 00CA5F2000 < 6C06 > 00CA5F2006 "
+    differs = "operation 1: 5F20 was not stored as sent\n"
+    verify = ["--verify"]
+    yield Case("a put that is stored as sent", stored + "< CA5F2003414E4E9000 " + GET_WORDS,
+               [*put, *GET], "= 9000\n" + GOT, options=verify)
+    yield Case("a put that is not", stored + "< CA5F2003414E4F9000 ", [*put, *GET], "= 9000\n",
+               differs, 1, options=verify)
+    yield Case("a put that is not, and -k", stored + "< CA5F2003414E4F9000 " + GET_WORDS,
+               [*put, *GET], "= 9000\n" + GOT, differs, 1, options=["-k", *verify])
+    yield Case("a put that is read back by a card that is silent", stored, put, "= 9000\n",
+               "operation 1: the card is silent\n", 1, options=verify, waits=1.0)
+    yield Case("a put that is refused is not read back", "< 3B00 > 00DA5F2003 < 6982 " + GET_WORDS,
+               [*put, *GET], "= 6982\n" + GOT, status=1, options=["-k", *verify])
+
+
 def answers():
     """Answers to reset that are none, or that say what this terminal does not do."""
     none = "the answer to reset is none: "
@@ -471,7 +489,8 @@ def gaps():
 
 def all_cases():
     """The cases that are a dialogue each."""
-    parts = (sessions, statuses, answers, meanings, waiting, noise, early, echoes, pps, gaps)
+    parts = (sessions, statuses, verified, answers, meanings, waiting, noise, early, echoes, pps,
+             gaps)
     return [of_session(case) for part in parts for case in part()]
 
 

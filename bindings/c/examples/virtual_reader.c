@@ -3,10 +3,14 @@
  * It is an IFD handler: pcscd loads it, as bindings/c/README.md says, and then shows a reader with
  * a card in it to every PC/SC client. A card's tables and its answer to reset come from the file
  * that the reader's DEVICENAME names, of `app`, `object`, `locked` and `atr` lines. What clients
- * store lasts until pcscd lets the reader go.
+ * store lasts until pcscd lets the reader go, or the file is taken away: that takes the card out,
+ * and a file of the same name puts a new card in.
  *
- * A TPDU is carried out as a reader's firmware does: `61XX` and `6CXX` reach the client, which
- * sends GET RESPONSE or asks again by itself. An Le behind data is dropped. */
+ * The card talks what its answer to reset offers. At T=0 a TPDU is carried out as a reader's
+ * firmware does: `61XX` and `6CXX` reach the client, which sends GET RESPONSE or asks again by
+ * itself. An Le behind data is dropped. At T=1, and for a card without contacts, the card answers
+ * whole commands. */
+#include "contactless.h"
 #include "table.h"
 
 #include <ifdhandler.h>
@@ -14,8 +18,8 @@
 #include <errno.h>
 #include <string.h>
 
-/* what a SCARD_IO_HEADER says of T=0 */
-#define PROTOCOL_T0 0
+/* the most bytes of a file's name, with the NUL behind it */
+#define NAME_ROOM 1024
 
 /* as many readers as a pcscd has */
 #define READERS_LIMIT PCSCLITE_MAX_READERS_CONTEXTS
@@ -24,7 +28,10 @@
  * this handler, since TAG_IFD_THREAD_SAFE is not answered. */
 struct virtual_reader {
     int is_used, is_powered;
+    int has_card;
+    int is_refused;         /* the file is no table: it has to go before another is read */
     DWORD lun;
+    char name[NAME_ROOM];   /* of the table's file */
     struct table table;
 };
 
@@ -52,24 +59,39 @@ static struct virtual_reader *free_reader(void)
     return NULL;
 }
 
+/* Reads the table anew if the file has come, and drops it if the file has gone. */
+static void look_at_file(struct virtual_reader *reader)
+{
+    FILE *file = fopen(reader->name, "r");
+    if (file == NULL) {
+        gt_card_free(&reader->table.card);
+        reader->has_card = reader->is_powered = reader->is_refused = 0;
+        return;
+    }
+    if (!reader->has_card && !reader->is_refused) {
+        reader->has_card = table_read(file, reader->name, &reader->table) == GT_OK;
+        reader->is_refused = !reader->has_card;
+    }
+    fclose(file);
+}
+
+/* The file has to be there now, so that a name that is misspelt shows. */
 RESPONSECODE IFDHCreateChannelByName(DWORD Lun, LPSTR DeviceName)
 {
     struct virtual_reader *reader = reader_of(Lun) == NULL ? free_reader() : NULL;
-    FILE *file;
-    int32_t code;
-    if (reader == NULL)
+    const size_t n = strlen(DeviceName);
+    if (reader == NULL || n >= NAME_ROOM)
         return IFD_COMMUNICATION_ERROR;
-    file = fopen(DeviceName, "r");
-    if (file == NULL) {
-        fprintf(stderr, "%s: %s\n", DeviceName, strerror(errno));
+    memset(reader, 0, sizeof *reader);
+    memcpy(reader->name, DeviceName, n);
+    errno = 0;
+    look_at_file(reader);
+    if (!reader->has_card) {
+        if (!reader->is_refused)
+            fprintf(stderr, "%s: %s\n", DeviceName, strerror(errno));
         return IFD_COMMUNICATION_ERROR;
     }
-    code = table_read(file, DeviceName, &reader->table);
-    fclose(file);
-    if (code != GT_OK)
-        return IFD_COMMUNICATION_ERROR;
     reader->is_used = 1;
-    reader->is_powered = 0;
     reader->lun = Lun;
     return IFD_SUCCESS;
 }
@@ -137,17 +159,32 @@ RESPONSECODE IFDHSetCapabilities(DWORD Lun, DWORD Tag, DWORD Length, PUCHAR Valu
     return IFD_NOT_SUPPORTED;
 }
 
-/* The card talks T=0 alone, with no parameters to choose. */
+/* Whether the card's answer to reset offers a protocol. One that is no such answer offers T=0. */
+static int is_offered(const struct virtual_reader *reader, DWORD t)
+{
+    const struct table *table = &reader->table;
+    gt_atr says;
+    size_t place;
+    if (gt_atr_read(table->atr, table->atr_size, &says, &place) != GT_OK)
+        return t == 0;
+    return t < 2 && memchr(says.protocols, (int)t, says.protocol_count) != NULL;
+}
+
+/* There are no parameters to choose. */
 RESPONSECODE IFDHSetProtocolParameters(DWORD Lun, DWORD Protocol, UCHAR Flags, UCHAR PTS1,
                                        UCHAR PTS2, UCHAR PTS3)
 {
+    const struct virtual_reader *reader = reader_of(Lun);
     (void)Flags;
     (void)PTS1;
     (void)PTS2;
     (void)PTS3;
-    if (reader_of(Lun) == NULL)
+    if (reader == NULL)
         return IFD_NO_SUCH_DEVICE;
-    return Protocol == SCARD_PROTOCOL_T0 ? IFD_SUCCESS : IFD_PROTOCOL_NOT_SUPPORTED;
+    if (Protocol != SCARD_PROTOCOL_T0 && Protocol != SCARD_PROTOCOL_T1)
+        return IFD_PROTOCOL_NOT_SUPPORTED;
+    return is_offered(reader, Protocol == SCARD_PROTOCOL_T1) ? IFD_SUCCESS
+                                                             : IFD_PROTOCOL_NOT_SUPPORTED;
 }
 
 RESPONSECODE IFDHPowerICC(DWORD Lun, DWORD Action, PUCHAR Atr, PDWORD AtrLength)
@@ -163,30 +200,69 @@ RESPONSECODE IFDHPowerICC(DWORD Lun, DWORD Action, PUCHAR Atr, PDWORD AtrLength)
     return copy_atr(reader, MAX_ATR_SIZE, Atr, AtrLength);
 }
 
+/* Carries out a TPDU. */
+static RESPONSECODE carry_out_tpdu(struct virtual_reader *reader, const UCHAR *sent, size_t n,
+                                   UCHAR *answer, PDWORD length)
+{
+    size_t size;
+    /* the Le that clients send behind data is in no TPDU of T=0 */
+    if (n > 5 && sent[4] > 0 && n == (size_t)6 + sent[4])
+        n--;
+    if (gt_card_tpdu(&reader->table.card, sent, n, answer, *length, &size) != GT_OK)
+        return IFD_COMMUNICATION_ERROR;
+    *length = (DWORD)size;
+    return IFD_SUCCESS;
+}
+
+/* The status of a card that can't take the bytes, or has no memory for the response. */
+static uint16_t status_of(int32_t code)
+{
+    switch (code) {
+    case GT_INVALID_INS: return 0x6D00;
+    case GT_MEMORY: return 0x6581;
+    default: return 0x6700;
+    }
+}
+
+/* Carries out a command. There is always a response; a client may lack the room for it. */
+static RESPONSECODE carry_out_apdu(struct virtual_reader *reader, const UCHAR *sent, size_t n,
+                                   UCHAR *answer, PDWORD length)
+{
+    UCHAR response[GT_ANSWER_LIMIT];
+    size_t size = 2;
+    const int32_t code =
+        gt_card_apdu(&reader->table.card, sent, n, response, sizeof response, &size);
+    if (code != GT_OK) {
+        response[0] = (UCHAR)(status_of(code) >> 8);
+        response[1] = (UCHAR)status_of(code);
+    }
+    if (*length < size)
+        return IFD_ERROR_INSUFFICIENT_BUFFER;
+    memcpy(answer, response, size);
+    *length = (DWORD)size;
+    return IFD_SUCCESS;
+}
+
 RESPONSECODE IFDHTransmitToICC(DWORD Lun, SCARD_IO_HEADER SendPci, PUCHAR TxBuffer, DWORD TxLength,
                                PUCHAR RxBuffer, PDWORD RxLength, PSCARD_IO_HEADER RecvPci)
 {
     struct virtual_reader *reader = reader_of(Lun);
-    const size_t room = *RxLength;
-    size_t length = 0;
-    int32_t code;
-    *RxLength = 0;
+    RESPONSECODE code;
     if (reader == NULL)
-        return IFD_NO_SUCH_DEVICE;
-    if (SendPci.Protocol != PROTOCOL_T0)
-        return IFD_PROTOCOL_NOT_SUPPORTED;
-    if (!reader->is_powered)
-        return IFD_COMMUNICATION_ERROR;
-    /* the Le that clients send behind data is in no TPDU of T=0 */
-    if (TxLength > 5 && TxBuffer[4] > 0 && TxLength == 6UL + TxBuffer[4])
-        TxLength--;
-    code = gt_card_tpdu(&reader->table.card, TxBuffer, TxLength, RxBuffer, room, &length);
-    if (code != GT_OK)
-        return IFD_COMMUNICATION_ERROR;
-    *RxLength = (DWORD)length;
-    if (RecvPci != NULL)
-        RecvPci->Protocol = PROTOCOL_T0;
-    return IFD_SUCCESS;
+        code = IFD_NO_SUCH_DEVICE;
+    else if (!is_offered(reader, SendPci.Protocol))
+        code = IFD_PROTOCOL_NOT_SUPPORTED;
+    else if (!reader->is_powered)
+        code = IFD_COMMUNICATION_ERROR;
+    else if (SendPci.Protocol == 1 || is_contactless(reader->table.atr, reader->table.atr_size))
+        code = carry_out_apdu(reader, TxBuffer, TxLength, RxBuffer, RxLength);
+    else
+        code = carry_out_tpdu(reader, TxBuffer, TxLength, RxBuffer, RxLength);
+    if (code != IFD_SUCCESS)
+        *RxLength = 0;
+    else if (RecvPci != NULL)
+        RecvPci->Protocol = SendPci.Protocol;
+    return code;
 }
 
 RESPONSECODE IFDHControl(DWORD Lun, DWORD dwControlCode, PUCHAR TxBuffer, DWORD TxLength,
@@ -204,5 +280,9 @@ RESPONSECODE IFDHControl(DWORD Lun, DWORD dwControlCode, PUCHAR TxBuffer, DWORD 
 
 RESPONSECODE IFDHICCPresence(DWORD Lun)
 {
-    return reader_of(Lun) != NULL ? IFD_ICC_PRESENT : IFD_NO_SUCH_DEVICE;
+    struct virtual_reader *reader = reader_of(Lun);
+    if (reader == NULL)
+        return IFD_NO_SUCH_DEVICE;
+    look_at_file(reader);
+    return reader->has_card ? IFD_ICC_PRESENT : IFD_ICC_NOT_PRESENT;
 }

@@ -1,5 +1,5 @@
-/* galliumtoad.h: data objects of smart cards, answers to reset, and both ends of a T=0 dialogue,
- * for C99 and C++.
+/* galliumtoad.h: data objects of smart cards, answers to reset, and both ends of a dialogue by T=0
+ * or by whole commands, for C99 and C++.
  *
  * The functions are those of a proved library: what a comment below says of answers and of the
  * state after them is its contract, proved of the machine's library. This header is tested, not
@@ -27,8 +27,9 @@
  * Every function but those of texts, of the version, gt_is_object and the .._free ones answers a
  * code of the list below: 0 or above where it went well, below 0 a fault: compare with < 0, not
  * with != 0. The numbers are fixed. A function's comment names all faults that it may answer, but
- * for two: GT_NULL (above), and GT_EMPTY, which each function with a handle answers where that
- * holds nothing, unless its comment says otherwise. Where more than one holds it is the first of
+ * for three: GT_NULL (above), GT_EMPTY, which each function with a handle answers where that holds
+ * nothing, unless its comment says otherwise, and GT_STATE of an operation at the other level (see
+ * `gt_exchange_apdu`). Where more than one holds it is the first of
  * GT_NULL, GT_EMPTY, GT_STATE, and then of the comment's, in its order; in gt_session_start and
  * gt_session_end, which have two handles, GT_STATE comes before GT_EMPTY. After a fault nothing has
  * changed, neither the handle nor what the other pointers point to, but for what the comment says.
@@ -133,11 +134,11 @@ enum {
     GT_BAD_LENGTH = -51,    /* the bytes after the header fit none of the four cases */
     GT_INVALID_INS = -52,   /* INS is 6X or 9X */
 
-    /* of whole TPDUs */
-    GT_NOT_DUE = -60,       /* no TPDU is about to begin */
+    /* of whole TPDUs and commands */
+    GT_NOT_DUE = -60,       /* no TPDU or command is about to begin */
     GT_NO_STATUS = -61,     /* the answer does not end in a status word */
-    GT_NOT_ASKED = -62,     /* data came back, and the TPDU asks for none */
-    GT_TOO_MANY = -63,      /* more data came back than the TPDU asks for */
+    GT_NOT_ASKED = -62,     /* data came back, and the TPDU or command asks for none */
+    GT_TOO_MANY = -63,      /* more data came back than the TPDU or command asks for */
     GT_NO_TPDU = -64,       /* the bytes are no whole TPDU */
     GT_WANTS_DATA = -65,    /* the card takes data, and the TPDU has none: both ends would wait */
     GT_SENDS_DATA = -66,    /* the card sends data, and the TPDU asks for none */
@@ -197,7 +198,7 @@ GT_FUNCTION const char *gt_text(int32_t code) {
     case GT_TOO_SHORT: return "command too short";
     case GT_BAD_LENGTH: return "bad command length";
     case GT_INVALID_INS: return "invalid INS";
-    case GT_NOT_DUE: return "no TPDU due";
+    case GT_NOT_DUE: return "nothing due";
     case GT_NO_STATUS: return "no status";
     case GT_NOT_ASKED: return "data not asked for";
     case GT_TOO_MANY: return "more data than asked for";
@@ -260,7 +261,8 @@ enum {
     GT_ENTRIES_LIMIT = 64,      /* the most data objects of an application */
     GT_LEVELS_LIMIT = 16,       /* the deepest level of a list of objects */
     GT_TPDU_LIMIT = 260,        /* the most bytes of a whole TPDU: header, P3 and 255 of data */
-    GT_ANSWER_LIMIT = 258,      /* of the answer to one: 256 of data, and the status */
+    GT_APDU_LIMIT = 261,        /* of a command: header, Lc, 255 of data and Le */
+    GT_ANSWER_LIMIT = 258,      /* of the answer to either: 256 of data, and the status */
     GT_ATR_LIMIT = 33,          /* of an answer to reset */
     GT_PROTOCOLS_LIMIT = 15,    /* the most protocols that it offers: T=0 to T=14 */
     GT_PPS_LIMIT = 6,           /* the most bytes of a PPS request or response */
@@ -289,6 +291,7 @@ typedef struct {
 enum { GT_DIRECT = 0, GT_INVERSE = 1 };
 enum { GT_STOP_NONE = 0, GT_STOP_LOW = 1, GT_STOP_HIGH = 2, GT_STOP_EITHER = 3 };
 enum { GT_CLASS_A = 1, GT_CLASS_B = 2, GT_CLASS_C = 4 };
+enum { GT_LRC = 1, GT_CRC = 2 };
 
 /* The form of historical bytes, by the first of them (ISO/IEC 7816-4, 12.1.1). */
 enum {
@@ -299,6 +302,25 @@ enum {
     GT_HISTORY_RESERVED = 4,    /* 81 to 8F */
     GT_HISTORY_OWN = 5          /* any other: the maker's own form */
 };
+
+/* What an answer to reset says of T=1, by the first TA, TB and TC for T=1 or, where they are not
+ * there, by the standard's defaults (ISO/IEC 7816-3, clause 11). */
+typedef struct {
+    uint8_t ifsc;               /* IFSC, 1 to 254: the longest field of a block that the card takes;
+                                 * 0: reserved */
+    uint8_t edc;                /* the error detection code, by the number of its bytes: GT_LRC or
+                                 * GT_CRC; 0: reserved */
+    uint8_t bwi;                /* BWI, 0 to 9; 0 with bwt_etu 0: reserved */
+    uint8_t cwi;                /* CWI, 0 to 15 */
+    uint16_t cwt_etu;           /* CWT: the most from one character of a block to the next, in etu:
+                                 * 11 + 2^CWI */
+    uint16_t bwt_etu;           /* BWT: the most from the last character of a block to the card to
+                                 * the first of its answer, in etu: 11; 0: BWI is reserved .. */
+    uint16_t bgt_etu;           /* BGT: the least from the last character of a block to the first of
+                                 * one the other way, in etu: 22 */
+    uint64_t bwt_cycles;        /* .. and as many clock cycles more, 2^BWI * 960 * 372; 0 with
+                                 * bwt_etu. An S(WTX) multiplies both for one block */
+} gt_atr_t1;
 
 /* What an answer to reset says, by its characters or, where they are not there, by the standard's
  * defaults (ISO/IEC 7816-3, 8.2 and 8.3). Of what is said by a code that is reserved, it is 0. */
@@ -328,30 +350,33 @@ typedef struct {
     uint16_t guard_etu_t1;      /* .. and in T=1 .. */
     uint16_t guard_indicated;   /* .. and in each as many times Fi/Di clock cycles, by TA1, more */
     uint32_t waiting_time;      /* of T=0 in clock cycles, WI * 960 * Fi; 0 with WI or Fi */
+    gt_atr_t1 t1;               /* what is said of T=1 */
 } gt_atr;
 
 /* Handles: 16 bytes each, which the caller owns; their content is on the heap. Each has these
  * calls, in the order of use; those after .. may come at any time in between:
  *
- *   gt_exchange_  start or start_within; next and take, send_bytes and receive_bytes, or tpdu and
- *                 answered; answer; free
+ *   gt_exchange_  start or start_within; next and take, send_bytes and receive_bytes, tpdu and
+ *                 answered, or apdu and responded; answer; free
  *   gt_terminal_  new or new_within; then, again and again: select, get, put or send; those of an
  *                 exchange; answer; .. reset; free
- *   gt_card_      new; app and object; finish; take and turn, send_bytes and receive_bytes, or
- *                 tpdu; .. plan, selected, app_at, entry_at, reset; free
+ *   gt_card_      new; app and object; finish; take and turn, send_bytes and receive_bytes, tpdu
+ *                 or apdu; .. plan, selected, app_at, entry_at, reset; free
  *   gt_session_   start, with a card; select, get, put or send; .. answer, heard, idle, plan,
  *                 selected, app_at, entry_at, reset; end, which gives the card back, or free
  *
  * The most bytes that are asked of the heap at once, without what the heap itself needs for each
  * block:
  *
- *   an exchange   112 and its limit on the response, which is 16,384 where none is given, and the
- *                 bytes of the command's data: at most 16,751
- *   a terminal    152, and from the first operation on its limit on a response, which is 16,384
+ *   an exchange   256 and its limit on the response, which is 16,384 where none is given, and the
+ *                 bytes of the command's data: at most 16,895
+ *   a terminal    296, and from the first operation on its limit on a response, which is 16,384
  *                 where none is given, and the bytes that it has sent as data, of an identifier, a
  *                 value or a command, in the operation with the most. Where one has more than any
  *                 before, the copy of those is held until that of these is made
- *   a card        9,963 with one application and one object of 3 bytes, and 26,466 together with a
+ *   by commands   an exchange and a terminal take room for the response and the data once more. A
+ *                 terminal frees the other room with the first response
+ *   a card        9,963 with one application and one object of 3 bytes, and 26,610 together with a
  *                 gt_exchange of SELECT or GET DATA; 4,240,592 with all that a card can hold
  *   a session     26,667 with that small card, for a select, a put of 3 bytes and a get; 116,584
  *                 for a put and a get of 8,192 bytes
@@ -402,6 +427,9 @@ int32_t galliumtoad_exchange_answer(gt_exchange *e, uint16_t *status,
 int32_t galliumtoad_exchange_tpdu(gt_exchange *e, uint8_t *tpdu, size_t room, size_t *n,
                                   size_t *most);
 int32_t galliumtoad_exchange_answered(gt_exchange *e, const uint8_t *answer, size_t n);
+int32_t galliumtoad_exchange_apdu(gt_exchange *e, uint8_t *apdu, size_t room, size_t *n,
+                                  size_t *most);
+int32_t galliumtoad_exchange_responded(gt_exchange *e, const uint8_t *response, size_t n);
 void galliumtoad_exchange_free(gt_exchange *e);
 int32_t galliumtoad_terminal_new(gt_terminal *t);
 int32_t galliumtoad_terminal_new_within(gt_terminal *t, size_t limit);
@@ -418,6 +446,9 @@ int32_t galliumtoad_terminal_receive_bytes(gt_terminal *t, const uint8_t *bytes,
 int32_t galliumtoad_terminal_tpdu(gt_terminal *t, uint8_t *tpdu, size_t room, size_t *n,
                                   size_t *most);
 int32_t galliumtoad_terminal_answered(gt_terminal *t, const uint8_t *answer, size_t n);
+int32_t galliumtoad_terminal_apdu(gt_terminal *t, uint8_t *apdu, size_t room, size_t *n,
+                                  size_t *most);
+int32_t galliumtoad_terminal_responded(gt_terminal *t, const uint8_t *response, size_t n);
 int32_t galliumtoad_terminal_answer(gt_terminal *t, uint16_t *status,
                                     uint8_t *data, size_t room, size_t *len);
 void galliumtoad_terminal_free(gt_terminal *t);
@@ -433,6 +464,8 @@ int32_t galliumtoad_card_receive_bytes(gt_card *c, const uint8_t *bytes, size_t 
                                        size_t *taken);
 int32_t galliumtoad_card_reset(gt_card *c);
 int32_t galliumtoad_card_tpdu(gt_card *c, const uint8_t *tpdu, size_t n, uint8_t *answer,
+                              size_t room, size_t *len);
+int32_t galliumtoad_card_apdu(gt_card *c, const uint8_t *apdu, size_t n, uint8_t *response,
                               size_t room, size_t *len);
 int32_t galliumtoad_card_plan(gt_card *c, const char *steps, size_t n, uint16_t cut);
 int32_t galliumtoad_card_selected(gt_card *c, uint8_t *aid, size_t room, size_t *n);
@@ -464,6 +497,24 @@ void galliumtoad_session_free(gt_session *s);
 static inline const uint8_t *gt_bytes_(const uint8_t *bytes) {
     static const uint8_t none[1] = { 0 };
     return bytes ? bytes : none;
+}
+
+/* For the functions below alone. A card carries out a copy of these bytes, which is wiped. One byte
+ * more than the longest command is no command and no TPDU, as any more are. */
+static inline int32_t gt_pass_(int32_t (*carry_out)(gt_card *, const uint8_t *, size_t, uint8_t *,
+                                                    size_t, size_t *),
+                               gt_card *c, const uint8_t *bytes, size_t n, uint8_t *answer,
+                               size_t room, size_t *len) {
+    uint8_t copy[GT_APDU_LIMIT + 1] = { 0 }, none = 0;
+    volatile uint8_t *wiped = copy;
+    int32_t code;
+    size_t i;
+    if (!c || (!bytes && n) || (!answer && room) || !len) return GT_NULL;
+    if (n > sizeof copy) n = sizeof copy;
+    for (i = 0; i < n; i++) copy[i] = bytes[i];
+    code = carry_out(c, copy, n, answer ? answer : &none, room, len);
+    for (i = 0; i < n; i++) wiped[i] = 0;
+    return code;
 }
 
 /* ---- Data objects (EMV Book 3, Annex B) ------------------------------------------------------
@@ -713,6 +764,35 @@ GT_MUST_CHECK int32_t gt_exchange_answered(gt_exchange *e, const uint8_t *answer
     return galliumtoad_exchange_answered(e, gt_bytes_(answer), n);
 }
 
+/* The next two are for a reader that carries whole commands (APDUs), as PC/SC does for a card at
+ * T=1 or without contacts. The first is the exchange's own command, with its Le. GET RESPONSE
+ * follows 61XX. After 6CXX a command of case 2 goes once more.
+ *
+ * The first character that goes, or the first answer that is taken, sets the level: characters and
+ * TPDUs, or commands. Calls of the other level return GT_STATE from then on, and nothing changes.
+ *
+ * Copies the command to send now to the front of `apdu`. `n` gets its length, 4 to GT_APDU_LIMIT
+ * bytes. `most` gets how many bytes of data may come back, 0 to 256.
+ *
+ * GT_OK: the next call gives the same. GT_NOT_DUE: the exchange is over or has failed. GT_MEMORY:
+ * it ran out for this level, which takes its memory by the first of these calls. */
+GT_MUST_CHECK int32_t gt_exchange_apdu(gt_exchange *e, uint8_t apdu[GT_APDU_LIMIT],
+                                       size_t *n, size_t *most) {
+    if (!e || !apdu || !n || !most) return GT_NULL;
+    return galliumtoad_exchange_apdu(e, apdu, GT_APDU_LIMIT, n, most);
+}
+
+/* Takes the response to that command: data, and then SW1 SW2. Another command is due then, or the
+ * exchange is over.
+ *
+ * GT_OK. GT_NO_STATUS: see `gt_exchange_answered`. GT_NOT_DUE, GT_MEMORY: see `gt_exchange_apdu`.
+ * GT_NOT_ASKED, GT_TOO_MANY: more data came back than may. After each of these nothing has changed.
+ * GT_TOO_LONG, GT_STALLED: the exchange has failed for good. */
+GT_MUST_CHECK int32_t gt_exchange_responded(gt_exchange *e, const uint8_t *response, size_t n) {
+    if (!e || (!response && n)) return GT_NULL;
+    return galliumtoad_exchange_responded(e, gt_bytes_(response), n);
+}
+
 /* Gives the memory back, at any time; the handle holds nothing then, and may be used again. Of one
  * that holds nothing, or NULL, it is harmless. */
 GT_FUNCTION void gt_exchange_free(gt_exchange *e) {
@@ -833,6 +913,20 @@ GT_MUST_CHECK int32_t gt_terminal_tpdu(gt_terminal *t, uint8_t tpdu[GT_TPDU_LIMI
 GT_MUST_CHECK int32_t gt_terminal_answered(gt_terminal *t, const uint8_t *answer, size_t n) {
     if (!t || (!answer && n)) return GT_NULL;
     return galliumtoad_terminal_answered(t, gt_bytes_(answer), n);
+}
+
+/* The command to send now, as `gt_exchange_apdu`; each operation has a level of its own. GT_STATE:
+ * also if no operation has begun. */
+GT_MUST_CHECK int32_t gt_terminal_apdu(gt_terminal *t, uint8_t apdu[GT_APDU_LIMIT],
+                                       size_t *n, size_t *most) {
+    if (!t || !apdu || !n || !most) return GT_NULL;
+    return galliumtoad_terminal_apdu(t, apdu, GT_APDU_LIMIT, n, most);
+}
+
+/* Takes the response to that command, as `gt_exchange_responded`. */
+GT_MUST_CHECK int32_t gt_terminal_responded(gt_terminal *t, const uint8_t *response, size_t n) {
+    if (!t || (!response && n)) return GT_NULL;
+    return galliumtoad_terminal_responded(t, gt_bytes_(response), n);
 }
 
 /* The answer of an operation that is over, as `gt_exchange_answer`. It can be asked for again until
@@ -969,16 +1063,29 @@ GT_FUNCTION int32_t gt_card_reset(gt_card *c) {
  * the plan is taken, and `answer` and `len` are as they were. */
 GT_MUST_CHECK int32_t gt_card_tpdu(gt_card *c, const uint8_t *tpdu, size_t n,
                                    uint8_t *answer, size_t room, size_t *len) {
-    uint8_t copy[GT_TPDU_LIMIT + 1] = { 0 }, none = 0; /* one byte more is no TPDU, as any are */
-    volatile uint8_t *wiped = copy;
-    int32_t code;
-    size_t i;
-    if (!c || (!tpdu && n) || (!answer && room) || !len) return GT_NULL;
-    if (n > sizeof copy) n = sizeof copy;
-    for (i = 0; i < n; i++) copy[i] = tpdu[i];
-    code = galliumtoad_card_tpdu(c, copy, n, answer ? answer : &none, room, len);
-    for (i = 0; i < n; i++) wiped[i] = 0;
-    return code;
+    return gt_pass_(galliumtoad_card_tpdu, c, tpdu, n, answer, room, len);
+}
+
+/* Carries out a whole command (APDU), as a card at T=1 or without contacts does. `response` gets
+ * data, and then SW1 SW2; `len` gets their length, 2 to GT_ANSWER_LIMIT bytes. One buffer may serve
+ * for both sides: the command is copied, and the copy wiped.
+ *
+ * The command goes as TPDUs of the card, to a terminal that wants Le bytes (00: 256). After 6CXX it
+ * goes once more, with XX. In case 4 GET RESPONSE fetches. What is left waits, and 61XX announces
+ * it. Plans are for `gt_card_tpdu` and characters alone.
+ *
+ * The card answers 6700, and nothing changes, also no chain and no response that waits:
+ * - to bytes whose lengths fit none of the four cases, as those of an extended command;
+ * - to SELECT and PUT DATA in case 2;
+ * - to GET DATA and GET RESPONSE in any other case.
+ *
+ * GT_OK: the card has answered, with any status. After the others nothing has changed:
+ * GT_STATE: the card is not finished yet, or characters of a TPDU have gone. GT_TOO_SHORT,
+ * GT_INVALID_INS: the bytes are no command. GT_BUFFER: `room` is less than 2 and Le (00: 256;
+ * without Le 2). GT_MEMORY. */
+GT_MUST_CHECK int32_t gt_card_apdu(gt_card *c, const uint8_t *apdu, size_t n,
+                                   uint8_t *response, size_t room, size_t *len) {
+    return gt_pass_(galliumtoad_card_apdu, c, apdu, n, response, room, len);
 }
 
 /* How the card answers a TPDU to come: each call is for one more of them, in turn. `steps` is a

@@ -1,5 +1,5 @@
-/* Answers to reset, against what ISO/IEC 7816-3, clause 8, and EMV Book 1, 8.2 and 8.3, say of
- * their characters, worked out by hand. */
+/* Answers to reset, against what ISO/IEC 7816-3, clauses 8 and 11, and EMV Book 1, 8.2 and 8.3, say
+ * of their characters, worked out by hand. */
 #include "galliumtoad.h"
 #include "check.h"
 
@@ -30,10 +30,19 @@ static void is_atr(const gt_atr *got, const gt_atr *want) {
     CHECK(got->guard_etu_t1, want->guard_etu_t1);
     CHECK(got->guard_indicated, want->guard_indicated);
     CHECK(got->waiting_time, want->waiting_time);
+    CHECK(got->t1.ifsc, want->t1.ifsc);
+    CHECK(got->t1.edc, want->t1.edc);
+    CHECK(got->t1.bwi, want->t1.bwi);
+    CHECK(got->t1.cwi, want->t1.cwi);
+    CHECK(got->t1.cwt_etu, want->t1.cwt_etu);
+    CHECK(got->t1.bwt_etu, want->t1.bwt_etu);
+    CHECK(got->t1.bgt_etu, want->t1.bgt_etu);
+    CHECK(got->t1.bwt_cycles, want->t1.bwt_cycles);
 }
 
 /* what holds of an answer of TS 3B and T0 alone, with these sizes: T=0 alone, TA1 11, N 0, WI 10,
- * 10 * 960 * 372 cycles, negotiable mode, class A alone, no clock stop */
+ * 10 * 960 * 372 cycles, negotiable mode, class A alone, no clock stop; of T=1 IFSC 32, LRC, BWI 4,
+ * CWI 13, 11 + 8192 etu, 11 etu and 16 * 960 * 372 cycles, 22 etu */
 static gt_atr plain(size_t length, size_t historical, size_t count) {
     gt_atr atr;
     memset(&atr, 0, sizeof atr);
@@ -53,6 +62,14 @@ static gt_atr plain(size_t length, size_t historical, size_t count) {
     atr.guard_etu = 12;
     atr.guard_etu_t1 = 12;
     atr.waiting_time = 3571200;
+    atr.t1.ifsc = 32;
+    atr.t1.edc = GT_LRC;
+    atr.t1.bwi = 4;
+    atr.t1.cwi = 13;
+    atr.t1.cwt_etu = 8203;
+    atr.t1.bwt_etu = 11;
+    atr.t1.bgt_etu = 22;
+    atr.t1.bwt_cycles = 5713920;
     return atr;
 }
 
@@ -87,6 +104,9 @@ static void basic_answers(void) {
     says(BYTES("\x3F\x60\x00\xFF"), want);
     want = plain(9, 8, 0);
     want.protocols[0] = 1;
+    want.t1.ifsc = 254;
+    want.t1.cwi = 5;
+    want.t1.cwt_etu = 43; /* 11 + 32 */
     says(BYTES("\x3B\xE0\x00\x00\x81\x31\xFE\x45\xEB"), want);
     want.extra_guard_time = 255;
     want.guard_etu_t1 = 11;
@@ -201,6 +221,79 @@ static void waiting_times(void) {
     says(BYTES("\x3B\x80\x40\x00"), want);
 }
 
+/* clause 11: the first TB for T=1, with BWI in bits 8 to 5 and CWI in bits 4 to 1 */
+static void times_of_t_1(void) {
+    static const uint64_t CYCLES[16] = { 357120, 714240, 1428480, 2856960, 5713920, 11427840,
+                                         22855680, 45711360, 91422720, 182845440 };
+    static const uint16_t ETU[16] = { 12, 13, 15, 19, 27, 43, 75, 139, 267, 523, 1035, 2059, 4107,
+                                      8203, 16395, 32779 };
+    uint8_t bytes[6] = { 0x3B, 0x80, 0x81, 0x21, 0, 0 };
+    gt_atr want = plain(6, 5, 0);
+    uint8_t bwi, cwi;
+    want.protocols[0] = 1;
+    for (bwi = 0; bwi < 16; bwi++) for (cwi = 0; cwi < 16; cwi++) {
+        bytes[4] = (uint8_t)(16 * bwi + cwi);
+        bytes[5] = 0x80 ^ 0x81 ^ 0x21 ^ bytes[4];
+        want.t1.bwi = bwi < 10 ? bwi : 0;
+        want.t1.bwt_etu = bwi < 10 ? 11 : 0;
+        want.t1.bwt_cycles = CYCLES[bwi];
+        want.t1.cwi = cwi;
+        want.t1.cwt_etu = ETU[cwi];
+        says(bytes, 6, want);
+    }
+}
+
+/* clause 11: the first TA and the first TC for T=1 */
+static void fields_and_codes_of_t_1(void) {
+    uint8_t bytes[6] = { 0x3B, 0x80, 0x81, 0, 0, 0 };
+    gt_atr want = plain(6, 5, 0);
+    unsigned code;
+    want.protocols[0] = 1;
+    for (code = 0; code < 256; code++) {
+        bytes[3] = 0x11;
+        bytes[4] = (uint8_t)code;
+        bytes[5] = 0x80 ^ 0x81 ^ 0x11 ^ bytes[4];
+        want.t1.ifsc = code == 255 ? 0 : bytes[4];
+        want.t1.edc = GT_LRC;
+        says(bytes, 6, want);
+        bytes[3] = 0x41;
+        bytes[5] = 0x80 ^ 0x81 ^ 0x41 ^ bytes[4];
+        want.t1.ifsc = 32;
+        want.t1.edc = code == 0 ? GT_LRC : code == 1 ? GT_CRC : 0;
+        says(bytes, 6, want);
+    }
+}
+
+/* which TA, TB and TC are for T=1: none behind TD1, none of another T, and of several the first */
+static void characters_of_t_1(void) {
+    gt_atr want = plain(8, 7, 0);
+    want.protocols[0] = want.specific = want.specific_t = want.can_change = 1;
+    want.waiting_integer = 1;
+    want.waiting_time = 357120;
+    says(BYTES("\x3B\x80\xF1\x01\x91\x01\x01\xE1"), want);
+    want = plain(10, 9, 0);
+    want.protocol_count = 2;
+    want.protocols[1] = want.names_15 = 1;
+    want.clock_stop = GT_STOP_EITHER;
+    want.classes = GT_CLASS_A + GT_CLASS_B + GT_CLASS_C;
+    want.t1.ifsc = 64;
+    want.t1.edc = GT_CRC;
+    want.t1.bwi = 2;
+    want.t1.bwt_cycles = 1428480;
+    want.t1.cwi = 1;
+    want.t1.cwt_etu = 13;
+    says(BYTES("\x3B\x80\x80\xF1\x40\x21\x01\x1F\xC7\x49"), want);
+    want = plain(12, 11, 0);
+    want.protocols[0] = 1;
+    want.t1.ifsc = 80;
+    want.t1.edc = GT_CRC;
+    want.t1.bwi = 9;
+    want.t1.bwt_cycles = 182845440;
+    want.t1.cwi = 2;
+    want.t1.cwt_etu = 15;
+    says(BYTES("\x3B\x80\x81\xA1\x92\xF1\x50\x45\x01\x11\x60\xA6"), want);
+}
+
 /* 8.3, tables 7 and 8; 0 where a code is reserved */
 static void rates(void) {
     static const uint16_t FI[16] = { 372, 372, 558, 744, 1116, 1488, 1860, 0,
@@ -308,6 +401,9 @@ int main(void) {
     protocols();
     modes();
     waiting_times();
+    times_of_t_1();
+    fields_and_codes_of_t_1();
+    characters_of_t_1();
     rates();
     supplies();
     categories();

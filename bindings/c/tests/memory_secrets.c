@@ -80,10 +80,13 @@ static size_t held(void) {
 
 #define GONE() (CHECK(held(), 0), CHECK(given_back, 0))
 
+static bool by_commands;
+
 static unsigned tpdu(gt_card *c, const uint8_t *bytes, size_t n) {
     uint8_t answer[GT_ANSWER_LIMIT];
     size_t len = 0;
-    CHECK(gt_card_tpdu(c, bytes, n, answer, sizeof answer, &len), GT_OK);
+    CHECK(by_commands ? gt_card_apdu(c, bytes, n, answer, sizeof answer, &len)
+                      : gt_card_tpdu(c, bytes, n, answer, sizeof answer, &len), GT_OK);
     return len < 2 ? 0 : answer[len - 2] * 256u + answer[len - 1];
 }
 
@@ -260,7 +263,12 @@ int main(void) {
     size_t i;
     for (i = 0; i + 1 < sizeof secret; i++) secret[i + 1] = behind(secret[i]);
     build(&card);
-    for (i = 0; i < sizeof sizes / sizeof *sizes; i++) stored(&card, sizes[i]);
+    for (i = 0; i < 2 * (sizeof sizes / sizeof *sizes); i++) {
+        by_commands = i % 2 != 0;
+        stored(&card, sizes[i / 2]);
+    }
+    refused(&card);
+    by_commands = false;
     refused(&card);
     want_of_memory(&card);
     resets(&card);

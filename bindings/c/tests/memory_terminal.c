@@ -92,6 +92,48 @@ static void fewer_data(size_t alone) {
     CHECK(taken, 0);
 }
 
+/* By commands the first call takes room for the response and a copy once more; want of it changes
+ * nothing. The first response frees the other room, which the next operation takes again. */
+static void by_commands(void) {
+    static const uint8_t absent[] = { 0x6A, 0x82 };
+    uint8_t apdu[GT_APDU_LIMIT];
+    for (int kind = 0; kind < 4; kind++) {
+        gt_terminal t = GT_INIT;
+        size_t n = 7, most = 8;
+        uint16_t status = 0;
+        int32_t code = GT_MEMORY;
+        refused = 0;
+        CHECK(gt_terminal_new(&t), GT_OK);
+        CHECK(begin(&t, kind), GT_OK);
+        const size_t before = taken, times = copies[kind] ? 2 : 1;
+        for (refused = 1; code == GT_MEMORY; refused++) {
+            CHECK(taken, before);
+            requests = 0;
+            CHECK(gt_terminal_responded(&t, absent, 2), refused <= times ? GT_MEMORY : GT_OK);
+            if (refused > times) break;
+            CHECK(taken, before);
+            requests = 0;
+            code = gt_terminal_apdu(&t, apdu, &n, &most);
+            CHECK(n, 7);
+            CHECK(most, 8);
+        }
+        refused = 1;
+        CHECK(gt_terminal_answer(&t, &status, NULL, 0, &n), GT_OK);
+        CHECK(status, 0x6A82);
+        refused = 0;
+        requests = 0;
+        CHECK(begin(&t, kind), GT_OK);
+        CHECK(requests, times);
+        refused = 1;
+        requests = 0;
+        CHECK(gt_terminal_apdu(&t, apdu, &n, &most), GT_OK);
+        CHECK(requests, 0);
+        refused = 0;
+        gt_terminal_free(&t);
+        CHECK(taken, 0);
+    }
+}
+
 int main(void) {
     static const size_t limits[] = { 0, 1, 255, 256, 16384 };
     gt_terminal t = GT_INIT;
@@ -107,7 +149,7 @@ int main(void) {
     CHECK(gt_terminal_new(&t), GT_OK);
     CHECK(requests, 1);
     const size_t alone = taken;
-    CHECK(alone, 152); /* as the header says */
+    CHECK(alone, 296); /* as the header says */
     for (int kind = 0; kind < 4; kind++) {
         const size_t times = copies[kind] ? 2 : 1;
         for (refused = 1; refused <= times; refused++) {
@@ -139,6 +181,7 @@ int main(void) {
     CHECK(taken, 0);
     more_data(alone);
     fewer_data(alone);
+    by_commands();
     for (size_t i = 0; i < sizeof limits / sizeof *limits; i++) within(limits[i], alone);
     return check_result("memory_terminal");
 }

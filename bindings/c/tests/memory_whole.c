@@ -1,5 +1,5 @@
-/* Memory that a card asks for when it carries out whole TPDUs: room for the data of each, and its
- * plans. */
+/* Memory that a card asks for when it carries out whole TPDUs and commands: room for the data of
+ * each, and its plans. */
 #include "galliumtoad.h"
 #include "check.h"
 #include "counting_heap.h"
@@ -91,8 +91,38 @@ static void room(void) {
     CHECK(taken, 0);
 }
 
+/* Want of memory at each request in turn of a command changes nothing. */
+static void of_a_command(void) {
+    static const uint8_t get[] = { 0x00, 0xCA, 0x00, 0x50, 0x00 };
+    uint8_t answer[GT_ANSWER_LIMIT];
+    gt_card c = GT_INIT;
+    size_t len = 7, before;
+    int32_t code = GT_MEMORY;
+    selected(&c);
+    before = taken;
+    peak = taken;
+    memset(answer, 0xEE, sizeof answer);
+    for (refused = 1; code == GT_MEMORY; refused++) {
+        CHECK(len, 7);
+        CHECK(answer[0], 0xEE);
+        requests = 0;
+        code = gt_card_apdu(&c, get, sizeof get, answer, sizeof answer, &len);
+        CHECK(taken, before);
+    }
+    CHECK(code, GT_OK);
+    CHECK(refused, 4);
+    CHECK(len, 258);
+    CHECK_BYTES(answer, "\x50\x81\xFD\x00", 4);
+    CHECK_BYTES(answer + 256, "\x90\x00", 2);
+    CHECK(peak, before + 512);
+    refused = 0;
+    gt_card_free(&c);
+    CHECK(taken, 0);
+}
+
 int main(void) {
     room();
+    of_a_command();
     plans();
     return check_result("memory_whole");
 }

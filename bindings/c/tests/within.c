@@ -1,10 +1,13 @@
-/* Limits on a response: each is reached, and passed by one byte, by characters and by TPDUs. */
+/* Limits on a response: each is reached, and passed by one byte, by characters, by TPDUs and by
+ * commands. */
 #include "galliumtoad.h"
 #include "check.h"
 
 static const uint8_t GET[] = { 0x00, 0xCA, 0x5F, 0x20, 0x00 };
 
 static uint8_t data[GT_RESPONSE_LIMIT + 1];
+
+enum { BY_CHARACTERS, BY_TPDUS, BY_COMMANDS, WAYS };
 
 /* an exchange, or a terminal with an operation */
 typedef struct {
@@ -21,12 +24,20 @@ static int32_t take(const end *e, uint8_t byte) {
     return e->exchange ? gt_exchange_take(e->exchange, byte) : gt_terminal_take(e->terminal, byte);
 }
 
-static int32_t tpdu(const end *e, uint8_t bytes[GT_TPDU_LIMIT], size_t *n, size_t *most) {
+static int32_t due(const end *e, int way, uint8_t bytes[GT_APDU_LIMIT], size_t *n, size_t *most) {
+    if (way == BY_COMMANDS) {
+        return e->exchange ? gt_exchange_apdu(e->exchange, bytes, n, most)
+                           : gt_terminal_apdu(e->terminal, bytes, n, most);
+    }
     return e->exchange ? gt_exchange_tpdu(e->exchange, bytes, n, most)
                        : gt_terminal_tpdu(e->terminal, bytes, n, most);
 }
 
-static int32_t answered(const end *e, const uint8_t *bytes, size_t n) {
+static int32_t answered(const end *e, int way, const uint8_t *bytes, size_t n) {
+    if (way == BY_COMMANDS) {
+        return e->exchange ? gt_exchange_responded(e->exchange, bytes, n)
+                           : gt_terminal_responded(e->terminal, bytes, n);
+    }
     return e->exchange ? gt_exchange_answered(e->exchange, bytes, n)
                        : gt_terminal_answered(e->terminal, bytes, n);
 }
@@ -48,19 +59,20 @@ static size_t card_answer(uint8_t *bytes, size_t left, uint8_t p3, size_t *moved
     return *moved + 2;
 }
 
-/* The card has so many bytes, which come by characters, or by whole TPDUs: what the last call
- * answers, and how many of them have come before. */
-static int32_t bring(const end *e, size_t n, int by_tpdus, size_t *came) {
-    uint8_t header[GT_TPDU_LIMIT], bytes[GT_ANSWER_LIMIT];
+/* The card has so many bytes, which come this way: what the last call answers, and how many of them
+ * have come before. */
+static int32_t bring(const end *e, size_t n, int way, size_t *came) {
+    uint8_t header[GT_APDU_LIMIT], bytes[GT_ANSWER_LIMIT];
     size_t count, most, size, moved, i;
     int32_t code;
     for (*came = 0;; *came += moved) {
-        code = by_tpdus ? tpdu(e, header, &count, &most) : send_bytes(e, header, 5, &count);
+        code = way != BY_CHARACTERS ? due(e, way, header, &count, &most)
+                                    : send_bytes(e, header, 5, &count);
         if (code < 0 || (code == GT_DONE && count == 0)) return code;
         CHECK(count, 5);
         size = card_answer(bytes, n - *came, header[4], &moved);
-        if (by_tpdus) {
-            code = answered(e, bytes, size);
+        if (way != BY_CHARACTERS) {
+            code = answered(e, way, bytes, size);
             if (code != GT_OK) return code;
             continue;
         }
@@ -76,49 +88,49 @@ static int32_t bring(const end *e, size_t n, int by_tpdus, size_t *came) {
 
 /* With so much room all of so many bytes come, and there is an answer; one byte more is too much,
  * and comes after all others. */
-static void is_limited(const end *e, size_t limit, int over, int by_tpdus) {
+static void is_limited(const end *e, size_t limit, int over, int way) {
     size_t came = 0, len = 999;
     uint16_t status = 0;
-    const int32_t code = bring(e, limit + (size_t)over, by_tpdus, &came);
+    const int32_t code = bring(e, limit + (size_t)over, way, &came);
     uint8_t byte;
     if (over) {
         CHECK(code, GT_TOO_LONG);
-        if (!by_tpdus) CHECK(came, limit);
-        CHECK(send_bytes(e, &byte, 1, &len), GT_FAILED);
+        if (way == BY_CHARACTERS) CHECK(came, limit);
+        CHECK(send_bytes(e, &byte, 1, &len), way == BY_COMMANDS ? GT_STATE : GT_FAILED);
         CHECK(answer(e, &status, &len), GT_STATE);
         return;
     }
-    CHECK(code, by_tpdus ? GT_NOT_DUE : GT_DONE);
+    CHECK(code, way == BY_CHARACTERS ? GT_DONE : GT_NOT_DUE);
     CHECK(answer(e, &status, &len), GT_OK);
     CHECK(status, 0x9000);
     CHECK(len, limit);
     CHECK(limit == 0 || (data[0] == 0x5A && data[limit - 1] == 0x5A), 1);
 }
 
-static void of_an_exchange(size_t limit, int over, int by_tpdus) {
+static void of_an_exchange(size_t limit, int over, int way) {
     gt_exchange exchange = GT_INIT;
     const end e = { &exchange, NULL };
     CHECK(gt_exchange_start_within(&exchange, GET, sizeof GET, limit), GT_OK);
-    is_limited(&e, limit, over, by_tpdus);
+    is_limited(&e, limit, over, way);
     gt_exchange_free(&exchange);
 }
 
 /* Of a terminal the limit is that of each operation: of the first, of one after it, and of one
  * after a reset. */
-static void of_a_terminal(size_t limit, int over, int by_tpdus) {
+static void of_a_terminal(size_t limit, int over, int way) {
     gt_terminal terminal = GT_INIT;
     const end e = { NULL, &terminal };
     CHECK(gt_terminal_new_within(&terminal, limit), GT_OK);
     for (int i = 0; i < 3; i++) {
         CHECK(gt_terminal_get(&terminal, 0x5F20), GT_OK);
-        is_limited(&e, limit, over, by_tpdus);
+        is_limited(&e, limit, over, way);
         if (i == 1) CHECK(gt_terminal_reset(&terminal), GT_OK);
     }
     gt_terminal_free(&terminal);
 }
 
 /* A put of two pieces, to each of which the card answers with no data. */
-static void a_put_within_nothing(void) {
+static void a_put_within_nothing(int way) {
     static const uint8_t value[256] = { 0 }, ok[] = { 0x90, 0x00 };
     gt_terminal terminal = GT_INIT;
     const end e = { NULL, &terminal };
@@ -126,8 +138,8 @@ static void a_put_within_nothing(void) {
     size_t len = 9;
     CHECK(gt_terminal_new_within(&terminal, 0), GT_OK);
     CHECK(gt_terminal_put(&terminal, 0xDF01, value, sizeof value), GT_OK);
-    CHECK(answered(&e, ok, 2), GT_OK);
-    CHECK(answered(&e, ok, 2), GT_OK);
+    CHECK(answered(&e, way, ok, 2), GT_OK);
+    CHECK(answered(&e, way, ok, 2), GT_OK);
     CHECK(answer(&e, &status, &len), GT_OK);
     CHECK(status, 0x9000);
     CHECK(len, 0);
@@ -164,12 +176,13 @@ static void what_is_no_limit(void) {
 int main(void) {
     static const size_t limits[] = { 0, 1, 2, 254, 255, 256, 257, 511, 512, 16383, 16384 };
     for (size_t i = 0; i < sizeof limits / sizeof *limits; i++) {
-        for (int how = 0; how < 4; how++) {
+        for (int how = 0; how < 2 * WAYS; how++) {
             of_an_exchange(limits[i], how % 2, how / 2);
             of_a_terminal(limits[i], how % 2, how / 2);
         }
     }
-    a_put_within_nothing();
+    a_put_within_nothing(BY_TPDUS);
+    a_put_within_nothing(BY_COMMANDS);
     what_is_no_limit();
     return check_result("within");
 }

@@ -1,13 +1,13 @@
 /* gt_pcsc: reads and writes the data objects of a card in a PC/SC reader.
  *
- * The terminal is the library's, and proved; this program takes its TPDUs to the reader and the
- * answers back. `gt_pcsc --help` says what it does. */
+ * The terminal is the library's, and proved; this program takes its TPDUs or whole commands to the
+ * reader and the answers back. `gt_pcsc --help` says what it does. */
 #define _POSIX_C_SOURCE 200112L
 
-#include "carry_out.h"
+#include "carrier.h"
 #include "descriptors.h"
 #include "options.h"
-#include "script.h"
+#include "steps.h"
 
 #include <stdio.h>
 #include <string.h>
@@ -46,26 +46,24 @@ static int list_readers(void)
     return fault == NULL ? end_output() : tell(fault);
 }
 
-/* Carries out the steps, up to the first fault, or without -k the first answer that is not 9000 or
- * not what the step asks for. */
-static int carry_out_steps(struct carrier *carrier, const struct script *script, bool goes_on)
+/* Shows the level, and carries out the steps. */
+static int run_over(struct carrier *carrier, const struct script *script,
+                    const struct options *options)
 {
-    int result = ALL_WELL;
-    size_t i;
-    for (i = 0; i < script->count && (result == ALL_WELL || goes_on); i++) {
-        const struct step *step = &script->steps[i];
-        uint16_t status = 0;
-        const char *fault = carry_out(carrier, &step->operation, &status);
-        const bool has_answer = fault == NULL;
-        if (has_answer)
-            fault = operation_answer_fault(&step->operation, &carrier->terminal);
-        if (fault != NULL)
-            fprintf(stderr, "%s %lu: %s\n", script->unit, (unsigned long)step->number, fault);
-        if (!has_answer)
-            return FAULT;
-        if (fault != NULL || status != 0x9000)
-            result = FAULT;
-    }
+    struct steps steps = { GT_INIT, carrier_pass, NULL, false, false };
+    const char *fault = carrier_show_level(carrier);
+    const int32_t code = gt_terminal_new(&steps.terminal);
+    int result;
+    if (code != GT_OK)
+        fault = gt_text(code);
+    steps.line = carrier;
+    steps.goes_on = options->goes_on;
+    steps.verifies = options->verifies;
+    if (fault != NULL)
+        result = tell(fault);
+    else
+        result = steps_carry_out(&steps, script) ? ALL_WELL : FAULT;
+    gt_terminal_free(&steps.terminal);
     return result;
 }
 
@@ -73,19 +71,14 @@ static int carry_out_steps(struct carrier *carrier, const struct script *script,
 static int run(const struct script *script, const struct options *options)
 {
     struct reader reader;
-    struct carrier carrier = { NULL, GT_INIT, NULL, false, NULL };
-    const char *fault;
+    struct carrier carrier;
+    const char *fault = reader_open(&reader, options->reader, options->protocol, options->wait);
     int result;
-    int32_t code = gt_terminal_new(&carrier.terminal);
-    if (code != GT_OK)
-        return tell(gt_text(code));
     carrier.reader = &reader;
-    carrier.out = stdout;
-    carrier.shows_tpdus = options->shows_tpdus;
+    carrier.is_by_apdus = options->forces_apdus || reader_takes_apdus(&reader);
+    carrier.shown = options->shows_tpdus ? stdout : NULL;
     carrier.progress = isatty(STDERR_FILENO) && !options->shows_tpdus ? stderr : NULL;
-    fault = reader_open(&reader, options->reader, options->wait);
-    result = fault != NULL ? tell(fault) : carry_out_steps(&carrier, script, options->goes_on);
-    gt_terminal_free(&carrier.terminal);
+    result = fault != NULL ? tell(fault) : run_over(&carrier, script, options);
     fault = reader_close(&reader);
     return result == ALL_WELL && fault != NULL ? tell(fault) : result;
 }

@@ -5,9 +5,9 @@
  * does. */
 #include "descriptors.h"
 #include "print.h"
-#include "script.h"
 #include "serial_answer.h"
 #include "serial_options.h"
+#include "steps.h"
 
 #include <string.h>
 
@@ -26,17 +26,16 @@ static const char HELP[] =
 
 static const char *const OPTIONS[] = {
     "-v", "-k", "-f", "--baud", "--reset", "--held-by", "--no-echo", "--pps", "--slack",
-    "--patience", "-h", "--help", "-V", "--version", NULL
+    "--patience", "--verify", "-h", "--help", "-V", "--version", NULL
 };
 
 static const enum port_signal SIGNALS[] = { PORT_RTS, PORT_DTR, PORT_NONE };
 
 static const struct serial_names NAMES = { OPTIONS, SIGNALS, PORT_RTS };
 
-/* A card behind a line, and the terminal that talks to it. */
+/* A card behind a line. */
 struct session {
     struct line *line;
-    gt_terminal terminal;
     int64_t waiting_time;
     int64_t patience;
     int64_t nulls_since;        /* the time of the first of the NULLs that came last, or 0 */
@@ -74,7 +73,8 @@ static bool is_put_off(struct session *session, uint8_t byte)
 
 /* Hands the terminal the characters of the card that have come, behind a header of `size` bytes or
  * data. It has to take all of them: the card sends no more than it is asked for. */
-static const char *take(struct session *session, const uint8_t *header, size_t size)
+static const char *take(struct session *session, gt_terminal *terminal, const uint8_t *header,
+                        size_t size)
 {
     uint8_t bytes[LINE_RUN];
     size_t n, taken = 0, i;
@@ -85,7 +85,7 @@ static const char *take(struct session *session, const uint8_t *header, size_t s
         fault = line_look(session->line, bytes, &n, session->waiting_time);
     if (fault != NULL)
         return fault == LINE_IS_SILENT ? "the card is silent" : fault;
-    code = gt_terminal_receive_bytes(&session->terminal, bytes, n, &taken);
+    code = gt_terminal_receive_bytes(terminal, bytes, n, &taken);
     if (code != GT_OK)
         taken++;
     line_take(session->line, bytes, taken);
@@ -97,55 +97,33 @@ static const char *take(struct session *session, const uint8_t *header, size_t s
     return code == GT_OK ? NULL : gt_text(code);
 }
 
-/* Passes the characters of the operation that has begun, until it is over. */
-static const char *pass_all(struct session *session)
+/* Passes the characters of the operation in progress, until it is over. */
+static const char *pass_all(struct session *session, gt_terminal *terminal)
 {
     const char *fault = NULL;
     uint8_t bytes[LINE_RUN];
     session->nulls_since = 0;
     while (fault == NULL) {
         size_t n = 0, most;
-        const bool is_header = gt_terminal_tpdu(&session->terminal, bytes, &n, &most) == GT_OK;
-        const int32_t code = gt_terminal_send_bytes(&session->terminal, bytes, sizeof bytes, &n);
+        const bool is_header = gt_terminal_tpdu(terminal, bytes, &n, &most) == GT_OK;
+        const int32_t code = gt_terminal_send_bytes(terminal, bytes, sizeof bytes, &n);
         fault = code < 0 ? gt_text(code) : line_send_all(session->line, bytes, n);
         if (code == GT_DONE)
             return fault;
         if (code == GT_OK && fault == NULL)
-            fault = take(session, bytes, is_header ? n : 0);
+            fault = take(session, terminal, bytes, is_header ? n : 0);
     }
     return fault;
 }
 
-static const char *carry_out(struct session *session, const struct operation *operation,
-                             uint16_t *status)
+/* The `pass` of steps.h; `line` is a session. */
+static const char *pass(void *line, gt_terminal *terminal, const struct operation *operation)
 {
-    const int32_t code = operation_begin(operation, &session->terminal);
-    const char *fault = code == GT_OK ? pass_all(session) : gt_text(code);
+    struct session *session = line;
+    const char *fault = pass_all(session, terminal);
+    (void)operation;
     line_note_text(session->line, NULL);
-    return fault == NULL ? print_answer(stdout, &session->terminal, status) : fault;
-}
-
-/* Carries out the steps, up to the first fault, or without -k the first answer that is not 9000 or
- * not what the step asks for. */
-static int carry_out_steps(struct session *session, const struct script *script, bool goes_on)
-{
-    int result = ALL_WELL;
-    size_t i;
-    for (i = 0; i < script->count && (result == ALL_WELL || goes_on); i++) {
-        const struct step *step = &script->steps[i];
-        uint16_t status = 0;
-        const char *fault = carry_out(session, &step->operation, &status);
-        const bool has_answer = fault == NULL;
-        if (has_answer)
-            fault = operation_answer_fault(&step->operation, &session->terminal);
-        if (fault != NULL)
-            fprintf(stderr, "%s %lu: %s\n", script->unit, (unsigned long)step->number, fault);
-        if (!has_answer)
-            return FAULT;
-        if (fault != NULL || status != 0x9000)
-            result = FAULT;
-    }
-    return result;
+    return fault;
 }
 
 static void print_rate(const struct answer *answer)
@@ -205,14 +183,18 @@ static int run_over(struct port *port, const struct script *script,
                     const struct serial_options *options)
 {
     struct line line = serial_options_line(options, port, LINE_TERMINAL);
-    struct session session = { NULL, GT_INIT, 0, 0, 0 };
+    struct session session = { NULL, 0, 0, 0 };
+    struct steps steps = { GT_INIT, pass, NULL, false, false };
     struct answer answer;
     struct answer_wishes wishes;
     const char *fault;
     int result;
-    const int32_t code = gt_terminal_new(&session.terminal);
+    const int32_t code = gt_terminal_new(&steps.terminal);
     if (code != GT_OK)
         return tell(gt_text(code));
+    steps.line = &session;
+    steps.goes_on = options->goes_on;
+    steps.verifies = options->verifies;
     session.line = &line;
     session.patience = (int64_t)options->patience * 1000000;
     wishes.reset = options->reset;
@@ -223,8 +205,11 @@ static int run_over(struct port *port, const struct script *script,
         fault = print_meaning(&answer);
     if (fault == NULL)
         fault = answer_go_on(&answer, options->asks_pps, &session.waiting_time);
-    result = fault != NULL ? tell(fault) : carry_out_steps(&session, script, options->goes_on);
-    gt_terminal_free(&session.terminal);
+    if (fault != NULL)
+        result = tell(fault);
+    else
+        result = steps_carry_out(&steps, script) ? ALL_WELL : FAULT;
+    gt_terminal_free(&steps.terminal);
     return result;
 }
 

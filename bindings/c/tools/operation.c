@@ -210,19 +210,47 @@ int32_t operation_begin(const struct operation *operation, gt_terminal *terminal
     }
 }
 
+/* the data of the answer that was last looked at */
+static uint8_t data[GT_RESPONSE_LIMIT];
+
+/* Whether the terminal's answer is 9000, with `n` bytes of data. */
+static bool is_answered_well(gt_terminal *terminal, size_t *n)
+{
+    uint16_t status;
+    return gt_terminal_answer(terminal, &status, data, sizeof data, n) == GT_OK
+        && status == 0x9000;
+}
+
 const char *operation_answer_fault(const struct operation *operation, gt_terminal *terminal)
 {
-    static uint8_t data[GT_RESPONSE_LIMIT];
     static char text[112];
     const unsigned tag = operation->tag;
-    uint16_t status;
     size_t n;
-    if (operation->kind != OPERATION_GET
-        || gt_terminal_answer(terminal, &status, data, sizeof data, &n) != GT_OK
-        || status != 0x9000 || gt_is_object(data, n, tag))
+    if (operation->kind != OPERATION_GET || !is_answered_well(terminal, &n)
+        || gt_is_object(data, n, tag))
         return NULL;
     snprintf(text, sizeof text, "the answer is not the object %02X; "
              "if the card sends the value alone, use send 00CA%04X00", tag, tag);
+    return text;
+}
+
+/* Whether these bytes are the value of a put. */
+static bool is_value(const struct operation *put, const uint8_t *bytes, size_t n)
+{
+    return n == put->n && (n == 0 || memcmp(bytes, put->bytes, n) == 0);
+}
+
+const char *operation_store_fault(const struct operation *put, gt_terminal *terminal)
+{
+    static char text[48];
+    gt_object object;
+    size_t n, place;
+    if (is_answered_well(terminal, &n)
+        && (is_value(put, data, n)
+            || (gt_find(data, n, &put->tag, 1, &object, &place) == GT_OK && object.size == n
+                && is_value(put, data + object.value, object.length))))
+        return NULL;
+    snprintf(text, sizeof text, "%02X was not stored as sent", (unsigned)put->tag);
     return text;
 }
 

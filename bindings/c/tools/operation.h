@@ -44,6 +44,10 @@ int32_t operation_begin(const struct operation *operation, gt_terminal *terminal
  * The words stand until the next call. */
 const char *operation_answer_fault(const struct operation *operation, gt_terminal *terminal);
 
+/* Why the terminal's answer to a get shows that this put, of the same tag, was not stored as sent;
+ * NULL if the answer is the object, or its value alone. The words stand until the next call. */
+const char *operation_store_fault(const struct operation *put, gt_terminal *terminal);
+
 /* Gives the memory back. */
 void operation_free(struct operation *operation);
 

@@ -36,11 +36,26 @@ static const char *read_wait(struct options *options)
         : "'--wait' takes a number from 0 to 86400";
 }
 
+/* The protocol of --protocol: its word is one digit. */
+static const char *read_protocol(struct options *options)
+{
+    const char *word = options->protocol_word;
+    options->protocol = -1;
+    if (word == NULL)
+        return NULL;
+    if ((word[0] != '0' && word[0] != '1') || word[1] != '\0')
+        return "'--protocol' takes 0 or 1";
+    options->protocol = word[0] - '0';
+    return NULL;
+}
+
 static const char *read_option(struct options *options, int argc, char *const *argv, int *at)
 {
     const char *word = argv[*at];
     if (strcmp(word, "--wait") == 0)
         return take_value(&options->seconds, word, argc, argv, at);
+    if (strcmp(word, "--protocol") == 0)
+        return take_value(&options->protocol_word, word, argc, argv, at);
     if (strcmp(word, "-r") == 0)
         return take_value(&options->reader, word, argc, argv, at);
     if (strcmp(word, "-f") == 0)
@@ -51,6 +66,10 @@ static const char *read_option(struct options *options, int argc, char *const *a
         options->shows_tpdus = true;
     else if (strcmp(word, "-k") == 0)
         options->goes_on = true;
+    else if (strcmp(word, "--verify") == 0)
+        options->verifies = true;
+    else if (strcmp(word, "--apdu") == 0)
+        options->forces_apdus = true;
     else if (strcmp(word, "-h") == 0 || strcmp(word, "--help") == 0)
         options->helps = true;
     else if (strcmp(word, "-V") == 0 || strcmp(word, "--version") == 0)
@@ -63,6 +82,7 @@ static const char *read_option(struct options *options, int argc, char *const *a
 /* Whether the options go with each other and with the operations. */
 static const char *compare(struct options *options)
 {
+    const char *fault;
     if (options->helps || options->tells_version)
         return NULL;
     if (options->lists)
@@ -73,7 +93,8 @@ static const char *compare(struct options *options)
         return "operations stand either in words or in FILE";
     if (options->file == NULL && options->count == 0)
         return "no operation was provided";
-    return read_wait(options);
+    fault = read_wait(options);
+    return fault != NULL ? fault : read_protocol(options);
 }
 
 const char *options_read(struct options *options, int argc, char **argv)

@@ -9,10 +9,14 @@ struct options {
     bool helps, tells_version, lists;
     bool shows_tpdus;           /* -v */
     bool goes_on;               /* -k */
+    bool verifies;              /* --verify */
+    bool forces_apdus;          /* --apdu */
     const char *reader;         /* -r, or NULL */
     const char *file;           /* -f, or NULL */
     const char *seconds;        /* --wait, or NULL */
     long wait;                  /* the same as a number, or -1 */
+    const char *protocol_word;  /* --protocol, or NULL */
+    int protocol;               /* the same as a number, or -1 */
     char *const *words;         /* of the operations */
     size_t count;
 };

@@ -1,10 +1,13 @@
 #include "reader.h"
+#include "contactless.h"
 #include "waiting.h"
 
 #include <string.h>
 
 /* how often a transaction is begun, if other programs reset the card before each */
 #define BEGIN_LIMIT 100
+
+#define EITHER (SCARD_PROTOCOL_T0 | SCARD_PROTOCOL_T1)
 
 /* What some of the codes of PC/SC say of a card and its reader. */
 static const struct {
@@ -20,10 +23,9 @@ static const struct {
     { SCARD_W_RESET_CARD, "the card was reset by another program" },
     { SCARD_W_UNPOWERED_CARD, "the card has no power" },
     { SCARD_W_UNRESPONSIVE_CARD, "the card does not answer to reset" },
-    { SCARD_E_PROTO_MISMATCH, "the card does not talk T=0" },
     { SCARD_E_SHARING_VIOLATION, "another program has the card for itself" },
-    { SCARD_E_NOT_TRANSACTED, "the reader could not carry out the TPDU" },
-    { SCARD_F_COMM_ERROR, "the reader could not carry out the TPDU" },
+    { SCARD_E_NOT_TRANSACTED, "the reader could not carry out the command" },
+    { SCARD_F_COMM_ERROR, "the reader could not carry out the command" },
     { SCARD_E_INSUFFICIENT_BUFFER, "the reader hands back more than any answer has" },
 };
 
@@ -124,6 +126,15 @@ static bool is_answered(const struct reader *reader)
     return code == SCARD_S_SUCCESS || code == SCARD_E_NO_READERS_AVAILABLE;
 }
 
+/* The fault of a card that does not talk what is wanted. */
+static const char *mismatch_text(const struct reader *reader)
+{
+    if (reader->wanted == EITHER)
+        return "the card talks neither T=0 nor T=1";
+    return reader->wanted == SCARD_PROTOCOL_T0 ? "the card does not talk T=0"
+                                               : "the card does not talk T=1";
+}
+
 /* NULL of success, and a text of each other code of a call in this context. pcsc-lite answers three
  * of them if pcscd has ended, two of which may mean something else. */
 static const char *fault_of(const struct reader *reader, LONG code)
@@ -131,28 +142,63 @@ static const char *fault_of(const struct reader *reader, LONG code)
     const bool may_be_gone = code == SCARD_F_COMM_ERROR || code == SCARD_W_SECURITY_VIOLATION;
     if (code == SCARD_E_NO_SERVICE || (may_be_gone && !is_answered(reader)))
         return "pcscd is gone";
-    return text_of(code);
+    return code == SCARD_E_PROTO_MISMATCH ? mismatch_text(reader) : text_of(code);
 }
 
-/* Connects to the reader of this name at T=0, whatever else its card talks. */
+/* The code of a connection that asked for one of these protocols. If another program resets the
+ * card meanwhile, it has no protocol yet. */
+static LONG agreed(const struct reader *reader, LONG code, DWORD protocols)
+{
+    const bool is_other = reader->protocol != SCARD_PROTOCOL_UNDEFINED
+        && (reader->protocol & protocols) == 0;
+    return code == SCARD_S_SUCCESS && is_other ? SCARD_E_PROTO_MISMATCH : code;
+}
+
+static LONG connect_at(struct reader *reader, const char *name, DWORD share, DWORD protocols)
+{
+    const LONG code = SCardConnect(reader->context, name, share, protocols, &reader->card,
+                                   &reader->protocol);
+    reader->is_connected = code == SCARD_S_SUCCESS;
+    return agreed(reader, code, protocols);
+}
+
+static LONG reconnect(struct reader *reader, DWORD how)
+{
+    const LONG code = SCardReconnect(reader->card, SCARD_SHARE_SHARED, reader->wanted, how,
+                                     &reader->protocol);
+    return agreed(reader, code, reader->wanted);
+}
+
+/* Resets a card that talks another protocol, so that it talks the wanted one. Only a program that
+ * has the card for itself may do that: another one would lose what it has selected. */
+static const char *change_protocol(struct reader *reader, const char *name)
+{
+    LONG code = connect_at(reader, name, SCARD_SHARE_EXCLUSIVE, EITHER);
+    if (code == SCARD_E_SHARING_VIOLATION)
+        return reader->wanted == SCARD_PROTOCOL_T0 ? "another program talks T=1 with the card"
+                                                   : "another program talks T=0 with the card";
+    if (code == SCARD_S_SUCCESS)
+        code = reconnect(reader, SCARD_RESET_CARD);
+    return fault_of(reader, code);
+}
+
 static const char *connect_to(struct reader *reader, const char *name)
 {
-    DWORD protocol = SCARD_PROTOCOL_UNDEFINED;
-    const LONG code = SCardConnect(reader->context, name, SCARD_SHARE_SHARED, SCARD_PROTOCOL_T0,
-                                   &reader->card, &protocol);
-    if (code != SCARD_S_SUCCESS)
-        return fault_of(reader, code);
-    reader->is_connected = true;
-    return protocol == SCARD_PROTOCOL_T0 ? NULL : text_of(SCARD_E_PROTO_MISMATCH);
+    const LONG code = connect_at(reader, name, SCARD_SHARE_SHARED, reader->wanted);
+    if (code == SCARD_E_PROTO_MISMATCH && !reader->is_connected && reader->wanted != EITHER)
+        return change_protocol(reader, name);
+    return fault_of(reader, code);
 }
 
-/* Connects once more, at T=0, to a card that another program has reset. */
-static LONG reconnect(const struct reader *reader)
+/* Asks for the protocol in use and the answer to reset. */
+static LONG ask_status(struct reader *reader)
 {
-    DWORD protocol = SCARD_PROTOCOL_UNDEFINED;
-    const LONG code = SCardReconnect(reader->card, SCARD_SHARE_SHARED, SCARD_PROTOCOL_T0,
-                                     SCARD_LEAVE_CARD, &protocol);
-    return code == SCARD_S_SUCCESS && protocol != SCARD_PROTOCOL_T0 ? SCARD_E_PROTO_MISMATCH : code;
+    BYTE atr[MAX_ATR_SIZE];
+    DWORD names = 0, size = sizeof atr;
+    const LONG code =
+        SCardStatus(reader->card, NULL, &names, NULL, &reader->protocol, atr, &size);
+    reader->is_contactless = code == SCARD_S_SUCCESS && is_contactless(atr, size);
+    return code;
 }
 
 /* Begins a transaction. Another program, which ends its own with a reset of the card, may have done
@@ -160,19 +206,18 @@ static LONG reconnect(const struct reader *reader)
  * the protocol. Nothing has been sent yet, so that is no loss. */
 static const char *begin_transaction(struct reader *reader)
 {
-    DWORD protocol = SCARD_PROTOCOL_UNDEFINED, names = 0, atr = 0;
     LONG code = SCardBeginTransaction(reader->card);
     int times;
     for (times = 1; code == SCARD_W_RESET_CARD && times < BEGIN_LIMIT; times++) {
-        code = reconnect(reader);
+        code = reconnect(reader, SCARD_LEAVE_CARD);
         if (code == SCARD_S_SUCCESS)
             code = SCardBeginTransaction(reader->card);
     }
     reader->is_held = code == SCARD_S_SUCCESS;
     if (code == SCARD_S_SUCCESS)
-        code = SCardStatus(reader->card, NULL, &names, NULL, &protocol, NULL, &atr);
-    if (code == SCARD_S_SUCCESS && protocol != SCARD_PROTOCOL_T0)
-        code = reconnect(reader);
+        code = ask_status(reader);
+    if (code == SCARD_S_SUCCESS && (reader->protocol & reader->wanted) == 0)
+        code = reconnect(reader, SCARD_LEAVE_CARD);
     return fault_of(reader, code);
 }
 
@@ -190,12 +235,13 @@ static const char *take_card(struct reader *reader, const char *name, long wait)
     return why;
 }
 
-const char *reader_open(struct reader *reader, const char *name, long wait)
+const char *reader_open(struct reader *reader, const char *name, int protocol, long wait)
 {
     struct names names;
     const char *why = NULL, *found;
     LONG code;
     memset(reader, 0, sizeof *reader);
+    reader->wanted = protocol < 0 ? EITHER : protocol == 0 ? SCARD_PROTOCOL_T0 : SCARD_PROTOCOL_T1;
     code = establish(&reader->context);
     if (code != SCARD_S_SUCCESS)
         return text_of(code);
@@ -210,12 +256,23 @@ const char *reader_open(struct reader *reader, const char *name, long wait)
     return why;
 }
 
-const char *reader_transmit(struct reader *reader, const uint8_t *tpdu, size_t n,
+int reader_protocol(const struct reader *reader)
+{
+    return reader->protocol == SCARD_PROTOCOL_T1 ? 1 : 0;
+}
+
+bool reader_takes_apdus(const struct reader *reader)
+{
+    return reader->protocol == SCARD_PROTOCOL_T1 || reader->is_contactless;
+}
+
+const char *reader_transmit(struct reader *reader, const uint8_t *sent, size_t n,
                             uint8_t answer[READER_ROOM], size_t *length)
 {
+    const SCARD_IO_REQUEST *header =
+        reader->protocol == SCARD_PROTOCOL_T1 ? SCARD_PCI_T1 : SCARD_PCI_T0;
     DWORD got = READER_ROOM;
-    const LONG code =
-        SCardTransmit(reader->card, SCARD_PCI_T0, tpdu, (DWORD)n, NULL, answer, &got);
+    const LONG code = SCardTransmit(reader->card, header, sent, (DWORD)n, NULL, answer, &got);
     *length = code == SCARD_S_SUCCESS && got <= READER_ROOM ? got : 0;
     return fault_of(reader, code);
 }

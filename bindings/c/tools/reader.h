@@ -1,5 +1,5 @@
-/* A card in a PC/SC reader, at T=0: one connection, and one transaction from its beginning to its
- * end. What is of PC/SC stands here alone. */
+/* A card in a PC/SC reader: one connection, and one transaction from its beginning to its end. Only
+ * this file and reader.c know PC/SC. */
 #ifndef READER_H
 #define READER_H
 
@@ -12,6 +12,9 @@
 struct reader {
     SCARDCONTEXT context;
     SCARDHANDLE card;
+    DWORD wanted;           /* the protocols that may be used */
+    DWORD protocol;         /* the protocol in use */
+    bool is_contactless;    /* the card has no contacts, by its answer to reset */
     bool has_context, is_connected, is_held;
 };
 
@@ -26,13 +29,22 @@ struct reader {
 const char *reader_list(FILE *out);
 
 /* Connects to the card of a reader, and keeps all other programs from it. `name` is the reader's
- * whole name, or a part of it that no other reader's has; NULL is the only reader there is. While
- * another program has a transaction this waits, and says so; after `wait` seconds it ends the
- * process (waiting.h). The reader is to be closed, whatever the answer. */
-const char *reader_open(struct reader *reader, const char *name, long wait);
+ * whole name, or a part that no other name has; NULL is the only reader. `protocol` is 0, 1, or -1
+ * for what PC/SC gives. A card that talks the other protocol is reset unless another program is
+ * connected. While another program has a transaction this waits, and says so; after `wait` seconds
+ * it ends the process (waiting.h). Close the reader, whatever this returns. */
+const char *reader_open(struct reader *reader, const char *name, int protocol, long wait);
 
-/* Sends a TPDU, and gets what the reader hands back: `length` bytes, at most READER_ROOM. */
-const char *reader_transmit(struct reader *reader, const uint8_t *tpdu, size_t n,
+/* The protocol in use, 0 or 1. */
+int reader_protocol(const struct reader *reader);
+
+/* Whether the reader takes whole commands: at T=1, and for a card without contacts. At T=0 it takes
+ * TPDUs, unless it fetches 61XX by itself. */
+bool reader_takes_apdus(const struct reader *reader);
+
+/* Sends a TPDU or a command, and gets what the reader hands back: `length` bytes, at most
+ * READER_ROOM. */
+const char *reader_transmit(struct reader *reader, const uint8_t *sent, size_t n,
                             uint8_t answer[READER_ROOM], size_t *length);
 
 /* Resets the card, so that nothing stays selected or pending, and lets other programs to it. All

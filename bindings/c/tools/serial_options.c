@@ -108,6 +108,8 @@ static bool read_alone(struct serial_options *options, const char *option)
         options->is_traced = true;
     else if (strcmp(option, "-k") == 0)
         options->goes_on = true;
+    else if (strcmp(option, "--verify") == 0)
+        options->verifies = true;
     else if (strcmp(option, "--no-echo") == 0)
         options->has_echo = false;
     else if (strcmp(option, "--pps") == 0)

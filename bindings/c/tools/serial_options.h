@@ -15,6 +15,7 @@ struct serial_options {
     bool helps, tells_version;
     bool is_traced;             /* -v */
     bool goes_on;               /* -k */
+    bool verifies;              /* --verify */
     bool has_echo;              /* not --no-echo */
     bool asks_pps;              /* --pps */
     bool makes_line;            /* --pty */

@@ -1,4 +1,4 @@
-//! Answers to reset (ISO/IEC 7816-3, clause 8).
+//! Answers to reset (ISO/IEC 7816-3, clause 8, and clause 11 for T=1).
 
 use crate::error::codes;
 use crate::{raw, version};
@@ -129,8 +129,28 @@ pub struct GuardTime {
     pub indicated: u16,
 }
 
+/// The error detection code of blocks of T=1 (clause 11).
+#[derive(Clone, Copy, Debug, PartialEq, Eq, Hash)]
+pub enum Edc {
+    /// One byte: the exclusive-or of all others of the block.
+    Lrc,
+    /// Two bytes: a cyclic redundancy check.
+    Crc,
+}
+
+/// BWT of T=1: the most from the last character of a block to the card to the first of its answer
+/// (clause 11). An S(WTX) multiplies both for one block.
+#[derive(Clone, Copy, Debug, PartialEq, Eq, Hash)]
+#[non_exhaustive]
+pub struct BlockWaitingTime {
+    /// So many elementary time units, as they are in use.
+    pub etu: u16,
+    /// And so many clock cycles.
+    pub cycles: u64,
+}
+
 /// What an answer to reset says, by its characters or, where they are not there, by the standard's
-/// defaults (8.2 and 8.3). What a reserved code says is `None`.
+/// defaults (8.2 and 8.3; clause 11 for T=1). What a reserved code says is `None`.
 ///
 /// ```
 /// use galliumtoad::{Atr, AtrReason};
@@ -165,6 +185,22 @@ pub struct Atr<'a> {
     pub waiting_integer: Option<u8>,
     /// The waiting time of T=0 in clock cycles: WI * 960 * Fi.
     pub waiting_time: Option<u32>,
+    /// IFSC of T=1, the longest field of a block that the card takes, 1 to 254: the first TA for
+    /// T=1, or 32.
+    pub ifsc: Option<u8>,
+    /// The error detection code of T=1.
+    pub edc: Option<Edc>,
+    /// BWI of T=1, 0 to 9.
+    pub block_waiting_integer: Option<u8>,
+    /// CWI of T=1, 0 to 15.
+    pub character_waiting_integer: u8,
+    /// CWT of T=1 in etu, 11 + 2^CWI: the most from one character of a block to the next.
+    pub character_waiting_time: u16,
+    /// BWT of T=1: 11 etu and 2^BWI * 960 * 372 clock cycles.
+    pub block_waiting_time: Option<BlockWaitingTime>,
+    /// BGT of T=1 in etu, 22: the least from the last character of a block to the first of one the
+    /// other way.
+    pub block_guard_time: u16,
     /// The mode that TA2 says.
     pub mode: Mode,
     /// Whether the clock may stop; not, where nothing is said behind T=15.
@@ -219,6 +255,13 @@ impl<'a> Atr<'a> {
             extra_guard_time: told.extra_guard_time,
             waiting_integer: Some(told.waiting_integer).filter(|&wi| wi != 0),
             waiting_time: Some(told.waiting_time).filter(|&cycles| cycles != 0),
+            ifsc: Some(told.t1.ifsc).filter(|&size| size != 0),
+            edc: Edc::of(told.t1.edc),
+            block_waiting_integer: Some(told.t1.bwi).filter(|_| told.t1.bwt_etu != 0),
+            character_waiting_integer: told.t1.cwi,
+            character_waiting_time: told.t1.cwt_etu,
+            block_waiting_time: BlockWaitingTime::of(told),
+            block_guard_time: told.t1.bgt_etu,
             mode: Mode::of(told),
             clock_stop: ClockStop::of(told.clock_stop),
             classes: Classes::of(told.classes),
@@ -287,6 +330,25 @@ impl Classes {
             a: bits & 1 != 0,
             b: bits & 2 != 0,
             c: bits & 4 != 0,
+        })
+    }
+}
+
+impl Edc {
+    fn of(size: u8) -> Option<Edc> {
+        match size {
+            1 => Some(Edc::Lrc),
+            2 => Some(Edc::Crc),
+            _ => None,
+        }
+    }
+}
+
+impl BlockWaitingTime {
+    fn of(told: &raw::Atr) -> Option<BlockWaitingTime> {
+        (told.t1.bwt_etu != 0).then_some(BlockWaitingTime {
+            etu: told.t1.bwt_etu,
+            cycles: told.t1.bwt_cycles,
         })
     }
 }

@@ -95,13 +95,13 @@ codes! {
         BadLength = -51, "bad command length";
         /// INS is `6X` or `9X`.
         InvalidIns = -52, "invalid INS";
-        /// No whole TPDU is about to begin.
-        NotDue = -60, "no TPDU due";
-        /// The answer to a whole TPDU does not end in a status word.
+        /// No whole TPDU or command is about to begin.
+        NotDue = -60, "nothing due";
+        /// The answer does not end in a status word.
         NoStatus = -61, "no status";
-        /// Data came back, and the TPDU asks for none.
+        /// Data came back, and the TPDU or command asks for none.
         NotAsked = -62, "data not asked for";
-        /// More data came back than the TPDU asks for.
+        /// More data came back than the TPDU or command asks for.
         TooMany = -63, "more data than asked for";
         /// The bytes are no whole TPDU.
         NoTpdu = -64, "no whole TPDU";

@@ -27,7 +27,8 @@ mod whole;
 mod wiped;
 
 pub use atr::{
-    Atr, AtrError, AtrReason, Category, Classes, ClockStop, Convention, GuardTime, Mode,
+    Atr, AtrError, AtrReason, BlockWaitingTime, Category, Classes, ClockStop, Convention, Edc,
+    GuardTime, Mode,
 };
 pub use atr::{ATR_LIMIT, PROTOCOLS_LIMIT};
 pub use buffers::{ReceiveError, Sent, Stop};
@@ -41,6 +42,6 @@ pub use pps::{Pps, PpsError, PPS_LIMIT};
 pub use session::{End, Session};
 pub use status::Status;
 pub use terminal::{Operation, Terminal};
-pub use transport::{RunError, Transport};
+pub use transport::{Level, RunError, Transport};
 pub use version::{version, version_fits};
-pub use whole::{Due, Tpdu, ANSWER_LIMIT, TPDU_LIMIT};
+pub use whole::{Due, Tpdu, ANSWER_LIMIT, APDU_LIMIT, TPDU_LIMIT};

@@ -86,6 +86,20 @@ pub struct Atr {
     pub guard_etu_t1: u16,
     pub guard_indicated: u16,
     pub waiting_time: u32,
+    pub t1: AtrT1,
+}
+
+#[repr(C)]
+#[derive(Clone, Copy, Debug, Default)]
+pub struct AtrT1 {
+    pub ifsc: u8,
+    pub edc: u8,
+    pub bwi: u8,
+    pub cwi: u8,
+    pub cwt_etu: u16,
+    pub bwt_etu: u16,
+    pub bgt_etu: u16,
+    pub bwt_cycles: u64,
 }
 
 #[repr(C)]
@@ -104,116 +118,13 @@ pub const NOT_FOUND: i32 = -8;
 
 pub const TERMINAL: u8 = 0;
 
+/// Declares functions of the archive.
 macro_rules! declared {
-    ($(fn $name:ident($($arg:ident: $of:ty),*);)*) => {
+    ($(fn $name:ident($($arg:ident: $of:ty),*) $(-> $back:ty)?;)*) => {
         extern "C" {
-            $(pub fn $name($($arg: $of),*) -> i32;)*
+            $(pub fn $name($($arg: $of),*) $(-> $back)?;)*
         }
     };
 }
 
-declared! {
-    fn galliumtoad_objects(
-        bytes: *const u8, n: usize, objects: *mut Object, room: usize, count: *mut usize,
-        place: *mut usize
-    );
-    fn galliumtoad_find(
-        bytes: *const u8, n: usize, path: *const u32, steps: usize, object: *mut Object,
-        place: *mut usize
-    );
-    fn galliumtoad_head(tag: u32, length: u16, head: *mut u8, room: usize, len: *mut usize);
-
-    fn galliumtoad_atr_read(bytes: *const u8, n: usize, atr: *mut Atr, place: *mut usize);
-    fn galliumtoad_pps_request(
-        t: u8, pps1: u16, pps2: u16, pps3: u16, request: *mut u8, room: usize, n: *mut usize
-    );
-    fn galliumtoad_pps_agreed(request: *const u8, n: usize, response: *const u8, m: usize);
-
-    fn galliumtoad_exchange_start_within(e: *mut Held, command: *const u8, n: usize, limit: usize);
-    fn galliumtoad_exchange_next(e: *mut Held, byte: *mut u8);
-    fn galliumtoad_exchange_take(e: *mut Held, byte: u8);
-    fn galliumtoad_exchange_send_bytes(e: *mut Held, bytes: *mut u8, room: usize, n: *mut usize);
-    fn galliumtoad_exchange_receive_bytes(
-        e: *mut Held, bytes: *const u8, n: usize, taken: *mut usize
-    );
-    fn galliumtoad_exchange_answer(
-        e: *mut Held, status: *mut u16, data: *mut u8, room: usize, len: *mut usize
-    );
-
-    fn galliumtoad_exchange_tpdu(
-        e: *mut Held, tpdu: *mut u8, room: usize, n: *mut usize, most: *mut usize
-    );
-    fn galliumtoad_exchange_answered(e: *mut Held, answer: *const u8, n: usize);
-
-    fn galliumtoad_terminal_new_within(t: *mut Held, limit: usize);
-    fn galliumtoad_terminal_reset(t: *mut Held);
-    fn galliumtoad_terminal_select(t: *mut Held, aid: *const u8, n: usize);
-    fn galliumtoad_terminal_get(t: *mut Held, tag: u32);
-    fn galliumtoad_terminal_put(t: *mut Held, tag: u32, value: *const u8, n: usize);
-    fn galliumtoad_terminal_send(t: *mut Held, command: *const u8, n: usize);
-    fn galliumtoad_terminal_next(t: *mut Held, byte: *mut u8);
-    fn galliumtoad_terminal_take(t: *mut Held, byte: u8);
-    fn galliumtoad_terminal_send_bytes(t: *mut Held, bytes: *mut u8, room: usize, n: *mut usize);
-    fn galliumtoad_terminal_receive_bytes(
-        t: *mut Held, bytes: *const u8, n: usize, taken: *mut usize
-    );
-    fn galliumtoad_terminal_tpdu(
-        t: *mut Held, tpdu: *mut u8, room: usize, n: *mut usize, most: *mut usize
-    );
-    fn galliumtoad_terminal_answered(t: *mut Held, answer: *const u8, n: usize);
-    fn galliumtoad_terminal_answer(
-        t: *mut Held, status: *mut u16, data: *mut u8, room: usize, len: *mut usize
-    );
-
-    fn galliumtoad_card_new(c: *mut Held);
-    fn galliumtoad_card_app(c: *mut Held, aid: *const u8, n: usize);
-    fn galliumtoad_card_object(c: *mut Held, tag: u32, value: *const u8, n: usize, locked: bool);
-    fn galliumtoad_card_finish(c: *mut Held);
-    fn galliumtoad_card_take(c: *mut Held, byte: u8);
-    fn galliumtoad_card_turn(c: *mut Held, byte: *mut u8);
-    fn galliumtoad_card_send_bytes(c: *mut Held, bytes: *mut u8, room: usize, n: *mut usize);
-    fn galliumtoad_card_receive_bytes(c: *mut Held, bytes: *const u8, n: usize, taken: *mut usize);
-    fn galliumtoad_card_reset(c: *mut Held);
-    fn galliumtoad_card_tpdu(
-        c: *mut Held, tpdu: *const u8, n: usize, answer: *mut u8, room: usize, len: *mut usize
-    );
-    fn galliumtoad_card_plan(c: *mut Held, steps: *const u8, n: usize, cut: u16);
-    fn galliumtoad_card_selected(c: *mut Held, aid: *mut u8, room: usize, n: *mut usize);
-    fn galliumtoad_card_app_at(c: *mut Held, app: usize, aid: *mut u8, room: usize, n: *mut usize);
-    fn galliumtoad_card_entry_at(
-        c: *mut Held, app: usize, entry: usize, tag: *mut u32, locked: *mut i32,
-        value: *mut u8, room: usize, len: *mut usize
-    );
-
-    fn galliumtoad_session_start(s: *mut Held, c: *mut Held);
-    fn galliumtoad_session_select(s: *mut Held, aid: *const u8, n: usize);
-    fn galliumtoad_session_get(s: *mut Held, tag: u32);
-    fn galliumtoad_session_put(s: *mut Held, tag: u32, value: *const u8, n: usize);
-    fn galliumtoad_session_send(s: *mut Held, command: *const u8, n: usize);
-    fn galliumtoad_session_answer(
-        s: *mut Held, status: *mut u16, data: *mut u8, room: usize, len: *mut usize
-    );
-    fn galliumtoad_session_heard(
-        s: *mut Held, line: *mut Character, room: usize, count: *mut usize
-    );
-    fn galliumtoad_session_idle(s: *mut Held);
-    fn galliumtoad_session_plan(s: *mut Held, steps: *const u8, n: usize, cut: u16);
-    fn galliumtoad_session_reset(s: *mut Held);
-    fn galliumtoad_session_selected(s: *mut Held, aid: *mut u8, room: usize, n: *mut usize);
-    fn galliumtoad_session_app_at(
-        s: *mut Held, app: usize, aid: *mut u8, room: usize, n: *mut usize
-    );
-    fn galliumtoad_session_entry_at(
-        s: *mut Held, app: usize, entry: usize, tag: *mut u32, locked: *mut i32,
-        value: *mut u8, room: usize, len: *mut usize
-    );
-    fn galliumtoad_session_end(s: *mut Held, c: *mut Held);
-}
-
-extern "C" {
-    pub fn galliumtoad_version() -> u32;
-    pub fn galliumtoad_exchange_free(e: *mut Held);
-    pub fn galliumtoad_terminal_free(t: *mut Held);
-    pub fn galliumtoad_card_free(c: *mut Held);
-    pub fn galliumtoad_session_free(s: *mut Held);
-}
+include!("functions.rs");

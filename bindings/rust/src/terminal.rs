@@ -3,7 +3,7 @@
 use crate::error::{done, told, Error};
 use crate::exchange::{self, Answer, Copied, Turn, RESPONSE_LIMIT};
 use crate::raw::{self, Handle};
-use crate::whole::{self, Due, Tpdu, TPDU_LIMIT};
+use crate::whole::{self, Due, Tpdu, APDU_LIMIT, TPDU_LIMIT};
 use std::fmt;
 
 /// What a terminal does with a card of data objects. `Debug` leaves out what goes to the card.
@@ -32,8 +32,9 @@ impl fmt::Debug for Operation<'_> {
 
 /// A terminal, which carries out one operation after another with a card behind any line.
 ///
-/// An operation begins ([`begin`](Terminal::begin)), and then its characters or its whole TPDUs go
-/// to the card and what comes back to the terminal, until it has an [`answer`](Terminal::answer).
+/// An operation begins ([`begin`](Terminal::begin)). Then its characters, its whole TPDUs or its
+/// commands go to the card and what comes back to the terminal, until it has an
+/// [`answer`](Terminal::answer).
 /// [`run`](Terminal::run) does all of that with a [`Transport`](crate::Transport).
 ///
 /// The memory of an operation, room for a response and a copy of the data that go to the card, is
@@ -148,7 +149,7 @@ impl Terminal {
 
     /// As [`tpdu`](Terminal::tpdu), with the bytes at the front of `room`, and without memory.
     pub fn tpdu_into(&self, room: &mut [u8; TPDU_LIMIT]) -> Option<Due> {
-        whole::tpdu_into(&self.0, raw::galliumtoad_terminal_tpdu, room)
+        whole::due_into(&self.0, raw::galliumtoad_terminal_tpdu, room).ok()?
     }
 
     /// Takes the answer to that TPDU: data, and then SW1 SW2.
@@ -162,6 +163,30 @@ impl Terminal {
         // SAFETY: a terminal's handle; a slice with its length.
         done(unsafe {
             raw::galliumtoad_terminal_answered(self.0.at(), answer.as_ptr(), answer.len())
+        })
+    }
+
+    /// Copies the command to send now to the front of `room`, as
+    /// [`Exchange::apdu_into`](crate::Exchange::apdu_into). Each operation has a level of its own.
+    ///
+    /// # Errors
+    ///
+    /// - [`Error::State`]: the operation goes by characters and TPDUs, or none has begun. Nothing
+    ///   has changed.
+    /// - [`Error::Memory`]: it ran out. Nothing has changed.
+    pub fn apdu_into(&self, room: &mut [u8; APDU_LIMIT]) -> Result<Option<Due>, Error> {
+        whole::due_into(&self.0, raw::galliumtoad_terminal_apdu, room)
+    }
+
+    /// Takes the response to that command: data, and then SW1 SW2.
+    ///
+    /// # Errors
+    ///
+    /// As [`Exchange::responded`](crate::Exchange::responded).
+    pub fn responded(&mut self, response: &[u8]) -> Result<(), Error> {
+        // SAFETY: a terminal's handle; a slice with its length.
+        done(unsafe {
+            raw::galliumtoad_terminal_responded(self.0.at(), response.as_ptr(), response.len())
         })
     }
 

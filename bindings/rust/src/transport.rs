@@ -1,17 +1,28 @@
-//! A terminal's operations over a transport of whole TPDUs.
+//! A terminal's operations over a transport of whole TPDUs or commands.
 
 use crate::error::Error;
 use crate::exchange::Answer;
+use crate::raw;
 use crate::terminal::{Operation, Terminal};
-use crate::whole::{ANSWER_LIMIT, TPDU_LIMIT};
+use crate::whole::{due_into, ANSWER_LIMIT, APDU_LIMIT};
 use crate::wiped::Wiped;
 use std::error;
 use std::fmt;
 
-/// A reader that carries whole TPDUs to its card, as one of PC/SC does at T=0.
+/// What a transport carries.
+#[derive(Clone, Copy, Debug, PartialEq, Eq, Hash)]
+pub enum Level {
+    /// Whole TPDUs, at most [`TPDU_LIMIT`](crate::TPDU_LIMIT) bytes: a reader of PC/SC at T=0.
+    Tpdu,
+    /// Whole commands, at most [`APDU_LIMIT`] bytes: a reader of PC/SC at T=1 or without contacts,
+    /// or one that fetches after `61XX` by itself.
+    Apdu,
+}
+
+/// A reader that carries whole TPDUs or commands to its card, as one of PC/SC does.
 ///
-/// Any closure of this form is one. Write the types of its parameters: without them the compiler
-/// does not find that it takes slices of any lifetime.
+/// Any closure of this form is one, at [`Level::Tpdu`]. Write the types of its parameters: without
+/// them the compiler does not find that it takes slices of any lifetime.
 ///
 /// ```
 /// use galliumtoad::{Operation, Terminal};
@@ -25,24 +36,57 @@ use std::fmt;
 /// assert_eq!(answer.status, 0x6A82);
 /// # Ok::<(), Box<dyn std::error::Error>>(())
 /// ```
+///
+/// A card at T=1, in memory:
+///
+/// ```
+/// use galliumtoad::{Card, CardBuilder, Error, Level, Operation, Terminal, Transport};
+///
+/// struct Reader(Card);
+///
+/// impl Transport for Reader {
+///     type Error = Error;
+///
+///     fn level(&self) -> Level {
+///         Level::Apdu
+///     }
+///
+///     fn transmit(&mut self, command: &[u8], answer: &mut [u8]) -> Result<usize, Error> {
+///         self.0.apdu_into(command, answer)
+///     }
+/// }
+///
+/// let aid = [0xA0, 0x00, 0x00, 0x00, 0x03, 0x10, 0x10];
+/// let mut builder = CardBuilder::new()?;
+/// builder.app(&aid)?;
+/// let mut reader = Reader(builder.finish()?);
+/// let answer = Terminal::new()?.run(&mut reader, Operation::Select(&aid)).unwrap();
+/// assert_eq!(answer.status, 0x9000);
+/// # Ok::<(), Error>(())
+/// ```
 pub trait Transport {
-    /// Why a TPDU was not carried: of a closure, its own error.
+    /// Why nothing was carried: of a closure, its own error.
     type Error;
 
-    /// Sends a TPDU, and returns how many bytes came back: data, and then SW1 SW2. They are at the
-    /// front of `answer`, which has [`ANSWER_LIMIT`] bytes, all 0 before the call.
+    /// What it carries. [`Terminal::run`] asks once, before it sends anything.
+    fn level(&self) -> Level {
+        Level::Tpdu
+    }
+
+    /// Sends a TPDU or a command, and returns how many bytes came back: data, and then SW1 SW2.
+    /// They are at the front of `answer`, which has [`ANSWER_LIMIT`] bytes, all 0 before the call.
     ///
     /// # Errors
     ///
     /// Whatever the reader says. [`Terminal::run`] ends with it, and sends nothing again.
-    fn transmit(&mut self, tpdu: &[u8], answer: &mut [u8]) -> Result<usize, Self::Error>;
+    fn transmit(&mut self, sent: &[u8], answer: &mut [u8]) -> Result<usize, Self::Error>;
 }
 
 impl<E, F: FnMut(&[u8], &mut [u8]) -> Result<usize, E> + ?Sized> Transport for F {
     type Error = E;
 
-    fn transmit(&mut self, tpdu: &[u8], answer: &mut [u8]) -> Result<usize, E> {
-        self(tpdu, answer)
+    fn transmit(&mut self, sent: &[u8], answer: &mut [u8]) -> Result<usize, E> {
+        self(sent, answer)
     }
 }
 
@@ -51,7 +95,7 @@ impl<E, F: FnMut(&[u8], &mut [u8]) -> Result<usize, E> + ?Sized> Transport for F
 #[derive(Clone, Copy, Debug, PartialEq, Eq, Hash)]
 #[non_exhaustive]
 pub enum RunError<E> {
-    /// The operation was not begun, or a reader's answer fits no TPDU ([`Error::NoStatus`],
+    /// The operation was not begun, or a reader's answer does not fit ([`Error::NoStatus`],
     /// [`Error::NotAsked`], [`Error::TooMany`]), or the card has brought too much, or nothing that
     /// it announced ([`Error::TooLong`], [`Error::Stalled`]).
     Terminal(Error),
@@ -99,6 +143,7 @@ impl Terminal {
     /// # Errors
     ///
     /// - [`RunError::Terminal`] of [`Terminal::begin`]: nothing was sent, and nothing has changed.
+    /// - [`Error::Memory`] at [`Level::Apdu`]: nothing was sent, and the terminal is reset.
     /// - Any other: the terminal is reset, and the next operation may begin. What the card has done
     ///   is unknown: reset it. Nothing was sent a second time.
     ///
@@ -115,15 +160,24 @@ impl Terminal {
         Ok(self.answer().ok_or(Error::Failed)?)
     }
 
-    /// Passes the TPDUs of the operation that has begun, until none is due.
+    /// Passes what the operation that has begun sends, until nothing is due.
     fn pass<T: Transport + ?Sized>(&mut self, reader: &mut T) -> Result<(), RunError<T::Error>> {
-        let (mut tpdu, mut room) = (Wiped([0; TPDU_LIMIT]), Wiped([0; ANSWER_LIMIT]));
-        while let Some(due) = self.tpdu_into(&mut tpdu.0) {
+        let level = reader.level();
+        let copies = match level {
+            Level::Tpdu => raw::galliumtoad_terminal_tpdu,
+            Level::Apdu => raw::galliumtoad_terminal_apdu,
+        };
+        let (mut sent, mut room) = (Wiped([0; APDU_LIMIT]), Wiped([0; ANSWER_LIMIT]));
+        while let Some(due) = due_into(&self.0, copies, &mut sent.0)? {
             // a reader that writes less than it claims hands back none of an earlier answer
             room.0.fill(0);
-            let came = reader.transmit(&tpdu.0[..due.count], &mut room.0);
+            let came = reader.transmit(&sent.0[..due.count], &mut room.0);
             let n = came.map_err(RunError::Transport)?;
-            self.answered(room.0.get(..n).ok_or(Error::TooMany)?)?;
+            let answer = room.0.get(..n).ok_or(Error::TooMany)?;
+            match level {
+                Level::Tpdu => self.answered(answer)?,
+                Level::Apdu => self.responded(answer)?,
+            }
         }
         Ok(())
     }

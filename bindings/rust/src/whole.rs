@@ -1,4 +1,4 @@
-//! Whole TPDUs, as a reader of PC/SC carries them (`SCardTransmit` at T=0).
+//! Whole TPDUs and commands, as a reader of PC/SC carries them (`SCardTransmit` at T=0 and T=1).
 
 use crate::card::Card;
 use crate::error::{done, Error};
@@ -10,7 +10,10 @@ use std::fmt;
 /// The most bytes of a whole TPDU: header, P3 and 255 bytes of data.
 pub const TPDU_LIMIT: usize = 260;
 
-/// The most bytes of the answer to one: 256 bytes of data, and the status.
+/// The most bytes of a command (APDU): header, Lc, 255 bytes of data and Le.
+pub const APDU_LIMIT: usize = 261;
+
+/// The most bytes of the answer to a TPDU or a command: 256 bytes of data, and the status.
 pub const ANSWER_LIMIT: usize = 258;
 
 /// A whole TPDU that is due: the header alone, where no data move; the header and P3, where data
@@ -38,36 +41,40 @@ impl Drop for Tpdu {
     }
 }
 
-/// A whole TPDU that is due, and was copied into a buffer.
+/// A whole TPDU or command that is due, and was copied into a buffer.
 #[derive(Clone, Copy, Debug, PartialEq, Eq, Hash)]
 #[non_exhaustive]
 pub struct Due {
-    /// How many bytes it has, 4 to 260, at the front of the buffer; the others are as they were.
+    /// How many bytes it has at the front of the buffer, 4 to 260, or 261 for a command; the others
+    /// are as they were.
     pub count: usize,
     /// How many bytes of data may come back before the status, 0 to 256.
     pub most: usize,
 }
 
-/// The function of the archive that copies the TPDU of a handle.
+/// A function of the archive that copies the TPDU or the command of a handle.
 type Copies = unsafe extern "C" fn(*mut Held, *mut u8, usize, *mut usize, *mut usize) -> i32;
 
-/// Copies the TPDU that is due to the front of `room`. The handle is of the function's kind.
-pub(crate) fn tpdu_into(
+/// Copies what is due to the front of `room`, if anything is. The handle is of the function's kind.
+pub(crate) fn due_into(
     handle: &Handle,
     copies: Copies,
-    room: &mut [u8; TPDU_LIMIT],
-) -> Option<Due> {
+    room: &mut [u8],
+) -> Result<Option<Due>, Error> {
     let (mut count, mut most, bytes) = (0, 0, room.as_mut_ptr());
     // SAFETY: a handle that a call by `&` may write to (`Handle`); `room` with its length, `count`
     // and `most` are apart from it and from one another.
     let code = unsafe { copies(handle.at(), bytes, room.len(), &mut count, &mut most) };
-    (code == raw::OK).then_some(Due { count, most })
+    match done(code) {
+        Err(Error::NotDue) => Ok(None),
+        told => told.map(|()| Some(Due { count, most })),
+    }
 }
 
 /// The TPDU that is due, in memory of its own.
 pub(crate) fn tpdu(handle: &Handle, copies: Copies) -> Option<Tpdu> {
     let mut room = Wiped([0; TPDU_LIMIT]);
-    let Due { count, most } = tpdu_into(handle, copies, &mut room.0)?;
+    let Due { count, most } = due_into(handle, copies, &mut room.0).ok()??;
     let bytes = room.0[..count].to_vec();
     Some(Tpdu { bytes, most })
 }
@@ -82,7 +89,7 @@ impl Exchange {
 
     /// As [`tpdu`](Exchange::tpdu), with the bytes at the front of `room`, and without memory.
     pub fn tpdu_into(&self, room: &mut [u8; TPDU_LIMIT]) -> Option<Due> {
-        tpdu_into(&self.0, raw::galliumtoad_exchange_tpdu, room)
+        due_into(&self.0, raw::galliumtoad_exchange_tpdu, room).ok()?
     }
 
     /// Takes the answer to that TPDU: data, and then SW1 SW2. The exchange goes on as after the
@@ -99,7 +106,39 @@ impl Exchange {
             raw::galliumtoad_exchange_answered(self.0.at(), answer.as_ptr(), answer.len())
         })
     }
+
+    /// Copies the command to send now to the front of `room`: for a reader that carries whole
+    /// commands, see [`Level::Apdu`](crate::Level::Apdu). It is `None` if the exchange has ended or
+    /// has failed.
+    ///
+    /// The first character that goes, or the first answer that is taken, sets the level. Calls of
+    /// the other level are [`Error::State`] from then on, or `None`, and nothing changes.
+    ///
+    /// # Errors
+    ///
+    /// - [`Error::State`]: the exchange goes by characters and TPDUs. Nothing has changed.
+    /// - [`Error::Memory`]: it ran out. Nothing has changed.
+    pub fn apdu_into(&self, room: &mut [u8; APDU_LIMIT]) -> Result<Option<Due>, Error> {
+        due_into(&self.0, raw::galliumtoad_exchange_apdu, room)
+    }
+
+    /// Takes the response to that command: data, and then SW1 SW2.
+    ///
+    /// # Errors
+    ///
+    /// - [`Error::State`], [`Error::NotDue`], [`Error::Memory`], [`Error::NoStatus`],
+    ///   [`Error::NotAsked`], [`Error::TooMany`]: nothing has changed.
+    /// - [`Error::TooLong`], [`Error::Stalled`]: the exchange has failed for good.
+    pub fn responded(&mut self, response: &[u8]) -> Result<(), Error> {
+        // SAFETY: an exchange's handle; a slice with its length.
+        done(unsafe {
+            raw::galliumtoad_exchange_responded(self.0.at(), response.as_ptr(), response.len())
+        })
+    }
 }
+
+/// A function of the archive that has a card carry out a TPDU or a command.
+type Carries = unsafe extern "C" fn(*mut Held, *const u8, usize, *mut u8, usize, *mut usize) -> i32;
 
 impl Card {
     /// Carries out a whole TPDU, as the firmware of a reader does, under the next of the plans. Its
@@ -123,18 +162,52 @@ impl Card {
     ///
     /// # Errors
     ///
-    /// - [`Error::Buffer`]: `room` has less than [`ANSWER_LIMIT`] bytes. Nothing has changed.
+    /// - [`Error::Buffer`]: `room` is less than 2 bytes, or than 2 and P3 (`00`: 256) for a TPDU of
+    ///   five bytes. Nothing has changed.
     /// - Any other: as [`tpdu`](Card::tpdu); `room` is as it was.
     pub fn tpdu_into(&mut self, tpdu: &[u8], room: &mut [u8]) -> Result<usize, Error> {
-        if room.len() < ANSWER_LIMIT {
-            return Err(Error::Buffer);
-        }
-        let (at, mut count) = (tpdu.as_ptr(), 0);
+        self.carry_out(raw::galliumtoad_card_tpdu, tpdu, room)
+    }
+
+    /// Carries out a whole command, as a card at T=1 or without contacts does. The response is
+    /// data, and then SW1 SW2. It is the caller's: this crate wipes no copy of it.
+    ///
+    /// The command goes as TPDUs of the card, to a terminal that wants Le bytes (`00`: 256). What
+    /// is left waits, and `61XX` announces it. The card answers `6700`, and nothing changes, to an
+    /// extended command and to other bytes with wrong lengths; to SELECT and PUT DATA in case 2;
+    /// and to GET DATA and GET RESPONSE in any other case. Plans are for TPDUs and characters
+    /// alone.
+    ///
+    /// # Errors
+    ///
+    /// After each of these nothing has changed.
+    ///
+    /// - [`Error::State`]: characters of a TPDU have gone.
+    /// - [`Error::TooShort`], [`Error::InvalidIns`]: the bytes are not a command.
+    /// - [`Error::Memory`]: it ran out.
+    pub fn apdu(&mut self, command: &[u8]) -> Result<Vec<u8>, Error> {
+        let mut room = Wiped([0; ANSWER_LIMIT]);
+        let count = self.apdu_into(command, &mut room.0)?;
+        Ok(room.0[..count].to_vec())
+    }
+
+    /// As [`apdu`](Card::apdu), with the response at the front of `room`; returns how many bytes it
+    /// has, 2 to [`ANSWER_LIMIT`].
+    ///
+    /// # Errors
+    ///
+    /// - [`Error::Buffer`]: `room` is less than 2 bytes and Le (`00`: 256). Nothing has changed.
+    /// - Any other: as [`apdu`](Card::apdu); `room` is as it was.
+    pub fn apdu_into(&mut self, command: &[u8], room: &mut [u8]) -> Result<usize, Error> {
+        self.carry_out(raw::galliumtoad_card_apdu, command, room)
+    }
+
+    fn carry_out(&mut self, call: Carries, sent: &[u8], room: &mut [u8]) -> Result<usize, Error> {
+        let (at, mut count) = (sent.as_ptr(), 0);
         let (to, n) = (room.as_mut_ptr(), room.len());
-        // SAFETY: a card's handle; slices with their lengths, and `count`, which are apart.
-        done(unsafe {
-            raw::galliumtoad_card_tpdu(self.0 .0.at(), at, tpdu.len(), to, n, &mut count)
-        })?;
+        // SAFETY: a card's handle, for a function of a card; slices with their lengths, and
+        // `count`, which are apart.
+        done(unsafe { call(self.0 .0.at(), at, sent.len(), to, n, &mut count) })?;
         Ok(count)
     }
 }

@@ -1,8 +1,8 @@
-//! Answers to reset, PPS and the version, by ISO/IEC 7816-3, clauses 8 and 9, and EMV Book 1,
+//! Answers to reset, PPS and the version, by ISO/IEC 7816-3, clauses 8, 9 and 11, and EMV Book 1,
 //! worked out by hand.
 
 use galliumtoad::{version, version_fits, Pps, PpsError, PPS_LIMIT};
-use galliumtoad::{Atr, AtrReason, Category, ClockStop, Convention, Mode};
+use galliumtoad::{Atr, AtrReason, Category, ClockStop, Convention, Edc, Mode};
 use galliumtoad::{ATR_LIMIT, PROTOCOLS_LIMIT};
 
 fn atr(bytes: &[u8]) -> Atr<'_> {
@@ -105,6 +105,65 @@ fn what_a_reserved_code_says_is_none() {
     let read = atr(b"\x3B\x80\x40\x00");
     assert_eq!((read.waiting_integer, read.waiting_time), (None, None));
     assert!(atr(b"\x3B\x80\x80\x1F\x05\x1A").classes.is_none());
+}
+
+/// What is said of T=1: IFSC, the error detection code, BWI, BWT in etu and cycles, CWI and CWT.
+type OfT1 = (
+    Option<u8>,
+    Option<Edc>,
+    Option<u8>,
+    Option<(u16, u64)>,
+    u8,
+    u16,
+);
+
+fn of_t_1(bytes: &[u8]) -> OfT1 {
+    let atr = atr(bytes);
+    assert_eq!(atr.block_guard_time, 22);
+    (
+        atr.ifsc,
+        atr.edc,
+        atr.block_waiting_integer,
+        atr.block_waiting_time.map(|time| (time.etu, time.cycles)),
+        atr.character_waiting_integer,
+        atr.character_waiting_time,
+    )
+}
+
+/// 11 etu and 2^BWI * 960 * 372 cycles; 11 + 2^CWI etu.
+#[test]
+fn values_of_t_1() {
+    let plain: OfT1 = (
+        Some(32),
+        Some(Edc::Lrc),
+        Some(4),
+        Some((11, 5_713_920)),
+        13,
+        8_203,
+    );
+    assert_eq!(of_t_1(b"\x3B\x00"), plain);
+    let (ifsc, edc, bwi, bwt, ..) = plain;
+    let emv = (Some(254), edc, bwi, bwt, 5, 43);
+    assert_eq!(of_t_1(b"\x3B\xE0\x00\xFF\x81\x31\xFE\x45\x14"), emv);
+    // those behind TD1 are not of T=1
+    assert_eq!(of_t_1(b"\x3B\x80\xF1\x01\x91\x01\x01\xE1"), plain);
+    let two = b"\x3B\x80\x81\xA1\x92\xF1\x50\x45\x01\x11\x60\xA6";
+    let first = (
+        Some(80),
+        Some(Edc::Crc),
+        Some(9),
+        Some((11, 182_845_440)),
+        2,
+        15,
+    );
+    assert_eq!(of_t_1(two), first);
+    let least = (ifsc, edc, Some(0), Some((11, 357_120)), 0, 12);
+    assert_eq!(of_t_1(b"\x3B\x80\x81\x21\x00\x20"), least);
+    let reserved = (ifsc, edc, None, None, 15, 32_779);
+    assert_eq!(of_t_1(b"\x3B\x80\x81\x21\xAF\x8F"), reserved);
+    assert_eq!(atr(b"\x3B\x80\x81\x11\x00\x10").ifsc, None);
+    assert_eq!(atr(b"\x3B\x80\x81\x11\xFF\xEF").ifsc, None);
+    assert_eq!(atr(b"\x3B\x80\x81\x41\x02\x42").edc, None);
 }
 
 #[test]

@@ -2,7 +2,7 @@
 //! and iterators to their end.
 
 use galliumtoad::{head, CardBuilder, Entry, Error, Exchange, Objects, Session, Turn};
-use galliumtoad::{Operation, Terminal, ANSWER_LIMIT, TPDU_LIMIT};
+use galliumtoad::{Operation, Terminal, ANSWER_LIMIT, APDU_LIMIT, TPDU_LIMIT};
 use galliumtoad::{AID_LEAST, AID_LIMIT, APPS_LIMIT, ENTRIES_LIMIT, LEVELS_LIMIT};
 use galliumtoad::{OBJECT_LIMIT, PLANS_LIMIT, RESPONSE_LIMIT, VALUE_LIMIT};
 
@@ -233,6 +233,10 @@ fn the_longest_tpdu_of_a_card_is_told() {
     assert_eq!(answer[..5], [0xDF, 0x01, 0x82, 0x20, 0x00]);
     assert_eq!(answer[5..256], bytes(251, 0));
     assert_eq!(answer[256..], [0x61, 0x00]);
+    assert_eq!(card.apdu(&[0x00, 0xCA, 0xDF, 0x01, 0x00]), Ok(answer));
+    let put = [&[0x00, 0xDA, 0xDF, 0x01, 0xFF], &bytes(255, 3)[..], &[0x00]].concat();
+    assert_eq!(put.len(), APDU_LIMIT);
+    assert_eq!(card.apdu(&put), Ok(vec![0x90, 0x00]));
 }
 
 /// Nine letters, and 300: each is a NULL before the card goes on.

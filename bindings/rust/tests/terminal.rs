@@ -1,7 +1,7 @@
-//! A terminal with a card behind a transport of whole TPDUs.
+//! A terminal with a card behind a transport of whole TPDUs, or of commands.
 
 use galliumtoad::{Card, CardBuilder, Error, Operation, RunError, Status, Terminal, Transport};
-use galliumtoad::{Turn, ANSWER_LIMIT};
+use galliumtoad::{Level, Turn, ANSWER_LIMIT, APDU_LIMIT};
 use std::convert::Infallible;
 use std::error::Error as _;
 use std::io;
@@ -17,26 +17,39 @@ fn card() -> Card {
     builder.finish().expect("a card")
 }
 
-/// A card as a reader has it, which notes each TPDU with its answer.
+/// A card as a reader has it, which notes each TPDU or command with its answer.
 struct Reader {
     card: Card,
+    level: Level,
     seen: Vec<(Vec<u8>, Vec<u8>)>,
 }
 
 impl Transport for Reader {
     type Error = Error;
 
-    fn transmit(&mut self, tpdu: &[u8], answer: &mut [u8]) -> Result<usize, Error> {
-        let came = self.card.tpdu(tpdu)?;
+    fn level(&self) -> Level {
+        self.level
+    }
+
+    fn transmit(&mut self, sent: &[u8], answer: &mut [u8]) -> Result<usize, Error> {
+        let came = match self.level {
+            Level::Tpdu => self.card.tpdu(sent)?,
+            Level::Apdu => self.card.apdu(sent)?,
+        };
         answer[..came.len()].copy_from_slice(&came);
-        self.seen.push((tpdu.to_vec(), came.clone()));
+        self.seen.push((sent.to_vec(), came.clone()));
         Ok(came.len())
     }
 }
 
 fn reader() -> Reader {
+    reader_at(Level::Tpdu)
+}
+
+fn reader_at(level: Level) -> Reader {
     Reader {
         card: card(),
+        level,
         seen: Vec::new(),
     }
 }
@@ -63,6 +76,98 @@ fn operations_run_over_a_transport() {
     assert_eq!(sent(3), (&[0, 0xCA, 0x5F, 0x20, 0][..], &[0x6C, 6][..]));
     assert_eq!(sent(4).0, &[0, 0xCA, 0x5F, 0x20, 6]);
     assert_eq!(reader.seen.len(), 7);
+}
+
+/// The same operations by commands: the same answers, each command with its Le.
+#[test]
+fn operations_run_by_commands() {
+    let mut reader = reader_at(Level::Apdu);
+    let mut terminal = Terminal::new().expect("memory");
+    let mut run = |operation| {
+        let answer = terminal.run(&mut reader, operation).expect("an answer");
+        (answer.status.0, answer.data)
+    };
+    let name = b"\x6F\x09\x84\x07\xA0\x00\x00\x00\x03\x10\x10".to_vec();
+    assert_eq!(run(Operation::Select(&AID)), (0x9000, name));
+    let joe = b"\x5F\x20\x03JOE".to_vec();
+    assert_eq!(run(Operation::Get(0x5F20)), (0x9000, joe));
+    assert_eq!(run(Operation::Put(0x50, b"X")), (0x6982, vec![]));
+    let command = [0x00, 0xCA, 0x5F, 0x20, 0x02];
+    let part = b"\x5F\x20".to_vec();
+    assert_eq!(run(Operation::Send(&command)), (0x6104, part));
+    // 595 bytes and their head are 600; then 8,192 bytes in 33 pieces
+    assert_eq!(run(Operation::Put(0x5F20, &[0x41; 595])), (0x9000, vec![]));
+    let (status, data) = run(Operation::Get(0x5F20));
+    assert_eq!((status, data.len()), (0x9000, 600));
+    assert_eq!(run(Operation::Put(0x5F20, &[0x42; 8192])), (0x9000, vec![]));
+    let sent: Vec<&[u8]> = reader.seen.iter().map(|(sent, _)| &sent[..]).collect();
+    let select = b"\x00\xA4\x04\x00\x07\xA0\x00\x00\x00\x03\x10\x10\x00";
+    assert_eq!(sent[0], select);
+    let get = [0x00, 0xCA, 0x5F, 0x20, 0x00];
+    assert_eq!(sent[1..4], [&get[..], b"\x00\xDA\x00\x50\x01X", &command]);
+    let fetch = |n| [0x00, 0xC0, 0x00, 0x00, n];
+    assert_eq!(sent[7..10], [&get[..], &fetch(0x00), &fetch(0x58)]);
+    let ends = |at: usize| reader.seen[at].1.split_at(reader.seen[at].1.len() - 2);
+    assert_eq!(ends(7).1, [0x61, 0x00]);
+    assert_eq!(ends(8).1, [0x61, 0x58]);
+    assert_eq!((ends(9).0.len(), ends(9).1), (88, &[0x90, 0x00][..]));
+    assert_eq!(sent.len(), 10 + 33);
+}
+
+/// A response of 257 bytes fits no command, also where the reader has room for it.
+#[test]
+fn a_reader_that_brings_too_much_is_a_fault_at_each_level() {
+    struct Brings(Level, usize);
+    impl Transport for Brings {
+        type Error = Infallible;
+        fn level(&self) -> Level {
+            self.0
+        }
+        fn transmit(&mut self, _: &[u8], answer: &mut [u8]) -> Result<usize, Infallible> {
+            answer.fill(0x90);
+            Ok(self.1)
+        }
+    }
+    for level in [Level::Tpdu, Level::Apdu] {
+        for (count, wanted) in [
+            (1, Error::NoStatus),
+            (5, Error::TooMany),
+            (259, Error::TooMany),
+        ] {
+            let mut terminal = Terminal::new().expect("memory");
+            let get = Operation::Send(&[0x00, 0xCA, 0x5F, 0x20, 0x02]);
+            let found = terminal.run(&mut Brings(level, count), get);
+            assert_eq!(found, Err(RunError::Terminal(wanted)));
+            assert_eq!(terminal.begin(get), Ok(()), "the next operation may begin");
+        }
+        let mut terminal = Terminal::new().expect("memory");
+        let get = Operation::Send(&[0x00, 0xCA, 0x5F, 0x20, 0x02]);
+        let answer = terminal.run(&mut Brings(level, 4), get);
+        assert_eq!(answer.expect("an answer").data, [0x90, 0x90]);
+    }
+}
+
+/// In an async program the caller awaits its reader between `apdu_into` and `responded`.
+#[test]
+fn commands_pass_by_hand() {
+    let mut card = card();
+    let mut terminal = Terminal::new().expect("memory");
+    let mut room = [0xEE; APDU_LIMIT];
+    assert_eq!(terminal.apdu_into(&mut room), Err(Error::State));
+    assert_eq!(terminal.responded(&[0x90, 0x00]), Err(Error::State));
+    assert_eq!(room, [0xEE; APDU_LIMIT]);
+    terminal.begin(Operation::Select(&AID)).expect("begun");
+    while let Some(due) = terminal.apdu_into(&mut room).expect("at this level") {
+        assert_eq!((due.count, due.most), (13, 256));
+        let response = card.apdu(&room[..due.count]).expect("a response");
+        terminal.responded(&response).expect("taken");
+        assert_eq!(terminal.next(), Err(Error::State));
+        assert!(terminal.tpdu().is_none());
+    }
+    assert_eq!(terminal.answer().expect("an answer").status, 0x9000);
+    terminal.begin(Operation::Get(0x5F20)).expect("begun");
+    assert_eq!(terminal.next(), Ok(Turn::Sends(0x00)));
+    assert_eq!(terminal.apdu_into(&mut room), Err(Error::State));
 }
 
 #[test]

@@ -2,7 +2,7 @@
 //! types threads share.
 
 use galliumtoad::{find, Atr, CardBuilder, Error, Exchange, Objects, Operation, Pps, Session};
-use galliumtoad::{Answer, Card, Entry, RunError, Status, Stop, Terminal, Tpdu, Turn};
+use galliumtoad::{Answer, Card, Entry, Level, RunError, Status, Stop, Terminal, Tpdu, Turn};
 use std::collections::HashSet;
 use std::error::Error as Cause;
 use std::fmt;
@@ -237,6 +237,7 @@ fn handles_may_go_to_another_thread_and_other_values_be_shared() {
     is_shared::<Answer>();
     is_shared::<Entry>();
     is_shared::<Tpdu>();
+    is_shared::<Level>();
     is_shared::<Atr<'_>>();
     is_shared::<Objects<'_>>();
     is_shared::<Operation<'_>>();

@@ -193,6 +193,9 @@ fn a_card_leaves_nothing() {
             own(card.tpdu(&PUT).expect("an answer"), false);
             let (answer, _) = far_below(|| card.tpdu(&GET).expect("an answer"));
             own(answer, true);
+            own(card.apdu(&PUT).expect("an answer"), false);
+            let (answer, _) = far_below(|| card.apdu(&GET).expect("an answer"));
+            own(answer, true);
             let mut room = vec![0; 258];
             assert_eq!(card.tpdu_into(&PUT, &mut room), Ok(2));
             assert_eq!(card.tpdu_into(&GET, &mut room), Ok(21));

@@ -1,5 +1,6 @@
 pub mod AtrLemmas
 pub mod BufferLemmas
+pub mod CardApduLemmas
 pub mod CardHeldKind
 pub mod CardTpduLemmas
 pub mod FindLemmas

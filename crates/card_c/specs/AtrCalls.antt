@@ -1,11 +1,14 @@
 -- What the export on answers to reset tells.
 use Rattle.std.specs.Prelude.{◌≡◌, ◌⊎◌, ℕ, ℤ, ◌+◌, ◌*◌, ◌-◌, List, ◌++◌, drop, length, replicate, Some, Result, Ok, Err, Bool, if◌then◌else◌}
 use Rattle.atr_core.specs.Answer.{Answer, IsAnswer, characters, check_field}
+use Rattle.atr_core.specs.BlockValues.{block_guard_time, block_waiting_integer, block_waiting_time, character_waiting_integer, character_waiting_time, edc_code, edc_of, ifsc}
 use Rattle.atr_core.specs.FirstFault.{first_fault}
 use Rattle.atr_core.specs.HistoricalBytes.{category_of}
 use Rattle.atr_core.specs.Values.{classes_of, clock_stop_of, di_of, extra_guard_time, fi_of, guard_time, mode_of, names_15, protocols_of, rate_code, second, supply_code, waiting_integer, waiting_time}
 use Rattle.atr_core.specs.declared.convention.Convention.{Convention}
 use Rattle.atr_core.specs.declared.convention.Convention.TheVariants.{Direct, Inverse}
+use Rattle.atr_core.specs.declared.edc.Edc.{Edc}
+use Rattle.atr_core.specs.declared.edc.Edc.TheVariants.{Lrc, Crc}
 use Rattle.atr_core.specs.declared.fault.AtrFault.{AtrFault}
 use Rattle.atr_core.specs.declared.historical.Category.{Category}
 use Rattle.atr_core.specs.declared.historical.Category.TheVariants.{Absent, StatusBehind, DirReference, Objects, Reserved, Proprietary}
@@ -16,7 +19,9 @@ use Rattle.atr_core.specs.declared.rate.Rfu.{Rfu}
 use Rattle.atr_core.specs.declared.supply.Classes.{Classes}
 use Rattle.atr_core.specs.declared.supply.ClockStop.{ClockStop}
 use Rattle.atr_core.specs.declared.supply.ClockStop.TheVariants as stop
+use Rattle.atr_core.specs.declared.timing.BlockWaitingTime.{BlockWaitingTime}
 use Rattle.card_c.specs.declared.atr_record.AtrRecord.{AtrRecord}
+use Rattle.card_c.specs.declared.atr_record.BlockRecord.{BlockRecord}
 use Rattle.card_c.specs.Codes.{gt_ok, atr_code}
 
 -- the header's numbers
@@ -59,6 +64,20 @@ abbrev pub class_bits : Result Classes Rfu → ℕ
 class_bits (Ok classes) = flag classes.a + 2 * flag classes.b + 4 * flag classes.c
 class_bits (Err _) = 0
 
+-- how many bytes an error detection code has
+abbrev pub edc_size : Result Edc Rfu → ℕ
+edc_size (Ok Lrc) = 1
+edc_size (Ok Crc) = 2
+edc_size (Err _) = 0
+
+abbrev pub bwt_etu : Result BlockWaitingTime Rfu → ℕ
+bwt_etu (Ok time) = time.etu
+bwt_etu (Err _) = 0
+
+abbrev pub bwt_cycles : Result BlockWaitingTime Rfu → ℕ
+bwt_cycles (Ok time) = time.cycles
+bwt_cycles (Err _) = 0
+
 -- Whether the mode is specific; its T, whether the card can change, and whether Fi and Di are
 -- implicit.
 abbrev pub mode_numbers : Mode → ℕ × ℕ × ℕ × ℕ
@@ -72,6 +91,19 @@ historical_place a = length (characters a) - (length a.historical + length (chec
 -- protocols, with zeros behind them up to 15 in all
 abbrev pub with_zeros : List ℕ → List ℕ
 with_zeros protocols = protocols ++ drop (length protocols) (replicate 15 0)
+
+-- what an answer says of T=1, as C has it
+abbrev pub blocks_recorded : Answer → BlockRecord
+blocks_recorded a = record {
+  ifsc = value_or_0 (ifsc a);
+  edc = edc_size (edc_of (edc_code a));
+  bwi = value_or_0 (block_waiting_integer a);
+  cwi = character_waiting_integer a;
+  cwt_etu = character_waiting_time a;
+  bwt_etu = bwt_etu (block_waiting_time a 1);
+  bgt_etu = block_guard_time;
+  bwt_cycles = bwt_cycles (block_waiting_time a 1);
+}
 
 -- what an answer says, as C has it
 abbrev pub atr_recorded : Answer → AtrRecord
@@ -102,6 +134,7 @@ atr_recorded a =
       guard_etu_t1 = (guard_time a 1).etu;
       guard_indicated = (guard_time a 0).indicated;
       waiting_time = value_or_0 (waiting_time a);
+      t1 = blocks_recorded a;
     }
 
 -- The bytes are an answer, and what it says is told: its historical bytes stand at the place that

@@ -1,5 +1,6 @@
 -- What the exports on an exchange answer.
-use Rattle.std.specs.Prelude.{◌≡◌, ◌⊎◌, ℕ, ℤ, ◌<◌, ◌≤◌, List, [], length, Option, Some, None, Result, Ok, Err}
+use Rattle.std.specs.Prelude.{◌≡◌, ◌⊎◌, ℕ, ℤ, ◌<◌, ◌≤◌, List, [], length, Option, Some, None, Result, Ok, Err, MatchOption, IfSome, true, false}
+use Rattle.std.specs.Option.{option_map}
 use Rattle.apdu_core.specs.declared.command.ApduFault.{ApduFault}
 use Rattle.apdu_core.specs.declared.command.ApduFault.TheVariants.{TooShort, BadLength, InvalidIns}
 use Rattle.apdu_core.specs.StatusWord.{StatusWord}
@@ -8,10 +9,19 @@ use Rattle.t0_core.specs.declared.host_end.HostTurn.{HostTurn}
 use Rattle.t0_core.specs.declared.host_end.HostTurn.TheVariants.{Sends, Listens, Done, Failed}
 use Rattle.t0_core.specs.declared.line_fault.LineFault.{LineFault}
 use Rattle.t0_core.specs.Front.{fresh}
-use Rattle.card_terminal.specs.ExchangeSide.{ExchangeOf, UnderWay, response_limit}
+use Rattle.card_terminal.specs.declared.unsent.Unsent.{Unsent}
+use Rattle.card_terminal.specs.Unsent.{IsFirst}
+use Rattle.card_terminal.specs.ExchangeSide.{ExchangeOf, UnderWay, exchange_turn, response_limit}
+use Rattle.card_terminal.specs.ExchangeSteps.{IsTurn, IsTaking, IsAnswer}
+use Rattle.apdu_terminal.specs.ApduOperations.{IsOperationAnswer, at_rest}
+use Rattle.card_c.specs.declared.apdu_side.ApduSide.{ApduSide}
+use Rattle.card_c.specs.declared.terminal_side.TerminalSide.{TerminalSide}
+use Rattle.card_c.specs.ApduCalls.{Opens}
 use Rattle.card_terminal.specs.ExchangeHistory.{ComesTo}
-use Rattle.card_c.specs.Codes.{gt_ok, gt_sends, gt_done, gt_failed, gt_state, gt_memory, gt_argument, line_code, command_code}
+use Rattle.card_c.specs.Codes.{gt_ok, gt_empty, gt_sends, gt_done, gt_failed, gt_state, gt_memory, gt_argument, line_code, command_code}
 use Rattle.card_c.specs.Copying.{GoesOut}
+use Rattle.t0_core.specs.TpduBytes.{due_by}
+use Rattle.card_c.specs.TpduCalls.{TellsTpdu}
 
 -- why these bytes are no command
 abbrev pub AreNone : List ℕ → ApduFault → Type 0
@@ -36,6 +46,41 @@ abbrev pub IsBegun : List ℕ → ℕ → ExchangeOf → Type 0
 IsBegun bytes limit ex = (c : Command) × IsCommand c × (bytes ≡ command_bytes c)
     × (ex.gather.limit ≡ limit) × UnderWay c ex [] None fresh × ComesTo c [] ex
 
+-- it has no level yet
+pub record HasBegun (bytes : List ℕ) (limit : ℕ) (side : TerminalSide) : Type 0 where
+  pub begun : IsBegun bytes limit side.exchange
+  pub apdus : side.apdus.terminal ≡ at_rest limit
+  pub leads : side.apdus.leads ≡ false
+
+-- A call on a handle: one that holds nothing says so, and stays so; what another holds is as this
+-- says, and it stays live.
+abbrev pub OnExchange : (TerminalSide → ℤ → TerminalSide → Type 0) → Option TerminalSide → ℤ
+    → Option TerminalSide → Type 0
+OnExchange Does None code new = (code ≡ gt_empty) × (new ≡ None)
+OnExchange Does (Some old) code new = MatchOption new ⊥ (λ side. Does old code side)
+
+-- A call by characters or TPDUs is refused if the exchange goes by whole commands; else it does
+-- this.
+pub record ByTpdus (Does : ExchangeOf → ℤ → ExchangeOf → Type 0) (old : TerminalSide) (code : ℤ)
+    (new : TerminalSide) : Type 0 where
+  pub refused : old.apdus.leads ≡ true → (code ≡ gt_state) × (new ≡ old)
+  pub does : old.apdus.leads ≡ false → Does old.exchange code new.exchange
+  pub apdus : new.apdus ≡ old.apdus
+
+-- what an exchange is to send of which nothing has gone: its command alone
+pub record IsUnsentOf (ex : ExchangeOf) (unsent : Option Unsent) : Type 0 where
+  pub first : IsFirst ex (option_map (λ u. u.first) unsent)
+  pub alone : IfSome unsent (λ u. u.rest.now ≡ [])
+
+-- A call by whole commands does this, on an exchange that goes so, or that has no level yet and
+-- begins so.
+pub record ByApdus (Does : ApduSide → ℤ → ApduSide → Type 0) (old : TerminalSide) (code : ℤ)
+    (new : TerminalSide) : Type 0 where
+  pub goes_so : old.apdus.leads ≡ true → Does old.apdus code new.apdus
+  pub opens : old.apdus.leads ≡ false → (unsent : Option Unsent)
+      × IsUnsentOf old.exchange unsent × Opens Does unsent old.apdus code new.apdus
+  pub exchange : new.exchange ≡ old.exchange
+
 -- what a turn of the terminal is called, and the character that it hands out
 abbrev pub turn_code : HostTurn → ℤ
 turn_code (Sends byte) = gt_sends
@@ -54,9 +99,34 @@ abbrev pub taking_code : Result (Unit {0}) LineFault → ℤ
 taking_code (Ok _) = gt_ok
 taking_code (Err fault) = line_code fault
 
+-- a turn of the terminal, and a character of the card
+abbrev pub TurnsTo : ℕ → ℕ → ExchangeOf → ℤ → ExchangeOf → Type 0
+TurnsTo before byte old code new = (code ≡ turn_code (exchange_turn old))
+    × (byte ≡ turn_byte (exchange_turn old) before) × IsTurn old (exchange_turn old) new
+
+abbrev pub TakesByte : ℕ → ExchangeOf → ℤ → ExchangeOf → Type 0
+TakesByte byte old code new = (taken : Result (Unit {0}) LineFault) × (code ≡ taking_code taken)
+    × IsTaking old byte taken new
+
 -- The answer of an exchange goes out, if there is one; where there is none, nothing changes.
 abbrev pub TellsEnd : Option (StatusWord × List ℕ) → ℕ → List ℕ → ℕ → ℤ → ℕ → List ℕ → ℕ → Type 0
 TellsEnd None status room len code status' room' len' =
     (code ≡ gt_state) × (status' ≡ status) × (room' ≡ room) × (len' ≡ len)
 TellsEnd (Some answer) status room len code status' room' len' =
     GoesOut answer.0 answer.1 room code status' room' len'
+
+-- the answer of what a handle holds, at either level
+abbrev pub TellsAnswerOf : TerminalSide → ℕ → List ℕ → ℕ → ℤ → ℕ → List ℕ → ℕ → Type 0
+TellsAnswerOf side status room len code status' room' len' =
+    (answer : Option (StatusWord × List ℕ))
+    × (side.apdus.leads ≡ false → IsAnswer side.exchange answer)
+    × (side.apdus.leads ≡ true → IsOperationAnswer side.apdus.terminal.operation answer)
+    × TellsEnd answer status room len code status' room' len'
+
+-- the whole TPDU that is due, unless the exchange goes by whole commands
+pub record TellsTpduOf (side : TerminalSide) (room : List ℕ) (len most : ℕ) (code : ℤ)
+    (room' : List ℕ) (len' most' : ℕ) : Type 0 where
+  pub refused : side.apdus.leads ≡ true
+      → (code ≡ gt_state) × (room' ≡ room) × (len' ≡ len) × (most' ≡ most)
+  pub told : side.apdus.leads ≡ false
+      → TellsTpdu (due_by side.exchange.host) room len most code room' len' most'

@@ -1,5 +1,7 @@
+pub mod ApduCalls
 pub mod AtrCalls
 pub mod BufferCalls
+pub mod CardApduCalls
 pub mod CardCalls
 pub mod CardHandle
 pub mod CardTpduCalls

@@ -1,5 +1,5 @@
 -- What the calls on a terminal's handle do to what it holds. A refusal leaves it as it was.
-use Rattle.std.specs.Prelude.{◌≡◌, ◌<◌, ◌≤◌, ◌⊎◌, ℕ, ℤ, List, [], ◌∷◌, Option, Some, None, Result, Ok, Err, MatchOption, if◌then◌else◌}
+use Rattle.std.specs.Prelude.{◌≡◌, ◌<◌, ◌≤◌, ◌⊎◌, ℕ, ℤ, List, [], ◌∷◌, Option, Some, None, Result, Ok, Err, MatchOption, Bool, true, false, ◌&&◌, if◌then◌else◌}
 use Rattle.apdu_core.specs.declared.command.ApduFault.{ApduFault}
 use Rattle.apdu_core.specs.CommandBytes.{Command, IsCommand, command_bytes}
 use Rattle.apdu_core.specs.StatusWord.{StatusWord}
@@ -13,12 +13,18 @@ use Rattle.card_terminal.specs.declared.terminal.begin_fault.BeginFault.TheVaria
 use Rattle.card_terminal.specs.Talk.{AreCommandsOf}
 use Rattle.card_terminal.specs.ExchangeSide.{response_limit}
 use Rattle.card_terminal.specs.TerminalSide.{TerminalOf, OperationOf, KeepsLimit, at_rest, is_going}
-use Rattle.card_terminal.specs.TerminalSteps.{IsBeginning, IsTerminalTurn, IsTerminalTaking, IsTerminalAnswering, IsTerminalAnswer}
+use Rattle.card_terminal.specs.TerminalSteps.{IsBeginning, IsTerminalTurn, IsTerminalTaking, IsTerminalAnswering, IsTerminalAnswer, terminal_due}
 use Rattle.card_c.specs.declared.operating_side.OperatingSide.{OperatingSide}
+use Rattle.card_terminal.specs.declared.unsent.Unsent.{Unsent}
+use Rattle.card_terminal.specs.Unsent.{IsUnsent}
+use Rattle.apdu_terminal.specs.ApduOperations as apdu
+use Rattle.apdu_terminal.specs.ApduOperations.{IsOperationAnswer, is_under_way}
+use Rattle.card_c.specs.declared.apdu_side.ApduSide.{ApduSide}
+use Rattle.card_c.specs.ApduCalls.{Opens}
 use Rattle.card_c.specs.Codes.{gt_ok, gt_empty, gt_state, gt_memory, gt_argument, gt_no_status, command_code}
 use Rattle.card_c.specs.ExchangeCalls.{AreNone, turn_code, turn_byte, taking_code, TellsEnd}
 use Rattle.card_c.specs.TagNumbers.{IsNumbered}
-use Rattle.card_c.specs.TpduCalls.{AreAnswer, answered_code}
+use Rattle.card_c.specs.TpduCalls.{AreAnswer, TellsTpdu, answered_code}
 
 -- The limit on responses stays, and is the room of the operation's exchange; or nothing changes at
 -- all.
@@ -27,12 +33,51 @@ KeepsRoom old new = KeepsLimit old new ⊎ (new ≡ old)
 
 -- A call on a handle: one that holds nothing says so, and stays so; what another holds is as this
 -- says, and it stays live.
-abbrev pub OnTerminal : (Option OperationOf → ℤ → Option OperationOf → Type 0)
+abbrev pub OnTerminal : (OperatingSide → ℤ → OperatingSide → Type 0)
     → Option OperatingSide → ℤ → Option OperatingSide → Type 0
 OnTerminal Does None code new = (code ≡ gt_empty) × (new ≡ None)
-OnTerminal Does (Some old) code new =
-    MatchOption new ⊥ (λ side. Does old.terminal.operation code side.terminal.operation
-    × KeepsRoom old.terminal side.terminal)
+OnTerminal Does (Some old) code new = MatchOption new ⊥ (λ side. Does old code side)
+
+-- A call by characters or TPDUs is refused if the operation goes by whole commands; else it does
+-- this.
+pub record OnTpdus (Does : Option OperationOf → ℤ → Option OperationOf → Type 0)
+    (old : OperatingSide) (code : ℤ) (new : OperatingSide) : Type 0 where
+  pub refused : old.apdus.leads ≡ true → (code ≡ gt_state) × (new ≡ old)
+  pub does : old.apdus.leads ≡ false
+      → Does old.terminal.operation code new.terminal.operation
+  pub room : KeepsRoom old.terminal new.terminal
+  pub apdus : new.apdus ≡ old.apdus
+
+-- an operation is in progress by whole commands
+abbrev pub is_led : OperatingSide → Bool
+is_led side = side.apdus.leads && is_under_way side.apdus.terminal.operation
+
+-- A call that begins an operation is refused while one is in progress by whole commands; else it
+-- does this. One that has begun has no level yet. If it is refused, the last answer stays.
+pub record OnBegin (Does : Option OperationOf → ℤ → Option OperationOf → Type 0)
+    (old : OperatingSide) (code : ℤ) (new : OperatingSide) : Type 0 where
+  pub refused : is_led old ≡ true → (code ≡ gt_state) × (new ≡ old)
+  pub does : is_led old ≡ false → Does old.terminal.operation code new.terminal.operation
+  pub room : KeepsRoom old.terminal new.terminal
+  pub apdus : new.apdus.terminal ≡ old.apdus.terminal
+  pub begun : code ≡ gt_ok → new.apdus.leads ≡ false
+  pub stays : (code ≡ gt_ok → ⊥) → new.apdus.leads ≡ old.apdus.leads
+
+-- A call by whole commands does this, on an operation that goes so, or that has no level yet and
+-- begins so. Once it goes so, the terminal of TPDUs is at rest.
+pub record OnApdus (Does : ApduSide → ℤ → ApduSide → Type 0) (old : OperatingSide) (code : ℤ)
+    (new : OperatingSide) : Type 0 where
+  pub goes_so : old.apdus.leads ≡ true → Does old.apdus code new.apdus
+  pub opens : old.apdus.leads ≡ false → (unsent : Option Unsent)
+      × IsUnsent old.terminal.operation unsent × Opens Does unsent old.apdus code new.apdus
+  pub terminal : (new.terminal ≡ old.terminal)
+      ⊎ ((new.apdus.leads ≡ true) × (new.terminal ≡ at_rest old.terminal.limit))
+
+-- no operation has begun, at either level
+pub record IsAtRest (limit : ℕ) (side : OperatingSide) : Type 0 where
+  pub terminal : side.terminal ≡ at_rest limit
+  pub apdus : side.apdus.terminal ≡ apdu.at_rest limit
+  pub leads : side.apdus.leads ≡ false
 
 -- a terminal in a handle that held nothing, which has begun no operation, with this limit on
 -- responses
@@ -42,11 +87,12 @@ HasBegun limit None code new =
     ((response_limit < limit) × (code ≡ gt_argument) × (new ≡ None))
     ⊎ ((limit ≤ response_limit) × (code ≡ gt_memory) × (new ≡ None))
     ⊎ ((limit ≤ response_limit) × (code ≡ gt_ok)
-    × MatchOption new ⊥ (λ side. side.terminal ≡ at_rest limit))
+    × MatchOption new ⊥ (λ side. IsAtRest limit side))
 
--- the operation under way is dropped
-abbrev pub Resets : Option OperationOf → ℤ → Option OperationOf → Type 0
-Resets old code new = (code ≡ gt_ok) × (new ≡ None)
+-- the operation in progress is dropped, at either level
+abbrev pub Resets : OperatingSide → ℤ → OperatingSide → Type 0
+Resets old code new = (code ≡ gt_ok) × (new.terminal ≡ at_rest old.terminal.limit)
+    × (new.apdus.terminal ≡ apdu.at_rest old.apdus.terminal.limit) × (new.apdus.leads ≡ false)
 
 -- how an operation is begun
 abbrev pub begin_code : Result (Unit {0}) BeginFault → ℤ
@@ -112,7 +158,17 @@ TakesAnswer answer old code new =
     × IsTerminalAnswering old bytes status taken new)
 
 -- The answer of an operation goes out, if there is one.
-abbrev pub TellsAnswer : Option OperationOf → ℕ → List ℕ → ℕ → ℤ → ℕ → List ℕ → ℕ → Type 0
-TellsAnswer terminal status room len code status' room' len' =
-    (answer : Option (StatusWord × List ℕ)) × IsTerminalAnswer terminal answer
+abbrev pub TellsAnswer : OperatingSide → ℕ → List ℕ → ℕ → ℤ → ℕ → List ℕ → ℕ → Type 0
+TellsAnswer side status room len code status' room' len' =
+    (answer : Option (StatusWord × List ℕ))
+    × (side.apdus.leads ≡ false → IsTerminalAnswer side.terminal.operation answer)
+    × (side.apdus.leads ≡ true → IsOperationAnswer side.apdus.terminal.operation answer)
     × TellsEnd answer status room len code status' room' len'
+
+-- the whole TPDU that is due, unless the operation goes by whole commands
+pub record TellsTpduOf (side : OperatingSide) (room : List ℕ) (len most : ℕ) (code : ℤ)
+    (room' : List ℕ) (len' most' : ℕ) : Type 0 where
+  pub refused : side.apdus.leads ≡ true
+      → (code ≡ gt_state) × (room' ≡ room) × (len' ≡ len) × (most' ≡ most)
+  pub told : side.apdus.leads ≡ false
+      → TellsTpdu (terminal_due side.terminal.operation) room len most code room' len' most'

@@ -30,8 +30,8 @@ answered_code (Ok _) = gt_ok
 answered_code (Err fault) = answer_code fault
 
 -- These bytes are taken as the answer to the TPDU that is due, where they end in a status.
-abbrev pub IsAnswered : ExchangeOf → List ℕ → ℤ → ExchangeOf → Type 0
-IsAnswered old answer code new =
+abbrev pub IsAnswered : List ℕ → ExchangeOf → ℤ → ExchangeOf → Type 0
+IsAnswered answer old code new =
     (((bytes : List ℕ) (status : StatusWord) → AreAnswer answer bytes status → ⊥)
     × (code ≡ gt_no_status) × (new ≡ old))
     ⊎ ((bytes : List ℕ) × (status : StatusWord) × AreAnswer answer bytes status

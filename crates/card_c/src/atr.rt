@@ -1,11 +1,14 @@
 //! Answers to reset for C.
 ghost use Rattle.std.specs.Prelude.{◌≡◌, ◌≤◌, ◌+◌, ◌++◌, drop, length, replicate};
 ghost use Rattle.atr_core.specs.Answer.{IsAnswer, characters, check_field, names_other_than_0};
-ghost use Rattle.card_c.specs.AtrCalls.{ReadsAtr, atr_recorded, category_number, class_bits, clock_stop_number, convention_number, fi_value, fi_max_khz, historical_place, mode_numbers};
+ghost use Rattle.card_c.specs.AtrCalls.{ReadsAtr, atr_recorded, blocks_recorded, bwt_cycles, bwt_etu, category_number, class_bits, clock_stop_number, convention_number, edc_size, fi_value, fi_max_khz, historical_place, mode_numbers};
 
-use crate::atr_record::AtrRecord;
+use crate::atr_record::{AtrRecord, BlockRecord};
 use crate::code;
-use atr_core::{Atr, Category, Classes, ClockStop, Convention, Fi, Mode, Rfu, TypedGroup};
+use atr_core::{
+    Atr, BlockWaitingTime, Category, Classes, ClockStop, Convention, Edc, Fi, Mode, Rfu,
+    TypedGroup, block_guard_time,
+};
 
 /// How many protocols an answer offers at most: T=0 to T=14.
 const MOST_PROTOCOLS: usize = 15;
@@ -63,6 +66,24 @@ fn recorded(answer: &Atr, size: usize) -> AtrRecord
         guard_etu_t1: answer.guard_time(1).etu,
         guard_indicated: guard.indicated,
         waiting_time: answer.waiting_time().unwrap_or(0),
+        t1: blocks(answer),
+    }
+}
+
+/// What an answer says of T=1.
+fn blocks(answer: &Atr) -> BlockRecord
+    ensures { result ≡ blocks_recorded answer.now }
+{
+    let (bwt_etu, bwt_cycles) = block_parts(answer.block_waiting_time(1));
+    BlockRecord {
+        ifsc: answer.ifsc().unwrap_or(0),
+        edc: edc_size(answer.edc()),
+        bwi: answer.block_waiting_integer().unwrap_or(0),
+        cwi: answer.character_waiting_integer(),
+        cwt_etu: answer.character_waiting_time(),
+        bwt_etu,
+        bgt_etu: block_guard_time(),
+        bwt_cycles,
     }
 }
 
@@ -170,5 +191,26 @@ fn class_bits(classes: Result<Classes, Rfu>) -> u8
     match classes {
         Ok(classes) => u8::from(classes.a) + 2 * u8::from(classes.b) + 4 * u8::from(classes.c),
         Err(_) => 0,
+    }
+}
+
+/// How many bytes an error detection code has, or 0.
+fn edc_size(edc: Result<Edc, Rfu>) -> u8
+    ensures { result ≡ edc_size edc }
+{
+    match edc {
+        Ok(Edc::Lrc) => 1,
+        Ok(Edc::Crc) => 2,
+        Err(_) => 0,
+    }
+}
+
+/// The etu and the clock cycles of BWT, or zeros.
+fn block_parts(time: Result<BlockWaitingTime, Rfu>) -> (u16, u64)
+    ensures { result ≡ (bwt_etu time, bwt_cycles time) }
+{
+    match time {
+        Ok(time) => (time.etu, time.cycles),
+        Err(_) => (0, 0),
     }
 }

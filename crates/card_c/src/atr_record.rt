@@ -1,4 +1,4 @@
-//! What an answer to reset says.
+//! What an answer to reset says, as C has it.
 
 /// What an answer to reset says. C sees it as `gt_atr`.
 #[repr(C)]
@@ -42,4 +42,25 @@ pub struct AtrRecord {
     pub guard_indicated: u16,
     /// The waiting time of T=0 in clock cycles; 0 where WI or Fi is reserved.
     pub waiting_time: u32,
+    /// What is said of T=1.
+    pub t1: BlockRecord,
+}
+
+/// What an answer to reset says of T=1 (ISO/IEC 7816-3, clause 11). C sees it as `gt_atr_t1`.
+#[repr(C)]
+#[derive(Clone, Copy)]
+pub struct BlockRecord {
+    /// IFSC, or 0 if it is reserved.
+    pub ifsc: u8,
+    /// How many bytes the error detection code has: 1 of LRC, 2 of CRC; 0 if it is reserved.
+    pub edc: u8,
+    /// BWI, or 0 if it is reserved; and CWI.
+    pub bwi: u8,
+    pub cwi: u8,
+    /// CWT; the etu of BWT, or 0 if BWI is reserved; and BGT.
+    pub cwt_etu: u16,
+    pub bwt_etu: u16,
+    pub bgt_etu: u16,
+    /// The clock cycles of BWT, which come on top of its etu; 0 if BWI is reserved.
+    pub bwt_cycles: u64,
 }

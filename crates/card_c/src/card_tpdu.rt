@@ -1,5 +1,5 @@
 //! A whole TPDU at a card, as a reader carries it out.
-ghost use Rattle.std.specs.Prelude.{◌≡◌, ◌+◌, ◌≤◌, ◌++◌, ◌∷◌, length, drop, true, None, IsSome};
+ghost use Rattle.std.specs.Prelude.{◌≡◌, ◌+◌, ◌≤◌, length, true, None, IsSome};
 ghost use Rattle.t0_core.specs.CardTpdu.{rests};
 ghost use Rattle.t0_core.specs.TpduBytes.{asked_in};
 ghost use Rattle.card_c.specs.CardHandle.{held_by, OnHandle};
@@ -8,7 +8,7 @@ ghost use Rattle.card_c.specs.CardTpduCalls.{CarriesOut, IsCarriedOut};
 use crate::card_held::GtCard;
 use crate::card_side::CardSide;
 use crate::code;
-use apdu_core::Status;
+use crate::whole_tpdu::hand_out;
 use object_card::ObjectCard;
 use std::alloc::Global;
 use t0_core::{CardEnd, Gather, PlanQueue, WholeTpdu};
@@ -88,17 +88,4 @@ fn pass(
         }
         Err(fault) => code::of_tpdu(fault),
     }
-}
-
-/// Data and a status go to the front of an array that has room for them.
-fn hand_out(bytes: &[u8], status: Status, answer: &mut [u8], len: &mut usize)
-    requires { length bytes.now + 2 ≤ length answer.old }
-    ensures answer { answer.new ≡ bytes.now ++ status.0 ∷ status.1
-        ∷ drop (length bytes.now + 2) answer.old }
-    ensures len { len.new ≡ length bytes.now + 2 }
-{
-    let count = bytes.len();
-    answer[..count].copy_from_slice(bytes);
-    answer[count..count + 2].copy_from_slice(&[status.sw1(), status.sw2()]);
-    *len = count + 2;
 }

@@ -1,19 +1,21 @@
 //! A terminal's exchange of one command, character by character.
-ghost use Rattle.std.specs.Prelude.{◌≡◌, ℕ, List, Option, Some, None, IsSome, IfSome, IfOk, IfErr, Result};
+ghost use Rattle.std.specs.Prelude.{◌≡◌, Some, None, IsSome, IfSome, IfOk, IfErr, true, false, ℕ, List, Option};
+ghost use Rattle.card_terminal.specs.ExchangeSide.{response_limit};
 ghost use Rattle.apdu_core.specs.StatusWord.{StatusWord};
-ghost use Rattle.t0_core.specs.declared.line_fault.LineFault.{LineFault};
-ghost use Rattle.card_terminal.specs.ExchangeSide.{exchange_turn, response_limit};
-ghost use Rattle.card_terminal.specs.ExchangeSteps.{IsTurn, IsTaking, IsAnswer};
+ghost use Rattle.card_terminal.specs.ExchangeSteps.{IsAnswer};
 ghost use Rattle.card_c.specs.Codes.{gt_ok, gt_empty, gt_state};
 ghost use Rattle.card_c.specs.declared.terminal_side.TerminalSide.{TerminalSide};
 ghost use Rattle.card_c.specs.ExchangeHandle.{exchange_in};
-ghost use Rattle.card_c.specs.ExchangeCalls.{IsRefused, IsBegun, turn_code, turn_byte, taking_code, TellsEnd};
+ghost use Rattle.card_c.specs.ExchangeCalls.{IsRefused, HasBegun, OnExchange, ByTpdus, TurnsTo, TakesByte, TellsAnswerOf, TellsEnd};
 
+use crate::apdu_side::ApduSide;
 use crate::code;
 use crate::copied::copied;
 use crate::held_exchange::ExchangeHandle;
 use crate::terminal_side::TerminalSide;
+use crate::whole_apdu::ended;
 use apdu_core::Command;
+use apdu_terminal::ApduTerminal;
 use card_terminal::{OwnedExchange, RESPONSE_LIMIT, StartFault};
 use std::alloc::Global;
 use t0_core::HostTurn;
@@ -30,7 +32,7 @@ pub extern "C" fn galliumtoad_exchange_start(
     ensures refused { exchange_in exchange.old ≡ None → exchange_in exchange.new ≡ None
         → IsRefused command.now response_limit result }
     ensures begun { exchange_in exchange.old ≡ None → IfSome (exchange_in exchange.new)
-        (λ side. (result ≡ gt_ok) × IsBegun command.now response_limit side.exchange) }
+        (λ side. (result ≡ gt_ok) × HasBegun command.now response_limit side) }
 {
     start(alloc, exchange, command, RESPONSE_LIMIT)
 }
@@ -48,7 +50,7 @@ pub extern "C" fn galliumtoad_exchange_start_within(
     ensures refused { exchange_in exchange.old ≡ None → exchange_in exchange.new ≡ None
         → IsRefused command.now limit result }
     ensures begun { exchange_in exchange.old ≡ None → IfSome (exchange_in exchange.new)
-        (λ side. (result ≡ gt_ok) × IsBegun command.now limit side.exchange) }
+        (λ side. (result ≡ gt_ok) × HasBegun command.now limit side) }
 {
     start(alloc, exchange, command, limit)
 }
@@ -59,7 +61,7 @@ fn start(alloc: Global, exchange: &mut ExchangeHandle, command: &[u8], limit: us
     ensures refused { exchange_in exchange.old ≡ None → exchange_in exchange.new ≡ None
         → IsRefused command.now limit result }
     ensures begun { exchange_in exchange.old ≡ None → IfSome (exchange_in exchange.new)
-        (λ side. (result ≡ gt_ok) × IsBegun command.now limit side.exchange) }
+        (λ side. (result ≡ gt_ok) × HasBegun command.now limit side) }
 {
     if exchange.is_live() {
         return code::STATE;
@@ -75,15 +77,22 @@ fn start(alloc: Global, exchange: &mut ExchangeHandle, command: &[u8], limit: us
 
 /// An exchange of the command that the bytes are, or the code of what refuses it.
 fn begun(alloc: Global, command: &[u8], limit: usize) -> Result<Box<TerminalSide>, i32>
-    ensures begun { IfOk result (λ side. IsBegun command.now limit side.value.exchange) }
+    ensures begun { IfOk result (λ side. HasBegun command.now limit side.value) }
     ensures refused { IfErr result (λ code. IsRefused command.now limit code) }
 {
     let command = match Command::read(command) {
         Ok(command) => command,
         Err(fault) => return Err(code::of_command(fault)),
     };
+    let Ok(terminal) = ApduTerminal::new_within(alloc, limit) else {
+        return Err(code::ARGUMENT);
+    };
+    let apdus = ApduSide {
+        terminal,
+        leads: false,
+    };
     match OwnedExchange::start_within(alloc, command, limit) {
-        Ok(exchange) => match Box::new(alloc, TerminalSide { exchange }) {
+        Ok(exchange) => match Box::new(alloc, TerminalSide { exchange, apdus }) {
             Ok(side) => Ok(side),
             Err(_) => Err(code::MEMORY),
         },
@@ -99,15 +108,11 @@ pub extern "C" fn galliumtoad_exchange_next(
     exchange: &mut ExchangeHandle,
     byte: &mut u8,
 ) -> i32
-    ensures empty { exchange_in exchange.old ≡ None
-        → (result ≡ gt_empty) × (exchange_in exchange.new ≡ None) × (byte.new ≡ byte.old) }
-    ensures held { IsSome (exchange_in exchange.old) → IsSome (exchange_in exchange.new) }
-    ensures code { IfSome (exchange_in exchange.old)
-        (λ side. (result ≡ turn_code (exchange_turn side.exchange))
-        × (byte.new ≡ turn_byte (exchange_turn side.exchange) byte.old)) }
-    ensures turn { (before after : TerminalSide) → exchange_in exchange.old ≡ Some before
-        → exchange_in exchange.new ≡ Some after
-        → IsTurn before.exchange (exchange_turn before.exchange) after.exchange }
+    ensures empty { exchange_in exchange.old ≡ None → byte.new ≡ byte.old }
+    ensures still { (side : TerminalSide) → exchange_in exchange.old ≡ Some side
+        → side.apdus.leads ≡ true → byte.new ≡ byte.old }
+    ensures turn { OnExchange (ByTpdus (TurnsTo byte.old byte.new))
+        (exchange_in exchange.old) result (exchange_in exchange.new) }
 {
     let Some(mut side) = exchange.take_out(alloc) else {
         return code::EMPTY;
@@ -119,10 +124,16 @@ pub extern "C" fn galliumtoad_exchange_next(
 
 /// A turn of the terminal, as C is told of it.
 fn turned(side: &mut TerminalSide, byte: &mut u8) -> i32
-    ensures code { result ≡ turn_code (exchange_turn side.old.exchange) }
-    ensures byte { byte.new ≡ turn_byte (exchange_turn side.old.exchange) byte.old }
-    ensures turn { IsTurn side.old.exchange (exchange_turn side.old.exchange) side.new.exchange }
+    ensures still { side.old.apdus.leads ≡ true → byte.new ≡ byte.old }
+    ensures refused { side.old.apdus.leads ≡ true
+        → (result ≡ gt_state) × (side.new ≡ side.old) }
+    ensures does { side.old.apdus.leads ≡ false
+        → TurnsTo byte.old byte.new side.old.exchange result side.new.exchange }
+    ensures apdus { side.new.apdus ≡ side.old.apdus }
 {
+    if side.apdus.leads {
+        return code::STATE;
+    }
     let turn = side.exchange.next();
     if let HostTurn::Sends(sent) = turn {
         *byte = sent;
@@ -137,13 +148,8 @@ pub extern "C" fn galliumtoad_exchange_take(
     exchange: &mut ExchangeHandle,
     byte: u8,
 ) -> i32
-    ensures empty { exchange_in exchange.old ≡ None
-        → (result ≡ gt_empty) × (exchange_in exchange.new ≡ None) }
-    ensures held { IsSome (exchange_in exchange.old) → IsSome (exchange_in exchange.new) }
-    ensures taking { (before after : TerminalSide) → exchange_in exchange.old ≡ Some before
-        → exchange_in exchange.new ≡ Some after
-        → (taken : Result (Unit {0}) LineFault) × (result ≡ taking_code taken)
-        × IsTaking before.exchange byte taken after.exchange }
+    ensures { OnExchange (ByTpdus (TakesByte byte))
+        (exchange_in exchange.old) result (exchange_in exchange.new) }
 {
     let Some(mut side) = exchange.take_out(alloc) else {
         return code::EMPTY;
@@ -155,9 +161,15 @@ pub extern "C" fn galliumtoad_exchange_take(
 
 /// A character of the card, as C is told of it.
 fn taken(side: &mut TerminalSide, byte: u8) -> i32
-    ensures { (taken : Result (Unit {0}) LineFault) × (result ≡ taking_code taken)
-        × IsTaking side.old.exchange byte taken side.new.exchange }
+    ensures refused { side.old.apdus.leads ≡ true
+        → (result ≡ gt_state) × (side.new ≡ side.old) }
+    ensures does { side.old.apdus.leads ≡ false
+        → TakesByte byte side.old.exchange result side.new.exchange }
+    ensures apdus { side.new.apdus ≡ side.old.apdus }
 {
+    if side.apdus.leads {
+        return code::STATE;
+    }
     code::of_taking(side.exchange.take(byte))
 }
 
@@ -174,8 +186,8 @@ pub extern "C" fn galliumtoad_exchange_answer(
     ensures empty { exchange_in exchange.old ≡ None → (result ≡ gt_empty)
         × (status.new ≡ status.old) × (content.new ≡ content.old) × (len.new ≡ len.old) }
     ensures answer { (side : TerminalSide) → exchange_in exchange.old ≡ Some side
-        → (answer : Option (StatusWord × List ℕ)) × IsAnswer side.exchange answer
-        × TellsEnd answer status.old content.old len.old result status.new content.new len.new }
+        → TellsAnswerOf side status.old content.old len.old
+        result status.new content.new len.new }
 {
     let Some(side) = exchange.take_out(alloc) else {
         return code::EMPTY;
@@ -187,10 +199,25 @@ pub extern "C" fn galliumtoad_exchange_answer(
 
 /// The answer, if there is one, goes out to C.
 fn given(side: &TerminalSide, status: &mut u16, content: &mut [u8], len: &mut usize) -> i32
-    ensures { (answer : Option (StatusWord × List ℕ)) × IsAnswer side.now.exchange answer
+    ensures { TellsAnswerOf side.now status.old content.old len.old
+        result status.new content.new len.new }
+{
+    if side.apdus.leads {
+        return ended(&side.apdus, status, content, len);
+    }
+    ended_by_tpdus(&side.exchange, status, content, len)
+}
+
+fn ended_by_tpdus(
+    exchange: &OwnedExchange,
+    status: &mut u16,
+    content: &mut [u8],
+    len: &mut usize,
+) -> i32
+    ensures { (answer : Option (StatusWord × List ℕ)) × IsAnswer exchange.now answer
         × TellsEnd answer status.old content.old len.old result status.new content.new len.new }
 {
-    let Some((word, bytes)) = side.exchange.answer() else {
+    let Some((word, bytes)) = exchange.answer() else {
         return code::STATE;
     };
     *status = u16::from_be_bytes([word.sw1(), word.sw2()]);

@@ -1,9 +1,10 @@
 //! An exchange that is driven by whole TPDUs.
-ghost use Rattle.std.specs.Prelude.{◌≡◌, Some, None, IsSome};
+ghost use Rattle.std.specs.Prelude.{◌≡◌, Some, None, true, false};
 ghost use Rattle.t0_core.specs.TpduBytes.{due_by};
-ghost use Rattle.card_c.specs.Codes.{gt_empty};
+ghost use Rattle.card_c.specs.Codes.{gt_empty, gt_state};
 ghost use Rattle.card_c.specs.declared.terminal_side.TerminalSide.{TerminalSide};
 ghost use Rattle.card_c.specs.ExchangeHandle.{exchange_in};
+ghost use Rattle.card_c.specs.ExchangeCalls.{OnExchange, ByTpdus, TellsTpduOf};
 ghost use Rattle.card_c.specs.TpduCalls.{TellsTpdu, IsAnswered};
 
 use crate::code;
@@ -25,8 +26,7 @@ pub extern "C" fn galliumtoad_exchange_tpdu(
     ensures empty { exchange_in exchange.old ≡ None → (result ≡ gt_empty)
         × (tpdu.new ≡ tpdu.old) × (len.new ≡ len.old) × (most.new ≡ most.old) }
     ensures told { (side : TerminalSide) → exchange_in exchange.old ≡ Some side
-        → TellsTpdu (due_by side.exchange.host) tpdu.old len.old most.old
-        result tpdu.new len.new most.new }
+        → TellsTpduOf side tpdu.old len.old most.old result tpdu.new len.new most.new }
 {
     let Some(side) = exchange.take_out(alloc) else {
         return code::EMPTY;
@@ -38,9 +38,14 @@ pub extern "C" fn galliumtoad_exchange_tpdu(
 
 /// The TPDU that is due goes out to C.
 fn due(side: &TerminalSide, tpdu: &mut [u8], len: &mut usize, most: &mut usize) -> i32
-    ensures { TellsTpdu (due_by side.now.exchange.host) tpdu.old len.old most.old
-        result tpdu.new len.new most.new }
+    ensures refused { side.now.apdus.leads ≡ true → (result ≡ gt_state)
+        × (tpdu.new ≡ tpdu.old) × (len.new ≡ len.old) × (most.new ≡ most.old) }
+    ensures told { side.now.apdus.leads ≡ false → TellsTpdu (due_by side.now.exchange.host)
+        tpdu.old len.old most.old result tpdu.new len.new most.new }
 {
+    if side.apdus.leads {
+        return code::STATE;
+    }
     told(side.exchange.tpdu(), tpdu, len, most)
 }
 
@@ -51,12 +56,8 @@ pub extern "C" fn galliumtoad_exchange_answered(
     exchange: &mut ExchangeHandle,
     answer: &[u8],
 ) -> i32
-    ensures empty { exchange_in exchange.old ≡ None
-        → (result ≡ gt_empty) × (exchange_in exchange.new ≡ None) }
-    ensures held { IsSome (exchange_in exchange.old) → IsSome (exchange_in exchange.new) }
-    ensures answered { (before after : TerminalSide) → exchange_in exchange.old ≡ Some before
-        → exchange_in exchange.new ≡ Some after
-        → IsAnswered before.exchange answer.now result after.exchange }
+    ensures { OnExchange (ByTpdus (IsAnswered answer.now))
+        (exchange_in exchange.old) result (exchange_in exchange.new) }
 {
     let Some(mut side) = exchange.take_out(alloc) else {
         return code::EMPTY;
@@ -68,8 +69,15 @@ pub extern "C" fn galliumtoad_exchange_answered(
 
 /// An answer, as C is told of it.
 fn taken(side: &mut TerminalSide, answer: &[u8]) -> i32
-    ensures { IsAnswered side.old.exchange answer.now result side.new.exchange }
+    ensures refused { side.old.apdus.leads ≡ true
+        → (result ≡ gt_state) × (side.new ≡ side.old) }
+    ensures does { side.old.apdus.leads ≡ false
+        → IsAnswered answer.now side.old.exchange result side.new.exchange }
+    ensures apdus { side.new.apdus ≡ side.old.apdus }
 {
+    if side.apdus.leads {
+        return code::STATE;
+    }
     let Some((bytes, status)) = answer_of(answer) else {
         return code::NO_STATUS;
     };

@@ -6,9 +6,11 @@
 //! NULL, which nothing here can, and then calls it.
 #![tactic(auto)]
 
+mod apdu_side;
 mod atr;
 mod atr_record;
 mod card;
+mod card_apdu;
 mod card_buffers;
 mod card_held;
 mod card_side;
@@ -17,6 +19,7 @@ mod character_record;
 mod code;
 mod copied;
 mod exchange;
+mod exchange_apdu;
 mod exchange_buffers;
 mod exchange_handle;
 mod exchange_tpdu;
@@ -38,9 +41,11 @@ mod session_side;
 mod tables;
 mod tag_number;
 mod terminal;
+mod terminal_apdu;
 mod terminal_buffers;
 mod terminal_handle;
 mod terminal_side;
 mod threads;
 mod version;
+mod whole_apdu;
 mod whole_tpdu;

@@ -1,24 +1,28 @@
 //! A terminal with an operation under way, over any line.
-ghost use Rattle.std.specs.Prelude.{◌≡◌, Some, None, IfOk, IfErr, if◌then◌else◌};
+ghost use Rattle.std.specs.Prelude.{◌≡◌, Some, None, IfOk, IfErr, if◌then◌else◌, true, false, ℕ, List, Option};
 ghost use Rattle.apdu_core.specs.declared.command.ApduFault.{ApduFault};
 ghost use Rattle.apdu_core.specs.CommandBytes.{IsCommand, command_bytes};
 ghost use Rattle.card_c.specs.Codes.{gt_empty, gt_state, command_code};
-ghost use Rattle.card_c.specs.ExchangeCalls.{AreNone};
+ghost use Rattle.apdu_core.specs.StatusWord.{StatusWord};
+ghost use Rattle.card_c.specs.ExchangeCalls.{AreNone, TellsEnd};
 ghost use Rattle.card_terminal.specs.ExchangeSide.{response_limit};
 ghost use Rattle.card_terminal.specs.TerminalSide.{KeepsLimit, is_going};
-ghost use Rattle.card_terminal.specs.TerminalSteps.{terminal_due};
+ghost use Rattle.card_terminal.specs.TerminalSteps.{terminal_due, IsTerminalAnswer};
+ghost use Rattle.card_c.specs.TpduCalls.{TellsTpdu};
 ghost use Rattle.card_c.specs.declared.operating_side.OperatingSide.{OperatingSide};
 ghost use Rattle.card_c.specs.TerminalHandle.{terminal_in};
-ghost use Rattle.card_c.specs.TerminalCalls.{HasBegun, KeepsRoom, OnTerminal, BeginsSelect, BeginsGet, BeginsPut, BeginsSend, Resets, TakesTurn, TakesCharacter, TakesAnswer, TellsAnswer, begin_code};
-ghost use Rattle.card_c.specs.TpduCalls.{TellsTpdu};
+ghost use Rattle.card_c.specs.TerminalCalls.{HasBegun, KeepsRoom, OnBegin, OnTerminal, OnTpdus, TellsTpduOf, BeginsSelect, BeginsGet, BeginsPut, BeginsSend, Resets, TakesTurn, TakesCharacter, TakesAnswer, TellsAnswer, begin_code};
 
+use crate::apdu_side::ApduSide;
 use crate::code;
 use crate::copied::copied;
 use crate::held_terminal::TerminalHandle;
 use crate::operating_side::OperatingSide;
 use crate::tag_number::tag_of;
+use crate::whole_apdu::ended;
 use crate::whole_tpdu::{answer_of, told};
 use apdu_core::Command;
+use apdu_terminal::ApduTerminal;
 use card_terminal::{BeginFault, RESPONSE_LIMIT, Terminal};
 use object_card::Aid;
 use std::alloc::Global;
@@ -54,7 +58,14 @@ fn make(alloc: Global, handle: &mut TerminalHandle, limit: usize) -> i32
     let Ok(terminal) = Terminal::new_within(alloc, limit) else {
         return code::ARGUMENT;
     };
-    match Box::new(alloc, OperatingSide { terminal }) {
+    let Ok(whole) = ApduTerminal::new_within(alloc, limit) else {
+        return code::ARGUMENT;
+    };
+    let apdus = ApduSide {
+        terminal: whole,
+        leads: false,
+    };
+    match Box::new(alloc, OperatingSide { terminal, apdus }) {
         Ok(side) => {
             handle.put(side);
             code::OK
@@ -80,6 +91,8 @@ pub extern "C" fn galliumtoad_terminal_reset(alloc: Global, terminal: &mut Termi
         return code::EMPTY;
     };
     side.terminal.reset();
+    side.apdus.terminal.reset();
+    side.apdus.leads = false;
     terminal.put(side);
     code::OK
 }
@@ -91,13 +104,18 @@ pub extern "C" fn galliumtoad_terminal_select(
     terminal: &mut TerminalHandle,
     aid: &[u8],
 ) -> i32
-    ensures { OnTerminal (BeginsSelect aid.now)
+    ensures { OnTerminal (OnBegin (BeginsSelect aid.now))
         (terminal_in terminal.old) result (terminal_in terminal.new) }
 {
     let Some(mut side) = terminal.take_out(alloc) else {
         return code::EMPTY;
     };
-    let answer = select(&mut side.terminal, aid);
+    let answer = if side.is_led() {
+        code::STATE
+    } else {
+        let answer = select(&mut side.terminal, aid);
+        side.began(answer)
+    };
     terminal.put(side);
     answer
 }
@@ -119,13 +137,18 @@ pub extern "C" fn galliumtoad_terminal_get(
     terminal: &mut TerminalHandle,
     tag: u32,
 ) -> i32
-    ensures { OnTerminal (BeginsGet tag)
+    ensures { OnTerminal (OnBegin (BeginsGet tag))
         (terminal_in terminal.old) result (terminal_in terminal.new) }
 {
     let Some(mut side) = terminal.take_out(alloc) else {
         return code::EMPTY;
     };
-    let answer = get(&mut side.terminal, tag);
+    let answer = if side.is_led() {
+        code::STATE
+    } else {
+        let answer = get(&mut side.terminal, tag);
+        side.began(answer)
+    };
     terminal.put(side);
     answer
 }
@@ -148,13 +171,18 @@ pub extern "C" fn galliumtoad_terminal_put(
     tag: u32,
     value: &[u8],
 ) -> i32
-    ensures { OnTerminal (BeginsPut tag value.now)
+    ensures { OnTerminal (OnBegin (BeginsPut tag value.now))
         (terminal_in terminal.old) result (terminal_in terminal.new) }
 {
     let Some(mut side) = terminal.take_out(alloc) else {
         return code::EMPTY;
     };
-    let answer = put(&mut side.terminal, tag, value);
+    let answer = if side.is_led() {
+        code::STATE
+    } else {
+        let answer = put(&mut side.terminal, tag, value);
+        side.began(answer)
+    };
     terminal.put(side);
     answer
 }
@@ -177,13 +205,18 @@ pub extern "C" fn galliumtoad_terminal_send(
     terminal: &mut TerminalHandle,
     command: &[u8],
 ) -> i32
-    ensures { OnTerminal (BeginsSend command.now)
+    ensures { OnTerminal (OnBegin (BeginsSend command.now))
         (terminal_in terminal.old) result (terminal_in terminal.new) }
 {
     let Some(mut side) = terminal.take_out(alloc) else {
         return code::EMPTY;
     };
-    let answer = send(&mut side.terminal, command);
+    let answer = if side.is_led() {
+        code::STATE
+    } else {
+        let answer = send(&mut side.terminal, command);
+        side.began(answer)
+    };
     terminal.put(side);
     answer
 }
@@ -241,23 +274,32 @@ pub extern "C" fn galliumtoad_terminal_next(
     byte: &mut u8,
 ) -> i32
     ensures empty { terminal_in terminal.old ≡ None → byte.new ≡ byte.old }
-    ensures turn { OnTerminal (TakesTurn byte.old byte.new)
+    ensures still { (side : OperatingSide) → terminal_in terminal.old ≡ Some side
+        → side.apdus.leads ≡ true → byte.new ≡ byte.old }
+    ensures turn { OnTerminal (OnTpdus (TakesTurn byte.old byte.new))
         (terminal_in terminal.old) result (terminal_in terminal.new) }
 {
     let Some(mut side) = terminal.take_out(alloc) else {
         return code::EMPTY;
     };
-    let answer = turned(&mut side.terminal, byte);
+    let answer = turned(&mut side, byte);
     terminal.put(side);
     answer
 }
 
-fn turned(terminal: &mut Terminal, byte: &mut u8) -> i32
-    ensures turn { TakesTurn byte.old byte.new terminal.old.operation result
-        terminal.new.operation }
-    ensures room { KeepsRoom terminal.old terminal.new }
+fn turned(side: &mut OperatingSide, byte: &mut u8) -> i32
+    ensures still { side.old.apdus.leads ≡ true → byte.new ≡ byte.old }
+    ensures refused { side.old.apdus.leads ≡ true
+        → (result ≡ gt_state) × (side.new ≡ side.old) }
+    ensures does { side.old.apdus.leads ≡ false → TakesTurn byte.old byte.new
+        side.old.terminal.operation result side.new.terminal.operation }
+    ensures room { KeepsRoom side.old.terminal side.new.terminal }
+    ensures apdus { side.new.apdus ≡ side.old.apdus }
 {
-    let turn = terminal.next();
+    if side.apdus.leads {
+        return code::STATE;
+    }
+    let turn = side.terminal.next();
     if let Some(HostTurn::Sends(sent)) = turn {
         *byte = sent;
     }
@@ -274,22 +316,29 @@ pub extern "C" fn galliumtoad_terminal_take(
     terminal: &mut TerminalHandle,
     byte: u8,
 ) -> i32
-    ensures { OnTerminal (TakesCharacter byte)
+    ensures { OnTerminal (OnTpdus (TakesCharacter byte))
         (terminal_in terminal.old) result (terminal_in terminal.new) }
 {
     let Some(mut side) = terminal.take_out(alloc) else {
         return code::EMPTY;
     };
-    let answer = taken(&mut side.terminal, byte);
+    let answer = taken(&mut side, byte);
     terminal.put(side);
     answer
 }
 
-fn taken(terminal: &mut Terminal, byte: u8) -> i32
-    ensures taking { TakesCharacter byte terminal.old.operation result terminal.new.operation }
-    ensures room { KeepsRoom terminal.old terminal.new }
+fn taken(side: &mut OperatingSide, byte: u8) -> i32
+    ensures refused { side.old.apdus.leads ≡ true
+        → (result ≡ gt_state) × (side.new ≡ side.old) }
+    ensures does { side.old.apdus.leads ≡ false → TakesCharacter byte
+        side.old.terminal.operation result side.new.terminal.operation }
+    ensures room { KeepsRoom side.old.terminal side.new.terminal }
+    ensures apdus { side.new.apdus ≡ side.old.apdus }
 {
-    code::of_taking(terminal.take(byte))
+    if side.apdus.leads {
+        return code::STATE;
+    }
+    code::of_taking(side.terminal.take(byte))
 }
 
 /// The whole TPDU that is due, and how many bytes may come back.
@@ -305,15 +354,27 @@ pub extern "C" fn galliumtoad_terminal_tpdu(
     ensures empty { terminal_in terminal.old ≡ None → (result ≡ gt_empty)
         × (tpdu.new ≡ tpdu.old) × (len.new ≡ len.old) × (most.new ≡ most.old) }
     ensures told { (side : OperatingSide) → terminal_in terminal.old ≡ Some side
-        → TellsTpdu (terminal_due side.terminal.operation) tpdu.old len.old most.old
-        result tpdu.new len.new most.new }
+        → TellsTpduOf side tpdu.old len.old most.old result tpdu.new len.new most.new }
 {
     let Some(side) = terminal.take_out(alloc) else {
         return code::EMPTY;
     };
-    let answer = told(side.terminal.tpdu(), tpdu, len, most);
+    let answer = due(&side, tpdu, len, most);
     terminal.put(side);
     answer
+}
+
+fn due(side: &OperatingSide, tpdu: &mut [u8], len: &mut usize, most: &mut usize) -> i32
+    ensures refused { side.now.apdus.leads ≡ true → (result ≡ gt_state)
+        × (tpdu.new ≡ tpdu.old) × (len.new ≡ len.old) × (most.new ≡ most.old) }
+    ensures told { side.now.apdus.leads ≡ false → TellsTpdu
+        (terminal_due side.now.terminal.operation) tpdu.old len.old most.old
+        result tpdu.new len.new most.new }
+{
+    if side.apdus.leads {
+        return code::STATE;
+    }
+    told(side.terminal.tpdu(), tpdu, len, most)
 }
 
 /// Takes the answer to that TPDU: data, and then the status.
@@ -323,26 +384,32 @@ pub extern "C" fn galliumtoad_terminal_answered(
     terminal: &mut TerminalHandle,
     answer: &[u8],
 ) -> i32
-    ensures { OnTerminal (TakesAnswer answer.now)
+    ensures { OnTerminal (OnTpdus (TakesAnswer answer.now))
         (terminal_in terminal.old) result (terminal_in terminal.new) }
 {
     let Some(mut side) = terminal.take_out(alloc) else {
         return code::EMPTY;
     };
-    let code = answered(&mut side.terminal, answer);
+    let code = answered(&mut side, answer);
     terminal.put(side);
     code
 }
 
-fn answered(terminal: &mut Terminal, answer: &[u8]) -> i32
-    ensures answering { TakesAnswer answer.now terminal.old.operation result
-        terminal.new.operation }
-    ensures room { KeepsRoom terminal.old terminal.new }
+fn answered(side: &mut OperatingSide, answer: &[u8]) -> i32
+    ensures refused { side.old.apdus.leads ≡ true
+        → (result ≡ gt_state) × (side.new ≡ side.old) }
+    ensures does { side.old.apdus.leads ≡ false → TakesAnswer answer.now
+        side.old.terminal.operation result side.new.terminal.operation }
+    ensures room { KeepsRoom side.old.terminal side.new.terminal }
+    ensures apdus { side.new.apdus ≡ side.old.apdus }
 {
+    if side.apdus.leads {
+        return code::STATE;
+    }
     let Some((bytes, status)) = answer_of(answer) else {
         return code::NO_STATUS;
     };
-    match terminal.answered(bytes, status) {
+    match side.terminal.answered(bytes, status) {
         Ok(()) => code::OK,
         Err(fault) => code::of_answer(fault),
     }
@@ -361,20 +428,31 @@ pub extern "C" fn galliumtoad_terminal_answer(
     ensures empty { terminal_in terminal.old ≡ None → (result ≡ gt_empty)
         × (status.new ≡ status.old) × (content.new ≡ content.old) × (len.new ≡ len.old) }
     ensures answer { (side : OperatingSide) → terminal_in terminal.old ≡ Some side
-        → TellsAnswer side.terminal.operation status.old content.old len.old
+        → TellsAnswer side status.old content.old len.old
         result status.new content.new len.new }
 {
     let Some(side) = terminal.take_out(alloc) else {
         return code::EMPTY;
     };
-    let answer = given(&side.terminal, status, content, len);
+    let answer = given(&side, status, content, len);
     terminal.put(side);
     answer
 }
 
-fn given(terminal: &Terminal, status: &mut u16, content: &mut [u8], len: &mut usize) -> i32
-    ensures { TellsAnswer terminal.now.operation status.old content.old len.old
+fn given(side: &OperatingSide, status: &mut u16, content: &mut [u8], len: &mut usize) -> i32
+    ensures { TellsAnswer side.now status.old content.old len.old
         result status.new content.new len.new }
+{
+    if side.apdus.leads {
+        return ended(&side.apdus, status, content, len);
+    }
+    ended_by_tpdus(&side.terminal, status, content, len)
+}
+
+fn ended_by_tpdus(terminal: &Terminal, status: &mut u16, content: &mut [u8], len: &mut usize) -> i32
+    ensures { (answer : Option (StatusWord × List ℕ))
+        × IsTerminalAnswer terminal.now.operation answer
+        × TellsEnd answer status.old content.old len.old result status.new content.new len.new }
 {
     let Some((word, bytes)) = terminal.answer() else {
         return code::STATE;

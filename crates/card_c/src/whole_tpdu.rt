@@ -1,5 +1,5 @@
-//! Whole TPDUs that go out to C, and their answers.
-ghost use Rattle.std.specs.Prelude.{◌≡◌, ℕ, List, MatchOption};
+//! Whole TPDUs that go out to C, and answers to TPDUs and commands.
+ghost use Rattle.std.specs.Prelude.{◌≡◌, ℕ, ◌+◌, ◌≤◌, ◌++◌, ◌∷◌, List, length, drop, MatchOption};
 ghost use Rattle.std.specs.Option.{option_map};
 ghost use Rattle.apdu_core.specs.StatusWord.{StatusWord};
 ghost use Rattle.t0_core.specs.TpduBytes.{asked_of};
@@ -40,4 +40,17 @@ pub fn answer_of(answer: &[u8]) -> Option<(&[u8], Status)>
         Some(status) => Some((bytes, status)),
         None => None,
     }
+}
+
+/// Writes data and a status to the front of an array that has room for them.
+pub fn hand_out(bytes: &[u8], status: Status, answer: &mut [u8], len: &mut usize)
+    requires { length bytes.now + 2 ≤ length answer.old }
+    ensures answer { answer.new ≡ bytes.now ++ status.0 ∷ status.1
+        ∷ drop (length bytes.now + 2) answer.old }
+    ensures len { len.new ≡ length bytes.now + 2 }
+{
+    let count = bytes.len();
+    answer[..count].copy_from_slice(bytes);
+    answer[count..count + 2].copy_from_slice(&[status.sw1(), status.sw2()]);
+    *len = count + 2;
 }

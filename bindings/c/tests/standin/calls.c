@@ -60,7 +60,7 @@ static void other_programs(SCARDCONTEXT context, SCARDHANDLE card)
     CHECK(SCardBeginTransaction(card), SCARD_W_RESET_CARD);
     CHECK(SCardReconnect(card, SCARD_SHARE_SHARED, SCARD_PROTOCOL_T0, SCARD_RESET_CARD, &protocol),
           SCARD_S_SUCCESS);
-    CHECK(lines_of("reconnect, not as wanted"), 1);
+    CHECK(lines_of("reconnect, not as wanted, at T=0"), 1);
     CHECK(SCardBeginTransaction(card), SCARD_S_SUCCESS);
     CHECK(SCardStatus(card, NULL, &names, &n, &protocol, NULL, &atr), SCARD_S_SUCCESS);
     CHECK(protocol, SCARD_PROTOCOL_UNDEFINED);
@@ -75,6 +75,26 @@ static void other_programs(SCARDCONTEXT context, SCARDHANDLE card)
     CHECK(SCardEndTransaction(card, SCARD_RESET_CARD), SCARD_S_SUCCESS);
 }
 
+/* What the state of a card has, and how long it is. */
+static void states(SCARDHANDLE card)
+{
+    char name[64];
+    BYTE atr[MAX_ATR_SIZE];
+    DWORD state = 0, protocol = 0, names = 0, size = 0;
+    CHECK(SCardStatus(card, NULL, &names, &state, &protocol, NULL, &size), SCARD_S_SUCCESS);
+    CHECK(names, sizeof "Galliumtoad card 00 00");
+    CHECK(size, 2);
+    CHECK(state, SCARD_PRESENT | SCARD_POWERED | SCARD_NEGOTIABLE);
+    CHECK(protocol, SCARD_PROTOCOL_T0);
+    CHECK(SCardStatus(card, name, &names, NULL, NULL, atr, &size), SCARD_S_SUCCESS);
+    CHECK_BYTES(name, "Galliumtoad card 00 00", names);
+    CHECK_BYTES(atr, "\x3B\x00", size);
+    size = 1;
+    CHECK(SCardStatus(card, NULL, &names, NULL, NULL, atr, &size), SCARD_E_INSUFFICIENT_BUFFER);
+    names = 1;
+    CHECK(SCardStatus(card, name, &names, NULL, NULL, NULL, &size), SCARD_E_INSUFFICIENT_BUFFER);
+}
+
 static void transmits(SCARDHANDLE card)
 {
     const SCARD_IO_REQUEST t1 = { SCARD_PROTOCOL_T1, sizeof t1 };
@@ -86,7 +106,7 @@ static void transmits(SCARDHANDLE card)
     CHECK(lines_of("no transaction"), 1);
     CHECK(SCardBeginTransaction(card), SCARD_S_SUCCESS);
     CHECK(SCardBeginTransaction(card), SCARD_E_INVALID_HANDLE);
-    CHECK(SCardTransmit(card, &t1, GET, sizeof GET, NULL, answer, &n), SCARD_E_INVALID_HANDLE);
+    CHECK(SCardTransmit(card, &t1, GET, sizeof GET, NULL, answer, &n), SCARD_E_PROTO_MISMATCH);
     CHECK(SCardTransmit(card, SCARD_PCI_T0, GET, 3, NULL, answer, &n), SCARD_E_NOT_TRANSACTED);
     n = 1;
     CHECK(SCardTransmit(card, SCARD_PCI_T0, GET, sizeof GET, NULL, answer, &n),
@@ -126,9 +146,10 @@ int main(void)
     CHECK(SCardConnect(context, "one", SCARD_SHARE_SHARED, SCARD_PROTOCOL_T0 | SCARD_PROTOCOL_T1,
                        &card, &protocol),
           SCARD_S_SUCCESS);
-    CHECK(lines_of("connect, not shared at T=0 alone, to one"), 1);
+    CHECK(lines_of("connect to one"), 1);
     CHECK(protocol, SCARD_PROTOCOL_T0);
     other_programs(context, card);
+    states(card);
     transmits(card);
     CHECK(SCardReleaseContext(context), SCARD_S_SUCCESS);
     CHECK(SCardReleaseContext(context), SCARD_E_INVALID_HANDLE);
@@ -137,7 +158,7 @@ int main(void)
     CHECK(SCardListReaders(context, NULL, (LPSTR)(void *)&names, &size), SCARD_S_SUCCESS);
     CHECK(SCardConnect(context, names, SCARD_SHARE_SHARED, SCARD_PROTOCOL_T0, &card, &protocol),
           SCARD_S_SUCCESS);
-    CHECK(lines_of("connect to Galliumtoad card 00 00"), 1);
+    CHECK(lines_of("connect, at T=0, to Galliumtoad card 00 00"), 1);
     CHECK(SCardBeginTransaction(card), SCARD_S_SUCCESS);
     return 0;
 }

@@ -11,47 +11,58 @@
 #define OTHER 0x10000
 #define NONE 0x20000
 
-#define TABLE_FILE "ifd.table"
-
 static const char NAMES[] = "app A0000000031010\nobject 5F20 4A4F45\nlocked 50 56495341\n";
 static const char OTHERS[] = "atr 3B6500002063CB6800\n# another card\napp A0000000031010\n"
                              "object 5F20 414E4E\n";
 
+/* The file of a reader's table. */
+static char *file_of(DWORD lun)
+{
+    static char name[32];
+    snprintf(name, sizeof name, "%lu.table", (unsigned long)lun >> 16);
+    return name;
+}
+
+static void write_table(DWORD lun, const char *text)
+{
+    FILE *file = fopen(file_of(lun), "w");
+    if (file == NULL || fputs(text, file) < 0 || fclose(file) != 0)
+        exit(1);
+}
+
 /* Makes a reader whose table is this text. */
 static RESPONSECODE create(DWORD lun, const char *text)
 {
-    char name[] = TABLE_FILE;
-    FILE *file = fopen(name, "w");
-    RESPONSECODE code;
-    if (file == NULL || fputs(text, file) < 0 || fclose(file) != 0)
-        exit(1);
-    code = IFDHCreateChannelByName(lun, name);
-    remove(name);
-    return code;
+    write_table(lun, text);
+    return IFDHCreateChannelByName(lun, file_of(lun));
 }
 
 static UCHAR received[300];
 static DWORD length;
 
-/* Sends a TPDU at a protocol, and says what the reader answers; `room` is for what comes back. */
+/* Sends a TPDU or a command at a protocol, and says what the reader answers; `room` is for what
+ * comes back. */
 static RESPONSECODE send_at(DWORD lun, DWORD protocol, const char *tpdu, DWORD n, DWORD room)
 {
-    UCHAR sent[300];
+    UCHAR sent[600];
     SCARD_IO_HEADER to = { protocol, sizeof to }, from = { 77, sizeof from };
     RESPONSECODE code;
     memcpy(sent, tpdu, n);
     length = room;
     code = IFDHTransmitToICC(lun, to, sent, n, received, &length, &from);
-    CHECK(from.Protocol, code == IFD_SUCCESS ? 0 : 77);
+    CHECK(from.Protocol, code == IFD_SUCCESS ? protocol : 77);
     return code;
 }
 
-/* What comes back of a TPDU of T=0 that is carried out, for CHECK_ANSWER. */
-#define CHECK_ANSWER(lun, tpdu, answer) do { \
-        CHECK(send_at(lun, 0, tpdu, sizeof tpdu - 1, 258), IFD_SUCCESS); \
+/* What comes back of a TPDU of T=0, or a command at T=1, that is carried out. */
+#define CHECK_AT(lun, protocol, tpdu, answer) do { \
+        CHECK(send_at(lun, protocol, tpdu, sizeof tpdu - 1, 258), IFD_SUCCESS); \
         CHECK(length, sizeof answer - 1); \
         CHECK_BYTES(received, answer, sizeof answer - 1); \
     } while (0)
+
+#define CHECK_ANSWER(lun, tpdu, answer) CHECK_AT(lun, 0, tpdu, answer)
+#define CHECK_RESPONSE(lun, apdu, response) CHECK_AT(lun, 1, apdu, response)
 
 /* One that is not, which leaves no bytes. */
 #define CHECK_FAULT(lun, protocol, tpdu, room, fault) do { \
@@ -62,6 +73,8 @@ static RESPONSECODE send_at(DWORD lun, DWORD protocol, const char *tpdu, DWORD n
 #define SELECT "\x00\xA4\x04\x00\x07\xA0\x00\x00\x00\x03\x10\x10"
 #define GET "\x00\xCA\x5F\x20\x00"
 #define GET_NAME "\x00\xCA\x5F\x20\x06"
+#define SELECTED "\x6F\x09\x84\x07\xA0\x00\x00\x00\x03\x10\x10\x90\x00"
+#define NAME "\x5F\x20\x03JOE\x90\x00"
 
 static void check_power(DWORD lun, DWORD action, const char *atr, size_t n)
 {
@@ -265,7 +278,7 @@ static void tables(void)
 static void told_faults(void)
 {
     static const char *const wanted[] = {
-        TABLE_FILE ": line 2: bad argument", "there.table: No such file or directory"
+        "2.table: line 2: bad argument", "there.table: No such file or directory"
     };
     char name[] = "there.table", line[128] = "";
     size_t i;
@@ -285,6 +298,142 @@ static void told_faults(void)
     remove("ifd.told");
 }
 
+/* At T=1 a card that offers that alone answers whole commands, and each of them. */
+static void whole_commands(void)
+{
+    static const char long_value[5 + 255] = "\x10\xDA\x00\x50\xFF";
+    char extended[600] = "\x00\xDA\x5F\x20\x00\x02\x00";
+    CHECK(create(NONE, "atr 3B800181\napp A0000000031010\nobject 5F20 4A4F45\n"), IFD_SUCCESS);
+    check_power(NONE, IFD_POWER_UP, "\x3B\x80\x01\x81", 4);
+    CHECK(IFDHSetProtocolParameters(NONE, SCARD_PROTOCOL_T1, 0, 0, 0, 0), IFD_SUCCESS);
+    CHECK(IFDHSetProtocolParameters(NONE, SCARD_PROTOCOL_T0, 0, 0, 0, 0),
+          IFD_PROTOCOL_NOT_SUPPORTED);
+    CHECK(IFDHSetProtocolParameters(NONE, 4, 0, 0, 0, 0), IFD_PROTOCOL_NOT_SUPPORTED);
+    CHECK_FAULT(NONE, 0, SELECT, 258, IFD_PROTOCOL_NOT_SUPPORTED);
+    CHECK_FAULT(NONE, 4, SELECT, 258, IFD_PROTOCOL_NOT_SUPPORTED);
+    CHECK_RESPONSE(NONE, SELECT "\x00", SELECTED);
+    CHECK_RESPONSE(NONE, SELECT, "\x61\x0B");
+    CHECK_RESPONSE(NONE, GET, NAME);
+    CHECK_RESPONSE(NONE, "\x00\xCA\x5F\x20\x02", "\x5F\x20\x61\x04");
+    /* what is no command, and what the card does not take: the response stays pending */
+    CHECK_RESPONSE(NONE, "", "\x67\x00");
+    CHECK_RESPONSE(NONE, "\x00\xCA\x5F", "\x67\x00");
+    CHECK_RESPONSE(NONE, "\x00\x60\x00\x00\x00", "\x6D\x00");
+    CHECK_RESPONSE(NONE, "\x00\x9F\x00\x00", "\x6D\x00");
+    CHECK_RESPONSE(NONE, "\x00\xDA\x5F\x20\x03JO", "\x67\x00");
+    CHECK_RESPONSE(NONE, "\x00\xA4\x04\x00\x05", "\x67\x00");
+    CHECK(send_at(NONE, 1, extended, 7 + 512, 258), IFD_SUCCESS);
+    CHECK_BYTES(received, "\x67\x00", 2);
+    CHECK_RESPONSE(NONE, "\x00\xC0\x00\x00\x00", "\x03JOE\x90\x00");
+    CHECK_RESPONSE(NONE, "\x00\xB0\x00\x00\x00", "\x6D\x00");
+    /* a client whose room is less than the response */
+    CHECK(send_at(NONE, 1, GET, 5, 8), IFD_SUCCESS);
+    CHECK(length, 8);
+    CHECK_FAULT(NONE, 1, GET, 7, IFD_ERROR_INSUFFICIENT_BUFFER);
+    CHECK(send_at(NONE, 1, long_value, sizeof long_value, 258), IFD_SUCCESS);
+    CHECK_BYTES(received, "\x90\x00", 2);
+    CHECK_RESPONSE(NONE, "\x00\xDA\x00\x50\x01\x41", "\x90\x00");
+    CHECK(send_at(NONE, 1, "\x00\xCA\x00\x50\x00", 5, 258), IFD_SUCCESS);
+    CHECK(length, 258);
+    CHECK_BYTES(received, "\x50\x82\x01\x00", 4);
+    CHECK_BYTES(received + 256, "\x61\x04", 2);
+    check_power(NONE, IFD_POWER_DOWN, "", 0);
+    CHECK_FAULT(NONE, 1, SELECT, 258, IFD_COMMUNICATION_ERROR);
+    CHECK(IFDHCloseChannel(NONE), IFD_SUCCESS);
+}
+
+/* A card that offers both takes TPDUs at T=0, and one without contacts whole commands at either. */
+static void both_protocols(void)
+{
+    CHECK(create(NONE, "atr 3B9011800100\napp A0000000031010\n"), IFD_SUCCESS);
+    check_power(NONE, IFD_POWER_UP, "\x3B\x90\x11\x80\x01\x00", 6);
+    CHECK(IFDHSetProtocolParameters(NONE, SCARD_PROTOCOL_T0, 0, 0, 0, 0), IFD_SUCCESS);
+    CHECK(IFDHSetProtocolParameters(NONE, SCARD_PROTOCOL_T1, 0, 0, 0, 0), IFD_SUCCESS);
+    CHECK(IFDHSetProtocolParameters(NONE, 4, 0, 0, 0, 0), IFD_PROTOCOL_NOT_SUPPORTED);
+    CHECK_ANSWER(NONE, SELECT "\x00", "\x61\x0B");
+    CHECK_RESPONSE(NONE, SELECT "\x00", SELECTED);
+    CHECK(IFDHCloseChannel(NONE), IFD_SUCCESS);
+    CHECK(create(NONE, "atr 3B80800101\napp A0000000031010\n"), IFD_SUCCESS);
+    check_power(NONE, IFD_POWER_UP, "\x3B\x80\x80\x01\x01", 5);
+    CHECK(IFDHSetProtocolParameters(NONE, SCARD_PROTOCOL_T0, 0, 0, 0, 0), IFD_SUCCESS);
+    CHECK(IFDHSetProtocolParameters(NONE, SCARD_PROTOCOL_T1, 0, 0, 0, 0), IFD_SUCCESS);
+    CHECK_RESPONSE(NONE, SELECT "\x00", SELECTED);
+    CHECK_ANSWER(NONE, SELECT "\x00", SELECTED);
+    CHECK(IFDHCloseChannel(NONE), IFD_SUCCESS);
+}
+
+/* The card goes with the file, and comes with a new table. */
+static void comes_and_goes(void)
+{
+    UCHAR atr[MAX_ATR_SIZE];
+    DWORD size = sizeof atr;
+    CHECK(create(NONE, NAMES), IFD_SUCCESS);
+    check_power(NONE, IFD_POWER_UP, "\x3B\x00", 2);
+    CHECK_ANSWER(NONE, SELECT, "\x61\x0B");
+    write_table(NONE, OTHERS);
+    CHECK(IFDHICCPresence(NONE), IFD_ICC_PRESENT);
+    CHECK_ANSWER(NONE, GET_NAME, NAME);
+    remove(file_of(NONE));
+    CHECK(IFDHICCPresence(NONE), IFD_ICC_NOT_PRESENT);
+    CHECK(IFDHICCPresence(NONE), IFD_ICC_NOT_PRESENT);
+    CHECK(IFDHPowerICC(NONE, IFD_POWER_UP, atr, &size), IFD_ERROR_POWER_ACTION);
+    CHECK_FAULT(NONE, 0, GET_NAME, 258, IFD_COMMUNICATION_ERROR);
+    /* a file that is no table is told of once, and no card until it has gone */
+    write_table(NONE, "app A0\n");
+    CHECK(IFDHICCPresence(NONE), IFD_ICC_NOT_PRESENT);
+    write_table(NONE, OTHERS);
+    CHECK(IFDHICCPresence(NONE), IFD_ICC_NOT_PRESENT);
+    remove(file_of(NONE));
+    CHECK(IFDHICCPresence(NONE), IFD_ICC_NOT_PRESENT);
+    write_table(NONE, OTHERS);
+    CHECK(IFDHICCPresence(NONE), IFD_ICC_PRESENT);
+    CHECK_FAULT(NONE, 0, SELECT, 258, IFD_COMMUNICATION_ERROR);
+    check_power(NONE, IFD_POWER_UP, "\x3B\x65\x00\x00\x20\x63\xCB\x68\x00", 9);
+    CHECK_ANSWER(NONE, GET_NAME, "\x69\x85");
+    CHECK_ANSWER(NONE, SELECT, "\x61\x0B");
+    CHECK_ANSWER(NONE, GET_NAME, "\x5F\x20\x03" "ANN\x90\x00");
+    remove(file_of(NONE));
+    CHECK(IFDHCloseChannel(NONE), IFD_SUCCESS);
+}
+
+/* Answers to reset that offer neither, and that are none: the latter is one of T=0. */
+static void other_protocols(void)
+{
+    CHECK(create(NONE, "atr 3B800484\napp A0000000031010\n"), IFD_SUCCESS);
+    check_power(NONE, IFD_POWER_UP, "\x3B\x80\x04\x84", 4);
+    CHECK(IFDHSetProtocolParameters(NONE, SCARD_PROTOCOL_T0, 0, 0, 0, 0),
+          IFD_PROTOCOL_NOT_SUPPORTED);
+    CHECK(IFDHSetProtocolParameters(NONE, SCARD_PROTOCOL_T1, 0, 0, 0, 0),
+          IFD_PROTOCOL_NOT_SUPPORTED);
+    CHECK_FAULT(NONE, 0, SELECT, 258, IFD_PROTOCOL_NOT_SUPPORTED);
+    CHECK_FAULT(NONE, 1, SELECT, 258, IFD_PROTOCOL_NOT_SUPPORTED);
+    CHECK_FAULT(NONE, 4, SELECT, 258, IFD_PROTOCOL_NOT_SUPPORTED);
+    CHECK(IFDHCloseChannel(NONE), IFD_SUCCESS);
+    CHECK(create(NONE, "atr 3B01\napp A0000000031010\n"), IFD_SUCCESS);
+    CHECK(IFDHSetProtocolParameters(NONE, SCARD_PROTOCOL_T0, 0, 0, 0, 0), IFD_SUCCESS);
+    CHECK(IFDHSetProtocolParameters(NONE, SCARD_PROTOCOL_T1, 0, 0, 0, 0),
+          IFD_PROTOCOL_NOT_SUPPORTED);
+    CHECK(IFDHCloseChannel(NONE), IFD_SUCCESS);
+}
+
+/* A name of 1,023 bytes, and one of 1,024. */
+static void long_names(void)
+{
+    char name[1025] = "";
+    int i;
+    for (i = 0; i < 508; i++)
+        strcat(name, "./");
+    write_table(NONE, NAMES);
+    strcat(name, file_of(NONE));
+    CHECK(IFDHCreateChannelByName(NONE, name), IFD_SUCCESS);
+    CHECK(IFDHCloseChannel(NONE), IFD_SUCCESS);
+    strcpy(name + 1016, "/");
+    strcat(name, file_of(NONE));
+    CHECK(strlen(name), 1024);
+    CHECK(IFDHCreateChannelByName(NONE, name), IFD_COMMUNICATION_ERROR);
+    no_reader(NONE);
+}
+
 /* As many readers as a pcscd has, and one more; a number that is free again gets a new card. */
 static void all_readers(void)
 {
@@ -299,8 +448,10 @@ static void all_readers(void)
     check_power(ONE, IFD_POWER_UP, "\x3B\x00", 2);
     CHECK_ANSWER(ONE, SELECT, "\x61\x0B");
     CHECK_ANSWER(ONE, GET_NAME, "\x5F\x20\x03JOE\x90\x00");
-    while (lun-- > 0)
+    while (lun-- > 0) {
         CHECK(IFDHCloseChannel(lun << 16), IFD_SUCCESS);
+        remove(file_of(lun << 16));
+    }
 }
 
 int main(void)
@@ -314,6 +465,11 @@ int main(void)
     capabilities();
     long_object();
     tables();
+    whole_commands();
+    both_protocols();
+    comes_and_goes();
+    other_protocols();
+    long_names();
     all_readers();
     told_faults();
     return check_result("virtual_reader");

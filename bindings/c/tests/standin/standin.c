@@ -3,7 +3,9 @@
  * The environment says what it is like: STANDIN_TABLE names the file of the card's tables (else it
  * is that of the examples), STANDIN_READERS has the readers' names between strokes, STANDIN_FAULT
  * says which call goes wrong, and how (`words_of`), and STANDIN_LOG names a file to which each call
- * is appended, and at the end what was not given back. */
+ * is appended, and at the end what was not given back. STANDIN_OFFERS has the digits of the card's
+ * protocols (else 0), STANDIN_RUNS that of the one it talks already, and STANDIN_OTHERS says that
+ * another program is connected. With STANDIN_APDUS the reader takes commands at T=0, too. */
 #define _POSIX_C_SOURCE 200112L
 
 #include "table.h"
@@ -27,7 +29,10 @@ const SCARD_IO_REQUEST g_rgSCardT1Pci = { SCARD_PROTOCOL_T1, sizeof(SCARD_IO_REQ
 const SCARD_IO_REQUEST g_rgSCardRawPci = { 4, sizeof(SCARD_IO_REQUEST) };
 
 static gt_card card;
-static int contexts, is_connected, is_held, is_reset, has_forgotten, names_held;
+static uint8_t answer_to_reset[TABLE_ATR_LIMIT];
+static size_t atr_length;
+static DWORD runs = SCARD_PROTOCOL_UNDEFINED;   /* what the card talks, as pcscd has it */
+static int contexts, is_connected, is_held, is_reset, is_exclusive, has_forgotten, names_held;
 static volatile int is_held_by_another;
 
 static FILE *log_file(void)
@@ -53,11 +58,23 @@ static void note(const char *words, const uint8_t *bytes, size_t n)
     fflush(file);
 }
 
-static void note_reader(const char *name, int is_as_wanted)
+/* The words of protocols that a call asks for; both of them need none. */
+static const char *words_for(DWORD protocols)
+{
+    if (protocols == (SCARD_PROTOCOL_T0 | SCARD_PROTOCOL_T1))
+        return "";
+    return protocols == SCARD_PROTOCOL_T0 ? ", at T=0" : protocols == SCARD_PROTOCOL_T1
+        ? ", at T=1" : ", not at a protocol";
+}
+
+static void note_reader(const char *name, DWORD share, DWORD protocols)
 {
     char words[256];
-    const char *how = is_as_wanted ? "" : ", not shared at T=0 alone,";
-    snprintf(words, sizeof words, "connect%s to %s", how, name);
+    const char *asked = words_for(protocols), *mode = ", not as wanted";
+    if (share == SCARD_SHARE_SHARED || share == SCARD_SHARE_EXCLUSIVE)
+        mode = share == SCARD_SHARE_SHARED ? "" : ", exclusive";
+    snprintf(words, sizeof words, "connect%s%s%s to %s", mode, asked, *mode || *asked ? "," : "",
+             name);
     note(words, NULL, 0);
 }
 
@@ -213,13 +230,32 @@ static LONG make_card(void)
     code = table_read(file, NULL, &table);
     fclose(file);
     card = table.card;
+    atr_length = table.atr_size;
+    memcpy(answer_to_reset, table.atr, atr_length);
     return code == GT_OK ? SCARD_S_SUCCESS : SCARD_W_UNRESPONSIVE_CARD;
 }
 
-/* The protocol that a call's word has chosen. */
-static DWORD protocol_of(const char *word)
+/* The protocols whose digits a word of the environment has. */
+static DWORD protocols_of(const char *name, const char *otherwise)
 {
-    return word != NULL && strcmp(word, "block") == 0 ? SCARD_PROTOCOL_T1 : SCARD_PROTOCOL_T0;
+    const char *digits = getenv(name);
+    if (digits == NULL)
+        digits = otherwise;
+    return (strchr(digits, '0') != NULL ? SCARD_PROTOCOL_T0 : 0)
+        | (strchr(digits, '1') != NULL ? SCARD_PROTOCOL_T1 : 0);
+}
+
+/* Chooses among the protocols that are asked for, T=1 before T=0, as pcscd does; with the word
+ * `block` it is T=1, whatever is asked for, and with `unset` none. */
+static LONG choose_protocol(DWORD asked, const char *word, LPDWORD protocol)
+{
+    const DWORD both = asked & protocols_of("STANDIN_OFFERS", "0");
+    if (runs == SCARD_PROTOCOL_UNDEFINED)
+        runs = both & SCARD_PROTOCOL_T1 ? SCARD_PROTOCOL_T1 : both;
+    *protocol = word != NULL && strcmp(word, "block") == 0 ? SCARD_PROTOCOL_T1 : runs;
+    if (word != NULL && strcmp(word, "unset") == 0)
+        *protocol = SCARD_PROTOCOL_UNDEFINED;
+    return (runs & asked) != 0 ? SCARD_S_SUCCESS : SCARD_E_PROTO_MISMATCH;
 }
 
 LONG SCardConnect(SCARDCONTEXT context, LPCSTR reader, DWORD share, DWORD protocols,
@@ -228,20 +264,38 @@ LONG SCardConnect(SCARDCONTEXT context, LPCSTR reader, DWORD share, DWORD protoc
     static unsigned long time;
     LONG fault = fault_of("connect", ++time);
     const char *word = words_of("connect", time);
-    note_reader(reader, share == SCARD_SHARE_SHARED && protocols == SCARD_PROTOCOL_T0);
+    note_reader(reader, share, protocols);
     wait_by(word);
-    if (context != THE_CONTEXT)
+    if (context != THE_CONTEXT || is_connected)
         return SCARD_E_INVALID_HANDLE;
+    if (share == SCARD_SHARE_EXCLUSIVE && getenv("STANDIN_OTHERS") != NULL)
+        return SCARD_E_SHARING_VIOLATION;
+    if (time == 1)
+        runs = protocols_of("STANDIN_RUNS", "");
     if (fault == SCARD_S_SUCCESS)
         fault = make_card();
+    if (fault == SCARD_S_SUCCESS)
+        fault = choose_protocol(protocols, word, protocol);
     if (fault != SCARD_S_SUCCESS)
         return fault;
     gt_card_reset(&card);
     is_connected = 1;
+    is_exclusive = share == SCARD_SHARE_EXCLUSIVE;
     is_reset = 0;
     *handle = THE_CARD;
-    *protocol = protocol_of(word);
     return SCARD_S_SUCCESS;
+}
+
+static void note_reconnect(DWORD share, DWORD protocols, DWORD how)
+{
+    char words[64];
+    const char *kind = ", not as wanted";
+    if (share == SCARD_SHARE_SHARED && how == SCARD_LEAVE_CARD)
+        kind = "";
+    else if (share == SCARD_SHARE_SHARED && how == SCARD_RESET_CARD && is_exclusive)
+        kind = ", reset";
+    snprintf(words, sizeof words, "reconnect%s%s", kind, words_for(protocols));
+    note(words, NULL, 0);
 }
 
 LONG SCardReconnect(SCARDHANDLE handle, DWORD share, DWORD protocols, DWORD initialization,
@@ -249,32 +303,49 @@ LONG SCardReconnect(SCARDHANDLE handle, DWORD share, DWORD protocols, DWORD init
 {
     static unsigned long time;
     const LONG fault = fault_of("reconnect", ++time);
-    const int is_as_wanted = share == SCARD_SHARE_SHARED && protocols == SCARD_PROTOCOL_T0
-        && initialization == SCARD_LEAVE_CARD;
-    note(is_as_wanted ? "reconnect" : "reconnect, not as wanted", NULL, 0);
+    note_reconnect(share, protocols, initialization);
     if (handle != THE_CARD || !is_connected)
         return SCARD_E_INVALID_HANDLE;
-    if (fault == SCARD_S_SUCCESS)
-        is_reset = has_forgotten = 0;
-    *protocol = protocol_of(words_of("reconnect", time));
-    return fault;
+    if (fault != SCARD_S_SUCCESS)
+        return fault;
+    if (initialization == SCARD_RESET_CARD) {
+        gt_card_reset(&card);
+        runs = SCARD_PROTOCOL_UNDEFINED;
+    }
+    is_exclusive = share == SCARD_SHARE_EXCLUSIVE;
+    is_reset = has_forgotten = 0;
+    return choose_protocol(protocols, words_of("reconnect", time), protocol);
 }
 
-/* `forget`: the protocol is not set, and no TPDU goes to the card before it is. */
+/* A pointer that is NULL asks for nothing. `forget`: the protocol is not set, and nothing goes to
+ * the card before it is. `other`: it is the other one by now. */
 LONG SCardStatus(SCARDHANDLE handle, LPSTR names, LPDWORD size, LPDWORD state, LPDWORD protocol,
                  LPBYTE atr, LPDWORD atr_size)
 {
     static unsigned long time;
     const LONG fault = fault_of("status", ++time);
     const char *word = words_of("status", time);
-    (void)size;
-    (void)atr_size;
     if (handle != THE_CARD || !is_connected)
         return SCARD_E_INVALID_HANDLE;
-    if (names != NULL || state != NULL || atr != NULL)
+    if (names != NULL || state != NULL || atr == NULL || *atr_size < MAX_ATR_SIZE)
         note("status, not as wanted", NULL, 0);
+    if ((names != NULL && *size < sizeof THE_READER) || (atr != NULL && *atr_size < atr_length))
+        return SCARD_E_INSUFFICIENT_BUFFER;
+    if (names != NULL)
+        memcpy(names, THE_READER, sizeof THE_READER);
+    if (state != NULL)
+        *state = SCARD_PRESENT | SCARD_POWERED | SCARD_NEGOTIABLE;
+    if (atr != NULL)
+        memcpy(atr, answer_to_reset, atr_length);
+    *size = sizeof THE_READER;
+    *atr_size = (DWORD)atr_length;
     has_forgotten = word != NULL && strcmp(word, "forget") == 0;
-    *protocol = has_forgotten ? SCARD_PROTOCOL_UNDEFINED : SCARD_PROTOCOL_T0;
+    if (has_forgotten)
+        runs = SCARD_PROTOCOL_UNDEFINED;
+    if (word != NULL && strcmp(word, "other") == 0)
+        runs ^= SCARD_PROTOCOL_T0 | SCARD_PROTOCOL_T1;
+    if (protocol != NULL)
+        *protocol = runs;
     return fault;
 }
 
@@ -298,7 +369,7 @@ LONG SCardDisconnect(SCARDHANDLE handle, DWORD disposition)
     note(disposition == SCARD_LEAVE_CARD ? "disconnect" : "disconnect, and not leave", NULL, 0);
     if (handle != THE_CARD || !is_connected)
         return SCARD_E_INVALID_HANDLE;
-    is_connected = 0;
+    is_connected = is_exclusive = 0;
     return fault_of("disconnect", ++time);
 }
 
@@ -354,6 +425,15 @@ static size_t spoil(const char *word, uint8_t *answer, size_t n)
         memmove(answer, answer + dropped, n - dropped);
         return n - dropped;
     }
+    if (strcmp(word, "tail") == 0) { /* one byte of data behind all others */
+        memmove(answer + n - 1, answer + n - 2, 2);
+        answer[n - 2] = 0x00;
+        return n + 1;
+    }
+    if (strcmp(word, "flip") == 0) { /* another last byte of data */
+        answer[n - 3] ^= 1;
+        return n;
+    }
     if (strcmp(word, "other") == 0) { /* of another tag of two bytes */
         answer[1] ^= 1;
         return n;
@@ -373,27 +453,48 @@ static size_t spoil(const char *word, uint8_t *answer, size_t n)
     return n;
 }
 
+/* Whether the reader takes whole commands. */
+static int takes_apdus(void)
+{
+    return runs == SCARD_PROTOCOL_T1 || getenv("STANDIN_APDUS") != NULL;
+}
+
+/* Carries out a TPDU, or a command as a reader for T=1 does. */
+static LONG carry_out(LPCBYTE sent, DWORD n, uint8_t answer[LONG_ANSWER], size_t *size)
+{
+    int32_t code;
+    if (!takes_apdus())
+        code = gt_card_tpdu(&card, sent, n, answer, LONG_ANSWER, size);
+    else
+        code = gt_card_apdu(&card, sent, n, answer, LONG_ANSWER, size);
+    return code == GT_OK ? SCARD_S_SUCCESS : SCARD_E_NOT_TRANSACTED;
+}
+
+/* With the word `againN` the reader carries it out N times more, as after damaged answers. */
 LONG SCardTransmit(SCARDHANDLE handle, const SCARD_IO_REQUEST *protocol, LPCBYTE sent, DWORD n,
                    SCARD_IO_REQUEST *answered, LPBYTE received, LPDWORD length)
 {
     static unsigned long time;
     uint8_t answer[2 * LONG_ANSWER];
     size_t size = 0;
-    const LONG fault = fault_of("transmit", ++time);
+    LONG fault = fault_of("transmit", ++time);
     const char *word = words_of("transmit", time);
+    unsigned long times = 1;
     (void)answered;
     note("> ", sent, n);
     wait_by(word);
-    if (handle != THE_CARD || !is_connected || protocol->dwProtocol != SCARD_PROTOCOL_T0)
+    if (handle != THE_CARD || !is_connected)
         return SCARD_E_INVALID_HANDLE;
     if (!is_held)
         note("no transaction", NULL, 0);
-    if (has_forgotten)
+    if (has_forgotten || protocol->dwProtocol != runs)
         return SCARD_E_PROTO_MISMATCH;
+    if (word != NULL && strncmp(word, "again", 5) == 0)
+        times += strtoul(word + 5, NULL, 10);
+    for (; times > 0 && fault == SCARD_S_SUCCESS; times--)
+        fault = carry_out(sent, n, answer, &size);
     if (fault != SCARD_S_SUCCESS)
         return fault;
-    if (gt_card_tpdu(&card, sent, n, answer, LONG_ANSWER, &size) != GT_OK)
-        return SCARD_E_NOT_TRANSACTED;
     if (word != NULL)
         size = spoil(word, answer, size);
     note("< ", answer, size);

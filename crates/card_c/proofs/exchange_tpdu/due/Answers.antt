@@ -4,8 +4,8 @@ use Rattle.card_c.specs.TpduCalls.{TellsTpdu}
 use Rattle.card_c.proofs.SessionLemmas.{as_it_is}
 use Rattle.card_c.proofs.exchange_tpdu.due.Goals as goal
 
-pub returns : goal.returns
-returns c =
+pub returns-clause-told : goal.returns-clause-told
+returns-clause-told c = λ _.
     let P : Option Asked → Type 0 =
     λ due. TellsTpdu due c.args.tpdu.now c.args.len.now c.args.most.now c.told.result
     c.told.new.tpdu c.told.new.len c.told.new.most in

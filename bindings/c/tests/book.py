@@ -1,0 +1,50 @@
+#!/usr/bin/env python3
+"""The scripts of the book of examples, as gt_pcsc can run them: for try_pcsc and try_book.
+
+usage: book.py FOLDER   writes N.title, N.table, N.play and N.wanted for each script
+
+A card's table has the script's lines for that, with all bytes spelt out. The operations are those
+up to the first reset; plans are of characters, and left out. The answers come from the output
+beside the script. An operation that card_trace does not begin, since the card is busy, is left
+out."""
+
+import re
+import sys
+from pathlib import Path
+
+BOOK = Path(__file__).resolve().parent.parent.parent.parent / "examples"
+
+
+def parts_of_script(script):
+    """The table of a script, its operations and their answers."""
+    lines = [line.split() for line in script.read_text().splitlines() if line[:1] not in ("", "#")]
+    answers = re.findall(r"^(= .*|! card busy)$", script.with_suffix(".out").read_text(), re.M)
+    table, operations, wanted = "", "", ""
+    for words in lines:
+        if words[0] in ("app", "object", "locked"):
+            byte, times, count = words[-1].partition("*")
+            table += " ".join(words[:-1]) + f" {byte * int(count) if times else byte}\n"
+        elif words[0] in ("select", "get", "put", "send"):
+            answer = answers.pop(0)
+            if answer.startswith("= "):
+                operations += " ".join(words) + "\n"
+                wanted += answer + "\n"
+        elif words[0] == "reset":
+            break
+    return table, operations, wanted
+
+
+def scripts():
+    """Each script: its name, and its parts."""
+    for script in sorted(BOOK.rglob("*.play")):
+        yield str(script.relative_to(BOOK)), *parts_of_script(script)
+
+
+def main(folder):
+    for number, parts in enumerate(scripts()):
+        for kind, text in zip(("title", "table", "play", "wanted"), parts):
+            (Path(folder) / f"{number}.{kind}").write_text(text)
+
+
+if __name__ == "__main__":
+    main(*sys.argv[1:])

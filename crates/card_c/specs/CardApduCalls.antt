@@ -1,0 +1,76 @@
+-- What the call that carries out a whole command does to what a card's handle holds.
+use Rattle.std.specs.Prelude.{◌≡◌, ◌≢◌, ◌⊎◌, ℕ, ℤ, ◌+◌, ◌<◌, ◌≤◌, List, [], length, true, false, Ok}
+use Rattle.apdu_core.specs.declared.command.ApduFault.{ApduFault}
+use Rattle.apdu_core.specs.declared.command.ApduFault.TheVariants.{BadLength}
+use Rattle.apdu_core.specs.CommandBytes.{Command, IsCommand, command_bytes}
+use Rattle.apdu_core.specs.StatusWord.{StatusWord}
+use Rattle.t0_core.specs.CardSide.{EndOf}
+use Rattle.t0_core.specs.CardTpdu.{rests}
+use Rattle.object_card.specs.Agreed.{IsAgreed}
+use Rattle.object_card.specs.CardMeaning.{Does}
+use Rattle.object_card.specs.CardView.{CardView}
+use Rattle.object_card.specs.Instructions.{MayReceive, MaySend}
+use Rattle.apdu_terminal.specs.Apdus.{Pair, may_bring}
+use Rattle.apdu_terminal.specs.CardApdu.{Responds}
+use Rattle.card_c.specs.declared.card_side.CardSide.{CardSide}
+use Rattle.card_c.specs.declared.card_side.CardSide.TheVariants.{Building, Standing, Joined}
+use Rattle.card_c.specs.Codes.{gt_state, gt_memory, gt_buffer, command_code}
+use Rattle.card_c.specs.ExchangeCalls.{AreNone}
+use Rattle.card_c.specs.CardTpduCalls.{TellsAnswer}
+
+-- 6700, wrong length
+abbrev pub wrong_length : StatusWord
+wrong_length = (0x67, 0x00)
+
+-- nothing goes out, with this code
+abbrev pub TellsNothing : ℤ → List ℕ → ℕ → ℤ → List ℕ → ℕ → Type 0
+TellsNothing why room len code room' len' = (code ≡ why) × (room' ≡ room) × (len' ≡ len)
+
+-- it is answered 6700, where there is room for that
+abbrev pub RefusesLength : List ℕ → ℕ → ℤ → List ℕ → ℕ → Type 0
+RefusesLength room len code room' len' =
+    ((length room < 2) × TellsNothing gt_buffer room len code room' len')
+    ⊎ ((2 ≤ length room) × TellsAnswer (Ok wrong_length) [] room len code room' len')
+
+-- the most bytes of a response: what Le asks for, and the status
+abbrev pub longest_response : Command → ℕ
+longest_response c = may_bring c.le + 2
+
+-- The response of a card that rests, which then rests again: 6700 to a command that is not agreed
+-- with it, and nothing changes; to every other one what its own TPDUs bring.
+pub record IsResponse (end : EndOf CardView) (p : Pair) (end' : EndOf CardView) : Type 0 where
+  pub refuses : (¬ IsAgreed MayReceive MaySend p.command)
+      → (p.status ≡ wrong_length) × (p.content ≡ []) × (end' ≡ end)
+  pub responds : IsAgreed MayReceive MaySend p.command
+      → Responds Does end.card.state p end'.card.state
+  pub rests_again : rests end'.stage ≡ true
+
+-- A command at a card that rests: there is too little room, or memory ran out, and nothing changes;
+-- or the response goes out.
+abbrev pub RespondsToCommand : Command → EndOf CardView → List ℕ → ℕ → ℤ
+    → EndOf CardView → List ℕ → ℕ → Type 0
+RespondsToCommand c end room len code end' room' len' =
+    ((length room < longest_response c) × TellsNothing gt_buffer room len code room' len'
+    × (end' ≡ end))
+    ⊎ ((longest_response c ≤ length room) × TellsNothing gt_memory room len code room' len'
+    × (end' ≡ end))
+    ⊎ ((p : Pair) × (longest_response c ≤ length room) × (p.command ≡ c) × IsResponse end p end'
+    × TellsAnswer (Ok p.status) p.content room len code room' len')
+
+-- Bytes at a card: characters of a TPDU have gone; or the bytes are no command, of which those with
+-- wrong lengths are answered 6700, extended ones among them; or they are this command.
+abbrev pub RespondsTo : List ℕ → List ℕ → ℕ → List ℕ → ℕ → CardSide → ℤ → CardSide → Type 0
+RespondsTo apdu room len room' len' (Building applications) code new =
+    TellsNothing gt_state room len code room' len' × (new ≡ Building applications)
+RespondsTo apdu room len room' len' (Joined session) code new =
+    TellsNothing gt_state room len code room' len' × (new ≡ Joined session)
+RespondsTo apdu room len room' len' (Standing end plans) code new =
+    ((rests end.stage ≡ false) × TellsNothing gt_state room len code room' len'
+    × (new ≡ Standing end plans))
+    ⊎ ((fault : ApduFault) × (rests end.stage ≡ true) × AreNone apdu fault × (fault ≢ BadLength)
+    × TellsNothing (command_code fault) room len code room' len' × (new ≡ Standing end plans))
+    ⊎ ((rests end.stage ≡ true) × AreNone apdu BadLength × RefusesLength room len code room' len'
+    × (new ≡ Standing end plans))
+    ⊎ ((c : Command) × (next : EndOf CardView) × (rests end.stage ≡ true) × IsCommand c
+    × (apdu ≡ command_bytes c) × RespondsToCommand c end room len code next room' len'
+    × (new ≡ Standing next plans))

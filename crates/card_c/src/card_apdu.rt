@@ -1,0 +1,100 @@
+//! A whole command at a card, as a card at T=1 or without contacts takes it.
+ghost use Rattle.std.specs.Prelude.{◌≡◌, true, None};
+ghost use Rattle.t0_core.specs.CardTpdu.{rests};
+ghost use Rattle.card_c.specs.CardHandle.{held_by, OnHandle};
+ghost use Rattle.card_c.specs.CardApduCalls.{RespondsTo, RespondsToCommand, RefusesLength};
+
+use crate::card_held::GtCard;
+use crate::card_side::CardSide;
+use crate::code;
+use crate::whole_tpdu::hand_out;
+use apdu_core::{ApduFault, Command, Status};
+use apdu_terminal::respond;
+use object_card::ObjectCard;
+use std::alloc::Global;
+use t0_core::CardEnd;
+
+/// Carries out a whole command. A command that is not agreed with the card, and bytes whose lengths
+/// fit none of the four cases, are answered `6700`, and nothing changes.
+#[unsafe(no_mangle)]
+pub extern "C" fn galliumtoad_card_apdu(
+    alloc: Global,
+    card: &mut GtCard,
+    apdu: &[u8],
+    response: &mut [u8],
+    len: &mut usize,
+) -> i32
+    ensures empty { held_by card.old ≡ None
+        → (response.new ≡ response.old) × (len.new ≡ len.old) }
+    ensures responds { OnHandle (RespondsTo apdu.now response.old len.old response.new len.new)
+        (held_by card.old) result (held_by card.new) }
+{
+    let Some(mut side) = card.take_out(alloc) else {
+        return code::EMPTY;
+    };
+    let code = respond_to(alloc, &mut side, apdu, response, len);
+    card.put(side);
+    code
+}
+
+fn respond_to(
+    alloc: Global,
+    side: &mut CardSide,
+    apdu: &[u8],
+    response: &mut [u8],
+    len: &mut usize,
+) -> i32
+    ensures { RespondsTo apdu.now response.old len.old response.new len.new side.old
+        result side.new }
+{
+    let CardSide::Standing(end, _) = side else {
+        return code::STATE;
+    };
+    if !end.is_at_rest() {
+        return code::STATE;
+    }
+    match Command::read(apdu) {
+        Ok(command) => carry_out(alloc, end, command, response, len),
+        Err(ApduFault::BadLength) => refuse(response, len),
+        Err(fault) => code::of_command(fault),
+    }
+}
+
+/// Answers `6700`, wrong length.
+fn refuse(response: &mut [u8], len: &mut usize) -> i32
+    ensures { RefusesLength response.old len.old result response.new len.new }
+{
+    if response.len() < 2 {
+        return code::BUFFER;
+    }
+    hand_out(&[], Status::new(0x67, 0x00).unwrap(), response, len);
+    code::OK
+}
+
+/// Has a card's end that can carry out a command, and hands the response out to C.
+fn carry_out(
+    alloc: Global,
+    end: &mut CardEnd<ObjectCard>,
+    command: Command<'_>,
+    response: &mut [u8],
+    len: &mut usize,
+) -> i32
+    requires { rests end.old.stage ≡ true }
+    ensures { RespondsToCommand command.entry end.old response.old len.old result
+        end.new response.new len.new }
+{
+    let le = usize::from(command.le().unwrap_or(0));
+    if response.len() < le + 2 {
+        return code::BUFFER;
+    }
+    match respond(alloc, end, command) {
+        Ok(exchange) => {
+            let Some(status) = exchange.status() else {
+                unreachable!()
+            };
+            hand_out(exchange.data(), status, response, len);
+            code::OK
+        }
+        Err(_) => code::MEMORY,
+    }
+}

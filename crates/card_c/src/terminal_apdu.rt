@@ -1,0 +1,93 @@
+//! A terminal that is driven by whole commands.
+ghost use Rattle.std.specs.Prelude.{◌≡◌, Option, true, false};
+ghost use Rattle.card_c.specs.TerminalHandle.{terminal_in};
+ghost use Rattle.card_c.specs.Codes.{gt_ok};
+ghost use Rattle.card_terminal.specs.declared.unsent.Unsent.{Unsent};
+ghost use Rattle.card_terminal.specs.Unsent.{IsUnsent};
+ghost use Rattle.card_c.specs.ApduCalls.{TellsDue, TakesResponse, Opens};
+ghost use Rattle.card_c.specs.TerminalCalls.{OnTerminal, OnApdus};
+
+use crate::code;
+use crate::held_terminal::TerminalHandle;
+use crate::operating_side::OperatingSide;
+use crate::whole_apdu::{opened, responded, responded_first, told};
+use std::alloc::Global;
+
+/// The whole command that is due, and how many bytes may come back.
+#[unsafe(no_mangle)]
+pub extern "C" fn galliumtoad_terminal_apdu(
+    alloc: Global,
+    terminal: &mut TerminalHandle,
+    apdu: &mut [u8],
+    len: &mut usize,
+    most: &mut usize,
+) -> i32
+    ensures still { (result ≡ gt_ok → ⊥) → (apdu.new ≡ apdu.old) × (len.new ≡ len.old)
+        × (most.new ≡ most.old) }
+    ensures told { OnTerminal (OnApdus (TellsDue apdu.old len.old most.old apdu.new len.new
+        most.new))
+        (terminal_in terminal.old) result (terminal_in terminal.new) }
+{
+    let Some(mut side) = terminal.take_out(alloc) else {
+        return code::EMPTY;
+    };
+    let answer = due(&mut side, apdu, len, most);
+    terminal.put(side);
+    answer
+}
+
+fn due(side: &mut OperatingSide, apdu: &mut [u8], len: &mut usize, most: &mut usize) -> i32
+    ensures still { (result ≡ gt_ok → ⊥) → (apdu.new ≡ apdu.old) × (len.new ≡ len.old)
+        × (most.new ≡ most.old) }
+    ensures told { OnApdus (TellsDue apdu.old len.old most.old apdu.new len.new most.new)
+        side.old result side.new }
+{
+    if !side.apdus.leads {
+        if let Some(refusal) = opened(&mut side.apdus, side.terminal.unsent()) {
+            return refusal;
+        }
+    }
+    told(side.apdus.terminal.apdu(), apdu, len, most)
+}
+
+/// Takes the response to that command: data, and then the status.
+#[unsafe(no_mangle)]
+pub extern "C" fn galliumtoad_terminal_responded(
+    alloc: Global,
+    terminal: &mut TerminalHandle,
+    response: &[u8],
+) -> i32
+    ensures { OnTerminal (OnApdus (TakesResponse response.now))
+        (terminal_in terminal.old) result (terminal_in terminal.new) }
+{
+    let Some(mut side) = terminal.take_out(alloc) else {
+        return code::EMPTY;
+    };
+    let answer = taken(&mut side, response);
+    terminal.put(side);
+    answer
+}
+
+fn taken(side: &mut OperatingSide, response: &[u8]) -> i32
+    ensures { OnApdus (TakesResponse response.now) side.old result side.new }
+{
+    let answer = passed_on(side, response);
+    if side.apdus.leads {
+        side.terminal.reset();
+    }
+    answer
+}
+
+fn passed_on(side: &mut OperatingSide, response: &[u8]) -> i32
+    ensures goes_so { side.old.apdus.leads ≡ true
+        → TakesResponse response.now side.old.apdus result side.new.apdus }
+    ensures opens { side.old.apdus.leads ≡ false → (unsent : Option Unsent)
+        × IsUnsent side.old.terminal.operation unsent
+        × Opens (TakesResponse response.now) unsent side.old.apdus result side.new.apdus }
+    ensures terminal { side.new.terminal ≡ side.old.terminal }
+{
+    if side.apdus.leads {
+        return responded(&mut side.apdus, response);
+    }
+    responded_first(&mut side.apdus, side.terminal.unsent(), response)
+}

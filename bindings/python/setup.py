@@ -1,0 +1,30 @@
+"""Installs the package: its version is the header's, its extension module comes from
+build_library.py, and a source distribution takes header and archives with it."""
+
+import sys
+from pathlib import Path
+
+from setuptools import setup
+from setuptools.command.sdist import sdist
+
+HERE = Path(__file__).resolve().parent
+sys.path.insert(0, str(HERE))
+import build_library  # noqa: E402
+
+
+class SourceDistribution(sdist):
+    """Copies what is built from into the distribution, where build_library.py looks first."""
+
+    def make_release_tree(self, base_dir, files):
+        super().make_release_tree(base_dir, files)
+        for file in build_library.sources():
+            to = Path(base_dir, build_library.COPY, file.relative_to(build_library.BINDINGS))
+            to.parent.mkdir(parents=True, exist_ok=True)
+            self.copy_file(str(file), str(to))
+
+
+setup(
+    version=build_library.version(),
+    cffi_modules=["build_library.py:builder"],
+    cmdclass={"sdist": SourceDistribution},
+)

@@ -1,0 +1,90 @@
+"""What a call of the library raises."""
+
+from __future__ import annotations
+
+from typing import Any, Optional
+
+from ._library import ffi, lib
+
+_NAMES = {getattr(lib, it): it for it in dir(lib) if isinstance(getattr(lib, it), int)}
+
+
+class Error(Exception):
+    """A call that the library refused; its text is the library's.
+
+    `code` is the number in `galliumtoad.h`, below 0, and `name` its name there. `place` is the
+    place of the fault in the bytes, from 0, if the call has one.
+
+    >>> import galliumtoad
+    >>> try:
+    ...     galliumtoad.objects(bytes.fromhex("5F2003414E"))
+    ... except galliumtoad.ObjectsError as error:
+    ...     print(error, error.name, error.place)
+    value cut at byte 0 GT_VALUE_CUT 0
+    """
+
+    def __init__(self, code: int, place: Optional[int] = None) -> None:
+        text = ffi.string(lib.gt_text(code)).decode()
+        super().__init__(text if place is None else f"{text} at byte {place}")
+        self.code, self.name, self.place = code, _NAMES.get(code, "unknown"), place
+
+
+class CallError(Error):
+    """The call does not fit: its state, its arguments, its room. Nothing has changed."""
+
+
+class OutOfMemory(CallError, MemoryError):
+    """Memory ran out. Nothing has changed."""
+
+
+class BuildError(Error):
+    """A card's tables are refused."""
+
+
+class LineError(Error):
+    """A character does not fit, or the exchange has failed."""
+
+
+class ObjectsError(Error):
+    """The bytes are no list of objects."""
+
+
+class CommandError(Error):
+    """The bytes are no command."""
+
+
+class TransportError(Error):
+    """A whole TPDU or command, or what came back for it, does not fit."""
+
+
+class AtrError(Error):
+    """The bytes are no answer to reset."""
+
+
+class PpsError(Error):
+    """The bytes are no PPS response."""
+
+
+# The header numbers its codes by kind, ten for each.
+_KINDS: dict[int, type[Error]] = {
+    0: CallError,
+    1: CallError,
+    2: BuildError,
+    3: LineError,
+    4: ObjectsError,
+    5: CommandError,
+    6: TransportError,
+    7: AtrError,
+    8: PpsError,
+}
+
+
+def checked(code: int, place: Any = None) -> int:
+    """Returns a code of 0 or above, and raises any other, with the place that `place` points to."""
+    if code >= 0:
+        return code
+    kind = _KINDS[-code // 10]
+    if code == lib.GT_MEMORY:
+        kind = OutOfMemory
+    has_place = place is not None and kind in (ObjectsError, AtrError, LineError)
+    raise kind(code, place[0] if has_place else None)

@@ -1,0 +1,93 @@
+"""A handle of the library, and the words that its calls take."""
+
+from __future__ import annotations
+
+import contextlib
+import threading
+from typing import Any, Iterator, Optional, Type, TypeVar, Union
+
+from ._library import ffi, lib
+from .errors import checked
+
+Bytes = Union[bytes, bytearray, memoryview]
+Self = TypeVar("Self", bound="Handle")
+
+
+def readable(data: Bytes) -> Any:
+    """The bytes of a bytes-like object, for the library to read. Raises `TypeError` for others."""
+    if isinstance(data, (bytes, bytearray)):
+        return ffi.from_buffer("uint8_t[]", data)
+    # A copy: the collector may clear a memoryview that an exception's frames keep, before cffi
+    # gives its buffer back.
+    view = memoryview(data).cast("B")
+    copy = ffi.new("uint8_t[]", len(view))
+    ffi.memmove(copy, view, len(view))
+    return copy
+
+
+def copied(made: Any, count: Any) -> bytes:
+    """The first bytes of a buffer that the library wrote, as many as it counted."""
+    return bytes(ffi.buffer(made, count[0]))
+
+
+def within(value: int, least: int, most: int, what: str) -> int:
+    """The number, if it is one within these bounds. Raises `TypeError` or `ValueError`."""
+    if not least <= value <= most:
+        raise ValueError(f"{what} is {value}, not from {least} to {most}")
+    return value
+
+
+def tag_number(tag: int) -> int:
+    """A tag's number: its one to three bytes, as in 0x5F20."""
+    return within(tag, 0, 0xFFFFFF, "a tag")
+
+
+class Handle:
+    """What the library keeps: a context manager, which `close` or the collector frees.
+
+    One thread at a time may call it: a call while another one is in progress raises
+    `RuntimeError`, and nothing happens. A call after `close` raises `CallError`, GT_EMPTY.
+    """
+
+    _kind: str
+
+    def __init__(self) -> None:
+        handle = ffi.new(f"gt_{self._kind} *")
+        self._handle = ffi.gc(handle, getattr(lib, f"gt_{self._kind}_free"))
+        self._lock = threading.Lock()
+
+    def _call(self, name: str, *words: Any, place: Any = None) -> int:
+        """Calls the library's function of this name with the handle, and raises its faults."""
+        return checked(self._code(name, *words), place)
+
+    def _code(self, name: str, *words: Any) -> int:
+        """Calls it, and returns its code."""
+        with self._alone():
+            return int(getattr(lib, f"gt_{self._kind}_{name}")(self._handle, *words))
+
+    @contextlib.contextmanager
+    def _alone(self) -> Iterator[None]:
+        """Keeps other threads out of the handle."""
+        if not self._lock.acquire(blocking=False):
+            raise RuntimeError("another thread is in a call of this handle")
+        try:
+            yield
+        finally:
+            self._lock.release()
+
+    def _copied(self, name: str, *words: Any, room: int) -> bytes:
+        """Calls the function with a buffer, its room and a count, and returns what was written."""
+        made, count = ffi.new("uint8_t[]", room), ffi.new("size_t *")
+        self._call(name, *words, made, room, count)
+        return copied(made, count)
+
+    def close(self) -> None:
+        """Frees what the handle holds, and wipes that; again, it does nothing."""
+        with self._alone():
+            getattr(lib, f"gt_{self._kind}_free")(self._handle)
+
+    def __enter__(self: Self) -> Self:
+        return self
+
+    def __exit__(self, kind: Optional[Type[BaseException]], *_: object) -> None:
+        self.close()

@@ -1,0 +1,207 @@
+"""A terminal's operations, and the exchange of one command, over any line or transport."""
+
+from __future__ import annotations
+
+import enum
+from dataclasses import dataclass, field
+from typing import Any, NamedTuple, Optional, Protocol, Union
+
+from ._library import ffi, lib
+from .answers import Answer, Status
+from .errors import checked
+from .handle import Bytes, Handle, copied, readable, tag_number, within
+
+
+class Level(enum.Enum):
+    """What a transport carries: whole TPDUs, as PC/SC at T=0, or whole commands, as at T=1."""
+
+    TPDU = "tpdu"
+    APDU = "apdu"
+
+
+class Transport(Protocol):
+    """Any callable that carries bytes to a card and returns what came back, data and SW1 SW2. Its
+    attribute `level` says what it carries; a callable without one carries TPDUs."""
+
+    def __call__(self, data: bytes, /) -> Bytes: ...
+
+
+@dataclass(frozen=True)
+class Select:
+    """Selects the application with this identifier, of 5 to 16 bytes."""
+
+    aid: Bytes
+
+
+@dataclass(frozen=True)
+class Get:
+    """Reads a data object: the data are its tag, length and value."""
+
+    tag: int
+
+
+@dataclass(frozen=True)
+class Put:
+    """Stores a value under a tag, in as many chained commands as it takes."""
+
+    tag: int
+    value: Bytes = field(repr=False)
+
+
+@dataclass(frozen=True)
+class Send:
+    """Sends any one command, and fetches its answer."""
+
+    command: Bytes = field(repr=False)
+
+
+Operation = Union[Select, Get, Put, Send]
+
+
+def call_of(operation: Operation) -> tuple[str, tuple[Any, ...]]:
+    """The library's word for an operation, with its arguments. Raises `TypeError` for others."""
+    if isinstance(operation, Get):
+        return "get", (tag_number(operation.tag),)
+    if isinstance(operation, Put):
+        value = readable(operation.value)
+        return "put", (tag_number(operation.tag), value, len(value))
+    if isinstance(operation, Select):
+        aid = readable(operation.aid)
+        return "select", (aid, len(aid))
+    if isinstance(operation, Send):
+        command = readable(operation.command)
+        return "send", (command, len(command))
+    raise TypeError(f"{type(operation).__name__} is no operation")
+
+
+class Due(NamedTuple):
+    """What goes to the card now, and how many bytes of data may come back at most."""
+
+    data: bytes
+    most: int
+
+
+class Machine(Handle):
+    """What a terminal and an exchange share: the ways to the card and back."""
+
+    def send_bytes(self) -> bytes:
+        """Returns all characters that go to the card now; none if it waits for the card's, or is
+        over. Raises `CallError`, GT_FAILED, after a fault."""
+        # a header, or the data of one command: it never has more before it waits
+        return self._copied("send_bytes", room=lib.GT_TPDU_LIMIT + 1)
+
+    def receive_bytes(self, data: Bytes) -> None:
+        """Takes characters of the card. Raises `LineError` at the first that does not fit, with its
+        place; those before it were taken."""
+        given, taken = readable(data), ffi.new("size_t *")
+        self._call("receive_bytes", given, len(given), taken, place=taken)
+
+    def tpdu(self) -> Optional[Due]:
+        """The whole TPDU that goes to the card now, or None."""
+        return self._due("tpdu", lib.GT_TPDU_LIMIT)
+
+    def answered(self, answer: Bytes) -> None:
+        """Takes what came back for that TPDU: data and SW1 SW2.
+
+        Raises `TransportError` if it does not fit; nothing has changed. Raises `LineError` if the
+        response is too long or stalls; the operation has failed.
+        """
+        given = readable(answer)
+        self._call("answered", given, len(given))
+
+    def apdu(self) -> Optional[Due]:
+        """The whole command that goes to the card now, for a card at T=1, or None."""
+        return self._due("apdu", lib.GT_APDU_LIMIT)
+
+    def responded(self, response: Bytes) -> None:
+        """Takes the response to that command, as `answered`."""
+        given = readable(response)
+        self._call("responded", given, len(given))
+
+    def _due(self, name: str, room: int) -> Optional[Due]:
+        made, count, most = ffi.new("uint8_t[]", room), ffi.new("size_t *"), ffi.new("size_t *")
+        code = self._code(name, made, count, most)
+        if code == lib.GT_NOT_DUE:
+            return None
+        checked(code)
+        return Due(copied(made, count), most[0])
+
+    def answer(self) -> Optional[Answer]:
+        """The answer, or None before the end. It can be asked for again."""
+        return answer_of(self)
+
+
+def answer_of(handle: Any) -> Optional[Answer]:
+    """The answer that a terminal, an exchange or a session keeps, or None."""
+    status, count = ffi.new("uint16_t *"), ffi.new("size_t *")
+    code = handle._code("answer", status, ffi.NULL, 0, count)
+    if code in (lib.GT_STATE, lib.GT_NOT_FOUND):
+        return None
+    if code != lib.GT_BUFFER:
+        checked(code)
+    data = ffi.new("uint8_t[]", count[0])
+    handle._call("answer", status, data, count[0], count)
+    return Answer(Status(status[0]), copied(data, count))
+
+
+class Exchange(Machine):
+    """The terminal's end of one command, begun; its response has at most `limit` bytes.
+
+    Raises `CommandError` if the bytes are no command, `CallError` for a limit out of range.
+    """
+
+    _kind = "exchange"
+
+    def __init__(self, command: Bytes, limit: int = lib.GT_RESPONSE_LIMIT) -> None:
+        super().__init__()
+        given = readable(command)
+        self._call("start_within", given, len(given), within(limit, 0, 1 << 63, "a limit"))
+
+
+class Terminal(Machine):
+    """Carries out one operation after another; a response has at most `limit` bytes.
+
+    >>> from galliumtoad import Card, Get, Select, Terminal
+    >>> aid = bytes.fromhex("A0000000031010")
+    >>> with Card({aid: {0x5F20: b"JOE"}}) as card, Terminal() as terminal:
+    ...     terminal.run(card.tpdu, Select(aid)).status.is_ok
+    ...     terminal.run(card.tpdu, Get(0x5F20)).object(0x5F20).value
+    True
+    b'JOE'
+    """
+
+    _kind = "terminal"
+
+    def __init__(self, limit: int = lib.GT_RESPONSE_LIMIT) -> None:
+        super().__init__()
+        self._call("new_within", within(limit, 0, 1 << 63, "a limit"))
+
+    def begin(self, operation: Operation) -> None:
+        """Begins an operation. Raises `CallError` or `CommandError`; nothing has changed then."""
+        name, words = call_of(operation)
+        self._call(name, *words)
+
+    def run(self, transport: Transport, operation: Operation) -> Answer:
+        """Carries out an operation over a transport, to the card's answer.
+
+        Raises what `begin` raises; nothing was sent. Raises what the transport or `answered`
+        raises: then the terminal is reset, and what the card has done is unknown: reset it, too.
+        """
+        self.begin(operation)
+        is_whole = getattr(transport, "level", Level.TPDU) is Level.APDU
+        due, take = (self.apdu, self.responded) if is_whole else (self.tpdu, self.answered)
+        try:
+            while (asked := due()) is not None:
+                take(transport(asked.data))
+        except BaseException:
+            self.reset()
+            raise
+        answer = self.answer()
+        assert answer is not None, "an operation with nothing due is over"
+        return answer
+
+    def reset(self) -> None:
+        """Drops the operation, if any, and gives its memory back."""
+        self._call("reset")
+
+

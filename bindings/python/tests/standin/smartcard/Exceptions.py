@@ -1,0 +1,2 @@
+class SmartcardException(Exception):
+    pass

@@ -1,0 +1,42 @@
+import os
+
+import smartcard
+from smartcard.Exceptions import SmartcardException
+
+
+class Connection:
+    def __init__(self, reader):
+        self.reader = reader
+
+    def connect(self, mode=None, disposition=None):
+        self.inside = smartcard.InReader(self.reader)
+
+    def getProtocol(self):
+        return 1
+
+    def transmit(self, sent):
+        try:
+            answer = self.inside.transmit(sent)
+        except ConnectionError as error:
+            raise SmartcardException(str(error)) from None
+        return answer[:-2], answer[-2], answer[-1]
+
+    def disconnect(self):
+        is_in = smartcard.number_in(self.reader) == self.inside.number
+        if is_in and "STAYS" not in os.environ:
+            smartcard.put_in(self.reader, self.inside.number + 1)
+
+
+class Reader:
+    def __init__(self, name):
+        self.name = name
+
+    def __str__(self):
+        return self.name
+
+    def createConnection(self):
+        return Connection(self.name)
+
+
+def readers():
+    return [Reader(it) for it in smartcard.readers()]

@@ -1,0 +1,310 @@
+"""Cards by the hundred, over a stand-in for pyscard whose cards come and go: killed at random, with
+a full disk, a journal that was cut, two runs at once, and cards of another profile."""
+
+import json
+import os
+import random
+import signal
+import subprocess
+import sys
+import time
+from pathlib import Path
+
+import pytest
+from galliumtoad.journal import Journal
+
+STANDIN = Path(__file__).resolve().parent / "standin"
+CARDS = int(os.environ.get("CARDS", 300))
+KILLS = int(os.environ.get("KILLS", 20))
+SCRIPT = """# a person's card
+select A0000000031010
+put 5F20 @{name}
+put 9F36 {code}
+put 50 41*300
+"""
+
+# The program, in a process whose files have at most so many bytes.
+FULL = """import resource, runpy, signal
+resource.setrlimit(resource.RLIMIT_FSIZE, ({0}, {0}))
+signal.signal(signal.SIGXFSZ, signal.SIG_IGN)
+runpy.run_module("galliumtoad.batch", run_name="__main__", alter_sys=True)
+"""
+
+
+class Room:
+    """A folder with readers, a table and a script."""
+
+    def __init__(self, path, rows, readers=1):
+        self.path = path
+        (path / "cards").mkdir()
+        for at in range(readers):
+            (path / f"Slot{at}").mkdir()
+            (path / f"Slot{at}" / "card").write_text("0")
+        lines = [f"PERSON {at},{at:08X}" for at in range(1, rows + 1)]
+        self.write("rows.csv", "\n".join(["name,code", *lines]) + "\n")
+        self.write("script", SCRIPT)
+        self.readers = [f"--reader=Slot{at}" for at in range(readers)]
+        paths = [str(STANDIN), *filter(None, [os.environ.get("PYTHONPATH")])]
+        self.environment = dict(os.environ, STANDIN=str(path), PYTHONPATH=":".join(paths))
+
+    def write(self, name, text):
+        (self.path / name).write_text(text)
+
+    def words(self, *words):
+        program = [sys.executable, "-m", "galliumtoad.batch", "script", "--rows=rows.csv"]
+        return [*program, "--journal=journal", *(words or self.readers)]
+
+    def start(self, *words, **more):
+        return subprocess.Popen(
+            self.words(*words),
+            cwd=self.path,
+            env=self.environment,
+            text=True,
+            stdout=subprocess.PIPE,
+            stderr=subprocess.PIPE,
+            start_new_session=True,
+            **more,
+        )
+
+    def run(self, *words, **more):
+        run = self.start(*words, **more)
+        out, error = run.communicate(timeout=300)
+        return run.returncode, out, error
+
+    def journal(self):
+        return (self.path / "journal").read_text().splitlines()
+
+    def to_decide(self):
+        """The rows that the program lists, each with its word."""
+        return listed(self.run("--status")[1])
+
+    def decide(self):
+        """Says of each row that is to be decided what its cards hold."""
+        for row in self.to_decide():
+            whole, _ = self.cards_of(row)
+            assert whole in (0, 1)
+            self.run(f"--{'done' if whole else 'again'}={row}")
+
+    def cards_of(self, row):
+        """How many cards hold all values of a row, and how many some of them."""
+        held = [json.loads(it.read_text()) for it in self.path.glob("cards/*") if it.suffix == ""]
+        whole = {"24352": f"PERSON {row}".encode().hex(), "40758": f"{row:08x}", "80": "41" * 300}
+        mine = [it for it in held if it.get("24352") == whole["24352"]]
+        return sum(whole.items() <= it.items() for it in mine), len(mine)
+
+
+def listed(out):
+    """The rows to decide in a run's summary."""
+    words = [line.split() for line in out.splitlines() if line.startswith("row ")]
+    return {int(it[1]): it[2].rstrip(":") for it in words}
+
+
+def test_each_row_goes_to_one_card(tmp_path):
+    room = Room(tmp_path, 60, readers=2)
+    status, out, error = room.run("--id=9F7F", *room.readers)
+    while status == 1:
+        # cards were pulled after the first put had begun
+        assert set(listed(out).values()) <= {"unsure", "failed"}
+        room.decide()
+        status, out, error = room.run("--id=9F7F", *room.readers)
+    assert (status, error) == (0, "")
+    assert out.splitlines()[-1] == "60 of 60 rows done, 0 to decide"
+    assert [room.cards_of(row)[0] for row in range(1, 61)] == [1] * 60
+    text = "\n".join(room.journal())
+    assert "PERSON" not in text + out and bytes(b"Slot1-1").hex().upper() in text
+
+
+def test_killed_at_random(tmp_path):
+    room, at_random, kills = Room(tmp_path, CARDS, readers=4), random.Random(7), 0
+    # slow enough that rows are left for each kill
+    room.environment["SLOW"] = "0.015"
+    ended = ""
+    while not ended.endswith(f"{CARDS} of {CARDS} rows done, 0 to decide\n"):
+        run = room.start()
+        if kills < KILLS:
+            time.sleep(at_random.uniform(0.15, 0.6))
+            os.killpg(run.pid, signal.SIGKILL)
+            kills += 1
+        ended = run.communicate(timeout=600)[0]
+        room.decide()
+    assert [room.cards_of(row)[0] for row in range(1, CARDS + 1)] == [1] * CARDS
+    assert kills == KILLS
+
+
+def test_a_row_is_on_disk_before_its_cards_first_byte(tmp_path, monkeypatch):
+    monkeypatch.syspath_prepend(str(STANDIN))
+    monkeypatch.setenv("STANDIN", str(tmp_path))
+    Room(tmp_path, 1)
+    from galliumtoad import batch, journal
+    from smartcard.System import Connection
+
+    steps, sync, transmit = [], os.fsync, Connection.transmit
+    monkeypatch.setattr(
+        journal.os, "fsync", lambda file: (steps.append("on disk"), sync(file))[1]
+    )
+    monkeypatch.setattr(
+        Connection, "transmit", lambda it, sent: (steps.append("card"), transmit(it, sent))[1]
+    )
+    monkeypatch.chdir(tmp_path)
+    given = batch.parsed(["script", "--rows=rows.csv", "--journal=journal"])
+    batch.serve(batch.Batch(given), "Slot0")
+    assert steps[:2] == ["on disk"] * 2 and set(steps[2:-1]) == {"card"}
+    assert steps[-1] == "on disk"
+
+
+def test_a_row_in_progress_is_not_to_be_decided(tmp_path):
+    room = Room(tmp_path, 2)
+    room.run("--status")
+    journal = Journal(str(tmp_path / "journal"), room.journal()[0], 2)
+    assert journal.take("Slot0") == 1
+    assert room.to_decide() == {}
+    assert room.run("--again=1")[2] == "galliumtoad.batch: row 1 is not to be decided\n"
+    os.close(journal._file)
+    assert room.to_decide() == {1: "unsure"}
+
+
+def test_two_runs_at_once(tmp_path):
+    room = Room(tmp_path, 60, readers=2)
+    runs = [room.start(it) for it in room.readers]
+    for run in runs:
+        assert run.communicate(timeout=300)[1] == ""
+    while room.run("--status")[0] == 1:
+        room.decide()
+        room.run()
+    assert [room.cards_of(row)[0] for row in range(1, 61)] == [1] * 60
+
+
+def test_a_journal_that_was_cut(tmp_path):
+    room = Room(tmp_path, 3)
+    assert room.run()[0] == 0
+    whole = (tmp_path / "journal").read_bytes()
+    assert [it.split()[0] for it in whole.decode().splitlines()] == ["#"] + ["begin", "done"] * 3
+    for kept in range(len(whole)):
+        (tmp_path / "journal").write_bytes(whole[:kept])
+        lines = whole[:kept].count(b"\n")
+        undecided = {} if lines < 2 or lines % 2 else {lines // 2: "unsure"}
+        assert room.to_decide() == undecided
+        # a cut line is gone, and a heading is written anew
+        assert (tmp_path / "journal").read_bytes() == b"".join(
+            whole.splitlines(keepends=True)[: max(lines, 1)]
+        )
+
+
+def test_a_full_disk(tmp_path):
+    room = Room(tmp_path, 5)
+    for size in range(150, 250, 9):
+        (tmp_path / "journal").unlink(missing_ok=True)
+        for card in tmp_path.glob("cards/*"):
+            card.unlink()
+        program = room.words()
+        program[1:3] = ["-c", FULL.format(size)]
+        run = subprocess.run(
+            program, cwd=tmp_path, env=room.environment, text=True, capture_output=True
+        )
+        if run.returncode == 0:
+            continue
+        assert run.stderr.startswith("Slot0: [Errno ") and "Traceback" not in run.stderr
+        assert "File too large" in run.stderr or "No space left" in run.stderr
+        for row in range(1, 6):
+            begun = f"begin {row} Slot0" in room.journal()
+            assert begun or room.cards_of(row) == (0, 0)
+
+
+def test_a_card_of_another_profile_takes_no_row(tmp_path):
+    room = Room(tmp_path, 1)
+    (tmp_path / "Slot0" / "card").write_text("5")
+    status, out, _ = room.run()
+    assert status == 0 and out.splitlines() == [
+        "Slot0: row 1 unused: line 2: 6A82 application not found",
+        "Slot0: row 1 done",
+        "1 of 1 rows done, 0 to decide",
+    ]
+
+
+def test_a_card_without_an_identifier_takes_no_row(tmp_path):
+    room = Room(tmp_path, 1)
+    (tmp_path / "Slot0" / "card").write_text("17")
+    assert room.run("--id=9F7F")[1].splitlines()[:2] == [
+        "Slot0: row 1 unused: no 9F7F to know the card by: 6A88",
+        "Slot0: row 1 done",
+    ]
+
+
+def test_the_card_of_a_crashed_run_is_passed_over(tmp_path):
+    room = Room(tmp_path, 2)
+    room.run("--status")
+    journal = Journal(str(tmp_path / "journal"), room.journal()[0], 2)
+    assert journal.take("Slot0") == 1
+    os.close(journal._file)
+    assert room.run()[1].splitlines() == [
+        "Slot0: take out the card that is in it",
+        "Slot0: row 2 done",
+        "row 1 unsure: decide by --done 1 or --again 1",
+        "1 of 2 rows done, 1 to decide",
+    ]
+    assert [it.name for it in tmp_path.glob("cards/*")] == ["Slot0-1"]
+
+
+def test_a_card_that_stays_in_takes_one_row(tmp_path):
+    room = Room(tmp_path, 3)
+    room.environment["STAYS"] = "1"
+    assert room.run()[0] == 0
+    assert sorted(it.name for it in tmp_path.glob("cards/*")) == ["Slot0-0", "Slot0-1", "Slot0-2"]
+    assert [room.cards_of(row)[0] for row in (1, 2, 3)] == [1, 1, 1]
+
+
+def test_a_card_that_stores_another_byte_has_failed(tmp_path):
+    room = Room(tmp_path, 1)
+    (tmp_path / "Slot0" / "card").write_text("11")
+    status, out, _ = room.run()
+    assert status == 1 and out.splitlines() == [
+        "Slot0: row 1 failed: line 5: 50 was not stored as sent",
+        "row 1 failed: decide by --done 1 or --again 1",
+        "0 of 1 rows done, 1 to decide",
+    ]
+    assert room.run("--again=1")[1] == "0 of 1 rows done, 0 to decide\n"
+    assert room.run()[1].endswith("Slot0: row 1 done\n1 of 1 rows done, 0 to decide\n")
+
+
+@pytest.mark.parametrize(
+    ("script", "rows", "words", "text"),
+    [
+        ("put 5F20 @{age}\n", None, (), "script:1: the table has no column `age`"),
+        ("take 5F20\n", None, (), "script:1: `take` with 1 words"),
+        ("get 5F20 41\n", None, (), "script:1: `get` with 2 words"),
+        ("select A0\n", None, (), "script:1: no `select` for row 1: bad argument"),
+        ("\nput 5F20 {name}\n", None, (), "script:2: no `put` for row 1"),
+        ("put 5F20 41*8193\n", None, (), "script:1: no `put` for row 1"),
+        ("put 5F20 @missing\n", None, (), "script:1: no `put` for row 1: [Errno 2] No such file"),
+        ("send 00\n", None, (), "script:1: no `send` for row 1: command too short"),
+        (None, "name,code\nA,00\nB,0\n", (), "script:4: no `put` for row 2"),
+        (None, "name,code\nA\n", (), "rows.csv: row 1 has too many columns, or too few"),
+        (None, "name,code\nA,00,1\n", (), "rows.csv: row 1 has too many columns, or too few"),
+        (None, None, ("--reader=X",), "`X` names 0 readers"),
+        (None, None, ("--reader=Slot",), "`Slot` names 2 readers"),
+        (None, None, ("--id=9F7F",), "name a reader: there are 2"),
+        (None, None, ("--done=1",), "row 1 is not to be decided"),
+        (None, None, ("--again=9",), "row 9 is not to be decided"),
+    ],
+)
+def test_bad_input_is_named_before_any_card(tmp_path, script, rows, words, text):
+    room = Room(tmp_path, 2, readers=2)
+    room.write("script", script or SCRIPT)
+    if rows:
+        room.write("rows.csv", rows)
+    status, out, error = room.run(*words)
+    assert status == 2 and error.startswith(f"galliumtoad.batch: {text}"), error
+    assert out == "" and not list(tmp_path.glob("cards/*")) and "PERSON" not in error
+
+
+def test_a_journal_of_another_table_is_refused(tmp_path):
+    room = Room(tmp_path, 1)
+    assert room.run()[0] == 0
+    room.write("script", SCRIPT + "get 50\n")
+    assert room.run()[2].endswith("journal is the journal of another table or script\n")
+
+
+def test_a_missing_file_is_named(tmp_path):
+    room = Room(tmp_path, 1)
+    (tmp_path / "rows.csv").unlink()
+    assert room.run()[2] == "galliumtoad.batch: [Errno 2] No such file or directory: 'rows.csv'\n"

@@ -1,0 +1,382 @@
+"""Arguments, errors and handles: what each call takes, and what it raises otherwise."""
+
+import gc
+import threading
+from contextlib import contextmanager
+
+import pytest
+from galliumtoad import (
+    Answer,
+    Atr,
+    AtrError,
+    BuildError,
+    CallError,
+    Card,
+    CommandError,
+    Exchange,
+    Get,
+    Level,
+    LineError,
+    ObjectsError,
+    OutOfMemory,
+    Pps,
+    PpsError,
+    Put,
+    Select,
+    Send,
+    Session,
+    Status,
+    Terminal,
+    TransportError,
+    find,
+    head,
+    objects,
+)
+from galliumtoad._library import ffi, lib
+from galliumtoad.errors import checked
+
+AID = bytes.fromhex("A0000000031010")
+SELECT = bytes.fromhex("00A4040007A000000003101000")
+
+
+def card():
+    return Card({AID: {0x5F20: b"JOE", 0x50: b"A" * 600}}, locked=[(AID, 0x50)])
+
+
+@contextmanager
+def raises(kind, name, place=None):
+    """Expects an error of exactly this kind, with the header's name and this place."""
+    with pytest.raises(kind) as found:
+        yield
+    error = found.value
+    assert (type(error), error.name, error.place) == (kind, name, place)
+    assert error.code == getattr(lib, name)
+    text = ffi.string(lib.gt_text(error.code)).decode()
+    assert str(error) == (text if place is None else f"{text} at byte {place}")
+
+
+def test_each_code_has_its_kind():
+    codes = [getattr(lib, it) for it in dir(lib) if isinstance(getattr(lib, it), int)]
+    faults = sorted({it for it in codes if it < 0}, reverse=True)
+    assert len(faults) >= 50
+    kinds = {}
+    for code in faults:
+        with pytest.raises(Exception) as found:
+            checked(code)
+        kinds.setdefault(-code // 10, set()).add(type(found.value))
+    assert kinds == {
+        0: {CallError, OutOfMemory},
+        1: {CallError},
+        2: {BuildError},
+        3: {LineError},
+        4: {ObjectsError},
+        5: {CommandError},
+        6: {TransportError},
+        7: {AtrError},
+        8: {PpsError},
+    }
+    with raises(OutOfMemory, "GT_MEMORY"):
+        checked(lib.GT_MEMORY)
+    assert issubclass(OutOfMemory, MemoryError) and issubclass(OutOfMemory, CallError)
+
+
+@pytest.mark.parametrize("wrong", ["9000", 5, None, [1, 2]])
+def test_what_is_no_bytes_is_a_type_error(wrong):
+    calls = [
+        lambda: Atr(wrong),
+        lambda: Card({wrong: {}}) if not isinstance(wrong, list) else Atr(wrong),
+        lambda: card().tpdu(wrong),
+        lambda: card().receive_bytes(wrong),
+        lambda: Exchange(wrong),
+        lambda: Terminal().begin(Put(0x50, wrong)),
+        lambda: Terminal().begin(Select(wrong)),
+        lambda: Terminal().begin(Send(wrong)),
+        lambda: Terminal().begin(wrong),
+        lambda: Pps(0).is_agreed(wrong),
+        lambda: Terminal().answered(wrong),
+        lambda: Terminal().receive_bytes(wrong),
+    ]
+    for call in calls:
+        with pytest.raises(TypeError):
+            call()
+
+
+@pytest.mark.parametrize("wrong", ["50", 5.0, None])
+def test_what_is_no_number_is_a_type_error(wrong):
+    for call in [
+        lambda: Terminal().begin(Get(wrong)),
+        lambda: Terminal(wrong),
+        lambda: find(b"", wrong),
+        lambda: head(wrong, 0),
+        lambda: head(0x50, wrong),
+        lambda: Pps(wrong),
+        lambda: card().plan("", wrong),
+        lambda: card().send_bytes(wrong),
+    ]:
+        with pytest.raises(TypeError):
+            call()
+
+
+@pytest.mark.parametrize("wrong", [-1, 1 << 24, 1 << 70])
+def test_numbers_out_of_range_are_value_errors(wrong):
+    for call in [
+        lambda: Terminal().begin(Get(wrong)),
+        lambda: find(b"", wrong),
+        lambda: head(wrong, 0),
+        lambda: head(0x50, wrong),
+        lambda: Pps(wrong),
+        lambda: Pps(0, pps1=wrong),
+        lambda: card().plan("", wrong),
+        lambda: Status(wrong).text,
+    ]:
+        with pytest.raises(ValueError):
+            call()
+
+
+def test_the_most_and_the_least_are_taken():
+    assert Pps(15, 255, 0).request.hex().startswith("ff3fff00") and Pps(0).request
+    assert head(0xFF8101, 0xFFFF).hex() == "ff810182ffff"
+    assert card().plan("", 1) is card().plan("", 256) is None
+
+
+def test_any_bytes_like_object_is_read():
+    session = Session(card())
+    assert session.run(Select(bytearray(AID))).status.is_ok
+    assert session.run(Put(0x5F20, memoryview(b"xANNx")[1:4])).status.is_ok
+    assert session.run(Get(0x5F20)).object(0x5F20).value == b"ANN"
+    with pytest.raises(TypeError):
+        session.run(Put(0x5F20, memoryview(b"A.N.N.")[::2]))
+
+
+def test_a_card_is_built_or_refused():
+    with raises(CallError, "GT_ARGUMENT"):
+        Card({b"1234": {}})
+    with raises(BuildError, "GT_TOO_MANY_APPS"):
+        Card({bytes(4) + bytes([it]): {} for it in range(9)})
+    with raises(BuildError, "GT_VALUE_TOO_LONG"):
+        Card({AID: {0x5F20: bytes(8193)}})
+    with raises(BuildError, "GT_NOT_OBJECTS"):
+        Card({AID: {0x70: b"\x5f"}})
+    with raises(CallError, "GT_ARGUMENT"):
+        Card({AID: {0x5F2080: b""}})
+
+
+def test_what_a_card_holds():
+    held = card()
+    assert held.applications == [AID] and held.selected is None
+    assert held.entries(AID) == [(0x5F20, b"JOE", False), (0x50, b"A" * 600, True)]
+    with pytest.raises(KeyError):
+        held.entries(bytes(5))
+    held.tpdu(SELECT[:-1])
+    assert held.selected == AID
+    held.reset()
+    assert held.selected is None
+
+
+def test_tpdus_at_a_card():
+    with raises(TransportError, "GT_NO_TPDU"):
+        card().tpdu(b"123")
+    with raises(TransportError, "GT_WANTS_DATA"):
+        card().tpdu(bytes.fromhex("00A4040007"))
+    with raises(CallError, "GT_ARGUMENT"):
+        card().plan("x")
+    with raises(CallError, "GT_ARGUMENT"):
+        card().plan("", 257)
+
+
+def test_characters_at_a_card():
+    held = card()
+    assert held.receive_bytes(SELECT[:5] + b"x") == 5
+    assert held.send_bytes(1) == b"\xa4"
+    assert held.receive_bytes(AID) == 7
+    assert held.send_bytes() == bytes.fromhex("610B")
+    assert held.send_bytes() == b""
+
+
+def test_an_exchange_by_characters():
+    held, exchange = card(), Exchange(SELECT)
+    while exchange.answer() is None:
+        held.receive_bytes(exchange.send_bytes())
+        exchange.receive_bytes(held.send_bytes())
+    assert exchange.answer() == Answer(Status(0x9000), bytes.fromhex("6F098407A0000000031010"))
+    with raises(LineError, "GT_AFTER_END", 0):
+        exchange.receive_bytes(b"\x90")
+
+
+def test_faults_of_an_exchange():
+    with raises(CommandError, "GT_TOO_SHORT"):
+        Exchange(b"123")
+    with raises(CommandError, "GT_BAD_LENGTH"):
+        Exchange(bytes.fromhex("00A4040002AA"))
+    with raises(CommandError, "GT_INVALID_INS"):
+        Exchange(bytes.fromhex("00600000"))
+    with raises(CallError, "GT_ARGUMENT"):
+        Exchange(SELECT, limit=16385)
+    exchange = Exchange(SELECT, limit=10)
+    assert exchange.tpdu() == (SELECT[:-1], 0)
+    exchange.answered(bytes.fromhex("610B"))
+    assert exchange.tpdu() == (bytes.fromhex("00C000000B"), 11)
+    with raises(TransportError, "GT_NO_STATUS"):
+        exchange.answered(b"\x90")
+    with raises(TransportError, "GT_TOO_MANY"):
+        exchange.answered(bytes(12) + b"\x90\x00")
+    with raises(LineError, "GT_TOO_LONG"):
+        exchange.answered(bytes(11) + b"\x90\x00")
+    assert exchange.tpdu() is None and exchange.answer() is None
+    with raises(CallError, "GT_FAILED"):
+        exchange.send_bytes()
+    exchange = Exchange(SELECT)
+    exchange.send_bytes()
+    with raises(LineError, "GT_BAD_PROCEDURE", 2):
+        exchange.receive_bytes(b"\x60\x60\x00")
+
+
+def test_a_terminal_is_reset_after_what_its_transport_raises():
+    def failing(tpdu):
+        sent.append(tpdu)
+        raise OSError("pulled")
+
+    sent, terminal = [], Terminal()
+    with pytest.raises(OSError, match="pulled"):
+        terminal.run(failing, Select(AID))
+    assert sent == [SELECT[:-1]] and terminal.tpdu() is None
+    with raises(TransportError, "GT_NO_STATUS"):
+        terminal.run(lambda tpdu: b"", Select(AID))
+    with pytest.raises(TypeError):
+        terminal.run(lambda tpdu: "9000", Select(AID))
+    assert terminal.run(card().tpdu, Select(AID)).status.is_ok
+    terminal.begin(Get(0x50))
+    with raises(CallError, "GT_STATE"):
+        terminal.run(card().tpdu, Select(AID))
+    assert terminal.tpdu() is not None
+
+
+def test_a_level_decides_what_a_transport_carries():
+    class Whole:
+        level = Level.APDU
+
+        def __init__(self):
+            self.card, self.sent = card(), []
+
+        def __call__(self, command, /):
+            self.sent.append(command)
+            return self.card.apdu(command)
+
+    reader = Whole()
+    with Terminal() as terminal:
+        assert terminal.run(reader, Select(AID)).data == bytes.fromhex("6F098407A0000000031010")
+        assert terminal.run(reader, Get(0x50)).data == head(0x50, 600) + b"A" * 600
+    assert [it.hex().upper() for it in reader.sent] == [
+        "00A4040007A000000003101000",
+        "00CA005000",
+        "00C0000000",
+        "00C000005C",
+    ]
+
+
+def test_objects_and_their_faults():
+    with raises(ObjectsError, "GT_VALUE_CUT", 0):
+        objects(bytes.fromhex("5F2003414E"))
+    with raises(ObjectsError, "GT_TAG_CUT", 4):
+        find(bytes.fromhex("500141005F"), 0x84)
+    assert find(b"", 0x84) is None and objects(b"") == []
+    with raises(CallError, "GT_ARGUMENT"):
+        find(b"", 0x5F)
+    with raises(CallError, "GT_ARGUMENT"):
+        head(0x5F, 1)
+    assert Answer(Status(0x9000), b"JOE").object(0x5F20) is None
+
+
+def test_the_fields_of_an_object():
+    data = bytes.fromhex("006F0584034A4F45")
+    outer, inner, last = objects(data + bytes.fromhex("5001AA"))
+    assert (last.encoded, last.value) == (b"\x50\x01\xaa", b"\xaa")
+    assert (outer.tag, outer.level, outer.is_constructed, outer.place) == (0x6F, 1, True, 1)
+    assert (outer.encoded, outer.value) == (data[1:], data[3:])
+    assert (inner.tag, inner.level, inner.is_constructed, inner.place) == (0x84, 2, False, 3)
+    assert (inner.encoded, inner.value) == (data[3:], b"JOE")
+    assert find(data + bytes(1), 0x6F, 0x84) == inner
+
+
+def test_what_shows():
+    assert repr(Put(0x5F20, b"secret")) == "Put(tag=24352)" and repr(Send(b"secret")) == "Send()"
+    assert repr(Status(0x61)) == "Status(0x0061)" and not Status(0x6110).is_ok
+    assert Status(0x9001).text == "unknown status"
+
+
+def test_answers_to_reset_and_pps():
+    with raises(AtrError, "GT_ATR_CUT", 1):
+        Atr(b"\x3b")
+    with raises(AtrError, "GT_ATR_NO_TS", 0):
+        Atr(b"\x00")
+    # a contactless storage card, by PC/SC part 3
+    atr = Atr(bytes.fromhex("3B8F8001804F0CA0000003060300030000000068"))
+    assert (atr.protocols, atr.fi, atr.di, atr.historical_count) == ((0, 1), 372, 1, 15)
+    assert atr.historical == bytes.fromhex("804F0CA00000030603000300000000")
+    # the defaults of ISO/IEC 7816-3, clause 11: IFSC 32, LRC, BWI 4, CWI 13
+    t1 = atr.t1
+    assert (t1.ifsc, t1.edc, t1.bwi, t1.cwi, t1.cwt_etu) == (32, lib.GT_LRC, 4, 13, 11 + 2**13)
+    with pytest.raises(AttributeError):
+        atr.colour
+    assert Pps(1, 0x95).request == bytes.fromhex("FF11957B")
+    with raises(PpsError, "GT_PPS_NO_PPSS"):
+        Pps(0).is_agreed(b"\x00")
+    assert not Pps(1, 0x95).is_agreed(bytes.fromhex("FF10957A"))
+
+
+def test_a_closed_handle_raises():
+    held = card()
+    with held:
+        held.tpdu(SELECT[:-1])
+    with raises(CallError, "GT_EMPTY"):
+        held.tpdu(SELECT[:-1])
+    held.close()
+    with raises(CallError, "GT_EMPTY"):
+        held.tpdu(SELECT[:-1])
+    moved = card()
+    session = Session(moved)
+    with raises(CallError, "GT_EMPTY"):
+        moved.tpdu(SELECT[:-1])
+    back = session.end()
+    assert back.tpdu(SELECT[:-1]) == bytes.fromhex("610B")
+    with raises(CallError, "GT_EMPTY"):
+        session.run(Select(AID))
+
+
+def test_a_second_thread_in_a_handle_is_refused():
+    held, inside, leave = card(), threading.Event(), threading.Event()
+
+    def stay():
+        with held._alone():
+            inside.set()
+            leave.wait()
+
+    first = threading.Thread(target=stay)
+    first.start()
+    inside.wait()
+    for call in (lambda: held.tpdu(SELECT[:-1]), held.close, lambda: Session(held)):
+        with pytest.raises(RuntimeError):
+            call()
+    leave.set()
+    first.join()
+    assert held.tpdu(SELECT[:-1]) == bytes.fromhex("610B")
+
+
+def resident():
+    """The pages of memory that this process has."""
+    with open("/proc/self/statm") as file:
+        return int(file.read().split()[1])
+
+
+def test_ten_thousand_handles_leave_nothing():
+    def some(count):
+        for _ in range(count):
+            Terminal().begin(Put(0x5F20, b"A" * 8192))
+            Session(card()).run(Select(AID))
+        gc.collect()
+
+    some(500)
+    before = resident()
+    some(5000)
+    # each pair holds 50 KB and more: what is left is under a byte of that for each
+    assert resident() - before < 256

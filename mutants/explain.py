@@ -1,0 +1,282 @@
+"""Tries the faults of explain.faults, for `try`: of each, a case of checks/explain is told
+otherwise, or not at all. What trace_explain words is not proved, so this shows that its cases guard
+it. All copies are built as modules of one program, by `rt try` and without proofs, beside a copy
+with no fault, in which every case has to pass."""
+
+import re
+import subprocess
+import sys
+from pathlib import Path
+
+sys.dont_write_bytecode = True
+TOP = Path(__file__).resolve().parent.parent
+sys.path.insert(0, str(TOP / "checks/explain"))
+from cases import all_cases  # noqa: E402
+
+BELOW = ("apdu_core", "tlv_core", "t0_core", "atr_core")
+SOURCE = TOP / "crates" / "trace_explain" / "src"
+# what takes words and streams, which the program below does in its place
+LEFT_OUT = ("main", "main_status", "command_line", "help")
+# the names of the forms, in the order of FORM_NAMES
+FORMS = "angle angles arrow double TX TX: Tx: T: IFD IFD:".split()
+# how many runs a module's cases are divided among, since one may write a mebibyte
+BATCHES = 3
+# stands between the cases that a program is given, and between what it says of them
+MARK = "\x1e"
+DECLARED = re.compile(r"^ *(?:ghost use [^;]*;|#\[tactic\(auto, using\(.*)\n", re.M)
+
+
+def write_program(folder, faults):
+    """The crate with a module for the program as it is, and for each fault."""
+    crates = folder / "crates"
+    for name in BELOW:
+        (crates / name).mkdir(parents=True)
+        for part in ("src", "specs", "proofs"):
+            (crates / name / part).symlink_to(TOP / "crates" / name / part)
+    (folder / "crates.txt").write_text(
+        "apdu_core:\ntlv_core:\nt0_core: apdu_core\natr_core: arrayvec\n"
+        f"trace_explain: {' '.join(BELOW)} arrayvec hex thiserror\n",
+        encoding="utf-8",
+    )
+    crate = crates / "trace_explain"
+    for part in ("specs", "proofs"):
+        (crate / part).mkdir(parents=True)
+        (crate / part / "Lib.antt").write_text("", encoding="utf-8")
+    texts = {it.stem: it.read_text(encoding="utf-8") for it in SOURCE.glob("*.rt")}
+    texts = {name: text for name, text in texts.items() if name not in LEFT_OUT}
+    for number, fault in enumerate([None, *faults]):
+        write_module(crate / "src", f"m{number}", texts_with(fault, texts))
+    (crate / "src" / "main.rt").write_text(main_text(len(faults) + 1), encoding="utf-8")
+    return crate
+
+
+def texts_with(fault, texts):
+    """The files with the fault in one of them."""
+    return {**texts, fault.file: fault.put(texts[fault.file])} if fault else texts
+
+
+def write_module(source, module, texts):
+    """A copy of the crate as a module."""
+    (source / module).mkdir(parents=True)
+    for name, text in texts.items():
+        text = DECLARED.sub("", text).replace("crate::", f"crate::{module}::")
+        (source / module / f"{name}.rt").write_text(text, encoding="utf-8")
+    names = "".join(f"pub mod {name};\n" for name in texts)
+    (source / f"{module}.rt").write_text(f"//! A copy.\n{names}", encoding="utf-8")
+
+
+def main_text(count):
+    """The program: its input is the number of a module, and then each case with its words."""
+    modules = "".join(f"mod m{number};\n" for number in range(count))
+    arms = "".join(f"            {number} => run{number}(&rt, part),\n" for number in range(count))
+    return HEAD.format(modules=modules, arms=arms) + WORDS + "".join(
+        ONE.format(number=number) for number in range(count)
+    )
+
+
+HEAD = """//! The program, and copies of it with a fault in each.
+#![tactic(auto)]
+
+{modules}
+use std::io;
+use std::io::{{Read, Write}};
+use std::process::ExitCode;
+
+fn main(rt: HostRuntime) -> ExitCode {{
+    let mut all = Vec::new(rt.alloc());
+    let mut chunk = [0; 4096];
+    loop {{
+        match rt.stdin().read(&mut chunk) {{
+            Ok(0) => break,
+            Ok(count) => all.extend_from_slice(&chunk[..count]).unwrap(),
+            Err(_) => return ExitCode::from(2),
+        }}
+    }}
+    let mut which = 0;
+    let mut is_first = true;
+    for part in all.as_slice().split(|byte| *byte == 0x1E) {{
+        if is_first {{
+            for &byte in part {{
+                which = which * 10 + usize::from(byte - b'0');
+            }}
+            is_first = false;
+            continue;
+        }}
+        match which {{
+{arms}            _ => return ExitCode::from(2),
+        }}
+    }}
+    ExitCode::from(0)
+}}
+"""
+
+WORDS = """
+/// The words before a trace.
+fn words_of(part: &[u8]) -> &[u8] {
+    part.split(|byte| *byte == 0x1D).next().unwrap_or(&[])
+}
+"""
+
+ONE = """
+fn run{number}(rt: &HostRuntime, part: &[u8]) {{
+    let size = words_of(part).len();
+    let mut parts = words_of(part).split(|byte| *byte == 0x1B);
+    let words = parts.next().unwrap_or(&[]);
+    let mut ways = m{number}::ways::Ways::none();
+    for way in [t0_core::Direction::ToCard, t0_core::Direction::FromCard] {{
+        let said = str::from_utf8(parts.next().unwrap_or(&[])).unwrap_or("");
+        let _ = ways.say(way, said);
+    }}
+    let medium = if part[0] == b'h' {{
+        m{number}::layout::Medium::Html
+    }} else {{
+        m{number}::layout::Medium::Text
+    }};
+    let resumes = part[1] == b'r';
+    let is_summary = part[2] == b's';
+    let layout = m{number}::layout::Layout {{ medium, is_summary }};
+    let reading = m{number}::reading::Reading {{
+        form: match part[4] {{
+            b'-' => None,
+            digit => m{number}::form::Form::of_name(
+                m{number}::form::FORM_NAMES[usize::from(digit - b'0')],
+            ),
+        }},
+        swaps: part[5] == b'w',
+        unsigned: (part[6] == b'u').then_some(ways),
+        of_tpdus: part[6] == b't',
+    }};
+    let mut trace = &part[size + 1..];
+    let mask = if words.len() > 7 {{
+        let tags = str::from_utf8(&words[8..]).unwrap_or("");
+        m{number}::mask::Mask::of(rt.alloc(), tags).unwrap()
+    }} else {{
+        m{number}::mask::Mask::none(rt.alloc())
+    }};
+    let mut out = io::writer(rt);
+    if words[3] == b'd' {{
+        return diff{number}(rt, mask, resumes, reading, trace);
+    }}
+    let outcome = m{number}::explain::explain(
+        rt.alloc(),
+        layout,
+        mask,
+        resumes,
+        reading,
+        &mut trace,
+        &mut out,
+    );
+    let _ = out.write_all(b"\\x1e");
+    if let Err(fault) = outcome {{
+        let _ = out.writeln(&fault);
+    }}
+    let _ = out.write_all(b"\\x1e");
+}}
+
+fn diff{number}(
+    rt: &HostRuntime,
+    mask: m{number}::mask::Mask,
+    resumes: bool,
+    reading: m{number}::reading::Reading,
+    traces: &[u8],
+) {{
+    let mut parts = traces.split(|byte| *byte == 0x1C);
+    let mut a = parts.next().unwrap_or(&[]);
+    let mut b = parts.next().unwrap_or(&[]);
+    let mut out = io::writer(rt);
+    let outcome =
+        m{number}::diff::diff(rt.alloc(), mask, resumes, reading, (&mut a, &mut b), &mut out);
+    let _ = out.write_all(b"\\x1e");
+    if let Err(fault) = outcome {{
+        let _ = out.writeln(&fault);
+    }}
+    let _ = out.write_all(b"\\x1e");
+}}
+"""
+
+
+def write_inputs(folder, cases, count):
+    """For each module a file with its number and the cases of each batch."""
+    folder.mkdir()
+    for batch in range(BATCHES):
+        given = b"".join(input_of(case) for case in cases[batch::BATCHES])
+        for number in range(count):
+            (folder / f"f{number:03}_{batch}").write_bytes(str(number).encode() + given)
+
+
+def input_of(case):
+    """What a module is given of a case."""
+    words = "".join(
+        word[2] if word in case.words else "-" for word in ("--html", "--resume", "--summary")
+    )
+    words += "d" if "--diff" in case.words else "-"
+    words += form_of(case.words)
+    words += "w" if "--swap" in case.words else "-"
+    words += lines_of(case.words)
+    if "--mask" in case.words:
+        tags = case.words[case.words.index("--mask") + 1 :]
+        words += "=" + "".join(tag for tag in tags[:1] if not tag.startswith("--"))
+    for word in ("--to-card", "--from-card"):
+        words += "\x1b" + (case.words[case.words.index(word) + 1] if word in case.words else "")
+    other = b"\x1c" + case.other if "--diff" in case.words else b""
+    return MARK.encode() + words.encode() + b"\x1d" + case.given + other
+
+
+def lines_of(words):
+    """What lines are: without signs, of a log of TPDUs, or with signs."""
+    if "--unsigned" in words:
+        return "u"
+    return "t" if "--tpdu" in words else "-"
+
+
+def form_of(words):
+    """The place of the form that is said, and `-` where none is."""
+    if "--form" not in words:
+        return "-"
+    return str(FORMS.index(words[words.index("--form") + 1]))
+
+
+def run_all(crate, folder):
+    """What each module says of the cases of each batch; None where it ended otherwise."""
+    run = subprocess.run(
+        ["rt", "try", "--steps", "1", "--cases", str(folder)],
+        cwd=crate,
+        capture_output=True,
+        check=False,
+    )
+    said = re.split(rb"^== f(\d+_\d)\n", run.stdout, flags=re.M)[1:]
+    if not said:
+        raise SystemExit(run.stderr.decode()[-2000:])
+    ended = set(re.findall(rb"^case=f(\d+_\d) run=ended status=0 ", run.stderr, re.M))
+    texts = zip(said[::2], said[1::2])
+    return {name.decode(): text.decode() if name in ended else None for name, text in texts}
+
+
+def faults_in(texts, number, cases):
+    """Each case in which this module says something else, or that the program ended."""
+    for batch in range(BATCHES):
+        yield from faults_of(texts.get(f"{number:03}_{batch}"), cases[batch::BATCHES])
+
+
+def faults_of(text, cases):
+    """The same of the cases of a batch."""
+    if text is None:
+        yield "the program ended"
+        return
+    said = text.split(MARK)
+    for case, out, err in zip(cases, said[::2], said[1::2]):
+        found = case.fault(out, err)
+        if found:
+            yield found
+    if len(said) < 2 * len(cases):
+        yield "the output ends too soon"
+
+
+def outcomes(folder, faults):
+    """Each fault with the case that is told otherwise, begun with that of none."""
+    cases = all_cases()
+    crate = write_program(folder, faults)
+    write_inputs(folder / "cases", cases, len(faults) + 1)
+    texts = run_all(crate, folder / "cases")
+    for number, fault in enumerate([None, *faults]):
+        yield fault, next(faults_in(texts, number, cases), None)

@@ -66,9 +66,10 @@ stays_within at next m came status within goes =
         → follow_by at came again announced ≡ Goes next → AsksWithin next (m - came)
     by (Some n) announced told is e =
         let same : repeated at came n ≡ next = cc in
-        subst (λ (x : Place). AsksWithin x (m - came)) same
-        (left_is,
-        corrected_within _ (less at.left came) (corrects status) n (m - came) left_is told)
+        subst (λ (x : Place). AsksWithin x (m - came)) same (
+          left_is,
+          corrected_within _ (less at.left came) (corrects status) n (m - came) left_is told,
+        )
     by None None told is e = absurd (cc)
     by None (Some n) told is e =
         of_fetch (at.fetches && (at.brought + came == 0)) n
@@ -83,8 +84,13 @@ all_within at m [] mid last within through suits =
 all_within at m (p ∷ before) mid last within (next, is, goes, rest) suits =
     let after = all_within next (m - length p.content) before mid last
     (stays_within at next m (length p.content) p.status within goes) rest suits in
-    omega (arith, length-append p.content (all_content (before ++ last ∷ [])), is.asked_for,
-    within.1, after)
+    omega (
+      arith,
+      length-append p.content (all_content (before ++ last ∷ [])),
+      is.asked_for,
+      within.1,
+      after,
+    )
 
 first_within : (content : List ℕ) (le : Option ℕ) → may_bring (le_of_tpdu content le) ≤ may_bring le
 first_within [] le = omega arith

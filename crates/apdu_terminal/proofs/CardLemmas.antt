@@ -39,13 +39,13 @@ use Rattle.apdu_terminal.specs.declared.stage.Stage.{Stage}
 use Rattle.apdu_terminal.specs.declared.stage.Stage.TheVariants.{Going, Done, Failed}
 use Rattle.apdu_terminal.specs.declared.apdu_fault.ApduFault.{ApduFault}
 use Rattle.apdu_terminal.specs.declared.apdu_fault.ApduFault.TheVariants as why
-use Rattle.apdu_terminal.specs.Apdus.{Pair, first_place, may_bring, GoesThrough, all_content, Brings, StallsAt}
-use Rattle.apdu_terminal.specs.ApduSide.{ApduExchangeOf, IsSound, ComesTo, to_place, to_end, to_stall, to_fault, place_of, command_of, excess, due_of, is_going, to_go, has_failed, response_fault, answered_by}
-use Rattle.apdu_terminal.specs.CardApdu.{p3_of, tpdu_command, le_of, IsTpduOf, GoesBy, HasCome, HasFailed, Responds, RespondsToAll, HasHad}
-use Rattle.apdu_terminal.proofs.LedLemmas.{IsTaken, is_taken, asked_number, asks_with, more_room}
+use Rattle.apdu_terminal.specs.Apdus.{Pair, first_place, may_bring, GoesThrough, all_content, StallsAt}
+use Rattle.apdu_terminal.specs.ApduSide.{ApduExchangeOf, IsSound, ComesTo, place_of, command_of, excess, due_of, is_going, to_go, has_failed, response_fault, answered_by}
+use Rattle.apdu_terminal.specs.CardApdu.{p3_of, tpdu_command, le_of, IsTpduOf, GoesAs, HasCome, HasFailed, Responds, RespondsToAll, HasHad}
+use Rattle.apdu_terminal.proofs.LedLemmas.{IsTaken, is_taken, is_going_true, at_stage, asked_number, asks_with, more_room}
 use Rattle.apdu_terminal.proofs.PlaceLemmas.{through, Fits, fits_first, fits_on, never_too_long, GoesAlone, alone_first, alone_on, Agrees, agrees_on, agrees_as_tpdu, agrees_first, total_within}
 use Rattle.apdu_terminal.proofs.StallLemmas.{never_stalls, never_overflows, card_never_stalls}
-use Rattle.apdu_terminal.proofs.TalkLemmas.{own_responds, own_goes}
+use Rattle.apdu_terminal.proofs.TalkLemmas.{own_responds, own_goes, turns_both}
 use Rattle.apdu_terminal.specs.ApduTalk.{HasBrought}
 use Rattle.apdu_terminal.proofs.RestLemmas.{count_told}
 
@@ -277,15 +277,6 @@ taken_of n bytes rest is = ap (λ k. take k (bytes ++ rest)) is ∙ take-append_
 
 -- ---- one TPDU more
 
-goes_by_last : {State : Type 0} (Does : State → ℕ → Tpdu → State → Type 0) (first mid last : State)
-    (pairs : List Pair) (p : Pair) (t : Tpdu) → GoesBy Does first pairs mid → IsTpduOf p t
-    → Does mid 256 t last → GoesBy Does first (pairs ++ p ∷ []) last
-goes_by_last {State} Does first mid last [] p t goes is does =
-    let P : State → Type 0 = λ s. Does s 256 t last in
-    (t, last, is, subst P goes does, refl)
-goes_by_last Does first mid last (q ∷ pairs) p t (u, next, is_u, does_u, rest) is does =
-    (u, next, is_u, does_u, goes_by_last Does next mid last pairs p t rest is does)
-
 due_when : (v : Bool) (c due : Command) → (if v then Some c else None) ≡ Some due
     → (v ≡ true) × (c ≡ due)
 due_when true c due e = (refl, cc)
@@ -294,25 +285,15 @@ due_when false c due e = absurd (cc)
 pub is_due : (ex : ApduExchangeOf) (due : Command) → due_of ex ≡ Some due → command_of ex ≡ due
 is_due ex due e = (due_when (is_going ex.stage) (command_of ex) due e).1
 
-none_due : (ex : ApduExchangeOf) (due : Command) (s : Stage) → ex.stage ≡ s → is_going s ≡ false
-    → due_of ex ≡ Some due → ⊥
-none_due ex due s is over due_is =
-    let going = (due_when (is_going ex.stage) (command_of ex) due due_is).0 in
-    true≢false (sym going ∙ ap is_going is ∙ over)
-
 -- where a command is due, its pairs have led to its place
 pub at_place : (c : Command) (wanted : Wanted) (pairs : List Pair) (ex : ApduExchangeOf)
     (due : Command) → due_of ex ≡ Some due → ComesTo c wanted pairs ex
     → GoesThrough (first_place c wanted) pairs (place_of ex)
     × (ex.gather.bytes ≡ all_content pairs) × (command_of ex ≡ due)
-at_place c wanted pairs ex due is (to_place going goes bytes left number) =
-    (goes, bytes, is_due ex due is)
-at_place c wanted pairs ex due is (to_end status done brings number) =
-    absurd (none_due ex due (Done status) done refl is)
-at_place c wanted pairs ex due is (to_stall failed stalls) =
-    absurd (none_due ex due Failed failed refl is)
-at_place c wanted pairs ex due is (to_fault failed long) =
-    absurd (none_due ex due Failed failed refl is)
+at_place c wanted pairs ex due is led =
+    let (going, same) = due_when (is_going ex.stage) (command_of ex) due is in
+    let at = at_stage c wanted pairs ex Going (is_going_true ex.stage going) led in
+    (at.through, at.gathered, same)
 
 -- it goes as a TPDU
 pub goes_alone : {State : Type 0} (Does : State → ℕ → Tpdu → State → Type 0) (c : Command)
@@ -324,40 +305,30 @@ goes_alone Does c first now ex due is (pairs, comes, goes) =
     subst P same (through GoesAlone alone_on (first_place (tpdu_command c) (le_of c))
     (place_of ex) 0 pairs (alone_first c) way)
 
--- the TPDU of the command that is due
-abbrev pub WasTpdu : {State : Type 0} → (State → ℕ → Tpdu → State → Type 0) → State → Command
-    → List ℕ → StatusWord → State → Type 0
-WasTpdu Does mid due content status last = (t : Tpdu)
-    × IsTpduOf (record { command = due; content = content; status = status }) t
-    × Does mid 256 t last
-
-gone_further : {State : Type 0} (Does : State → ℕ → Tpdu → State → Type 0)
-    (first mid last : State) (pairs : List Pair) (old : ApduExchangeOf) (content came : List ℕ)
-    (status : StatusWord) (due : Command) → due_of old ≡ Some due → content ≡ came
-    → WasTpdu Does mid due came status last → GoesBy Does first pairs mid
-    → GoesBy Does first (pairs ++ answered_by old content status ∷ []) last
-gone_further Does first mid last pairs old content came status due is same (t, is_t, does) goes =
-    let Q : List ℕ → Type 0 =
-    λ x. IsTpduOf (record { command = due; content = x; status = status }) t in
+-- the pair of the command that is due
+pub pair_is : {State : Type 0} (One : State → Pair → State → Type 0) (mid last : State)
+    (old : ApduExchangeOf) (content came : List ℕ) (status : StatusWord) (due : Command)
+    → due_of old ≡ Some due → content ≡ came
+    → One mid (record { command = due; content = came; status = status }) last
+    → One mid (answered_by old content status) last
+pair_is One mid last old content came status due is same one =
     let P : Command → Type 0 =
-    λ x. IsTpduOf (record { command = x; content = content; status = status }) t in
-    goes_by_last Does first mid last pairs (answered_by old content status) t goes
-    (subst P (sym (is_due old due is)) (subst Q (sym same) is_t)) does
+    λ x. One mid (record { command = x; content = content; status = status }) last in
+    let Q : List ℕ → Type 0 =
+    λ x. One mid (record { command = due; content = x; status = status }) last in
+    subst P (sym (is_due old due is)) (subst Q (sym same) one)
 
--- the command is answered, or the exchange goes on
-pub one_came : {State : Type 0} (Does : State → ℕ → Tpdu → State → Type 0) (c : Command)
-    (first mid last : State) (old new : ApduExchangeOf) (content came : List ℕ)
-    (status : StatusWord) (due : Command) → due_of old ≡ Some due → content ≡ came
-    → WasTpdu Does mid due came status last
-    → ((pairs : List Pair) → ComesTo (tpdu_command c) (le_of c) pairs old
-    → ComesTo (tpdu_command c) (le_of c) (pairs ++ answered_by old content status ∷ []) new)
-    → HasCome Does c first mid old → HasCome Does c first last new
-one_came Does c first mid last old new content came status due is same tpdu led
-    (pairs, comes, goes) = (
-      pairs ++ answered_by old content status ∷ [],
-      led pairs comes,
-      gone_further Does first mid last pairs old content came status due is same tpdu goes,
-    )
+-- it is one more
+pub one_had : {State : Type 0} (One : State → Pair → State → Type 0) (c : Command)
+    (wanted : Wanted) (first mid last : State) (old new : ApduExchangeOf) (p : Pair)
+    → One mid p last
+    → ((pairs : List Pair) → ComesTo c wanted pairs old → ComesTo c wanted (pairs ++ p ∷ []) new)
+    → HasHad One c wanted first mid old → HasHad One c wanted first last new
+one_had One c wanted first mid last old new p is led (pairs, comes, goes) = (
+  pairs ++ p ∷ [],
+  led pairs comes,
+  turns_both One first mid last pairs (p ∷ []) goes (last, is, refl),
+)
 
 -- or the card is reset
 pub one_failed : {C : Type 0} (card : Ghosts C) (c : Command) (first mid last : card.State)
@@ -374,19 +345,7 @@ one_failed card c first mid last ex fault due is reset refused (pairs, comes, go
       (pairs, place_of ex, mid, way, goes, reset),
     )
 
--- a response that was asked for, and has room, is no fault
-no_fault : (ex : ApduExchangeOf) (came : ℕ) (due : Command) → due_of ex ≡ Some due
-    → came ≤ may_bring due.le → length ex.gather.bytes + came ≤ ex.gather.limit
-    → response_fault ex came ≡ None
-no_fault ex came due is few room =
-    let (going, same) = due_when (is_going ex.stage) (command_of ex) due is in
-    let le : may_bring ex.le ≡ may_bring due.le = ap (λ (c : Command). may_bring c.le) same in
-    rw (
-      going,
-      le-ltb (may_bring ex.le) came (omega (arith, le, few)),
-      le-leb (length ex.gather.bytes + came) ex.gather.limit room,
-    ) refl
-
+-- a response that was asked for has room, and is no fault
 pub fits_room : {State : Type 0} (Does : State → ℕ → Tpdu → State → Type 0) (c : Command)
     (first now : State) (ex : ApduExchangeOf) (came : ℕ) (due : Command)
     → due_of ex ≡ Some due → came ≤ may_bring due.le → may_bring c.le ≤ ex.gather.limit
@@ -395,32 +354,29 @@ fits_room Does c first now ex came due is few room (pairs, comes, goes) =
     let (way, bytes, same) = at_place (tpdu_command c) (le_of c) pairs ex due is comes in
     let f = through (Fits (may_bring c.le)) (fits_on (may_bring c.le))
     (first_place (tpdu_command c) (le_of c)) (place_of ex) 0 pairs (fits_first c) way in
-    no_fault ex came due is few (omega (
-      arith,
-      ap length bytes,
-      f.within,
-      f.asks,
-      few,
-      ap (λ (x : Command). may_bring x.le) same,
-      room,
-    ))
+    let le : may_bring ex.le ≡ may_bring due.le = ap (λ (x : Command). may_bring x.le) same in
+    let fits : length ex.gather.bytes + came ≤ ex.gather.limit =
+    omega (arith, ap length bytes, f.within, f.asks, few, le, room) in
+    rw (
+      (due_when (is_going ex.stage) (command_of ex) due is).0,
+      le-ltb (may_bring ex.le) came (omega (arith, le, few)),
+      le-leb (length ex.gather.bytes + came) ex.gather.limit fits,
+    ) refl
 
 stalled_so : (c : Command) (pairs : List Pair) (ex : ApduExchangeOf)
     → may_bring c.le ≤ ex.gather.limit → ex.stage ≡ Failed
     → ComesTo (tpdu_command c) (le_of c) pairs ex → StallsAt (tpdu_command c) (le_of c) pairs
-stalled_so c pairs ex room failed (to_place going goes bytes left number) =
-    let no : Failed ≡ Going = sym failed ∙ going in absurd (cc)
-stalled_so c pairs ex room failed (to_end status done brings number) =
-    let no : Failed ≡ Done status = sym failed ∙ done in absurd (cc)
-stalled_so c pairs ex room failed (to_stall is stalls) = stalls
-stalled_so c pairs ex room failed (to_fault is long) =
-    absurd (never_too_long c pairs ex.gather.limit room long)
+stalled_so c pairs ex room failed led =
+    elim (at_stage (tpdu_command c) (le_of c) pairs ex Failed failed led) [
+      | inl stalls ↦ stalls
+      | inr long ↦ absurd (never_too_long c pairs ex.gather.limit room long)
+    ]
 
 -- or the exchange has stalled
 pub one_stalled : {C : Type 0} (card : Ghosts C) (c : Command) (first mid last : card.State)
     (old new : ApduExchangeOf) (content came : List ℕ) (status : StatusWord) (due : Command)
     (f : AnswerFault) → due_of old ≡ Some due → content ≡ came
-    → WasTpdu card.Does mid due came status last → length came ≤ may_bring due.le
+    → GoesAs card.Does mid (answered_by old content status) last → length came ≤ may_bring due.le
     → may_bring c.le ≤ old.gather.limit → new.gather.limit ≡ old.gather.limit
     → (response_fault old (length content) ≡ Some f)
     ⊎ ((f ≡ Stalled) × (response_fault old (length content) ≡ None))
@@ -434,33 +390,19 @@ one_stalled card c first mid last old new content came status due f is same tpdu
     (omega (arith, few, ap length same)) room has in
     let no : None ≡ Some f = sym none ∙ fault in absurd (cc)
 one_stalled card c first mid last old new content came status due f is same tpdu few room limit
-    (inr (stalled, none)) failed led (pairs, comes, goes) =
+    (inr (stalled, none)) failed led has =
     let fails : fails_with f ≡ true = ap fails_with stalled in
-    let pairs_then = pairs ++ answered_by old content status ∷ [] in (
+    let (pairs, comes, goes) = one_had (GoesAs card.Does) (tpdu_command c) (le_of c) first mid last
+    old new (answered_by old content status) tpdu (λ pairs comes. led pairs comes fails) has in (
       stalled,
       (
-        pairs_then,
-        stalled_so c pairs_then new (omega (arith, room, limit)) (failed fails)
-            (led pairs comes fails),
-        gone_further card.Does first mid last pairs old content came status due is same tpdu goes,
+        pairs,
+        stalled_so c pairs new (omega (arith, room, limit)) (failed fails) comes,
+        goes,
       ),
     )
 
 -- ---- the whole command
-
-done_brings : (c : Command) (wanted : Wanted) (pairs : List Pair) (ex : ApduExchangeOf)
-    (status : StatusWord) → ex.stage ≡ Done status → ComesTo c wanted pairs ex
-    → Brings c wanted pairs ex.gather.bytes status
-done_brings c wanted pairs ex status done (to_place going through bytes is number) =
-    let no : Done status ≡ Going = sym done ∙ going in absurd (cc)
-done_brings c wanted pairs ex status done (to_end other is brings number) =
-    let both : Done other ≡ Done status = sym is ∙ done in
-    let same : other ≡ status = cc in
-    subst (λ s. Brings c wanted pairs ex.gather.bytes s) same brings
-done_brings c wanted pairs ex status done (to_stall failed stalls) =
-    let no : Done status ≡ Failed = sym done ∙ failed in absurd (cc)
-done_brings c wanted pairs ex status done (to_fault failed long) =
-    let no : Done status ≡ Failed = sym done ∙ failed in absurd (cc)
 
 pub finished : {State : Type 0} (Does : State → ℕ → Tpdu → State → Type 0) (c : Command)
     (old new : State) (ex : ApduExchangeOf) → HasCome Does c old new ex
@@ -470,7 +412,7 @@ pub finished : {State : Type 0} (Does : State → ℕ → Tpdu → State → Typ
 finished Does c old new ex (pairs, comes, goes) (status, done) = (
   status,
   done,
-  (pairs, done_brings (tpdu_command c) (le_of c) pairs ex status done comes, goes),
+  (pairs, at_stage (tpdu_command c) (le_of c) pairs ex (Done status) done comes, goes),
 )
 
 unwrapped : (le : Option ℕ) → unwrap_or le 0 ≡ may_bring le
@@ -489,55 +431,21 @@ begins_so Does at c first wanted le most ex is le_is most_is wanted_is led =
       refl,
     )
 
--- ---- whole commands in turn
-
-responds_last : {State : Type 0} (Does : State → ℕ → Tpdu → State → Type 0)
-    (first mid last : State) (pairs : List Pair) (p : Pair) → RespondsToAll Does first pairs mid
-    → Responds Does mid p last → RespondsToAll Does first (pairs ++ p ∷ []) last
-responds_last {State} Does first mid last [] p goes responds =
-    let P : State → Type 0 = λ s. Responds Does s p last in
-    (last, subst P goes responds, refl)
-responds_last Does first mid last (q ∷ pairs) p (next, is, rest) responds =
-    (next, is, responds_last Does next mid last pairs p rest responds)
-
-answered_last : {State : Type 0} (Own : State → ℕ → Tpdu → State → Type 0)
-    (first mid last : State) (pairs : List Pair) (old done : ApduExchangeOf) (content : List ℕ)
-    (told : StatusWord) (due : Command) → due_of old ≡ Some due
-    → (status : StatusWord) × (done.stage ≡ Done status)
-    × Responds Own mid
-    (record { command = due; content = done.gather.bytes; status = status }) last
-    → done.stage ≡ Done told → content ≡ done.gather.bytes → RespondsToAll Own first pairs mid
-    → RespondsToAll Own first (pairs ++ answered_by old content told ∷ []) last
-answered_last Own first mid last pairs old done content told due is (status, over, responds) ended
-    bytes_are goes =
-    let both : Done told ≡ Done status = sym ended ∙ over in
-    let one : told ≡ status = cc in
-    let P : Command → Type 0 = λ x. Responds Own mid
-    (record { command = x; content = content; status = told }) last in
-    let Q : List ℕ → Type 0 = λ x. Responds Own mid
-    (record { command = due; content = x; status = told }) last in
-    let R : StatusWord → Type 0 = λ x. Responds Own mid
-    (record { command = due; content = done.gather.bytes; status = x }) last in
-    responds_last Own first mid last pairs (answered_by old content told) goes
-    (subst P (sym (is_due old due is)) (subst Q (sym bytes_are) (subst R (sym one) responds)))
-
-pub one_had : {State : Type 0} (Own : State → ℕ → Tpdu → State → Type 0) (c : Command)
-    (wanted : Wanted) (first mid last : State) (old new done : ApduExchangeOf) (content : List ℕ)
-    (told : StatusWord) (due : Command) → due_of old ≡ Some due
-    → (status : StatusWord) × (done.stage ≡ Done status)
+-- the response of the card is the pair of the command that is due
+pub response_is : {State : Type 0} (Own : State → ℕ → Tpdu → State → Type 0) (mid last : State)
+    (old done : ApduExchangeOf) (content : List ℕ) (told : StatusWord) (due : Command)
+    → due_of old ≡ Some due → (status : StatusWord) × (done.stage ≡ Done status)
     × Responds Own mid
     (record { command = due; content = done.gather.bytes; status = status }) last
     → done.stage ≡ Done told → content ≡ done.gather.bytes
-    → ((pairs : List Pair) → ComesTo c wanted pairs old
-    → ComesTo c wanted (pairs ++ answered_by old content told ∷ []) new)
-    → HasHad Own c wanted first mid old → HasHad Own c wanted first last new
-one_had Own c wanted first mid last old new done content told due is answer ended bytes_are led
-    (pairs, comes, goes) = (
-      pairs ++ answered_by old content told ∷ [],
-      led pairs comes,
-      answered_last Own first mid last pairs old done content told due is answer ended bytes_are
-          goes,
-    )
+    → Responds Own mid (answered_by old content told) last
+response_is Own mid last old done content told due is (status, over, responds) ended bytes_are =
+    let both : Done told ≡ Done status = sym ended ∙ over in
+    let one : told ≡ status = cc in
+    let R : StatusWord → Type 0 = λ x. Responds Own mid
+    (record { command = due; content = done.gather.bytes; status = x }) last in
+    pair_is (Responds Own) mid last old content done.gather.bytes told due is bytes_are
+    (subst R (sym one) responds)
 
 -- ---- an exchange with a card of data objects
 
@@ -559,7 +467,8 @@ never_left card state_of c old new (Err (why.Response fault)) means agreed faile
 -- what is known of the command that is due
 pub due_agreed : {State : Type 0} (R S : ℕ → Type 0) (Own : State → ℕ → Tpdu → State → Type 0)
     (c : Command) (first now : State) (ex : ApduExchangeOf) (due : Command)
-    → due_of ex ≡ Some due → IsAgreed R S c → HasHad Own c (wanted_by c.le) first now ex
+    → due_of ex ≡ Some due → IsAgreed R S c
+    → HasHad (Responds Own) c (wanted_by c.le) first now ex
     → IsAgreed R S due
 due_agreed R S Own c first now ex due is agreed (pairs, comes, goes) =
     let (way, bytes, same) = at_place c (wanted_by c.le) pairs ex due is comes in
@@ -568,7 +477,7 @@ due_agreed R S Own c first now ex due is agreed (pairs, comes, goes) =
     subst (λ x. IsAgreed R S x) same a.agreed
 
 -- the card responds with no more than Le asks for
-responds_within : {State : Type 0} (Own : State → ℕ → Tpdu → State → Type 0) (old new : State)
+pub responds_within : {State : Type 0} (Own : State → ℕ → Tpdu → State → Type 0) (old new : State)
     (p : Pair) → Responds Own old p new → length p.content ≤ may_bring p.command.le
 responds_within Own old new p (pairs, b, goes) =
     omega (
@@ -578,17 +487,13 @@ responds_within Own old new p (pairs, b, goes) =
       total_within p.command b.before b.last b.at b.through b.suits,
     )
 
-fault_fails : (ex : ApduExchangeOf) (came : ℕ) (due : Command) (f : AnswerFault)
-    → due_of ex ≡ Some due → came ≤ may_bring due.le → response_fault ex came ≡ Some f
-    → fails_with f ≡ true
-fault_fails ex came due f is few fault =
-    let (going, same) = due_when (is_going ex.stage) (command_of ex) due is in
-    let le : may_bring ex.le ≡ may_bring due.le = ap (λ (c : Command). may_bring c.le) same in
+fault_fails : (ex : ApduExchangeOf) (came : ℕ) (f : AnswerFault) → is_going ex.stage ≡ true
+    → came ≤ may_bring ex.le → response_fault ex came ≡ Some f → fails_with f ≡ true
+fault_fails ex came f going few fault =
     by (nat_le (length ex.gather.bytes + came) ex.gather.limit)
     (subst (λ v. (if v then (if nat_lt (may_bring ex.le) came then Some (excess ex.le)
     else (if nat_le (length ex.gather.bytes + came) ex.gather.limit then None else Some TooLong))
-    else Some NotDue) ≡ Some f) going fault)
-    (le-ltb (may_bring ex.le) came (omega (arith, le, few)))
+    else Some NotDue) ≡ Some f) going fault) (le-ltb (may_bring ex.le) came few)
   where
     by : (v : Bool) → (if nat_lt (may_bring ex.le) came then Some (excess ex.le)
         else (if v then None else Some TooLong)) ≡ Some f
@@ -605,56 +510,47 @@ fault_fails ex came due f is few fault =
 never_fails : (c : Command) (wanted : Wanted) (pairs : List Pair) (old new : CardState)
     (ex : ApduExchangeOf) → IsCardState old → ex.gather.limit ≡ response_limit
     → ex.stage ≡ Failed → ComesTo c wanted pairs ex → RespondsToAll meaning.Does old pairs new → ⊥
-never_fails c wanted pairs old new ex sound room failed (to_place going way bytes left number)
-    goes =
-    let no : Failed ≡ Going = sym failed ∙ going in absurd (cc)
-never_fails c wanted pairs old new ex sound room failed (to_end status done brings number) goes =
-    let no : Failed ≡ Done status = sym failed ∙ done in absurd (cc)
-never_fails c wanted pairs old new ex sound room failed (to_stall is stalls) goes =
-    never_stalls c wanted pairs old new stalls goes
-never_fails c wanted pairs old new ex sound room failed (to_fault is long) goes =
-    never_overflows c wanted pairs old new ex.gather.limit room sound long goes
+never_fails c wanted pairs old new ex sound room failed led goes =
+    elim (at_stage c wanted pairs ex Failed failed led) [
+      | inl stalls ↦ never_stalls c wanted pairs old new stalls goes
+      | inr long ↦ never_overflows c wanted pairs old new ex.gather.limit room sound long goes
+    ]
 
 -- the response of a card of data objects is no fault
-pub never_refused : {State : Type 0} (Own : State → ℕ → Tpdu → State → Type 0)
+never_refused : {State : Type 0} (Own : State → ℕ → Tpdu → State → Type 0)
     (reset : State → State) (state_of : State → CardState) (c : Command) (wanted : Wanted)
-    (first mid last : State) (sound : CardState) (old new done : ApduExchangeOf)
-    (content : List ℕ) (told : StatusWord) (due : Command) (f : AnswerFault)
-    → StandsFor Own reset state_of → state_of first ≡ sound → IsCardState sound
-    → due_of old ≡ Some due → (status : StatusWord) × (done.stage ≡ Done status)
-    × Responds Own mid
-    (record { command = due; content = done.gather.bytes; status = status }) last
-    → done.stage ≡ Done told → content ≡ done.gather.bytes
+    (first mid last : State) (sound : CardState) (old new : ApduExchangeOf) (content : List ℕ)
+    (told : StatusWord) (due : Command) (f : AnswerFault) → StandsFor Own reset state_of
+    → state_of first ≡ sound → IsCardState sound → due_of old ≡ Some due
+    → Responds Own mid (answered_by old content told) last
     → old.gather.limit ≡ response_limit → new.gather.limit ≡ old.gather.limit
     → (response_fault old (length content) ≡ Some f)
     ⊎ ((f ≡ Stalled) × (response_fault old (length content) ≡ None))
     → (fails_with f ≡ true → new.stage ≡ Failed)
     → ((pairs : List Pair) → ComesTo c wanted pairs old → fails_with f ≡ true
     → ComesTo c wanted (pairs ++ answered_by old content told ∷ []) new)
-    → HasHad Own c wanted first mid old → ⊥
-never_refused {State} Own reset state_of c wanted first mid last sound old new done content told due
-    f means was is_sound is answer ended bytes_are room limit fault failed led
-    (pairs, comes, goes) =
-    let p : Pair = answered_by old content told in
-    let few : length content ≤ may_bring due.le =
-    omega (arith, ap length bytes_are, responds_within Own mid last _ answer.2) in
+    → HasHad (Responds Own) c wanted first mid old → ⊥
+never_refused Own reset state_of c wanted first mid last sound old new content told due f means was
+    is_sound is responds room limit fault failed led has =
+    let few : length content ≤ may_bring old.le = responds_within Own mid last _ responds in
     let fails : fails_with f ≡ true = elim fault [
-      | inl is_fault ↦ fault_fails old (length content) due f is few is_fault
+      | inl is_fault ↦ fault_fails old (length content) f
+          (due_when (is_going old.stage) (command_of old) due is).0 few is_fault
       | inr (stalled, none) ↦ ap fails_with stalled
     ] in
-    let all = own_responds Own reset state_of first last (pairs ++ p ∷ []) means
-    (answered_last Own first mid last pairs old done content told due is answer ended bytes_are
-    goes) in
-    never_fails c wanted (pairs ++ p ∷ []) (state_of first) (state_of last) new
-    (subst IsCardState (sym was) is_sound) (limit ∙ room) (failed fails) (led pairs comes fails) all
+    let (pairs, comes, goes) = one_had (Responds Own) c wanted first mid last old new
+    (answered_by old content told) responds (λ pairs comes. led pairs comes fails) has in
+    never_fails c wanted pairs (state_of first) (state_of last) new
+    (subst IsCardState (sym was) is_sound) (limit ∙ room) (failed fails) comes
+    (own_responds Own reset state_of first last pairs means goes)
 
 -- it is over when no command is due
 pub over_then : {State : Type 0} (Own : State → ℕ → Tpdu → State → Type 0) (c : Command)
     (old new : State) (ex : ApduExchangeOf) → None ≡ due_of ex → has_failed ex.stage ≡ false
-    → HasHad Own c (wanted_by c.le) old new ex → HasBrought Own old c new ex
+    → HasHad (Responds Own) c (wanted_by c.le) old new ex → HasBrought Own old c new ex
 over_then Own c old new ex none fine (pairs, comes, goes) =
     let (status, done) = by ex.stage refl in
-    (status, done, (pairs, done_brings c (wanted_by c.le) pairs ex status done comes, goes))
+    (status, done, (pairs, at_stage c (wanted_by c.le) pairs ex (Done status) done comes, goes))
   where
     by : (s : Stage) → ex.stage ≡ s → (status : StatusWord) × (ex.stage ≡ Done status)
     by Going is =
@@ -666,13 +562,10 @@ over_then Own c old new ex none fine (pairs, comes, goes) =
 -- so it is taken
 pub is_taken_so : {State A : Type 0} (Own : State → ℕ → Tpdu → State → Type 0)
     (reset : State → State) (state_of : State → CardState) (c : Command) (wanted : Wanted)
-    (first mid last : State) (sound : CardState) (old new done : ApduExchangeOf)
-    (content : List ℕ) (told : StatusWord) (due : Command) (r : Result A AnswerFault)
-    → StandsFor Own reset state_of → state_of first ≡ sound → IsCardState sound
-    → due_of old ≡ Some due → (status : StatusWord) × (done.stage ≡ Done status)
-    × Responds Own mid
-    (record { command = due; content = done.gather.bytes; status = status }) last
-    → done.stage ≡ Done told → content ≡ done.gather.bytes
+    (first mid last : State) (sound : CardState) (old new : ApduExchangeOf) (content : List ℕ)
+    (told : StatusWord) (due : Command) (r : Result A AnswerFault) → StandsFor Own reset state_of
+    → state_of first ≡ sound → IsCardState sound → due_of old ≡ Some due
+    → Responds Own mid (answered_by old content told) last
     → old.gather.limit ≡ response_limit → new.gather.limit ≡ old.gather.limit
     → MatchResult r (λ x. response_fault old (length content) ≡ None)
     (λ f. (response_fault old (length content) ≡ Some f)
@@ -682,14 +575,13 @@ pub is_taken_so : {State A : Type 0} (Own : State → ℕ → Tpdu → State →
     (λ x. ComesTo c wanted (pairs ++ answered_by old content told ∷ []) new)
     (λ f. fails_with f ≡ true
     → ComesTo c wanted (pairs ++ answered_by old content told ∷ []) new))
-    → HasHad Own c wanted first mid old → IsOk r
-is_taken_so Own reset state_of c wanted first mid last sound old new done content told due (Ok x)
-    means was is_sound is answer ended bytes_are room limit fault failed led has = refl
-is_taken_so Own reset state_of c wanted first mid last sound old new done content told due (Err f)
-    means was is_sound is answer ended bytes_are room limit fault failed led has =
-    absurd (never_refused Own reset state_of c wanted first mid last sound old new done content told
-    due f means was is_sound is answer ended bytes_are room limit fault failed
-    (λ pairs comes. led pairs comes) has)
+    → HasHad (Responds Own) c wanted first mid old → IsOk r
+is_taken_so Own reset state_of c wanted first mid last sound old new content told due (Ok x)
+    means was is_sound is responds room limit fault failed led has = refl
+is_taken_so Own reset state_of c wanted first mid last sound old new content told due (Err f)
+    means was is_sound is responds room limit fault failed led has =
+    absurd (never_refused Own reset state_of c wanted first mid last sound old new content told due
+    f means was is_sound is responds room limit fault failed led has)
 
 pub when_ok : {A E : Type 0} (r : Result A E) (x : A) (P : A → Type 0) (Q : E → Type 0)
     → r ≡ Ok x → MatchResult r P Q → P x
@@ -703,13 +595,16 @@ on_ok {A = A} {E = E} r P x is on = let Q : Result A E → Type 0 = λ s. OnOk s
 -- what has begun goes on
 pub begun_goes : (c : Command) (wanted : Wanted) (ex : ApduExchangeOf) → ComesTo c wanted [] ex
     → has_failed ex.stage ≡ false
-begun_goes c wanted ex (to_place going way bytes left number) = ap has_failed going
-begun_goes c wanted ex (to_end status done brings number) = ap has_failed done
-begun_goes c wanted ex (to_stall failed stalls) =
-    absurd (omega (
-      arith,
-      ap length stalls.pairs_are,
-      length-append stalls.before (stalls.last ∷ []),
-    ))
-begun_goes c wanted ex (to_fault failed long) =
-    absurd (omega (arith, ap length long.pairs_are, length-append long.before (long.last ∷ [])))
+begun_goes c wanted ex led = by ex.stage refl
+  where
+    none : (before : List Pair) (last : Pair) → [] ≡ before ++ last ∷ [] → ⊥
+    none before last is =
+        omega (arith, ap length is, length-append before (last ∷ []))
+
+    by : (s : Stage) → ex.stage ≡ s → has_failed ex.stage ≡ false
+    by Going is = ap has_failed is
+    by (Done status) is = ap has_failed is
+    by Failed is = elim (at_stage c wanted [] ex Failed is led) [
+      | inl stalls ↦ absurd (none stalls.before stalls.last stalls.pairs_are)
+      | inr long ↦ absurd (none long.before long.last long.pairs_are)
+    ]

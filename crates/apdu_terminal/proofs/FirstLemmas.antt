@@ -24,9 +24,9 @@ use Rattle.card_terminal.specs.declared.wanted.Wanted.TheVariants.{Bytes, Everyt
 use Rattle.card_terminal.specs.Gathered.{less, fetched_after}
 use Rattle.card_terminal.specs.Talk.{select_command, get_command}
 use Rattle.apdu_terminal.specs.Apdus.{Pair, Place, first_place, asking, may_bring, Goes, Ends, follow, repeated, Suits, all_content, Brings}
-use Rattle.apdu_terminal.specs.CardApdu.{p3_of, tpdu_command, le_of_tpdu, IsTpduOf, GoesBy, Responds, RespondsToAll}
+use Rattle.apdu_terminal.specs.CardApdu.{p3_of, tpdu_command, le_of_tpdu, IsTpduOf, InTurn, GoesAs, GoesBy, Responds, RespondsToAll}
 use Rattle.apdu_terminal.proofs.PlaceLemmas.{Whole, at_end, further, brings_whole}
-use Rattle.apdu_terminal.proofs.RestLemmas.{goes_by_fetch, ends_without_fetch, told_by, waits_for, all_read, all_responses, none_announced, count_told}
+use Rattle.apdu_terminal.proofs.RestLemmas.{Reading, one_read, one_response, goes_by_fetch, told_by, waits_for, all_read, none_announced, ends_told, count_told}
 use Rattle.object_card.specs.OperationLaws.{select_is_taken, IsHeld, one_held, some_bytes, get_refused, get_corrected, get_given, get_step}
 
 -- what an operation has come to after some of its TPDUs: it is answered without data; or a response
@@ -51,22 +51,16 @@ same_first old operation a b s t m n ab st mn first =
 -- a whole exchange by its first pair
 abbrev pub WholeBy : Place → Pair → List Pair → StatusWord → Type 0
 WholeBy at p rest status =
-    ((rest ≡ []) × (status ≡ p.status) × Suits at p
-    × (follow at (length p.content) p.status ≡ Ends))
-    ⊎ ((next : Place) × Suits at p × (follow at (length p.content) p.status ≡ Goes next)
+    ((rest ≡ []) × (status ≡ p.status) × (follow at (length p.content) p.status ≡ Ends))
+    ⊎ ((next : Place) × (follow at (length p.content) p.status ≡ Goes next)
     × Whole next rest status)
 
 pub whole_by : (at : Place) (pairs : List Pair) (status : StatusWord) → Whole at pairs status
-    → (p : Pair) × (rest : List Pair) × (pairs ≡ p ∷ rest) × WholeBy at p rest status
+    → (p : Pair) × (rest : List Pair) × (pairs ≡ p ∷ rest) × Suits at p × WholeBy at p rest status
 whole_by at pairs status (at_end here p suits ends) =
-    (p, [], refl, inl (refl, refl, suits, ends))
+    (p, [], refl, suits, inl (refl, refl, ends))
 whole_by at pairs status (further here next p rest last suits goes whole) =
-    (p, rest, refl, inr (next, suits, goes, whole))
-
-pub suits_of : (at : Place) (p : Pair) (rest : List Pair) (status : StatusWord)
-    → WholeBy at p rest status → Suits at p
-suits_of at p rest status (inl (none, is, suits, ends)) = suits
-suits_of at p rest status (inr (next, suits, goes, whole)) = suits
+    (p, rest, refl, suits, inr (next, goes, whole))
 
 -- nothing is fetched where nothing is announced
 no_fetch : (at next : Place) (came : ℕ) (status : StatusWord) → announces status ≡ None
@@ -76,93 +70,71 @@ no_fetch at next came status none once goes =
     let (m, told, few, some) = told_by (less at.left came) status f.n f.told in
     let no_more : None ≡ Some m = sym none ∙ told in absurd (cc)
 
--- the reader goes on to the end of its exchange
-pub reader_goes_on : (old mid new : CardState) (operation : Operation) (at : Place) (p : Pair)
+-- what has begun is read to the end of the exchange
+pub goes_on : (One : CardState → Pair → CardState → Type 0) → Reading One
+    → (old mid new : CardState) (operation : Operation) (at : Place) (p : Pair)
     (rest : List Pair) (status : StatusWord) (content : List ℕ)
     → FirstOf old operation content p.status mid → WholeBy at p rest status
-    → GoesBy Does mid rest new → FirstOf old operation (content ++ all_content rest) status new
-reader_goes_on old mid new operation at p rest status content first (inl (none, is, suits, ends))
-    goes =
-    let P : List Pair → Type 0 = λ ps. GoesBy Does mid ps new in
+    → InTurn One mid rest new → FirstOf old operation (content ++ all_content rest) status new
+goes_on One reading old mid new operation at p rest status content first
+    (inl (none, is, ends)) goes =
+    let P : List Pair → Type 0 = λ ps. InTurn One mid ps new in
     let stays : new ≡ mid = subst P none goes in
     same_first old operation content (content ++ all_content rest) p.status status mid new
     (sym (append-nil content) ∙ ap (λ ps. content ++ all_content ps) (sym none)) (sym is)
-    (sym stays)
-    first
-reader_goes_on old mid new operation at p rest status content
-    (answered after answers none once empty same idle) (inr (next, suits, goes_next, whole)) goes =
+    (sym stays) first
+goes_on One reading old mid new operation at p rest status content
+    (answered after answers none once empty same idle) (inr (next, goes_next, whole)) goes =
     absurd (no_fetch at next (length p.content) p.status none once goes_next)
-reader_goes_on old mid new operation at p rest status content
-    (begun all after answers both told same idle) (inr (next, suits, goes_next, whole)) goes =
+goes_on One reading old mid new operation at p rest status content
+    (begun all after answers both told same idle) (inr (next, goes_next, whole)) goes =
     let once : corrects p.status ≡ None = ap corrects told ∙ no_correction (waiting mid.pending) 256
     in
     let f = goes_by_fetch at next (length p.content) p.status once goes_next in
     let w = waits_for (waiting mid.pending) (less at.left (length p.content)) f.n
     (ap (λ s. fetched_after (less at.left (length p.content)) s) (sym told) ∙ f.told) in
-    let r = all_read next rest status f.n mid new whole f.due w.0 w.2 w.1 goes in
+    let r = all_read One reading next rest status f.n mid new whole f.due w.0 w.1 goes in
     begun all after answers
     (append_assoc content (all_content rest) (waiting new.pending)
     ∙ ap (λ bs. content ++ bs) r.whole ∙ both) r.status_is
     (same.0 ∙ r.same.0, same.1 ∙ r.same.1) r.idle
 
-answered_so : (old after new : CardState) (operation : Operation) (s t : StatusWord) (a b : List ℕ)
-    → Answers old operation (record { status = s; content = a }) after → s ≡ t → a ≡ b
-    → SameTables after new → is_idle new.pending ≡ true → IsCarriedOut old operation t b new
-answered_so old after new operation s t a b answers st ab same idle = (
-  after,
-  subst (λ x. Answers old operation (record { status = t; content = x }) after) ab
-      (subst (λ x. Answers old operation (record { status = x; content = a }) after) st answers),
-  same,
-  idle,
-)
+-- a whole exchange, by what its first pair begins
+pub goes_through : (One : CardState → Pair → CardState → Type 0) → Reading One
+    → (old new : CardState) (operation : Operation) (at : Place) (pairs : List Pair)
+    (content : List ℕ) (status : StatusWord) → Whole at pairs status
+    → content ≡ all_content pairs
+    → ((p : Pair) (mid : CardState) → Suits at p → One old p mid
+    → FirstOf old operation p.content p.status mid)
+    → InTurn One old pairs new → FirstOf old operation content status new
+goes_through One reading old new operation at pairs content status whole gathered each goes =
+    let (p, rest, are, suits, by) = whole_by at pairs status whole in
+    let P : List Pair → Type 0 = λ ps. InTurn One old ps new in
+    let (mid, is, others) = subst P are goes in
+    same_first old operation (p.content ++ all_content rest) content status status new new
+    (sym (gathered ∙ ap all_content are)) refl refl
+    (goes_on One reading old mid new operation at p rest status p.content
+    (each p mid suits is) by others)
 
--- the terminal goes on to the end of its exchange
-pub terminal_goes_on : (old mid new : CardState) (operation : Operation) (at : Place) (p : Pair)
-    (rest : List Pair) (status : StatusWord) → at.left ≡ Everything
-    → FirstOf old operation p.content p.status mid → WholeBy at p rest status
-    → RespondsToAll Does mid rest new
-    → IsCarriedOut old operation status (all_content (p ∷ rest)) new
-terminal_goes_on old mid new operation at p rest status left
-    (answered after answers none once empty same idle) (inl (over, is, suits, ends)) goes =
-    let P : List Pair → Type 0 = λ ps. RespondsToAll Does mid ps new in
-    let stays : new ≡ mid = subst P over goes in
-    answered_so old after new operation p.status status [] (p.content ++ all_content rest) answers
-    (sym is) (sym (ap (λ ps. p.content ++ all_content ps) over ∙ append-nil p.content ∙ empty))
-    (same.0 ∙ sym (ap (λ s. s.applications) stays), same.1 ∙ sym (ap (λ s. s.selected) stays))
-    (ap (λ s. is_idle s.pending) stays ∙ idle)
-terminal_goes_on old mid new operation at p rest status left
-    (answered after answers none once empty same idle) (inr (next, suits, goes_next, whole)) goes =
-    absurd (no_fetch at next (length p.content) p.status none once goes_next)
-terminal_goes_on old mid new operation at p rest status left
-    (begun all after answers both told same idle) (inl (over, is, suits, ends)) goes =
-    let P : List Pair → Type 0 = λ ps. RespondsToAll Does mid ps new in
-    let stays : new ≡ mid = subst P over goes in
-    let nothing : waiting mid.pending ≡ [] =
-    none_announced (waiting mid.pending) (ap (λ s. fetched_after Everything s) (sym told)
-    ∙ ap (λ w. fetched_after (less w (length p.content)) p.status) (sym left)
-    ∙ ends_without_fetch at (length p.content) p.status ends) in
-    let fine : p.status ≡ ok = told ∙ ap (λ bs. announcing bs 256) nothing in
-    answered_so old after new operation ok status all (p.content ++ all_content rest) answers
-    (sym fine ∙ sym is)
-    (sym both ∙ ap (λ bs. p.content ++ bs) nothing
-    ∙ sym (ap (λ ps. p.content ++ all_content ps) over))
-    (same.0 ∙ sym (ap (λ s. s.applications) stays), same.1 ∙ sym (ap (λ s. s.selected) stays))
-    (ap (λ s. is_idle s.pending) stays ∙ idle)
-terminal_goes_on old mid new operation at p rest status left
-    (begun all after answers both told same idle) (inr (next, suits, goes_next, whole)) goes =
-    let once : corrects p.status ≡ None = ap corrects told ∙ no_correction (waiting mid.pending) 256
-    in
-    let f = goes_by_fetch at next (length p.content) p.status once goes_next in
-    let w = waits_for (waiting mid.pending) (less at.left (length p.content)) f.n
-    (ap (λ s. fetched_after (less at.left (length p.content)) s) (sym told) ∙ f.told) in
-    let (r, none) = all_responses next rest status f.n mid new whole f.due
-    (f.left ∙ ap (λ x. less x (length p.content)) left) w.0 w.2 w.1 goes in
-    let fine : status ≡ ok = r.status_is ∙ ap (λ bs. announcing bs 256) none in
-    answered_so old after new operation ok status all (p.content ++ all_content rest) answers
-    (sym fine)
-    (sym both ∙ ap (λ bs. p.content ++ bs)
-    (sym r.whole ∙ ap (λ bs. all_content rest ++ bs) none ∙ append-nil (all_content rest)))
-    (same.0 ∙ r.same.0, same.1 ∙ r.same.1) r.idle
+-- where no more is announced, it is carried out
+carried : (old new : CardState) (operation : Operation) (content : List ℕ) (status : StatusWord)
+    → FirstOf old operation content status new → fetched_after Everything status ≡ None
+    → IsCarriedOut old operation status content new
+carried old new operation content status (answered after answers none once empty same idle) ends =
+    let P : List ℕ → Type 0 =
+    λ bs. Answers old operation (record { status = status; content = bs }) after in
+    (after, subst P (sym empty) answers, same, idle)
+carried old new operation content status (begun whole after answers both told same idle) ends =
+    let nothing : waiting new.pending ≡ [] = none_announced (waiting new.pending)
+    (ap (λ s. fetched_after Everything s) (sym told) ∙ ends) in
+    let fine : ok ≡ status = sym (told ∙ ap (λ bs. announcing bs 256) nothing) in
+    let all : whole ≡ content =
+    sym both ∙ ap (λ bs. content ++ bs) nothing ∙ append-nil content in
+    let P : List ℕ → Type 0 =
+    λ bs. Answers old operation (record { status = status; content = bs }) after in
+    let Q : StatusWord → Type 0 =
+    λ s. Answers old operation (record { status = s; content = whole }) after in
+    (after, subst P all (subst Q fine answers), same, idle)
 
 -- ---- SELECT
 
@@ -226,17 +198,11 @@ pub select_responds : (old mid : CardState) (aid : List ℕ) (p : Pair) → is_i
     → IsAid aid → p.command ≡ select_command aid → Responds Does old p mid
     → FirstOf old (Select aid) p.content p.status mid
 select_responds old mid aid p idle is due (inner, brings, goes) =
-    let at = first_place (tpdu_command p.command) (Bytes _) in
-    let (q, rest, are, by) = whole_by at inner p.status
-    (brings_whole _ _ inner p.content p.status brings) in
-    let P : List Pair → Type 0 = λ ps. GoesBy Does old ps mid in
-    let (t, next, of, does, others) = subst P are goes in
-    let suits : Suits at q = suits_of at q rest p.status by in
-    let first = select_first old next aid q t idle is (suits.is_due ∙ ap tpdu_command due) of
-    does in
-    same_first old (Select aid) (q.content ++ all_content rest) p.content p.status p.status mid mid
-    (sym (brings.gathered_is ∙ ap all_content are)) refl refl
-    (reader_goes_on old next mid (Select aid) at q rest p.status q.content first by others)
+    goes_through (GoesAs Does) one_read old mid (Select aid)
+    (first_place (tpdu_command p.command) (Bytes _)) inner p.content p.status
+    (brings_whole _ _ inner p.content p.status brings) brings.gathered_is
+    (λ q next suits (t, of, does).
+    select_first old next aid q t idle is (suits.is_due ∙ ap tpdu_command due) of does) goes
 
 -- ---- GET DATA
 
@@ -326,63 +292,51 @@ get_responds old mid tag p1 p2 p idle names due (inner, brings, goes) =
     let whole : Whole at inner p.status =
     subst (λ x. Whole x inner p.status) same_at
     (brings_whole _ _ inner p.content p.status brings) in
-    let (q, rest, are, by) = whole_by at inner p.status whole in
+    let (q, rest, are, suits, by) = whole_by at inner p.status whole in
     let P : List Pair → Type 0 = λ ps. GoesBy Does old ps mid in
-    let (t, next, of, does, others) = subst P are goes in
+    let (next, (t, of, does), others) = subst P are goes in
     let content : q.content ++ all_content rest ≡ p.content =
     sym (brings.gathered_is ∙ ap all_content are) in
-    let suits : Suits at q = suits_of at q rest p.status by in
     let header : t.header ≡ h = of.header_is ∙ ap (λ (c : Command). c.header) suits.is_due in
     let counts : count t.p3 ≡ 256 =
     ap count (of.p3_is ∙ ap (λ (c : Command). p3_of c.content c.le) suits.is_due) in
+    let ends : FirstOf old (Get tag) q.content q.status next
+    → FirstOf old (Get tag) p.content p.status mid = λ first.
+    same_first old (Get tag) (q.content ++ all_content rest) p.content p.status p.status mid mid
+    content refl refl
+    (goes_on (GoesAs Does) one_read old next mid (Get tag) at q rest p.status q.content first by
+    others) in
     elim (get_step old next tag p1 p2 256 t idle names header does) [
       | get_refused answers none once nothing same rests ↦
-          same_first old (Get tag) (q.content ++ all_content rest) p.content p.status p.status mid
-          mid
-          content refl refl
-          (reader_goes_on old next mid (Get tag) at q rest p.status q.content
-          (get_refuses old next tag q t of answers none once nothing same rests) by others)
+          ends (get_refuses old next tag q t of answers none once nothing same rests)
       | get_given value held brought status same pending ↦
-          same_first old (Get tag) (q.content ++ all_content rest) p.content p.status p.status mid
-          mid
-          content refl refl
-          (reader_goes_on old next mid (Get tag) at q rest p.status q.content
-          (get_gives old next tag value q t of held brought status same pending) by others)
+          ends (get_gives old next tag value q t of held brought status same pending)
       | get_corrected value held short corrected nothing same rests ↦
           let n : ℕ = length (object_bytes tag value) in
           let few : n ≤ 256 = omega (arith, short, counts) in
           let empty : q.content ≡ [] = sym of.received_is ∙ nothing in
-          let goes_on : follow at (length q.content) q.status
+          let repeats : follow at (length q.content) q.status
           ≡ Goes (repeated at (length q.content) n) =
           is_repeated h (length q.content) n q.status (ap corrects (sym of.status_is) ∙ corrected)
           (ap length empty) few in
           elim by [
-            | inl (none, is, suits_q, ends) ↦
-                let no : Goes (repeated at (length q.content) n) ≡ Ends = sym goes_on ∙ ends in
+            | inl (none, is, over) ↦
+                let no : Goes (repeated at (length q.content) n) ≡ Ends = sym repeats ∙ over in
                 absurd (cc)
-            | inr (after, suits_q, goes_q, whole_q) ↦
+            | inr (after, goes_q, whole_q) ↦
                 let both : Goes (repeated at (length q.content) n) ≡ Goes after =
-                sym goes_on ∙ goes_q in
+                sym repeats ∙ goes_q in
                 let here : repeated at (length q.content) n ≡ after = cc in
-                let (r, more, are_r, by_r) = whole_by after rest p.status whole_q in
-                let Q : List Pair → Type 0 = λ ps. GoesBy Does next ps mid in
-                let (u, later, of_u, does_u, others_u) = subst Q are_r others in
-                let suits_r : Suits after r = suits_of after r more p.status by_r in
-                let due_r : r.command ≡ asking h n =
-                suits_r.is_due ∙ ap (λ (x : Place). x.due) (sym here) in
-                let first = get_again next later tag value p1 p2 n r u old rests names due_r refl
-                few
-                held same of_u does_u in
-                let last = first_alike next old mid (Get tag) (r.content ++ all_content more)
-                p.status
-                (sym same.0, sym same.1)
-                (reader_goes_on next later mid (Get tag) after r more p.status r.content first by_r
-                others_u) in
-                same_first old (Get tag) (r.content ++ all_content more) p.content p.status p.status
-                mid mid
-                (ap all_content (sym are_r) ∙ ap (λ bs. bs ++ all_content rest) (sym empty)
-                ∙ content)
-                refl refl last
+                let all = goes_through (GoesAs Does) one_read next mid (Get tag) after rest
+                (all_content rest) p.status whole_q refl
+                (λ r later suits_r (u, of_u, does_u).
+                get_again next later tag value p1 p2 n r u old rests names
+                (suits_r.is_due ∙ ap (λ (x : Place). x.due) (sym here)) refl few held same of_u
+                does_u) others in
+                same_first old (Get tag) (all_content rest) p.content p.status p.status mid mid
+                (ap (λ bs. bs ++ all_content rest) (sym empty) ∙ content) refl refl
+                (first_alike next old mid (Get tag) (all_content rest) p.status
+                (sym same.0, sym same.1) all)
           ]
     ]
 
@@ -393,15 +347,12 @@ pub select_is_answered : (old new : CardState) (aid : List ℕ) (pairs : List Pa
     → RespondsToAll Does old pairs new → IsCarriedOut old (Select aid) status content new
 select_is_answered old new aid pairs content status idle is brings goes =
     let at = first_place (select_command aid) Everything in
-    let (p, rest, are, by) = whole_by at pairs status
-    (brings_whole (select_command aid) Everything pairs content status brings) in
-    let P : List Pair → Type 0 = λ ps. RespondsToAll Does old ps new in
-    let (mid, responds, others) = subst P are goes in
-    let suits : Suits at p = suits_of at p rest status by in
-    let first = select_responds old mid aid p idle is suits.is_due responds in
-    subst (λ bs. IsCarriedOut old (Select aid) status bs new)
-    (sym (brings.gathered_is ∙ ap all_content are))
-    (terminal_goes_on old mid new (Select aid) at p rest status refl first by others)
+    let whole = brings_whole (select_command aid) Everything pairs content status brings in
+    carried old new (Select aid) content status
+    (goes_through (Responds Does) one_response old new (Select aid) at pairs content status whole
+    brings.gathered_is
+    (λ p mid suits responds. select_responds old mid aid p idle is suits.is_due responds) goes)
+    (ends_told at pairs status whole refl)
 
 -- all pairs of a GET DATA
 pub get_is_answered : (old new : CardState) (tag : List ℕ) (p1 p2 : ℕ) (pairs : List Pair)
@@ -410,12 +361,10 @@ pub get_is_answered : (old new : CardState) (tag : List ℕ) (p1 p2 : ℕ) (pair
     → RespondsToAll Does old pairs new → IsCarriedOut old (Get tag) status content new
 get_is_answered old new tag p1 p2 pairs content status idle names brings goes =
     let at = first_place (get_command p1 p2) Everything in
-    let (p, rest, are, by) = whole_by at pairs status
-    (brings_whole (get_command p1 p2) Everything pairs content status brings) in
-    let P : List Pair → Type 0 = λ ps. RespondsToAll Does old ps new in
-    let (mid, responds, others) = subst P are goes in
-    let suits : Suits at p = suits_of at p rest status by in
-    let first = get_responds old mid tag p1 p2 p idle names suits.is_due responds in
-    subst (λ bs. IsCarriedOut old (Get tag) status bs new)
-    (sym (brings.gathered_is ∙ ap all_content are))
-    (terminal_goes_on old mid new (Get tag) at p rest status refl first by others)
+    let whole = brings_whole (get_command p1 p2) Everything pairs content status brings in
+    carried old new (Get tag) content status
+    (goes_through (Responds Does) one_response old new (Get tag) at pairs content status whole
+    brings.gathered_is
+    (λ p mid suits responds. get_responds old mid tag p1 p2 p idle names suits.is_due responds)
+    goes)
+    (ends_told at pairs status whole refl)

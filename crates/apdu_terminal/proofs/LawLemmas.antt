@@ -10,131 +10,200 @@ use Rattle.apdu_terminal.specs.Apdus.{Pair, Place, first_place, Follow, Goes, St
 use Rattle.apdu_terminal.proofs.PlaceLemmas.{Whole, at_end, further, brings_whole, Comes, again, fetch, comes}
 use Rattle.apdu_terminal.specs.ApduSide.{ApduExchangeOf, due_of, place_of, ComesTo, to_place, to_end, to_stall, to_fault}
 
-pub same_next : (f : Follow) (a b : Place) → f ≡ Goes a → f ≡ Goes b → a ≡ b
+same_next : (f : Follow) (a b : Place) → f ≡ Goes a → f ≡ Goes b → a ≡ b
 same_next f a b e g = let both : Goes a ≡ Goes b = sym e ∙ g in cc
 
--- after some of its pairs, the rest is a course from where these lead
-rest_of : (at : Place) (came : List Pair) (mid : Place) (rest whole : List Pair)
-    (status : StatusWord) → Whole at whole status → whole ≡ came ++ rest → GoesThrough at came mid
-    → Whole mid rest status
-rest_of at [] mid rest whole status course is through =
-    let P : List Pair → Type 0 = λ ps. Whole mid ps status in
-    let Q : Place → Type 0 = λ x. Whole x whole status in
-    subst P is (subst Q (sym through) course)
-rest_of at (p ∷ came) mid rest _ _ (at_end here q suits ends) is (next, suits_p, goes, through) =
-    let same : q ≡ p = cc in
+-- what follows a pair is one thing
+ends_or_goes : (at next : Place) (p q : Pair) → q ≡ p
+    → follow at (length q.content) q.status ≡ Ends
+    → follow at (length p.content) p.status ≡ Goes next → ⊥
+ends_or_goes at next p q same ends goes =
     let Q : Pair → Type 0 = λ x. follow at (length x.content) x.status ≡ Ends in
-    let both : Goes next ≡ Ends = sym goes ∙ subst Q same ends in
-    absurd (cc)
-rest_of at (p ∷ came) mid rest _ status (further here other q pairs last suits follows course)
-    is (next, suits_p, goes, through) =
+    let both : Goes next ≡ Ends = sym goes ∙ subst Q same ends in absurd (cc)
+
+one_next : (at a b : Place) (p q : Pair) → q ≡ p
+    → follow at (length q.content) q.status ≡ Goes a
+    → follow at (length p.content) p.status ≡ Goes b → a ≡ b
+one_next at a b p q same one other =
+    let Q : Pair → Type 0 = λ x. follow at (length x.content) x.status ≡ Goes a in
+    same_next (follow at (length p.content) p.status) a b (subst Q same one) other
+
+-- two whole exchanges at the front of one row are one
+pub record AreOne (xs ys a b : List Pair) (s t : StatusWord) : Type 0 where
+  pub pairs : xs ≡ ys
+  pub rest : a ≡ b
+  pub status : s ≡ t
+
+one_course : (at : Place) (xs ys a b : List Pair) (s t : StatusWord) → Whole at xs s
+    → Whole at ys t → xs ++ a ≡ ys ++ b → AreOne xs ys a b s t
+one_course at _ _ a b _ _ (at_end here p suits ends) (at_end there q suits_q ends_q) e =
+    let same : p ≡ q = cc in
+    record {
+      pairs = ap (λ x. x ∷ []) same;
+      rest = cc;
+      status = ap (λ (x : Pair). x.status) same;
+    }
+one_course at _ _ a b _ _ (at_end here p suits ends)
+    (further there next q others t suits_q goes course) e =
+    let same : p ≡ q = cc in absurd (ends_or_goes at next q p same ends goes)
+one_course at _ _ a b _ _ (further here next p pairs s suits goes course)
+    (at_end there q suits_q ends) e =
+    let same : q ≡ p = cc in absurd (ends_or_goes at next p q same ends goes)
+one_course at _ _ a b _ _ (further here next p pairs s suits goes course)
+    (further there other q others t suits_q goes_q course_q) e =
     let same : q ≡ p = cc in
-    let others : pairs ≡ came ++ rest = cc in
-    let Q : Pair → Type 0 = λ x. follow at (length x.content) x.status ≡ Goes other in
-    let one : other ≡ next =
-    same_next (follow at (length p.content) p.status) other next (subst Q same follows) goes in
-    let P : Place → Type 0 = λ x. Whole x pairs status in
-    rest_of next came mid rest pairs status (subst P one course) others through
+    let more : pairs ++ a ≡ others ++ b = cc in
+    let P : Place → Type 0 = λ x. Whole x others t in
+    let is = one_course next pairs others a b s t course
+    (subst P (one_next at other next p q same goes_q goes) course_q) more in
+    record {
+      pairs = ap (λ x. x ∷ pairs) (sym same) ∙ ap (λ ps. q ∷ ps) is.pairs;
+      rest = is.rest;
+      status = is.status;
+    }
 
-none_left : (at : Place) (pairs : List Pair) (status : StatusWord) → Whole at pairs status
-    → pairs ≡ [] → ⊥
-none_left at pairs status (at_end here p suits ends) is = absurd (cc)
-none_left at pairs status (further here next p others last suits goes course) is = absurd (cc)
+pub one_exchange : (c : Command) (wanted : Wanted) (xs ys a b : List Pair) (bx by : List ℕ)
+    (s t : StatusWord) → Brings c wanted xs bx s → Brings c wanted ys by t → xs ++ a ≡ ys ++ b
+    → AreOne xs ys a b s t
+one_exchange c wanted xs ys a b bx by s t one other e =
+    one_course (first_place c wanted) xs ys a b s t (brings_whole c wanted xs bx s one)
+    (brings_whole c wanted ys by t other) e
 
-first_is_due : (at : Place) (pairs : List Pair) (status : StatusWord) (p : Pair)
-    (rest : List Pair) → Whole at pairs status → pairs ≡ p ∷ rest → Suits at p
-first_is_due at pairs status p rest (at_end here q suits ends) is =
-    let same : q ≡ p = cc in let P : Pair → Type 0 = λ x. Suits at x in subst P same suits
-first_is_due at pairs status p rest (further here next q others last suits goes course) is =
-    let same : q ≡ p = cc in let P : Pair → Type 0 = λ x. Suits at x in subst P same suits
+-- a whole exchange at the front of a row that goes on to a place has more to come from there
+pub record HasMore (mid : Place) (came u t rest : List Pair) (s : StatusWord) : Type 0 where
+  pub p : Pair
+  pub more : List Pair
+  pub whole : u ≡ came ++ p ∷ more
+  pub rest_is : rest ≡ p ∷ (more ++ t)
+  pub suits : Suits mid p
+  pub never : (follow mid (length p.content) p.status ≡ Stalls) → ⊥
 
--- a whole exchange goes no further than to its end
-no_more : (at : Place) (pairs : List Pair) (status : StatusWord) (mid : Place) (last : Pair)
-    (rest before : List Pair) (f : Follow) → Whole at pairs status
-    → pairs ≡ (before ++ last ∷ []) ++ rest → GoesThrough at before mid → Suits mid last
-    → follow mid (length last.content) last.status ≡ f
-    → (f ≡ Ends → (rest ≡ []) × (status ≡ last.status))
-    × (f ≡ Stalls → ⊥)
-no_more at pairs status mid last rest before f course is through suits follows =
-    by (last ∷ rest) (rest_of at before mid (last ∷ rest) pairs status course
-    (is ∙ append_assoc before (last ∷ []) rest) through) refl
+more_from : (at : Place) (came : List Pair) (mid : Place) (u t rest : List Pair) (s : StatusWord)
+    → Whole at u s → GoesThrough at came mid → u ++ t ≡ came ++ rest
+    → HasMore mid came u t rest s
+more_from at [] mid u t rest s whole through e =
+    by u s (subst (λ x. Whole x u s) (sym through) whole) e
   where
-    by : (ps : List Pair) → Whole mid ps status → ps ≡ last ∷ rest
-        → (f ≡ Ends → (rest ≡ []) × (status ≡ last.status)) × (f ≡ Stalls → ⊥)
-    by _ (at_end here q same ends) e =
-        let one : q ≡ last = cc in
-        let none : rest ≡ [] = cc in
-        let Q : Pair → Type 0 = λ x. follow mid (length x.content) x.status ≡ Ends in
-        let now : f ≡ Ends = sym follows ∙ subst Q one ends in (
-          λ over. (none, ap (λ (x : Pair). x.status) one),
-          λ stalls. let no : Ends ≡ Stalls = sym now ∙ stalls in absurd (cc),
-        )
-    by _ (further here next q others end same goes course) e =
-        let one : q ≡ last = cc in
-        let Q : Pair → Type 0 = λ x. follow mid (length x.content) x.status ≡ Goes next in
-        let now : f ≡ Goes next = sym follows ∙ subst Q one goes in (
-          λ over. let no : Goes next ≡ Ends = sym now ∙ over in absurd (cc),
-          λ stalls. let no : Goes next ≡ Stalls = sym now ∙ stalls in absurd (cc),
-        )
+    by : (u : List Pair) (s : StatusWord) → Whole mid u s → u ++ t ≡ rest
+        → HasMore mid [] u t rest s
+    by _ _ (at_end here p suits ends) e = record {
+      p = p;
+      more = [];
+      whole = refl;
+      rest_is = sym e;
+      suits = suits;
+      never = λ stalls. let no : Ends ≡ Stalls = sym ends ∙ stalls in absurd (cc);
+    }
+    by _ _ (further here next p pairs s suits goes course) e = record {
+      p = p;
+      more = pairs;
+      whole = refl;
+      rest_is = sym e;
+      suits = suits;
+      never = λ stalls. let no : Goes next ≡ Stalls = sym goes ∙ stalls in absurd (cc);
+    }
+more_from at (q ∷ came) mid _ t rest _ (at_end here p suits ends) (next, suits_q, goes, through)
+    e =
+    let same : p ≡ q = cc in absurd (ends_or_goes at next q p same ends goes)
+more_from at (q ∷ came) mid _ t rest _ (further here other p pairs s suits goes course)
+    (next, suits_q, goes_q, through) e =
+    let same : p ≡ q = cc in
+    let others : pairs ++ t ≡ came ++ rest = cc in
+    let P : Place → Type 0 = λ x. Whole x pairs s in
+    let is = more_from next came mid pairs t rest s
+    (subst P (one_next at other next q p same goes goes_q) course) through others in
+    record {
+      p = is.p;
+      more = is.more;
+      whole = ap (λ x. x ∷ pairs) same ∙ ap (λ ps. q ∷ ps) is.whole;
+      rest_is = is.rest_is;
+      suits = is.suits;
+      never = is.never;
+    }
 
--- Where what led to an exchange goes on to the pairs of a whole one, whose data there is room for,
--- the next command is due.
-pub next_due : (c : Command) (wanted : Wanted) (came rest : List Pair) (p : Pair)
-    (ex : ApduExchangeOf) (gathered : List ℕ) (status : StatusWord) → ComesTo c wanted came ex
-    → Brings c wanted (came ++ p ∷ rest) gathered status → length gathered ≤ ex.gather.limit
-    → due_of ex ≡ Some p.command
-next_due c wanted came rest p ex gathered status (to_place going through bytes is number) b room =
-    let left = rest_of (first_place c wanted) came (place_of ex) (p ∷ rest) (came ++ p ∷ rest)
-    status
-    (brings_whole c wanted (came ++ p ∷ rest) gathered status b) refl through in
-    let suits = first_is_due (place_of ex) (p ∷ rest) status p rest left refl in
-    rw going (ap Some (sym suits.is_due))
-next_due c wanted came rest p ex gathered status (to_end other done brings number) b room =
-    let over = no_more (first_place c wanted) (came ++ p ∷ rest) status brings.at brings.last
-    (p ∷ rest)
-    brings.before Ends (brings_whole c wanted (came ++ p ∷ rest) gathered status b)
-    (ap (λ ps. ps ++ p ∷ rest) brings.pairs_are) brings.through brings.suits brings.ends in
-    let none : p ∷ rest ≡ [] = (over.0 refl).0 in absurd (cc)
-next_due c wanted came rest p ex gathered status (to_stall failed stalls) b room =
-    let over = no_more (first_place c wanted) (came ++ p ∷ rest) status stalls.at stalls.last
-    (p ∷ rest)
-    stalls.before Stalls (brings_whole c wanted (came ++ p ∷ rest) gathered status b)
-    (ap (λ ps. ps ++ p ∷ rest) stalls.pairs_are) stalls.through stalls.suits stalls.stalls in
-    absurd (over.1 refl)
-next_due c wanted came rest p ex gathered status (to_fault failed long) b room =
+-- a failed exchange is at no pair of a whole one
+fails_within : (c : Command) (wanted : Wanted) (here u t rest before : List Pair) (last : Pair)
+    (at : Place) (bytes : List ℕ) (s : StatusWord) → Brings c wanted u bytes s
+    → u ++ t ≡ here ++ rest → here ≡ before ++ last ∷ []
+    → GoesThrough (first_place c wanted) before at
+    → (follow at (length last.content) last.status ≡ Stalls → ⊥)
+    × ((more : List Pair) × (u ≡ here ++ more))
+fails_within c wanted here u t rest before last at bytes s b e are through =
+    let more = more_from (first_place c wanted) before at u t (last ∷ rest) s
+    (brings_whole c wanted u bytes s b) through
+    (e ∙ ap (λ ps. ps ++ rest) are ∙ append_assoc before (last ∷ []) rest) in
+    let same : last ≡ more.p = first_of _ _ _ _ more.rest_is in
+    let Q : Pair → Type 0 = λ x. follow at (length x.content) x.status ≡ Stalls in (
+      λ stalls. more.never (subst Q same stalls),
+      (
+        more.more,
+        more.whole ∙ ap (λ x. before ++ x ∷ more.more) (sym same)
+            ∙ sym (append_assoc before (last ∷ []) more.more)
+            ∙ ap (λ ps. ps ++ more.more) (sym are),
+      ),
+    )
+  where
+    first_of : (a b : Pair) (xs ys : List Pair) → a ∷ xs ≡ b ∷ ys → a ≡ b
+    first_of a b xs ys e = cc
+
+-- Where what led to an exchange goes on to the pairs of a whole one, for whose data there is room,
+-- it is at a pair of that, or at its end.
+pub within : (c : Command) (wanted : Wanted) (here : List Pair) (ex : ApduExchangeOf)
+    (u t rest : List Pair) (bytes : List ℕ) (s : StatusWord) → ComesTo c wanted here ex
+    → Brings c wanted u bytes s → length (all_content u) ≤ ex.gather.limit
+    → u ++ t ≡ here ++ rest
+    → ((p : Pair) × (more : List Pair) × (rest ≡ p ∷ more) × (due_of ex ≡ Some p.command))
+    ⊎ ((rest ≡ t) × (ex.stage ≡ Done s) × (ex.gather.bytes ≡ bytes))
+within c wanted here ex u t rest bytes s (to_place going through gathered is number) b room e =
+    let at = more_from (first_place c wanted) here (place_of ex) u t rest s
+    (brings_whole c wanted u bytes s b) through e in
+    inl (at.p, at.more ++ t, at.rest_is, rw going (ap Some (sym at.suits.is_due)))
+within c wanted here ex u t rest bytes s (to_end status done brings number) b room e =
+    let one = one_exchange c wanted u here t rest bytes ex.gather.bytes s status b brings e in
+    inr (
+      sym one.rest,
+      done ∙ ap (λ x. Done x) (sym one.status),
+      brings.gathered_is ∙ ap (λ ps. all_content ps) (sym one.pairs) ∙ sym b.gathered_is,
+    )
+within c wanted here ex u t rest bytes s (to_stall failed st) b room e =
+    absurd ((fails_within c wanted here u t rest st.before st.last st.at bytes s b e st.pairs_are
+    st.through).0 st.stalls)
+within c wanted here ex u t rest bytes s (to_fault failed long) b room e =
+    let (more, whole) = (fails_within c wanted here u t rest long.before long.last long.at bytes s b
+    e long.pairs_are long.through).1 in
     absurd (omega (
       arith,
       long.long,
       room,
-      ap length b.gathered_is,
-      ap length (flat_map-append (λ (q : Pair). q.content) came (p ∷ rest)),
-      length-append (all_content came) (all_content (p ∷ rest)),
+      ap (λ ps. length (all_content ps)) whole,
+      ap length (flat_map-append (λ (q : Pair). q.content) here more),
+      length-append (all_content here) (all_content more),
     ))
 
--- Where it is those of a whole one, it is over.
+-- the next command is due
+pub next_due : (c : Command) (wanted : Wanted) (came rest : List Pair) (p : Pair)
+    (ex : ApduExchangeOf) (gathered : List ℕ) (status : StatusWord) → ComesTo c wanted came ex
+    → Brings c wanted (came ++ p ∷ rest) gathered status → length gathered ≤ ex.gather.limit
+    → due_of ex ≡ Some p.command
+next_due c wanted came rest p ex gathered status led b room =
+    elim (within c wanted came ex (came ++ p ∷ rest) [] (p ∷ rest) gathered status led b
+    (omega (arith, room, ap length b.gathered_is)) (append-nil (came ++ p ∷ rest))) [
+      | inl (q, more, is, due) ↦ let same : q ≡ p = cc in
+          due ∙ ap (λ (x : Pair). Some x.command) same
+      | inr (is, done, bytes) ↦ absurd (cc)
+    ]
+
+-- where they are all, it is over
 pub over_at_end : (c : Command) (wanted : Wanted) (pairs : List Pair)
     (ex : ApduExchangeOf) (gathered : List ℕ) (status : StatusWord) → ComesTo c wanted pairs ex
     → Brings c wanted pairs gathered status → length gathered ≤ ex.gather.limit
     → (ex.stage ≡ Done status) × (ex.gather.bytes ≡ gathered)
-over_at_end c wanted pairs ex gathered status (to_place going through bytes is number) b room =
-    let left = rest_of (first_place c wanted) pairs (place_of ex) [] pairs status
-    (brings_whole c wanted pairs gathered status b) (sym (append-nil pairs)) through in
-    absurd (none_left (place_of ex) [] status left refl)
-over_at_end c wanted pairs ex gathered status (to_end other done brings number) b room =
-    let over = no_more (first_place c wanted) pairs status brings.at brings.last []
-    brings.before Ends (brings_whole c wanted pairs gathered status b)
-    (brings.pairs_are ∙ sym (append-nil (brings.before ++ brings.last ∷ []))) brings.through
-    brings.suits brings.ends in
-    let same : other ≡ status = brings.status_is ∙ sym (over.0 refl).1 in
-    (done ∙ ap (λ s. Done s) same, brings.gathered_is ∙ sym b.gathered_is)
-over_at_end c wanted pairs ex gathered status (to_stall failed stalls) b room =
-    let over = no_more (first_place c wanted) pairs status stalls.at stalls.last []
-    stalls.before Stalls (brings_whole c wanted pairs gathered status b)
-    (stalls.pairs_are ∙ sym (append-nil (stalls.before ++ stalls.last ∷ []))) stalls.through
-    stalls.suits stalls.stalls in
-    absurd (over.1 refl)
-over_at_end c wanted pairs ex gathered status (to_fault failed long) b room =
-    absurd (omega (arith, long.long, room, ap length b.gathered_is))
+over_at_end c wanted pairs ex gathered status led b room =
+    elim (within c wanted pairs ex pairs [] [] gathered status led b
+    (omega (arith, room, ap length b.gathered_is)) refl) [
+      | inl (q, more, is, due) ↦ absurd (cc)
+      | inr (is, done, bytes) ↦ (done, bytes)
+    ]
 
 -- ---- how many there are
 

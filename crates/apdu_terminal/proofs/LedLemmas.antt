@@ -1,24 +1,128 @@
--- A response that is taken takes what led to an exchange further.
-use Rattle.std.proofs.Common.{◌≡◌, ℕ, ◌+◌, ◌≤◌, List, [], ◌∷◌, ◌++◌, length, refl, sym, subst, ◌∙◌, ap, arith, true, false, ◌&&◌, ◌==◌, Bool, Option, Some, None, length-append, if◌then◌else◌}
+-- A response that is taken takes what led to an exchange further: what its attempt says is what the
+-- definitions say of its place.
+use Rattle.std.proofs.Common.{◌≡◌, ℕ, ◌+◌, ◌-◌, ◌≤◌, List, length, refl, sym, ◌∙◌, ap, arith, true, false, not, ◌&&◌, ◌==◌, Bool, Option, Some, None, if◌then◌else◌, eq-eqb, inl, inr, [], ◌∷◌, ◌++◌, subst, ◌⊎◌, length-append}
+use Rattle.std.proofs.lemmas.Bool.{ne_eqb, ltb-false, leb-true}
+use Rattle.std.proofs.lemmas.Bool.Decides.{eqb_tells}
+use Rattle.apdu_core.specs.StatusWord.{StatusWord, corrects}
+use Rattle.card_terminal.specs.declared.wanted.Wanted.{Wanted}
+use Rattle.card_terminal.specs.declared.wanted.Wanted.TheVariants.{Bytes, Everything}
+use Rattle.card_terminal.specs.declared.attempt.Attempt.{Attempt}
+use Rattle.card_terminal.specs.declared.attempt.Next.{Next}
+use Rattle.card_terminal.specs.declared.attempt.Next.TheVariants as next
+use Rattle.card_terminal.specs.Gathered.{less, wants_at_least, fetched_after}
+use Rattle.card_terminal.specs.Attempts.{again_with, next_by, following, fetch, repetition}
+use Rattle.apdu_terminal.specs.Apdus.{Place, asking, is_case_2, correction, Follow, Goes, Stalls, Ends, follow_by, follow, Pair, first_place, may_bring, Suits, GoesThrough, all_content, Brings, StallsAt, IsTooLong}
+use Rattle.apdu_terminal.specs.ApduSide.{ApduExchangeOf, place_of, IsSound, is_going, ComesTo, to_place, to_end, to_stall, to_fault, excess, response_fault, answered_by}
 use Rattle.std.specs.Prelude.{nat_lt, nat_le}
-use Rattle.std.proofs.lemmas.Bool.{ltb-false, leb-true}
-use Rattle.apdu_core.specs.StatusWord.{StatusWord}
 use Rattle.apdu_core.specs.CommandBytes.{Command}
 use Rattle.t0_core.specs.DialogueLaws.{flat_map_last}
 use Rattle.t0_core.specs.Room.{Room}
 use Rattle.t0_core.specs.declared.answer_fault.AnswerFault.{AnswerFault}
 use Rattle.t0_core.specs.declared.answer_fault.AnswerFault.TheVariants as fault
-use Rattle.card_terminal.specs.declared.wanted.Wanted.{Wanted}
-use Rattle.card_terminal.specs.declared.attempt.Attempt.{Attempt}
-use Rattle.card_terminal.specs.declared.attempt.Next.{Next}
-use Rattle.card_terminal.specs.declared.attempt.Next.TheVariants as next
-use Rattle.card_terminal.specs.Gathered.{less}
-use Rattle.card_terminal.specs.Attempts.{next_by, following, repetition, fetch}
 use Rattle.apdu_terminal.specs.declared.stage.Stage.{Stage}
 use Rattle.apdu_terminal.specs.declared.stage.Stage.TheVariants.{Going, Done, Failed}
-use Rattle.apdu_terminal.specs.Apdus.{Pair, Place, first_place, may_bring, follow, Goes, Ends, Suits, GoesThrough, all_content}
-use Rattle.apdu_terminal.specs.ApduSide.{ApduExchangeOf, is_going, place_of, IsSound, ComesTo, to_place, to_end, to_stall, to_fault, excess, response_fault, answered_by}
-use Rattle.apdu_terminal.proofs.FollowLemmas.{place_at, follow_of, follows_as}
+
+less_less : (w : Wanted) (a b : ℕ) → less (less w a) b ≡ less w (a + b)
+less_less (Bytes n) a b = ap Bytes (omega arith)
+less_less Everything a b = refl
+
+-- the place at which an attempt stands where so much is gathered
+abbrev place_at : Attempt → ℕ → Wanted → ℕ → Place
+place_at a n wanted gathered = record {
+  due = asking a.header n;
+  fetches = a.fetches;
+  repeats = a.repeats;
+  left = less wanted gathered;
+  brought = gathered - a.before;
+}
+
+-- what follows, as a place
+abbrev follow_of : Wanted → ℕ → Next → Follow
+follow_of wanted gathered (next.Asks a n) = Goes (place_at a n wanted gathered)
+follow_of wanted gathered next.Stalls = Stalls
+follow_of wanted gathered next.Ends = Ends
+
+same_again : (a : Attempt) (may : Bool) (left : Wanted) (corrected : Option ℕ)
+    → may ≡ (a.asks && not a.repeats)
+    → correction may left corrected ≡ again_with a left corrected
+same_again a may left None is = refl
+same_again a may left (Some n) is = by a.asks a.repeats (wants_at_least n left) is
+  where
+    by : (asks repeats wants : Bool) → may ≡ (asks && not repeats)
+        → (if may && wants then Some n else None)
+        ≡ (if asks && not repeats && wants then Some n else None)
+    by true true wants is = rw is refl
+    by true false wants is = rw is refl
+    by false repeats wants is = rw is refl
+
+zero_same : (before gathered came : ℕ) → before ≤ gathered
+    → ((gathered - before) + came == 0) ≡ (gathered + came == before)
+zero_same before gathered came le = elim (eqb_tells ((gathered - before) + came) 0) [
+  | inl e ↦ e.0 ∙ sym (eq-eqb (gathered + came) before (omega (arith, le, e.1)))
+  | inr e ↦ e.0 ∙ sym (ne_eqb (gathered + came) before (λ same. e.1 (omega (arith, le, same))))
+]
+
+same_follow : (a : Attempt) (content : List ℕ) (le : Option ℕ) (wanted : Wanted)
+    (gathered came : ℕ) (again announced : Option ℕ) → a.before ≤ gathered
+    → follow_by (record {
+      due = record { header = a.header; content = content; le = le };
+      fetches = a.fetches;
+      repeats = a.repeats;
+      left = less wanted gathered;
+      brought = gathered - a.before;
+    }) came again announced
+    ≡ follow_of wanted (gathered + came) (next_by a (gathered + came) again announced)
+same_follow a content le wanted gathered came (Some n) announced before =
+    let left : less (less wanted gathered) came ≡ less wanted (gathered + came) =
+    less_less wanted gathered came in
+    let brought : (gathered - a.before) + came ≡ (gathered + came) - a.before =
+    omega (arith, before) in
+    rw (left, brought) refl
+same_follow a content le wanted gathered came None None before = refl
+same_follow a content le wanted gathered came None (Some n) before =
+    let left : less (less wanted gathered) came ≡ less wanted (gathered + came) =
+    less_less wanted gathered came in
+    let zero : ((gathered - a.before) + came == 0) ≡ (gathered + came == a.before) =
+    zero_same a.before gathered came before in
+    rw (left, zero) (by (a.fetches && (gathered + came == a.before)))
+  where
+    by : (v : Bool) → (if v then Stalls else Goes (record {
+      due = asking (fetch a (gathered + came)).header n;
+      fetches = true;
+      repeats = false;
+      left = less wanted (gathered + came);
+      brought = 0;
+    })) ≡ follow_of wanted (gathered + came)
+        (if v then next.Stalls else next.Asks (fetch a (gathered + came)) n)
+    by true = refl
+    by false = let none : (gathered + came) - (gathered + came) ≡ 0 = omega arith in rw none refl
+
+follows_as : (ex : ApduExchangeOf) (came : ℕ) (status : StatusWord) → IsSound ex
+    → follow (place_of ex) came status
+    ≡ follow_of ex.wanted (length ex.gather.bytes + came)
+    (following ex.attempt (length ex.gather.bytes + came)
+    (less ex.wanted (length ex.gather.bytes + came)) status)
+follows_as ex came status sound =
+    let gathered : ℕ = length ex.gather.bytes in
+    let left : less (less ex.wanted gathered) came ≡ less ex.wanted (gathered + came) =
+    less_less ex.wanted gathered came in
+    let again : correction (is_case_2 ex.content ex.le && not ex.attempt.repeats)
+    (less (less ex.wanted gathered) came) (corrects status)
+    ≡ again_with ex.attempt (less ex.wanted (gathered + came)) (corrects status) =
+    ap (λ w. correction (is_case_2 ex.content ex.le && not ex.attempt.repeats) w
+    (corrects status)) left
+    ∙ same_again ex.attempt _ (less ex.wanted (gathered + came)) (corrects status)
+    (ap (λ v. v && not ex.attempt.repeats) (sym sound.asks)) in
+    let announced : fetched_after (less (less ex.wanted gathered) came) status
+    ≡ fetched_after (less ex.wanted (gathered + came)) status =
+    ap (λ w. fetched_after w status) left in
+    ap (λ x. follow_by (place_of ex) came x
+    (fetched_after (less (less ex.wanted gathered) came) status)) again
+    ∙ ap (λ x. follow_by (place_of ex) came
+    (again_with ex.attempt (less ex.wanted (gathered + came)) (corrects status)) x) announced
+    ∙ same_follow ex.attempt ex.content ex.le ex.wanted gathered came _ _ sound.counted.begun
+
+-- ---- pairs
 
 -- one pair more
 pub goes_last : (at : Place) (pairs : List Pair) (mid : Place) (p : Pair) (next : Place)
@@ -61,7 +165,7 @@ pub record IsTaken (ex : ApduExchangeOf) (came : ℕ) : Type 0 where
   pub asked_for : came ≤ may_bring ex.le
   pub fits : length ex.gather.bytes + came ≤ ex.gather.limit
 
-is_going_true : (s : Stage) → is_going s ≡ true → s ≡ Going
+pub is_going_true : (s : Stage) → is_going s ≡ true → s ≡ Going
 is_going_true Going e = refl
 is_going_true (Done status) e = absurd (cc)
 is_going_true Failed e = absurd (cc)
@@ -93,20 +197,28 @@ pub record IsAt (c : Command) (wanted : Wanted) (pairs : List Pair) (ex : ApduEx
   pub wanted_is : ex.wanted ≡ wanted
   pub number : ex.attempt.number ≡ length pairs + 1
 
-pub at_place : (c : Command) (wanted : Wanted) (pairs : List Pair) (ex : ApduExchangeOf)
-    → ex.stage ≡ Going → ComesTo c wanted pairs ex → IsAt c wanted pairs ex
-at_place c wanted pairs ex going (to_place is through gathered wanted_is number) = record {
-  through = through;
-  gathered = gathered;
-  wanted_is = wanted_is;
-  number = number;
-}
-at_place c wanted pairs ex going (to_end status is brings number) =
-    let no : Going ≡ Done status = sym going ∙ is in absurd (cc)
-at_place c wanted pairs ex going (to_stall is stalls) =
-    let no : Going ≡ Failed = sym going ∙ is in absurd (cc)
-at_place c wanted pairs ex going (to_fault is long) =
-    let no : Going ≡ Failed = sym going ∙ is in absurd (cc)
+-- what pairs that led to an exchange are, by its stage
+abbrev pub Means : Command → Wanted → List Pair → ApduExchangeOf → Stage → Type 0
+Means c wanted pairs ex Going = IsAt c wanted pairs ex
+Means c wanted pairs ex (Done status) = Brings c wanted pairs ex.gather.bytes status
+Means c wanted pairs ex Failed =
+    StallsAt c wanted pairs ⊎ IsTooLong c wanted pairs ex.gather.limit
+
+pub at_stage : (c : Command) (wanted : Wanted) (pairs : List Pair) (ex : ApduExchangeOf)
+    (s : Stage) → ex.stage ≡ s → ComesTo c wanted pairs ex → Means c wanted pairs ex s
+at_stage c wanted pairs ex s at led = subst (Means c wanted pairs ex) at (by led)
+  where
+    by : ComesTo c wanted pairs ex → Means c wanted pairs ex ex.stage
+    by (to_place is through gathered wanted_is number) =
+        subst (Means c wanted pairs ex) (sym is) (record {
+          through = through;
+          gathered = gathered;
+          wanted_is = wanted_is;
+          number = number;
+        })
+    by (to_end status is brings number) = subst (Means c wanted pairs ex) (sym is) brings
+    by (to_stall is stalls) = subst (Means c wanted pairs ex) (sym is) (inl stalls)
+    by (to_fault is long) = subst (Means c wanted pairs ex) (sym is) (inr long)
 
 -- the exchange with more gathered
 abbrev pub more_room : Room → List ℕ → Room
@@ -132,175 +244,102 @@ ended_as ex gather stage = record {
   stage = stage;
 }
 
-suits_here : (ex : ApduExchangeOf) (content : List ℕ) (status : StatusWord)
-    → length content ≤ may_bring ex.le → Suits (place_of ex) (answered_by ex content status)
-suits_here ex content status le = record { is_due = refl; asked_for = le }
-
-new_content : (c : Command) (wanted : Wanted) (pairs : List Pair) (ex : ApduExchangeOf)
-    (content : List ℕ) (status : StatusWord) → IsAt c wanted pairs ex
-    → ex.gather.bytes ++ content ≡ all_content (pairs ++ answered_by ex content status ∷ [])
-new_content c wanted pairs ex content status at =
-    ap (λ bs. bs ++ content) at.gathered
-    ∙ sym (one_more_content pairs (answered_by ex content status))
+-- the exchange after a response, by what follows it
+abbrev pub after_of : ApduExchangeOf → Room → StatusWord → Next → ApduExchangeOf
+after_of ex gather status (next.Asks a n) = asks_with ex gather a n
+after_of ex gather status next.Stalls = ended_as ex gather Failed
+after_of ex gather status next.Ends = ended_as ex gather (Done status)
 
 -- what follows, as the attempt says it
 abbrev pub next_of : ApduExchangeOf → ℕ → StatusWord → Next
 next_of ex gathered status = following ex.attempt gathered (less ex.wanted gathered) status
 
-pub led_asks : (c : Command) (wanted : Wanted) (pairs : List Pair) (ex : ApduExchangeOf)
-    (content : List ℕ) (status : StatusWord) (gather : Room) (gathered : ℕ) (a : Attempt) (n : ℕ)
+led_on : (c : Command) (wanted : Wanted) (pairs : List Pair) (ex : ApduExchangeOf)
+    (content : List ℕ) (status : StatusWord) (gather : Room) (gathered : ℕ) (v : Next)
     → IsSound ex → IsTaken ex (length content) → gather ≡ more_room ex.gather content
-    → gathered ≡ length ex.gather.bytes + length content
-    → next_of ex gathered status ≡ next.Asks a n → ComesTo c wanted pairs ex
-    → ComesTo c wanted (pairs ++ answered_by ex content status ∷ []) (asks_with ex gather a n)
-led_asks c wanted pairs ex content status gather gathered a n sound taken room many asks led =
-    let at = at_place c wanted pairs ex taken.going led in
-    let p = answered_by ex content status in
-    let so_many : length ex.gather.bytes + length content ≡ length gather.bytes =
-    omega (arith, length-append ex.gather.bytes content, ap (λ (r : Room). length r.bytes) room) in
-    let now : next_of ex (length ex.gather.bytes + length content) status ≡ next.Asks a n =
-    ap (λ k. next_of ex k status) (sym many) ∙ asks in
-    let follows : follow (place_of ex) (length content) status
-    ≡ Goes (place_of (asks_with ex gather a n)) =
-    follows_as ex (length content) status sound
-    ∙ ap (follow_of ex.wanted (length ex.gather.bytes + length content)) now
-    ∙ ap (λ k. Goes (place_at a n ex.wanted k)) so_many in
-    to_place taken.going
-    (goes_last (first_place c wanted) pairs (place_of ex) p (place_of (asks_with ex gather a n))
-    at.through (suits_here ex content status taken.asked_for) follows)
-    (ap (λ (r : Room). r.bytes) room ∙ new_content c wanted pairs ex content status at)
-    at.wanted_is
-    (omega (
-      arith,
-      asked_number ex.attempt gathered _ _ a n asks,
-      at.number,
-      one_more_pair pairs p,
-    ))
-
-pub led_ends : (c : Command) (wanted : Wanted) (pairs : List Pair) (ex : ApduExchangeOf)
-    (content : List ℕ) (status : StatusWord) (gather : Room) (gathered : ℕ)
-    → IsSound ex → IsTaken ex (length content) → gather ≡ more_room ex.gather content
-    → gathered ≡ length ex.gather.bytes + length content
-    → next_of ex gathered status ≡ next.Ends → ComesTo c wanted pairs ex
+    → gathered ≡ length gather.bytes → v ≡ next_of ex gathered status → ComesTo c wanted pairs ex
     → ComesTo c wanted (pairs ++ answered_by ex content status ∷ [])
-    (ended_as ex gather (Done status))
-led_ends c wanted pairs ex content status gather gathered sound taken room many ends led =
-    let at = at_place c wanted pairs ex taken.going led in
-    let p = answered_by ex content status in
-    let follows : follow (place_of ex) (length content) status ≡ Ends =
-    follows_as ex (length content) status sound
+    (after_of ex gather status v)
+led_on c wanted pairs ex content status gather gathered v sound taken room many is led =
+    by v is (follows_as ex (length content) status sound
     ∙ ap (follow_of ex.wanted (length ex.gather.bytes + length content))
-    (ap (λ k. next_of ex k status) (sym many) ∙ ends) in
-    to_end status refl
-    (record {
+    (ap (λ k. next_of ex k status) (sym so_many) ∙ sym is))
+  where
+    so_many : gathered ≡ length ex.gather.bytes + length content
+    so_many = omega (
+      arith,
+      many,
+      ap (λ (r : Room). length r.bytes) room,
+      length-append ex.gather.bytes content,
+    )
+
+    at : IsAt c wanted pairs ex
+    at = at_stage c wanted pairs ex Going taken.going led
+
+    p : Pair
+    p = answered_by ex content status
+
+    suits : Suits (place_of ex) p
+    suits = record { is_due = refl; asked_for = taken.asked_for }
+
+    bytes : gather.bytes ≡ all_content (pairs ++ p ∷ [])
+    bytes = ap (λ (r : Room). r.bytes) room ∙ ap (λ bs. bs ++ content) at.gathered
+        ∙ sym (one_more_content pairs p)
+
+    by : (v : Next) → v ≡ next_of ex gathered status
+        → follow (place_of ex) (length content) status
+        ≡ follow_of ex.wanted (length ex.gather.bytes + length content) v
+        → ComesTo c wanted (pairs ++ p ∷ []) (after_of ex gather status v)
+    by (next.Asks a n) is follows = to_place taken.going
+        (goes_last (first_place c wanted) pairs (place_of ex) p
+        (place_of (asks_with ex gather a n)) at.through suits
+        (follows ∙ ap (λ k. Goes (place_at a n ex.wanted k)) (sym so_many ∙ many))) bytes
+        at.wanted_is
+        (omega (
+          arith,
+          asked_number ex.attempt gathered _ _ a n (sym is),
+          at.number,
+          one_more_pair pairs p,
+        ))
+    by next.Stalls is follows = to_stall refl (record {
       before = pairs;
       last = p;
       at = place_of ex;
       pairs_are = refl;
       through = at.through;
-      suits = suits_here ex content status taken.asked_for;
-      ends = follows;
-      status_is = refl;
-      gathered_is = ap (λ (r : Room). r.bytes) room
-          ∙ new_content c wanted pairs ex content status at;
+      suits = suits;
+      stalls = follows;
     })
-    (omega (arith, at.number, one_more_pair pairs p))
+    by next.Ends is follows = to_end status refl
+        (record {
+          before = pairs;
+          last = p;
+          at = place_of ex;
+          pairs_are = refl;
+          through = at.through;
+          suits = suits;
+          ends = follows;
+          status_is = refl;
+          gathered_is = bytes;
+        })
+        (omega (arith, at.number, one_more_pair pairs p))
 
-pub led_stalls : (c : Command) (wanted : Wanted) (pairs : List Pair) (ex : ApduExchangeOf)
-    (content : List ℕ) (status : StatusWord) (gather : Room) (gathered : ℕ)
-    → IsSound ex → IsTaken ex (length content)
-    → gathered ≡ length ex.gather.bytes + length content
-    → next_of ex gathered status ≡ next.Stalls → ComesTo c wanted pairs ex
-    → ComesTo c wanted (pairs ++ answered_by ex content status ∷ []) (ended_as ex gather Failed)
-led_stalls c wanted pairs ex content status gather gathered sound taken many stalls led =
-    let at = at_place c wanted pairs ex taken.going led in
-    to_stall refl
-    (record {
-      before = pairs;
-      last = answered_by ex content status;
-      at = place_of ex;
-      pairs_are = refl;
-      through = at.through;
-      suits = suits_here ex content status taken.asked_for;
-      stalls = follows_as ex (length content) status sound
-          ∙ ap (follow_of ex.wanted (length ex.gather.bytes + length content))
-          (ap (λ k. next_of ex k status) (sym many) ∙ stalls);
-    })
-
--- ---- for an exchange that is seen as another value
-
-abbrev Seen : Command → Wanted → List Pair → List ℕ → StatusWord → ApduExchangeOf → ApduExchangeOf
-    → Type 0
-Seen c wanted pairs content status new seen =
-    ComesTo c wanted (pairs ++ answered_by seen content status ∷ []) new
-
-pub took : (inside : ApduExchangeOf) (content : List ℕ) (gather : Room) (gathered : ℕ)
+-- for an exchange that is seen as another value
+pub seen_led : (c : Command) (wanted : Wanted) (pairs : List Pair) (inside seen : ApduExchangeOf)
+    (content : List ℕ) (status : StatusWord) (gather : Room) (gathered : ℕ) (left : Wanted)
+    (v : Next) → inside ≡ seen → IsSound inside → response_fault seen (length content) ≡ None
     → gather ≡ more_room inside.gather content → gathered ≡ length gather.bytes
-    → gathered ≡ length inside.gather.bytes + length content
-took inside content gather gathered room many =
-    omega (
-      arith,
-      many,
-      ap (λ (r : Room). length r.bytes) room,
-      length-append inside.gather.bytes content,
-    )
-
-pub seen_asks : (c : Command) (wanted : Wanted) (pairs : List Pair) (inside seen : ApduExchangeOf)
-    (content : List ℕ) (status : StatusWord) (gather : Room) (gathered : ℕ) (left : Wanted)
-    (a : Attempt) (n : ℕ) → inside ≡ seen → IsSound inside
-    → response_fault seen (length content) ≡ None → gather ≡ more_room inside.gather content
-    → gathered ≡ length gather.bytes → left ≡ less inside.wanted gathered
-    → next.Asks a n ≡ following inside.attempt gathered left status → ComesTo c wanted pairs seen
+    → left ≡ less inside.wanted gathered → v ≡ following inside.attempt gathered left status
+    → ComesTo c wanted pairs seen
     → ComesTo c wanted (pairs ++ answered_by seen content status ∷ [])
-    (asks_with inside gather a n)
-seen_asks c wanted pairs inside seen content status gather gathered left a n same sound none room
-    many left_is asks led =
+    (after_of inside gather status v)
+seen_led c wanted pairs inside seen content status gather gathered left v same sound none room
+    many left_is is led =
     let P : ApduExchangeOf → Type 0 = λ x. ComesTo c wanted pairs x in
-    let now : next_of inside gathered status ≡ next.Asks a n =
-    ap (λ w. following inside.attempt gathered w status) (sym left_is) ∙ sym asks in
-    subst (Seen c wanted pairs content status (asks_with inside gather a n)) same
-    (led_asks c wanted pairs inside content status gather gathered a n sound
-    (is_taken inside (length content)
-    (ap (λ x. response_fault x (length content)) same ∙ none)) room
-    (took inside content gather gathered room many)
-    now (subst P (sym same) led))
-
-pub seen_ends : (c : Command) (wanted : Wanted) (pairs : List Pair) (inside seen : ApduExchangeOf)
-    (content : List ℕ) (status : StatusWord) (gather : Room) (gathered : ℕ) (left : Wanted)
-    → inside ≡ seen → IsSound inside
-    → response_fault seen (length content) ≡ None → gather ≡ more_room inside.gather content
-    → gathered ≡ length gather.bytes → left ≡ less inside.wanted gathered
-    → next.Ends ≡ following inside.attempt gathered left status → ComesTo c wanted pairs seen
-    → ComesTo c wanted (pairs ++ answered_by seen content status ∷ [])
-    (ended_as inside gather (Done status))
-seen_ends c wanted pairs inside seen content status gather gathered left same sound none room
-    many left_is ends led =
-    let P : ApduExchangeOf → Type 0 = λ x. ComesTo c wanted pairs x in
-    let now : next_of inside gathered status ≡ next.Ends =
-    ap (λ w. following inside.attempt gathered w status) (sym left_is) ∙ sym ends in
-    subst (Seen c wanted pairs content status (ended_as inside gather (Done status))) same
-    (led_ends c wanted pairs inside content status gather gathered sound
-    (is_taken inside (length content)
-    (ap (λ x. response_fault x (length content)) same ∙ none)) room
-    (took inside content gather gathered room many)
-    now (subst P (sym same) led))
-
-pub seen_stalls : (c : Command) (wanted : Wanted) (pairs : List Pair)
-    (inside seen : ApduExchangeOf) (content : List ℕ) (status : StatusWord) (gather : Room)
-    (gathered : ℕ) (left : Wanted) → inside ≡ seen → IsSound inside
-    → response_fault seen (length content) ≡ None → gather ≡ more_room inside.gather content
-    → gathered ≡ length gather.bytes → left ≡ less inside.wanted gathered
-    → next.Stalls ≡ following inside.attempt gathered left status → ComesTo c wanted pairs seen
-    → ComesTo c wanted (pairs ++ answered_by seen content status ∷ [])
-    (ended_as inside gather Failed)
-seen_stalls c wanted pairs inside seen content status gather gathered left same sound none room
-    many left_is stalls led =
-    let P : ApduExchangeOf → Type 0 = λ x. ComesTo c wanted pairs x in
-    let now : next_of inside gathered status ≡ next.Stalls =
-    ap (λ w. following inside.attempt gathered w status) (sym left_is) ∙ sym stalls in
-    subst (Seen c wanted pairs content status (ended_as inside gather Failed)) same
-    (led_stalls c wanted pairs inside content status gather gathered sound
-    (is_taken inside (length content)
-    (ap (λ x. response_fault x (length content)) same ∙ none))
-    (took inside content gather gathered room many)
-    now (subst P (sym same) led))
+    let Q : ApduExchangeOf → Type 0 = λ x.
+    ComesTo c wanted (pairs ++ answered_by x content status ∷ []) (after_of inside gather status v)
+    in
+    subst Q same (led_on c wanted pairs inside content status gather gathered v sound
+    (is_taken inside (length content) (ap (λ x. response_fault x (length content)) same ∙ none))
+    room many (is ∙ ap (λ w. following inside.attempt gathered w status) left_is)
+    (subst P (sym same) led))

@@ -1,4 +1,3 @@
-pub mod FollowLemmas
 pub mod PlaceLemmas
 pub mod LedLemmas
 pub mod LawLemmas
@@ -6,8 +5,6 @@ pub mod RestLemmas
 pub mod FirstLemmas
 pub mod TalkLemmas
 pub mod CardLemmas
-pub mod SameLemmas
 pub mod StallLemmas
 pub mod OperationLemmas
 pub mod OperationCourse
-mod Vectors

@@ -1,56 +1,36 @@
 -- What led to an operation at a terminal leads on with each response.
-use Rattle.std.proofs.Common.{◌≡◌, ◌≢◌, ◌≤◌, ◌+◌, ◌-◌, ◌==◌, ℕ, List, [], ◌∷◌, ◌++◌, length, take, drop, ◌⊎◌, inl, inr, refl, sym, subst, ◌∙◌, ap, append-nil, append_assoc, length-append, arith, Option, Some, None, true, false, Bool, if◌then◌else◌}
-use Rattle.std.specs.Prelude.{not, Result, Ok, Err, MatchResult, IfErr, IfSome}
+use Rattle.std.proofs.Common.{◌≡◌, ◌≢◌, ◌≤◌, ◌+◌, ◌-◌, ◌==◌, ℕ, List, [], ◌∷◌, ◌++◌, length, take, drop, ◌⊎◌, inl, inr, refl, sym, subst, ◌∙◌, ap, append-nil, append_assoc, length-append, arith, Option, Some, None, true, false, Bool}
+use Rattle.std.specs.Prelude.{not, Result, Ok, Err, IfSome}
 use Rattle.std.specs.List.{AllByRecursion, slice_range}
 use Rattle.std.proofs.Math.Seq.{drop-append_seam, take-append_seam}
 use Rattle.std.proofs.lemmas.Bool.{eqb-true}
-use Rattle.std.proofs.lemmas.Bool.Decides.{eqb_tells}
 use Rattle.std.proofs.lemmas.List.{drop-drop, length-drop}
 use Rattle.apdu_core.specs.declared.header.Header.{Header}
 use Rattle.apdu_core.specs.StatusWord.{StatusWord, ok}
 use Rattle.apdu_core.specs.CommandBytes.{Command, IsCommand}
-use Rattle.apdu_core.specs.Chaining.{IsPieces, link, with_more, chain_commands}
+use Rattle.apdu_core.specs.Chaining.{IsPieces, chain_commands}
 use Rattle.tlv_core.specs.Address.{NamesTag}
 use Rattle.t0_core.specs.declared.answer_fault.AnswerFault.{AnswerFault}
-use Rattle.t0_core.specs.declared.answer_fault.AnswerFault.TheVariants.{NotDue, Stalled}
+use Rattle.t0_core.specs.declared.answer_fault.AnswerFault.TheVariants.{NotDue}
 use Rattle.t0_core.specs.Character.{Character}
 use Rattle.t0_core.specs.DialogueLaws.{flat_map_last}
-use Rattle.t0_core.specs.HostAnswer.{fails_with}
 use Rattle.object_card.specs.CarryingOut.{put_header}
 use Rattle.object_card.specs.OneStep.{Put, Reply}
 use Rattle.card_terminal.specs.Gathered.{wanted_by}
 use Rattle.card_terminal.specs.PieceLaws.{IsFrontOf, left_is, left_after, chain_of, rest_seen}
 use Rattle.card_terminal.specs.Talk.{AreCommandsOf}
+use Rattle.card_terminal.specs.TalkLaws.{is_ok_or_not}
 use Rattle.card_terminal.specs.declared.unsent.Unsent.{Unsent}
 use Rattle.card_terminal.specs.Unsent.{IsUnsent}
 use Rattle.card_terminal.specs.TerminalSide.{AreLeft, OperationOf}
 use Rattle.card_terminal.specs.TerminalSide as tpdus
 use Rattle.apdu_terminal.specs.declared.stage.Stage.{Stage}
 use Rattle.apdu_terminal.specs.declared.stage.Stage.TheVariants.{Going, Done, Failed}
-use Rattle.apdu_terminal.specs.Apdus.{Pair, Brings, GathersApdus}
+use Rattle.apdu_terminal.specs.Apdus.{Pair, GathersApdus}
 use Rattle.apdu_terminal.specs.ApduTalk.{AreApdusOf, talk_pairs}
-use Rattle.apdu_terminal.specs.ApduSide.{ApduExchangeOf, ComesTo, to_place, to_end, to_stall, to_fault, HasFew, IsResponding, IsSound, KeepsData, kept_data, answer_at, answer_of, answered_by, over_data, response_fault}
-use Rattle.apdu_terminal.specs.ApduOperations.{ApduOperationOf, AreApdusUpTo, Begins, BeginsWith, GoesOver, GoesToNext, IsOperationAnswer, IsPart, IsSettled, IsTakingResponse, LeadsThrough, LeadsTo, has_failed_at, operation_answer, with_exchange}
-
-ok_or_not : (status : StatusWord) → (status ≡ ok) ⊎ (status ≢ ok)
-ok_or_not status = elim (eqb_tells status.0 0x90) [
-  | inl first ↦ elim (eqb_tells status.1 0x00) [
-    | inl second ↦ inl (ap (λ a. (a, status.1)) first.1 ∙ ap (λ b. (0x90, b)) second.1)
-    | inr other ↦ inr (λ e. other.1 (ap (λ (s : StatusWord). s.1) e))
-  ]
-  | inr other ↦ inr (λ e. other.1 (ap (λ (s : StatusWord). s.0) e))
-]
-
--- a value has at least one piece, and so a command
-pub some_command : (h : Header) (value : List ℕ) (pieces : List (List ℕ)) (left : List Command)
-    → IsPieces value pieces → left ≡ chain_commands h pieces → left ≡ [] → ⊥
-some_command h [] [] left is same none = absurd (cc)
-some_command h (b ∷ value) [] left is same none = absurd is.1
-some_command h value (p ∷ []) left is same none = let e : [] ≡ link h p ∷ [] = sym none ∙ same in
-    absurd (cc)
-some_command h value (p ∷ q ∷ others) left is same none =
-    let e : [] ≡ link (with_more h) p ∷ chain_commands h (q ∷ others) = sym none ∙ same in
-    absurd (cc)
+use Rattle.apdu_terminal.specs.ApduSide.{ApduExchangeOf, ComesTo, HasFew, IsResponding, IsSound, KeepsData, kept_data, answer_at, answer_of, answered_by, over_data}
+use Rattle.apdu_terminal.proofs.LedLemmas.{at_stage}
+use Rattle.apdu_terminal.specs.ApduOperations.{ApduOperationOf, AreApdusUpTo, Begins, BeginsWith, GoesOver, GoesToNext, IsOperationAnswer, IsPart, IsSettled, IsTakingResponse, LeadsThrough, LeadsTo, has_failed_at, with_exchange}
 
 -- whether more is to be put
 pub some_rest : (items : List ℕ) (until size : ℕ) → until ≤ length items → size ≡ length items
@@ -127,21 +107,6 @@ unsent_begins t u o commands came unsent begins are leads =
 
 -- ---- a command is over
 
--- what led to the end of an exchange
-pub ended : (c : Command) (pairs : List Pair) (ex : ApduExchangeOf) (status : StatusWord)
-    → ex.stage ≡ Done status → ComesTo c (wanted_by c.le) pairs ex
-    → GathersApdus c pairs ex.gather.bytes status
-ended c pairs ex status done (to_place going through bytes is number) =
-    absurd (not_done ex.stage status going done)
-ended c pairs ex status done (to_end other is brings number) =
-    let both : Done other ≡ Done status = sym is ∙ done in
-    let same : other ≡ status = cc in
-    subst (λ s. GathersApdus c pairs ex.gather.bytes s) same brings
-ended c pairs ex status done (to_stall failed stalls) =
-    let e : Failed ≡ Done status = sym failed ∙ done in absurd (cc)
-ended c pairs ex status done (to_fault failed long) =
-    let e : Failed ≡ Done status = sym failed ∙ done in absurd (cc)
-
 taken_more : (commands : List Command) (gone : List (List Pair)) (c : Command)
     (left : List Command) (pairs : List Pair) (brought : List ℕ)
     → AreApdusUpTo commands gone (c ∷ left) → GathersApdus c pairs brought ok
@@ -175,7 +140,8 @@ one_more_exchange gone pairs = flat_map_last (λ ps. ps) gone pairs
 to_next : (commands : List Command) (pairs : List Pair) (o new : ApduOperationOf)
     → GoesToNext o new → LeadsThrough commands pairs o → LeadsThrough commands pairs new
 to_next commands pairs o new next l =
-    let gathers = ended l.current l.here o.exchange ok next.done l.led in
+    let gathers = at_stage l.current (wanted_by l.current.le) l.here o.exchange (Done ok) next.done
+    l.led in
     let (c, after, left_is, led, are_left) = next.next l.left l.are_left in
     let taken : AreApdusUpTo commands l.gone (l.current ∷ c ∷ after) =
     subst (λ cs. AreApdusUpTo commands l.gone (l.current ∷ cs)) left_is l.taken in
@@ -240,60 +206,48 @@ few_over o new ex few (inr next) = next.few
 abbrev pub took : ApduOperationOf → List ℕ → StatusWord → List Pair
 took o content status = answered_by o.exchange content status ∷ []
 
+went : (o new : ApduOperationOf) (ex : ApduExchangeOf) (content : List ℕ) (status : StatusWord)
+    (commands : List Command) (pairs : List Pair) → GoesOver (with_exchange o ex) new
+    → (l : LeadsThrough commands pairs o)
+    → ComesTo l.current (wanted_by l.current.le) (l.here ++ took o content status) ex
+    → LeadsTo commands (pairs ++ took o content status) (Some new)
+went o new ex content status commands pairs over l led = (
+  goes_over commands (pairs ++ took o content status) (with_exchange o ex) new over
+      (record {
+        gone = l.gone;
+        current = l.current;
+        left = l.left;
+        taken = l.taken;
+        are_left = l.are_left;
+        here = l.here ++ took o content status;
+        led = led;
+        pairs_are = ap (λ z. z ++ took o content status) l.pairs_are
+            ∙ append_assoc (talk_pairs l.gone) l.here (took o content status);
+      }),
+  settles (with_exchange o ex) new over,
+)
+
 pub responds : (o new : ApduOperationOf) (content : List ℕ) (status : StatusWord)
     (result : Result (Unit {0}) AnswerFault) (ex : ApduExchangeOf) → IsSettled o
     → IsResponding o.exchange content status result ex → GoesOver (with_exchange o ex) new
     → IsTakingResponse (Some o) content status result (Some new)
-responds o new content status result ex settled step over = record {
+responds o new content status (Ok u) ex settled step over = record {
   fault = step.fault;
   few = few_over o new ex step.few over;
-  unchanged = same result step.unchanged;
-  failed = broken result step.failed;
-  led = λ commands pairs l. on commands pairs l.0 result (step.led l.0.current
-      (wanted_by l.0.current.le) l.0.here l.0.led);
+  unchanged = tt;
+  failed = tt;
+  led = λ commands pairs l. went o new ex content status commands pairs over l.0
+      (step.led l.0.current (wanted_by l.0.current.le) l.0.here l.0.led);
 }
-  where
-    same : (r : Result (Unit {0}) AnswerFault)
-        → IfErr r (λ f. fails_with f ≡ false → ex ≡ o.exchange)
-        → IfErr r (λ f. fails_with f ≡ false → Some new ≡ Some o)
-    same (Ok u) is = tt
-    same (Err f) is = λ not_final. ap (λ x. Some x) (stays o new ex settled over (is not_final))
-
-    broken : (r : Result (Unit {0}) AnswerFault)
-        → IfErr r (λ f. fails_with f ≡ true → ex.stage ≡ Failed)
-        → IfErr r (λ f. fails_with f ≡ true → has_failed_at (Some new))
-    broken (Ok u) is = tt
-    broken (Err f) is = λ final. fails o new ex over (is final)
-
-    went : (commands : List Command) (pairs : List Pair) (l : LeadsThrough commands pairs o)
-        → ComesTo l.current (wanted_by l.current.le) (l.here ++ took o content status) ex
-        → LeadsTo commands (pairs ++ took o content status) (Some new)
-    went commands pairs l led = (
-      goes_over commands (pairs ++ took o content status) (with_exchange o ex) new over
-          (record {
-            gone = l.gone;
-            current = l.current;
-            left = l.left;
-            taken = l.taken;
-            are_left = l.are_left;
-            here = l.here ++ took o content status;
-            led = led;
-            pairs_are = ap (λ z. z ++ took o content status) l.pairs_are
-                ∙ append_assoc (talk_pairs l.gone) l.here (took o content status);
-          }),
-      settles (with_exchange o ex) new over,
-    )
-
-    on : (commands : List Command) (pairs : List Pair) (l : LeadsThrough commands pairs o)
-        (r : Result (Unit {0}) AnswerFault)
-        → MatchResult r
-        (λ _. ComesTo l.current (wanted_by l.current.le) (l.here ++ took o content status) ex)
-        (λ f. fails_with f ≡ true
-        → ComesTo l.current (wanted_by l.current.le) (l.here ++ took o content status) ex)
-        → MatchResult r (λ _. LeadsTo commands (pairs ++ took o content status) (Some new))
-        (λ f. fails_with f ≡ true → LeadsTo commands (pairs ++ took o content status) (Some new))
-    on commands pairs l (Ok u) led = went commands pairs l led
-    on commands pairs l (Err f) led = λ final. went commands pairs l (led final)
+responds o new content status (Err f) ex settled step over = record {
+  fault = step.fault;
+  few = few_over o new ex step.few over;
+  unchanged = λ not_final.
+      ap (λ x. Some x) (stays o new ex settled over (step.unchanged not_final));
+  failed = λ final. fails o new ex over (step.failed final);
+  led = λ commands pairs l final. went o new ex content status commands pairs over l.0
+      (step.led l.0.current (wanted_by l.0.current.le) l.0.here l.0.led final);
+}
 
 pub idle_responds : (content : List ℕ) (status : StatusWord)
     → IsTakingResponse None content status (Err NotDue) None
@@ -379,11 +333,12 @@ answers o answer settled is = record {
     by commands pairs l Going is = tt
     by commands pairs l Failed is = tt
     by commands pairs l (Done status) is =
-        let gathers = ended l.current l.here o.exchange status is l.led in (
+        let gathers = at_stage l.current (wanted_by l.current.le) l.here o.exchange (Done status) is
+        l.led in (
           l.gone ++ l.here ∷ [],
           taken_to_end commands l.gone l.current l.left l.here
               (record { status = status; content = o.exchange.gather.bytes }) l.taken gathers
-              (ends l.left status l.are_left is (ok_or_not status)),
+              (ends l.left status l.are_left is (is_ok_or_not status)),
           l.pairs_are ∙ sym (one_more_exchange l.gone l.here),
         )
 
@@ -434,11 +389,8 @@ begins_with first rest items ex until p1 p2 whole is going led =
 
 few_first : (ex : ApduExchangeOf) (c : Command) → ex.stage ≡ Going
     → ComesTo c (wanted_by c.le) [] ex → HasFew ex
-few_first ex c going (to_place is through bytes wanted number) = omega (arith, number)
-few_first ex c going (to_end status is brings number) =
-    absurd (not_done ex.stage status going is)
-few_first ex c going (to_stall is stalls) = let e : Going ≡ Failed = sym going ∙ is in absurd (cc)
-few_first ex c going (to_fault is long) = let e : Going ≡ Failed = sym going ∙ is in absurd (cc)
+few_first ex c going led =
+    let at = at_stage c (wanted_by c.le) [] ex Going going led in omega (arith, at.number)
 
 pub next_begins : (old : ApduOperationOf) (ex new : ApduExchangeOf) (items seen : List ℕ)
     (until p1 p2 size : ℕ) (header : Header) (pieces : List (List ℕ))

@@ -4,6 +4,7 @@ use Rattle.std.proofs.Common.{◌≡◌, ℕ, ◌+◌, ◌-◌, ◌≤◌, min, 
 use Rattle.std.proofs.lemmas.Bool.{leb-true, le-leb}
 use Rattle.apdu_core.specs.StatusWord.{StatusWord, announces, corrects}
 use Rattle.apdu_core.specs.CommandBytes.{Command}
+use Rattle.t0_core.specs.DialogueLaws.{flat_map_last}
 use Rattle.object_card.specs.Agreed.{IsAgreed}
 use Rattle.object_card.specs.CarryingOut.{get_response}
 use Rattle.card_terminal.specs.declared.wanted.Wanted.{Wanted}
@@ -163,17 +164,6 @@ fits_on most at next total came status fits few (fetch n told some is) =
       within = omega (arith, fits.within, few, fits.asks);
     }
 
-one_more_content : (before : List Pair) (last : Pair)
-    → length (all_content (before ++ last ∷ []))
-    ≡ length (all_content before) + length last.content
-one_more_content [] last = omega (arith, length-append last.content [])
-one_more_content (p ∷ before) last = omega (
-  arith,
-  one_more_content before last,
-  length-append p.content (all_content (before ++ last ∷ [])),
-  length-append p.content (all_content before),
-)
-
 -- so the data are no more than Le asks for
 pub total_within : (c : Command) (before : List Pair) (last : Pair) (at : Place)
     → GoesThrough (first_place (tpdu_command c) (le_of c)) before at → Suits at last
@@ -181,7 +171,14 @@ pub total_within : (c : Command) (before : List Pair) (last : Pair) (at : Place)
 total_within c before last at way suits =
     let f = through (Fits (may_bring c.le)) (fits_on (may_bring c.le))
     (first_place (tpdu_command c) (le_of c)) at 0 before (fits_first c) way in
-    omega (arith, one_more_content before last, f.within, f.asks, suits.asked_for)
+    omega (
+      arith,
+      ap length (flat_map_last (λ (q : Pair). q.content) before last),
+      length-append (all_content before) last.content,
+      f.within,
+      f.asks,
+      suits.asked_for,
+    )
 
 pub never_too_long : (c : Command) (pairs : List Pair) (limit : ℕ) → may_bring c.le ≤ limit
     → IsTooLong (tpdu_command c) (le_of c) pairs limit → ⊥

@@ -1,26 +1,25 @@
 -- What a card of data objects has left of a response comes by GET RESPONSE, if a reader fetches
 -- it, or the terminal.
-use Rattle.std.proofs.Common.{◌≡◌, ℕ, ◌+◌, ◌%◌, ◌≤◌, min, List, [], ◌∷◌, ◌++◌, length, take, drop, refl, sym, subst, ◌∙◌, ap, arith, true, false, not, ◌&&◌, ◌==◌, Bool, Option, Some, None, append-nil, append_assoc, if◌then◌else◌}
+use Rattle.std.proofs.Common.{◌≡◌, ℕ, ◌+◌, ◌%◌, ◌≤◌, min, List, [], ◌∷◌, ◌++◌, length, take, drop, refl, sym, subst, ◌∙◌, ap, arith, true, false, not, ◌&&◌, ◌==◌, Bool, Option, Some, None, append-nil, append_assoc, length-append, length-drop, if◌then◌else◌}
 use Rattle.std.specs.Prelude.{nat_le}
 use Rattle.std.proofs.lemmas.Bool.{eqb-true, eqb-false, leb-true}
 use Rattle.std.proofs.lemmas.List.{take-append-drop}
 use Rattle.apdu_core.specs.StatusWord.{StatusWord, count, announces, corrects}
 use Rattle.apdu_core.specs.CommandBytes.{Command}
-use Rattle.t0_core.specs.Meaning.{Tpdu}
 use Rattle.t0_core.specs.Plan.{IsCut}
 use Rattle.object_card.specs.State.{CardState, is_idle, waiting}
 use Rattle.object_card.specs.OneStep.{SameTables}
 use Rattle.object_card.specs.CardMeaning.{Does, announcing}
 use Rattle.object_card.specs.CarryingOut.{get_response}
 use Rattle.object_card.specs.OperationLaws.{no_correction}
-use Rattle.object_card.specs.ResponseLaws.{announced_count, announces_some, fetched, rest_waits, rest_is_idle}
+use Rattle.object_card.specs.ResponseLaws.{announces_some, count_is_some, fetched, rest_waits, rest_is_idle}
 use Rattle.card_terminal.specs.declared.wanted.Wanted.{Wanted}
 use Rattle.card_terminal.specs.declared.wanted.Wanted.TheVariants.{Bytes, Everything}
 use Rattle.card_terminal.specs.Gathered.{less, smaller, wants_some, fetched_of, fetched_after}
 use Rattle.apdu_terminal.specs.Apdus.{Pair, Place, first_place, asking, is_case_2, correction, Goes, Stalls, Ends, follow, follow_by, all_content}
 use Rattle.apdu_terminal.specs.Apdus as spec
 use Rattle.apdu_terminal.proofs.PlaceLemmas.{Whole, at_end, further, brings_whole, Comes, again, fetch, comes}
-use Rattle.apdu_terminal.specs.CardApdu.{p3_of, IsTpduOf, GoesBy, Responds, RespondsToAll, tpdu_command}
+use Rattle.apdu_terminal.specs.CardApdu.{p3_of, InTurn, GoesAs, Responds, tpdu_command}
 
 -- ---- where no count is told by 6CXX
 
@@ -94,43 +93,65 @@ count_told n low high = split (n % 256 == 0) refl
     split true e = omega (arith, low, high, eqb-true (n % 256) 0 e)
     split false e = omega (arith, low, high, eqb-false (n % 256) 0 e)
 
+counts_no_more : (n : ℕ) → 1 ≤ n → count (n % 256) ≤ n
+counts_no_more n low = split (n % 256 == 0) refl
+  where
+    split : (v : Bool) → (n % 256 == 0) ≡ v → (if v then 256 else n % 256) ≤ n
+    split true e = omega (arith, low, eqb-true (n % 256) 0 e)
+    split false e = omega arith
+
 -- ---- what is left of a response
 
 -- These bytes are the first of what waits; what then waits is the rest, and the status tells it.
 pub record Reads (old new : CardState) (content : List ℕ) (status : StatusWord) : Type 0 where
   pub whole : content ++ waiting new.pending ≡ waiting old.pending
+  pub some : 1 ≤ length content
   pub status_is : status ≡ announcing (waiting new.pending) 256
   pub same : SameTables old new
   pub idle : is_idle new.pending ≡ true
 
-in_range : IsCut 256
+pub in_range : IsCut 256
 in_range = (omega arith, omega arith)
 
 -- where some of it is announced, so much waits
 pub waits_for : (rest : List ℕ) (left : Wanted) (n : ℕ)
     → fetched_after left (announcing rest 256) ≡ Some n
-    → (1 ≤ n) × (n ≤ length rest) × (n ≤ 256)
+    → (1 ≤ n) × (n ≤ length rest)
 waits_for rest left n told =
     let (m, announced, few, some) = told_by left (announcing rest 256) n told in
     let waits = announces_some rest 256 m in_range announced in
-    let most = announced_count rest 256 m in_range announced in
-    (some waits.0, omega (arith, few, waits.1), omega (arith, few, most))
+    (some waits.0, omega (arith, few, waits.1))
 
--- one TPDU of a GET RESPONSE for some of what waits
-pub one_read : (old new : CardState) (k : ℕ) (p : Pair) (t : Tpdu)
-    → 1 ≤ k → k ≤ 256 → k ≤ length (waiting old.pending) → p.command ≡ asking get_response k
-    → IsTpduOf p t → Does old 256 t new → Reads old new p.content p.status
-one_read old new k p t low high few due is does =
+-- a GET RESPONSE for some of what waits reads it
+abbrev pub Reading : (CardState → Pair → CardState → Type 0) → Type 0
+Reading One = (k : ℕ) (p : Pair) (old new : CardState) → 1 ≤ k
+    → k ≤ length (waiting old.pending) → p.command ≡ asking get_response k → One old p new
+    → Reads old new p.content p.status
+
+-- as a TPDU
+pub one_read : Reading (GoesAs Does)
+one_read k p old new low few due (t, is, does) =
     let rest : List ℕ = waiting old.pending in
     let p3 : t.p3 ≡ k % 256 = is.p3_is ∙ ap (λ (c : Command). p3_of c.content c.le) due in
-    let counts : count t.p3 ≡ k = ap count p3 ∙ count_told k low high in
-    let f = fetched old new 256 t does (is.header_is ∙ ap (λ c. c.header) due)
-    (omega (arith, counts, few)) in
+    let within : count t.p3 ≤ length rest =
+    omega (arith, ap count p3, counts_no_more k low, few) in
+    let f = fetched old new 256 t does (is.header_is ∙ ap (λ c. c.header) due) within in
     let waits : waiting new.pending ≡ drop (count t.p3) rest =
     ap waiting f.left ∙ rest_waits (drop (count t.p3) rest) in
+    let whole : p.content ++ waiting new.pending ≡ rest =
+    ap (λ bs. bs ++ waiting new.pending) (sym is.received_is ∙ f.brought)
+    ∙ ap (λ bs. take (count t.p3) rest ++ bs) waits ∙ take-append-drop (count t.p3) rest in
     record {
-      whole = ap (λ bs. bs ++ waiting new.pending) (sym is.received_is ∙ f.brought)
-          ∙ ap (λ bs. take (count t.p3) rest ++ bs) waits ∙ take-append-drop (count t.p3) rest;
+      whole = whole;
+      some = omega (
+        arith,
+        ap length whole,
+        length-append p.content (waiting new.pending),
+        ap length waits,
+        length-drop (count t.p3) rest,
+        count_is_some t.p3,
+        within,
+      );
       status_is = sym is.status_is ∙ f.status_is ∙ ap (λ bs. announcing bs 256) (sym waits);
       same = (sym f.same_applications, sym f.same_selected);
       idle = ap is_idle f.left ∙ rest_is_idle (drop (count t.p3) rest);
@@ -143,12 +164,13 @@ both_read : (old mid new : CardState) (first second : List ℕ) (told status : S
 both_read old mid new first second told status a b = record {
   whole = append_assoc first second (waiting new.pending) ∙ ap (λ bs. first ++ bs) b.whole
       ∙ a.whole;
+  some = omega (arith, length-append first second, a.some);
   status_is = b.status_is;
   same = (a.same.0 ∙ b.same.0, a.same.1 ∙ b.same.1);
   idle = b.idle;
 }
 
-told_none : (old new : CardState) (content : List ℕ) (status : StatusWord)
+pub told_none : (old new : CardState) (content : List ℕ) (status : StatusWord)
     → Reads old new content status → corrects status ≡ None
 told_none old new content status r =
     ap corrects r.status_is ∙ no_correction (waiting new.pending) 256
@@ -156,79 +178,57 @@ told_none old new content status r =
 -- where more is fetched after it, so much waits
 next_waits : (old new : CardState) (content : List ℕ) (status : StatusWord) (left : Wanted) (n : ℕ)
     → Reads old new content status → fetched_after left status ≡ Some n
-    → (1 ≤ n) × (n ≤ length (waiting new.pending)) × (n ≤ 256)
+    → (1 ≤ n) × (n ≤ length (waiting new.pending))
 next_waits old new content status left n r told =
     waits_for (waiting new.pending) left n
     (ap (λ s. fetched_after left s) (sym r.status_is) ∙ told)
 
--- GET RESPONSE and what is fetched after it, a TPDU each
-pub all_read : (at : Place) (pairs : List Pair) (status : StatusWord) (k : ℕ) (old new : CardState)
-    → Whole at pairs status → at.due ≡ asking get_response k → 1 ≤ k → k ≤ 256
-    → k ≤ length (waiting old.pending) → GoesBy Does old pairs new
-    → Reads old new (all_content pairs) status
-all_read at pairs status k old new (at_end here p suits ends) due low high few
-    (t, mid, is, does, stays) =
+-- it, and what is fetched after it
+pub all_read : (One : CardState → Pair → CardState → Type 0) → Reading One → (at : Place)
+    (pairs : List Pair) (status : StatusWord) (k : ℕ) (old new : CardState) → Whole at pairs status
+    → at.due ≡ asking get_response k → 1 ≤ k → k ≤ length (waiting old.pending)
+    → InTurn One old pairs new → Reads old new (all_content pairs) status
+all_read One reading at pairs status k old new (at_end here p suits ends) due low few
+    (mid, goes, stays) =
     let Q : CardState → Type 0 = λ s. Reads old s p.content p.status in
     let P : List ℕ → Type 0 = λ bs. Reads old new bs p.status in
-    subst P (sym (append-nil p.content))
-    (subst Q (sym stays) (one_read old mid k p t low high few (suits.is_due ∙ due) is does))
-all_read at pairs status k old new (further here next p others last suits goes whole) due low high
-    few (t, mid, is, does, rest) =
-    let r = one_read old mid k p t low high few (suits.is_due ∙ due) is does in
+    subst P (sym (append-nil p.content)) (subst Q (sym stays)
+    (reading k p old mid low few (suits.is_due ∙ due) goes))
+all_read One reading at pairs status k old new (further here next p others last suits goes whole)
+    due low few (mid, is, rest) =
+    let r = reading k p old mid low few (suits.is_due ∙ due) is in
     let f = goes_by_fetch at next (length p.content) p.status
-    (told_none old mid p.content p.status r)
-    goes in
+    (told_none old mid p.content p.status r) goes in
     let w = next_waits old mid p.content p.status (less at.left (length p.content)) f.n r f.told in
     both_read old mid new p.content (all_content others) p.status status r
-    (all_read next others status f.n mid new whole f.due w.0 w.2 w.1 rest)
+    (all_read One reading next others status f.n mid new whole f.due w.0 w.1 rest)
 
--- a whole GET RESPONSE
-pub one_response : (old new : CardState) (k : ℕ) (p : Pair) → 1 ≤ k → k ≤ 256
-    → k ≤ length (waiting old.pending) → p.command ≡ asking get_response k
-    → Responds Does old p new → Reads old new p.content p.status
-one_response old new k p low high few due (inner, brings, goes) =
+-- as a whole command
+pub one_response : Reading (Responds Does)
+one_response k p old new low few due (inner, brings, goes) =
     let P : List ℕ → Type 0 = λ bs. Reads old new bs p.status in
     subst P (sym brings.gathered_is)
-    (all_read (first_place (tpdu_command p.command) (Bytes _)) inner p.status k old new
-    (brings_whole _ _ inner p.content p.status brings) (ap tpdu_command due) low high few goes)
+    (all_read (GoesAs Does) one_read (first_place (tpdu_command p.command) (Bytes _)) inner p.status
+    k old new (brings_whole _ _ inner p.content p.status brings) (ap tpdu_command due) low few
+    goes)
 
 pub none_announced : (rest : List ℕ)
     → fetched_after Everything (announcing rest 256) ≡ None → rest ≡ []
 none_announced [] e = refl
 none_announced (b ∷ rest) e = absurd (cc)
 
--- who wants everything ends where nothing waits
-pub none_waits : (old new : CardState) (content : List ℕ) (status : StatusWord) (at : Place)
-    → Reads old new content status → at.left ≡ Everything
-    → fetched_after (less at.left (length content)) status ≡ None → waiting new.pending ≡ []
-none_waits old new content status at r left e =
-    none_announced (waiting new.pending)
-    (ap (λ s. fetched_after Everything s) (sym r.status_is)
-    ∙ ap (λ w. fetched_after (less w (length content)) status) (sym left) ∙ e)
+-- who wants everything ends where nothing is announced
+pub ends_told : (at : Place) (pairs : List Pair) (status : StatusWord) → Whole at pairs status
+    → at.left ≡ Everything → fetched_after Everything status ≡ None
+ends_told at pairs status (at_end here p suits ends) left =
+    ap (λ w. fetched_after (less w (length p.content)) p.status) (sym left)
+    ∙ ends_without_fetch at (length p.content) p.status ends
+ends_told at pairs status (further here next p others last suits goes whole) left =
+    ends_told next others status whole (by (comes at next (length p.content) p.status goes))
+  where
+    still : less at.left (length p.content) ≡ Everything
+    still = ap (λ w. less w (length p.content)) left
 
--- GET RESPONSE and what is fetched after it, whole
-pub all_responses : (at : Place) (pairs : List Pair) (status : StatusWord) (k : ℕ)
-    (old new : CardState) → Whole at pairs status → at.due ≡ asking get_response k
-    → at.left ≡ Everything → 1 ≤ k → k ≤ 256 → k ≤ length (waiting old.pending)
-    → RespondsToAll Does old pairs new
-    → Reads old new (all_content pairs) status × (waiting new.pending ≡ [])
-all_responses at pairs status k old new (at_end here p suits ends) due left low high few
-    (mid, responds, stays) =
-    let Q : CardState → Type 0 = λ s. Reads old s p.content p.status in
-    let P : List ℕ → Type 0 = λ bs. Reads old new bs p.status in
-    let r : Reads old new p.content p.status = subst Q (sym stays)
-    (one_response old mid k p low high few (suits.is_due ∙ due) responds) in (
-      subst P (sym (append-nil p.content)) r,
-      none_waits old new p.content p.status at r left
-          (ends_without_fetch at (length p.content) p.status ends),
-    )
-all_responses at pairs status k old new (further here next p others last suits goes whole) due left
-    low high few (mid, responds, rest) =
-    let r = one_response old mid k p low high few (suits.is_due ∙ due) responds in
-    let f = goes_by_fetch at next (length p.content) p.status
-    (told_none old mid p.content p.status r)
-    goes in
-    let w = next_waits old mid p.content p.status (less at.left (length p.content)) f.n r f.told in
-    let (more, none) = all_responses next others status f.n mid new whole f.due
-    (f.left ∙ ap (λ x. less x (length p.content)) left) w.0 w.2 w.1 rest in
-    (both_read old mid new p.content (all_content others) p.status status r more, none)
+    by : Comes at (length p.content) p.status next → next.left ≡ Everything
+    by (again n may wants told is) = ap (λ (x : Place). x.left) is ∙ still
+    by (fetch n told some is) = ap (λ (x : Place). x.left) is ∙ still

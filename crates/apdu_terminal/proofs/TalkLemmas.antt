@@ -28,11 +28,11 @@ use Rattle.t0_core.specs.DialogueLaws.{flat_map_last}
 use Rattle.apdu_terminal.specs.declared.stage.Stage.{Stage}
 use Rattle.apdu_terminal.specs.declared.stage.Stage.TheVariants.{Done}
 use Rattle.apdu_terminal.specs.ApduSide.{ApduExchangeOf}
-use Rattle.apdu_terminal.specs.Apdus.{Pair, first_place, is_case_2, may_bring, correction, Goes, Ends, follow, follow_by, Suits, all_content, Brings, GathersApdus}
-use Rattle.apdu_terminal.specs.CardApdu.{p3_of, tpdu_command, GoesBy, RespondsToAll}
+use Rattle.apdu_terminal.specs.Apdus.{Pair, first_place, is_case_2, may_bring, correction, Goes, Ends, follow, follow_by, all_content, Brings, GathersApdus}
+use Rattle.apdu_terminal.specs.CardApdu.{p3_of, tpdu_command, InTurn, GoesAs, GoesBy, Responds, RespondsToAll}
 use Rattle.apdu_terminal.specs.ApduTalk.{AreApdusOf, IsApduTalkOf, talk_pairs, AreApduTalksOf, HasBrought}
 use Rattle.apdu_terminal.proofs.PlaceLemmas.{brings_whole}
-use Rattle.apdu_terminal.proofs.FirstLemmas.{whole_by, suits_of, select_is_answered, get_is_answered}
+use Rattle.apdu_terminal.proofs.FirstLemmas.{whole_by, select_is_answered, get_is_answered}
 
 -- a command without Le wants nothing, and nothing follows it
 none_wanted : (k : ℕ) (v : Option ℕ) → fetched_of (less (Bytes 0) k) v ≡ None
@@ -73,12 +73,11 @@ alone : (h : Header) (piece : List ℕ) (pairs : List Pair) (content : List ℕ)
     → (p : Pair) × IsAlone h piece pairs content status p
 alone h piece pairs content status brings =
     let at = first_place (link h piece) (Bytes 0) in
-    let (p, rest, are, by) = whole_by at pairs status
+    let (p, rest, are, suits, by) = whole_by at pairs status
     (brings_whole (link h piece) (Bytes 0) pairs content status brings) in
-    let suits : Suits at p = suits_of at p rest status by in
     let none : p.content ≡ [] = no_bytes p.content suits.asked_for in
     elim by [
-      | inl (over, is, suits_p, ends) ↦ (
+      | inl (over, is, ends) ↦ (
         p,
         record {
           pairs_are = are ∙ ap (λ ps. p ∷ ps) over;
@@ -89,7 +88,7 @@ alone h piece pairs content status brings =
           status_is = is;
         },
       )
-      | inr (next, suits_p, goes, whole) ↦
+      | inr (next, goes, whole) ↦
           let no : Ends ≡ Goes next =
           sym (ends_alone h piece (length p.content) p.status) ∙ goes in absurd (cc)
     ]
@@ -123,7 +122,7 @@ answered_by h piece pairs content status old new g goes =
     (subst C is.is_it brings) in
     let (q, alone_q) = alone h piece inner p.content p.status inside in
     let Q : List Pair → Type 0 = λ ps. GoesBy Does old ps mid in
-    let (t, next, of, does, last) = subst Q alone_q.pairs_are by in
+    let (next, (t, of, does), last) = subst Q alone_q.pairs_are by in
     let front = front_of t.sent piece
     (subst (λ (c : Command). (t.sent ≡ []) ⊎ (t.sent ≡ c.content)) alone_q.is_it
     of.all_or_none) in
@@ -143,12 +142,32 @@ answered_by h piece pairs content status old new g goes =
       is.none_gathered,
     )
 
-responds_apart : (old new : CardState) (xs ys : List Pair) → RespondsToAll Does old (xs ++ ys) new
-    → (mid : CardState) × RespondsToAll Does old xs mid × RespondsToAll Does mid ys new
-responds_apart old new [] ys goes = (old, refl, goes)
-responds_apart old new (x ∷ xs) ys (next, responds, others) =
-    let (mid, before, after) = responds_apart next new xs ys others in
-    (mid, (next, responds, before), after)
+-- ---- pairs in turn
+
+turns_apart : {State : Type 0} (One : State → Pair → State → Type 0) (old new : State)
+    (xs ys : List Pair) → InTurn One old (xs ++ ys) new
+    → (mid : State) × InTurn One old xs mid × InTurn One mid ys new
+turns_apart One old new [] ys goes = (old, refl, goes)
+turns_apart One old new (x ∷ xs) ys (next, is, others) =
+    let (mid, before, after) = turns_apart One next new xs ys others in
+    (mid, (next, is, before), after)
+
+pub turns_both : {State : Type 0} (One : State → Pair → State → Type 0) (old mid new : State)
+    (xs ys : List Pair) → InTurn One old xs mid → InTurn One mid ys new
+    → InTurn One old (xs ++ ys) new
+turns_both {State} One old mid new [] ys first second =
+    let P : State → Type 0 = λ s. InTurn One s ys new in subst P first second
+turns_both One old mid new (x ∷ xs) ys (next, is, rest) second =
+    (next, is, turns_both One next mid new xs ys rest second)
+
+turns_as : {State Other : Type 0} (One : State → Pair → State → Type 0)
+    (As : Other → Pair → Other → Type 0) (of : State → Other)
+    → ((old : State) (p : Pair) (new : State) → One old p new → As (of old) p (of new))
+    → (old new : State) (pairs : List Pair) → InTurn One old pairs new
+    → InTurn As (of old) pairs (of new)
+turns_as One As of each old new [] goes = ap of goes
+turns_as One As of each old new (p ∷ pairs) (mid, is, rest) =
+    (of mid, each old p mid is, turns_as One As of each mid new pairs rest)
 
 chain_ends : (h : Header) (pieces : List (List ℕ)) (exchanges : List (List Pair))
     (answer : Reply) (old new : CardState)
@@ -157,7 +176,8 @@ chain_ends : (h : Header) (pieces : List (List ℕ)) (exchanges : List (List Pai
     → EndsWith old (chain_commands h pieces) new answer.status × (answer.content ≡ [])
 chain_ends = chains_end GathersApdus (λ old pairs new. RespondsToAll Does old pairs new)
     (λ old exchanges new. RespondsToAll Does old (talk_pairs exchanges) new)
-    (λ old new pairs others goes. responds_apart old new pairs (talk_pairs others) goes)
+    (λ old new pairs others goes.
+    turns_apart (Responds Does) old new pairs (talk_pairs others) goes)
     (λ old new goes. goes) answered_by
 
 -- of one command there is one exchange
@@ -213,25 +233,18 @@ pub own_goes : {State : Type 0} (Own : State → ℕ → Tpdu → State → Type
     (state_of : State → CardState) (old new : State) (pairs : List Pair)
     → StandsFor Own reset state_of → GoesBy Own old pairs new
     → GoesBy Does (state_of old) pairs (state_of new)
-own_goes Own reset state_of old new [] means goes = ap state_of goes
-own_goes Own reset state_of old new (p ∷ pairs) means (t, mid, is, does, rest) = (
-  t,
-  state_of mid,
-  is,
-  means.steps old mid 256 t does,
-  own_goes Own reset state_of mid new pairs means rest,
-)
+own_goes Own reset state_of old new pairs means goes =
+    turns_as (GoesAs Own) (GoesAs Does) state_of
+    (λ was p now (t, is, does). (t, is, means.steps was now 256 t does)) old new pairs goes
 
 pub own_responds : {State : Type 0} (Own : State → ℕ → Tpdu → State → Type 0)
     (reset : State → State) (state_of : State → CardState) (old new : State) (pairs : List Pair)
     → StandsFor Own reset state_of → RespondsToAll Own old pairs new
     → RespondsToAll Does (state_of old) pairs (state_of new)
-own_responds Own reset state_of old new [] means goes = ap state_of goes
-own_responds Own reset state_of old new (p ∷ pairs) means (mid, (inner, brings, goes), rest) = (
-  state_of mid,
-  (inner, brings, own_goes Own reset state_of old mid inner means goes),
-  own_responds Own reset state_of mid new pairs means rest,
-)
+own_responds Own reset state_of old new pairs means goes =
+    turns_as (Responds Own) (Responds Does) state_of
+    (λ was p now (inner, brings, goes).
+    (inner, brings, own_goes Own reset state_of was now inner means goes)) old new pairs goes
 
 -- one more command at the front
 more_apdus : (c n : Command) (left : List Command) (pairs : List Pair) (brought : List ℕ)
@@ -240,14 +253,6 @@ more_apdus : (c n : Command) (left : List Command) (pairs : List Pair) (brought 
     → AreApdusOf (c ∷ n ∷ left) (pairs ∷ exchanges) answer
 more_apdus c n left pairs brought [] answer gathers are = absurd are
 more_apdus c n left pairs brought (next ∷ exchanges) answer gathers are = (brought, gathers, are)
-
-responds_both : {State : Type 0} (Own : State → ℕ → Tpdu → State → Type 0) (old mid new : State)
-    (xs ys : List Pair) → RespondsToAll Own old xs mid → RespondsToAll Own mid ys new
-    → RespondsToAll Own old (xs ++ ys) new
-responds_both {State} Own old mid new [] ys first second =
-    let P : State → Type 0 = λ s. RespondsToAll Own s ys new in subst P first second
-responds_both Own old mid new (x ∷ xs) ys (next, is, rest) second =
-    (next, is, responds_both Own next mid new xs ys rest second)
 
 -- ---- commands in turn
 
@@ -290,7 +295,7 @@ next_in_chain {State} Own from now later commands left all n ex after
           rest new answer (subst P (sym is) (
             pairs ∷ more.0,
             more_apdus c n left pairs ex.gather.bytes more.0 answer here more.1,
-            responds_both Own mid now new pairs (talk_pairs more.0) goes more.2,
+            turns_both (Responds Own) mid now new pairs (talk_pairs more.0) goes more.2,
           )),
     )
 
@@ -346,7 +351,7 @@ talks_are_single_steps old new [] [] [] idle are goes = (
 )
 talks_are_single_steps old new (o ∷ operations) (t ∷ talks) (r ∷ replies) idle (is, are) goes =
     let (mid, first, rest) =
-    responds_apart old new (talk_pairs t) (flat_map talk_pairs talks) goes in
+    turns_apart (Responds Does) old new (talk_pairs t) (flat_map talk_pairs talks) goes in
     let (after, answers, same, rests) = talk_is_one_step old mid o t r idle is first in
     let (all, idle_then) =
     talks_are_single_steps mid new operations talks replies rests are rest in (
@@ -371,23 +376,9 @@ one_more_comes Own from mid to done replies o r (talks, are, goes) (exchanges, i
   talks ++ exchanges ∷ [],
   talks_more GathersApdus done talks replies o exchanges r are is,
   subst (λ ps. RespondsToAll Own from ps to) (sym (flat_map_last talk_pairs talks exchanges))
-      (responds_both Own from mid to (flat_map talk_pairs talks) (talk_pairs exchanges) goes
+      (turns_both (Responds Own) from mid to (flat_map talk_pairs talks) (talk_pairs exchanges) goes
       then_so),
 )
-
--- they are single steps of any card of data objects
-pub own_steps : {State : Type 0} (Own : State → ℕ → Tpdu → State → Type 0)
-    (reset : State → State) (state_of : State → CardState) (from to : State)
-    (old new : CardState) (done : List Operation) (replies : List Reply)
-    → StandsFor Own reset state_of → state_of from ≡ old → state_of to ≡ new
-    → is_idle old.pending ≡ true → HaveCome Own from to done replies
-    → AnswersAll old done replies new × (is_idle new.pending ≡ true)
-own_steps Own reset state_of from to old new done replies means was now idle (talks, are, goes) =
-    let pairs = flat_map talk_pairs talks in
-    let P : CardState → Type 0 = λ s. RespondsToAll Does s pairs (state_of to) in
-    let Q : CardState → Type 0 = λ s. RespondsToAll Does old pairs s in
-    talks_are_single_steps old new done talks replies idle are
-    (subst Q now (subst P was (own_responds Own reset state_of from to pairs means goes)))
 
 -- it is so where nothing has changed
 pub still_replied : {State A : Type 0} (Own : State → ℕ → Tpdu → State → Type 0)
@@ -441,6 +432,7 @@ brought_is Own old new c ex answer (status, done, (pairs, gathers, goes)) told =
     let P : Reply → Type 0 = λ r. GathersApdus c pairs r.content r.status in
     (pairs, subst P (sym (told status done)) gathers, goes)
 
+-- operations that have come are single steps of any card of data objects
 pub steps_so_far : {State A : Type 0} (Own : State → ℕ → Tpdu → State → Type 0)
     (reset : State → State) (state_of : State → CardState) (from to : State)
     (old new : CardState) (ops : List (Op A)) (before : List Reply) (n : ℕ) (given : List Reply)
@@ -450,6 +442,11 @@ pub steps_so_far : {State A : Type 0} (Own : State → ℕ → Tpdu → State �
     → AnswersAll old (carried_out ops (new_answers before given)) (new_answers before given) new
     × (is_idle new.pending ≡ true)
 steps_so_far Own reset state_of from to old new ops before n given means was now idle have =
-    own_steps Own reset state_of from to old new (carried_out ops (new_answers before given))
-    (new_answers before given) means was now idle
-    (replies_come (λ done replies. HaveCome Own from to done replies) ops before n given have)
+    let replies = new_answers before given in
+    let (talks, are, goes) =
+    replies_come (λ done replies. HaveCome Own from to done replies) ops before n given have in
+    let pairs = flat_map talk_pairs talks in
+    let P : CardState → Type 0 = λ s. RespondsToAll Does s pairs (state_of to) in
+    let Q : CardState → Type 0 = λ s. RespondsToAll Does old pairs s in
+    talks_are_single_steps old new (carried_out ops replies) talks replies idle are
+    (subst Q now (subst P was (own_responds Own reset state_of from to pairs means goes)))

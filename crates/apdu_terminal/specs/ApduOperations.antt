@@ -1,13 +1,12 @@
 -- An operation at a terminal of whole commands that its caller drives: what is kept of it, which
 -- pairs led there, and what each call does.
-use Rattle.std.specs.Prelude.{◌≡◌, ◌≤◌, ◌⊎◌, ℕ, ◌+◌, List, [], ◌∷◌, ◌++◌, length, Option, Some, None, IfSome, IfErr, Result, MatchResult, Bool, true, false, if◌then◌else◌}
+use Rattle.std.specs.Prelude.{◌≡◌, ◌≤◌, ◌⊎◌, ℕ, List, [], ◌∷◌, ◌++◌, length, Option, Some, None, IfSome, IfErr, Result, MatchResult, Bool, true, false}
 use Rattle.std.specs.List.{AllByRecursion}
 use Rattle.apdu_core.specs.StatusWord.{StatusWord, ok}
 use Rattle.apdu_core.specs.CommandBytes.{Command}
 use Rattle.t0_core.specs.declared.answer_fault.AnswerFault.{AnswerFault}
 use Rattle.t0_core.specs.declared.answer_fault.AnswerFault.TheVariants.{NotDue, Stalled}
 use Rattle.t0_core.specs.HostAnswer.{fails_with}
-use Rattle.object_card.specs.OneStep.{Reply}
 use Rattle.card_terminal.specs.declared.terminal.begin_fault.BeginFault.{BeginFault}
 use Rattle.card_terminal.specs.declared.terminal.begin_fault.BeginFault.TheVariants.{OutOfMemory, UnderWay}
 use Rattle.card_terminal.specs.declared.unsent.Unsent.{Unsent}
@@ -16,7 +15,7 @@ use Rattle.card_terminal.specs.ExchangeSide.{response_limit}
 use Rattle.card_terminal.specs.TerminalSide.{AreLeft}
 use Rattle.apdu_terminal.specs.declared.stage.Stage.TheVariants.{Going, Done, Failed}
 use Rattle.apdu_terminal.specs.Apdus.{Pair, GathersApdus, all_content}
-use Rattle.apdu_terminal.specs.ApduSide.{ApduExchangeOf, ComesTo, HasFew, IsResponding, IsSound, answer_of, answered_by, due_of, is_going, response_fault}
+use Rattle.apdu_terminal.specs.ApduSide.{ApduExchangeOf, ComesTo, HasFew, IsSound, answer_of, answered_by, due_of, is_going, response_fault}
 use Rattle.apdu_terminal.specs.ApduTalk.{AreApdusOf, talk_pairs}
 
 -- The exchange of the operation's command that came last, and what is still to be put after its

@@ -38,12 +38,21 @@ pub record IsTpduOf (p : Pair) (t : Tpdu) : Type 0 where
   pub received_is : t.received ≡ p.content
   pub status_is : t.status ≡ p.status
 
--- the card goes from state to state, a TPDU for each pair; its 61XX announce up to 256 bytes
+-- from state to state, a pair at a time
+abbrev pub InTurn : {State : Type 0} → (State → Pair → State → Type 0) → State → List Pair → State
+    → Type 0
+InTurn One old [] new = new ≡ old
+InTurn {State = State} One old (p ∷ pairs) new =
+    (mid : State) × One old p mid × InTurn One mid pairs new
+
+-- the card goes by one TPDU, whose 61XX announces up to 256 bytes, or by one for each pair
+abbrev pub GoesAs : {State : Type 0} → (State → ℕ → Tpdu → State → Type 0) → State → Pair → State
+    → Type 0
+GoesAs Does old p new = (t : Tpdu) × IsTpduOf p t × Does old 256 t new
+
 abbrev pub GoesBy : {State : Type 0} → (State → ℕ → Tpdu → State → Type 0) → State → List Pair
     → State → Type 0
-GoesBy Does old [] new = new ≡ old
-GoesBy {State = State} Does old (p ∷ pairs) new = (t : Tpdu) × (mid : State) × IsTpduOf p t
-    × Does old 256 t mid × GoesBy Does mid pairs new
+GoesBy Does old pairs new = InTurn (GoesAs Does) old pairs new
 
 -- what is wanted of a card that carries out this command: Le bytes
 abbrev pub le_of : Command → Wanted
@@ -59,16 +68,18 @@ Responds Does old p new = (pairs : List Pair)
 -- whole commands in turn
 abbrev pub RespondsToAll : {State : Type 0} → (State → ℕ → Tpdu → State → Type 0) → State
     → List Pair → State → Type 0
-RespondsToAll Does old [] new = new ≡ old
-RespondsToAll {State = State} Does old (p ∷ pairs) new = (mid : State) × Responds Does old p mid
-    × RespondsToAll Does mid pairs new
+RespondsToAll Does old pairs new = InTurn (Responds Does) old pairs new
 
--- What a card's end has carried out of a whole command: the pairs that led there are the card's
--- TPDUs.
+-- what has been carried out of an exchange: the pairs that led there
+abbrev pub HasHad : {State : Type 0} → (State → Pair → State → Type 0) → Command → Wanted
+    → State → State → ApduExchangeOf → Type 0
+HasHad One c wanted old new ex =
+    (pairs : List Pair) × ComesTo c wanted pairs ex × InTurn One old pairs new
+
+-- of a whole command at a card's end, by TPDUs
 abbrev pub HasCome : {State : Type 0} → (State → ℕ → Tpdu → State → Type 0) → Command → State
     → State → ApduExchangeOf → Type 0
-HasCome Does c old new ex =
-    (pairs : List Pair) × ComesTo (tpdu_command c) (le_of c) pairs ex × GoesBy Does old pairs new
+HasCome Does c old new ex = HasHad (GoesAs Does) (tpdu_command c) (le_of c) old new ex
 
 -- How a card leaves a whole command that it does not answer. It did not carry out a TPDU of a
 -- command that is not agreed with it, and is reset after those before. Or a GET RESPONSE brought
@@ -93,9 +104,3 @@ IsLeft card c old (why.Tpdu fault) new =
     HasFailed card c (card.standing old.card) (why.Tpdu fault) (card.standing new.card)
 IsLeft card c old (why.Response fault) new =
     HasFailed card c (card.standing old.card) (why.Response fault) (card.standing new.card)
-
--- What a terminal has carried out of an exchange: the card has responded to all that led there.
-abbrev pub HasHad : {State : Type 0} → (State → ℕ → Tpdu → State → Type 0) → Command → Wanted
-    → State → State → ApduExchangeOf → Type 0
-HasHad Does c wanted old new ex =
-    (pairs : List Pair) × ComesTo c wanted pairs ex × RespondsToAll Does old pairs new

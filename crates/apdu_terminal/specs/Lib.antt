@@ -2,6 +2,4 @@ pub mod Apdus
 pub mod ApduSide
 pub mod CardApdu
 pub mod ApduTalk
-pub mod ResponseLaws
-pub mod SameExchange
 pub mod ApduOperations

@@ -41,6 +41,7 @@ pub fn apdu<'c, C: TpduCard, A: Allocator + Copy>(
           content = ex.gather.bytes;
           status = status;
         }) (C.standing end.new.card)) }
+    ensures within { IfOk result (λ ex. length ex.gather.bytes ≤ may_bring command.entry.le) }
     ensures left { IfErr result
         (λ f. IsLeft C.TpduCard command.entry end.old f end.new) }
     ensures rests { rests end.new.stage ≡ rests end.old.stage }
@@ -69,6 +70,7 @@ pub(crate) fn carry_out<'c, C: TpduCard, A: Allocator, B: Allocator>(
           content = ex.gather.bytes;
           status = status;
         }) (C.standing end.new.card)) }
+    ensures within { IfOk result (λ ex. length ex.gather.bytes ≤ may_bring command.entry.le) }
     ensures failed { IfErr result (λ f. HasFailed C.TpduCard command.entry
         (C.standing end.old.card) f (C.standing end.new.card)) }
     ensures rests { rests end.new.stage ≡ true }

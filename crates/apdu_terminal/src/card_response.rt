@@ -1,10 +1,11 @@
 //! Answers whole commands, as a card of data objects does.
-ghost use Rattle.std.specs.Prelude.{◌≡◌, ◌⊎◌, ◌≤◌, [], false, true, IfOk, IfErr};
+ghost use Rattle.std.specs.Prelude.{◌≡◌, ◌⊎◌, ◌≤◌, [], false, true, IfOk, IfErr, length};
 ghost use Rattle.apdu_core.specs.StatusWord.{StatusWord};
 ghost use Rattle.object_card.specs.Agreed.{IsAgreed};
 ghost use Rattle.object_card.specs.Instructions.{MayReceive, MaySend};
 ghost use Rattle.t0_core.specs.CardTpdu.{rests};
 ghost use Rattle.card_terminal.specs.ExchangeSide.{response_limit};
+ghost use Rattle.apdu_terminal.specs.Apdus.{may_bring};
 ghost use Rattle.apdu_terminal.specs.CardApdu.{Responds};
 ghost use Rattle.apdu_terminal.specs.declared.apdu_fault.ApduFault.TheVariants as ApduFault;
 ghost use Rattle.apdu_terminal.specs.declared.stage.Stage.TheVariants.{Done};
@@ -40,6 +41,7 @@ pub fn respond<'c, C: DataCard, A: Allocator + Copy>(
           content = ex.gather.bytes;
           status = status;
         }) (C.standing end.new.card)) }
+    ensures within { IfOk result (λ ex. length ex.gather.bytes ≤ may_bring command.entry.le) }
     ensures rests { rests end.new.stage ≡ rests end.old.stage }
     ensures fault { IfErr result (λ f. (end.new ≡ end.old)
         × (((f ≡ ApduFault.UnderWay) × (rests end.old.stage ≡ false))
@@ -74,6 +76,7 @@ pub(crate) fn answered<'c, C: DataCard, A: Allocator, B: Allocator>(
           content = result.gather.bytes;
           status = status;
         }) (C.standing end.new.card) }
+    ensures within { length result.gather.bytes ≤ may_bring command.entry.le }
     ensures rests { rests end.new.stage ≡ true }
     ensures room { result.gather.limit ≡ room.limit }
     ensures limit { gather.new.limit ≡ gather.old.limit }

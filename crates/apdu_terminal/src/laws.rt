@@ -6,11 +6,8 @@ ghost use Rattle.card_terminal.specs.declared.wanted.Wanted.{Wanted};
 ghost use Rattle.apdu_terminal.specs.declared.stage.Stage.TheVariants.{Done, Failed};
 ghost use Rattle.apdu_terminal.specs.Apdus.{Pair, Brings, StallsAt, IsTooLong, all_content};
 ghost use Rattle.apdu_terminal.specs.ApduSide.{ApduExchangeOf, ComesTo, due_of};
-ghost use Rattle.std.specs.List.{AllByRecursion, flat_map};
-ghost use Rattle.t0_core.specs.Dialogue.{IsDialogue};
-ghost use Rattle.card_terminal.specs.Gathered.{UnitOf, Gathers, dialogues_of, wanted_by};
-ghost use Rattle.apdu_terminal.specs.SameExchange.{ArePairsOf};
-ghost use Rattle.apdu_terminal.specs.CardApdu.{RespondsToAll, tpdu_command};
+ghost use Rattle.std.specs.List.{flat_map};
+ghost use Rattle.apdu_terminal.specs.CardApdu.{RespondsToAll};
 ghost use Rattle.apdu_terminal.specs.ApduTalk.{AreApduTalksOf, IsApduTalkOf, talk_pairs};
 ghost use Rattle.object_card.specs.State.{CardState, is_idle};
 ghost use Rattle.object_card.specs.OneStep.{Operation, Reply, Answers, AnswersAll, SameTables};
@@ -61,16 +58,6 @@ pub fn an_operation_by_whole_commands_is_one_step()
         → RespondsToAll Does old (talk_pairs exchanges) new →
         (after : CardState) × Answers old operation answer after × SameTables after new
         × (is_idle new.pending ≡ true) }
-{}
-
-/// An exchange of TPDUs is one of whole commands: it begins with the command without its Le in case
-/// 4, and wants the same.
-pub fn an_exchange_of_tpdus_is_one_of_commands()
-    ensures { (c : Command) (units : List UnitOf) (gathered : List ℕ) (status : StatusWord) →
-        Gathers c units gathered status →
-        AllByRecursion IsDialogue (flat_map dialogues_of units) →
-        (pairs : List Pair) × ArePairsOf (flat_map dialogues_of units) pairs
-        × Brings (tpdu_command c) (wanted_by c.le) pairs gathered status }
 {}
 
 /// A list of operations has the answers of the card that answers each in one step, and its tables.

@@ -1,7 +1,6 @@
 -- A whole command at a card, from what the call that responds says.
-use Rattle.std.proofs.Common.{◌≡◌, ℕ, ◌+◌, ◌≤◌, List, [], ◌∷◌, ◌++◌, length, drop, refl, sym, ◌∙◌, ap, subst, inr, arith, Bool, true, false, Option, Some, None}
-use Rattle.std.specs.Prelude.{nat_le, unwrap_or}
-use Rattle.std.proofs.lemmas.Bool.{leb-true, leb-false}
+use Rattle.std.proofs.Common.{◌≡◌, ℕ, ◌+◌, ◌≤◌, List, [], ◌∷◌, ◌++◌, length, drop, refl, sym, ◌∙◌, subst, inr, true, Option, Some, None}
+use Rattle.std.specs.Prelude.{unwrap_or}
 use Rattle.apdu_core.specs.StatusWord.{StatusWord}
 use Rattle.apdu_core.specs.CommandBytes.{Command}
 use Rattle.t0_core.specs.CardSide.{EndOf}
@@ -12,9 +11,8 @@ use Rattle.object_card.specs.CardView.{CardView}
 use Rattle.object_card.specs.Instructions.{MayReceive, MaySend}
 use Rattle.apdu_terminal.specs.declared.stage.Stage.{Stage}
 use Rattle.apdu_terminal.specs.declared.stage.Stage.TheVariants.{Done}
-use Rattle.apdu_terminal.specs.Apdus.{Pair, may_bring}
+use Rattle.apdu_terminal.specs.Apdus.{may_bring}
 use Rattle.apdu_terminal.specs.CardApdu.{Responds}
-use Rattle.apdu_terminal.specs.ResponseLaws.{has_at_most_le}
 use Rattle.card_c.specs.Codes.{gt_ok}
 use Rattle.card_c.specs.CardApduCalls.{IsResponse, RespondsToCommand, longest_response, wrong_length}
 
@@ -59,24 +57,6 @@ responds c end end' bytes stage status refuses answers done rest = record {
       (same_status s status (sym over ∙ done)) is;
   rests_again = rest;
 }
-
--- the response has room where the longest one has
-pub fits : (end end' : EndOf CardView) (p : Pair) (room : ℕ) → IsResponse end p end'
-    → longest_response p.command ≤ room → length p.content + 2 ≤ room
-fits end end' p room is enough = by (nat_le (length p.content + 2) room) refl
-  where
-    by : (v : Bool) → nat_le (length p.content + 2) room ≡ v → length p.content + 2 ≤ room
-    by true e = leb-true (length p.content + 2) room e
-    by false e =
-        let over = leb-false (length p.content + 2) room e in
-        let not_agreed : ¬ IsAgreed MayReceive MaySend p.command = λ agreed.
-        omega (
-          arith,
-          over,
-          enough,
-          has_at_most_le Does end.card.state end'.card.state p (is.responds agreed),
-        ) in
-        absurd (omega (arith, over, enough, ap length (is.refuses not_agreed).1))
 
 -- it goes out
 pub goes_out : (c : Command) (end end' : EndOf CardView) (status : StatusWord)

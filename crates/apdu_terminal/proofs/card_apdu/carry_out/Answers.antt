@@ -1,5 +1,5 @@
 use Rattle.std.proofs.Common.{refl}
-use Rattle.apdu_terminal.proofs.CardLemmas.{begins_so, finished, may_be_few}
+use Rattle.apdu_terminal.proofs.CardLemmas.{begins_so, finished, may_be_few, responds_within}
 use Rattle.apdu_terminal.proofs.card_apdu.carry_out.Goals as goal
 
 pub converse-requires-clause-come : goal.converse-requires-clause-come
@@ -20,3 +20,8 @@ returns-clause-responds g c =
     (begins_so g.C.TpduCard.Does _ c.args.command c.without_le-first.result _ c.le.result
     c.unwrap_or.result _ c.without_le-first.ensures c.le.ensures.value c.unwrap_or.ensures refl
     c.begin-exchange.ensures.led)) c.in_ok-converse.ensures.over
+
+pub returns-clause-within : goal.returns-clause-within
+returns-clause-within g c =
+    let (status, done, responds) = returns-clause-responds g c in
+    responds_within g.C.TpduCard.Does _ _ _ responds

@@ -1,7 +1,8 @@
 use Rattle.std.proofs.Common.{[], refl, sym, ap, ◌∙◌}
 use Rattle.t0_core.specs.Room.{Room}
 use Rattle.card_terminal.specs.Gathered.{wanted_by}
-use Rattle.apdu_terminal.proofs.CardLemmas.{begun_goes, due_agreed, is_taken_so, one_had, on_ok, over_then, when_ok}
+use Rattle.apdu_terminal.specs.CardApdu.{Responds}
+use Rattle.apdu_terminal.proofs.CardLemmas.{begun_goes, due_agreed, is_taken_so, one_had, on_ok, over_then, response_is, when_ok}
 use Rattle.apdu_terminal.proofs.transmission.go_through.Goals as goal
 
 pub talk-init : goal.talk-init
@@ -33,10 +34,12 @@ unwrap-requires g c =
     let m = g.met.C.DataCard.means in
     let (command, agreed, begun) = c.requires.begun in
     is_taken_so card.Does card.after_reset m.0 command (wanted_by command.le) _ _ _ _
-    c.talk.exchange c.responded.new.self c.answered-response.result _ _ c.in-Some.due
+    c.talk.exchange c.responded.new.self _ _ c.in-Some.due
     c.responded.result m.2 (m.1 c.args.end.now.card) c.talk.invariant.sound
+    (sym c.in-Some.ensures)
+    (response_is card.Does _ _ c.talk.exchange c.answered-response.result _ _ c.in-Some.due
     (sym c.in-Some.ensures) c.answered-response.ensures.responds
-    ((c.status.ensures c.in-Some-status.status).0 c.in-Some-status.is) c.data.ensures
+    ((c.status.ensures c.in-Some-status.status).0 c.in-Some-status.is) c.data.ensures)
     c.talk.invariant.limit c.responded.ensures.limit c.responded.ensures.fault
     c.responded.ensures.failed
     (λ pairs led. c.responded.ensures.led command (wanted_by command.le) pairs led)
@@ -55,10 +58,11 @@ talk-preserved g c =
       gather = c.answered-response.ensures.limit ∙ c.talk.invariant.gather;
       sound = c.talk.invariant.sound;
       had = λ command agreed begun.
-          one_had card.Does command (wanted_by command.le) _ _ _ c.talk.exchange
-          c.responded.new.self c.answered-response.result _ _ c.in-Some.due
+          one_had (Responds card.Does) command (wanted_by command.le) _ _ _ c.talk.exchange
+          c.responded.new.self _
+          (response_is card.Does _ _ c.talk.exchange c.answered-response.result _ _ c.in-Some.due
           (sym c.in-Some.ensures) c.answered-response.ensures.responds
-          ((c.status.ensures c.in-Some-status.status).0 c.in-Some-status.is) c.data.ensures
+          ((c.status.ensures c.in-Some-status.status).0 c.in-Some-status.is) c.data.ensures)
           (λ pairs led. when_ok c.responded.result c.unwrap.result _ _ c.unwrap.ensures
           (c.responded.ensures.led command (wanted_by command.le) pairs led))
           (c.talk.invariant.had command agreed begun);

@@ -6,7 +6,7 @@ use Rattle.object_card.specs.State.{IsCardState}
 use Rattle.card_terminal.specs.ExchangeSide.{response_limit}
 use Rattle.card_terminal.specs.Gathered.{wanted_by}
 use Rattle.apdu_terminal.specs.ApduSide.{ComesTo, has_failed, to_go}
-use Rattle.apdu_terminal.specs.CardApdu.{HasHad}
+use Rattle.apdu_terminal.specs.CardApdu.{HasHad, Responds}
 use Rattle.apdu_terminal.proofs.transmission.go_through.Given as goal
 
 -- What led to the exchange leads to it still, by responses of the card, which was sound.
@@ -22,7 +22,7 @@ invariant-talk g l =
       sound : IsCardState (g.C.DataCard.state l.fn.end.card);
       had : (c : Command) → IsAgreed card.MayReceive card.MaySend c
           → ComesTo c (wanted_by c.le) [] l.fn.exchange
-          → HasHad card.Does c (wanted_by c.le) (card.standing l.fn.end.card)
+          → HasHad (Responds card.Does) c (wanted_by c.le) (card.standing l.fn.end.card)
           (card.standing l.end.card) l.exchange;
     }
 

@@ -2,7 +2,7 @@ use Rattle.std.proofs.Common.{◌≡◌, ℕ, ◌≤◌, length, Option, refl, �
 use Rattle.std.specs.Prelude.{unwrap_or}
 use Rattle.apdu_terminal.specs.Apdus.{may_bring}
 use Rattle.card_c.specs.CardApduCalls.{longest_response}
-use Rattle.card_c.proofs.CardApduLemmas.{fits, goes_out, is_over, responds, unwrapped}
+use Rattle.card_c.proofs.CardApduLemmas.{goes_out, is_over, responds, unwrapped}
 use Rattle.card_c.proofs.card_apdu.carry_out.Goals as goal
 
 pub unreachable-requires : goal.unreachable-requires
@@ -13,19 +13,14 @@ unreachable-requires c =
 
 pub hand_out-requires : goal.hand_out-requires
 hand_out-requires c =
-    let status = c.in-Some.status in let bytes = c.in-Ok.exchange.gather.bytes in
     let le_is : c.unwrap_or.result ≡ may_bring c.args.command.le = c.unwrap_or.ensures
     ∙ ap (λ (o : Option ℕ). unwrap_or o 0) c.le.ensures.value ∙ unwrapped c.args.command.le in
-    let enough : longest_response c.args.command ≤ length c.args.response.now =
-    omega (arith, c.if-response-le.false, c.from-le.ensures, le_is) in
-    let is = responds c.args.command c.args.end.now c.respond.new.end bytes c.in-Ok.exchange.stage
-    status c.in-Ok.ensures.refuses c.in-Ok.ensures.responds
-    ((c.status.ensures status).0 c.in-Some.is) (c.in-Ok.ensures.rests ∙ c.requires) in
     omega (
       arith,
-      fits c.args.end.now c.respond.new.end
-          (record { command = c.args.command; content = bytes; status = status })
-          (length c.args.response.now) is enough,
+      c.if-response-le.false,
+      c.from-le.ensures,
+      le_is,
+      c.in-Ok.ensures.within,
       ap length c.data.ensures,
     )
 

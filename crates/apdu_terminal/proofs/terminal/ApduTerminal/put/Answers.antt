@@ -1,6 +1,7 @@
 use Rattle.std.proofs.Common.{sym, ◌∙◌, ap, length, drop}
 use Rattle.card_terminal.specs.PieceLaws.{at_front}
-use Rattle.apdu_terminal.proofs.OperationLemmas.{put_begins, some_command, is_within}
+use Rattle.card_terminal.specs.TalkLaws.{some_command}
+use Rattle.apdu_terminal.proofs.OperationLemmas.{put_begins, is_within}
 use Rattle.apdu_terminal.proofs.terminal.ApduTerminal.put.Goals as goal
 
 pub unreachable-requires : goal.unreachable-requires

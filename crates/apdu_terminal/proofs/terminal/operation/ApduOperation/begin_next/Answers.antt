@@ -1,6 +1,7 @@
 use Rattle.std.proofs.Common.{ap, length}
 use Rattle.card_terminal.specs.PieceLaws.{next_front}
-use Rattle.apdu_terminal.proofs.OperationLemmas.{part_of, next_begins, some_command}
+use Rattle.card_terminal.specs.TalkLaws.{some_command}
+use Rattle.apdu_terminal.proofs.OperationLemmas.{part_of, next_begins}
 use Rattle.apdu_terminal.proofs.terminal.operation.ApduOperation.begin_next.Goals as goal
 
 pub unreachable-requires : goal.unreachable-requires

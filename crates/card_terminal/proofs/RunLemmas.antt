@@ -1,5 +1,5 @@
 -- Operations with a card of data objects: no line fault comes, and talks come one after another.
-use Rattle.std.proofs.Common.{IfOk, Result, Ok, Err, IsOk, MatchResult, ◌≡◌, ◌≢◌, ℕ, ◌+◌, ◌-◌, ◌<◌, ◌≤◌, List, [], ◌∷◌, ◌++◌, length, take, drop, ◌⊎◌, inl, inr, refl, sym, ap, subst, ◌∙◌, arith, Option, Some, None, IfSome, Bool, true, false, ◌==◌, if◌then◌else◌, length-append}
+use Rattle.std.proofs.Common.{IfOk, OnErr, Result, Ok, Err, IsOk, MatchResult, ◌≡◌, ◌≢◌, ℕ, ◌+◌, ◌-◌, ◌<◌, ◌≤◌, List, [], ◌∷◌, ◌++◌, length, take, drop, ◌⊎◌, inl, inr, refl, sym, ap, subst, ◌∙◌, arith, Option, Some, None, IfSome, Bool, true, false, ◌==◌, if◌then◌else◌, length-append, append-nil}
 use Rattle.std.specs.List.{flat_map}
 use Rattle.apdu_core.specs.StatusWord.{StatusWord, count, ok}
 use Rattle.apdu_core.specs.CommandBytes.{Command}
@@ -35,9 +35,10 @@ use Rattle.card_terminal.specs.RunLaws.{HaveReplies, no_replies, one_more_reply,
 use Rattle.card_terminal.proofs.FetchLemmas.{Goes, goes_by_runs, goes_sound}
 use Rattle.card_terminal.proofs.ComesToLemmas.{over_turn}
 use Rattle.card_terminal.proofs.SessionLemmas.{some_is}
-use Rattle.card_terminal.proofs.GoneLemmas.{cuts_both, gone_both}
+use Rattle.card_terminal.proofs.GoneLemmas.{gone_both}
 use Rattle.card_terminal.proofs.BoundLemmas.{so_far_brings, never_stalls}
 use Rattle.card_terminal.proofs.TalkLemmas.{own_talk_answers}
+use Rattle.card_terminal.specs.TalkLaws.{all_alike}
 use Rattle.card_terminal.proofs.TalkListLemmas.{runs_stand, taken_more, taken_to_end, one_more_exchange, talk_more}
 
 -- ---- the plans that are used, and no others
@@ -226,76 +227,6 @@ stays_sound Own own_reset state_of stands from to ds sound gone =
     (own_goes Own own_reset state_of stands from.standing to.standing ds from.plans gone.runs
     gone.cuts)
 
--- ---- one after another
-
--- Operations that have been carried out: their talk, whose plans have cuts of 1 to 256, is heard.
-pub record HaveCome {State : Type 0} (Does : State → ℕ → Tpdu → State → Type 0)
-    (from : Point State) (operations : List Operation) (replies : List Reply) (to : Point State)
-    : Type 0 where
-  pub line : List Character
-  pub talk : Talk Does from.standing from.plans operations replies to.standing to.plans line
-  pub cuts : HaveCuts (take (length talk.dialogues) from.plans)
-  pub hears : Hears from.hearing line to.hearing
-
-none_come : {State : Type 0} (Does : State → ℕ → Tpdu → State → Type 0) (at : Point State)
-    → HaveCome Does at [] [] at
-none_come Does at = record {
-  line = [];
-  talk = record {
-    dialogues = [];
-    talks = [];
-    are_dialogues = tt;
-    line_is = refl;
-    follow = tt;
-    runs = refl;
-    left_is = refl;
-    dialogues_are = refl;
-    are_talks = tt;
-  };
-  cuts = tt;
-  hears = hears_nothing at.hearing;
-}
-
--- and one more
-one_more_comes : {State : Type 0} (Does : State → ℕ → Tpdu → State → Type 0)
-    (from mid to : Point State) (operations : List Operation) (replies : List Reply)
-    (o : Operation) (exchanges : List (List UnitOf)) (r : Reply)
-    → HaveCome Does from operations replies mid → IsTalkOf o exchanges r
-    → HaveGone Does mid (talk_dialogues exchanges) to
-    → HaveCome Does from (operations ++ o ∷ []) (replies ++ r ∷ []) to
-unfolding talk_more
-one_more_comes Does from mid to operations replies o exchanges r come talk gone =
-    let ds = talk_dialogues exchanges in
-    let plans = from.plans in
-    let n = length come.talk.dialogues in
-    record {
-      line = come.line ++ flat_map characters ds;
-      talk = talk_more Does from.standing mid.standing to.standing plans mid.plans to.plans
-          operations replies come.line (flat_map characters ds) o exchanges r come.talk talk
-          gone.are_dialogues gone.follow gone.runs gone.used refl;
-      cuts = subst (λ k. HaveCuts (take k plans)) (sym (length-append come.talk.dialogues ds))
-          (cuts_both n (length ds) plans come.cuts
-          (subst (λ p. HaveCuts (take (length ds) p)) come.talk.left_is gone.cuts));
-      hears = hears_more from.hearing mid.hearing to.hearing come.line (flat_map characters ds)
-          come.hears gone.hears;
-    }
-
--- their answers are those of the card that answers each in one step
-have_answers : {State : Type 0} (Own : State → ℕ → Tpdu → State → Type 0)
-    (own_reset : State → State) (state_of : State → CardState)
-    → StandsFor Own own_reset state_of → (from to : Point State) (old new : CardState)
-    → state_of from.standing ≡ old → state_of to.standing ≡ new
-    → (operations : List Operation) (replies : List Reply) → IsCardState old
-    → is_idle old.pending ≡ true → HaveCome Own from operations replies to
-    → AnswersAll old operations replies new × (is_idle new.pending ≡ true) × IsCardState new
-have_answers Own own_reset state_of stands from to old new was is operations replies sound idle
-    come =
-    own_talk_answers Own own_reset state_of stands from.standing to.standing old new was is
-    (take (length come.talk.dialogues) from.plans) [] operations replies come.line sound idle
-    come.cuts
-    (talk_used Own from.standing to.standing from.plans to.plans operations replies come.line
-    come.talk)
-
 -- ---- the commands of an operation
 
 -- The exchange of a command is over, and those of the commands before it, each answered 9000.
@@ -477,30 +408,117 @@ pub talked_as : {State E : Type 0} (Does : State → ℕ → Tpdu → State → 
     → IfOk r (Talked Does from to a) → IfOk r (Talked Does from to b)
 talked_as Does from to a b r is talk = subst (λ o. IfOk r (Talked Does from to o)) is talk
 
+-- ---- one operation
+
+unfoldable one_talk : {State : Type 0} (Does : State → ℕ → Tpdu → State → Type 0)
+    (from to : Point State) (o : Operation) (r : Reply) (talked : Talked Does from to o r)
+    → Talk Does from.standing from.plans (o ∷ []) (r ∷ []) to.standing to.plans
+    (flat_map characters (talk_dialogues talked.0))
+one_talk Does from to o r (exchanges, talk, gone) = record {
+  dialogues = talk_dialogues exchanges;
+  talks = exchanges ∷ [];
+  are_dialogues = gone.are_dialogues;
+  line_is = refl;
+  follow = gone.follow;
+  runs = gone.runs;
+  left_is = gone.used;
+  dialogues_are = sym (append-nil (talk_dialogues exchanges));
+  are_talks = (talk, tt);
+}
+
+-- the talk of operations is heard, from one point to another
+abbrev pub IsHeard : {State : Type 0} → (State → ℕ → Tpdu → State → Type 0) → Point State
+    → List Operation → List Reply → Point State → Type 0
+IsHeard Does from operations replies to = (line : List Character)
+    × Talk Does from.standing from.plans operations replies to.standing to.plans line
+    × Hears from.hearing line to.hearing
+
+pub is_heard : {State E : Type 0} (Does : State → ℕ → Tpdu → State → Type 0)
+    (from to : Point State) (o : Operation) (r : Result Reply E)
+    → IfOk r (Talked Does from to o) → IfOk r (λ answer. IsHeard Does from (o ∷ []) (answer ∷ []) to)
+is_heard Does from to o (Ok answer) talked = (
+  flat_map characters (talk_dialogues talked.0),
+  one_talk Does from to o answer talked,
+  talked.2.hears,
+)
+is_heard Does from to o (Err e) talked = tt
+
+-- the answer is that of the card that answers in one step
+pub in_one_step : {State E : Type 0} (Own : State → ℕ → Tpdu → State → Type 0)
+    (own_reset : State → State) (state_of : State → CardState)
+    → StandsFor Own own_reset state_of → (from to : Point State) (old new : CardState)
+    → state_of from.standing ≡ old → state_of to.standing ≡ new → (o : Operation)
+    (r : Result Reply E) → IsCardState old → is_idle old.pending ≡ true
+    → IfOk r (Talked Own from to o)
+    → IfOk r (λ answer. AnswersAll old (o ∷ []) (answer ∷ []) new × (is_idle new.pending ≡ true))
+unfolding one_talk
+in_one_step Own own_reset state_of stands from to old new was is o (Ok answer) sound idle talked =
+    let ds = talk_dialogues talked.0 in
+    let line = flat_map characters ds in
+    let all = own_talk_answers Own own_reset state_of stands from.standing to.standing old new was
+    is (take (length ds) from.plans) [] (o ∷ []) (answer ∷ []) line sound idle talked.2.cuts
+    (talk_used Own from.standing to.standing from.plans to.plans (o ∷ []) (answer ∷ []) line
+    (one_talk Own from to o answer talked)) in (all.0, all.1)
+in_one_step Own own_reset state_of stands from to old new was is o (Err e) sound idle talked = tt
+
+-- what holds either way
+pub on_both : {T E : Type 0} (r : Result T E) (P : T → Type 0) (Q R : Type 0)
+    → IfOk r (λ x. P x × R) → OnErr r Q → (Q → R) → R
+on_both (Ok x) P Q R both err f = both.1
+on_both (Err e) P Q R both err f = f err
+
+pub first_of_both : {T E : Type 0} (r : Result T E) (P Q : T → Type 0)
+    → IfOk r (λ x. P x × Q x) → IfOk r P
+first_of_both (Ok x) P Q both = both.0
+first_of_both (Err e) P Q both = tt
+
 -- ---- operations in turn
 
--- The first of the operations are carried out, so many as there are new answers: their talk is
--- heard.
+-- Operations have come: their talk is heard, and the card has answered each in one step.
+abbrev pub HaveCome : {State : Type 0} → (State → ℕ → Tpdu → State → Type 0) → Point State
+    → CardState → Point State → CardState → List Operation → List Reply → Type 0
+HaveCome Does from old to new operations replies =
+    IsHeard Does from operations replies to × AnswersAll old operations replies new
+
+-- The first of the operations are carried out, so many as there are new answers.
 abbrev pub HaveAnswers : {State A : Type 0} → (State → ℕ → Tpdu → State → Type 0) → Point State
-    → List (Op A) → List Reply → ℕ → List Reply → Point State → Type 0
-HaveAnswers Does from ops before n given to =
-    HaveReplies (λ done replies. HaveCome Does from done replies to) ops before n given
+    → CardState → List (Op A) → List Reply → ℕ → List Reply → Point State → CardState → Type 0
+HaveAnswers Does from old ops before n given to new =
+    HaveReplies (HaveCome Does from old to new) ops before n given
 
 pub none_answered : {State A : Type 0} (Does : State → ℕ → Tpdu → State → Type 0)
-    (at : Point State) (ops : List (Op A)) (before : List Reply)
-    → HaveAnswers Does at ops before 0 before at
-none_answered Does at ops before =
-    no_replies (λ done replies. HaveCome Does at done replies at) ops before (none_come Does at)
+    (at : Point State) (old : CardState) (ops : List (Op A)) (before : List Reply)
+    → HaveAnswers Does at old ops before 0 before at old
+none_answered Does at old ops before = no_replies (HaveCome Does at old at old) ops before (
+  (
+    [],
+    record {
+      dialogues = [];
+      talks = [];
+      are_dialogues = tt;
+      line_is = refl;
+      follow = tt;
+      runs = refl;
+      left_is = refl;
+      dialogues_are = refl;
+      are_talks = tt;
+    },
+    hears_nothing at.hearing,
+  ),
+  (refl, refl),
+)
 
 -- it is so where nothing has changed
 pub still_answered : {State A : Type 0} (Does : State → ℕ → Tpdu → State → Type 0)
-    (from : Point State) (ops : List (Op A)) (before : List Reply) (n : ℕ)
-    (given given' : List Reply) (to to' : Point State)
-    → HaveAnswers Does from ops before n given to → given' ≡ given → to' ≡ to
-    → HaveAnswers Does from ops before n given' to'
-still_answered Does from ops before n given given' to to' have same_given same_point =
-    subst (λ x. HaveAnswers Does from ops before n x to') (sym same_given)
-    (subst (λ p. HaveAnswers Does from ops before n given p) (sym same_point) have)
+    (from : Point State) (old : CardState) (ops : List (Op A)) (before : List Reply) (n : ℕ)
+    (given given' : List Reply) (to to' : Point State) (new new' : CardState)
+    → HaveAnswers Does from old ops before n given to new → given' ≡ given → to' ≡ to
+    → new' ≡ new → HaveAnswers Does from old ops before n given' to' new'
+still_answered Does from old ops before n given given' to to' new new' have same_given same_point
+    same =
+    subst (λ x. HaveAnswers Does from old ops before n x to' new') (sym same_given)
+    (subst (λ p. HaveAnswers Does from old ops before n given p new') (sym same_point)
+    (subst (λ s. HaveAnswers Does from old ops before n given to s) (sym same) have))
 
 pub same_point : {State : Type 0} (standing standing' : State) (cursor cursor' : Cursor)
     (now now' : Hearing) → standing' ≡ standing → cursor' ≡ cursor → now' ≡ now
@@ -510,40 +528,48 @@ same_point standing standing' cursor cursor' now now' same_standing same_cursor 
     ∙ ap (λ (k : Cursor). point standing k.rest now') same_cursor
     ∙ ap (λ h. point standing cursor.rest h) same_now
 
+-- one more answer in one step
+answers_more : (old mid new : CardState) (operations : List Operation) (replies : List Reply)
+    (o : Operation) (r : Reply) → AnswersAll old operations replies mid
+    → AnswersAll mid (o ∷ []) (r ∷ []) new
+    → AnswersAll old (operations ++ o ∷ []) (replies ++ r ∷ []) new
+answers_more old mid new [] [] o r same next =
+    all_alike (o ∷ []) (r ∷ []) mid old new (sym same.0, sym same.1) next
+answers_more old mid new [] (q ∷ replies) o r answers next = absurd answers
+answers_more old mid new (p ∷ operations) [] o r answers next = absurd answers
+answers_more old mid new (p ∷ operations) (q ∷ replies) o r (state, first, others) next =
+    (state, first, answers_more state mid new operations replies o r others next)
+
 -- one more is carried out
 pub one_more_answered : {State A : Type 0} (Does : State → ℕ → Tpdu → State → Type 0)
-    (from mid to : Point State) (ops : List (Op A)) (before : List Reply) (n : ℕ)
-    (given given' : List Reply) (op : Op A) (r : Reply)
-    → HaveAnswers Does from ops before n given mid → n < length ops
+    (from mid to : Point State) (old now new : CardState) (ops : List (Op A))
+    (before : List Reply) (n : ℕ) (given given' : List Reply) (op : Op A) (r : Reply)
+    → HaveAnswers Does from old ops before n given mid now → n < length ops
     → drop n ops ≡ op ∷ drop (n + 1) ops → given' ≡ given ++ r ∷ []
-    → Talked Does mid to (operation_of op) r → HaveAnswers Does from ops before (n + 1) given' to
-one_more_answered Does from mid to ops before n given given' op r have lt next given_is talked =
-    one_more_reply (λ done replies. HaveCome Does from done replies mid)
-    (λ done replies. HaveCome Does from done replies to) ops before n given given' op r have lt next
-    given_is
-    (λ done replies come. one_more_comes Does from mid to done replies (operation_of op) talked.0 r
-    come talked.1 talked.2)
+    → IsHeard Does mid (operation_of op ∷ []) (r ∷ []) to
+    → AnswersAll now (operation_of op ∷ []) (r ∷ []) new
+    → HaveAnswers Does from old ops before (n + 1) given' to new
+one_more_answered Does from mid to old now new ops before n given given' op r have lt next given_is
+    heard answers =
+    let o = operation_of op in
+    one_more_reply (HaveCome Does from old mid now) (HaveCome Does from old to new) ops before n
+    given given' op r have lt next given_is
+    (λ done replies come. (
+      (
+        come.0.0 ++ heard.0,
+        talk_more Does from.standing mid.standing to.standing from.plans mid.plans to.plans done
+            replies come.0.0 heard.0 o r come.0.1 heard.1,
+        hears_more from.hearing mid.hearing to.hearing come.0.0 heard.0 come.0.2 heard.2,
+      ),
+      answers_more old now new done replies o r come.1 answers,
+    ))
 
-pub has_one_step : {State A : Type 0} (Own : State → ℕ → Tpdu → State → Type 0)
-    (own_reset : State → State) (state_of : State → CardState)
-    → StandsFor Own own_reset state_of → (from to : Point State) (old new : CardState)
-    → state_of from.standing ≡ old → state_of to.standing ≡ new → (ops : List (Op A))
-    (before : List Reply) (n : ℕ) (given : List Reply) → IsCardState old
-    → is_idle old.pending ≡ true → HaveAnswers Own from ops before n given to
-    → AnswersAll old (carried_out ops (new_answers before given)) (new_answers before given) new
-    × (is_idle new.pending ≡ true) × IsCardState new
-has_one_step Own own_reset state_of stands from to old new was is ops before n given sound idle
-    have =
-    have_answers Own own_reset state_of stands from to old new was is
-    (carried_out ops (new_answers before given)) (new_answers before given) sound idle
-    (replies_come (λ done replies. HaveCome Own from done replies to) ops before n given have)
-
-pub has_talk : {State A : Type 0} (Does : State → ℕ → Tpdu → State → Type 0)
-    (from to : Point State) (ops : List (Op A)) (before : List Reply) (n : ℕ)
-    (given : List Reply) → HaveAnswers Does from ops before n given to
-    → (line : List Character)
-    × Talk Does from.standing from.plans (carried_out ops (new_answers before given))
-    (new_answers before given) to.standing to.plans line × Hears from.hearing line to.hearing
-has_talk Does from to ops before n given have =
-    let come = replies_come (λ done replies. HaveCome Does from done replies to) ops before n given
-    have in (come.line, come.talk, come.hears)
+-- what has come of the operations, by the answers that are new
+pub have_come : {State A : Type 0} (Does : State → ℕ → Tpdu → State → Type 0)
+    (from : Point State) (old : CardState) (ops : List (Op A)) (before : List Reply) (n : ℕ)
+    (given : List Reply) (to : Point State) (new : CardState)
+    → HaveAnswers Does from old ops before n given to new
+    → HaveCome Does from old to new (carried_out ops (new_answers before given))
+    (new_answers before given)
+have_come Does from old ops before n given to new have =
+    replies_come (HaveCome Does from old to new) ops before n given have

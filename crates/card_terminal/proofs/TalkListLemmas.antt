@@ -17,7 +17,7 @@ use Rattle.object_card.specs.DataCard.{StandsFor}
 use Rattle.object_card.specs.OneStep.{Operation, Reply}
 use Rattle.card_terminal.specs.Gathered.{UnitOf, Gathers, dialogues_of}
 use Rattle.card_terminal.specs.TalkLaws.{talks_more}
-use Rattle.card_terminal.specs.Talk.{AreTakenUpTo, AreExchangesOf, IsTalkOf, Talk, talk_dialogues}
+use Rattle.card_terminal.specs.Talk.{AreTakenUpTo, AreExchangesOf, AreTalksOf, IsTalkOf, Talk, talk_dialogues}
 
 -- no plan is left of none
 no_plans : (xs ys : List Dialogue)
@@ -99,38 +99,44 @@ pub one_more_exchange : (exchanges : List (List UnitOf)) (units : List UnitOf)
     units
 one_more_exchange exchanges units = flat_map_last (λ us. flat_map dialogues_of us) exchanges units
 
--- A talk, and one operation more under the plans that are left.
-unfoldable pub talk_more : {State : Type 0} (Does : State → ℕ → Tpdu → State → Type 0)
-    (first mid last : State)
-    (plans left rest : List Course)
-    (operations : List Operation) (replies : List Reply) (line more : List Character)
-    (o : Operation) (exchanges : List (List UnitOf)) (r : Reply)
-    → Talk Does first plans operations replies mid left line → IsTalkOf o exchanges r
-    → AllByRecursion IsDialogue (talk_dialogues exchanges)
-    → FollowInTurn (talk_dialogues exchanges) left
-    → Runs Does mid (talk_dialogues exchanges) left last
-    → rest ≡ drop (length (talk_dialogues exchanges)) left
-    → more ≡ flat_map characters (talk_dialogues exchanges)
+-- the exchanges of the one operation of a talk
+one_talk : (o : Operation) (talks : List (List (List UnitOf))) (r : Reply)
+    → AreTalksOf (o ∷ []) talks (r ∷ [])
+    → (exchanges : List (List UnitOf)) × (talks ≡ exchanges ∷ []) × IsTalkOf o exchanges r
+one_talk o [] r are = absurd are
+one_talk o (t ∷ []) r are = (t, refl, are.0)
+one_talk o (t ∷ u ∷ talks) r are = absurd are.1
+
+-- A talk, and that of one operation more under the plans that are left.
+pub talk_more : {State : Type 0} (Does : State → ℕ → Tpdu → State → Type 0)
+    (first mid last : State) (plans left rest : List Course) (operations : List Operation)
+    (replies : List Reply) (line more : List Character) (o : Operation) (r : Reply)
+    → Talk Does first plans operations replies mid left line
+    → Talk Does mid left (o ∷ []) (r ∷ []) last rest more
     → Talk Does first plans (operations ++ o ∷ []) (replies ++ r ∷ []) last rest (line ++ more)
-talk_more Does first mid last plans left rest operations replies line more o exchanges r talk one
-    are_dialogues follow runs rest_is more_is = record {
-      dialogues = talk.dialogues ++ talk_dialogues exchanges;
-      talks = talk.talks ++ exchanges ∷ [];
-      are_dialogues = all_both IsDialogue talk.dialogues
-          (talk_dialogues exchanges) talk.are_dialogues
-          are_dialogues;
+talk_more Does first mid last plans left rest operations replies line more o r talk next =
+    let xs = talk.dialogues in
+    let ys = next.dialogues in
+    let (exchanges, alone, one) = one_talk o next.talks r next.are_talks in record {
+      dialogues = xs ++ ys;
+      talks = talk.talks ++ next.talks;
+      are_dialogues = all_both IsDialogue xs ys talk.are_dialogues next.are_dialogues;
       line_is = ap (λ l. l ++ more) talk.line_is
-          ∙ ap (λ l. flat_map characters talk.dialogues ++ l) more_is
-          ∙ sym (flat_map-append characters talk.dialogues (talk_dialogues exchanges));
-      follow = follow_both talk.dialogues (talk_dialogues exchanges) plans talk.follow
-          (subst (λ p. FollowInTurn (talk_dialogues exchanges) p) talk.left_is follow);
-      runs = runs_both Does first mid last talk.dialogues (talk_dialogues exchanges) plans talk.runs
-          (subst (λ p. Runs Does mid (talk_dialogues exchanges) p last) talk.left_is runs);
-      left_is = rest_is ∙ ap (λ p. drop (length (talk_dialogues exchanges)) p) talk.left_is
-          ∙ sym (left_after_both talk.dialogues (talk_dialogues exchanges) plans);
-      dialogues_are = ap (λ ds. ds ++ talk_dialogues exchanges) talk.dialogues_are
-          ∙ sym (flat_map_last talk_dialogues talk.talks exchanges);
-      are_talks = talks_more Gathers operations talk.talks replies o exchanges r talk.are_talks one;
+          ∙ ap (λ l. flat_map characters xs ++ l) next.line_is
+          ∙ sym (flat_map-append characters xs ys);
+      follow = follow_both xs ys plans talk.follow
+          (subst (λ p. FollowInTurn ys p) talk.left_is next.follow);
+      runs = runs_both Does first mid last xs ys plans talk.runs
+          (subst (λ p. Runs Does mid ys p last) talk.left_is next.runs);
+      left_is = next.left_is ∙ ap (λ p. drop (length ys) p) talk.left_is
+          ∙ sym (left_after_both xs ys plans);
+      dialogues_are = ap (λ ds. ds ++ ys) talk.dialogues_are
+          ∙ ap (λ ds. flat_map talk_dialogues talk.talks ++ ds) next.dialogues_are
+          ∙ sym (flat_map-append talk_dialogues talk.talks next.talks);
+      are_talks = subst
+          (λ ts. AreTalksOf (operations ++ o ∷ []) (talk.talks ++ ts) (replies ++ r ∷ []))
+          (sym alone)
+          (talks_more Gathers operations talk.talks replies o exchanges r talk.are_talks one);
     }
 
 -- A card whose own states stand for states of a card of data objects: what runs over its own states

@@ -30,7 +30,7 @@ use t0_core::{HostTurn, Plans, Watch};
 use tlv_core::ObjectTag;
 
 impl<C: DataCard> Session<C> {
-    /// Whether no chain is pending at the card: `run` may be called.
+    /// Whether no chain is pending at the card: `run` and `operate` may be called.
     pub fn is_idle(&self) -> bool
         ensures idle { result ≡ is_idle (C.state self.now).pending }
         ensures sound { IsCardState (C.state self.now) }
@@ -73,14 +73,44 @@ impl<C: DataCard> Session<C> {
             × Hears (W.hearing watch.old) line (W.hearing watch.new) }
         ensures idle { is_idle (C.state self.new).pending ≡ true }
     {
-        let idle = self.is_idle();
-        prove!(idle);
         for op in ops {
             out.make_room()?;
-            let answer = self.carry_out(alloc, op, plans, watch)?;
+            let answer = self.operate(alloc, op, plans, watch)?;
             out.append(answer);
         }
         Ok(())
+    }
+
+    /// Carries out one operation, and returns its answer.
+    ///
+    /// # Errors
+    ///
+    /// - `AllocError`: memory ran out, before the first character; nothing has changed.
+    pub fn operate<A: Allocator, B: Allocator, V: Allocator, W: Watch>(
+        &mut self,
+        alloc: A,
+        op: &Op<V>,
+        plans: &mut Plans<B>,
+        watch: &mut W,
+    ) -> Result<Answer<A>, AllocError>
+        requires { is_idle (C.state self.old).pending ≡ true }
+        ensures memory { OnErr result ((self.new ≡ self.old) × (plans.new ≡ plans.old)
+            × (W.hearing watch.new ≡ W.hearing watch.old)) }
+
+        // The answer and the tables are those of the card that answers in one step.
+        ensures one_step { IfOk result (λ answer. AnswersAll (C.state self.old)
+            (operation_of op.now ∷ []) (answer ∷ []) (C.state self.new)) }
+
+        // What the watch heard is a talk of the operation under the plans that were left.
+        ensures talk { IfOk result (λ answer. (line : List Character)
+            × Talk C.Does (C.standing self.old) plans.old.rest (operation_of op.now ∷ [])
+            (answer ∷ []) (C.standing self.new) plans.new.rest line
+            × Hears (W.hearing watch.old) line (W.hearing watch.new)) }
+        ensures idle { is_idle (C.state self.new).pending ≡ true }
+    {
+        let idle = self.is_idle();
+        prove!(idle);
+        self.carry_out(alloc, op, plans, watch)
     }
 
     /// Carries out a command that is agreed with the card, as `transmit` does. A card of data
@@ -110,7 +140,8 @@ impl<C: DataCard> Session<C> {
         }
     }
 
-    /// Carries out one operation. Its error is want of memory, and then nothing has changed.
+    /// Carries out one operation by its commands. Its error is want of memory, and then nothing has
+    /// changed.
     fn carry_out<A: Allocator, B: Allocator, V: Allocator, W: Watch>(
         &mut self,
         alloc: A,

@@ -10,9 +10,6 @@ pub mod ScriptRefusalLemmas
 pub mod ScriptTableLemmas
 pub mod ScriptPlayLemmas
 pub mod ScriptCardLemmas
-mod TextVectors
-mod ScriptVectors
-mod CommandLineVectors
 mod ScriptFaultLemmas
 mod ScriptLoopLemmas
 mod PlayLemmas

@@ -13,7 +13,7 @@ use std::alloc::AllocError;
 /// # Errors
 /// - `AllocError`: memory ran out; each end is as its own `take` leaves it.
 pub(crate) fn pass<C: Applet>(
-    terminal: &mut TerminalEnd<'_>,
+    terminal: &mut TerminalEnd,
     card: &mut CardEnd<C>,
     fates: Fates,
 ) -> Result<(), AllocError>

@@ -4,6 +4,7 @@ ghost use Rattle.std.specs.Prelude.{◌≡◌, ◌<◌, ◌++◌, ◌∷◌, [],
 ghost use Rattle.t1_core.specs.TerminalSide.{Terminal, is_ready, has_stopped, fault_of};
 ghost use Rattle.t1_core.specs.World.{World, next_command, exchange, start};
 ghost use Rattle.t1_core.specs.Conversing.{Conversed};
+ghost use Rattle.t1_core.specs.declared.terminal.Phase.TheVariants.{Over};
 
 use crate::card::{Applet, CardEnd};
 use crate::line::{Fates, Line};
@@ -16,7 +17,7 @@ use std::marker::Model;
 /// Both ends, the commands, `begun` of which were begun, and the answers so far.
 #[derive(Drop)]
 struct Session<'a, C: Applet> {
-    terminal: TerminalEnd<'a>,
+    terminal: TerminalEnd,
     card: CardEnd<C>,
     commands: &'a [Vec<u8>],
     begun: usize,
@@ -37,10 +38,16 @@ impl<'a, C: Applet> Model for Session<'a, C> {
     } };
 }
 
-impl<'a, C: Applet> Session<'a, C> {
+impl<'a, C: Applet + Drop> Session<'a, C> {
     /// Both ends after a reset.
-    fn new(alloc: Global, applet: C, settings: Settings, commands: &'a [Vec<u8>]) -> Session<'a, C>
-        ensures { result ≡ start settings (C.ran applet) (map (λ v. v.items) commands.now) }
+    fn new(
+        alloc: Global,
+        applet: C,
+        settings: Settings,
+        commands: &'a [Vec<u8>],
+    ) -> Result<Session<'a, C>, AllocError>
+        ensures { IfOk result (λ s. s
+            ≡ start settings (C.ran applet) (map (λ v. v.items) commands.now)) }
     {
         let mut session = Session {
             terminal: TerminalEnd::new(alloc, settings),
@@ -49,20 +56,23 @@ impl<'a, C: Applet> Session<'a, C> {
             begun: 0,
             answers: Vec::new(alloc),
         };
-        session.begin_next();
-        session
+        session.begin_next()?;
+        Ok(session)
     }
 
     /// Begins the next command, if there is one.
-    fn begin_next(&mut self)
-        ensures { self.new ≡ next_command self.old.todo self.old }
+    fn begin_next(&mut self) -> Result<(), AllocError>
+        requires { self.old.terminal.phase ≡ Over }
+        ensures { OnOk result (self.new ≡ next_command self.old.todo self.old) }
     {
         let commands = self.commands;
         if self.begun < commands.len() {
-            let command: &'a [u8] = &commands[self.begun];
-            self.terminal.load(command);
-            self.begun += 1;
+            match self.terminal.begin(&commands[self.begun]) {
+                Ok(()) => self.begun += 1,
+                Err(_) => return Err(AllocError),
+            }
         }
+        Ok(())
     }
 
     /// Passes a block of the terminal and the card's answer. Behind an answer the next command
@@ -77,7 +87,7 @@ impl<'a, C: Applet> Session<'a, C> {
             let mut answer = Vec::new(alloc);
             answer.extend_from_slice(self.terminal.response())?;
             self.answers.push(answer)?;
-            self.begin_next();
+            self.begin_next()?;
         }
         Ok(())
     }
@@ -132,7 +142,7 @@ pub fn converse<C: Applet + Drop, L: Line>(
         (C.ran applet) (map (λ v. v.items) commands.now) (C.ran r.applet)
         (map (λ v. v.items) r.answers.items) r.fault (L.passed line.old) (L.passed line.new)) }
 {
-    let mut session = Session::new(alloc, applet, settings, commands);
+    let mut session = Session::new(alloc, applet, settings, commands)?;
     while !session.has_stopped() {
         let fates = line.next();
         session.exchange(alloc, fates)?;

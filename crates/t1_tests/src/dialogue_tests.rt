@@ -33,14 +33,14 @@ fn settings(rt: &impl Abort, tries: u8, extensions: u8) -> Settings {
 }
 
 /// The terminal sends this block.
-fn sends(rt: &impl Abort, alloc: Global, end: &TerminalEnd<'_>, bytes: &[u8]) {
+fn sends(rt: &impl Abort, alloc: Global, end: &TerminalEnd, bytes: &[u8]) {
     let block = end.next().expect(rt, "a block");
     let sent = write(alloc, block).expect(rt, "memory");
     assert!(rt; sent.as_slice() == bytes, "{sent:?}");
 }
 
 /// The terminal sends the first block of each row, and takes the second.
-fn goes(rt: &(impl Abort + AllocGlobal), end: &mut TerminalEnd<'_>, rows: &[[&[u8]; 2]]) {
+fn goes(rt: &(impl Abort + AllocGlobal), end: &mut TerminalEnd, rows: &[[&[u8]; 2]]) {
     for [sent, taken] in rows {
         sends(rt, rt.alloc(), end, sent);
         if taken.is_empty() {

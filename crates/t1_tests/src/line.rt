@@ -23,9 +23,9 @@ enum Way {
 
 /// Both ends, and what is on the line between them.
 #[derive(Drop)]
-pub struct Line<'a> {
+pub struct Line {
     alloc: Global,
-    terminal: TerminalEnd<'a>,
+    terminal: TerminalEnd,
     card: CardEnd<Echo>,
     late: Option<Vec<u8>>,
     on_the_way: Vec<Vec<u8>>,
@@ -35,9 +35,9 @@ pub struct Line<'a> {
     has_missed: bool,
 }
 
-impl<'a> Line<'a> {
+impl Line {
     /// One block in `one_in` meets a fault of the line.
-    pub fn new(alloc: Global, settings: Settings, random: Random, one_in: usize) -> Line<'a> {
+    pub fn new(alloc: Global, settings: Settings, random: Random, one_in: usize) -> Line {
         Line {
             alloc,
             terminal: TerminalEnd::new(alloc, settings),
@@ -51,7 +51,7 @@ impl<'a> Line<'a> {
     }
 
     /// Begins a command; false if the terminal refuses it.
-    pub fn begin(&mut self, command: &'a [u8]) -> bool {
+    pub fn begin(&mut self, command: &[u8]) -> bool {
         self.terminal.begin(command).is_ok()
     }
 

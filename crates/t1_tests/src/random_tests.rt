@@ -62,7 +62,7 @@ fn settings(rt: &impl Abort, random: &mut Random) -> Settings {
 }
 
 /// Sends the commands until one is not answered. Returns how many are.
-fn answered<'a>(rt: &impl Abort, line: &mut Line<'a>, commands: &'a [Vec<u8>]) -> usize {
+fn answered(rt: &impl Abort, line: &mut Line, commands: &[Vec<u8>]) -> usize {
     let mut count = 0usize;
     for command in commands {
         assert!(rt; line.begin(command));
@@ -133,12 +133,7 @@ fn session(rt: &(impl Abort + AllocGlobal), seed: u64) -> Option<Fault> {
 }
 
 /// After a fault no command begins, and no block is sent.
-fn is_dead<'a>(
-    rt: &impl Abort,
-    line: &mut Line<'a>,
-    commands: &'a [Vec<u8>],
-    fault: Option<Fault>,
-) {
+fn is_dead(rt: &impl Abort, line: &mut Line, commands: &[Vec<u8>], fault: Option<Fault>) {
     if fault.is_some() {
         for command in commands {
             assert!(rt; !line.begin(command) && !line.exchange(rt));

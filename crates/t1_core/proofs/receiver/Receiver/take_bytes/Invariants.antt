@@ -1,4 +1,4 @@
-use Rattle.std.proofs.Common.{◌≡◌, ◌++◌, ◌≤◌, take, length}
+use Rattle.std.proofs.Common.{◌≡◌, ◌++◌, take}
 use Rattle.t1_core.proofs.receiver.Receiver.take_bytes.Given as goal
 
 -- the bytes so far

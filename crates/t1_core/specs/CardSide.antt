@@ -1,7 +1,7 @@
 -- The card's end. It has no clock, and answers each block with one block (ISO/IEC 7816-3, clause
 -- 11, rules of operation).
 use Rattle.std.specs.Prelude.{ℕ, zero, suc, Bool, true, false, List, [], ◌∷◌, ◌++◌, take, drop, Option, Some, None, cond}
-use Rattle.t1_core.specs.declared.card.Requests.{Requests}
+use Rattle.t1_core.specs.declared.applet.Requests.{Requests}
 use Rattle.t1_core.specs.declared.control.Control.{Control}
 use Rattle.t1_core.specs.declared.control.Control.TheVariants.{Resynch, Ifs, Abort, Wtx}
 use Rattle.t1_core.specs.declared.line.Fate.{Fate}
@@ -13,6 +13,12 @@ use Rattle.t1_core.specs.Block.{Block, I, R, Request, Response, other, same, mor
 pub record Meaning : Type 0 where
   pub does : List (List ℕ) → List ℕ
   pub asks : List (List ℕ) → Requests
+
+-- A command that a card has carried out, its response, and the requests before that.
+pub record Did : Type 0 where
+  pub command : List ℕ
+  pub response : List ℕ
+  pub asks : Requests
 
 pub record Card : Type 0 where
   pub due : Bool  -- N(S) of the terminal's next I-block

@@ -1,36 +1,64 @@
 -- A whole dialogue over a line.
-use Rattle.std.specs.Prelude.{◌≡◌, ℕ, ◌≤◌, List, ◌++◌, length, Option, Some, None}
+use Rattle.std.specs.Prelude.{◌≡◌, ◌<◌, ◌≤◌, ◌+◌, ℕ, List, [], ◌++◌, length, Option, Some, None}
+use Rattle.std.specs.List.{AllByRecursion}
+use Rattle.t1_core.specs.declared.applet.Applet.{Ghosts}
 use Rattle.t1_core.specs.declared.line.Fates.{Fates}
 use Rattle.t1_core.specs.declared.settings.Settings.{Settings}
 use Rattle.t1_core.specs.declared.terminal.Fault.{Fault}
-use Rattle.t1_core.specs.CardSide.{Meaning}
+use Rattle.t1_core.specs.CardSide.{Did, Meaning}
+use Rattle.t1_core.specs.Doing.{Agrees, DoesAll, DoesSome, IsOfSome, commands_of, meaning_of, most_bytes, ran_with, responses_of}
 use Rattle.t1_core.specs.Mild.{Enough, IsMild}
-use Rattle.t1_core.specs.World.{World, IsRight, IsTrue, responses, most_exchanges, run, start}
+use Rattle.t1_core.specs.World.{World, IsFrontOf, IsTrue, most_exchanges, exchange, run, start}
 
+-- `did` is what the card has carried out in the dialogue, from the first of its states to the last;
 -- `passed` is what the line has done in all, before the dialogue and after it
-pub record Conversed (m : Meaning) (settings : Settings)
-    (before commands after answers : List (List ℕ))
+pub record Conversed {C : Type 0} (a : Ghosts C) (settings : Settings) (first last : a.State)
+    (commands answers : List (List ℕ))
     (fault : Option Fault) (passed_before passed_after : List Fates) : Type 0 where
-  pub ran : List (List ℕ)
-  pub ran_is : after ≡ before ++ ran
-  -- in order, each at most once, each answer is the card's response
-  pub right : IsRight m.does before commands ran answers
+  pub did : List Did
+  pub does : DoesAll a.Does first did last
+  -- the first of the commands, in order, each once
+  pub carried_out : IsFrontOf (commands_of did) commands
+  -- each answer is the card's response, and at most one command has no answer
+  pub answered : IsFrontOf answers (responses_of did)
+  pub all_but_one : length did ≤ length answers + 1
   -- what a fault says is true
-  pub told : (f : Fault) → fault ≡ Some f → IsTrue f.outcome ran answers
+  pub told : (f : Fault) → fault ≡ Some f → IsTrue f.outcome (commands_of did) answers
   -- without a fault each command is answered
-  pub finished : fault ≡ None → (ran ≡ commands) × (answers ≡ responses m.does before ran)
+  pub finished : fault ≡ None → (commands_of did ≡ commands) × (answers ≡ responses_of did)
   pub fates : List Fates
   pub passed : passed_after ≡ passed_before ++ fates
   -- it ends
-  pub few : length fates ≤ most_exchanges settings m before commands
+  pub few : length fates ≤ most_exchanges settings (meaning_of did) [] commands
   -- on a mild line there is no fault
-  pub survived : (f : ℕ) → Enough m f settings
-      → IsMild m f f (start settings before commands) fates → fault ≡ None
+  pub survived : (f : ℕ) → Enough (meaning_of did) f settings
+      → IsMild (meaning_of did) f f (start settings [] commands) fates → fault ≡ None
 
--- a world that a line has led to
-pub record Led (m : Meaning) (settings : Settings) (before commands : List (List ℕ))
-    (passed_before passed_after : List Fates) (w : World) : Type 0 where
+-- Both ends, the commands to come and the answers: the card, and the world of the definitions,
+-- without commands so far.
+pub record BothOf (C : Type 0) : Type 0 where
+  pub card : C
+  pub at : World
+
+abbrev pub world_after : {C : Type 0} → BothOf C → List (List ℕ) → World
+world_after s ran = record s.at { card = record s.at.card { ran = ran } }
+
+abbrev pub Exchanges : {C : Type 0} (a : Ghosts C) → Fates → BothOf C → BothOf C → Type 0
+Exchanges a fates old new = (did : Option Did)
+    × DoesSome a.Does (a.standing old.card) did (a.standing new.card)
+    × ((m : Meaning) (ran : List (List ℕ)) → IsOfSome m ran did
+    → world_after new (ran_with ran did) ≡ exchange m fates (world_after old ran))
+
+-- where a line has led to
+pub record Led {C : Type 0} (a : Ghosts C) (settings : Settings) (first : a.State)
+    (commands : List (List ℕ)) (passed_before passed_after : List Fates) (s : BothOf C)
+    : Type 0 where
+  pub did : List Did
+  pub does : DoesAll a.Does first did (a.standing s.card)
+  pub short : AllByRecursion (λ (d : Did). length d.response < most_bytes) did
   pub fates : List Fates
   pub passed : passed_after ≡ passed_before ++ fates
-  pub run_is : w ≡ run m fates (start settings before commands)
-  pub few : length fates ≤ most_exchanges settings m before commands
+  pub run_is : (m : Meaning) → Agrees m [] did
+      → world_after s (commands_of did) ≡ run m fates (start settings [] commands)
+  pub few : (m : Meaning) → Agrees m [] did
+      → length fates ≤ most_exchanges settings m [] commands

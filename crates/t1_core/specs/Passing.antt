@@ -1,17 +1,39 @@
 -- A block of the terminal and the card's answer, over the line.
-use Rattle.std.specs.Prelude.{◌≡◌, Option, Some, None}
+use Rattle.std.specs.Prelude.{◌≡◌, ℕ, List, Option, Some, None}
+use Rattle.std.specs.Option.{option_map}
+use Rattle.t1_core.specs.declared.applet.Applet.{Ghosts}
+use Rattle.t1_core.specs.declared.card.Reply.{Reply}
+use Rattle.t1_core.specs.declared.line.Fate.{Fate}
 use Rattle.t1_core.specs.declared.line.Fates.{Fates}
 use Rattle.t1_core.specs.Block.{Block}
-use Rattle.t1_core.specs.CardSide.{Card, Meaning, card_meets}
+use Rattle.t1_core.specs.CardReplies.{replies}
+use Rattle.t1_core.specs.CardSide.{Card, Did, Meaning, card_meets}
+use Rattle.t1_core.specs.Doing.{EndOf, after, DoesSome, IsOfSome, ran_with}
 use Rattle.t1_core.specs.TerminalSide.{Terminal, sends, takes}
 use Rattle.t1_core.specs.World.{arrives}
 
-abbrev pub PassesWith : Meaning → Fates → Option Block → (old new : Terminal) →
-    (before after : Card) → Type 0
-PassesWith m fates None old new before after = (new ≡ old) × (after ≡ before)
-PassesWith m fates (Some b) old new before after =
-    let t = card_meets m fates.down b before in
-    (new ≡ takes old (arrives fates.up t.block)) × (after ≡ t.card)
+-- the card meets a block, and replies
+abbrev pub Hears : {C : Type 0} (a : Ghosts C) → Fate → Block → EndOf C → Option Reply → EndOf C
+    → Type 0
+Hears a fate b old reply new = (did : Option Did)
+    × DoesSome a.Does (a.standing old.card) did (a.standing new.card)
+    × ((m : Meaning) (ran : List (List ℕ)) → IsOfSome m ran did
+    → card_meets m fate b (after old ran) ≡ record {
+      card = after new (ran_with ran did);
+      block = option_map (λ r. replies r new.at) reply;
+    })
 
-abbrev pub Passes : Meaning → Fates → (old new : Terminal) → (before after : Card) → Type 0
-Passes m fates old new before after = PassesWith m fates (sends old) old new before after
+abbrev pub PassesWith : Meaning → Fates → Option Block → (old new : Terminal) →
+    (before later : Card) → Type 0
+PassesWith m fates None old new before later = (new ≡ old) × (later ≡ before)
+PassesWith m fates (Some b) old new before later =
+    let t = card_meets m fates.down b before in
+    (new ≡ takes old (arrives fates.up t.block)) × (later ≡ t.card)
+
+-- the ends make the steps of each meaning that agrees with what the card carries out
+abbrev pub Passes : {C : Type 0} (a : Ghosts C) → Fates → (old new : Terminal)
+    → (before later : EndOf C) → Type 0
+Passes a fates old new before later = (did : Option Did)
+    × DoesSome a.Does (a.standing before.card) did (a.standing later.card)
+    × ((m : Meaning) (ran : List (List ℕ)) → IsOfSome m ran did
+    → PassesWith m fates (sends old) old new (after before ran) (after later (ran_with ran did)))

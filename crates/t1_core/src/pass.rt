@@ -1,9 +1,16 @@
 //! One exchange: a block of the terminal and the card's answer, over a line.
 
-ghost use Rattle.std.specs.Prelude.{OnOk, ◌≡◌};
-ghost use Rattle.t1_core.specs.Passing.{Passes};
+ghost use Rattle.std.specs.Prelude.{OnOk, IfOk, ◌≡◌};
+ghost use Rattle.std.specs.Option.{option_map};
+ghost use Rattle.t1_core.specs.BlockView.{said};
+ghost use Rattle.t1_core.specs.CardReplies.{replies};
+ghost use Rattle.t1_core.specs.Passing.{Hears, Passes};
+ghost use Rattle.t1_core.specs.TerminalSide.{takes};
+ghost use Rattle.t1_core.specs.World.{arrives};
 
-use crate::card::{Applet, CardEnd};
+use crate::applet::Applet;
+use crate::block::Block;
+use crate::card::{CardEnd, Reply};
 use crate::line::{Fate, Fates};
 use crate::terminal::TerminalEnd;
 use std::alloc::AllocError;
@@ -17,20 +24,47 @@ pub(crate) fn pass<C: Applet>(
     card: &mut CardEnd<C>,
     fates: Fates,
 ) -> Result<(), AllocError>
-    ensures { OnOk result (Passes (record { does = C.answer; asks = C.asks }) fates
-        terminal.old terminal.new card.old card.new) }
+    ensures { OnOk result
+        (Passes C.Applet fates terminal.old terminal.new card.old card.new) }
 {
-    let reply = match terminal.next() {
-        None => return Ok(()),
-        Some(block) => match fates.down {
-            Fate::Delivers => Some(card.take(block)?),
-            Fate::Damages => Some(card.damaged()),
-            Fate::Loses => None,
-        },
+    let Some(block) = terminal.next() else {
+        return Ok(());
     };
+    let reply = hear(card, fates.down, block)?;
+    bring(terminal, card, fates.up, reply)
+}
+
+/// A block of the terminal comes to the card, or does not. Returns the card's reply.
+fn hear<C: Applet>(
+    card: &mut CardEnd<C>,
+    fate: Fate,
+    block: Block<'_>,
+) -> Result<Option<Reply>, AllocError>
+    ensures { IfOk result (λ reply. Hears C.Applet fate (said block.entry) card.old reply card.new) }
+{
+    match fate {
+        Fate::Delivers => {
+            let reply = card.take(block)?;
+            Ok(Some(reply))
+        }
+        Fate::Damages => Ok(Some(card.damaged())),
+        Fate::Loses => Ok(None),
+    }
+}
+
+/// The card's reply, if it made one, comes to the terminal, or does not.
+fn bring<C: Applet>(
+    terminal: &mut TerminalEnd,
+    card: &CardEnd<C>,
+    fate: Fate,
+    reply: Option<Reply>,
+) -> Result<(), AllocError>
+    ensures { OnOk result (terminal.new ≡ takes terminal.old
+        (arrives fate (option_map (λ r. replies r card.now.at) reply))) }
+{
     match reply {
         None => terminal.timed_out(),
-        Some(reply) => match fates.up {
+        Some(reply) => match fate {
             Fate::Delivers => terminal.take(card.block(reply))?,
             Fate::Damages => terminal.damaged(),
             Fate::Loses => terminal.timed_out(),

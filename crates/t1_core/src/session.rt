@@ -1,12 +1,13 @@
 //! A whole dialogue: a list of commands, over a line.
 
-ghost use Rattle.std.specs.Prelude.{◌≡◌, ◌<◌, ◌++◌, ◌∷◌, [], ℕ, List, true, OnOk, IfOk, map, drop};
+ghost use Rattle.std.specs.Prelude.{◌≡◌, ◌<◌, ◌++◌, ◌∷◌, [], ℕ, List, true, false, OnOk, IfOk, map, drop};
 ghost use Rattle.t1_core.specs.TerminalSide.{Terminal, is_ready, has_stopped, fault_of};
 ghost use Rattle.t1_core.specs.World.{World, next_command, exchange, start};
-ghost use Rattle.t1_core.specs.Conversing.{Conversed};
+ghost use Rattle.t1_core.specs.Conversing.{BothOf, Conversed, Exchanges};
 ghost use Rattle.t1_core.specs.declared.terminal.Phase.TheVariants.{Over};
 
-use crate::card::{Applet, CardEnd};
+use crate::applet::Applet;
+use crate::card::CardEnd;
 use crate::line::{Fates, Line};
 use crate::pass::pass;
 use crate::settings::Settings;
@@ -26,15 +27,18 @@ struct Session<'a, C: Applet> {
 
 impl<'a, C: Applet> Model for Session<'a, C> {
     ghost use Rattle.std.specs.Prelude.{map, drop};
-    ghost use Rattle.t1_core.specs.World.{World};
+    ghost use Rattle.t1_core.specs.Conversing.{BothOf};
 
-    ghost Value = { World };
+    ghost Value = { BothOf C };
 
     ghost view = { λ e. record {
-      terminal = e.terminal;
-      card = e.card;
-      todo = drop e.begun (map (λ v. v.items) e.commands.now);
-      answers = map (λ v. v.items) e.answers.items;
+      card = e.card.card;
+      at = record {
+        terminal = e.terminal;
+        card = e.card.at;
+        todo = drop e.begun (map (λ v. v.items) e.commands.now);
+        answers = map (λ v. v.items) e.answers.items;
+      };
     } };
 }
 
@@ -46,8 +50,10 @@ impl<'a, C: Applet + Drop> Session<'a, C> {
         settings: Settings,
         commands: &'a [Vec<u8>],
     ) -> Result<Session<'a, C>, AllocError>
-        ensures { IfOk result (λ s. s
-            ≡ start settings (C.ran applet) (map (λ v. v.items) commands.now)) }
+        ensures { IfOk result (λ s. s ≡ record {
+          card = applet;
+          at = start settings [] (map (λ v. v.items) commands.now);
+        }) }
     {
         let mut session = Session {
             terminal: TerminalEnd::new(alloc, settings),
@@ -62,8 +68,11 @@ impl<'a, C: Applet + Drop> Session<'a, C> {
 
     /// Begins the next command, if there is one.
     fn begin_next(&mut self) -> Result<(), AllocError>
-        requires { self.old.terminal.phase ≡ Over }
-        ensures { OnOk result (self.new ≡ next_command self.old.todo self.old) }
+        requires { self.old.at.terminal.phase ≡ Over }
+        ensures { OnOk result (self.new ≡ record {
+          card = self.old.card;
+          at = next_command self.old.at.todo self.old.at;
+        }) }
     {
         let commands = self.commands;
         if self.begun < commands.len() {
@@ -78,12 +87,11 @@ impl<'a, C: Applet + Drop> Session<'a, C> {
     /// Passes a block of the terminal and the card's answer. Behind an answer the next command
     /// begins.
     fn exchange(&mut self, alloc: Global, fates: Fates) -> Result<(), AllocError>
-        ensures { OnOk result (self.new
-            ≡ exchange (record { does = C.answer; asks = C.asks }) fates self.old) }
+        requires { has_stopped self.old.at.terminal.phase ≡ false }
+        ensures { OnOk result (Exchanges C.Applet fates self.old self.new) }
     {
-        let stood = self.terminal.is_ready();
         pass(&mut self.terminal, &mut self.card, fates)?;
-        if !stood && self.terminal.is_ready() {
+        if self.terminal.is_ready() {
             let mut answer = Vec::new(alloc);
             answer.extend_from_slice(self.terminal.response())?;
             self.answers.push(answer)?;
@@ -93,15 +101,15 @@ impl<'a, C: Applet + Drop> Session<'a, C> {
     }
 
     fn has_stopped(&self) -> bool
-        ensures { result ≡ has_stopped self.now.terminal.phase }
+        ensures { result ≡ has_stopped self.now.at.terminal.phase }
     {
         self.terminal.has_stopped()
     }
 
     fn finish(self) -> Conversation<C>
-        ensures ran { C.ran result.applet ≡ self.entry.card.ran }
-        ensures answers { map (λ v. v.items) result.answers.items ≡ self.entry.answers }
-        ensures fault { result.fault ≡ fault_of self.entry.terminal }
+        ensures card { result.applet ≡ self.entry.card }
+        ensures answers { map (λ v. v.items) result.answers.items ≡ self.entry.at.answers }
+        ensures fault { result.fault ≡ fault_of self.entry.at.terminal }
     {
         Conversation {
             fault: self.terminal.fault(),
@@ -138,8 +146,8 @@ pub fn converse<C: Applet + Drop, L: Line>(
     settings: Settings,
     commands: &[Vec<u8>],
 ) -> Result<Conversation<C>, AllocError>
-    ensures { IfOk result (λ r. Conversed (record { does = C.answer; asks = C.asks }) settings
-        (C.ran applet) (map (λ v. v.items) commands.now) (C.ran r.applet)
+    ensures { IfOk result (λ r. Conversed C.Applet settings (C.standing applet)
+        (C.standing r.applet) (map (λ v. v.items) commands.now)
         (map (λ v. v.items) r.answers.items) r.fault (L.passed line.old) (L.passed line.new)) }
 {
     let mut session = Session::new(alloc, applet, settings, commands)?;

@@ -1,7 +1,7 @@
 //! A card that sends back each command, and keeps what it carried out.
 
-ghost use Rattle.std.specs.Prelude.{◌≡◌, map};
-ghost use Rattle.t1_tests.specs.Echo.{last_of, size_at, requests_at, requests_after};
+ghost use Rattle.std.specs.Prelude.{◌≡◌, List, ℕ, map};
+ghost use Rattle.t1_tests.specs.Echo.{echoes, size_at, requests_at};
 
 use std::alloc::{AllocError, Global};
 use t1_core::{Applet, Requests};
@@ -24,11 +24,11 @@ impl Echo {
 }
 
 impl Applet for Echo {
-    ghost ran = { λ e. map (λ v. v.items) e.ran.items };
+    ghost State = { List (List ℕ) };
 
-    ghost answer = { last_of };
+    ghost standing = { λ e. map (λ v. v.items) e.ran.items };
 
-    ghost asks = { requests_after };
+    ghost Does = { echoes };
 
     fn carry_out(
         &mut self,

@@ -71,8 +71,11 @@ module _ {C : Type 0} (a : Ghosts C) (old mid new : EndOf C) (before : ℕ) (f :
           rest = [];
           answering = false;
         }) is
-        ∙ ap (λ (n : ℕ). record (forgets old.at) { collected = take n (old.at.collected ++ f) }) many
-        ∙ ap (λ (l : List ℕ). record (forgets old.at) { collected = l }) (take_front old.at.collected f),
+        ∙ ap (λ (n : ℕ). record (forgets old.at) {
+          collected = take n (old.at.collected ++ f);
+        }) many
+        ∙ ap (λ (l : List ℕ). record (forgets old.at) { collected = l })
+        (take_front old.at.collected f),
   )
 
   pub forgets_field : {X E : Type 0} (r : Result X E) → OnErr r Cut

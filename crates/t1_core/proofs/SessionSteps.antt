@@ -104,11 +104,11 @@ module _ (m : Meaning) (x : Fates) (t new : Terminal) (c later : Card)
       by None e (same, kept) =
           unsettled new.phase new_world
           (ap (λ (u : Terminal). is_ready u.phase) same ∙ not_ready t.phase going)
-          ∙ ap (λ (u : Terminal). record { terminal = u; card = later; todo = todo; answers = answers }) same
-          ∙ ap (λ (d : Card). record { terminal = t; card = d; todo = todo; answers = answers }) kept
+          ∙ ap (λ (u : Terminal). old_world u later todo answers) same
+          ∙ ap (λ (d : Card). old_world t d todo answers) kept
       by (Some b) e (is, kept) =
           let r = card_meets m x.down b c in
-          ap (λ (u : Terminal). settle u.phase (record { terminal = u; card = later; todo = todo; answers = answers })) is
+          ap (λ (u : Terminal). settle u.phase (old_world u later todo answers)) is
           ∙ ap (λ (d : Card). settled (record {
             terminal = takes t (arrives x.up r.block);
             card = d;
@@ -122,7 +122,7 @@ module _ (m : Meaning) (x : Fates) (t new : Terminal) (c later : Card)
 
   pub an_answer : has_stopped t.phase ≡ false → PassesWith m x (sends t) t new c later
       → is_ready new.phase ≡ true
-      → next_command todo (record { terminal = new; card = later; todo = todo; answers = answers ++ new.got ∷ [] })
+      → next_command todo (old_world new later todo (answers ++ new.got ∷ []))
       ≡ exchange m x (old_world t c todo answers)
   an_answer going p e = sym (ap (λ q. settle q new_world) (is_over new.phase e)) ∙ settles going p
 
@@ -149,7 +149,10 @@ module _ {C : Type 0} (a : Ghosts C) (x : Fates) (t new : Terminal) (before late
   next_after (c ∷ cs) w ran = refl
 
   pub exchanges_answer : (s mid s' : BothOf C) → old_session ≡ s → is_ready new.phase ≡ true
-      → mid ≡ record { card = later.card; at = old_world new later.at todo (answers ++ new.got ∷ []) }
+      → mid ≡ record {
+        card = later.card;
+        at = old_world new later.at todo (answers ++ new.got ∷ []);
+      }
       → s' ≡ record { card = mid.card; at = next_command mid.at.todo mid.at }
       → Exchanges a x s s'
   exchanges_answer s mid s' seen e pushed begun =
@@ -161,8 +164,8 @@ module _ {C : Type 0} (a : Ghosts C) (x : Fates) (t new : Terminal) (before late
         p.0,
         p.1,
         λ m ran h. next_after todo w (ran_with ran p.0)
-            ∙ an_answer m x t new (after before ran) (after later (ran_with ran p.0)) todo answers going
-            (p.2 m ran h) e,
+            ∙ an_answer m x t new (after before ran) (after later (ran_with ran p.0)) todo answers
+            going (p.2 m ran h) e,
       ))
 
 -- logs
@@ -228,7 +231,8 @@ entry_at [] later d = refl
 entry_at (e ∷ []) later d = refl
 entry_at (e ∷ f ∷ log) later d = entry_at (f ∷ log) later d
 
-pub own_meaning : (log later : List Did) → Agrees (meaning_of (log ++ later)) (commands_of log) later
+pub own_meaning : (log later : List Did)
+    → Agrees (meaning_of (log ++ later)) (commands_of log) later
 own_meaning log [] = tt
 own_meaning log (d ∷ later) =
     let e = entry_at log later d in (
@@ -264,7 +268,8 @@ all_bytes [] = 0
 all_bytes (c ∷ cs) = length c + most_bytes + 2 + all_bytes cs
 
 few_all : (m : Meaning) → ((ran : List (List ℕ)) → length (m.does ran) ≤ most_bytes)
-    → (size : ℕ) (ran commands : List (List ℕ)) → all_blocks m size ran commands ≤ all_bytes commands
+    → (size : ℕ) (ran commands : List (List ℕ))
+    → all_blocks m size ran commands ≤ all_bytes commands
 few_all m short size ran [] = omega arith
 few_all m short size ran (c ∷ cs) =
     let now = ran ++ c ∷ [] in
@@ -312,7 +317,8 @@ module _ {C : Type 0} (a : Ghosts C) (settings : Settings) (first : a.State)
     few = λ m h. omega arith;
   }
 
-  going : (m : Meaning) (fates : List Fates) (w : World) → w ≡ run m fates (start settings [] commands)
+  going : (m : Meaning) (fates : List Fates) (w : World)
+      → w ≡ run m fates (start settings [] commands)
       → has_stopped w.terminal.phase ≡ false
       → length fates < most_exchanges settings m [] commands
   going m fates w is moving =
@@ -338,7 +344,8 @@ module _ {C : Type 0} (a : Ghosts C) (settings : Settings) (first : a.State)
       run_is = λ m all.
           let b = before_it m h.did did all in
           ap (world_after t) (commands_with h.did did) ∙ step m (commands_of h.did) b.1
-          ∙ ap (exchange m x) (h.run_is m b.0) ∙ sym (run_more m h.fates x (start settings [] commands));
+          ∙ ap (exchange m x) (h.run_is m b.0)
+          ∙ sym (run_more m h.fates x (start settings [] commands));
       few = λ m all.
           let b = before_it m h.did did all in
           let lt = going m h.fates (world_after s (commands_of h.did)) (h.run_is m b.0)
@@ -352,7 +359,8 @@ module _ {C : Type 0} (a : Ghosts C) (settings : Settings) (first : a.State)
         < exchanges_left settings commands (length now - length old)
     fewer_left =
         let m = meaning_of h.did in
-        let lt = going m h.fates (world_after s (commands_of h.did)) (h.run_is m (own_meaning [] h.did))
+        let lt = going m h.fates (world_after s (commands_of h.did))
+        (h.run_is m (own_meaning [] h.did))
         moving in
         let le = mul-le-mul_right (settings.tries + 1)
         (few_all m (entry_short h.did h.short) settings.ifsc [] commands) in

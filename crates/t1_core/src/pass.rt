@@ -40,7 +40,8 @@ fn hear<C: Applet>(
     fate: Fate,
     block: Block<'_>,
 ) -> Result<Option<Reply>, AllocError>
-    ensures { IfOk result (λ reply. Hears C.Applet fate (said block.entry) card.old reply card.new) }
+    ensures { IfOk result
+        (λ reply. Hears C.Applet fate (said block.entry) card.old reply card.new) }
 {
     match fate {
         Fate::Delivers => {

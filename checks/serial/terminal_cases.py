@@ -203,18 +203,16 @@ def answers():
         ("T out of order", "< 3B8081801F", none + "T out of order, at byte 4", None),
         ("an answer of more than 33 bytes", "< 3BF0" + "000000F0" * 7 + "000000",
          "the answer to reset is too long", None),
-        ("T=1 alone", "< 3B800181", "the card does not talk T=0", None),
-        ("specific mode with T=1", "< 3B90951001", "the card does not talk T=0", None),
+        ("specific mode with T=2", "< 3B90951002", "the card talks neither T=0 nor T=1", None),
         ("specific mode with implicit values", "< 3B90951010",
          "the card goes on at a rate that it does not tell", None),
         ("specific mode at a reserved rate", "< 3B909F1000",
          "the card goes on at a rate that is reserved", None),
         ("specific mode at a reserved Fi", "< 3B90711000",
          "the card goes on at a rate that is reserved", None),
-        ("specific mode with T=1 at a reserved Fi", "< 3B90711001", "the card does not talk T=0",
-         None),
+        ("specific mode with T=1 at a reserved Fi", "< 3B90711001",
+         "the card goes on at a rate that is reserved", None),
         ("a reserved waiting time", "< 3B804000", "the card's waiting time is reserved", None),
-        ("a reserved waiting time, and T=1", "< 3B804100C1", "the card does not talk T=0", None),
         ("a reserved waiting time in specific mode", "< 3B9095500000",
          "the card's waiting time is reserved", None),
     ):
@@ -257,7 +255,9 @@ def meanings():
         ("3B804000", "direct", "T=0", "negotiable", "9600 baud, Fi 372, Di 1", "12 etu", "reserved",
          "none", "the card's waiting time is reserved\n"),
         ("3B800181", "direct", "T=1", "negotiable", "9600 baud, Fi 372, Di 1", "12 etu", None,
-         "none", "the card does not talk T=0\n"),
+         "none", ""),
+        ("3B800282", "direct", "T=2", "negotiable", "9600 baud, Fi 372, Di 1", "12 etu", None,
+         "none", "the card talks neither T=0 nor T=1\n"),
     ):
         rows = ("answer", answer), ("convention", convention), ("protocols", protocols), \
             ("mode", mode), ("rate", rate), ("guard time", guard), ("waiting time", wait), \

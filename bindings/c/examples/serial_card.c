@@ -353,9 +353,9 @@ static const char *read_answer(const struct table *table, gt_atr *says)
             ? says->specific_t != 0 || says->implicit || says->fi == 0 || says->di == 0
             : says->protocols[0] != 0)
         return "the table's answer to reset does not offer T=0 at a rate that it tells";
-    if (answer_refusal(says) != NULL)
+    if (answer_refusal(says, 0) != NULL)
         fprintf(stderr, "warning: gt_serial refuses this answer to reset: %s\n",
-                answer_refusal(says));
+                answer_refusal(says, 0));
     return NULL;
 }
 

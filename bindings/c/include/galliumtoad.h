@@ -10,10 +10,10 @@
  *   answer is GT_NULL and nothing is done. Pointers are aligned as their types ask.
  * - What the arguments of one call point to does not overlap, unless all of it is const, or the
  *   comment of the function allows it.
- * - A handle (gt_exchange, gt_terminal, gt_card, gt_session) is all zero before its first use:
- *   GT_INIT, or static storage. Its fields are the library's: nothing else reads or writes them.
- *   It may be moved by assignment where the old copy is never used again; two copies must not both
- *   be used.
+ * - A handle (gt_exchange, gt_terminal, gt_t1, gt_card, gt_session) is all zero before its first
+ *   use: GT_INIT, or static storage. Its fields are the library's: nothing else reads or writes
+ *   them. It may be moved by assignment where the old copy is never used again; two copies must not
+ *   both be used.
  * - A handle may go from one thread to another, and is for one at a time: each call writes to it,
  *   also one that only asks, so none takes it as const. What the next thread does with it comes
  *   after what the one before did, by a lock, by the start or the end of a thread, or by an atomic
@@ -158,7 +158,12 @@ enum {
     GT_PPS_CUT = -81,       /* the bytes end before a character that is due */
     GT_PPS_RESERVED = -82,  /* bit 8 of PPS0 is 1, which is reserved */
     GT_PPS_SURPLUS = -83,   /* characters stand behind PCK */
-    GT_PPS_CHECK_WRONG = -84 /* PCK doesn't make the exclusive-or of all characters 00 */
+    GT_PPS_CHECK_WRONG = -84, /* PCK doesn't make the exclusive-or of all characters 00 */
+
+    /* why a terminal's end at T=1 gave up; GT_TOO_LONG is another cause */
+    GT_TRIES_SPENT = -90,   /* no block brought it a step forward, too often in a row */
+    GT_EXTENSIONS_SPENT = -91, /* the card asked for more time or another IFSC too often */
+    GT_ABORTED = -92        /* the card ended the chain in progress: S(ABORT request) */
 };
 
 /* What a code says, in a few words: a string that stays. Of a number that is no code: "unknown
@@ -218,6 +223,9 @@ GT_FUNCTION const char *gt_text(int32_t code) {
     case GT_PPS_RESERVED: return "PPS0 reserved";
     case GT_PPS_SURPLUS: return "characters behind PCK";
     case GT_PPS_CHECK_WRONG: return "wrong PCK";
+    case GT_TRIES_SPENT: return "no valid block, too often";
+    case GT_EXTENSIONS_SPENT: return "too many requests of the card";
+    case GT_ABORTED: return "aborted by the card";
     default: return "unknown code";
     }
 }
@@ -266,7 +274,10 @@ enum {
     GT_ATR_LIMIT = 33,          /* of an answer to reset */
     GT_PROTOCOLS_LIMIT = 15,    /* the most protocols that it offers: T=0 to T=14 */
     GT_PPS_LIMIT = 6,           /* the most bytes of a PPS request or response */
-    GT_PLANS_LIMIT = 1048576    /* the most plans that wait at a card, or in a session */
+    GT_PLANS_LIMIT = 1048576,   /* the most plans that wait at a card, or in a session */
+    GT_BLOCK_LIMIT = 258,       /* the most bytes of a block of T=1: NAD, PCB, LEN, 254 and LRC */
+    GT_T1_TRIES = 4,            /* what `gt_t1_new` is usually given: EMV has 2 .. */
+    GT_T1_EXTENSIONS = 16       /* .. and so many requests of the card in one command */
 };
 
 /* One object of a list. A tag is the number that its one to three bytes are: 0x50, 0x5F20,
@@ -292,6 +303,10 @@ enum { GT_DIRECT = 0, GT_INVERSE = 1 };
 enum { GT_STOP_NONE = 0, GT_STOP_LOW = 1, GT_STOP_HIGH = 2, GT_STOP_EITHER = 3 };
 enum { GT_CLASS_A = 1, GT_CLASS_B = 2, GT_CLASS_C = 4 };
 enum { GT_LRC = 1, GT_CRC = 2 };
+
+/* What is known of a command if a terminal's end at T=1 gave up: the card has not carried it out,
+ * since its last block never went out; it may have; or it has, and a part of its response came. */
+enum { GT_NOT_CARRIED_OUT = 0, GT_UNKNOWN = 1, GT_IN_PART = 2 };
 
 /* The form of historical bytes, by the first of them (ISO/IEC 7816-4, 12.1.1). */
 enum {
@@ -360,6 +375,8 @@ typedef struct {
  *                 answered, or apdu and responded; answer; free
  *   gt_terminal_  new or new_within; then, again and again: select, get, put or send; those of an
  *                 exchange; answer; .. reset; free
+ *   gt_t1_        new; then, again and again: begin; send_bytes, receive_bytes or missed; response
+ *                 or fault; .. reset; free
  *   gt_card_      new; app and object; finish; take and turn, send_bytes and receive_bytes, tpdu
  *                 or apdu; .. plan, selected, app_at, entry_at, reset; free
  *   gt_session_   start, with a card; select, get, put or send; .. answer, heard, idle, plan,
@@ -378,6 +395,7 @@ typedef struct {
  *                 terminal frees the other room with the first response
  *   a card        9,963 with one application and one object of 3 bytes, and 26,610 together with a
  *                 gt_exchange of SELECT or GET DATA; 4,240,592 with all that a card can hold
+ *   gt_t1         368, and the bytes of its command, and up to three times those of the response
  *   a session     26,667 with that small card, for a select, a put of 3 bytes and a get; 116,584
  *                 for a put and a get of 8,192 bytes
  *   plans         at most 192 for each of the most plans that waited at once since none did; and
@@ -389,6 +407,8 @@ typedef struct {
  *   an exchange   its command and the response
  *   a terminal    what it sent and received, until a later operation overwrites it, or
  *                 gt_terminal_reset
+ *   gt_t1         its command, the response and the card's last block, until the next ones
+ *                 overwrite them, or gt_t1_reset
  *   a card        each value, until another is stored under its tag; the bytes of a TPDU, until its
  *                 second status byte; those of a chain, until it is stored, refused or dropped. It
  *                 is proved that the last two are then cleared
@@ -396,6 +416,7 @@ typedef struct {
  *                 is carried out, or gt_session_end */
 typedef struct { bool live; void *held; } gt_exchange;
 typedef struct { bool live; void *held; } gt_terminal;
+typedef struct { bool live; void *held; } gt_t1;
 typedef struct { bool live; void *held; } gt_card;
 typedef struct { bool live; void *held; } gt_session;
 
@@ -452,6 +473,17 @@ int32_t galliumtoad_terminal_responded(gt_terminal *t, const uint8_t *response, 
 int32_t galliumtoad_terminal_answer(gt_terminal *t, uint16_t *status,
                                     uint8_t *data, size_t room, size_t *len);
 void galliumtoad_terminal_free(gt_terminal *t);
+int32_t galliumtoad_t1_new(gt_t1 *t, uint8_t edc, uint8_t ifsc, uint8_t tries,
+                           uint8_t extensions, size_t limit);
+int32_t galliumtoad_t1_begin(gt_t1 *t, const uint8_t *apdu, size_t n);
+int32_t galliumtoad_t1_send_bytes(gt_t1 *t, uint8_t *bytes, size_t room, size_t *n,
+                                  uint8_t *waits);
+int32_t galliumtoad_t1_receive_bytes(gt_t1 *t, const uint8_t *bytes, size_t n, size_t *taken);
+int32_t galliumtoad_t1_missed(gt_t1 *t);
+int32_t galliumtoad_t1_response(gt_t1 *t, uint8_t *response, size_t room, size_t *len);
+int32_t galliumtoad_t1_fault(gt_t1 *t, int32_t *cause, int32_t *outcome);
+int32_t galliumtoad_t1_reset(gt_t1 *t);
+void galliumtoad_t1_free(gt_t1 *t);
 int32_t galliumtoad_card_new(gt_card *c);
 int32_t galliumtoad_card_app(gt_card *c, const uint8_t *aid, size_t n);
 int32_t galliumtoad_card_object(gt_card *c, uint32_t tag, const uint8_t *value, size_t n,
@@ -942,6 +974,121 @@ GT_MUST_CHECK int32_t gt_terminal_answer(gt_terminal *t, uint16_t *status,
  * that holds nothing, or NULL, it is harmless. */
 GT_FUNCTION void gt_terminal_free(gt_terminal *t) {
     if (t) galliumtoad_terminal_free(t);
+}
+
+/* ---- A terminal's end of a line at T=1 (ISO/IEC 7816-3, clause 11) ---------------------------
+ *
+ * It carries one whole command (APDU) after another to a card, as blocks with an LRC, over a line
+ * that may damage and lose them. Drive it by `gt_terminal_apdu` and `gt_terminal_responded`. For
+ * each command:
+ *
+ *   gt_t1_begin(&t, apdu, n);
+ *   while (gt_t1_send_bytes(&t, block, sizeof block, &n, &waits) == GT_OK) {
+ *       .. send the n bytes; then receive bytes, and hand them on as they come:
+ *       gt_t1_receive_bytes(&t, bytes, count, &taken);       until that is GT_SENDS
+ *       .. or, if no block begins or the block stops, or a character has a wrong parity:
+ *       gt_t1_missed(&t);
+ *   }
+ *   gt_t1_response(&t, response, sizeof response, &n);       or gt_t1_fault
+ *
+ * The caller keeps the times, which `gt_atr.t1` has: the first byte of an answer comes within BWT
+ * times `waits` after the last one that was sent, each further one within CWT, and the next block
+ * goes BGT after the last of them at the earliest.
+ *
+ * Before the first command the end sends S(IFS request) with 254. It keeps NAD 00, gives up after
+ * so many tries, and never sends S(RESYNCH request): reset card and end instead (profile). */
+
+/* Makes an end, as after a reset of the card, in a handle that holds nothing. `edc` and `ifsc` are
+ * those of `gt_atr.t1`: LRC alone is supported. It survives `tries` receptions in a row that bring
+ * no step forward, one more makes it give up; it grants `extensions` requests of the card in one
+ * command; and takes responses of `limit` bytes at most, the status among them. GT_T1_TRIES,
+ * GT_T1_EXTENSIONS and GT_ANSWER_LIMIT suit short commands.
+ *
+ * GT_OK. GT_STATE: the handle holds an end. GT_ARGUMENT: `edc` is not GT_LRC, or `ifsc` is 0 or
+ * 255. GT_MEMORY. Never GT_EMPTY. */
+GT_MUST_CHECK int32_t gt_t1_new(gt_t1 *t, uint8_t edc, uint8_t ifsc, uint8_t tries,
+                                uint8_t extensions, size_t limit) {
+    if (!t) return GT_NULL;
+    return galliumtoad_t1_new(t, edc, ifsc, tries, extensions, limit);
+}
+
+/* Begins a command, which is copied.
+ *
+ * GT_OK. GT_STATE: a command is in progress, or the end gave up. GT_MEMORY. */
+GT_MUST_CHECK int32_t gt_t1_begin(gt_t1 *t, const uint8_t *apdu, size_t n) {
+    if (!t || (!apdu && n)) return GT_NULL;
+    return galliumtoad_t1_begin(t, gt_bytes_(apdu), n);
+}
+
+/* The block to send now: `bytes` gets it, `n` its length, 4 to GT_BLOCK_LIMIT, and `waits` how many
+ * times BWT the card has for its answer: 1, or as many as it asked for. Asked again it is the same
+ * block, until one of the next two calls.
+ *
+ * GT_OK. GT_DONE: no command is in progress; the last one is answered, or none has begun.
+ * GT_FAILED: the end gave up. GT_MEMORY. GT_BUFFER: `room` is less than the block; `n` and `waits`
+ * are the block's, `bytes` is as it was. */
+GT_MUST_CHECK int32_t gt_t1_send_bytes(gt_t1 *t, uint8_t *bytes, size_t room, size_t *n,
+                                       uint8_t *waits) {
+    uint8_t none = 0;
+    if (!t || (!bytes && room) || !n || !waits) return GT_NULL;
+    return galliumtoad_t1_send_bytes(t, bytes ? bytes : &none, room, n, waits);
+}
+
+/* Takes bytes of the card, up to the end of its block. `taken` gets how many. Those that are left
+ * are none of the block: drop them, and what else comes before the next block is sent.
+ *
+ * GT_OK: all are taken, and the block goes on. GT_SENDS: the block is whole, valid or not, and
+ * `gt_t1_send_bytes` has the next one, or ends. GT_STATE: no block is awaited, since no command is
+ * in progress or the end gave up. GT_MEMORY: `taken` bytes are kept; call again with those that are
+ * left, or none, or call `gt_t1_missed`. */
+GT_MUST_CHECK int32_t gt_t1_receive_bytes(gt_t1 *t, const uint8_t *bytes, size_t n,
+                                          size_t *taken) {
+    if (!t || (!bytes && n) || !taken) return GT_NULL;
+    return galliumtoad_t1_receive_bytes(t, gt_bytes_(bytes), n, taken);
+}
+
+/* No valid block of the card came: none began in time, one stopped for longer than CWT, or a
+ * character had a wrong parity. What came of the block is dropped.
+ *
+ * GT_OK: `gt_t1_send_bytes` has the next block, or the end gave up. GT_STATE: no block is
+ * awaited. */
+GT_MUST_CHECK int32_t gt_t1_missed(gt_t1 *t) {
+    if (!t) return GT_NULL;
+    return galliumtoad_t1_missed(t);
+}
+
+/* The response to the last command: data, and then SW1 SW2, at the front of `response`; `len` gets
+ * their number. It is for `gt_terminal_responded`, which looks at its form.
+ *
+ * GT_OK. GT_STATE: a command is in progress, or the end gave up. GT_BUFFER: `room` is less than the
+ * response; `len` is its length, `response` is as it was. */
+GT_MUST_CHECK int32_t gt_t1_response(gt_t1 *t, uint8_t *response, size_t room, size_t *len) {
+    uint8_t none = 0;
+    if (!t || (!response && room) || !len) return GT_NULL;
+    return galliumtoad_t1_response(t, response ? response : &none, room, len);
+}
+
+/* Why the end gave up: `cause` gets GT_TRIES_SPENT, GT_EXTENSIONS_SPENT, GT_ABORTED or GT_TOO_LONG,
+ * and `outcome` what is known of the command: GT_NOT_CARRIED_OUT, GT_UNKNOWN or GT_IN_PART. From
+ * then on only `gt_t1_reset`, after a reset of the card, lets a command begin.
+ *
+ * GT_OK. GT_NOT_FOUND: it has not given up. */
+GT_MUST_CHECK int32_t gt_t1_fault(gt_t1 *t, int32_t *cause, int32_t *outcome) {
+    if (!t || !cause || !outcome) return GT_NULL;
+    return galliumtoad_t1_fault(t, cause, outcome);
+}
+
+/* Makes the end as it was after `gt_t1_new`, at any time, when the card was reset: the command in
+ * progress and the last response are dropped. GT_OK. */
+GT_FUNCTION int32_t gt_t1_reset(gt_t1 *t) {
+    if (!t) return GT_NULL;
+    return galliumtoad_t1_reset(t);
+}
+
+/* Gives the memory back, at any time; the handle holds nothing then, and may be used again. Of one
+ * that holds nothing, or NULL, it is harmless. */
+GT_FUNCTION void gt_t1_free(gt_t1 *t) {
+    if (t) galliumtoad_t1_free(t);
 }
 
 /* ---- A card (ISO/IEC 7816-4; this project's profile) -----------------------------------------

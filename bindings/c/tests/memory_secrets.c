@@ -257,6 +257,42 @@ static void in_a_session(gt_card *c) {
     CHECK(select_app(c), 0x610B);
 }
 
+/* A terminal's end at T=1 whose card sends this block. */
+static void comes(gt_t1 *t, uint8_t pcb, const uint8_t *info, size_t n) {
+    uint8_t block[GT_BLOCK_LIMIT] = { 0 };
+    size_t i, taken = 0;
+    block[1] = pcb;
+    block[2] = (uint8_t)n;
+    memcpy(block + 3, info, n);
+    for (i = 0; i < n + 3; i++) block[n + 3] ^= block[i];
+    CHECK(gt_t1_receive_bytes(t, block, n + 4, &taken), GT_SENDS);
+}
+
+/* An end at T=1 keeps its command and the response, until it is reset or given back. */
+static void at_t1(bool is_reset) {
+    static const uint8_t ifs[] = { 0xFE };
+    uint8_t block[GT_BLOCK_LIMIT], waits = 0;
+    gt_t1 t = GT_INIT;
+    size_t n = 0;
+    CHECK(gt_t1_new(&t, GT_LRC, 254, 4, 16, GT_ANSWER_LIMIT), GT_OK);
+    CHECK(gt_t1_begin(&t, secret, PIECE), GT_OK);
+    CHECK(held(), 1);
+    comes(&t, 0xE1, ifs, 1);
+    CHECK(gt_t1_send_bytes(&t, block, sizeof block, &n, &waits), GT_OK);
+    CHECK(held(), 1);
+    comes(&t, 0x90, ifs, 0);
+    comes(&t, 0x20, secret, 200);
+    CHECK(held() > 1, 1);
+    comes(&t, 0x40, secret, 50);
+    CHECK(given_back, 0);
+    if (is_reset) {
+        CHECK(gt_t1_reset(&t), GT_OK);
+        GONE();
+    }
+    gt_t1_free(&t);
+    GONE();
+}
+
 int main(void) {
     static const size_t sizes[] = { FRONT, PIECE, PIECE + FRONT, LONG, GT_VALUE_LIMIT };
     gt_card card = GT_INIT;
@@ -275,6 +311,8 @@ int main(void) {
     a_reader_stops(&card);
     in_a_session(&card);
     full(&card);
+    at_t1(false);
+    at_t1(true);
     gt_card_free(&card);
     for (i = 0; i < MOST; i++) if (blocks[i].at) break;
     CHECK(i, MOST);

@@ -7,6 +7,7 @@
 #include "print.h"
 #include "serial_answer.h"
 #include "serial_options.h"
+#include "serial_t1.h"
 #include "steps.h"
 
 #include <string.h>
@@ -25,8 +26,8 @@ static const char HELP[] =
     ;
 
 static const char *const OPTIONS[] = {
-    "-v", "-k", "-f", "--baud", "--reset", "--held-by", "--no-echo", "--pps", "--slack",
-    "--patience", "--verify", "-h", "--help", "-V", "--version", NULL
+    "-v", "-k", "-f", "--baud", "--reset", "--held-by", "--no-echo", "--protocol", "--pps",
+    "--slack", "--patience", "--verify", "-h", "--help", "-V", "--version", NULL
 };
 
 static const enum port_signal SIGNALS[] = { PORT_RTS, PORT_DTR, PORT_NONE };
@@ -39,6 +40,7 @@ struct session {
     int64_t waiting_time;
     int64_t patience;
     int64_t nulls_since;        /* the time of the first of the NULLs that came last, or 0 */
+    struct t1_end t1;           /* its end at T=1, if that is talked */
 };
 
 static int tell(const char *fault)
@@ -116,11 +118,27 @@ static const char *pass_all(struct session *session, gt_terminal *terminal)
     return fault;
 }
 
+/* Passes the commands of the operation in progress at T=1, until it is over. */
+static const char *pass_commands(struct t1_end *t1, gt_terminal *terminal)
+{
+    uint8_t apdu[GT_APDU_LIMIT], response[GT_ANSWER_LIMIT];
+    size_t n, most, len = 0;
+    const char *fault = NULL;
+    int32_t code;
+    while ((code = gt_terminal_apdu(terminal, apdu, &n, &most)) == GT_OK && fault == NULL) {
+        fault = t1_carry(t1, apdu, n, response, &len);
+        if (fault == NULL && (code = gt_terminal_responded(terminal, response, len)) != GT_OK)
+            fault = gt_text(code);
+    }
+    return fault == NULL && code != GT_NOT_DUE ? gt_text(code) : fault;
+}
+
 /* The `pass` of steps.h; `line` is a session. */
 static const char *pass(void *line, gt_terminal *terminal, const struct operation *operation)
 {
     struct session *session = line;
-    const char *fault = pass_all(session, terminal);
+    const char *fault = session->line->is_of_blocks ? pass_commands(&session->t1, terminal)
+                                                    : pass_all(session, terminal);
     (void)operation;
     line_note_text(session->line, NULL);
     return fault;
@@ -178,12 +196,33 @@ static const char *print_meaning(const struct answer *answer)
     return fflush(stdout) == 0 && !ferror(stdout) ? NULL : "write fault";
 }
 
+/* Prepares the end at T=1 for what the answer says of that. */
+static const char *begin_t1(struct session *session, const struct answer *answer)
+{
+    const gt_atr_t1 *says = &answer->says.t1;
+    const int32_t code = gt_t1_new(&session->t1.end, says->edc, says->ifsc, GT_T1_TRIES,
+                                   GT_T1_EXTENSIONS, GT_ANSWER_LIMIT);
+    session->t1.line = session->line;
+    session->t1.times = t1_times_of(session->line, says, answer->clock);
+    return code == GT_OK ? NULL : gt_text(code);
+}
+
+/* Goes on with the protocol that is asked for, or the one that the card offers first. */
+static const char *go_on(struct session *session, struct answer *answer,
+                         const struct serial_options *options)
+{
+    const char *fault =
+        answer_go_on(answer, answer_protocol(&answer->says, options->protocol),
+                     options->asks_pps, &session->waiting_time);
+    return fault == NULL && session->line->is_of_blocks ? begin_t1(session, answer) : fault;
+}
+
 /* Resets the card, and carries out the steps with it. */
 static int run_over(struct port *port, const struct script *script,
                     const struct serial_options *options)
 {
     struct line line = serial_options_line(options, port, LINE_TERMINAL);
-    struct session session = { NULL, 0, 0, 0 };
+    struct session session = { NULL, 0, 0, 0, { NULL, { 0, 0, 0 }, GT_INIT } };
     struct steps steps = { GT_INIT, pass, NULL, false, false };
     struct answer answer;
     struct answer_wishes wishes;
@@ -204,11 +243,12 @@ static int run_over(struct port *port, const struct script *script,
     if (fault == NULL && script->count == 0)
         fault = print_meaning(&answer);
     if (fault == NULL)
-        fault = answer_go_on(&answer, options->asks_pps, &session.waiting_time);
+        fault = go_on(&session, &answer, options);
     if (fault != NULL)
         result = tell(fault);
     else
         result = steps_carry_out(&steps, script) ? ALL_WELL : FAULT;
+    gt_t1_free(&session.t1.end);
     gt_terminal_free(&steps.terminal);
     return result;
 }

@@ -159,11 +159,12 @@ static const char *set_rate(struct answer *answer, bool is_of_card)
 {
     struct line *line = answer->line;
     const gt_atr *says = &answer->says;
+    const unsigned guard = line->is_of_blocks ? says->guard_etu_t1 : says->guard_etu;
     const unsigned fi = has_rate(says) ? says->fi : ANSWER_CYCLES;
     const unsigned di = has_rate(says) ? says->di : 1;
     const char *fault =
         line_set(line, is_of_card ? answer_rate(answer) : answer->clock / ANSWER_CYCLES);
-    line->guard = line_etu(line, says->guard_etu - LINE_CHARACTER_ETU);
+    line->guard = guard > LINE_CHARACTER_ETU ? line_etu(line, guard - LINE_CHARACTER_ETU) : 0;
     if (says->guard_indicated > 0)
         line->guard += cycles(answer, (uint64_t)says->guard_indicated * fi / di + 1);
     return fault;
@@ -186,14 +187,15 @@ static const char *take_response(struct line *line, uint8_t response[GT_PPS_LIMI
     return fault == LINE_IS_SILENT ? "the card does not answer to PPS" : fault;
 }
 
-/* Asks for T=0 at the rate of this PPS1; `is_taken` says whether the card goes on by that. */
-static const char *ask(struct line *line, uint8_t pps1, bool *is_taken)
+/* Asks for a protocol at the rate of this PPS1, or GT_ABSENT; `is_taken` says whether the card goes
+ * on by that rate. */
+static const char *ask(struct line *line, int protocol, uint16_t pps1, bool *is_taken)
 {
     uint8_t request[GT_PPS_LIMIT], response[GT_PPS_LIMIT];
     size_t n = 0, count = 0;
     FILE *trace = line->trace;
     const char *fault;
-    int32_t code = gt_pps_request(0, pps1, GT_ABSENT, GT_ABSENT, request, &n);
+    int32_t code = gt_pps_request((uint8_t)protocol, pps1, GT_ABSENT, GT_ABSENT, request, &n);
     if (code != GT_OK)
         return gt_text(code);
     line_note_text(line, NULL);
@@ -211,38 +213,64 @@ static const char *ask(struct line *line, uint8_t pps1, bool *is_taken)
     return code == 1 ? NULL : "the card does not accept what PPS asks for";
 }
 
-const char *answer_refusal(const gt_atr *says)
+int answer_protocol(const gt_atr *says, int wanted)
 {
-    if ((says->specific ? says->specific_t : says->protocols[0]) != 0)
-        return "the card does not talk T=0";
+    return wanted != ANSWER_FIRST ? wanted
+        : says->specific ? says->specific_t : says->protocols[0];
+}
+
+/* Why it refuses T=1 by what the answer says of that. */
+static const char *refusal_of_t1(const gt_atr_t1 *says)
+{
+    if (says->edc != GT_LRC)
+        return "the card's blocks have no LRC, but a CRC";
+    if (says->ifsc == 0)
+        return "the card's IFSC is reserved";
+    return says->bwt_etu == 0 ? "the card's block waiting time is reserved" : NULL;
+}
+
+const char *answer_refusal(const gt_atr *says, int protocol)
+{
+    if (protocol != 0 && protocol != 1)
+        return "the card talks neither T=0 nor T=1";
+    if (says->specific ? says->specific_t != protocol
+                       : memchr(says->protocols, protocol, says->protocol_count) == NULL)
+        return protocol == 0 ? "the card does not talk T=0" : "the card does not talk T=1";
     if (says->implicit)
         return "the card goes on at a rate that it does not tell";
     if (says->specific && !has_rate(says))
         return "the card goes on at a rate that is reserved";
+    if (protocol == 1)
+        return refusal_of_t1(&says->t1);
     return says->waiting_integer == 0 ? "the card's waiting time is reserved" : NULL;
 }
 
-/* Asks for the card's own rate by PPS, once the tty has shown that it runs so. */
-static const char *ask_for_rate(struct answer *answer)
+/* Asks by PPS for a protocol, and for the card's own rate if that is wanted, once the tty has shown
+ * that it runs so. */
+static const char *ask_for(struct answer *answer, int protocol, bool wants_rate)
 {
     bool is_taken = false;
-    const char *fault = set_rate(answer, true);
+    const char *fault = wants_rate ? set_rate(answer, true) : NULL;
     if (fault == NULL)
         fault = set_rate(answer, false);
     if (fault == NULL)
-        fault = ask(answer->line, answer->says.rate_code, &is_taken);
+        fault = ask(answer->line, protocol, wants_rate ? answer->says.rate_code : GT_ABSENT,
+                    &is_taken);
     return fault == NULL && is_taken ? set_rate(answer, true) : fault;
 }
 
 /* In specific mode the card goes on at once by what it says, else as before or as PPS has it. */
-const char *answer_go_on(struct answer *answer, bool asks_pps, int64_t *waiting_time)
+const char *answer_go_on(struct answer *answer, int protocol, bool asks_pps,
+                         int64_t *waiting_time)
 {
     const gt_atr *says = &answer->says;
-    const bool asks = asks_pps && !says->specific && has_rate(says)
+    const bool wants_rate = asks_pps && !says->specific && has_rate(says)
         && says->rate_code != RATE_OF_RESET;
-    const char *fault = answer_refusal(says);
+    const bool asks = wants_rate || protocol != answer_protocol(says, ANSWER_FIRST);
+    const char *fault = answer_refusal(says, protocol);
+    answer->line->is_of_blocks = protocol == 1;
     if (fault == NULL)
-        fault = asks ? ask_for_rate(answer) : set_rate(answer, says->specific);
+        fault = asks ? ask_for(answer, protocol, wants_rate) : set_rate(answer, says->specific);
     *waiting_time = answer_waiting_time(answer) + answer->line->slack;
     return fault;
 }

@@ -10,6 +10,9 @@
 /* the most characters before TS that are taken for noise (profile) */
 #define ANSWER_NOISE_LIMIT 16
 
+/* no protocol in particular: the one that the card offers first */
+#define ANSWER_FIRST (-1)
+
 /* How the card is reset. */
 struct answer_wishes {
     enum port_signal reset;     /* the line that does it, or PORT_NONE */
@@ -35,13 +38,18 @@ struct answer {
 const char *answer_take(struct answer *answer, struct line *line,
                         const struct answer_wishes *wishes);
 
-/* Why a terminal refuses a card whose answer says this. */
-const char *answer_refusal(const gt_atr *says);
+/* The protocol that a talk begins with: this one, or the one that the card offers first. */
+int answer_protocol(const gt_atr *says, int wanted);
 
-/* Continues at the rate of the answer, or after PPS if that is asked for. The line has then its
+/* Why a terminal refuses a card whose answer says this, for T=0 or T=1. */
+const char *answer_refusal(const gt_atr *says, int protocol);
+
+/* Continues with this protocol, at the rate of the answer, or after PPS: if that is asked for, or
+ * if the card offers another protocol first. The line has then its
  * convention, its parity, its rate and its guard time. `waiting_time` gets how long a terminal
- * waits for a character of the card, with the line's slack. */
-const char *answer_go_on(struct answer *answer, bool asks_pps, int64_t *waiting_time);
+ * waits for a character of the card at T=0, with the line's slack. */
+const char *answer_go_on(struct answer *answer, int protocol, bool asks_pps,
+                         int64_t *waiting_time);
 
 /* The rate of the card's Fi and Di in baud. Neither may be 0. */
 unsigned long answer_rate(const struct answer *answer);

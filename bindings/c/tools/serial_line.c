@@ -4,8 +4,8 @@
 
 const char LINE_IS_SILENT[] = "the other end is silent";
 const char LINE_IS_GONE[] = "the line is gone";
-
-static const char WRONG_PARITY[] = "a character has come with a wrong parity";
+const char LINE_HAS_WRONG_PARITY[] = "a character has come with a wrong parity";
+const char LINE_IS_BROKEN[] = "no valid block has come";
 static const char UNEXPECTED[] = "unexpected byte";
 
 int64_t line_etu(const struct line *line, unsigned long count)
@@ -74,7 +74,7 @@ static const char *text_of(enum port_result result)
     switch (result) {
     case PORT_IS_WELL: return NULL;
     case PORT_IS_SILENT: return LINE_IS_SILENT;
-    case PORT_IS_CUT: return WRONG_PARITY;
+    case PORT_IS_CUT: return LINE_HAS_WRONG_PARITY;
     default: return LINE_IS_GONE;
     }
 }
@@ -122,6 +122,22 @@ const char *line_refuse_early(struct line *line, int64_t wait)
     return line->sent_until == 0 ? "a byte behind the answer to reset" : UNEXPECTED;
 }
 
+const char *line_drop(struct line *line, int64_t first, int64_t quiet)
+{
+    int64_t wait = first;
+    size_t i;
+    for (i = 0; i < LINE_DROPS; i++) {
+        const enum port_result result = come_in(line, 1, port_now() + wait);
+        line->come_count = 0;
+        if (result == PORT_IS_GONE)
+            return LINE_IS_GONE;
+        if (result != PORT_IS_WELL)
+            return i == 0 && result == PORT_IS_SILENT ? NULL : LINE_IS_BROKEN;
+        wait = quiet;
+    }
+    return "the other end does not stop sending";
+}
+
 /* Hands bytes out as they stand on the line, once the first of them may go. Without an echo the
  * card has to be silent for as long as they take on a tty, less a 32nd for a rate that is off. */
 static const char *hand_out(struct line *line, const uint8_t *raw, size_t n)
@@ -131,8 +147,8 @@ static const char *hand_out(struct line *line, const uint8_t *raw, size_t n)
     const char *fault;
     port_sleep_until(line->free_from);
     if (line->own == LINE_TERMINAL) {
-        fault = line_refuse_early(line, 0);
-        if (fault != NULL)
+        fault = line->is_of_blocks ? line_drop(line, 0, 0) : line_refuse_early(line, 0);
+        if (fault != NULL && fault != LINE_IS_BROKEN)
             return fault;
         if (line->echo == LINE_HAS_NO_ECHO && !line->port->is_pseudo)
             line->quiet_until = port_now() + length - length / 32;
@@ -235,7 +251,7 @@ const char *line_receive(struct line *line, uint8_t *byte, int64_t wait)
     *byte = by_convention(line, raw);
     line_note(line, other_of(line), *byte);
     if (!is_well(line, has_other_parity))
-        return WRONG_PARITY;
+        return LINE_HAS_WRONG_PARITY;
     return line->echo == LINE_GIVES_ECHO ? give_echo(line, raw) : NULL;
 }
 
@@ -270,7 +286,7 @@ const char *line_look(struct line *line, uint8_t bytes[LINE_RUN], size_t *n, int
     if (*n > 0)
         return NULL;
     note_first(line);
-    return line->is_early ? UNEXPECTED : WRONG_PARITY;
+    return line->is_early ? UNEXPECTED : LINE_HAS_WRONG_PARITY;
 }
 
 void line_take(struct line *line, const uint8_t *bytes, size_t n)

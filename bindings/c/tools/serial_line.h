@@ -1,4 +1,4 @@
-/* The characters of a T=0 line at one of its ends, over a port: conventions, the echo, guard times
+/* The characters of a line at one of its ends, over a port: conventions, the echo, guard times
  * and waiting times, and a trace. */
 #ifndef SERIAL_LINE_H
 #define SERIAL_LINE_H
@@ -19,6 +19,9 @@
 
 /* as many characters as go or come at once, at most: more than an end of T=0 sends in a row */
 #define LINE_RUN 300
+
+/* how often characters that nobody awaits are dropped, before that is a fault */
+#define LINE_DROPS 1000
 
 /* how late a byte comes from the driver of a tty, at most, and how late the next one of an echo, in
  * microseconds: a USB adapter keeps bytes for 16 ms */
@@ -45,6 +48,7 @@ struct line {
     struct port *port;
     enum line_end own;
     enum line_echo echo;
+    bool is_of_blocks;          /* T=1: what comes before the own end sends is dropped */
     bool is_inverse;            /* the convention */
     bool has_parity_of_direct;  /* it is inverse, and the port's parity is not yet */
     unsigned long baud;
@@ -60,10 +64,13 @@ struct line {
     char last_sign;             /* of the line of the trace that is not ended, or NUL */
 };
 
-/* What the functions below answer where the time is over, and where the other end is gone: these
- * very pointers. NULL is for what went well, and any other text for what did not. */
+/* What the functions below answer where the time is over, where the other end is gone, where a
+ * character has a wrong parity, and where what came is no block: these very pointers. NULL is for
+ * what went well, and any other text for what did not. */
 extern const char LINE_IS_SILENT[];
 extern const char LINE_IS_GONE[];
+extern const char LINE_HAS_WRONG_PARITY[];
+extern const char LINE_IS_BROKEN[];
 
 /* How long so many etu are at the line's rate. */
 int64_t line_etu(const struct line *line, unsigned long count);
@@ -92,6 +99,11 @@ const char *line_refuse_early(struct line *line, int64_t wait);
  * as the header does. So this waits until a byte differs, or none has followed for
  * LINE_ECHO_LATE. */
 const char *line_refuse_echo(struct line *line, const uint8_t *header, size_t n, int64_t wait);
+
+/* Drops what comes within `first`, and then all until nothing has come for `quiet`. NULL: nothing
+ * has come. LINE_IS_BROKEN: something has, and was dropped. An end that does not stop sending is a
+ * fault. */
+const char *line_drop(struct line *line, int64_t first, int64_t quiet);
 
 /* Takes so many of those that were looked at, as if each had been received. */
 void line_take(struct line *line, const uint8_t *bytes, size_t n);

@@ -62,6 +62,14 @@ static const char *read_state(const char *word, bool *is_on)
                                               : refuse(word, "is neither 'on' nor 'off'");
 }
 
+static const char *read_protocol(const char *word, int *protocol)
+{
+    unsigned long number = 0;
+    const char *fault = read_number("--protocol", word, 0, 1, &number);
+    *protocol = (int)number;
+    return fault;
+}
+
 static const char *read_plan(struct serial_options *options, const char *word)
 {
     if (options->plan_count == SERIAL_PLANS_LIMIT)
@@ -88,6 +96,8 @@ static const char *read_with_word(struct serial_options *options, const enum por
         return read_state(word, &options->is_held_by_on);
     if (strcmp(option, "--plan") == 0)
         return read_plan(options, word);
+    if (strcmp(option, "--protocol") == 0)
+        return read_protocol(word, &options->protocol);
     options->file = word;
     return NULL;
 }
@@ -139,6 +149,7 @@ const char *serial_options_read(struct serial_options *options, const struct ser
     options->has_echo = options->is_held_by_on = true;
     options->reset = names->reset;
     options->baud = 9600;
+    options->protocol = ANSWER_FIRST;
     options->slack = 200;
     options->patience = 300;
     for (; words.at < argc && argv[words.at][0] == '-' && fault == NULL; words.at++) {

@@ -2,7 +2,7 @@
 #ifndef SERIAL_OPTIONS_H
 #define SERIAL_OPTIONS_H
 
-#include "serial_line.h"
+#include "serial_answer.h"
 
 #include <stdbool.h>
 #include <stddef.h>
@@ -18,6 +18,7 @@ struct serial_options {
     bool verifies;              /* --verify */
     bool has_echo;              /* not --no-echo */
     bool asks_pps;              /* --pps */
+    int protocol;               /* --protocol, or ANSWER_FIRST */
     bool makes_line;            /* --pty */
     bool is_held_by_on;         /* not --held-by off */
     enum port_signal reset;     /* --reset */

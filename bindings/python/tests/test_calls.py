@@ -74,6 +74,7 @@ def test_each_code_has_its_kind():
         6: {TransportError},
         7: {AtrError},
         8: {PpsError},
+        9: {LineError},
     }
     with raises(OutOfMemory, "GT_MEMORY"):
         checked(lib.GT_MEMORY)

@@ -67,6 +67,23 @@ declared! {
         t: *mut Held, status: *mut u16, data: *mut u8, room: usize, len: *mut usize
     ) -> i32;
 
+    fn galliumtoad_t1_new(
+        t: *mut Held, edc: u8, ifsc: u8, tries: u8, extensions: u8, limit: usize
+    ) -> i32;
+    fn galliumtoad_t1_begin(t: *mut Held, apdu: *const u8, n: usize) -> i32;
+    fn galliumtoad_t1_send_bytes(
+        t: *mut Held, bytes: *mut u8, room: usize, n: *mut usize, waits: *mut u8
+    ) -> i32;
+    fn galliumtoad_t1_receive_bytes(
+        t: *mut Held, bytes: *const u8, n: usize, taken: *mut usize
+    ) -> i32;
+    fn galliumtoad_t1_missed(t: *mut Held) -> i32;
+    fn galliumtoad_t1_response(
+        t: *mut Held, response: *mut u8, room: usize, len: *mut usize
+    ) -> i32;
+    fn galliumtoad_t1_fault(t: *mut Held, cause: *mut i32, outcome: *mut i32) -> i32;
+    fn galliumtoad_t1_reset(t: *mut Held) -> i32;
+
     fn galliumtoad_card_new(c: *mut Held) -> i32;
     fn galliumtoad_card_app(c: *mut Held, aid: *const u8, n: usize) -> i32;
     fn galliumtoad_card_object(
@@ -123,6 +140,7 @@ declared! {
     fn galliumtoad_version() -> u32;
     fn galliumtoad_exchange_free(e: *mut Held);
     fn galliumtoad_terminal_free(t: *mut Held);
+    fn galliumtoad_t1_free(t: *mut Held);
     fn galliumtoad_card_free(c: *mut Held);
     fn galliumtoad_session_free(s: *mut Held);
 }

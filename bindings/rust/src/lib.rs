@@ -19,6 +19,7 @@ mod pps;
 mod raw;
 mod session;
 mod status;
+mod t1;
 mod tables;
 mod terminal;
 mod transport;
@@ -41,6 +42,8 @@ pub use objects::{find, head, Object, Objects, ObjectsError, Reason, LEVELS_LIMI
 pub use pps::{Pps, PpsError, PPS_LIMIT};
 pub use session::{End, Session};
 pub use status::Status;
+pub use t1::{Block, Cause, Outcome, Received, T1Fault, T1Limits, T1};
+pub use t1::{BLOCK_LIMIT, T1_EXTENSIONS, T1_TRIES};
 pub use terminal::{Operation, Terminal};
 pub use transport::{Level, RunError, Transport};
 pub use version::{version, version_fits};

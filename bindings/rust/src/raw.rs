@@ -118,6 +118,12 @@ pub const NOT_FOUND: i32 = -8;
 
 pub const TERMINAL: u8 = 0;
 
+pub const LRC: u8 = 1;
+pub const CRC: u8 = 2;
+
+pub const NOT_CARRIED_OUT: i32 = 0;
+pub const IN_PART: i32 = 2;
+
 /// Declares functions of the archive.
 macro_rules! declared {
     ($(fn $name:ident($($arg:ident: $of:ty),*) $(-> $back:ty)?;)*) => {

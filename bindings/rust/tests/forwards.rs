@@ -6,6 +6,7 @@
 #![allow(unused_must_use)]
 
 use galliumtoad::{find, head, version, version_fits, Atr, Card, CardBuilder, Error, Exchange};
+use galliumtoad::{Cause, Edc, Outcome, T1Limits, T1};
 use galliumtoad::{Objects, Operation, Pps, ReceiveError, Sent, Session, Stop, Terminal, Turn};
 use std::cell::{Cell, RefCell};
 use std::process::Command;
@@ -250,6 +251,54 @@ fn of_a_terminal() {
     hands!(it.answer_into(&mut room) => terminal_answer(_, _, space, 260, _));
     hands!(it.reset() => terminal_reset(_));
     hands!(drop(it) => terminal_free(_));
+}
+
+#[test]
+fn of_an_end_at_t1() {
+    let (bytes, mut room) = (at(&BYTES), [0; 258]);
+    let space = at(&room);
+    let limits = T1Limits {
+        tries: 3,
+        extensions: 250,
+        response: usize::MAX - 1,
+    };
+    tell(0);
+    let most = usize::MAX - 1;
+    let made = hands!(T1::new(Edc::Lrc, 254, limits) => t1_new(_, 1, 254, 3, 250, most));
+    let mut it = made.expect("an end");
+    hands!(it.begin(&BYTES) => t1_begin(_, bytes, 7));
+    let sent = hands!(it.block_into(&mut room) => t1_send_bytes(_, space, 258, _, _));
+    assert!(sent.expect("a block").is_some());
+    assert!(
+        !hands!(it.receive(&BYTES) => t1_receive_bytes(_, bytes, 7, _))
+            .expect("bytes")
+            .is_whole
+    );
+    hands!(it.missed() => t1_missed(_));
+    hands!(it.response_into(&mut room[..5]) => t1_response(_, space, 5, _));
+    let fault = hands!(it.fault() => t1_fault(_, _, _)).expect("a fault");
+    assert_eq!(fault.outcome, Outcome::NotCarriedOut);
+    assert_eq!(fault.cause, Cause::Unknown(0));
+    hands!(it.reset() => t1_reset(_));
+    tell(1);
+    assert!(
+        hands!(it.receive(&BYTES) => t1_receive_bytes(_, bytes, 7, _))
+            .expect("bytes")
+            .is_whole
+    );
+    tell(2);
+    let sent = hands!(it.block_into(&mut room) => t1_send_bytes(_, space, 258, _, _));
+    assert_eq!(sent, Ok(None));
+    tell(-9);
+    let sent = hands!(it.block_into(&mut room) => t1_send_bytes(_, space, 258, _, _));
+    assert_eq!(sent, Err(Error::Failed));
+    tell(-8);
+    assert_eq!(hands!(it.fault() => t1_fault(_, _, _)), None);
+    hands!(drop(it) => t1_free(_));
+    tell(-5);
+    let refused = hands!(T1::new(Edc::Crc, 0, T1Limits::default()) =>
+        t1_new(_, 2, 0, 4, 16, 258), t1_free(_));
+    assert_eq!(refused.err(), Some(Error::Argument));
 }
 
 /// Limits are handed on as they are, and what the archive makes of them is told.

@@ -2,7 +2,7 @@
 //! types threads share.
 
 use galliumtoad::{find, Atr, CardBuilder, Error, Exchange, Objects, Operation, Pps, Session};
-use galliumtoad::{Answer, Card, Entry, Level, RunError, Status, Stop, Terminal, Tpdu, Turn};
+use galliumtoad::{Answer, Card, Entry, Level, RunError, Status, Stop, Terminal, Tpdu, Turn, T1};
 use std::collections::HashSet;
 use std::error::Error as Cause;
 use std::fmt;
@@ -230,6 +230,7 @@ fn handles_may_go_to_another_thread_and_other_values_be_shared() {
     fn goes<T: Send>() {}
     fn is_shared<T: Send + Sync>() {}
     goes::<Terminal>();
+    goes::<T1>();
     goes::<Exchange>();
     goes::<Session>();
     goes::<Card>();

@@ -7,6 +7,7 @@ pub mod FindLemmas
 pub mod HeldExchangeKind
 pub mod HeldKind
 pub mod HeldSend
+pub mod HeldT1Kind
 pub mod HeldTerminalKind
 pub mod HeldWalks
 pub mod Listing

@@ -8,6 +8,9 @@ use Rattle.tlv_core.specs.declared.fault.Reason as reason
 use Rattle.apdu_core.specs.declared.command.ApduFault as command
 use Rattle.t0_core.specs.declared.answer_fault.AnswerFault as answer
 use Rattle.t0_core.specs.declared.tpdu_fault.TpduFault as tpdu
+use Rattle.t1_core.specs.declared.terminal.BeginFault as begin
+use Rattle.t1_core.specs.declared.terminal.Cause as cause
+use Rattle.t1_core.specs.declared.terminal.Outcome as outcome
 
 abbrev pub gt_ok : ℤ
 gt_ok = pos 0
@@ -114,3 +117,18 @@ pps_code pps.TheVariants.Cut = negsuc 80
 pps_code pps.TheVariants.Reserved = negsuc 81
 pps_code pps.TheVariants.Surplus = negsuc 82
 pps_code pps.TheVariants.CheckWrong = negsuc 83
+
+abbrev pub begin_code : begin.BeginFault → ℤ
+begin_code begin.TheVariants.NotReady = gt_state
+begin_code begin.TheVariants.OutOfMemory = gt_memory
+
+abbrev pub cause_code : cause.Cause → ℤ
+cause_code cause.TheVariants.TriesSpent = negsuc 89
+cause_code cause.TheVariants.ExtensionsSpent = negsuc 90
+cause_code cause.TheVariants.Aborted = negsuc 91
+cause_code cause.TheVariants.TooLong = negsuc 31
+
+abbrev pub outcome_number : outcome.Outcome → ℤ
+outcome_number outcome.TheVariants.NotCarriedOut = pos 0
+outcome_number outcome.TheVariants.Unknown = pos 1
+outcome_number outcome.TheVariants.InPart = pos 2

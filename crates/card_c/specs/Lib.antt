@@ -12,6 +12,7 @@ pub mod ExchangeCalls
 pub mod ExchangeHandle
 pub mod HeardCalls
 pub mod HeldExchangeOwned
+pub mod HeldT1Owned
 pub mod HeldTerminalOwned
 pub mod PlanCalls
 pub mod PlanLetters
@@ -19,6 +20,8 @@ pub mod PpsCalls
 pub mod Reading
 pub mod SendCalls
 pub mod SessionCalls
+pub mod T1Calls
+pub mod T1Handle
 pub mod TableCalls
 pub mod TagNumbers
 pub mod TerminalCalls

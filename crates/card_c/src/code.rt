@@ -1,6 +1,6 @@
 //! The codes that exports answer: one list, whose numbers are fixed. The header has it too.
 ghost use Rattle.std.specs.Prelude.{◌≡◌};
-ghost use Rattle.card_c.specs.Codes.{answer_code, atr_code, builder_code, command_code, line_code, pps_code, reason_code, tpdu_code};
+ghost use Rattle.card_c.specs.Codes.{answer_code, atr_code, begin_code, builder_code, cause_code, command_code, line_code, outcome_number, pps_code, reason_code, tpdu_code};
 ghost use Rattle.card_c.specs.ExchangeCalls.{turn_code, taking_code};
 ghost use Rattle.card_c.specs.BufferCalls.{stop_code};
 
@@ -8,6 +8,7 @@ use apdu_core::ApduFault;
 use atr_core::{PpsFault, Reason as AtrReason};
 use object_card::BuilderFault;
 use t0_core::{AnswerFault, HostTurn, LineFault, TpduFault};
+use t1_core::{BeginFault, Cause, Outcome};
 use tlv_core::Reason;
 
 /// It went well; of a turn, the end listens.
@@ -194,5 +195,38 @@ pub fn of_pps(fault: PpsFault) -> i32
         PpsFault::Reserved => -82,
         PpsFault::Surplus => -83,
         PpsFault::CheckWrong => -84,
+    }
+}
+
+/// Why a command does not begin at T=1.
+pub fn of_t1_begin(fault: BeginFault) -> i32
+    ensures { result ≡ begin_code fault }
+{
+    match fault {
+        BeginFault::NotReady => STATE,
+        BeginFault::OutOfMemory => MEMORY,
+    }
+}
+
+/// Why a terminal's end at T=1 gave up.
+pub fn of_t1_cause(cause: Cause) -> i32
+    ensures { result ≡ cause_code cause }
+{
+    match cause {
+        Cause::TriesSpent => -90,
+        Cause::ExtensionsSpent => -91,
+        Cause::Aborted => -92,
+        Cause::TooLong => -32,
+    }
+}
+
+/// What is known of the command then.
+pub fn of_t1_outcome(outcome: Outcome) -> i32
+    ensures { result ≡ outcome_number outcome }
+{
+    match outcome {
+        Outcome::NotCarriedOut => 0,
+        Outcome::Unknown => 1,
+        Outcome::InPart => 2,
     }
 }

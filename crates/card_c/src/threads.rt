@@ -2,6 +2,7 @@
 
 use crate::card_held::GtCard;
 use crate::held_exchange::ExchangeHandle;
+use crate::held_t1::T1Handle;
 use crate::held_terminal::TerminalHandle;
 
 fn goes<T: Send>() {}
@@ -10,5 +11,6 @@ fn goes<T: Send>() {}
 pub fn handles_go() {
     goes::<GtCard>();
     goes::<ExchangeHandle>();
+    goes::<T1Handle>();
     goes::<TerminalHandle>();
 }

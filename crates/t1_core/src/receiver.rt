@@ -90,6 +90,8 @@ impl Receiver {
     pub fn take_bytes(&mut self, bytes: &[u8]) -> usize
         ensures after { self.new ≡ self.old ++ take result bytes.now }
         ensures all { (result ≡ length bytes.now) ⊎ (is_whole self.new ≡ true) }
+        ensures none_behind { (k : ℕ) → k < result →
+            is_whole (self.old ++ take k bytes.now) ≡ false }
     {
         for at in 0..bytes.len() {
             if self.is_whole() {

@@ -76,6 +76,7 @@ _KINDS: dict[int, type[Error]] = {
     6: TransportError,
     7: AtrError,
     8: PpsError,
+    9: LineError,
 }
 
 

@@ -1,0 +1,92 @@
+#include "serial_t1.h"
+
+/* what is known of a command, by its number in galliumtoad.h */
+static const char *const OUTCOMES[] = {
+    "the card has not carried out the command",
+    "the card may have carried out the command",
+    "the card has carried out the command",
+};
+
+static char told[160];
+
+struct t1_times t1_times_of(const struct line *line, const gt_atr_t1 *says, unsigned long clock)
+{
+    struct t1_times times;
+    times.bwt = line_etu(line, says->bwt_etu)
+        + (int64_t)((says->bwt_cycles * 1000000 + clock - 1) / clock) + line->slack;
+    times.cwt = line_etu(line, says->cwt_etu) + line->slack;
+    times.bgt = line_etu(line, says->bgt_etu);
+    return times;
+}
+
+/* Whether LEN, the third byte, says that the last one has come; none is longer than GT_BLOCK_LIMIT
+ * by more than one. */
+static bool is_whole(const struct t1_block *block)
+{
+    return block->n == sizeof block->bytes
+        || (block->n > 3 && block->n >= block->bytes[2] + (size_t)4);
+}
+
+const char *t1_receive(struct line *line, const struct t1_times *times, int64_t wait,
+                       struct t1_block *block)
+{
+    const char *fault = NULL, *end;
+    while (!is_whole(block) && fault == NULL) {
+        fault = line_receive(line, &block->bytes[block->n], wait);
+        if (fault == NULL)
+            block->n++;
+        wait = times->cwt;
+    }
+    if (fault == LINE_IS_SILENT)
+        return block->n == 0 ? fault : LINE_IS_BROKEN;
+    if (fault != NULL && fault != LINE_HAS_WRONG_PARITY)
+        return fault;
+    end = line_drop(line, fault == NULL ? times->bgt : times->cwt, times->cwt);
+    return end == NULL && fault != NULL ? LINE_IS_BROKEN : end;
+}
+
+static const char *give_up(struct t1_end *t1)
+{
+    int32_t cause = GT_OK, outcome = GT_UNKNOWN;
+    if (gt_t1_fault(&t1->end, &cause, &outcome) != GT_OK)
+        return gt_text(GT_FAILED);
+    snprintf(told, sizeof told, "%s: %s", gt_text(cause), OUTCOMES[outcome]);
+    return told;
+}
+
+/* Sends the end's block, and takes the card's. */
+static const char *pass_block(struct t1_end *t1, const uint8_t *bytes, size_t n, uint8_t waits)
+{
+    struct t1_block block = { { 0 }, 0 };
+    int32_t code = GT_OK;
+    const char *fault = line_send_all(t1->line, bytes, n);
+    if (fault != NULL)
+        return fault;
+    fault = t1_receive(t1->line, &t1->times, t1->times.bwt * waits, &block);
+    if (fault == NULL)
+        code = gt_t1_receive_bytes(&t1->end, block.bytes, block.n, &block.n);
+    else if (fault == LINE_IS_BROKEN || fault == LINE_IS_SILENT)
+        code = gt_t1_missed(&t1->end);
+    else
+        return fault;
+    return code < 0 ? gt_text(code) : NULL;
+}
+
+const char *t1_carry(struct t1_end *t1, const uint8_t *apdu, size_t n,
+                     uint8_t response[GT_ANSWER_LIMIT], size_t *len)
+{
+    uint8_t bytes[GT_BLOCK_LIMIT], waits = 1;
+    const char *fault = NULL;
+    size_t size;
+    int32_t code = gt_t1_begin(&t1->end, apdu, n);
+    while (code == GT_OK && fault == NULL) {
+        code = gt_t1_send_bytes(&t1->end, bytes, sizeof bytes, &size, &waits);
+        if (code == GT_OK)
+            fault = pass_block(t1, bytes, size, waits);
+    }
+    if (fault == NULL && code == GT_FAILED)
+        return give_up(t1);
+    if (fault == NULL && code == GT_DONE)
+        code = gt_t1_response(&t1->end, response, GT_ANSWER_LIMIT, len);
+    return fault == NULL && code < 0 ? gt_text(code) : fault;
+}

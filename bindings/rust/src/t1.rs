@@ -1,0 +1,274 @@
+//! The terminal's end of a line at T=1 (ISO/IEC 7816-3, clause 11).
+
+use crate::atr::Edc;
+use crate::error::{codes, done, told, Error};
+use crate::raw::{self, Handle};
+use crate::whole::ANSWER_LIMIT;
+use std::{error, fmt};
+
+/// The most bytes of a block: NAD, PCB, LEN, 254 bytes and LRC.
+pub const BLOCK_LIMIT: usize = 258;
+
+/// Receptions in a row without a step forward that an end usually survives; EMV has 2.
+pub const T1_TRIES: u8 = 4;
+
+/// Requests of the card that an end usually grants in one command.
+pub const T1_EXTENSIONS: u8 = 16;
+
+codes! {
+    /// Why a terminal's end at T=1 gave up. Each has the number that `galliumtoad.h` gives it.
+    Cause {
+        /// No block brought it a step forward, too often in a row.
+        TriesSpent = -90, "no valid block, too often";
+        /// The card asked for more time or another IFSC too often.
+        ExtensionsSpent = -91, "too many requests of the card";
+        /// The card ended the chain in progress: S(ABORT request).
+        Aborted = -92, "aborted by the card";
+        /// The response is longer than the limit.
+        TooLong = -32, "response too long";
+    }
+}
+
+/// What is known of a command if a terminal's end at T=1 gave up.
+#[derive(Clone, Copy, Debug, PartialEq, Eq, Hash)]
+pub enum Outcome {
+    /// The card has not carried it out: its last block never went out.
+    NotCarriedOut,
+    /// The card may have carried it out.
+    Unknown,
+    /// The card has carried it out, and a part of its response came.
+    InPart,
+}
+
+/// Why a terminal's end at T=1 gave up, and what is known of the command.
+#[derive(Clone, Copy, Debug, PartialEq, Eq, Hash)]
+#[non_exhaustive]
+pub struct T1Fault {
+    pub cause: Cause,
+    pub outcome: Outcome,
+}
+
+impl fmt::Display for T1Fault {
+    fn fmt(&self, f: &mut fmt::Formatter<'_>) -> fmt::Result {
+        let outcome = match self.outcome {
+            Outcome::NotCarriedOut => "the card has not carried out the command",
+            Outcome::Unknown => "the card may have carried out the command",
+            Outcome::InPart => "the card has carried out the command",
+        };
+        write!(f, "{}: {outcome}", self.cause)
+    }
+}
+
+impl error::Error for T1Fault {}
+
+/// The limits of a terminal's end at T=1.
+#[derive(Clone, Copy, Debug, PartialEq, Eq, Hash)]
+pub struct T1Limits {
+    /// Receptions in a row without a step forward that it survives: one more is a fault.
+    pub tries: u8,
+    /// Requests of the card that it grants in one command.
+    pub extensions: u8,
+    /// The longest response that it takes, in bytes, the status among them.
+    pub response: usize,
+}
+
+impl Default for T1Limits {
+    /// [`T1_TRIES`], [`T1_EXTENSIONS`] and [`ANSWER_LIMIT`], which suit short commands.
+    fn default() -> T1Limits {
+        T1Limits {
+            tries: T1_TRIES,
+            extensions: T1_EXTENSIONS,
+            response: ANSWER_LIMIT,
+        }
+    }
+}
+
+/// A block that was copied into a buffer.
+#[derive(Clone, Copy, Debug, PartialEq, Eq, Hash)]
+#[non_exhaustive]
+pub struct Block {
+    /// How many bytes it has at the front of the buffer, 4 to [`BLOCK_LIMIT`].
+    pub count: usize,
+    /// How many times BWT the card has for its answer: 1, or as many as it asked for.
+    pub waits: u8,
+}
+
+/// Bytes of a card's block that were taken.
+#[derive(Clone, Copy, Debug, PartialEq, Eq, Hash)]
+#[non_exhaustive]
+pub struct Received {
+    /// How many. Those behind them are none of the block: drop them.
+    pub taken: usize,
+    /// Whether the block is whole, valid or not: then [`T1::block_into`] has the next one.
+    pub is_whole: bool,
+}
+
+/// A terminal's end of a line at T=1, which carries whole commands over a line that may damage and
+/// lose bytes. The times of the line are the caller's to keep; [`Atr`](crate::Atr) has them.
+///
+/// ```
+/// use galliumtoad::{Edc, Error, T1Limits, BLOCK_LIMIT, T1};
+///
+/// /// Sends a block, and receives the card's answer: a stand-in for a line.
+/// fn pass(block: &[u8]) -> &'static [u8] {
+///     match block[1] {
+///         0xC1 => b"\x00\xE1\x01\xFE\x1E",
+///         _ => b"\x00\x00\x02\x90\x00\x92",
+///     }
+/// }
+///
+/// let mut end = T1::new(Edc::Lrc, 32, T1Limits::default())?;
+/// let mut room = [0; BLOCK_LIMIT];
+/// end.begin(b"\x00\xDA\x5F\x20\x03JOE")?;
+/// while let Some(block) = end.block_into(&mut room)? {
+///     // the answer begins within BWT times `block.waits`
+///     if !end.receive(pass(&room[..block.count]))?.is_whole {
+///         end.missed()?;
+///     }
+/// }
+/// let count = end.response_into(&mut room)?;
+/// assert_eq!(room[..count], [0x90, 0x00]);
+/// # Ok::<(), Error>(())
+/// ```
+#[derive(Debug)]
+pub struct T1(Handle);
+
+impl T1 {
+    /// An end as after a reset of the card, whose answer to reset has this EDC and IFSC.
+    ///
+    /// # Errors
+    ///
+    /// - [`Error::Argument`]: `edc` is not [`Edc::Lrc`], or `ifsc` is 0 or 255.
+    /// - [`Error::Memory`]: it ran out.
+    pub fn new(edc: Edc, ifsc: u8, limits: T1Limits) -> Result<T1, Error> {
+        let t1 = T1(Handle::empty());
+        let edc = match edc {
+            Edc::Lrc => raw::LRC,
+            Edc::Crc => raw::CRC,
+        };
+        let (tries, extensions) = (limits.tries, limits.extensions);
+        // SAFETY: an empty handle.
+        done(unsafe {
+            raw::galliumtoad_t1_new(t1.0.at(), edc, ifsc, tries, extensions, limits.response)
+        })?;
+        Ok(t1)
+    }
+
+    /// Begins a command, which is copied.
+    ///
+    /// # Errors
+    ///
+    /// After each of these nothing has changed.
+    ///
+    /// - [`Error::State`]: a command is in progress, or the end gave up.
+    /// - [`Error::Memory`]: it ran out.
+    pub fn begin(&mut self, command: &[u8]) -> Result<(), Error> {
+        // SAFETY: an end's handle, and a slice with its length.
+        done(unsafe { raw::galliumtoad_t1_begin(self.0.at(), command.as_ptr(), command.len()) })
+    }
+
+    /// Copies the block to send now to the front of `room`, or returns `None` if no command is in
+    /// progress. Asked again it is the same block, until one of the next two calls.
+    ///
+    /// # Errors
+    ///
+    /// After each of these nothing has changed.
+    ///
+    /// - [`Error::Failed`]: the end gave up, see [`fault`](T1::fault).
+    /// - [`Error::Memory`]: it ran out.
+    pub fn block_into(&self, room: &mut [u8; BLOCK_LIMIT]) -> Result<Option<Block>, Error> {
+        let (mut count, mut waits) = (0, 0);
+        // SAFETY: an end's handle; `room` with its length, `count` and `waits` are apart.
+        let code = unsafe {
+            raw::galliumtoad_t1_send_bytes(
+                self.0.at(),
+                room.as_mut_ptr(),
+                room.len(),
+                &mut count,
+                &mut waits,
+            )
+        };
+        match told(code)? {
+            raw::DONE => Ok(None),
+            _ => Ok(Some(Block { count, waits })),
+        }
+    }
+
+    /// Takes bytes of the card, up to the end of its block.
+    ///
+    /// # Errors
+    ///
+    /// - [`Error::State`]: no block is awaited. Nothing has changed.
+    /// - [`Error::Memory`]: it ran out. The bytes of the block are kept: call again with none, or
+    ///   [`missed`](T1::missed).
+    pub fn receive(&mut self, bytes: &[u8]) -> Result<Received, Error> {
+        let mut taken = 0;
+        // SAFETY: an end's handle; a slice with its length, and `taken`, which are apart.
+        let code = told(unsafe {
+            raw::galliumtoad_t1_receive_bytes(self.0.at(), bytes.as_ptr(), bytes.len(), &mut taken)
+        })?;
+        let is_whole = code == raw::SENDS;
+        Ok(Received { taken, is_whole })
+    }
+
+    /// No valid block of the card came: none began within BWT, one stopped for longer than CWT, or
+    /// a character had a wrong parity.
+    ///
+    /// # Errors
+    ///
+    /// - [`Error::State`]: no block is awaited. Nothing has changed.
+    pub fn missed(&mut self) -> Result<(), Error> {
+        // SAFETY: an end's handle.
+        done(unsafe { raw::galliumtoad_t1_missed(self.0.at()) })
+    }
+
+    /// Copies the response to the last command to the front of `room`: data, and then SW1 SW2.
+    /// Returns how many bytes it has.
+    ///
+    /// # Errors
+    ///
+    /// After each of these nothing has changed, and `room` is as it was.
+    ///
+    /// - [`Error::State`]: a command is in progress, or the end gave up.
+    /// - [`Error::Buffer`]: there are more bytes than `room` has place for.
+    pub fn response_into(&self, room: &mut [u8]) -> Result<usize, Error> {
+        let mut count = 0;
+        // SAFETY: an end's handle; `room` with its length and `count` are apart.
+        done(unsafe {
+            raw::galliumtoad_t1_response(self.0.at(), room.as_mut_ptr(), room.len(), &mut count)
+        })?;
+        Ok(count)
+    }
+
+    /// Why the end gave up, if it did.
+    #[must_use]
+    pub fn fault(&self) -> Option<T1Fault> {
+        let (mut cause, mut outcome) = (0, 0);
+        // SAFETY: an end's handle; `cause` and `outcome` are apart.
+        done(unsafe { raw::galliumtoad_t1_fault(self.0.at(), &mut cause, &mut outcome) }).ok()?;
+        let outcome = match outcome {
+            raw::NOT_CARRIED_OUT => Outcome::NotCarriedOut,
+            raw::IN_PART => Outcome::InPart,
+            _ => Outcome::Unknown,
+        };
+        let cause = Cause::of(cause);
+        Some(T1Fault { cause, outcome })
+    }
+
+    /// Makes the end as it was after [`new`](T1::new), when the card was reset.
+    ///
+    /// # Errors
+    ///
+    /// None today.
+    pub fn reset(&mut self) -> Result<(), Error> {
+        // SAFETY: an end's handle.
+        done(unsafe { raw::galliumtoad_t1_reset(self.0.at()) })
+    }
+}
+
+impl Drop for T1 {
+    fn drop(&mut self) {
+        // SAFETY: the handle is not used again.
+        unsafe { raw::galliumtoad_t1_free(self.0.at()) }
+    }
+}

@@ -1,0 +1,183 @@
+"""A card at T=1 (ISO/IEC 7816-3, clause 11) behind a line that damages, loses, doubles and delays
+bytes: a stand-in for gt_serial, written from the standard's rules and apart from the library."""
+
+import random
+import select
+import threading
+import time
+from functools import reduce
+
+# what the line does with a block: nothing, a byte is changed, lost or sent twice, the block is
+# lost, or stops in the middle, or comes late
+FATES = ["well", "changed", "short", "doubled", "lost", "stopped", "late"]
+
+
+def lrc(data):
+    return reduce(lambda a, b: a ^ b, data, 0)
+
+
+def block(pcb, info=b""):
+    data = bytes([0, pcb, len(info)]) + info
+    return data + bytes([lrc(data)])
+
+
+def is_valid(data):
+    """Whether a card takes it for a block."""
+    return len(data) >= 4 and data[0] == 0 and data[2] < 255 and len(data) == data[2] + 4 \
+        and not lrc(data)
+
+
+class Objects:
+    """The card of data objects above the end: its commands, and how many it has carried out."""
+
+    def __init__(self):
+        self.values, self.chain, self.left, self.log = {"5F20": b"JOE"}, b"", b"", []
+
+    def carry_out(self, apdu):
+        self.log.append(apdu)
+        cla, ins, rest = apdu[0], apdu[1], apdu[4:]
+        if ins == 0xA4:
+            self.left = bytes.fromhex("6F098407A0000000031010")
+        elif ins == 0xDA:
+            self.chain += rest[1:1 + rest[0]] if rest else b""
+            if cla == 0:
+                self.values[apdu[2:4].hex().upper()], self.chain = self.chain, b""
+            return b"\x90\x00"
+        elif ins == 0xCA:
+            tag, value = apdu[2:4], self.values[apdu[2:4].hex().upper()]
+            size = len(value)
+            head = [0x82, *divmod(size, 256)] if size > 255 else [0x81, size][size < 128:]
+            self.left = tag + bytes(head) + value
+        le = apdu[-1] or 256
+        data, self.left = self.left[:le], self.left[le:]
+        more = min(len(self.left), 256) % 256
+        return data + (bytes([0x61, more]) if self.left else b"\x90\x00")
+
+
+class Card:
+    """The card's end: it answers each block with one block. `ifsc` is the longest field that it
+    takes, `extensions` how often it asks for more time before each response. With `narrow` it is a
+    card by EMV 4.3, Book 1, 9.2.4: its R-blocks name the error, and it falls silent for good when
+    one block has come wrong three times in a row."""
+
+    def __init__(self, objects, extensions=0, narrow=False):
+        self.objects, self.extensions, self.narrow, self.wrong = objects, extensions, narrow, 0
+        self.due = self.next = 0
+        self.ifsd, self.asked = 32, 0
+        self.command, self.response, self.sent = b"", None, b""
+
+    def again(self):
+        return block(0xC3, b"\x01") if self.asked else block(0x80 | self.due << 4)
+
+    def field(self):
+        info, self.response = self.response[:self.ifsd], self.response[self.ifsd:]
+        self.sent = block(self.next << 6 | (0x20 if self.response else 0), info)
+        self.next ^= 1
+        return self.sent
+
+    def begin(self):
+        if self.asked:
+            return self.again()
+        return self.field()
+
+    def take(self, data):
+        self.wrong = 0 if is_valid(data) else self.wrong + 1
+        if self.narrow and self.wrong:
+            return b"" if self.wrong > 3 else block(0x81 | self.due << 4)
+        if not is_valid(data):
+            return self.again()
+        pcb, info = data[1], data[3:-1]
+        if pcb == 0xC1:
+            self.ifsd = info[0]
+            return block(0xE1, info)
+        if self.asked:
+            if pcb == 0xE3 and info == b"\x01":
+                self.asked -= 1
+                return self.begin()
+            return self.again()
+        if pcb < 0x80 and pcb >> 6 == self.due and not self.response:
+            self.due ^= 1
+            self.command += info
+            self.sent = b""
+            if pcb & 0x20:
+                return self.again()
+            self.response, self.command = self.objects.carry_out(self.command), b""
+            self.asked = self.extensions
+            return self.begin()
+        if pcb & 0xC0 == 0x80:
+            if pcb >> 4 & 1 == self.next and self.response:
+                return self.field()
+            if pcb >> 4 & 1 != self.next and self.sent:
+                return self.sent
+        return self.again()
+
+
+class Noise:
+    """What a line does with each block. `fates` has one for each, or says at random how often a
+    block comes well."""
+
+    def __init__(self, seed, fates=None, well=0.8):
+        self.random, self.fates, self.well = random.Random(seed), fates, well
+        self.count = 0
+
+    def next(self):
+        self.count += 1
+        if self.fates is not None:
+            return self.fates.get(self.count, "well")
+        return "well" if self.random.random() < self.well else self.random.choice(FATES[1:])
+
+    def change(self, data, fate):
+        """What comes of a block; a change that leaves it valid is drawn again."""
+        while True:
+            at = self.random.randrange(len(data))
+            byte = bytes([data[at] ^ self.random.randrange(1, 256)])
+            front, back = data[:at], data[at + 1:]
+            found = {"changed": front + byte + back, "short": front + back, "stopped": front,
+                     "doubled": data[:at + 1] + data[at:], "lost": b""}[fate]
+            if not is_valid(found):
+                return found
+
+
+class Play(threading.Thread):
+    """Such a card at the far end of a line, whose noise goes both ways. `late` is how long a late
+    block takes, and `stops` after how long a card knows that a block has stopped."""
+
+    def __init__(self, line, answer, card, noise, late, stops):
+        super().__init__(daemon=True)
+        self.line, self.card, self.noise, self.late, self.stops = line, card, noise, late, stops
+        self.is_over = threading.Event()
+        line.write(bytes.fromhex(answer))
+
+    def receive(self):
+        """A block of the terminal, all that it has written."""
+        data = b""
+        while not self.is_over.is_set() and not (len(data) > 3 and len(data) >= data[2] + 4):
+            ready, _, _ = select.select([self.line.far], [], [], 0.02 if not data else self.stops)
+            if ready:
+                data += self.line.read(300, 0)
+            elif data:
+                break
+        return data
+
+    def pass_on(self, data):
+        """A block as the line leaves it: late, or as it is, or as the noise makes it."""
+        fate = self.noise.next()
+        if fate == "late":
+            time.sleep(self.late)
+        return data if fate in ("well", "late") else self.noise.change(data, fate)
+
+    def run(self):
+        while not self.is_over.is_set():
+            data = self.receive()
+            if not data:
+                continue
+            came = self.pass_on(data)
+            if came:
+                answer = self.card.take(came)
+                answer = answer and self.pass_on(answer)
+                if answer:
+                    self.line.write(answer)
+
+    def end(self):
+        self.is_over.set()
+        self.join()

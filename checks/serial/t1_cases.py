@@ -1,0 +1,247 @@
+"""gt_serial at T=1 (ISO/IEC 7816-3, clause 11): with a card that is played by hand, and with one
+behind a line that damages, loses, doubles and delays bytes."""
+
+import sys
+from functools import reduce
+from pathlib import Path
+
+import t1_card
+import terminal_cases
+from lines import Line
+from programs import Program
+from terminal_cases import Case, look
+
+SELECT_APDU = "00A4040007A000000003101000"
+NAME = "6F098407A00000000310109000"
+GET_APDU, JOE = "00CA5F2000", "5F20034A4F459000"
+# T=1 first, IFSC 32, LRC; BWI 0 and CWI 3: BWT is 100 ms and 11 etu, and CWT 19 etu
+QUICK = "3B8081210323"
+BOOK = Path(__file__).resolve().parents[2] / "examples/blocks"
+BWT = 0.1
+CAUSE = "operation 1: no valid block, too often: the card "
+OUTCOMES = {"none": "has not carried out the command\n",
+            "unknown": "may have carried out the command\n",
+            "part": "has carried out the command\n"}
+
+
+def block(pcb, info=""):
+    """A block: NAD 00, PCB, LEN, the field and the LRC."""
+    data = bytes([0, int(pcb, 16), len(info) // 2]) + bytes.fromhex(info)
+    return data.hex().upper() + f"{reduce(lambda a, b: a ^ b, data):02X}"
+
+
+def talk(*words):
+    """A dialogue: the sign of who sends, and a block's PCB and field."""
+    return "".join(f"{sign} {block(*rest.split(':'))} " if sign in "<>" else f"{sign} {rest} "
+                   for sign, rest in zip(words[::2], words[1::2]))
+
+
+OPEN = talk(">", "C1:FE", "<", "E1:FE")
+SELECTS = talk(">", f"00:{SELECT_APDU}", "<", f"00:{NAME}")
+GETS = talk(">", f"40:{GET_APDU}", "<", f"40:{JOE}")
+WORDS = [*terminal_cases.SELECT, *terminal_cases.GET]
+ANSWERS = terminal_cases.SELECTED + terminal_cases.GOT
+
+
+def dialogues():
+    """A terminal with a card at T=1."""
+    whole = OPEN + SELECTS + GETS
+    for inverse in (False, True):
+        for echo in (False, True):
+            yield Case(f"T=1, inverse {inverse}, echo {echo}",
+                       f"< {'3F' if inverse else '3B'}{QUICK[2:]} {whole}", WORDS, ANSWERS,
+                       echo=echo, inverse=inverse, slack=5000)
+    first = f"< {QUICK} "
+    for title, words in (
+        ("a damaged block", (">", "80", "<", f"00:{NAME}")),
+        ("more time", ("<", "C3:02", ">", "E3:02", "<", f"00:{NAME}")),
+        ("another IFSC", ("<", "C1:08", ">", "E1:08", "<", f"00:{NAME}")),
+        ("a response in two blocks", ("<", f"20:{NAME[:8]}", ">", "90", "<", f"40:{NAME[8:]}")),
+    ):
+        sent = talk(">", f"00:{SELECT_APDU}")
+        bad = "< 00000200FF " if title == "a damaged block" else ""
+        yield Case(f"T=1: {title}", first + OPEN + sent + bad + talk(*words), terminal_cases.SELECT,
+                   terminal_cases.SELECTED, echo=False, slack=2000)
+    yield Case("T=1: by PPS", f"< 3B80800101 > FF01FE < FF01FE {OPEN}{SELECTS}",
+               terminal_cases.SELECT, terminal_cases.SELECTED, options=["--protocol", "1"],
+               slack=5000)
+
+
+def faults():
+    """How a terminal gives up: each wait lasts for BWT, and the slack."""
+    first, sent = f"< {QUICK} ", talk(">", f"00:{SELECT_APDU}")
+    slack = 300
+    for title, dialogue, fault in (
+        ("before a command", talk(*[">", "C1:FE"] * 5), CAUSE + OUTCOMES["none"]),
+        ("after a command", OPEN + sent + talk(*[">", "80"] * 4), CAUSE + OUTCOMES["unknown"]),
+        ("within a response", OPEN + sent + talk("<", f"20:{NAME[:8]}", *[">", "90"] * 5),
+         CAUSE + OUTCOMES["part"]),
+        ("after S(ABORT request)", OPEN + sent + talk("<", "C2", ">", "E2"),
+         "operation 1: aborted by the card: the card " + OUTCOMES["unknown"]),
+    ):
+        yield Case(f"T=1: a terminal gives up {title}", first + dialogue, terminal_cases.SELECT,
+                   fault=fault, status=1, echo=False, slack=slack, waits=BWT)
+    for title, answer, options, fault in (
+        ("CRC", "3B8081410141", [],
+         "the card's blocks have no LRC, but a CRC\n"),
+        ("a reserved IFSC", "3B8081110010", [], "the card's IFSC is reserved\n"),
+        ("a reserved BWI", "3B808121A383", [], "the card's block waiting time is reserved\n"),
+        ("T=0 that is not offered", QUICK, ["--protocol", "0"], "the card does not talk T=0\n"),
+        ("T=1 that is not offered", "3B00", ["--protocol", "1"], "the card does not talk T=1\n"),
+        ("T=2 alone", "3B800282", [], "the card talks neither T=0 nor T=1\n"),
+        ("T=0 in specific mode of T=1", "3B90951001", ["--protocol", "0"],
+         "the card does not talk T=0\n"),
+    ):
+        yield Case(f"T=1 is refused: {title}", f"< {answer}", terminal_cases.SELECT, fault=fault,
+                   status=1, options=options, slack=2000)
+
+
+
+# a block that breaks a rule of blocks, so it is damaged, or of the dialogue; R(0) asks again
+BROKEN = (
+    ("another NAD", "01000001"),
+    ("LEN FF", "0000FF00"),
+    ("fewer bytes than LEN", "00000D6F"),
+    ("a byte behind it", block("00", NAME) + "00"),
+    ("a wrong LRC", block("00", NAME)[:-2] + "00"),
+    ("an I-block with a reserved bit", block("10", NAME)),
+    ("an R-block with a reserved bit", block("83")),
+    ("an R-block with a field", block("90", "00")),
+    ("an S-block of no kind", block("C4")),
+    ("S(WTX request) without its byte", block("C3")),
+    ("S(WTX request) with two bytes", block("C3", "0101")),
+    ("S(IFS request) of 0", block("C1", "00")),
+    ("S(IFS request) of 255", block("C1", "FF")),
+    ("S(RESYNCH request)", block("C0")),
+    ("S(ABORT request) with a field", block("C2", "00")),
+    ("an answer that nobody asked for", block("E3", "01")),
+    ("S(IFS response) again", block("E1", "FE")),
+    ("another N(S)", block("40", NAME)),
+    ("R that acknowledges the last block", block("90")),
+)
+
+
+def breaks():
+    """A card that breaks each rule in turn, and then keeps it; and one that never does."""
+    first, sent = f"< {QUICK} {OPEN}", talk(">", f"00:{SELECT_APDU}")
+    select, slack = terminal_cases.SELECT, 500
+    for title, bad in BROKEN:
+        yield Case(f"T=1: {title}", f"{first}{sent}< {bad} " + talk(">", "80", "<", f"00:{NAME}"),
+                   select, terminal_cases.SELECTED, echo=False, slack=slack)
+    yield Case("T=1: R with the own number", f"{first}{sent}" + talk("<", "80") + SELECTS, select,
+               terminal_cases.SELECTED, echo=False, slack=slack)
+    yield Case("T=1: another IFSD", f"< {QUICK} " + talk(">", "C1:FE", "<", "E1:20") + OPEN
+               + SELECTS, select, terminal_cases.SELECTED, echo=False, slack=slack)
+    yield Case("T=1: more time for ever", first + sent + talk(*["<", "C3:01", ">", "E3:01"] * 16)
+               + talk("<", "C3:01"), select, echo=False, slack=slack, status=1,
+               fault="operation 1: too many requests of the card: the card "
+               + OUTCOMES["unknown"])
+    yield Case("T=1: a response of 259 bytes", first + sent
+               + talk("<", "20:" + "00" * 254, ">", "90", "<", "40:" + "00" * 5), select,
+               echo=False, slack=slack, status=1,
+               fault="operation 1: response too long: the card " + OUTCOMES["part"])
+    yield Case("T=1: a response without a status", first + sent + talk("<", "00:6F"), select,
+               echo=False, slack=slack, status=1, fault="operation 1: no status\n")
+
+
+def chapter():
+    """The dialogues of the book: a card that sends what they say gets what they say."""
+    for file in sorted(BOOK.glob("*.talk")):
+        lines = [line for line in file.read_text(encoding="utf-8").splitlines() if line[0] != "#"]
+        rows = [line.split()[:2] for line in lines if line[0] in "<>~"]
+        told = {sign: "".join(f"{line[2 * (sign == '!'):]}\n" for line in lines if line[0] == sign)
+                for sign in "=!"}
+        words = " ".join(line for line in lines if line[0] not in "<>~=!").split()
+        yield Case(f"T=1: the book, {file.stem}", " ".join(word for row in rows for word in row),
+                   words, told["="], told["!"], bool(told["!"]), echo=False)
+
+
+# IFSC 254, and the times of QUICK
+LONG = "3B808131FE03CD"
+VALUE = bytes(at * 7 % 251 for at in range(3000))
+# tag, length and value of the long one: 3,005 bytes
+GOT = f"DF0182{len(VALUE):04X}{VALUE.hex().upper()}"
+LONG_WORDS = ["select", "A0000000031010", "put", "DF01", VALUE.hex(), "get", "DF01"]
+LONG_ANSWERS = f"= 9000 {NAME[:-4]}\n= 9000\n= 9000 {GOT}\n"
+# whole commands: SELECT, 12 of the put and 12 of the get
+COMMANDS = 25
+# how many lines at random: where words pick the tests, or the first fault ends them, these will do
+SCHEDULES, SOME_SCHEDULES = 2000, 40
+
+
+def over(noise, slack, late, stops, words=LONG_WORDS, extensions=0, narrow=False):
+    """gt_serial with a card behind such a line, to its end; and the card's objects."""
+    line = Line()
+    objects = t1_card.Objects()
+    play = t1_card.Play(line, LONG, t1_card.Card(objects, extensions, narrow), noise, late, stops)
+    try:
+        program = Program("gt_serial", ["--no-echo", "--baud", 1000000, "--slack", slack,
+                                        line.name, *words])
+        play.start()
+        program.end()
+        play.end()
+    finally:
+        line.close()
+    return program, objects
+
+
+def is_once(objects, words):
+    """The card has carried out the first commands of these operations, each once."""
+    tags = [apdu[:5] for apdu in objects.log]
+    pieces = [apdu[5:] for apdu in objects.log if apdu[1] == 0xDA]
+    assert len(objects.log) <= COMMANDS, f"{len(objects.log)} commands"
+    value = bytes.fromhex(words[4])
+    assert value.startswith(b"".join(pieces)), "the pieces of the put are others"
+    assert [tag[1] for tag in tags] == sorted((tag[1] for tag in tags), key=[
+        0xA4, 0xDA, 0xCA, 0xC0].index), "the commands are in another order"
+    assert sum(tag[1] in (0xA4, 0xCA) for tag in tags) <= 2, "a command was carried out twice"
+
+
+MILD = (
+    ("no noise", {}),
+    ("each tenth block is changed", {at: "changed" for at in range(5, 400, 10)}),
+    ("each tenth block is lost", {at: "lost" for at in range(8, 100, 10)}),
+    ("each tenth block is short", {at: "short" for at in range(9, 100, 10)}),
+    ("each tenth block has a byte twice", {at: "doubled" for at in range(6, 100, 10)}),
+    ("each tenth block stops", {at: "stopped" for at in range(7, 100, 10)}),
+    ("the first four blocks are lost", {at: "lost" for at in range(1, 5)}),
+    ("four in a row to the card", {at: "changed" for at in (21, 23, 25, 27)}),
+)
+
+
+def mild(fates, extensions):
+    """On a line that is mild enough all operations are answered; also by a card that keeps EMV's
+    narrower rules."""
+    noise = t1_card.Noise(1, fates)
+    program, objects = over(noise, 800, 0, 0.3, extensions=extensions, narrow=extensions > 0)
+    look(program, program.process.returncode, LONG_ANSWERS, "", 0)
+    is_once(objects, LONG_WORDS)
+    assert len(objects.log) == COMMANDS, f"{len(objects.log)} commands"
+
+
+def at_random(seed):
+    """On any line the answers are right, or a fault says what is true of its command."""
+    noise = t1_card.Noise(seed, well=(0.97, 0.9, 0.75, 0.5)[seed % 4])
+    program, objects = over(noise, 60, 0.08, 0.04)
+    is_once(objects, LONG_WORDS)
+    assert LONG_ANSWERS.startswith(program.output), f"{program.output!r}, a wrong answer"
+    if program.process.returncode == 0:
+        assert program.output == LONG_ANSWERS and not program.faults, program.faults
+        return
+    number = program.output.count("\n") + 1
+    wanted = [f"operation {number}: {cause}: the card {outcome}"
+              for cause in ("no valid block, too often",) for outcome in OUTCOMES.values()]
+    assert program.faults in wanted, f"{program.faults!r}"
+
+
+def tests():
+    """Each test of this part: its title, and a function that is wrong by an error."""
+    for case in (*dialogues(), *faults(), *breaks(), *chapter()):
+        yield case.title, lambda case=case: terminal_cases.run(case)
+    for title, fates in MILD:
+        # by EMV a card does not survive the fourth
+        for extensions in (0,) if title.startswith("four") else (0, 1):
+            yield (f"T=1, 3,000 bytes, {title}, {extensions} requests",
+                   lambda of=(fates, extensions): mild(*of))
+    for seed in range(SCHEDULES if len(sys.argv) == 1 else SOME_SCHEDULES):
+        yield f"T=1, a line at random, {seed}", lambda seed=seed: at_random(seed)

@@ -1,0 +1,10 @@
+-- `empty` puts null beside the allocator, and owns nothing.
+use Rattle.card_c.proofs.HeldWalks.{empties}
+use Rattle.card_c.proofs.HeldT1Kind.{kind}
+use Rattle.card_c.specs.contracts.held_t1.HeldT1.empty.Key.{name as #self}
+use Rattle.card_c.proofs.held_t1.HeldT1.empty.Statement.{statement}
+use Rattle.card_c.proofs.held_t1.HeldT1.empty.Code as code
+
+pub empty_spec : {M : Type 1} → statement M
+empty_spec 𝓤 𝓛 𝓜 𝓡 wired =
+    empties 𝓤 𝓛 𝓜 𝓡 kind #self (code.unfolded 𝓤 𝓛.H 𝓜 𝓡 wired)

@@ -1,0 +1,10 @@
+-- `of` hides what the pointer points to.
+use Rattle.card_c.proofs.HeldWalks.{hides}
+use Rattle.card_c.proofs.HeldT1Kind.{kind}
+use Rattle.card_c.specs.contracts.held_t1.HeldT1.of.Key.{name as #self}
+use Rattle.card_c.proofs.held_t1.HeldT1.of.Statement.{statement}
+use Rattle.card_c.proofs.held_t1.HeldT1.of.Code as code
+
+pub of_spec : {M : Type 1} → statement M
+of_spec 𝓤 𝓛 𝓜 𝓡 wired =
+    hides 𝓤 𝓛 𝓜 𝓡 kind #self (code.unfolded 𝓤 𝓛.H 𝓜 𝓡 wired)

@@ -1,0 +1,120 @@
+-- What the calls on the terminal's end of a line at T=1 do to what its handle holds. A refusal
+-- leaves it as it was.
+use Rattle.std.specs.Prelude.{◌≡◌, ◌⊎◌, ℕ, ℤ, ◌+◌, ◌≤◌, ◌<◌, ◌==◌, Bool, true, false, List, [], ◌++◌, take, length, Option, Some, None, MatchOption, pos, if◌then◌else◌}
+use Rattle.t1_core.specs.declared.control.Control.{Control}
+use Rattle.t1_core.specs.declared.control.Control.TheVariants.{Resynch, Ifs, Abort, Wtx}
+use Rattle.t1_core.specs.declared.settings.Edc.TheVariants.{Lrc}
+use Rattle.t1_core.specs.declared.settings.Settings.{Settings}
+use Rattle.t1_core.specs.declared.terminal.Fault.{Fault}
+use Rattle.t1_core.specs.Block.{Block, I, R, Request, Response}
+use Rattle.t1_core.specs.BlockBytes.{block_of, bytes_of}
+use Rattle.t1_core.specs.Receiving.{is_whole}
+use Rattle.t1_core.specs.Settings as settings
+use Rattle.t1_core.specs.TerminalSide.{Terminal, begins, fault_of, fresh, has_stopped, is_ready, sends, takes}
+use Rattle.card_c.specs.declared.t1_side.T1Side.{T1Side}
+use Rattle.card_c.specs.Codes.{gt_ok, gt_sends, gt_done, gt_empty, gt_state, gt_memory, gt_argument, gt_not_found, gt_failed, cause_code, outcome_number}
+use Rattle.card_c.specs.Copying.{IsCopied}
+
+-- A call on a handle: one that holds nothing says so, and stays so; what another holds is as this
+-- says, and it stays live.
+abbrev pub OnT1 : (T1Side → ℤ → T1Side → Type 0) → Option T1Side → ℤ → Option T1Side → Type 0
+OnT1 Does None code new = (code ≡ gt_empty) × (new ≡ None)
+OnT1 Does (Some old) code new = MatchOption new ⊥ (λ side. Does old code side)
+
+-- an error detection code and an IFSC that the end takes: 1 is LRC
+abbrev pub IsTaken : ℕ → ℕ → Type 0
+IsTaken edc ifsc = (edc ≡ 1) × (settings.fault_of Lrc ifsc ≡ None)
+
+abbrev pub HasSettings : ℕ → ℕ → ℕ → ℕ → Settings → Type 0
+HasSettings ifsc tries extensions limit s = (s.ifsc ≡ ifsc) × (s.tries ≡ tries)
+    × (s.extensions ≡ extensions) × (s.limit ≡ limit)
+
+-- an end after a reset, in a handle that held nothing
+abbrev pub HasBegun : ℕ → ℕ → ℕ → ℕ → ℕ → Option T1Side → ℤ → Option T1Side → Type 0
+HasBegun edc ifsc tries extensions limit (Some old) code new =
+    (code ≡ gt_state) × (new ≡ Some old)
+HasBegun edc ifsc tries extensions limit None code new =
+    ((IsTaken edc ifsc → ⊥) × (code ≡ gt_argument) × (new ≡ None))
+    ⊎ (IsTaken edc ifsc × (code ≡ gt_memory) × (new ≡ None))
+    ⊎ (IsTaken edc ifsc × (code ≡ gt_ok)
+    × (s : Settings) × HasSettings ifsc tries extensions limit s
+    × (new ≡ Some (record { end = fresh s; block = [] })))
+
+abbrev pub Begins : List ℕ → T1Side → ℤ → T1Side → Type 0
+Begins apdu old code new =
+    ((is_ready old.end.phase ≡ false) × (code ≡ gt_state) × (new ≡ old))
+    ⊎ ((is_ready old.end.phase ≡ true) × (code ≡ gt_memory) × (new ≡ old))
+    ⊎ ((is_ready old.end.phase ≡ true) × (code ≡ gt_ok)
+    × (new ≡ record old { end = begins apdu old.end }))
+
+-- how many times BWT the card has for its answer to this block: what it has asked for, or 1
+abbrev pub times_of : Control → ℕ
+times_of (Wtx multiple) = if multiple == 0 then 1 else multiple
+times_of Resynch = 1
+times_of (Ifs size) = 1
+times_of Abort = 1
+
+abbrev pub waits_for : Block → ℕ
+waits_for (Response control) = times_of control
+waits_for (I number more field) = 1
+waits_for (R number) = 1
+waits_for (Request control) = 1
+
+-- The block to send now. If there is none, the command is answered, none has begun, or the end gave
+-- up; then, and if memory runs out, nothing goes out.
+abbrev pub SendsOf : Option Block → Bool → List ℕ → ℕ → ℕ → ℤ → List ℕ → ℕ → ℕ → Type 0
+SendsOf None ready room n waits code room' n' waits' =
+    (code ≡ (if ready then gt_done else gt_failed)) × (room' ≡ room) × (n' ≡ n) × (waits' ≡ waits)
+SendsOf (Some block) ready room n waits code room' n' waits' =
+    ((code ≡ gt_memory) × (room' ≡ room) × (n' ≡ n) × (waits' ≡ waits))
+    ⊎ (IsCopied (bytes_of block) room code room' × (n' ≡ length (bytes_of block))
+    × (waits' ≡ waits_for block))
+
+abbrev pub SendsBlock : List ℕ → ℕ → ℕ → List ℕ → ℕ → ℕ → T1Side → ℤ → T1Side → Type 0
+SendsBlock room n waits room' n' waits' old code new =
+    SendsOf (sends old.end) (is_ready old.end.phase) room n waits code room' n' waits'
+    × (new ≡ old)
+
+-- Bytes of the card are taken up to the end of its block, and with that the block. If memory runs
+-- out, its bytes are kept, and the next call takes it.
+abbrev pub ReceivesBytes : List ℕ → ℕ → ℕ → T1Side → ℤ → T1Side → Type 0
+ReceivesBytes bytes n n' old code new =
+    ((has_stopped old.end.phase ≡ true) × (code ≡ gt_state) × (n' ≡ n) × (new ≡ old))
+    ⊎ ((block : List ℕ) × (has_stopped old.end.phase ≡ false)
+    × (block ≡ old.block ++ take n' bytes)
+    × ((k : ℕ) → k < n' → is_whole (old.block ++ take k bytes) ≡ false)
+    × (((is_whole block ≡ false) × (n' ≡ length bytes) × (code ≡ gt_ok)
+    × (new ≡ record old { block = block }))
+    ⊎ ((is_whole block ≡ true) × (code ≡ gt_memory) × (new ≡ record old { block = block }))
+    ⊎ ((is_whole block ≡ true) × (code ≡ gt_sends)
+    × (new ≡ record { end = takes old.end (block_of block); block = [] }))))
+
+-- no valid block came, while one is awaited
+abbrev pub Misses : T1Side → ℤ → T1Side → Type 0
+Misses old code new =
+    ((has_stopped old.end.phase ≡ true) × (code ≡ gt_state) × (new ≡ old))
+    ⊎ ((has_stopped old.end.phase ≡ false) × (code ≡ gt_ok)
+    × (new ≡ record { end = takes old.end None; block = [] }))
+
+abbrev pub Resets : T1Side → ℤ → T1Side → Type 0
+Resets old code new = (code ≡ gt_ok)
+    × (new ≡ record { end = fresh old.end.settings; block = [] })
+
+-- the response goes out, unless a command is in progress or the end gave up
+abbrev pub TellsResponse : List ℕ → ℕ → List ℕ → ℕ → T1Side → ℤ → T1Side → Type 0
+TellsResponse room n room' n' old code new =
+    (((is_ready old.end.phase ≡ false) × (code ≡ gt_state) × (room' ≡ room) × (n' ≡ n))
+    ⊎ ((is_ready old.end.phase ≡ true) × IsCopied old.end.got room code room'
+    × (n' ≡ length old.end.got)))
+    × (new ≡ old)
+
+-- why the end gave up, and what is known of the command, if it did
+abbrev pub TellsFaultOf : Option Fault → ℤ → ℤ → ℤ → ℤ → ℤ → Type 0
+TellsFaultOf None cause outcome code cause' outcome' =
+    (code ≡ gt_not_found) × (cause' ≡ cause) × (outcome' ≡ outcome)
+TellsFaultOf (Some fault) cause outcome code cause' outcome' = (code ≡ gt_ok)
+    × (cause' ≡ cause_code fault.cause) × (outcome' ≡ outcome_number fault.outcome)
+
+abbrev pub TellsFault : ℤ → ℤ → ℤ → ℤ → T1Side → ℤ → T1Side → Type 0
+TellsFault cause outcome cause' outcome' old code new =
+    TellsFaultOf (fault_of old.end) cause outcome code cause' outcome' × (new ≡ old)

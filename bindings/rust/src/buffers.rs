@@ -56,6 +56,7 @@ impl Exchange {
     /// # Errors
     ///
     /// - [`Error::Failed`]: the exchange has failed for good, and nothing is handed out.
+    #[inline]
     pub fn send_bytes(&mut self, room: &mut [u8]) -> Result<Sent, Error> {
         send(&self.0, raw::galliumtoad_exchange_send_bytes, room)
     }
@@ -65,6 +66,7 @@ impl Exchange {
     /// # Errors
     ///
     /// - [`ReceiveError`]: the first fault of a character, which does what it does there.
+    #[inline]
     pub fn receive_bytes(&mut self, bytes: &[u8]) -> Result<(), ReceiveError> {
         receive(&self.0, raw::galliumtoad_exchange_receive_bytes, bytes)
     }
@@ -102,6 +104,7 @@ impl Terminal {
     ///
     /// - [`Error::State`]: no operation has begun. Nothing is handed out.
     /// - [`Error::Failed`]: it has failed for good. Nothing is handed out.
+    #[inline]
     pub fn send_bytes(&mut self, room: &mut [u8]) -> Result<Sent, Error> {
         send(&self.0, raw::galliumtoad_terminal_send_bytes, room)
     }
@@ -111,6 +114,7 @@ impl Terminal {
     /// # Errors
     ///
     /// - [`ReceiveError`]: the first fault of a character, which does what it does there.
+    #[inline]
     pub fn receive_bytes(&mut self, bytes: &[u8]) -> Result<(), ReceiveError> {
         receive(&self.0, raw::galliumtoad_terminal_receive_bytes, bytes)
     }
@@ -123,6 +127,7 @@ impl Card {
     /// # Errors
     ///
     /// None today.
+    #[inline]
     pub fn send_bytes(&mut self, room: &mut [u8]) -> Result<Sent, Error> {
         send(&self.0 .0, raw::galliumtoad_card_send_bytes, room)
     }
@@ -133,6 +138,7 @@ impl Card {
     ///
     /// - [`Error::NotListening`], in a [`ReceiveError`]: the card has characters to send, behind
     ///   those that it has taken.
+    #[inline]
     pub fn receive_bytes(&mut self, bytes: &[u8]) -> Result<(), ReceiveError> {
         receive(&self.0 .0, raw::galliumtoad_card_receive_bytes, bytes)
     }

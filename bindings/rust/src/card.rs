@@ -169,6 +169,7 @@ impl Card {
     /// # Errors
     ///
     /// - [`Error::NotListening`]: the card has characters to send. Nothing has changed.
+    #[inline]
     pub fn take(&mut self, byte: u8) -> Result<(), Error> {
         // SAFETY: a card's handle.
         done(unsafe { raw::galliumtoad_card_take(self.0 .0.at(), byte) })
@@ -180,6 +181,7 @@ impl Card {
     /// # Errors
     ///
     /// None today.
+    #[inline]
     pub fn turn(&mut self) -> Result<Turn, Error> {
         turn(&self.0 .0, raw::galliumtoad_card_turn)
     }

@@ -115,6 +115,7 @@ codes! {
 impl error::Error for Error {}
 
 /// An answer of 0 or above, or the fault that a number below 0 is.
+#[inline]
 pub(crate) fn told(code: i32) -> Result<i32, Error> {
     if code < 0 {
         Err(Error::of(code))
@@ -124,6 +125,7 @@ pub(crate) fn told(code: i32) -> Result<i32, Error> {
 }
 
 /// As [`told`], of a call that has no answer.
+#[inline]
 pub(crate) fn done(code: i32) -> Result<(), Error> {
     told(code).map(|_| ())
 }

@@ -93,6 +93,7 @@ pub struct Copied {
 type Turns = unsafe extern "C" fn(*mut Held, *mut u8) -> i32;
 
 /// What an end does; the handle is of the function's kind.
+#[inline]
 pub(crate) fn turn(handle: &Handle, turns: Turns) -> Result<Turn, Error> {
     let mut byte = 0;
     // SAFETY: a handle of this crate; `byte` is apart from it.
@@ -198,6 +199,7 @@ impl Exchange {
     ///
     /// - [`Error::Failed`]: the exchange has failed for good.
     #[allow(clippy::should_implement_trait)] // it is no iterator: it may wait, and goes on then
+    #[inline]
     pub fn next(&mut self) -> Result<Turn, Error> {
         turn(&self.0, raw::galliumtoad_exchange_next)
     }
@@ -210,6 +212,7 @@ impl Exchange {
     ///   exchange has failed for good.
     /// - [`Error::NotListening`]: it has characters to send. Nothing has changed.
     /// - [`Error::AfterEnd`]: it has ended, or has failed. Nothing has changed.
+    #[inline]
     pub fn take(&mut self, byte: u8) -> Result<(), Error> {
         // SAFETY: an exchange's handle.
         done(unsafe { raw::galliumtoad_exchange_take(self.0.at(), byte) })

@@ -79,7 +79,7 @@ unsafe extern "C" fn rattle_realloc(
 unsafe extern "C" fn rattle_dealloc(block: *mut u8) {
     let whole = block.sub(HEAD);
     if let Some(layout) = layout(whole.cast::<usize>().read()) {
-        wipe_from(whole.cast::<u128>(), layout.size() / HEAD);
+        wipe_from(whole, layout.size());
         dealloc(whole, layout);
     }
 }

@@ -42,6 +42,7 @@ impl Handle {
     }
 
     /// Where it stands, for a call that may write to it.
+    #[inline]
     pub fn at(&self) -> *mut Held {
         self.0.get()
     }

@@ -125,6 +125,7 @@ impl Terminal {
     /// - [`Error::State`]: no operation has begun.
     /// - [`Error::Failed`]: it has failed for good.
     #[allow(clippy::should_implement_trait)] // it is no iterator: it may wait, and goes on then
+    #[inline]
     pub fn next(&mut self) -> Result<Turn, Error> {
         exchange::turn(&self.0, raw::galliumtoad_terminal_next)
     }
@@ -136,6 +137,7 @@ impl Terminal {
     /// - [`Error::AfterEnd`]: no operation has begun, or it has ended or failed. Nothing
     ///   has changed.
     /// - Any other: as [`Exchange::take`](crate::Exchange::take).
+    #[inline]
     pub fn take(&mut self, byte: u8) -> Result<(), Error> {
         // SAFETY: a terminal's handle.
         done(unsafe { raw::galliumtoad_terminal_take(self.0.at(), byte) })

@@ -1,23 +1,45 @@
 //! Memory that has held a value, and is wiped.
 
-use std::sync::atomic::{compiler_fence, Ordering};
+use crate::raw::Character;
+use std::mem::size_of_val;
+use std::ptr::addr_of;
 
-/// Writes 0 (or what else is the default) to `count` places. A compiler can't leave that out.
+/// A type of which zeros are a value.
 ///
 /// # Safety
 ///
-/// The places from `at` on may be written to, and are aligned.
-pub(crate) unsafe fn wipe_from<T: Copy + Default>(at: *mut T, count: usize) {
-    for place in 0..count {
-        at.add(place).write_volatile(T::default());
-    }
-    compiler_fence(Ordering::SeqCst);
+/// All bytes of a value may be 0.
+pub(crate) unsafe trait Zero: Copy {}
+
+// SAFETY: a number, and two of them.
+unsafe impl Zero for u8 {}
+unsafe impl Zero for Character {}
+
+/// What clears memory. A compiler leaves out what clears memory that nobody reads again; which
+/// function this is it has to read each time, and so to call it.
+static CLEAR: unsafe fn(*mut u8, usize) = clear;
+
+/// # Safety
+///
+/// So many bytes from `at` on may be written to.
+unsafe fn clear(at: *mut u8, count: usize) {
+    at.write_bytes(0, count);
+}
+
+/// Writes zeros to `count` bytes. A compiler can't leave that out.
+///
+/// # Safety
+///
+/// So many bytes from `at` on may be written to.
+pub(crate) unsafe fn wipe_from(at: *mut u8, count: usize) {
+    let clear = addr_of!(CLEAR).read_volatile();
+    clear(at, count);
 }
 
 /// As [`wipe_from`], all of a slice.
-pub(crate) fn wipe<T: Copy + Default>(room: &mut [T]) {
-    // SAFETY: a slice with its length, which is borrowed by `&mut`.
-    unsafe { wipe_from(room.as_mut_ptr(), room.len()) }
+pub(crate) fn wipe<T: Zero>(room: &mut [T]) {
+    // SAFETY: all bytes of a slice that is borrowed by `&mut`, whose values may be zeros.
+    unsafe { wipe_from(room.as_mut_ptr().cast(), size_of_val(room)) }
 }
 
 /// A buffer on the stack, which a drop wipes.

@@ -379,8 +379,9 @@ typedef struct {
  *                 or fault; .. reset; free
  *   gt_card_      new; app and object; finish; take and turn, send_bytes and receive_bytes, tpdu
  *                 or apdu; .. plan, selected, app_at, entry_at, reset; free
- *   gt_session_   start, with a card; select, get, put or send; .. answer, heard, idle, plan,
- *                 selected, app_at, entry_at, reset; end, which gives the card back, or free
+ *   gt_session_   start, with a card; listen, to call heard; select, get, put or send; .. answer,
+ *                 heard, idle, plan, selected, app_at, entry_at, reset; end, which gives the card
+ *                 back, or free
  *
  * The most bytes that are asked of the heap at once, without what the heap itself needs for each
  * block:
@@ -393,11 +394,11 @@ typedef struct {
  *                 before, the copy of those is held until that of these is made
  *   by commands   an exchange and a terminal take room for the response and the data once more. A
  *                 terminal frees the other room with the first response
- *   a card        9,963 with one application and one object of 3 bytes, and 26,610 together with a
- *                 gt_exchange of SELECT or GET DATA; 4,240,592 with all that a card can hold
+ *   a card        9,971 with one application and one object of 3 bytes, and 26,618 together with a
+ *                 gt_exchange of SELECT or GET DATA; 4,240,600 with all that a card can hold
  *   gt_t1         368, and the bytes of its command, and up to three times those of the response
- *   a session     26,667 with that small card, for a select, a put of 3 bytes and a get; 116,584
- *                 for a put and a get of 8,192 bytes
+ *   a session     26,500 with that small card, for a select, a put of 3 bytes and a get; 42,878 for
+ *                 a put and a get of 8,192 bytes. If somebody listens, 26,756 and 116,592
  *   plans         at most 192 for each of the most plans that waited at once since none did; and
  *                 one for each letter, until the next plan is taken
  *
@@ -412,8 +413,8 @@ typedef struct {
  *   a card        each value, until another is stored under its tag; the bytes of a TPDU, until its
  *                 second status byte; those of a chain, until it is stored, refused or dropped. It
  *                 is proved that the last two are then cleared
- *   a session     those of its card; the last answer and its characters, until the next operation
- *                 is carried out, or gt_session_end */
+ *   a session     those of its card; the last answer and, if somebody listens, its characters,
+ *                 until the next operation is carried out, or gt_session_end */
 typedef struct { bool live; void *held; } gt_exchange;
 typedef struct { bool live; void *held; } gt_terminal;
 typedef struct { bool live; void *held; } gt_t1;
@@ -514,6 +515,7 @@ int32_t galliumtoad_session_put(gt_session *s, uint32_t tag, const uint8_t *valu
 int32_t galliumtoad_session_send(gt_session *s, const uint8_t *command, size_t n);
 int32_t galliumtoad_session_answer(gt_session *s, uint16_t *status,
                                    uint8_t *data, size_t room, size_t *len);
+int32_t galliumtoad_session_listen(gt_session *s);
 int32_t galliumtoad_session_heard(gt_session *s, gt_character *line, size_t room,
                                   size_t *count);
 int32_t galliumtoad_session_reset(gt_session *s);
@@ -1330,7 +1332,8 @@ GT_FUNCTION void gt_card_free(gt_card *c) {
  * value, the card's own answer says so: status 6581. */
 
 /* Takes a finished card out of its handle, which holds nothing then, resets it, and begins a
- * session with it, in a session's handle that holds nothing. Plans of the card are dropped.
+ * session with it, in a session's handle that holds nothing. Plans of the card are dropped. Nobody
+ * listens yet: see `gt_session_listen`.
  *
  * GT_OK. GT_STATE: `s` holds a session, or the card is not finished yet. GT_EMPTY: `c` holds
  * nothing. */
@@ -1445,14 +1448,24 @@ GT_MUST_CHECK int32_t gt_session_answer(gt_session *s, uint16_t *status,
     return galliumtoad_session_answer(s, status, data ? data : &none, room, len);
 }
 
-/* The characters of the last operation that was carried out, from its first to its last; none
- * before there was one. One that was not carried out (GT_MEMORY, GT_BUSY ..) leaves them as they
- * were. `count` gets how many; to ask for that alone, with room 0, is GT_BUFFER, or GT_OK where it
- * is 0.
+/* Notes the characters of each operation from now on, for `gt_session_heard`, until the session
+ * ends. Characters noted before are dropped. Noting takes memory and time in each operation, so
+ * call this right behind `gt_session_start` if you want them, and else not.
  *
- * GT_OK: all of them stand in `line`. GT_MEMORY: memory was wanting to note them all, in the
- * operation; nothing is told. GT_BUFFER: `room` is less than their number; `count` is that, and
- * `line` is as it was. */
+ * GT_OK. */
+GT_MUST_CHECK int32_t gt_session_listen(gt_session *s) {
+    if (!s) return GT_NULL;
+    return galliumtoad_session_listen(s);
+}
+
+/* The characters of the last operation that was carried out, from its first to its last; none
+ * before there was one after `gt_session_listen`. One that was not carried out (GT_MEMORY, GT_BUSY
+ * ..) leaves them as they were. `count` gets how many; to ask for that alone, with room 0, is
+ * GT_BUFFER, or GT_OK where it is 0.
+ *
+ * GT_OK: all of them stand in `line`. After each fault `line` is as it was. GT_STATE: nobody
+ * listens (`gt_session_listen`). GT_MEMORY: memory ran out in the operation, so not all were noted.
+ * GT_BUFFER: `room` is less than their number; `count` is that. */
 GT_MUST_CHECK int32_t gt_session_heard(gt_session *s, gt_character *line, size_t room,
                                        size_t *count) {
     gt_character none = { 0, 0 };

@@ -5,11 +5,13 @@
 #include "counting_heap.h"
 
 enum {
-    SMALL_CARD = 9963,
-    DIALOGUE = 26610,
-    FULL_CARD = 4240592,
-    SMALL_SESSION = 26667,
-    LARGE_SESSION = 116584,
+    SMALL_CARD = 9971,
+    DIALOGUE = 26618,
+    FULL_CARD = 4240600,
+    SMALL_SESSION = 26500,
+    SMALL_HEARD = 26756,
+    LARGE_SESSION = 42878,
+    LARGE_HEARD = 116592,
     PLAN = 192,
     LETTERS = 8
 };
@@ -78,7 +80,7 @@ static void a_full_card(void) {
     CHECK(taken, 0);
 }
 
-static void a_session(size_t size, size_t most) {
+static void a_session(size_t size, bool is_heard, size_t most) {
     static const uint8_t aid[] = { 0xA0, 0x00, 0x00, 0x00, 0x03, 0x10, 0x10 };
     static uint8_t data[GT_VALUE_LIMIT + 6];
     gt_card c = GT_INIT;
@@ -87,13 +89,14 @@ static void a_session(size_t size, size_t most) {
     size_t len = 0;
     build(&c, 1, 1, 3);
     CHECK(gt_session_start(&s, &c), GT_OK);
+    if (is_heard) CHECK(gt_session_listen(&s), GT_OK);
     CHECK(gt_session_select(&s, aid, sizeof aid, &status, data, sizeof data, &len), GT_OK);
     CHECK(gt_session_put(&s, 0x5F20, value, size, &status), GT_OK);
     CHECK(status, 0x9000);
     CHECK(gt_session_get(&s, 0x5F20, &status, data, sizeof data, &len), GT_OK);
     CHECK(status, 0x9000);
     CHECK(len, size + (size < 128 ? 3 : 5));
-    is_at_most("a session", most);
+    is_at_most(is_heard ? "a session that is heard" : "a session", most);
     gt_session_free(&s);
     CHECK(taken, 0);
 }
@@ -148,7 +151,9 @@ int main(void) {
     plans_that_wait();
     a_put();
     a_full_card();
-    a_session(3, SMALL_SESSION);
-    a_session(GT_VALUE_LIMIT, LARGE_SESSION);
+    a_session(3, false, SMALL_SESSION);
+    a_session(3, true, SMALL_HEARD);
+    a_session(GT_VALUE_LIMIT, false, LARGE_SESSION);
+    a_session(GT_VALUE_LIMIT, true, LARGE_HEARD);
     return check_result("memory_peaks");
 }

@@ -233,7 +233,8 @@ static void full(gt_card *c) {
     GONE();
 }
 
-/* A session keeps the last operation; another one takes its place, and the end leaves the card. */
+/* A session to which nobody listens keeps nothing of a value; else it keeps the last operation,
+ * until another one takes its place, and the end leaves the card. */
 static void in_a_session(gt_card *c) {
     gt_session s = GT_INIT;
     uint16_t status = 0;
@@ -245,7 +246,13 @@ static void in_a_session(gt_card *c) {
     CHECK(gt_session_select(&s, AID, sizeof AID, &status, answer, sizeof answer, &len), GT_OK);
     CHECK(gt_session_put(&s, TEMPLATE, secret, LONG, &status), GT_OK);
     CHECK(status, 0x6A80);
+    GONE();
+    CHECK(gt_session_listen(&s), GT_OK);
+    CHECK(gt_session_put(&s, TEMPLATE, secret, LONG, &status), GT_OK);
+    CHECK(status, 0x6A80);
     CHECK(held() > 0, 1);
+    CHECK(gt_session_listen(&s), GT_OK);
+    GONE();
     CHECK(gt_session_put(&s, TAG, secret, LONG, &status), GT_OK);
     CHECK(status, 0x9000);
     CHECK(held() > 1, 1);

@@ -24,13 +24,17 @@ static void build(gt_card *c) {
 /* How often a character was lost, and how often the card had no memory for a value. */
 static int lost, unstored;
 
+/* NULL bytes before the card goes on, so that what is heard of a select outgrows its first room. */
+#define NULLS "nnnnnnnnnnnnnnnnnnnnnnnnnnnnnnnnnnnnnnnn"
+enum { SELECT_LINE = 34 + sizeof NULLS - 1 };
+
 /* A character that could not be noted is told as want of memory, and nothing else is. */
-static void check_heard(gt_session *s, size_t all) {
-    gt_character line[64];
+static void check_heard(gt_session *s) {
+    gt_character line[SELECT_LINE];
     size_t count = 99;
-    int32_t code = gt_session_heard(s, line, 64, &count);
+    int32_t code = gt_session_heard(s, line, SELECT_LINE, &count);
     CHECK(code == GT_OK || code == GT_MEMORY, 1);
-    CHECK(count, code == GT_OK ? all : 99);
+    CHECK(count, code == GT_OK ? SELECT_LINE : 99);
     lost += code == GT_MEMORY;
 }
 
@@ -41,15 +45,17 @@ static void operate(gt_session *s) {
     size_t len = 99;
     int32_t code;
     bool stored;
+    while ((code = gt_session_plan(s, NULLS, 256)) == GT_MEMORY) {}
+    CHECK(code, GT_OK);
     while ((code = gt_session_select(s, AID, sizeof AID, &status, data, 32, &len)) == GT_MEMORY) {}
     CHECK(code, GT_OK);
     CHECK(status, 0x9000);
     CHECK(len, sizeof SELECTED);
     CHECK_BYTES(data, SELECTED, sizeof SELECTED);
-    check_heard(s, 34);
+    check_heard(s);
     /* want of memory at the terminal: what was heard of the select is still told */
     while ((code = gt_session_put(s, 0x5F20, (const uint8_t *)"AL", 2, &status)) == GT_MEMORY)
-        check_heard(s, 34);
+        check_heard(s);
     CHECK(code, GT_OK);
     stored = status == 0x9000;
     CHECK(stored || status == 0x6581, 1);
@@ -69,6 +75,7 @@ int main(void) {
         requests = 0;
         build(&c);
         CHECK(gt_session_start(&s, &c), GT_OK);
+        CHECK(gt_session_listen(&s), GT_OK);
         operate(&s);
         CHECK(gt_session_end(&s, &c), GT_OK);
         gt_card_free(&c);

@@ -155,6 +155,7 @@ static void tpdus_of_operations(void) {
     size_t len = 0, i;
     build(&c);
     CHECK(gt_session_start(&s, &c), GT_OK);
+    CHECK(gt_session_listen(&s), GT_OK);
     CHECK(gt_session_select(&s, AID, sizeof AID, &status, bytes, sizeof bytes, &len), GT_OK);
     heard(&s, sizeof AID, 2, NULL, 0);
     CHECK(gt_session_plan(&s, "", 256), GT_OK);
@@ -186,6 +187,7 @@ static void plans_that_are_left(void) {
     size_t len = 0;
     build(&c);
     CHECK(gt_session_start(&s, &c), GT_OK);
+    CHECK(gt_session_listen(&s), GT_OK);
     CHECK(gt_session_plan(&s, "n", 256), GT_OK);
     CHECK(gt_session_select(&s, AID, 4, &status, data, sizeof data, &len), GT_ARGUMENT);
     CHECK(gt_session_select(&s, AID, sizeof AID, &status, data, sizeof data, &len), GT_OK);
@@ -193,6 +195,8 @@ static void plans_that_are_left(void) {
     CHECK(gt_session_plan(&s, "n", 256), GT_OK);
     CHECK(gt_session_end(&s, &c), GT_OK);
     CHECK(gt_session_start(&s, &c), GT_OK);
+    CHECK(gt_session_heard(&s, NULL, 0, &len), GT_STATE);
+    CHECK(gt_session_listen(&s), GT_OK);
     CHECK(gt_session_select(&s, AID, sizeof AID, &status, data, sizeof data, &len), GT_OK);
     heard(&s, sizeof AID, 2, slow + 1, sizeof slow - 2);
     gt_session_free(&s);

@@ -31,6 +31,24 @@ static void answers(gt_session *s, uint16_t want, const char *bytes, size_t n) {
     }
 }
 
+/* Nobody listens to a session that begins, and what was said before is not heard. */
+static void listen(gt_session *s) {
+    gt_character line[1] = { { 99, 98 } };
+    uint8_t data[32];
+    uint16_t status = 0;
+    size_t count = 99;
+    CHECK(gt_session_heard(s, line, 1, &count), GT_STATE);
+    CHECK(gt_session_get(s, 0x5F20, &status, data, sizeof data, &count), GT_OK);
+    count = 99;
+    CHECK(gt_session_heard(s, line, 1, &count), GT_STATE);
+    CHECK(line[0].from, 99);
+    CHECK(line[0].byte, 98);
+    CHECK(count, 99);
+    CHECK(gt_session_listen(s), GT_OK);
+    CHECK(gt_session_heard(s, line, 1, &count), GT_OK);
+    CHECK(count, 0);
+}
+
 /* The first characters of the last operation, and how many of them there were. */
 static void heard(gt_session *s, const uint8_t *want, size_t n, size_t all) {
     gt_character line[64], less[1] = { { 99, 98 } };
@@ -137,15 +155,14 @@ int main(void) {
     size_t len = 99;
     CHECK(gt_session_get(&s, 0x50, &status, data, sizeof data, &len), GT_EMPTY);
     CHECK(gt_session_heard(&s, NULL, 0, &len), GT_EMPTY);
+    CHECK(gt_session_listen(&s), GT_EMPTY);
     CHECK(len, 99);
     entries_of_a_card(&c);
     start(&s, &c);
-    CHECK(gt_session_heard(&s, NULL, 0, &len), GT_OK);
-    CHECK(len, 0);
-    len = 99;
     CHECK(gt_session_answer(&s, &status, data, sizeof data, &len), GT_NOT_FOUND);
     CHECK(status, 0);
     CHECK(len, 99);
+    listen(&s);
     CHECK(gt_session_get(&s, 0x5F20, &status, data, sizeof data, &len), GT_OK);
     CHECK(status, 0x6985);
     heard(&s, REFUSED_LINE, 7, 7);
@@ -170,6 +187,11 @@ int main(void) {
     answers(&s, 0x6A88, "", 0);
     CHECK(gt_session_get(&s, 0x5F20, &status, data, sizeof data, &len), GT_OK);
     CHECK(status, 0x6985);
+    heard(&s, REFUSED_LINE, 7, 7);
+    CHECK(gt_session_listen(&s), GT_OK);
+    CHECK(gt_session_heard(&s, NULL, 0, &len), GT_OK);
+    CHECK(len, 0);
+    answers(&s, 0x6985, "", 0);
     CHECK(gt_session_end(&s, &c), GT_OK);
     CHECK(gt_session_end(&s, &c), GT_STATE);
     CHECK(gt_session_reset(&s), GT_EMPTY);

@@ -121,6 +121,7 @@ declared! {
     fn galliumtoad_session_answer(
         s: *mut Held, status: *mut u16, data: *mut u8, room: usize, len: *mut usize
     ) -> i32;
+    fn galliumtoad_session_listen(s: *mut Held) -> i32;
     fn galliumtoad_session_heard(
         s: *mut Held, line: *mut Character, room: usize, count: *mut usize
     ) -> i32;

@@ -41,7 +41,7 @@ pub enum End {
 pub struct Session(Handle);
 
 impl Session {
-    /// Takes a card, and resets it. This takes no memory.
+    /// Takes a card, and resets it. This takes no memory. Nobody [listens](Session::listen) yet.
     ///
     /// # Errors
     ///
@@ -164,12 +164,24 @@ impl Session {
         exchange::answer_into(&self.0, raw::galliumtoad_session_answer, room)
     }
 
+    /// Notes the characters of each operation from now on, for [`Session::heard`]. Characters noted
+    /// before are dropped. Noting takes memory and time in each operation.
+    ///
+    /// # Errors
+    ///
+    /// None today.
+    pub fn listen(&mut self) -> Result<(), Error> {
+        // SAFETY: a session's handle.
+        done(unsafe { raw::galliumtoad_session_listen(self.0.at()) })
+    }
+
     /// The characters of the last operation that was carried out, each with the end that sent it;
     /// one that was not carried out leaves them as they were. They are the caller's: this crate
     /// wipes no copy of them.
     ///
     /// # Errors
     ///
+    /// - [`Error::State`]: nobody [listens](Session::listen).
     /// - [`Error::Memory`]: some were lost, since memory ran out.
     pub fn heard(&self) -> Result<Vec<(End, u8)>, Error> {
         let mut line = vec![raw::Character::default(); self.hear(&mut [])?];

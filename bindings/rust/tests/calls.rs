@@ -257,6 +257,8 @@ fn a_session_carries_out_operations() {
 fn plans_say_how_the_card_answers() {
     let card = builder().finish().expect("a card");
     let mut session = Session::start(card).expect("a session");
+    assert_eq!(session.heard(), Err(Error::State));
+    session.listen().expect("somebody listens");
     assert_eq!(session.heard(), Ok(Vec::new()));
     assert_eq!(session.is_idle(), Ok(true));
     session.select(&AID).expect("an answer");

@@ -421,6 +421,7 @@ fn of_a_session() {
         session_answer(_, _, _, 0, _), session_answer(_, _, _, 0, _));
     hands!(it.answer() => session_answer(_, _, _, 0, _), session_answer(_, _, _, 0, _));
     hands!(it.answer_into(&mut room) => session_answer(_, _, space, 9, _));
+    hands!(it.listen() => session_listen(_));
     hands!(it.heard() => session_heard(_, _, 0, _));
     hands!(it.reset() => session_reset(_));
     hands!(it.selected() => session_selected(_, _, 16, _));

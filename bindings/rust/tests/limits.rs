@@ -124,6 +124,7 @@ fn identifiers_have_5_to_16_bytes() {
 fn the_longest_value_goes_through_a_session() {
     let card = full_card().finish().expect("a card");
     let mut session = Session::start(card).expect("a session");
+    session.listen().expect("somebody listens");
     session.select(&aid(7, 16)).expect("an answer");
     let value = bytes(VALUE_LIMIT, 77);
     assert_eq!(session.put(0xDF01, &value).expect("one"), 0x9000);
@@ -244,6 +245,7 @@ fn the_longest_tpdu_of_a_card_is_told() {
 fn plans_of_many_letters_are_carried_out() {
     let card = full_card().finish().expect("a card");
     let mut session = Session::start(card).expect("a session");
+    session.listen().expect("somebody listens");
     session.plan("nnnnnnnnn", 256).expect("nine letters");
     session.plan(&"n".repeat(300), 1).expect("300 letters");
     session.select(&aid(7, 16)).expect("an answer");

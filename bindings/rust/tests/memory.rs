@@ -256,19 +256,22 @@ fn want_of_memory_is_told_by_a_session() {
     assert_eq!(taken(), 0);
 }
 
-/// Some request of a get is for what is heard: then the get goes well, and nothing is told of it.
+/// Some request of a get is for what is heard, which outgrows its first room: then the get goes
+/// well, and nothing is told of it.
 #[test]
 fn characters_that_were_lost_are_told() {
     let _heap = heap();
     let card = builder().and_then(CardBuilder::finish).expect("a card");
     let mut session = Session::start(card).expect("a session");
+    session.listen().expect("somebody listens");
     let mut lost = 0;
     for number in 1..20 {
+        session.plan(&"n".repeat(60), 256).expect("a plan");
         refuse(number);
         if session.get(0x5F20).is_ok() {
             refuse(0);
             match session.heard() {
-                Ok(line) => assert_eq!(line.len(), 7),
+                Ok(line) => assert_eq!(line.len(), 67),
                 Err(fault) => {
                     assert_eq!(fault, Error::Memory);
                     lost += 1;

@@ -365,6 +365,7 @@ fn a_session_leaves_nothing() {
     assert_eq!(
         left(|| {
             let mut session = Session::start(card()).expect("a session");
+            session.listen().expect("somebody listens");
             session.select(&AID).expect("an answer");
             assert!(session.put(0x5F20, &SECRET).expect("an answer").is_ok());
             let mut heard = session.heard().expect("memory");

@@ -1,4 +1,4 @@
--- What a session tells of the characters of its last operation.
+-- How somebody listens to a session, and what it tells of the characters of its last operation.
 use Rattle.std.specs.Prelude.{◌≡◌, ◌⊎◌, ℕ, ℤ, List, ◌++◌, drop, length, map, ◌≤◌, ◌<◌, true, false}
 use Rattle.t0_core.specs.declared.end.End.{End}
 use Rattle.t0_core.specs.declared.end.End.TheVariants.{Terminal, Card}
@@ -6,8 +6,24 @@ use Rattle.t0_core.specs.Character.{Character}
 use Rattle.t0_core.specs.Watch.{Hearing}
 use Rattle.card_c.specs.declared.card_side.CardSide.{CardSide}
 use Rattle.card_c.specs.declared.card_side.CardSide.TheVariants.{Building, Standing, Joined}
+use Rattle.card_c.specs.declared.session_side.SessionSide.{SessionSide}
 use Rattle.card_c.specs.declared.character_record.CharacterRecord.{CharacterRecord}
 use Rattle.card_c.specs.Codes.{gt_ok, gt_state, gt_memory, gt_buffer}
+use Rattle.card_c.specs.SessionCalls.{beginning}
+
+-- Somebody listens, and has heard nothing yet; the rest stays.
+pub record IsHeard (old new : SessionSide) : Type 0 where
+  pub session_is : new.session ≡ old.session
+  pub plans_are : new.plans ≡ old.plans
+  pub answer_is : new.answer ≡ old.answer
+  pub listens_is : new.listens ≡ true
+  pub heard_is : new.heard ≡ beginning true
+
+abbrev pub Listens : CardSide → ℤ → CardSide → Type 0
+Listens (Building applications) code new = (code ≡ gt_state) × (new ≡ Building applications)
+Listens (Standing end plans) code new = (code ≡ gt_state) × (new ≡ Standing end plans)
+Listens (Joined session) code new =
+    (next : SessionSide) × (code ≡ gt_ok) × (new ≡ Joined next) × IsHeard session next
 
 -- an end as C has it
 abbrev pub end_number : End → ℕ
@@ -28,11 +44,12 @@ TellsHearing hearing room count room' count' code =
     × (room' ≡ map character_record hearing.heard ++ drop (length hearing.heard) room))
     ⊎ ((length room < length hearing.heard) × (code ≡ gt_buffer) × (room' ≡ room))))
 
--- what the session's last operation was heard to say
+-- what the session's last operation was heard to say, if somebody listens
 abbrev pub TellsHeard : List CharacterRecord → ℕ → List CharacterRecord → ℕ → CardSide → ℤ → Type 0
 TellsHeard room count room' count' (Building applications) code =
     (code ≡ gt_state) × (room' ≡ room) × (count' ≡ count)
 TellsHeard room count room' count' (Standing end plans) code =
     (code ≡ gt_state) × (room' ≡ room) × (count' ≡ count)
 TellsHeard room count room' count' (Joined session) code =
-    TellsHearing session.heard room count room' count' code
+    ((session.listens ≡ false) × (code ≡ gt_state) × (room' ≡ room) × (count' ≡ count))
+    ⊎ ((session.listens ≡ true) × TellsHearing session.heard room count room' count' code)

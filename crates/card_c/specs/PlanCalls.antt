@@ -27,6 +27,7 @@ QueuesAtCard letters cut (Standing end plans) code new =
 pub record IsButPlans (old new : SessionSide) : Type 0 where
   pub session_is : new.session ≡ old.session
   pub answer_is : new.answer ≡ old.answer
+  pub listens_is : new.listens ≡ old.listens
   pub heard_is : new.heard ≡ old.heard
 
 -- of a session

@@ -15,7 +15,7 @@ use Rattle.card_c.specs.declared.card_side.CardSide.TheVariants.{Building, Stand
 use Rattle.card_c.specs.declared.session_side.SessionSide.{SessionSide}
 use Rattle.card_c.specs.Codes.{gt_ok, gt_state, gt_memory, gt_argument, command_code}
 use Rattle.card_c.specs.ExchangeCalls.{AreNone}
-use Rattle.card_c.specs.SessionCalls.{IsAsBefore, silence}
+use Rattle.card_c.specs.SessionCalls.{IsAsBefore, beginning}
 
 -- The command has its answer, gathered from units that have gone over the line, under the plans,
 -- which are then used up.
@@ -23,10 +23,11 @@ pub record HasBeenSent (c : Command) (old new : SessionSide) : Type 0 where
   pub reply : Reply
   pub answer_is : new.answer ≡ Some reply
   pub plans_are : new.plans.items ≡ []
+  pub listens_is : new.listens ≡ old.listens
   pub units : List UnitOf
   pub gathered : Gathers c units reply.content reply.status
   pub left : List Course
-  pub gone : HaveGone Does (point old.session.state old.plans.items silence)
+  pub gone : HaveGone Does (point old.session.state old.plans.items (beginning old.listens))
       (flat_map dialogues_of units) (point new.session.state left new.heard)
 
 -- one command that is agreed with the card: none where memory is wanting

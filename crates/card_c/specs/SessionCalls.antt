@@ -1,5 +1,5 @@
 -- What the calls on a session's handle do to what it holds. A refusal leaves it as it was.
-use Rattle.std.specs.Prelude.{◌≡◌, ◌⊎◌, ℕ, ℤ, List, [], ◌∷◌, Bool, true, false, Option, Some, None, pos, if◌then◌else◌}
+use Rattle.std.specs.Prelude.{◌≡◌, ◌⊎◌, ℕ, ℤ, List, [], ◌∷◌, Bool, true, false, not, Option, Some, None, pos, if◌then◌else◌}
 use Rattle.t0_core.specs.Character.{Character}
 use Rattle.t0_core.specs.Plan.{Course}
 use Rattle.t0_core.specs.Watch.{Hearing, Hears}
@@ -18,18 +18,19 @@ use Rattle.card_c.specs.Copying.{GoesOut}
 use Rattle.card_c.specs.TagNumbers.{IsNumbered}
 use Rattle.card_c.specs.CardCalls.{HaveLed, HaveLedUnder, no_plans}
 
--- nothing was heard, and nothing lost
-abbrev pub silence : Hearing
-silence = record { heard = []; lost = false }
+-- How the hearing of an operation begins: where nobody listens, all is lost from the start.
+abbrev pub beginning : Bool → Hearing
+beginning listens = record { heard = []; lost = not listens }
 
--- A card that stands is reset, and a session with it begins; any other is as it was.
+-- A card that stands is reset, and a session with it begins, to which nobody listens; any other is
+-- as it was.
 abbrev pub Joins : CardSide → Bool → CardSide → Type 0
 Joins (Building applications) joined new = (joined ≡ false) × (new ≡ Building applications)
 Joins (Joined session) joined new = (joined ≡ false) × (new ≡ Joined session)
 Joins (Standing end plans) joined new =
     (session : SessionSide) × (joined ≡ true) × (new ≡ Joined session)
     × (session.session.state ≡ after_reset end.card.state)
-    × (session.plans.items ≡ []) × (session.answer ≡ None) × (session.heard ≡ silence)
+    × (session.plans.items ≡ []) × (session.answer ≡ None) × (session.listens ≡ false)
 
 -- A session ends, and its card is reset and stands; any other is as it was.
 abbrev pub Parts : CardSide → Bool → CardSide → Type 0
@@ -67,6 +68,7 @@ pub record IsReset (old new : SessionSide) : Type 0 where
   pub state_is : new.session.state ≡ after_reset old.session.state
   pub plans_are : new.plans ≡ old.plans
   pub answer_is : new.answer ≡ old.answer
+  pub listens_is : new.listens ≡ old.listens
   pub heard_is : new.heard ≡ old.heard
 
 abbrev pub ResetsSession : CardSide → ℤ → CardSide → Type 0
@@ -77,7 +79,8 @@ ResetsSession (Joined session) code new =
     (next : SessionSide) × (code ≡ gt_ok) × (new ≡ Joined next) × IsReset session next
 
 -- The operation has its answer, and the tables are those of the card that answers it in one step.
--- What was heard is a talk of it with the card, under the plans, which are then used up.
+-- What was heard, if somebody listens, is a talk of it with the card, under the plans, which are
+-- then used up.
 pub record HasAnswered (operation : Operation) (old new : SessionSide) : Type 0 where
   pub reply : Reply
   pub answer_is : new.answer ≡ Some reply
@@ -87,13 +90,15 @@ pub record HasAnswered (operation : Operation) (old new : SessionSide) : Type 0 
   pub left : List Course
   pub talk : Talk Does old.session.state old.plans.items (operation ∷ []) (reply ∷ [])
       new.session.state left line
-  pub heard : Hears silence line new.heard
+  pub listens_is : new.listens ≡ old.listens
+  pub heard : Hears (beginning old.listens) line new.heard
 
 -- nothing was sent, and what is held is as it was
 pub record IsAsBefore (old new : SessionSide) : Type 0 where
   pub state_is : new.session.state ≡ old.session.state
   pub plans_are : new.plans ≡ old.plans
   pub answer_is : new.answer ≡ old.answer
+  pub listens_is : new.listens ≡ old.listens
   pub heard_is : new.heard ≡ old.heard
 
 -- one operation: none while a chain is pending, none where memory is wanting

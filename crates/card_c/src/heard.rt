@@ -1,15 +1,47 @@
 //! What went over the line in the last operation of a session.
 ghost use Rattle.std.specs.Prelude.{◌≡◌, ◌≤◌, ◌++◌, drop, length, map, MatchOption};
 ghost use Rattle.card_c.specs.Codes.{gt_empty};
-ghost use Rattle.card_c.specs.CardHandle.{held_by};
-ghost use Rattle.card_c.specs.HeardCalls.{TellsHearing, TellsHeard, character_record};
+ghost use Rattle.card_c.specs.CardHandle.{held_by, OnHandle};
+ghost use Rattle.card_c.specs.HeardCalls.{Listens, IsHeard, TellsHearing, TellsHeard, character_record};
 
 use crate::card_held::GtCard;
 use crate::card_side::CardSide;
 use crate::character_record::CharacterRecord;
 use crate::code;
+use crate::listener::Listener;
+use crate::session_side::SessionSide;
 use std::alloc::Global;
-use t0_core::{End, Recorder};
+use t0_core::End;
+
+/// Notes the characters of each operation from now on. What was heard is dropped.
+#[unsafe(no_mangle)]
+pub extern "C" fn galliumtoad_session_listen(alloc: Global, session: &mut GtCard) -> i32
+    ensures { OnHandle Listens (held_by session.old) result (held_by session.new) }
+{
+    let Some(mut side) = session.take_out(alloc) else {
+        return code::EMPTY;
+    };
+    let answer = listen(alloc, &mut side);
+    session.put(side);
+    answer
+}
+
+fn listen(alloc: Global, side: &mut CardSide) -> i32
+    ensures { Listens side.old result side.new }
+{
+    let CardSide::Joined(joined) = side else {
+        return code::STATE;
+    };
+    hear(alloc, joined);
+    code::OK
+}
+
+fn hear(alloc: Global, joined: &mut SessionSide)
+    ensures { IsHeard joined.old joined.new }
+{
+    joined.listens = true;
+    joined.heard = Listener::new(alloc, true);
+}
 
 /// The characters of the last operation, each with its sender, where there is room for them all,
 /// and how many there are.
@@ -39,16 +71,19 @@ fn heard(side: &CardSide, line: &mut [CharacterRecord], count: &mut usize) -> i3
     let CardSide::Joined(joined) = side else {
         return code::STATE;
     };
+    if !joined.listens {
+        return code::STATE;
+    }
     tell_hearing(&joined.heard, line, count)
 }
 
-fn tell_hearing(recorder: &Recorder, line: &mut [CharacterRecord], count: &mut usize) -> i32
-    ensures { TellsHearing recorder.now line.old count.old line.new count.new result }
+fn tell_hearing(listener: &Listener, line: &mut [CharacterRecord], count: &mut usize) -> i32
+    ensures { TellsHearing listener.now line.old count.old line.new count.new result }
 {
-    if recorder.lost() {
+    if listener.lost() {
         return code::MEMORY;
     }
-    let heard = recorder.heard();
+    let heard = listener.heard();
     *count = heard.len();
     if heard.len() > line.len() {
         return code::BUFFER;

@@ -29,6 +29,7 @@ mod heard;
 mod held_exchange;
 mod held_t1;
 mod held_terminal;
+mod listener;
 mod loose;
 mod objects;
 mod operating_side;

@@ -7,11 +7,12 @@ ghost use Rattle.card_c.specs.SendCalls.{SendsAgreed, SendsBytes};
 use crate::card_held::GtCard;
 use crate::card_side::CardSide;
 use crate::code;
+use crate::listener::Listener;
 use crate::session_side::SessionSide;
 use apdu_core::Command;
 use object_card::is_agreed;
 use std::alloc::Global;
-use t0_core::{Plans, Recorder};
+use t0_core::Plans;
 
 /// Sends a command, which may begin a chain or go on with one.
 #[unsafe(no_mangle)]
@@ -53,7 +54,7 @@ fn transmit(alloc: Global, joined: &mut SessionSide, command: Command) -> i32
     requires { IsAgreed MayReceive MaySend command }
     ensures { SendsAgreed command.entry joined.old result joined.new }
 {
-    let mut heard = Recorder::new(alloc);
+    let mut heard = Listener::new(alloc, joined.listens);
     let sent = joined.session.send(alloc, command, &mut Plans::over(&joined.plans), &mut heard);
     match sent {
         Ok(answer) => {

@@ -10,13 +10,14 @@ use crate::card_held::GtCard;
 use crate::card_side::CardSide;
 use crate::code;
 use crate::copied::copied;
+use crate::listener::Listener;
 use crate::session_side::SessionSide;
 use crate::tag_number::tag_of;
 use card_terminal::{Answers, Bytes, Op, Session};
 use object_card::{Aid, CardBuilder};
 use std::alloc::Global;
 use std::{mem, slice};
-use t0_core::{PlanQueue, Plans, Recorder};
+use t0_core::{PlanQueue, Plans};
 use tlv_core::ObjectTag;
 
 /// Takes a card that stands, and begins a session with it. The card is reset.
@@ -57,7 +58,8 @@ fn join(alloc: Global, side: &mut CardSide) -> bool
         session: Session::new(end),
         plans: Vec::new(alloc),
         answer: None,
-        heard: Recorder::new(alloc),
+        listens: false,
+        heard: Listener::new(alloc, false),
     });
     true
 }
@@ -302,7 +304,7 @@ fn perform(alloc: Global, joined: &mut SessionSide, operation: Op) -> i32
         return code::BUSY;
     }
     let mut answers = Answers::new(alloc);
-    let mut heard = Recorder::new(alloc);
+    let mut heard = Listener::new(alloc, joined.listens);
     let ran = joined.session.run(
         alloc,
         slice::from_ref(&operation),

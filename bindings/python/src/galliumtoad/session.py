@@ -57,10 +57,17 @@ class Session(Holder):
         """Whether no chain is pending at the card, so that an operation may begin."""
         return self._call("idle") == 1
 
+    def listen(self) -> None:
+        """Notes the characters of each operation from now on, for `heard`.
+
+        Those noted before are dropped. Noting takes memory and time in each operation.
+        """
+        self._call("listen")
+
     def heard(self) -> list[Character]:
         """The characters of the last operation, from its first to its last.
 
-        Raises `OutOfMemory` if there was no memory to note them.
+        Raises `CallError` if nobody listens, and `OutOfMemory` if there was no memory to note them.
         """
         count = ffi.new("size_t *")
         if self._code("heard", ffi.NULL, 0, count) != lib.GT_BUFFER:

@@ -20,7 +20,7 @@ returns-in-Err c =
     (sym c.in-Joined.is) (
       joined,
       refl,
-      record { session_is = refl; answer_is = refl; heard_is = refl },
+      record { session_is = refl; answer_is = refl; listens_is = refl; heard_is = refl },
       inr
           (refused, refl),
     ))

@@ -7,7 +7,7 @@ use Rattle.object_card.specs.CardMeaning.{Does}
 use Rattle.card_terminal.specs.Talk.{Talk}
 use Rattle.card_terminal.specs.Running.{new_answers, carried_out}
 use Rattle.card_terminal.specs.declared.session_fault.SessionFault.TheVariants.{OutOfMemory}
-use Rattle.card_c.specs.SessionCalls.{silence}
+use Rattle.card_c.specs.SessionCalls.{beginning}
 use Rattle.card_c.proofs.SessionLemmas.{when_ok, done}
 use Rattle.card_c.proofs.session.perform.Goals as goal
 
@@ -18,7 +18,7 @@ returns c =
     let P : List Operation → List Reply → Type 0 = λ operations replies.
     AnswersAll old.session.state operations replies state
     × ((line : List Character) × Talk Does old.session.state old.plans.items operations replies
-    state left line × Hears silence line c.run-ran.new.watch) in
+    state left line × Hears (beginning old.listens) line c.run-ran.new.watch) in
     let replies = new_answers c.new-answers.result.given c.run-ran.new.out.given in
     let operations = carried_out c.from_ref.result.now replies in
     let many : length replies ≡ length c.from_ref.result.now =
@@ -47,6 +47,7 @@ returns c =
         reply = all.0;
         answer_is = all.1;
         plans_are = c.new.ensures.items;
+        listens_is = refl;
         one_step =
             all.2.0;
         line = all.2.1.0;

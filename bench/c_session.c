@@ -1,7 +1,9 @@
 /* c_session: a card of data objects asked for small and large ones through C, again and again, as
- * crates/session_speed asks it. With one word it says how long a character takes, in that way:
+ * crates/session_speed asks it. With one word it says how long a character takes, in that way; a
+ * number behind it is how often `repeat` carries each operation out, for a profiler to count:
  *
  *   session      a session, which joins both ends
+ *   heard        the same, and somebody listens
  *   buffers      a terminal and a card, whose characters pass by buffers
  *   characters   the same, a character at a time
  *   tpdus        the same, by whole TPDUs
@@ -79,6 +81,12 @@ static void session_start(void)
     gt_card card = GT_INIT;
     build(&card);
     need(gt_session_start(&session, &card) == GT_OK, "a session");
+}
+
+static void heard_start(void)
+{
+    session_start();
+    need(gt_session_listen(&session) == GT_OK, "a session");
 }
 
 static uint16_t session_carry_out(const struct load *load, size_t *len)
@@ -247,6 +255,7 @@ static const struct way {
     uint16_t (*carry_out)(const struct load *load, size_t *len);
 } WAYS[] = {
     { "session", session_start, session_carry_out },
+    { "heard", heard_start, session_carry_out },
     { "buffers", ends_start, buffers_carry_out },
     { "characters", ends_start, characters_carry_out },
     { "tpdus", ends_start, tpdus_carry_out },
@@ -277,40 +286,63 @@ static void check_characters(const struct way *way, const struct load *load)
 {
     size_t count = 0;
     carry_out(way, load);
-    if (way->start == session_start)
+    if (way->start == heard_start)
         need(gt_session_heard(&session, NULL, 0, &count) == GT_BUFFER, "characters");
     else if (way->start == hand_start)
         count = passed;
     need(count == 0 || count == load->characters, "another number of characters");
 }
 
+/* So many operations. It is called by its pointer, so that it is a function of its own, which a
+ * profiler finds by its name. */
+void repeat(const struct way *way, const struct load *load, long times)
+{
+    for (; times > 0; times--)
+        carry_out(way, load);
+}
+
+static void (*const volatile repeated)(const struct way *, const struct load *, long) = repeat;
+
 static void measure(const struct way *way, const struct load *load)
 {
     double seconds;
-    long i;
     check_characters(way, load);
     seconds = processor_time();
-    for (i = 0; i < load->times; i++)
-        carry_out(way, load);
+    repeated(way, load, load->times);
     seconds = processor_time() - seconds;
     printf("%s: %d TPDUs, %lu characters\n  %ld times in %.2f s, %.2f ns a character\n", load->name,
            load->tpdus, (unsigned long)load->characters, load->times, seconds,
            seconds * 1e9 / ((double)load->times * (double)load->characters));
 }
 
+/* Operations for a profiler to count: so many, after as many that are not counted, so that blocks
+ * stand as they do from then on. */
+static void count(const struct way *way, const struct load *load, long times)
+{
+    long i;
+    check_characters(way, load);
+    for (i = 0; i < times; i++)
+        carry_out(way, load);
+    repeated(way, load, times);
+}
+
 int main(int argc, char **argv)
 {
+    const long times = argc == 3 ? atol(argv[2]) : 0;
     size_t i, j;
     memset(value, CONTENT, sizeof value);
     for (i = 0; i < sizeof WAYS / sizeof *WAYS; i++) {
-        if (argc != 2 || strcmp(argv[1], WAYS[i].name) != 0)
+        if (argc < 2 || strcmp(argv[1], WAYS[i].name) != 0)
             continue;
         WAYS[i].start();
         carry_out(&WAYS[i], &SELECTION);
         for (j = 0; j < sizeof LOADS / sizeof *LOADS; j++)
-            measure(&WAYS[i], &LOADS[j]);
+            if (times > 0)
+                count(&WAYS[i], &LOADS[j], times);
+            else
+                measure(&WAYS[i], &LOADS[j]);
         return 0;
     }
-    fail("one word: session, buffers, characters, tpdus, apdus or by_hand");
+    fail("one word: session, heard, buffers, characters, tpdus, apdus or by_hand");
     return 1;
 }

@@ -846,10 +846,29 @@ fn selected() -> Card {
     card
 }
 
+/// Carries out lists of operations so often: a function of its own, which a profiler finds by its
+/// name.
+#[no_mangle]
+#[inline(never)]
+extern "Rust" fn repeat(ops: &[Op], card: &mut Card, times: usize) {
+    for _ in 0..times {
+        run_all(ops, card, |_| {});
+    }
+}
+
+/// Says how fast lists are carried out; or, of `by_hand 8`, carries out each operation so often,
+/// once for a profiler to leave out and once for it to count.
 fn main() {
     let measures = env::args().count() > 1;
+    let times = env::args().nth(2).map(|word| word.parse().expect("a number"));
     let mut card = selected();
     for load in &LOADS {
+        if let Some(times) = times {
+            let ops = [operation(load)];
+            (0..times).for_each(|_| run_all(&ops, &mut card, |_| {}));
+            repeat(&ops, &mut card, times);
+            continue;
+        }
         let mut characters = 0;
         run_all(&[operation(load)], &mut card, |_| characters += 1);
         println!(
@@ -859,9 +878,7 @@ fn main() {
         if measures {
             let ops: Vec<Op> = (0..load.length).map(|_| operation(load)).collect();
             let start = Instant::now();
-            for _ in 0..load.rounds {
-                run_all(&ops, &mut card, |_| {});
-            }
+            repeat(&ops, &mut card, load.rounds);
             let seconds = start.elapsed().as_secs_f64();
             let rate = load.operations() as f64 / seconds;
             let tpdus = rate * load.tpdus as f64 / 1e6;

@@ -1,6 +1,7 @@
 //! How fast a terminal and a card talk, in a session and by a terminal that is driven. With no
 //! argument it says what they are asked and how much goes over the line for one operation; with
-//! one, it measures.
+//! one, it measures. With three, as `session 0 8`, it carries out an operation of the first load 8
+//! times and prints nothing, for a profiler; `driven` is the other way.
 #![tactic(auto)]
 
 mod driven;
@@ -8,6 +9,7 @@ mod load;
 mod operation;
 mod session;
 
+use anyhow::Context;
 use driven::Driven;
 use load::{LOADS, Load};
 use session::{ObjectSession, characters_of_one, selected};
@@ -16,10 +18,40 @@ use std::time::{Clock, Instant};
 use std::{env, io};
 
 fn main(rt: HostRuntime) -> anyhow::Result<()> {
-    let measures = env::args(&rt)?.count() > 1;
+    let mut words = env::args(&rt)?.skip(1);
+    let way = words.next();
+    let (load, times) = (number(words.next()), number(words.next()));
     let mut session = selected(rt.alloc())?;
+    if let (Some(way), Some(load), Some(times)) = (&way, load, times) {
+        return repeat(&rt, &mut session, way.as_str() == "driven", load, times);
+    }
     for load in &LOADS {
-        tell(&rt, &mut session, load, measures)?;
+        tell(&rt, &mut session, load, way.is_some())?;
+    }
+    Ok(())
+}
+
+fn number(word: Option<String>) -> Option<usize> {
+    word?.parse().ok()
+}
+
+/// Carries out an operation of the load at this place so often.
+fn repeat(
+    rt: &HostRuntime,
+    session: &mut ObjectSession,
+    drives: bool,
+    at: usize,
+    times: usize,
+) -> anyhow::Result<()> {
+    let load = Load {
+        length: 1,
+        rounds: times,
+        ..*LOADS.get(at).context("no such load")?
+    };
+    if drives {
+        driven_seconds(rt, &load)?;
+    } else {
+        seconds(rt, session, &load)?;
     }
     Ok(())
 }

@@ -1,0 +1,71 @@
+"""Runs a program under callgrind, and reads what each of its functions has cost."""
+
+import re
+import subprocess
+from collections import Counter
+from pathlib import Path
+
+# The C library chooses its functions by what a processor has: these are those of any x86-64.
+PLAIN = "glibc.cpu.hwcaps=-AVX512VL,-AVX512F,-AVX2,-AVX_Fast_Unaligned_Load,-ERMS,-FSRM"
+
+
+class Names:
+    """Callgrind writes a name once, with a number, and from then on the number alone."""
+
+    def __init__(self):
+        self.names = {}
+
+    def of(self, word):
+        number, _, name = re.fullmatch(r"(\(\d+\))( (.*))?", word).groups()
+        return self.names.setdefault(number, name)
+
+
+def costs(file):
+    """What each function has cost by itself, by its object's file name and its own."""
+    objects, functions, found = Names(), Names(), Counter()
+    place = function = None
+    is_call = False
+    for line in Path(file).read_text(encoding="utf-8", errors="replace").splitlines():
+        key, _, word = line.partition("=")
+        if key == "ob":
+            place = Path(objects.of(word)).name
+        elif key == "fn":
+            function = functions.of(word)
+        elif key == "cob":
+            objects.of(word)
+        elif key == "cfn":
+            functions.of(word)
+        elif key == "calls":
+            is_call = True
+        elif re.match(r"[+\-*\d]\S* \d+$", line):
+            # the line behind `calls` is what the called function has cost
+            if not is_call:
+                found[(place, function)] += int(line.split()[1])
+            is_call = False
+    return found
+
+
+def run(words, file, *options):
+    subprocess.run(["valgrind", "--tool=callgrind", f"--callgrind-out-file={file}", *options,
+                    *words], check=True, capture_output=True)
+
+
+def of_all(words, folder):
+    """What a whole run costs."""
+    file = Path(folder) / "callgrind.out"
+    run(words, file)
+    return costs(file)
+
+
+def of_repeat(program, way, times, folder):
+    """What an operation costs, for each of the calls of `repeat` in which it is carried out so
+    often."""
+    file = Path(folder) / f"{Path(program).name}.{way}"
+    run([program, way, str(times)], file, "--zero-before=repeat", "--dump-after=repeat")
+    files = sorted(file.parent.glob(f"{file.name}.[0-9]*"), key=lambda it: int(it.suffix[1:]))
+    each = []
+    for one in files:
+        found = costs(one)
+        if any(function == "repeat" for _, function in found):
+            each.append(Counter({key: cost / times for key, cost in found.items()}))
+    return each

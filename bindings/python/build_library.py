@@ -13,13 +13,6 @@ BINDINGS = HERE / COPY if (HERE / COPY).is_dir() else HERE.parent
 HEADER = BINDINGS / "c" / "include" / "galliumtoad.h"
 
 
-def sources():
-    """The files that the module is built from."""
-    yield from sorted(HEADER.parent.glob("*.h"))
-    yield BINDINGS / "c" / "src" / "heap.c"
-    yield from sorted((BINDINGS / "lib").glob("*/libcard_c.a"))
-
-
 def version():
     """The header's version, as in 0.2.0."""
     text = HEADER.read_text(encoding="utf-8")

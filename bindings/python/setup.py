@@ -7,8 +7,7 @@ from pathlib import Path
 from setuptools import setup
 from setuptools.command.sdist import sdist
 
-HERE = Path(__file__).resolve().parent
-sys.path.insert(0, str(HERE))
+sys.path.insert(0, str(Path(__file__).resolve().parent))
 import build_library  # noqa: E402
 
 
@@ -17,10 +16,9 @@ class SourceDistribution(sdist):
 
     def make_release_tree(self, base_dir, files):
         super().make_release_tree(base_dir, files)
-        for file in build_library.sources():
-            to = Path(base_dir, build_library.COPY, file.relative_to(build_library.BINDINGS))
-            to.parent.mkdir(parents=True, exist_ok=True)
-            self.copy_file(str(file), str(to))
+        for part in ("c/include", "c/src", "lib"):
+            there = f"{base_dir}/{build_library.COPY}/{part}"
+            self.copy_tree(str(build_library.BINDINGS / part), there)
 
 
 setup(

@@ -37,9 +37,11 @@ class Room:
     def __init__(self, path, rows, readers=1):
         self.path = path
         (path / "cards").mkdir()
-        for at in range(readers):
-            (path / f"Slot{at}").mkdir()
-            (path / f"Slot{at}" / "card").write_text("0")
+        # one run of tests beside another has other readers
+        self.names = [f"Slot{at}-{os.getpid()}" for at in range(readers)]
+        for name in self.names:
+            (path / name).mkdir()
+            (path / name / "card").write_text("0")
         lines = [f"PERSON {at},{at:08X}" for at in range(1, rows + 1)]
         self.write("rows.csv", "\n".join(["name,code", *lines]) + "\n")
         self.write("script", SCRIPT)
@@ -54,20 +56,17 @@ class Room:
         program = [sys.executable, "-m", "galliumtoad.batch", "script", "--rows=rows.csv"]
         return [*program, "--journal=journal", *(words or self.readers)]
 
-    def start(self, *words, **more):
+    def start(self, *words):
+        return self.start_program(self.words(*words))
+
+    def start_program(self, program):
+        pipes = {"stdout": subprocess.PIPE, "stderr": subprocess.PIPE, "text": True}
         return subprocess.Popen(
-            self.words(*words),
-            cwd=self.path,
-            env=self.environment,
-            text=True,
-            stdout=subprocess.PIPE,
-            stderr=subprocess.PIPE,
-            start_new_session=True,
-            **more,
+            program, cwd=self.path, env=self.environment, start_new_session=True, **pipes
         )
 
-    def run(self, *words, **more):
-        run = self.start(*words, **more)
+    def run(self, *words):
+        run = self.start(*words)
         out, error = run.communicate(timeout=300)
         return run.returncode, out, error
 
@@ -111,30 +110,13 @@ def test_each_row_goes_to_one_card(tmp_path):
     assert out.splitlines()[-1] == "60 of 60 rows done, 0 to decide"
     assert [room.cards_of(row)[0] for row in range(1, 61)] == [1] * 60
     text = "\n".join(room.journal())
-    assert "PERSON" not in text + out and bytes(b"Slot1-1").hex().upper() in text
-
-
-def test_killed_at_random(tmp_path):
-    room, at_random, kills = Room(tmp_path, CARDS, readers=4), random.Random(7), 0
-    # slow enough that rows are left for each kill
-    room.environment["SLOW"] = "0.015"
-    ended = ""
-    while not ended.endswith(f"{CARDS} of {CARDS} rows done, 0 to decide\n"):
-        run = room.start()
-        if kills < KILLS:
-            time.sleep(at_random.uniform(0.15, 0.6))
-            os.killpg(run.pid, signal.SIGKILL)
-            kills += 1
-        ended = run.communicate(timeout=600)[0]
-        room.decide()
-    assert [room.cards_of(row)[0] for row in range(1, CARDS + 1)] == [1] * CARDS
-    assert kills == KILLS
+    assert "PERSON" not in text + out and f"{room.names[1]}-1".encode().hex().upper() in text
 
 
 def test_a_row_is_on_disk_before_its_cards_first_byte(tmp_path, monkeypatch):
     monkeypatch.syspath_prepend(str(STANDIN))
     monkeypatch.setenv("STANDIN", str(tmp_path))
-    Room(tmp_path, 1)
+    room = Room(tmp_path, 1)
     from galliumtoad import batch, journal
     from smartcard.System import Connection
 
@@ -147,7 +129,7 @@ def test_a_row_is_on_disk_before_its_cards_first_byte(tmp_path, monkeypatch):
     )
     monkeypatch.chdir(tmp_path)
     given = batch.parsed(["script", "--rows=rows.csv", "--journal=journal"])
-    batch.serve(batch.Batch(given), "Slot0")
+    batch.serve(batch.Batch(given), room.names[0])
     assert steps[:2] == ["on disk"] * 2 and set(steps[2:-1]) == {"card"}
     assert steps[-1] == "on disk"
 
@@ -158,36 +140,59 @@ def test_a_row_in_progress_is_not_to_be_decided(tmp_path):
     journal = Journal(str(tmp_path / "journal"), room.journal()[0], 2)
     assert journal.take("Slot0") == 1
     assert room.to_decide() == {}
+    journal.note(1, "card", "00")
+    assert room.to_decide() == {}
     assert room.run("--again=1")[2] == "galliumtoad.batch: row 1 is not to be decided\n"
     os.close(journal._file)
     assert room.to_decide() == {1: "unsure"}
 
 
-def test_two_runs_at_once(tmp_path):
-    room = Room(tmp_path, 60, readers=2)
-    runs = [room.start(it) for it in room.readers]
-    for run in runs:
-        assert run.communicate(timeout=300)[1] == ""
-    while room.run("--status")[0] == 1:
-        room.decide()
-        room.run()
-    assert [room.cards_of(row)[0] for row in range(1, 61)] == [1] * 60
+def begun(room):
+    """Waits until a row was begun."""
+    while not (room.path / "journal").exists() or len(room.journal()) < 2:
+        time.sleep(0.01)
+
+
+def test_two_runs_at_one_reader(tmp_path):
+    room = Room(tmp_path, 3)
+    room.environment["SLOW"] = "0.1"
+    first = room.start()
+    begun(room)
+    out, error = room.run()[1:]
+    assert error == f"{room.names[0]}: another run serves this reader\n"
+    assert out.endswith(" of 3 rows done, 0 to decide\n") and "row" not in out.split(" of 3 ")[0]
+    assert first.communicate(timeout=300)[0].endswith("3 of 3 rows done, 0 to decide\n")
+
+
+def test_readers_end_with_their_program(tmp_path):
+    room = Room(tmp_path, 40)
+    room.environment["SLOW"] = "0.02"
+    run = room.start()
+    begun(room)
+    run.kill()
+    # its output ends with the last of them
+    run.communicate(timeout=300)
+    words = [it.split()[0] for it in room.journal()[1:]]
+    assert 0 < words.count("begin") < 40 and words[-1] in ("done", "unused", "unsure")
 
 
 def test_a_journal_that_was_cut(tmp_path):
-    room = Room(tmp_path, 3)
+    room, file = Room(tmp_path, 3), tmp_path / "journal"
     assert room.run()[0] == 0
-    whole = (tmp_path / "journal").read_bytes()
-    assert [it.split()[0] for it in whole.decode().splitlines()] == ["#"] + ["begin", "done"] * 3
+    whole = file.read_bytes()
+    heading, *lines = whole.decode().splitlines()
+    assert [it.split()[0] for it in lines] == ["begin", "done"] * 3
     for kept in range(len(whole)):
-        (tmp_path / "journal").write_bytes(whole[:kept])
-        lines = whole[:kept].count(b"\n")
-        undecided = {} if lines < 2 or lines % 2 else {lines // 2: "unsure"}
-        assert room.to_decide() == undecided
+        file.write_bytes(whole[:kept])
+        count = whole[:kept].count(b"\n")
+        undecided = {} if count < 2 or count % 2 else {count // 2: "unsure"}
+        assert Journal(str(file), heading, 3).undecided() == undecided
         # a cut line is gone, and a heading is written anew
-        assert (tmp_path / "journal").read_bytes() == b"".join(
-            whole.splitlines(keepends=True)[: max(lines, 1)]
-        )
+        assert file.read_bytes() == b"".join(whole.splitlines(keepends=True)[: max(count, 1)])
+    file.write_bytes(whole[:-1])
+    assert room.to_decide() == {3: "unsure"}
+    room.decide()
+    assert room.run()[0] == 0
 
 
 def test_a_full_disk(tmp_path):
@@ -203,30 +208,30 @@ def test_a_full_disk(tmp_path):
         )
         if run.returncode == 0:
             continue
-        assert run.stderr.startswith("Slot0: [Errno ") and "Traceback" not in run.stderr
-        assert "File too large" in run.stderr or "No space left" in run.stderr
+        full = ("[Errno 27] File too large", "no space is left for the journal")
+        assert run.stderr in [f"{room.names[0]}: {it}\n" for it in full]
         for row in range(1, 6):
-            begun = f"begin {row} Slot0" in room.journal()
+            begun = f"begin {row} {room.names[0]}" in room.journal()
             assert begun or room.cards_of(row) == (0, 0)
 
 
 def test_a_card_of_another_profile_takes_no_row(tmp_path):
     room = Room(tmp_path, 1)
-    (tmp_path / "Slot0" / "card").write_text("5")
+    (tmp_path / room.names[0] / "card").write_text("5")
     status, out, _ = room.run()
     assert status == 0 and out.splitlines() == [
-        "Slot0: row 1 unused: line 2: 6A82 application not found",
-        "Slot0: row 1 done",
+        f"{room.names[0]}: row 1 unused: line 2: 6A82 application not found",
+        f"{room.names[0]}: row 1 done",
         "1 of 1 rows done, 0 to decide",
     ]
 
 
 def test_a_card_without_an_identifier_takes_no_row(tmp_path):
     room = Room(tmp_path, 1)
-    (tmp_path / "Slot0" / "card").write_text("17")
+    (tmp_path / room.names[0] / "card").write_text("17")
     assert room.run("--id=9F7F")[1].splitlines()[:2] == [
-        "Slot0: row 1 unused: no 9F7F to know the card by: 6A88",
-        "Slot0: row 1 done",
+        f"{room.names[0]}: row 1 unused: no 9F7F: 6A88 data object not found",
+        f"{room.names[0]}: row 1 done",
     ]
 
 
@@ -237,33 +242,41 @@ def test_the_card_of_a_crashed_run_is_passed_over(tmp_path):
     assert journal.take("Slot0") == 1
     os.close(journal._file)
     assert room.run()[1].splitlines() == [
-        "Slot0: take out the card that is in it",
-        "Slot0: row 2 done",
+        f"{room.names[0]}: take out the card that is in it",
+        f"{room.names[0]}: row 2 done",
         "row 1 unsure: decide by --done 1 or --again 1",
         "1 of 2 rows done, 1 to decide",
     ]
-    assert [it.name for it in tmp_path.glob("cards/*")] == ["Slot0-1"]
+    assert [it.name for it in tmp_path.glob("cards/*")] == [f"{room.names[0]}-1"]
 
 
 def test_a_card_that_stays_in_takes_one_row(tmp_path):
     room = Room(tmp_path, 3)
     room.environment["STAYS"] = "1"
     assert room.run()[0] == 0
-    assert sorted(it.name for it in tmp_path.glob("cards/*")) == ["Slot0-0", "Slot0-1", "Slot0-2"]
+    cards = sorted(it.name for it in tmp_path.glob("cards/*"))
+    assert cards == [f"{room.names[0]}-{at}" for at in range(3)]
     assert [room.cards_of(row)[0] for row in (1, 2, 3)] == [1, 1, 1]
+
+
+def test_a_card_that_was_changed_before_it_is_connected(tmp_path):
+    room = Room(tmp_path, 2)
+    room.environment.update(STAYS="1", SWAPS="1")
+    assert room.run()[0] == 0
+    assert [room.cards_of(row)[0] for row in (1, 2)] == [1, 1]
 
 
 def test_a_card_that_stores_another_byte_has_failed(tmp_path):
     room = Room(tmp_path, 1)
-    (tmp_path / "Slot0" / "card").write_text("11")
+    (tmp_path / room.names[0] / "card").write_text("11")
     status, out, _ = room.run()
     assert status == 1 and out.splitlines() == [
-        "Slot0: row 1 failed: line 5: 50 was not stored as sent",
+        f"{room.names[0]}: row 1 failed: line 5: 50 was not stored as sent",
         "row 1 failed: decide by --done 1 or --again 1",
         "0 of 1 rows done, 1 to decide",
     ]
     assert room.run("--again=1")[1] == "0 of 1 rows done, 0 to decide\n"
-    assert room.run()[1].endswith("Slot0: row 1 done\n1 of 1 rows done, 0 to decide\n")
+    assert room.run()[1].endswith(f"{room.names[0]}: row 1 done\n1 of 1 rows done, 0 to decide\n")
 
 
 @pytest.mark.parametrize(
@@ -282,7 +295,7 @@ def test_a_card_that_stores_another_byte_has_failed(tmp_path):
         (None, "name,code\nA,00,1\n", (), "rows.csv: row 1 has too many columns, or too few"),
         (None, None, ("--reader=X",), "`X` names 0 readers"),
         (None, None, ("--reader=Slot",), "`Slot` names 2 readers"),
-        (None, None, ("--id=9F7F",), "name a reader: there are 2"),
+        (None, None, ("--id=9F7F",), "name one of 2 readers"),
         (None, None, ("--done=1",), "row 1 is not to be decided"),
         (None, None, ("--again=9",), "row 9 is not to be decided"),
     ],
@@ -308,3 +321,31 @@ def test_a_missing_file_is_named(tmp_path):
     room = Room(tmp_path, 1)
     (tmp_path / "rows.csv").unlink()
     assert room.run()[2] == "galliumtoad.batch: [Errno 2] No such file or directory: 'rows.csv'\n"
+
+
+def test_two_runs_at_once(tmp_path):
+    room = Room(tmp_path, 60, readers=2)
+    runs = [room.start(it) for it in room.readers]
+    for run in runs:
+        assert run.communicate(timeout=300)[1] == ""
+    while room.run("--status")[0] == 1:
+        room.decide()
+        room.run()
+    assert [room.cards_of(row)[0] for row in range(1, 61)] == [1] * 60
+
+
+def test_killed_at_random(tmp_path):
+    room, at_random, kills = Room(tmp_path, CARDS, readers=4), random.Random(7), 0
+    # slow enough that rows are left for each kill
+    room.environment["SLOW"] = "0.015"
+    ended = ""
+    while not ended.endswith(f"{CARDS} of {CARDS} rows done, 0 to decide\n"):
+        run = room.start()
+        if kills < KILLS:
+            time.sleep(at_random.uniform(0.15, 0.6))
+            os.killpg(run.pid, signal.SIGKILL)
+            kills += 1
+        ended = run.communicate(timeout=600)[0]
+        room.decide()
+    assert [room.cards_of(row)[0] for row in range(1, CARDS + 1)] == [1] * CARDS
+    assert kills == KILLS

@@ -1,20 +1,25 @@
 """The examples in the docstrings of the package, and those of its README."""
 
+import ast
 import doctest
 import importlib
+import io
 import os
 import pkgutil
 import subprocess
 import sys
+import tokenize
 from pathlib import Path
 
 import galliumtoad
 import pytest
+from galliumtoad import Get, Select, Terminal
 
 MODULES = [it.name for it in pkgutil.iter_modules(galliumtoad.__path__) if it.name[0] != "_"]
 # what no caller has to know
 WITHOUT = ("handle", "journal", "script")
-EXAMPLES = Path(__file__).resolve().parent.parent / "examples"
+TOP = Path(__file__).resolve().parent.parent
+EXAMPLES = TOP / "examples"
 STANDIN = Path(__file__).resolve().parent / "standin"
 
 
@@ -45,3 +50,38 @@ def test_a_card_in_a_reader(tmp_path):
     assert run("reader.py", env=environment) == ["ok", "", ""]
     stored = (tmp_path / "cards" / "Slot0-0").read_text()
     assert f'"80": "{b"VISA".hex()}"' in stored and b"DOE/JOHN".hex() in stored
+
+
+def test_a_card_behind_a_pseudo_terminal():
+    program = [sys.executable, str(EXAMPLES / "behind_pty.py")]
+    with subprocess.Popen(program, stdout=subprocess.PIPE, text=True) as card:
+        line = os.open(card.stdout.readline().rstrip(), os.O_RDWR | os.O_NOCTTY)
+        assert os.read(line, 2) == b"\x3b\x00"
+        with Terminal() as terminal:
+            answers = []
+            for operation in (Select(bytes.fromhex("A0000000031010")), Get(0x5F20)):
+                terminal.begin(operation)
+                while terminal.answer() is None:
+                    os.write(line, terminal.send_bytes())
+                    terminal.receive_bytes(os.read(line, 1))
+                answers.append(terminal.answer())
+        assert [it.status for it in answers] == [0x9000, 0x9000]
+        assert answers[1].object(0x5F20).value == b"JOE"
+        card.kill()
+
+
+def code(file):
+    """The numbers of the lines that are neither blank nor a comment nor a docstring."""
+    text, found = file.read_text(), set()
+    for it in tokenize.generate_tokens(io.StringIO(text).readline):
+        if it.string.strip() and it.type != tokenize.COMMENT:
+            found.update(range(it.start[0], it.end[0] + 1))
+    for it in ast.walk(ast.parse(text)):
+        if isinstance(it, (ast.Module, ast.ClassDef, ast.FunctionDef)) and ast.get_docstring(it):
+            found.difference_update(range(it.body[0].lineno, it.body[0].end_lineno + 1))
+    return found
+
+
+def test_the_package_stays_small():
+    files = [*TOP.glob("src/galliumtoad/*.py"), TOP / "setup.py", TOP / "build_library.py"]
+    assert 500 < sum(len(code(it)) for it in files) <= 700

@@ -7,7 +7,7 @@ from typing import Any, NamedTuple, Optional
 
 from ._library import ffi, lib
 from .errors import checked
-from .handle import Bytes, readable, tag_number, within
+from .handle import Bytes, copied, readable, tag_number, within, writable
 
 
 class Status(int):
@@ -47,14 +47,9 @@ class Object:
 
 def _object(found: Any, data: bytes) -> Object:
     """The object at the library's places in the data."""
-    return Object(
-        tag=found.tag,
-        level=found.level,
-        is_constructed=bool(found.constructed),
-        place=found.place,
-        encoded=data[found.place : found.place + found.size],
-        value=data[found.value : found.value + found.length],
-    )
+    encoded = data[found.place : found.place + found.size]
+    value = data[found.value : found.value + found.length]
+    return Object(found.tag, found.level, bool(found.constructed), found.place, encoded, value)
 
 
 def objects(data: Bytes) -> list[Object]:
@@ -68,10 +63,9 @@ def objects(data: Bytes) -> list[Object]:
     [('0x6f', 1, '84034a4f45'), ('0x84', 2, '4a4f45')]
     """
     kept, count, place = bytes(data), ffi.new("size_t *"), ffi.new("size_t *")
-    checked(lib.gt_objects(kept, len(kept), ffi.NULL, 0, count, place), place)
-    found = ffi.new("gt_object[]", count[0])
-    checked(lib.gt_objects(kept, len(kept), found, count[0], count, place), place)
-    return [_object(it, kept) for it in found]
+    found = ffi.new("gt_object[]", len(kept))
+    checked(lib.gt_objects(kept, len(kept), found, len(found), count, place), place)
+    return [_object(it, kept) for it in found[0 : count[0]]]
 
 
 def find(data: Bytes, *path: int) -> Optional[Object]:
@@ -101,9 +95,9 @@ def head(tag: int, length: int) -> bytes:
     >>> galliumtoad.head(0x5F20, 200).hex()
     '5f2081c8'
     """
-    made, count = ffi.new("uint8_t[6]"), ffi.new("size_t *")
+    made, count = writable(6)
     checked(lib.gt_head(tag_number(tag), within(length, 0, 0xFFFF, "a length"), made, count))
-    return bytes(made[0 : count[0]])
+    return copied(made, count)
 
 
 class Answer(NamedTuple):
@@ -114,6 +108,5 @@ class Answer(NamedTuple):
 
     def object(self, tag: int) -> Optional[Object]:
         """The one object that the data are, if its tag is this and nothing else is there."""
-        if not lib.gt_is_object(readable(self.data), len(self.data), tag_number(tag)):
-            return None
-        return find(self.data, tag)
+        is_it = lib.gt_is_object(*readable(self.data), tag_number(tag))
+        return find(self.data, tag) if is_it else None

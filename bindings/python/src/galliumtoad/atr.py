@@ -7,7 +7,7 @@ from typing import Any, Optional
 
 from ._library import ffi, lib
 from .errors import checked
-from .handle import Bytes, copied, readable, within
+from .handle import Bytes, copied, readable, within, writable
 
 Byte = Optional[int]
 
@@ -29,13 +29,11 @@ class Atr:
     """
 
     def __init__(self, data: Bytes) -> None:
-        given, atr, place = readable(data), ffi.new("gt_atr *"), ffi.new("size_t *")
-        checked(lib.gt_atr_read(given, len(given), atr, place), place)
-        fields = _fields(atr[0])
-        fields["protocols"] = tuple(atr.protocols[0 : atr.protocol_count])
-        at = atr.historical
-        fields["historical"] = bytes(data)[at : at + atr.historical_count]
-        self.__dict__.update(fields)
+        atr, place = ffi.new("gt_atr *"), ffi.new("size_t *")
+        checked(lib.gt_atr_read(*readable(data), atr, place), place)
+        self.__dict__.update(_fields(atr[0]))
+        self.protocols = tuple(atr.protocols[0 : atr.protocol_count])
+        self.historical = bytes(data)[atr.historical :][: atr.historical_count]
 
     def __getattr__(self, name: str) -> Any:
         raise AttributeError(f"an answer to reset has no {name}")
@@ -59,7 +57,7 @@ class Pps:
     """
 
     def __init__(self, t: int, pps1: Byte = None, pps2: Byte = None, pps3: Byte = None) -> None:
-        made, count = ffi.new("uint8_t[]", lib.GT_PPS_LIMIT), ffi.new("size_t *")
+        made, count = writable(lib.GT_PPS_LIMIT)
         given = (pps1, pps2, pps3)
         asked = (lib.GT_ABSENT if it is None else within(it, 0, 255, "a PPS byte") for it in given)
         checked(lib.gt_pps_request(within(t, 0, 15, "T"), *asked, made, count))
@@ -67,6 +65,4 @@ class Pps:
 
     def is_agreed(self, response: Bytes) -> bool:
         """Whether the card's response accepts the request. Raises `PpsError` if it is none."""
-        given = readable(response)
-        code = lib.gt_pps_agreed(self.request, len(self.request), given, len(given))
-        return checked(code) == 1
+        return checked(lib.gt_pps_agreed(*readable(self.request), *readable(response))) == 1

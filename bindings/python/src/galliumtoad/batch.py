@@ -13,19 +13,19 @@ import contextlib
 import csv
 import hashlib
 import multiprocessing
+import socket
 import sys
-import time
 from pathlib import Path
-from typing import Any, Mapping, Optional
+from typing import Any, Iterator, Optional
 
 from smartcard import scard
 from smartcard.Exceptions import SmartcardException
 from smartcard.System import readers
 
 from .errors import Error
-from .journal import FREE, Journal
+from .journal import Journal
 from .pyscard import transport
-from .script import Line, Script
+from .script import Script
 from .terminal import Get, Put, Send, Terminal, Transport
 
 _HELP = "`@{column}` in a script is a column's text, `{column}` its digits: put 5F20 @{name}"
@@ -43,159 +43,134 @@ class Batch:
             if None in row or None in row.values():
                 raise ValueError(f"{words.rows}: row {number} has too many columns, or too few")
             self.script.check(number, row)
-        self.id_tag: Optional[int] = words.id
-        rows, script = (
-            hashlib.sha256(Path(it).read_bytes()).hexdigest() for it in (words.rows, words.script)
-        )
-        self.journal_file, self.heading = words.journal, f"# rows {rows} script {script}"
-
-    def journal(self) -> Journal:
-        return Journal(self.journal_file, self.heading, len(self.rows))
+        sums = (hashlib.sha256(Path(it).read_bytes()) for it in (words.rows, words.script))
+        heading = "# rows {} script {}".format(*(it.hexdigest() for it in sums))
+        self.id_tag, self.journal = words.id, (words.journal, heading, len(self.rows))
+        self.is_begun = Journal(*self.journal).is_begun
 
 
-class Personaliser:
-    """Carries out the script with one card for one row."""
-
-    def __init__(self, batch: Batch, journal: Journal, number: int) -> None:
-        self.batch, self.journal, self.number = batch, journal, number
-        self.row: Mapping[str, str] = batch.rows[number - 1]
-        self.has_written = False
-
-    def carry_out(self, reader: Transport) -> tuple[str, str]:
-        """Returns `done`, `unused` if the card got nothing, `failed` or `unsure`, and why."""
-        try:
-            with Terminal() as terminal:
-                for line in self.batch.script.lines:
-                    fault = self._fault(terminal, reader, line)
-                    if fault:
-                        return ("failed" if self.has_written else "unused"), fault
-        except (SmartcardException, Error) as error:
-            return ("unsure" if self.has_written else "unused"), " ".join(str(error).split())
-        return "done", ""
-
-    def _fault(self, terminal: Terminal, reader: Transport, line: Line) -> str:
-        """Carries out a line, and returns why that went wrong, or nothing."""
-        operation = line.operation(self.row)
-        if isinstance(operation, (Put, Send)) and not self.has_written:
-            fault = self._note_id(terminal, reader)
-            if fault:
-                return fault
-            self.has_written = True
-        status, where = terminal.run(reader, operation).status, f"line {line.number}"
-        if not status.is_ok:
-            return f"{where}: {status:04X} {status.text}"
-        if isinstance(operation, Put):
-            found = terminal.run(reader, Get(operation.tag)).object(operation.tag)
-            if found is None or found.value != operation.value:
-                return f"{where}: {operation.tag:X} was not stored as sent"
-        return ""
-
-    def _note_id(self, terminal: Terminal, reader: Transport) -> str:
-        tag = self.batch.id_tag
-        if tag is None:
-            return ""
-        answer = terminal.run(reader, Get(tag))
-        found = answer.object(tag)
-        if found is None:
-            return f"no {tag:X} to know the card by: {answer.status:04X}"
-        self.journal.note(self.number, "card", found.value.hex().upper())
-        return ""
+class Refused(Exception):
+    """The card does not do what it is asked for."""
 
 
-class Slot:
-    """A reader, and the card in it that was used last."""
+def carry_out(batch: Batch, journal: Journal, number: int, reader: Transport) -> tuple[str, str]:
+    """Carries out the script with a card for this row. Returns `done`, `unused` if the card got
+    nothing, `failed` or `unsure`, and why."""
+    terminal, has_written = Terminal(), False
+    try:
+        for line, operation in batch.script.operations(batch.rows[number - 1]):
+            if isinstance(operation, (Put, Send)) and not has_written:
+                if batch.id_tag is not None:
+                    card = stored(terminal, reader, batch.id_tag)
+                    journal.note(number, "card", card.hex().upper())
+                has_written = True
+            status = terminal.run(reader, operation).status
+            if not status.is_ok:
+                raise Refused(f"line {line}: {status:04X} {status.text}")
+            if isinstance(operation, Put):
+                if stored(terminal, reader, operation.tag) != operation.value:
+                    raise Refused(f"line {line}: {operation.tag:X} was not stored as sent")
+    except (SmartcardException, Error, Refused) as error:
+        word = "failed" if isinstance(error, Refused) else "unsure"
+        return (word if has_written else "unused"), " ".join(str(error).split())
+    return "done", ""
 
-    def __init__(self, name: str) -> None:
-        self.name, self._used, self._said = name, -1, ""
-        self._known = scard.SCARD_STATE_UNAWARE
-        code, self._context = scard.SCardEstablishContext(scard.SCARD_SCOPE_USER)
-        if code != scard.SCARD_S_SUCCESS:
-            raise OSError(scard.SCardGetErrorMessage(code))
 
-    def has_new_card(self) -> bool:
-        """Waits up to half a second for a card that was not used yet."""
-        asked = [(self.name, self._known)]
-        code, found = scard.SCardGetStatusChange(self._context, 500, asked)
-        if code not in (scard.SCARD_S_SUCCESS, scard.SCARD_E_TIMEOUT):
-            raise OSError(f"{self.name}: {scard.SCardGetErrorMessage(code)}")
-        if found:
-            self._known = found[0][1] & ~scard.SCARD_STATE_CHANGED
+def stored(terminal: Terminal, reader: Transport, tag: int) -> bytes:
+    """The value under a tag. Raises `Refused` if the card has none."""
+    answer = terminal.run(reader, Get(tag))
+    found = answer.object(tag)
+    if found is None:
+        raise Refused(f"no {tag:X}: {answer.status:04X} {answer.status.text}")
+    return found.value
+
+
+def say(name: str, what: object) -> None:
+    """Prints a line about a reader, whole: other processes print there too."""
+    sys.stdout.write(f"{name}: {what}\n")
+    sys.stdout.flush()
+
+
+def state_of(context: Any, name: str, known: int, wait: int) -> int:
+    """A reader's state, when it is another than the known one, or after so many milliseconds."""
+    code, found = scard.SCardGetStatusChange(context, wait, [(name, known)])
+    if code not in (scard.SCARD_S_SUCCESS, scard.SCARD_E_TIMEOUT):
+        raise OSError(scard.SCardGetErrorMessage(code))
+    return int(found[0][1] & ~scard.SCARD_STATE_CHANGED) if found else known
+
+
+def cards(name: str, is_begun: bool) -> Iterator[Any]:
+    """Yields a connection, for this program alone, to each card that is put into a reader, and None
+    twice a second. In a batch that was begun it passes over the card that is in the reader: that
+    may have a row already. Raises `OSError`, also if another run on this machine serves it."""
+    reader, mark = next(it for it in readers() if str(it) == name), socket.socket(socket.AF_UNIX)
+    try:
+        mark.bind(f"\0galliumtoad.batch {name}")
+    except OSError:
+        raise OSError("another run serves this reader") from None
+    _, context = scard.SCardEstablishContext(scard.SCARD_SCOPE_USER)
+    known, used, said = state_of(context, name, scard.SCARD_STATE_UNAWARE, 0), -1, ""
+    if is_begun and known & scard.SCARD_STATE_PRESENT:
+        used = known >> 16
+        say(name, "take out the card that is in it")
+    while True:
+        yield None
         # The upper half counts the cards that came and went.
-        return bool(self._known & scard.SCARD_STATE_PRESENT) and self._known >> 16 != self._used
-
-    def pass_over(self) -> bool:
-        """Takes the card in the reader for used; False if there is none."""
-        found = self.has_new_card()
-        self._used = self._known >> 16
-        return found
-
-    def connected(self) -> Optional[Any]:
-        """A connection to the card, which is used from now on, for this program alone. If there is
-        none, says why, once, and returns None."""
-        found = [it for it in readers() if str(it) == self.name]
-        if not found:
-            raise OSError("the reader is gone")
-        connection = found[0].createConnection()
+        if not known & scard.SCARD_STATE_PRESENT or known >> 16 == used:
+            known = state_of(context, name, known, 500)
+            continue
+        connection = reader.createConnection()
         try:
             connection.connect(mode=scard.SCARD_SHARE_EXCLUSIVE, disposition=scard.SCARD_RESET_CARD)
+            # Asked again: the card may be another one than that which was seen.
+            known = state_of(context, name, known, 0)
+            used = known >> 16
+            yield connection
         except SmartcardException as error:
-            if str(error) != self._said:
-                print(f"{self.name}: {error}", file=sys.stderr, flush=True)
-            self._said = str(error)
-            time.sleep(0.5)
-            return None
-        self._used = self._known >> 16
-        return connection
+            if str(error) != said:
+                say(name, error)
+            said = str(error)
+            known = state_of(context, name, known, 500)
 
 
 def serve(batch: Batch, name: str) -> None:
     """Serves one reader until no row is free, or the journal can't be written."""
+    program = multiprocessing.parent_process()
     try:
-        journal, slot = batch.journal(), Slot(name)
-        if journal.words and slot.pass_over():
-            # It may have a row already: the next one is for another card.
-            print(f"{name}: take out the card that is in it", flush=True)
-        while journal.count(*FREE):
-            if slot.has_new_card():
-                serve_card(batch, journal, slot)
+        journal = Journal(*batch.journal)
+        for connection in cards(name, batch.is_begun):
+            if not journal.count("free") or (program and not program.is_alive()):
+                break
+            number = journal.take(name) if connection else None
+            if number:
+                outcome, why = carry_out(batch, journal, number, transport(connection))
+                journal.note(number, outcome, why)
+                say(name, f"row {number} {outcome}{why and ': ' + why}")
+                with contextlib.suppress(SmartcardException):
+                    connection.disconnect()
     except OSError as error:
         sys.exit(f"{name}: {error}")
     except KeyboardInterrupt:
         sys.exit(1)
 
 
-def serve_card(batch: Batch, journal: Journal, slot: Slot) -> None:
-    """Takes the next row for the card in the reader, and carries out the script."""
-    connection = slot.connected()
-    number = journal.take(slot.name) if connection else None
-    if connection is None or number is None:
-        return
-    outcome, why = Personaliser(batch, journal, number).carry_out(transport(connection))
-    journal.end(number, outcome, why)
-    print(f"{slot.name}: row {number} {outcome}{why and ': ' + why}", flush=True)
-    with contextlib.suppress(SmartcardException):
-        connection.disconnect()
-
-
 def chosen(names: list[str]) -> list[str]:
     """The readers that are named, each by a part of its name; without names the only one."""
-    found = [str(it) for it in readers()]
-    if not names and len(found) != 1:
-        raise ValueError(f"name a reader: there are {len(found)}")
-    for name in names:
-        if sum(name in it for it in found) != 1:
-            raise ValueError(f"`{name}` names {sum(name in it for it in found)} readers")
-    return [it for it in found if not names or any(name in it for name in names)]
+    found = {name: [str(it) for it in readers() if name in str(it)] for name in names or [""]}
+    for name, named in found.items():
+        if len(named) != 1:
+            what = f"`{name}` names" if name else "name one of"
+            raise ValueError(f"{what} {len(named)} readers")
+    return sorted({named[0] for named in found.values()})
 
 
-def summary(batch: Batch, journal: Journal) -> int:
+def summary(journal: Journal, rows: int) -> int:
     """Prints how all rows stand; returns the exit status."""
-    left = journal.undecided()
+    left, done = journal.undecided(), journal.count("done")
     for row, word in left.items():
         print(f"row {row} {word}: decide by --done {row} or --again {row}")
-    done = journal.count("done")
-    print(f"{done} of {len(batch.rows)} rows done, {len(left)} to decide")
-    return 0 if done == len(batch.rows) else 1
+    print(f"{done} of {rows} rows done, {len(left)} to decide")
+    return 0 if done == rows else 1
 
 
 def parsed(words: Optional[list[str]]) -> argparse.Namespace:
@@ -206,8 +181,8 @@ def parsed(words: Optional[list[str]]) -> argparse.Namespace:
     parser.add_argument("--reader", action="append", default=[], help="a part of its name")
     parser.add_argument("--id", type=lambda it: int(it, 16), help="noted for each card: a tag")
     parser.add_argument("--status", action="store_true", help="says how the rows stand, no more")
-    parser.add_argument("--done", type=int, action="append", default=[], metavar="N")
-    parser.add_argument("--again", type=int, action="append", default=[], metavar="N")
+    for word in ("--done", "--again"):
+        parser.add_argument(word, type=int, action="append", default=[], metavar="N")
     return parser.parse_args(words)
 
 
@@ -216,22 +191,20 @@ def main(words: Optional[list[str]] = None) -> int:
     given = parsed(words)
     try:
         batch = Batch(given)
-        journal = batch.journal()
+        journal = Journal(*batch.journal)
         for word in ("done", "again"):
             for row in getattr(given, word):
-                if not journal.decide(row, word):
-                    raise ValueError(f"row {row} is not to be decided")
+                journal.decide(row, word)
         if not (given.status or given.done or given.again):
-            names = chosen(given.reader)
             # A forked process would share this one's connection to pcscd.
             new = multiprocessing.get_context("spawn")
-            at_work = [new.Process(target=serve, args=(batch, it)) for it in names]
+            at_work = [new.Process(target=serve, args=(batch, it)) for it in chosen(given.reader)]
             for it in at_work:
                 it.start()
             with contextlib.suppress(KeyboardInterrupt):
                 for it in at_work:
                     it.join()
-        return summary(batch, journal)
+        return summary(journal, len(batch.rows))
     except (ValueError, OSError, csv.Error, SmartcardException) as error:
         print(f"galliumtoad.batch: {error}", file=sys.stderr)
         return 2

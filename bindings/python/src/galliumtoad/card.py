@@ -2,11 +2,10 @@
 
 from __future__ import annotations
 
-from typing import Collection, Iterator, Mapping, NamedTuple, Optional
+from typing import Collection, Mapping, NamedTuple, Optional
 
 from ._library import ffi, lib
-from .errors import checked
-from .handle import Bytes, Handle, copied, readable, tag_number, within
+from .handle import Bytes, Handle, copied, readable, tag_number, within, writable
 
 Tables = Mapping[bytes, Mapping[int, Bytes]]
 
@@ -23,12 +22,9 @@ class Holder(Handle):
     """What holds data objects: a card, or a session with its card."""
 
     def _aid(self, name: str, *words: int) -> Optional[bytes]:
-        aid, count = ffi.new("uint8_t[]", lib.GT_AID_LIMIT), ffi.new("size_t *")
-        code = self._code(name, *words, aid, count)
-        if code == lib.GT_NOT_FOUND:
-            return None
-        checked(code)
-        return copied(aid, count)
+        aid, count = writable(lib.GT_AID_LIMIT)
+        is_missing = self._call(name, *words, aid, count, but=[lib.GT_NOT_FOUND])
+        return None if is_missing else copied(aid, count)
 
     @property
     def selected(self) -> Optional[bytes]:
@@ -51,18 +47,13 @@ class Holder(Handle):
         applications = self.applications
         if bytes(aid) not in applications:
             raise KeyError(bytes(aid).hex())
-        return list(self._entries(applications.index(bytes(aid))))
-
-    def _entries(self, app: int) -> Iterator[Entry]:
-        tag, locked, count = ffi.new("uint32_t *"), ffi.new("int32_t *"), ffi.new("size_t *")
-        value = ffi.new("uint8_t[]", lib.GT_VALUE_LIMIT)
-        room = (value, lib.GT_VALUE_LIMIT, count)
-        for at in range(lib.GT_ENTRIES_LIMIT):
-            code = self._code("entry_at", app, at, tag, locked, *room)
-            if code == lib.GT_NOT_FOUND:
-                return
-            checked(code)
-            yield Entry(tag[0], copied(value, count), bool(locked[0]))
+        app, found = applications.index(bytes(aid)), list[Entry]()
+        tag, locked, room = ffi.new("uint32_t *"), ffi.new("int32_t *"), lib.GT_VALUE_LIMIT
+        value, count = writable(room)
+        words = (tag, locked, value, room, count)
+        while not self._call("entry_at", app, len(found), *words, but=[lib.GT_NOT_FOUND]):
+            found.append(Entry(tag[0], copied(value, count), bool(locked[0])))
+        return found
 
     def plan(self, steps: str, cut: int = 256) -> None:
         """How the card answers one more TPDU to come: procedure bytes `n`, `o`, `a`, and the most
@@ -97,10 +88,10 @@ class Card(Holder):
         super().__init__()
         self._call("new")
         for aid, values in tables.items():
-            self._call("app", readable(aid), len(aid))
+            self._call("app", *readable(aid))
             for tag, value in values.items():
-                data = readable(value)
-                self._call("object", tag_number(tag), data, len(data), (bytes(aid), tag) in locked)
+                is_locked = (bytes(aid), tag) in locked
+                self._call("object", tag_number(tag), *readable(value), is_locked)
         self._call("finish")
 
     def tpdu(self, tpdu: Bytes) -> bytes:
@@ -109,23 +100,19 @@ class Card(Holder):
         Raises `TransportError` if the bytes are no TPDU. If the card takes data that are not there,
         or sends data where none may come, it raises that too, and the card was reset.
         """
-        given = readable(tpdu)
-        return self._copied("tpdu", given, len(given), room=lib.GT_ANSWER_LIMIT)
+        return self._copied("tpdu", *readable(tpdu), room=lib.GT_ANSWER_LIMIT)
 
     def apdu(self, command: Bytes) -> bytes:
         """Carries out a whole command, as a card at T=1, and returns the data and SW1 SW2.
 
         Raises `CommandError` or `TransportError` if the bytes are no command.
         """
-        given = readable(command)
-        return self._copied("apdu", given, len(given), room=lib.GT_ANSWER_LIMIT)
+        return self._copied("apdu", *readable(command), room=lib.GT_ANSWER_LIMIT)
 
     def receive_bytes(self, data: Bytes) -> int:
         """Takes characters of the terminal, as many as the card waits for; returns how many."""
-        given, taken = readable(data), ffi.new("size_t *")
-        code = self._code("receive_bytes", given, len(given), taken)
-        if code != lib.GT_NOT_LISTENING:
-            checked(code)
+        taken = ffi.new("size_t *")
+        self._call("receive_bytes", *readable(data), taken, but=[lib.GT_NOT_LISTENING])
         return int(taken[0])
 
     def send_bytes(self, room: int = 1024) -> bytes:

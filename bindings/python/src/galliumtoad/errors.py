@@ -65,19 +65,9 @@ class PpsError(Error):
     """The bytes are no PPS response."""
 
 
-# The header numbers its codes by kind, ten for each.
-_KINDS: dict[int, type[Error]] = {
-    0: CallError,
-    1: CallError,
-    2: BuildError,
-    3: LineError,
-    4: ObjectsError,
-    5: CommandError,
-    6: TransportError,
-    7: AtrError,
-    8: PpsError,
-    9: LineError,
-}
+# The header numbers its codes by kind, ten for each, and CallError has twenty.
+_KINDS: list[type[Error]] = [CallError, CallError, BuildError, LineError, ObjectsError]
+_KINDS += [CommandError, TransportError, AtrError, PpsError, LineError]
 
 
 def checked(code: int, place: Any = None) -> int:

@@ -4,7 +4,7 @@ from __future__ import annotations
 
 import contextlib
 import threading
-from typing import Any, Iterator, Optional, Type, TypeVar, Union
+from typing import Any, Collection, Iterator, Tuple, TypeVar, Union
 
 from ._library import ffi, lib
 from .errors import checked
@@ -13,16 +13,22 @@ Bytes = Union[bytes, bytearray, memoryview]
 Self = TypeVar("Self", bound="Handle")
 
 
-def readable(data: Bytes) -> Any:
-    """The bytes of a bytes-like object, for the library to read. Raises `TypeError` for others."""
+def readable(data: Bytes) -> Tuple[Any, int]:
+    """The bytes of a bytes-like object, for the library to read, and how many they are. Raises
+    `TypeError` for other objects."""
     if isinstance(data, (bytes, bytearray)):
-        return ffi.from_buffer("uint8_t[]", data)
+        return ffi.from_buffer("uint8_t[]", data), len(data)
     # A copy: the collector may clear a memoryview that an exception's frames keep, before cffi
     # gives its buffer back.
     view = memoryview(data).cast("B")
     copy = ffi.new("uint8_t[]", len(view))
     ffi.memmove(copy, view, len(view))
-    return copy
+    return copy, len(view)
+
+
+def writable(room: int) -> Tuple[Any, Any]:
+    """A buffer for the library, and the count of what it writes there."""
+    return ffi.new("uint8_t[]", room), ffi.new("size_t *")
 
 
 def copied(made: Any, count: Any) -> bytes:
@@ -56,14 +62,12 @@ class Handle:
         self._handle = ffi.gc(handle, getattr(lib, f"gt_{self._kind}_free"))
         self._lock = threading.Lock()
 
-    def _call(self, name: str, *words: Any, place: Any = None) -> int:
-        """Calls the library's function of this name with the handle, and raises its faults."""
-        return checked(self._code(name, *words), place)
-
-    def _code(self, name: str, *words: Any) -> int:
-        """Calls it, and returns its code."""
+    def _call(self, name: str, *words: Any, but: Collection[int] = (), place: Any = None) -> int:
+        """Calls the library's function of this name with the handle. Returns its code, and raises
+        its faults but for these."""
         with self._alone():
-            return int(getattr(lib, f"gt_{self._kind}_{name}")(self._handle, *words))
+            code = int(getattr(lib, f"gt_{self._kind}_{name}")(self._handle, *words))
+        return code if code in but else checked(code, place)
 
     @contextlib.contextmanager
     def _alone(self) -> Iterator[None]:
@@ -77,7 +81,7 @@ class Handle:
 
     def _copied(self, name: str, *words: Any, room: int) -> bytes:
         """Calls the function with a buffer, its room and a count, and returns what was written."""
-        made, count = ffi.new("uint8_t[]", room), ffi.new("size_t *")
+        made, count = writable(room)
         self._call(name, *words, made, room, count)
         return copied(made, count)
 
@@ -89,5 +93,5 @@ class Handle:
     def __enter__(self: Self) -> Self:
         return self
 
-    def __exit__(self, kind: Optional[Type[BaseException]], *_: object) -> None:
+    def __exit__(self, *_: object) -> None:
         self.close()

@@ -8,13 +8,13 @@ its end was cut off by a crash: it counts for nothing, and what it was to announ
 from __future__ import annotations
 
 import contextlib
-import errno
 import fcntl
 import os
 from typing import Iterator, Optional
 
-# The last word of a row that may be taken: none, its card got nothing, or somebody decided so.
-FREE = (None, "unused", "again")
+# How a row stands after a line's word, where that is not the word itself: a row that was begun is
+# unsure unless its process lives.
+_STANDS = {"begin": "unsure", "card": "unsure", "unused": "free", "again": "free"}
 
 
 class Journal:
@@ -22,63 +22,50 @@ class Journal:
     that begins with another one is refused by `ValueError`."""
 
     def __init__(self, path: str, heading: str, rows: int) -> None:
-        self._file = os.open(path, os.O_RDWR | os.O_CREAT | os.O_CLOEXEC, 0o600)
-        self._read, self.rows, self._heading = 0, rows, ""
-        self.words: dict[int, str] = {}
+        self._file = os.open(path, os.O_RDWR | os.O_CREAT, 0o600)
+        self._read, self._heading, self.is_begun = 0, "", False
+        self._rows = dict.fromkeys(range(1, rows + 1), "free")
         with self._locked():
             if not self._heading:
                 self._append(heading)
-            elif self._heading != heading:
-                raise ValueError(f"{path} is the journal of another table or script")
+        if self._heading != heading:
+            raise ValueError(f"{path} is the journal of another table or script")
 
     def take(self, reader: str) -> Optional[int]:
         """Takes the next row for a card in this reader, or returns None if no row is free."""
         with self._locked():
-            row = next((it for it in range(1, self.rows + 1) if self.words.get(it) in FREE), None)
+            row = next((it for it, word in self._rows.items() if word == "free"), None)
             if row is not None:
                 self._append(f"begin {row} {reader}")
                 fcntl.lockf(self._file, fcntl.LOCK_EX, 1, row)
             return row
 
-    def end(self, row: int, word: str, note: str = "") -> None:
-        """Writes how a row that this process took ended, and lets it go."""
-        self.note(row, word, note)
-        fcntl.lockf(self._file, fcntl.LOCK_UN, 1, row)
-
-    def note(self, row: int, word: str, note: str = "") -> None:
-        """Writes a line about a row."""
+    def note(self, row: int, word: str, note: str) -> None:
+        """Writes a line about a row; any word but `card` is its last, and lets the row go."""
         with self._locked():
             self._append(f"{word} {row} {note}".rstrip())
+        if word != "card":
+            fcntl.lockf(self._file, fcntl.LOCK_UN, 1, row)
 
-    def decide(self, row: int, word: str) -> bool:
-        """Writes what somebody says of a row that is to be decided; False if it is none."""
-        with self._locked():
-            found = row in self._undecided()
-            if found:
-                self._append(f"{word} {row} decided")
-            return found
+    def decide(self, row: int, word: str) -> None:
+        """Writes what somebody says of a row. Raises `ValueError` if it is not to be decided."""
+        if row not in self.undecided():
+            raise ValueError(f"row {row} is not to be decided")
+        self.note(row, word, "decided")
 
     def undecided(self) -> dict[int, str]:
         """The rows that ended neither well nor unused, each with `failed` or `unsure`."""
         with self._locked():
-            return self._undecided()
+            left = {it: word for it, word in self._rows.items() if word in ("failed", "unsure")}
+            return {it: word for it, word in left.items() if not self._is_held(it)}
 
-    def count(self, *words: Optional[str]) -> int:
-        """How many rows have one of these as their last word."""
+    def count(self, word: str) -> int:
+        """How many rows stand so; `free` are those that may be taken."""
         with self._locked():
-            return sum(self.words.get(it) in words for it in range(1, self.rows + 1))
-
-    def _undecided(self) -> dict[int, str]:
-        found = {}
-        for row, word in sorted(self.words.items()):
-            if word in ("failed", "unsure"):
-                found[row] = word
-            elif word in ("begin", "card") and not self._is_held(row):
-                found[row] = "unsure"
-        return found
+            return list(self._rows.values()).count(word)
 
     def _is_held(self, row: int) -> bool:
-        """Whether a living process holds the row."""
+        """Whether another living process holds the row."""
         try:
             fcntl.lockf(self._file, fcntl.LOCK_EX | fcntl.LOCK_NB, 1, row)
         except OSError:
@@ -97,22 +84,20 @@ class Journal:
             fcntl.lockf(self._file, fcntl.LOCK_UN, 1, 0)
 
     def _catch_up(self) -> None:
-        text = b""
-        while part := os.pread(self._file, 1 << 20, self._read + len(text)):
-            text += part
-        whole = text.rfind(b"\n") + 1
-        if whole < len(text):
-            os.ftruncate(self._file, self._read + whole)
-        for line in text[:whole].decode().splitlines():
+        text = os.pread(self._file, os.fstat(self._file).st_size - self._read, self._read)
+        whole = text[: text.rfind(b"\n") + 1]
+        self._read += len(whole)
+        if whole != text:
+            os.ftruncate(self._file, self._read)
+        for line in whole.decode().splitlines():
             if self._heading:
-                word, row, *_ = line.split(" ", 2)
-                self.words[int(row)] = word
+                word, row, *_ = line.split()
+                self._rows[int(row)], self.is_begun = _STANDS.get(word, word), True
             self._heading = self._heading or line
-        self._read += whole
 
     def _append(self, line: str) -> None:
         data = f"{line}\n".encode()
         if os.pwrite(self._file, data, self._read) < len(data):
-            raise OSError(errno.ENOSPC, os.strerror(errno.ENOSPC))
+            raise OSError("no space is left for the journal")
         os.fsync(self._file)
         self._catch_up()

@@ -5,10 +5,10 @@ from __future__ import annotations
 from typing import NamedTuple
 
 from ._library import ffi, lib
-from .answers import Answer
+from .answers import Answer, Status
 from .card import Card, Holder
-from .errors import checked
-from .terminal import Operation, Put, answer_of, call_of
+from .handle import copied, writable
+from .terminal import Operation, Put, call_of
 
 
 class Character(NamedTuple):
@@ -42,15 +42,11 @@ class Session(Holder):
 
         Raises `CallError` or `CommandError`; nothing was sent then.
         """
-        status, count = ffi.new("uint16_t *"), ffi.new("size_t *")
-        room = () if isinstance(operation, Put) else (ffi.NULL, 0, count)
-        name, words = call_of(operation)
-        code = self._code(name, *words, status, *room)
-        if code != lib.GT_BUFFER:
-            checked(code)
-        answer = answer_of(self)
-        assert answer is not None, "an operation that was carried out has an answer"
-        return answer
+        status, room = ffi.new("uint16_t *"), lib.GT_RESPONSE_LIMIT
+        data, count = writable(room)
+        words = () if isinstance(operation, Put) else (data, room, count)
+        self._call(*call_of(operation), status, *words)
+        return Answer(Status(status[0]), copied(data, count))
 
     @property
     def is_idle(self) -> bool:
@@ -70,9 +66,7 @@ class Session(Holder):
         Raises `CallError` if nobody listens, and `OutOfMemory` if there was no memory to note them.
         """
         count = ffi.new("size_t *")
-        if self._code("heard", ffi.NULL, 0, count) != lib.GT_BUFFER:
-            self._call("heard", ffi.NULL, 0, count)
-            return []
+        self._call("heard", ffi.NULL, 0, count, but=[lib.GT_BUFFER])
         line = ffi.new("gt_character[]", count[0])
         self._call("heard", line, count[0], count)
         return [Character(getattr(it, "from") == lib.GT_CARD, it.byte) for it in line]

@@ -8,8 +8,7 @@ from typing import Any, NamedTuple, Optional, Protocol, Union
 
 from ._library import ffi, lib
 from .answers import Answer, Status
-from .errors import checked
-from .handle import Bytes, Handle, copied, readable, tag_number, within
+from .handle import Bytes, Handle, copied, readable, tag_number, within, writable
 
 
 class Level(enum.Enum):
@@ -58,19 +57,16 @@ class Send:
 Operation = Union[Select, Get, Put, Send]
 
 
-def call_of(operation: Operation) -> tuple[str, tuple[Any, ...]]:
+def call_of(operation: Operation) -> tuple[Any, ...]:
     """The library's word for an operation, with its arguments. Raises `TypeError` for others."""
     if isinstance(operation, Get):
-        return "get", (tag_number(operation.tag),)
+        return "get", tag_number(operation.tag)
     if isinstance(operation, Put):
-        value = readable(operation.value)
-        return "put", (tag_number(operation.tag), value, len(value))
+        return "put", tag_number(operation.tag), *readable(operation.value)
     if isinstance(operation, Select):
-        aid = readable(operation.aid)
-        return "select", (aid, len(aid))
+        return "select", *readable(operation.aid)
     if isinstance(operation, Send):
-        command = readable(operation.command)
-        return "send", (command, len(command))
+        return "send", *readable(operation.command)
     raise TypeError(f"{type(operation).__name__} is no operation")
 
 
@@ -93,8 +89,8 @@ class Machine(Handle):
     def receive_bytes(self, data: Bytes) -> None:
         """Takes characters of the card. Raises `LineError` at the first that does not fit, with its
         place; those before it were taken."""
-        given, taken = readable(data), ffi.new("size_t *")
-        self._call("receive_bytes", given, len(given), taken, place=taken)
+        taken = ffi.new("size_t *")
+        self._call("receive_bytes", *readable(data), taken, place=taken)
 
     def tpdu(self) -> Optional[Due]:
         """The whole TPDU that goes to the card now, or None."""
@@ -106,8 +102,7 @@ class Machine(Handle):
         Raises `TransportError` if it does not fit; nothing has changed. Raises `LineError` if the
         response is too long or stalls; the operation has failed.
         """
-        given = readable(answer)
-        self._call("answered", given, len(given))
+        self._call("answered", *readable(answer))
 
     def apdu(self) -> Optional[Due]:
         """The whole command that goes to the card now, for a card at T=1, or None."""
@@ -115,33 +110,19 @@ class Machine(Handle):
 
     def responded(self, response: Bytes) -> None:
         """Takes the response to that command, as `answered`."""
-        given = readable(response)
-        self._call("responded", given, len(given))
+        self._call("responded", *readable(response))
 
     def _due(self, name: str, room: int) -> Optional[Due]:
-        made, count, most = ffi.new("uint8_t[]", room), ffi.new("size_t *"), ffi.new("size_t *")
-        code = self._code(name, made, count, most)
-        if code == lib.GT_NOT_DUE:
-            return None
-        checked(code)
-        return Due(copied(made, count), most[0])
+        (made, count), most = writable(room), ffi.new("size_t *")
+        is_missing = self._call(name, made, count, most, but=[lib.GT_NOT_DUE])
+        return None if is_missing else Due(copied(made, count), most[0])
 
     def answer(self) -> Optional[Answer]:
         """The answer, or None before the end. It can be asked for again."""
-        return answer_of(self)
-
-
-def answer_of(handle: Any) -> Optional[Answer]:
-    """The answer that a terminal, an exchange or a session keeps, or None."""
-    status, count = ffi.new("uint16_t *"), ffi.new("size_t *")
-    code = handle._code("answer", status, ffi.NULL, 0, count)
-    if code in (lib.GT_STATE, lib.GT_NOT_FOUND):
-        return None
-    if code != lib.GT_BUFFER:
-        checked(code)
-    data = ffi.new("uint8_t[]", count[0])
-    handle._call("answer", status, data, count[0], count)
-    return Answer(Status(status[0]), copied(data, count))
+        status, room = ffi.new("uint16_t *"), lib.GT_RESPONSE_LIMIT
+        data, count = writable(room)
+        code = self._call("answer", status, data, room, count, but=[lib.GT_STATE, lib.GT_NOT_FOUND])
+        return None if code else Answer(Status(status[0]), copied(data, count))
 
 
 class Exchange(Machine):
@@ -154,8 +135,7 @@ class Exchange(Machine):
 
     def __init__(self, command: Bytes, limit: int = lib.GT_RESPONSE_LIMIT) -> None:
         super().__init__()
-        given = readable(command)
-        self._call("start_within", given, len(given), within(limit, 0, 1 << 63, "a limit"))
+        self._call("start_within", *readable(command), within(limit, 0, 1 << 63, "a limit"))
 
 
 class Terminal(Machine):
@@ -178,8 +158,7 @@ class Terminal(Machine):
 
     def begin(self, operation: Operation) -> None:
         """Begins an operation. Raises `CallError` or `CommandError`; nothing has changed then."""
-        name, words = call_of(operation)
-        self._call(name, *words)
+        self._call(*call_of(operation))
 
     def run(self, transport: Transport, operation: Operation) -> Answer:
         """Carries out an operation over a transport, to the card's answer.

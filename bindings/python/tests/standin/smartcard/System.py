@@ -9,6 +9,8 @@ class Connection:
         self.reader = reader
 
     def connect(self, mode=None, disposition=None):
+        if "SWAPS" in os.environ and smartcard.number_in(self.reader) % 2 == 0:
+            smartcard.put_in(self.reader, smartcard.number_in(self.reader) + 1)
         self.inside = smartcard.InReader(self.reader)
 
     def getProtocol(self):

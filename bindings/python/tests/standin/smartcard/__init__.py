@@ -2,9 +2,10 @@
 
 Each reader is a folder with a file `card`, the number of the card in it; each card is a file of its
 tables in `cards/`, written anew after each command that changes them. When a connection ends, the
-card is taken out and the next one put in; if STAYS is set, only after a while. An answer takes SLOW
-seconds, or none. Some cards are of another profile, some are taken out in the middle, and some
-store another byte than was sent.
+card is taken out and the next one put in; if STAYS is set, only after a while. If SWAPS is set,
+half of the cards are changed just before a connection. An answer takes SLOW seconds, or none. Some
+cards are of another profile, some are taken out in the middle, and some store another byte than
+was sent.
 """
 
 import json

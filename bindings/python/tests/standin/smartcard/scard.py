@@ -20,12 +20,13 @@ def SCardGetErrorMessage(code):
 def SCardGetStatusChange(context, timeout, states):
     [(reader, known)] = states
     state = smartcard.number_in(reader) << 16 | SCARD_STATE_PRESENT
-    if state == known:
+    if state == known and timeout:
         time.sleep(min(timeout, 20) / 1000)
         waited[reader] = waited.get(reader, 0) + 1
         if waited[reader] == 5:
             # somebody changes a card for which nothing happens
             waited[reader] = 0
             smartcard.put_in(reader, smartcard.number_in(reader) + 1)
+    if state == known:
         return SCARD_E_TIMEOUT, [(reader, state, [])]
     return SCARD_S_SUCCESS, [(reader, state | SCARD_STATE_CHANGED, [])]

@@ -1,0 +1,226 @@
+"""Cards by the hundred over a pcscd of its own, whose readers' cards come and go: killed at random,
+with a full disk, a cut journal, two runs at once, pulled cards and cards of another profile. What
+the cards held as they went out decides, and not the journal.
+
+In the environment, READER_CARDS, READER_KILLS and READERS are how many there are of each."""
+
+import os
+import random
+import shutil
+import signal
+import subprocess
+import sys
+import time
+from collections import Counter
+from pathlib import Path
+
+import pytest
+from test_batch import FULL, Room
+
+HERE = Path(__file__).resolve().parent
+C = HERE.parents[1] / "c"
+CARDS = int(os.environ.get("READER_CARDS", 24))
+KILLS = int(os.environ.get("READER_KILLS", 3))
+READERS = int(os.environ.get("READERS", 2))
+# pcscd has its socket at one place: in a mount namespace of its own that is a folder of the test
+PRIVATE = 'mkdir -p /run/pcscd && mount --bind "$0" /run/pcscd && exec "$@"'
+
+
+def compiled(folder):
+    """The virtual reader that keeps what its cards hold."""
+    library, made = folder / "libgalliumtoad.a", folder / "kept_reader.so"
+    subprocess.run(["make", "-s", f"BUILD={folder}", library], cwd=C, check=True)
+    flags = subprocess.run(
+        ["pkg-config", "--cflags", "libpcsclite"], capture_output=True, text=True, check=True
+    )
+    warnings = ["-Wall", "-Wextra", "-Wpedantic", "-Wshadow", "-Wconversion", "-Werror"]
+    program = ["cc", "-std=c99", "-D_POSIX_C_SOURCE=200809L", *warnings, *flags.stdout.split()]
+    program += ["-Iinclude", "-Iexamples", "-Itools", "-fPIC", "-shared", "-Wl,-z,defs", "-o", made]
+    program += [HERE / "reader" / "kept_reader.c", "examples/table.c", "tools/text.c", library]
+    subprocess.run(program, cwd=C, check=True)
+    return made
+
+
+def missing():
+    """What is not here that the readers need, or None."""
+    for name in ("pcscd", "unshare", "pkg-config", "make", "cc"):
+        if not shutil.which(name):
+            return f"there is no {name}"
+    if subprocess.run(["pkg-config", "--exists", "libpcsclite"]).returncode:
+        return "there is no libpcsclite with its headers"
+    if subprocess.run([sys.executable, "-c", "import smartcard"]).returncode:
+        return "there is no pyscard"
+    if subprocess.run(["unshare", "-rm", "sh", "-c", PRIVATE, "/tmp", "true"]).returncode:
+        return "a namespace of its own can't be had"
+    return None
+
+
+class Desk(Room):
+    """A folder with a pcscd, readers, a table and a script, and somebody who changes the cards."""
+
+    def __init__(self, path, rows, readers):
+        super().__init__(path, rows, 0)
+        self.rows, made, kept = rows, compiled(path), path / "kept"
+        kept.touch()
+        (path / "run").mkdir()
+        self.names = [f"Slot{at} of {os.getpid()} {at:02X} 00" for at in range(readers)]
+        self.readers = [f"--reader=Slot{at}" for at in range(readers)]
+        with open(path / "reader.conf", "w") as file:
+            for at in range(readers):
+                # the file has to be there as the reader begins
+                (path / f"card{at}").write_text("app A0000000999999\n")
+                file.write(f'FRIENDLYNAME "Slot{at} of {os.getpid()}"\n')
+                file.write(f"DEVICENAME {path}/card{at}\nLIBPATH {made}\nCHANNELID {at}\n")
+        self.environment = dict(
+            os.environ, KEPT=str(kept), PCSCLITE_CSOCK_NAME=str(path / "run" / "pcscd.comm")
+        )
+        program = ["unshare", "-rm", "sh", "-c", PRIVATE, path / "run"]
+        program += ["pcscd", "--foreground", "--config", path / "reader.conf"]
+        with open(path / "pcscd.log", "w") as log:
+            self.pcscd = subprocess.Popen(
+                program, stdout=log, stderr=log, stdin=subprocess.DEVNULL, env=self.environment
+            )
+        self.await_readers(readers)
+        self.feeder = subprocess.Popen(
+            [sys.executable, HERE / "reader" / "feed.py", path, str(readers)],
+            env=self.environment,
+            text=True,
+            stdin=subprocess.PIPE,
+            stdout=subprocess.PIPE,
+        )
+
+    def await_readers(self, readers):
+        asks = "from smartcard.System import readers; print(len(readers()))"
+        for _ in range(60):
+            time.sleep(0.25)
+            assert self.pcscd.poll() is None, (self.path / "pcscd.log").read_text()[-2000:]
+            found = subprocess.run(
+                [sys.executable, "-c", asks], env=self.environment, text=True, capture_output=True
+            )
+            if found.stdout == f"{readers}\n":
+                return
+        raise AssertionError((self.path / "pcscd.log").read_text()[-2000:])
+
+    def change(self):
+        """Waits until each card that is in a reader is out."""
+        self.feeder.stdin.write("\n")
+        self.feeder.stdin.flush()
+        assert self.feeder.stdout.readline() == "\n"
+
+    def close(self):
+        """Stops what was started; returns how many cards there were."""
+        for program in (self.feeder, self.pcscd):
+            if program is self.feeder:
+                count = program.communicate()[0]
+            program.terminate()
+            program.wait()
+        return int(count)
+
+    def held(self):
+        """How many cards hold all values of a row, and how many some of them."""
+        whole, some = Counter(), Counter()
+        for line in (self.path / "kept").read_text().splitlines():
+            values = dict(it.split("=") for it in line.split()[1:])
+            name = bytes.fromhex(values.get("5F20", "")).decode()
+            if name:
+                row = int(name.removeprefix("PERSON "))
+                some[row] += 1
+                whole[row] += (values.get("9F36"), values.get("50")) == (f"{row:08X}", "41" * 300)
+        return whole, some
+
+    def wait_for_rows(self, runs, part, at_random):
+        """Waits until these runs have done some of the rows that are left, at most this part."""
+        left = self.rows - sum(it.startswith("done ") for it in self.journal())
+        # a row has two lines of the journal
+        size = len(f"begin {left} {self.names[0]}\ndone {left}\n")
+        file = self.path / "journal"
+        end = file.stat().st_size + at_random.random() * part * left * size
+        while file.stat().st_size < end and any(it.poll() is None for it in runs):
+            time.sleep(0.005)
+        time.sleep(at_random.uniform(0, 0.05))
+
+    def decide(self):
+        """Says of each row that is to be decided what the cards hold; returns how many."""
+        left = self.to_decide()
+        if left:
+            self.change()
+            whole, _ = self.held()
+            words = [f"--{'done' if whole[it] else 'again'}={it}" for it in left]
+            assert self.run(*words)[0] in (0, 1)
+        return len(left)
+
+    def cut(self, at_random):
+        """Leaves a line without its end, as a crash while it is written does."""
+        text = (self.path / "journal").read_text()
+        *lines, last = text.splitlines(keepends=True)
+        if lines and last.split()[0] in ("done", "failed", "unused", "unsure"):
+            text = "".join(lines)
+        else:
+            last = "begin 1 Slot0"
+        (self.path / "journal").write_text(text + last[: at_random.randrange(1, len(last))])
+
+    def start_full(self, room):
+        """A run whose files may grow by so many bytes."""
+        size = (self.path / "journal").stat().st_size + room
+        program = self.words()
+        program[1:3] = ["-c", FULL.format(size)]
+        return self.start_program(program)
+
+
+def kill(run, at_random):
+    """Kills a run: all its processes, or one of its readers', or the one that began them."""
+    how = at_random.choice(["all", "all", "one", "first"])
+    children = Path(f"/proc/{run.pid}/task/{run.pid}/children")
+    of_readers = children.read_text().split() if children.exists() else []
+    if how == "one" and of_readers:
+        os.kill(int(at_random.choice(of_readers)), signal.SIGKILL)
+        time.sleep(at_random.uniform(0, 0.5))
+    if how == "first":
+        run.kill()
+    elif run.poll() is None:
+        os.killpg(run.pid, signal.SIGKILL)
+
+
+@pytest.mark.skipif(missing() is not None, reason=str(missing()))
+def test_over_a_pcscd(tmp_path):
+    desk, at_random, kills = Desk(tmp_path, CARDS, READERS), random.Random(11), 0
+    counts, begun = Counter(), time.monotonic()
+    desk.run("--status")
+    last = f"{CARDS} of {CARDS} rows done, 0 to decide\n"
+    outs, status = [], ""
+    while status != last:
+        kind = at_random.choice(["one"] * 8 + ["full", "two", "same"]) if kills < KILLS else "one"
+        counts[kind] += 1
+        if kind == "full":
+            runs = [desk.start_full(at_random.randrange(1, 400))]
+        elif kind == "two":
+            runs = [desk.start(*desk.readers[::2]), desk.start(*desk.readers[1::2])]
+        else:
+            runs = [desk.start() for _ in range(2 if kind == "same" else 1)]
+        if kills < KILLS:
+            desk.wait_for_rows(runs, 2 / (KILLS - kills + 1), at_random)
+            kills += any(it.poll() is None for it in runs)
+            for run in runs:
+                kill(run, at_random)
+        for run in runs:
+            out, error = run.communicate(timeout=1200)
+            outs += [*out.splitlines(), *error.splitlines()]
+        if kills < KILLS and at_random.random() < 0.25:
+            desk.cut(at_random)
+            counts["cut"] += 1
+        if kills % 8 == 0 or kills >= KILLS:
+            counts["decided"] += desk.decide()
+            status = desk.run("--status")[1]
+            print(f"{time.monotonic() - begun:6.0f} s, {kills} kills: {status}", end="", flush=True)
+    desk.change()
+    cards = desk.close()
+    whole, some = desk.held()
+    print(f"{cards} cards; {sum(some.values())} hold a name, {sum(whole.values())} a whole row")
+    print(dict(counts), dict(Counter(kind_of(it) for it in outs)))
+    assert whole == Counter(range(1, CARDS + 1)) and kills == KILLS
+
+
+def kind_of(line):
+    """A line of a run's output, without what differs from card to card."""
+    words = line.split(": ", 1)[-1].split()
+    return " ".join(it for it in words if not it.isdigit())

@@ -1,7 +1,5 @@
 """Statuses, answers and data objects."""
 
-from __future__ import annotations
-
 from dataclasses import dataclass
 from typing import Any, NamedTuple, Optional
 

@@ -1,7 +1,5 @@
 """Answers to reset, and PPS (ISO/IEC 7816-3, clauses 8 and 9)."""
 
-from __future__ import annotations
-
 from types import SimpleNamespace
 from typing import Any, Optional
 

@@ -6,8 +6,6 @@ It waits for a card in each reader, carries out the script with the next row, an
 back. A row is in the journal, on disk, before its card's first byte.
 """
 
-from __future__ import annotations
-
 import argparse
 import contextlib
 import csv

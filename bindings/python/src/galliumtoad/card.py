@@ -1,7 +1,5 @@
 """A card of data objects, and what a card holds."""
 
-from __future__ import annotations
-
 from typing import Collection, Mapping, NamedTuple, Optional
 
 from ._library import ffi, lib

@@ -1,7 +1,5 @@
 """What a call of the library raises."""
 
-from __future__ import annotations
-
 from typing import Any, Optional
 
 from ._library import ffi, lib

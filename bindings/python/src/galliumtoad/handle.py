@@ -1,7 +1,5 @@
 """A handle of the library, and the words that its calls take."""
 
-from __future__ import annotations
-
 import contextlib
 import threading
 from typing import Any, Collection, Iterator, Tuple, TypeVar, Union

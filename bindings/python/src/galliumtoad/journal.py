@@ -5,8 +5,6 @@ taker keeps a lock of its own on it, which the system drops if the taker dies. A
 its end was cut off by a crash: it counts for nothing, and what it was to announce did not begin.
 """
 
-from __future__ import annotations
-
 import contextlib
 import fcntl
 import os

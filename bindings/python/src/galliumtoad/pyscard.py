@@ -1,7 +1,5 @@
 """A pyscard connection as a transport of a terminal."""
 
-from __future__ import annotations
-
 from typing import Any
 
 from .terminal import Level

@@ -1,7 +1,5 @@
 """Scripts of a batch: the operations of gt_pcsc, with columns of a table in them."""
 
-from __future__ import annotations
-
 import re
 from pathlib import Path
 from typing import Any, Iterator, Mapping

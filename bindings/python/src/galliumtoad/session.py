@@ -1,7 +1,5 @@
 """A terminal and a card, joined by a line that delivers every character."""
 
-from __future__ import annotations
-
 from typing import NamedTuple
 
 from ._library import ffi, lib

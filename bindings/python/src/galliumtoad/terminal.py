@@ -1,7 +1,5 @@
 """A terminal's operations, and the exchange of one command, over any line or transport."""
 
-from __future__ import annotations
-
 import enum
 from dataclasses import dataclass, field
 from typing import Any, NamedTuple, Optional, Protocol, Union

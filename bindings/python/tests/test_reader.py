@@ -23,7 +23,7 @@ CARDS = int(os.environ.get("READER_CARDS", 24))
 KILLS = int(os.environ.get("READER_KILLS", 3))
 READERS = int(os.environ.get("READERS", 2))
 # pcscd has its socket at one place: in a mount namespace of its own that is a folder of the test
-PRIVATE = 'mkdir -p /run/pcscd && mount --bind "$0" /run/pcscd && exec "$@"'
+PRIVATE = ["sh", "-c", 'mkdir -p /run/pcscd && mount --bind "$0" /run/pcscd && exec "$@"']
 
 
 def compiled(folder):
@@ -50,8 +50,15 @@ def missing():
         return "there is no libpcsclite with its headers"
     if subprocess.run([sys.executable, "-c", "import smartcard"]).returncode:
         return "there is no pyscard"
-    if subprocess.run(["unshare", "-rm", "sh", "-c", PRIVATE, "/tmp", "true"]).returncode:
-        return "a namespace of its own can't be had"
+    return None if namespace() else "a namespace of its own can't be had"
+
+
+def namespace():
+    """The words that give a program a mount namespace, with the rights of root or without."""
+    for words in (["unshare", "-m"], ["unshare", "-rm"]):
+        tried = subprocess.run([*words, *PRIVATE, "/tmp", "true"], stderr=subprocess.DEVNULL)
+        if tried.returncode == 0:
+            return words
     return None
 
 
@@ -74,7 +81,7 @@ class Desk(Room):
         self.environment = dict(
             os.environ, KEPT=str(kept), PCSCLITE_CSOCK_NAME=str(path / "run" / "pcscd.comm")
         )
-        program = ["unshare", "-rm", "sh", "-c", PRIVATE, path / "run"]
+        program = [*namespace(), *PRIVATE, path / "run"]
         program += ["pcscd", "--foreground", "--config", path / "reader.conf"]
         with open(path / "pcscd.log", "w") as log:
             self.pcscd = subprocess.Popen(
@@ -109,11 +116,9 @@ class Desk(Room):
 
     def close(self):
         """Stops what was started; returns how many cards there were."""
-        for program in (self.feeder, self.pcscd):
-            if program is self.feeder:
-                count = program.communicate()[0]
-            program.terminate()
-            program.wait()
+        count = self.feeder.communicate()[0] if self.feeder.returncode is None else 0
+        self.pcscd.terminate()
+        self.pcscd.wait()
         return int(count)
 
     def held(self):
@@ -181,9 +186,16 @@ def kill(run, at_random):
         os.killpg(run.pid, signal.SIGKILL)
 
 
+@pytest.fixture
+def desk(tmp_path):
+    made = Desk(tmp_path, CARDS, READERS)
+    yield made
+    made.close()
+
+
 @pytest.mark.skipif(missing() is not None, reason=str(missing()))
-def test_over_a_pcscd(tmp_path):
-    desk, at_random, kills = Desk(tmp_path, CARDS, READERS), random.Random(11), 0
+def test_over_a_pcscd(desk):
+    at_random, kills = random.Random(11), 0
     counts, begun = Counter(), time.monotonic()
     desk.run("--status")
     last = f"{CARDS} of {CARDS} rows done, 0 to decide\n"

@@ -288,7 +288,7 @@ def test_a_card_that_stores_another_byte_has_failed(tmp_path):
         ("select A0\n", None, (), "script:1: no `select` for row 1: bad argument"),
         ("\nput 5F20 {name}\n", None, (), "script:2: no `put` for row 1"),
         ("put 5F20 41*8193\n", None, (), "script:1: no `put` for row 1"),
-        ("put 5F20 @missing\n", None, (), "script:1: no `put` for row 1: [Errno 2] No such file"),
+        ("put 5F20 @{name}.jpg\n", None, (), "script:1: no `put` for row 1: No such file or dir"),
         ("send 00\n", None, (), "script:1: no `send` for row 1: command too short"),
         (None, "name,code\nA,00\nB,0\n", (), "script:4: no `put` for row 2"),
         (None, "name,code\nA\n", (), "rows.csv: row 1 has too many columns, or too few"),
@@ -308,6 +308,13 @@ def test_bad_input_is_named_before_any_card(tmp_path, script, rows, words, text)
     status, out, error = room.run(*words)
     assert status == 2 and error.startswith(f"galliumtoad.batch: {text}"), error
     assert out == "" and not list(tmp_path.glob("cards/*")) and "PERSON" not in error
+
+
+@pytest.mark.parametrize("word", ["5F", "XYZ", "12345678", "-1"])
+def test_an_identifier_is_a_tag(tmp_path, word):
+    status, _, error = Room(tmp_path, 1).run(f"--id={word}")
+    assert status == 2
+    assert error.endswith(f"galliumtoad.batch: error: argument --id: invalid tag value: '{word}'\n")
 
 
 def test_a_journal_of_another_table_is_refused(tmp_path):

@@ -20,7 +20,8 @@ from smartcard import scard
 from smartcard.Exceptions import SmartcardException
 from smartcard.System import readers
 
-from .errors import Error
+from .answers import head
+from .errors import CallError, Error
 from .journal import Journal
 from .pyscard import transport
 from .script import Script
@@ -171,13 +172,22 @@ def summary(journal: Journal, rows: int) -> int:
     return 0 if done == rows else 1
 
 
+def tag(text: str) -> int:
+    """A tag of these digits. Raises `ValueError` if it is none."""
+    try:
+        head(int(text, 16), 0)
+    except CallError:
+        raise ValueError from None
+    return int(text, 16)
+
+
 def parsed(words: Optional[list[str]]) -> argparse.Namespace:
     parser = argparse.ArgumentParser(prog="galliumtoad.batch", description=__doc__, epilog=_HELP)
     parser.add_argument("script", help="operations of gt_pcsc, a line each")
     parser.add_argument("--rows", required=True, help="the table, with the columns' names on top")
     parser.add_argument("--journal", required=True, help="what became of each row")
     parser.add_argument("--reader", action="append", default=[], help="a part of its name")
-    parser.add_argument("--id", type=lambda it: int(it, 16), help="noted for each card: a tag")
+    parser.add_argument("--id", type=tag, help="the tag of what is noted for each card")
     parser.add_argument("--status", action="store_true", help="says how the rows stand, no more")
     for word in ("--done", "--again"):
         parser.add_argument(word, type=int, action="append", default=[], metavar="N")

@@ -65,6 +65,8 @@ class Script:
                 if isinstance(operation, Put) and len(operation.value) > lib.GT_VALUE_LIMIT:
                     raise ValueError
             except (ValueError, OSError, Error) as error:
-                why = "" if isinstance(error, ValueError) else f": {error}"
+                # A file's name may hold a value.
+                shown = error.strerror if isinstance(error, OSError) else error
+                why = "" if isinstance(error, ValueError) else f": {shown}"
                 what = f"no `{words[0]}` for row {number}{why}"
                 raise ValueError(f"{self.path}:{line}: {what}") from None

@@ -30,6 +30,15 @@ signal.signal(signal.SIGXFSZ, signal.SIG_IGN)
 runpy.run_module("galliumtoad.batch", run_name="__main__", alter_sys=True)
 """
 
+# Has the journal's lock for a while, and takes the first row then.
+HOLDS = """import fcntl, os, time
+file = os.open("journal", os.O_RDWR | os.O_APPEND)
+fcntl.lockf(file, fcntl.LOCK_EX, 1, 0)
+print(flush=True)
+time.sleep(0.5)
+os.write(file, b"begin 1 other\\n")
+"""
+
 
 class Room:
     """A folder with readers, a table and a script."""
@@ -145,6 +154,15 @@ def test_a_row_in_progress_is_not_to_be_decided(tmp_path):
     assert room.run("--again=1")[2] == "galliumtoad.batch: row 1 is not to be decided\n"
     os.close(journal._file)
     assert room.to_decide() == {1: "unsure"}
+
+
+def test_a_row_is_taken_after_whoever_has_the_journal(tmp_path):
+    room = Room(tmp_path, 2)
+    room.run("--status")
+    other = room.start_program([sys.executable, "-c", HOLDS])
+    assert other.stdout.readline() == "\n"
+    assert Journal(str(tmp_path / "journal"), room.journal()[0], 2).take("Slot0") == 2
+    assert other.wait() == 0
 
 
 def begun(room):

@@ -435,8 +435,7 @@ IsHeard Does from operations replies to = (line : List Character)
 
 pub is_heard : {State E : Type 0} (Does : State → ℕ → Tpdu → State → Type 0)
     (from to : Point State) (o : Operation) (r : Result Reply E)
-    → IfOk r (Talked Does from to o)
-    → IfOk r (λ answer. IsHeard Does from (o ∷ []) (answer ∷ []) to)
+    → IfOk r (Talked Does from to o) → IfOk r (λ x. IsHeard Does from (o ∷ []) (x ∷ []) to)
 is_heard Does from to o (Ok answer) talked = (
   flat_map characters (talk_dialogues talked.0),
   one_talk Does from to o answer talked,

@@ -10,6 +10,5 @@ pub mod LogLemmas
 pub mod ExchangeLemmas
 pub mod SheetLemmas
 mod TreeLemmas
-pub mod RowLemmas
 pub mod BoxLemmas
 pub mod AccountLemmas

@@ -1,12 +1,11 @@
 -- What is added to a sheet, piece after piece.
-use Rattle.std.proofs.Common.{◌≡◌, ℕ, List, [], ◌++◌, ◌∙◌, ◌+◌, ◌<◌, ◌≤◌, length, drop, get_or, suc, add-one, arith, ap, append-nil, append_assoc, refl, subst, sym}
+use Rattle.std.proofs.Common.{◌≡◌, ℕ, List, [], ◌∷◌, ◌++◌, ◌∙◌, ◌+◌, ◌-◌, ◌<◌, ◌≤◌, length, drop, get_or, take, replicate, flat_map, suc, add-one, arith, ap, append-nil, append_assoc, Bool, refl, subst, sym}
 use Rattle.std.proofs.lemmas.List.{drop_more, length-drop, nil_from_length}
+use Rattle.std.proofs.lemmas.List.Concat.{flat_map-append}
 use Rattle.std.specs.String.{string_bytes}
-use Rattle.trace_explain.specs.declared.layout.Layout.{Layout}
-use Rattle.trace_explain.specs.declared.layout.Medium.{Medium}
 use Rattle.trace_explain.specs.declared.sheet.Sheet.{Sheet}
-use Rattle.trace_explain.specs.Sheets.{Adds}
-use Rattle.trace_explain.specs.Written.{character_text, letter, letters, named}
+use Rattle.trace_explain.specs.Sheets.{Adds, PutsLines}
+use Rattle.trace_explain.specs.Written.{AreLines, character_text, content, lines_text, named}
 
 pub adds_both : (x y : List ℕ) (a b c : Sheet) → Adds a x b → Adds b y c → Adds a (x ++ y) c
 adds_both x y a b c h k = record {
@@ -30,17 +29,6 @@ adds_nothing a = record {
 pub adds_as : (x y : List ℕ) (a b : Sheet) → x ≡ y → Adds a x b → Adds a y b
 adds_as x y a b e h = let P : List ℕ → Type 0 = λ t. Adds a t b in subst P e h
 
--- two pieces, and three, that are these
-pub adds_two : (x y p q : List ℕ) (a b c : Sheet) → Adds a x b → Adds b y c → x ≡ p → y ≡ q
-    → Adds a (p ++ q) c
-adds_two x y p q a b c h k x_is y_is =
-    adds_both p q a b c (adds_as x p a b x_is h) (adds_as y q b c y_is k)
-
-pub adds_three : (x y z p q r : List ℕ) (a b c d : Sheet) → Adds a x b → Adds b y c → Adds c z d
-    → x ≡ p → y ≡ q → z ≡ r → Adds a (p ++ q ++ r) d
-adds_three x y z p q r a b c d h k l x_is y_is z_is =
-    adds_both (p ++ q) r a c d (adds_two x y p q a b c h k x_is y_is) (adds_as z r c d z_is l)
-
 -- whatever this is followed by makes all of it complete
 abbrev pub Completes : Sheet → List ℕ → Sheet → List ℕ → Type 0
 Completes first all now rest = (last : Sheet) → Adds now rest last → Adds first all last
@@ -58,34 +46,39 @@ completed first now all so_far = so_far now (adds_nothing now)
 none_left : (xs : List ℕ) (i : ℕ) → length xs ≤ i → drop i xs ≡ []
 none_left xs i h = nil_from_length (drop i xs) (omega (arith, h, length-drop i xs))
 
--- one letter more
-pub letters_more : (line : List ℕ) (i : ℕ) (first now next : Sheet) → i < length line
-    → (now.layout ≡ first.layout)
-    × Completes first (letters first.layout.medium line) now
-    (letters first.layout.medium (drop i line))
-    → Adds now (letter now.layout.medium (get_or line i 0)) next
-    → (next.layout ≡ first.layout)
-    × Completes first (letters first.layout.medium line) next
-    (letters first.layout.medium (drop (i + 1) line))
-letters_more line i first now next lt (layout, so_far) more =
-    let m : Medium = first.layout.medium in
-    let P : Medium → Type 0 = λ x. Adds now (letter x (get_or line i 0)) next in
-    let Q : List ℕ → Type 0 = λ x. Completes first (letters m line) now (letters m x) in (
-      more.layout ∙ layout,
-      completes_more first now next (letters m line) (letter m (get_or line i 0))
-          (letters m (drop (i + 1) line)) (subst Q (drop_more line i 0 lt) so_far)
-          (subst P (ap (λ (x : Layout). x.medium) layout) more),
-    )
+-- one space more
+pub spaces_more : (n i : ℕ) (first now next : Sheet) → i < n
+    → Completes first (replicate n 32) now (replicate (n - i) 32) → Adds now (32 ∷ []) next
+    → Completes first (replicate n 32) next (replicate (n - (i + 1)) 32)
+spaces_more n i first now next lt so_far more =
+    let P : ℕ → Type 0 = λ k. Completes first (replicate n 32) now (replicate k 32) in
+    let e : n - i ≡ suc (n - (i + 1)) = omega (arith, lt) in
+    completes_more first now next (replicate n 32) (32 ∷ []) (replicate (n - (i + 1)) 32)
+    (subst P e so_far) more
 
-pub letters_done : (line : List ℕ) (i : ℕ) (first now : Sheet) → length line ≤ i
-    → (now.layout ≡ first.layout)
-    × Completes first (letters first.layout.medium line) now
-    (letters first.layout.medium (drop i line))
-    → Adds first (letters first.layout.medium line) now
-letters_done line i first now le (layout, so_far) =
-    let m : Medium = first.layout.medium in
-    let Q : List ℕ → Type 0 = λ x. Completes first (letters m line) now (letters m x) in
-    completed first now (letters m line) (subst Q (none_left line i le) so_far)
+pub spaces_done : (n i : ℕ) (first now : Sheet) → n ≤ i
+    → Completes first (replicate n 32) now (replicate (n - i) 32) → Adds first (replicate n 32) now
+spaces_done n i first now le so_far =
+    let P : ℕ → Type 0 = λ k. Completes first (replicate n 32) now (replicate k 32) in
+    let e : n - i ≡ 0 = omega (arith, le) in
+    completed first now (replicate n 32) (subst P e so_far)
+
+-- one letter more
+pub letters_more : (f : ℕ → List ℕ) (line : List ℕ) (i : ℕ) (first now next : Sheet)
+    → i < length line → Completes first (flat_map f line) now (flat_map f (drop i line))
+    → Adds now (f (get_or line i 0)) next
+    → Completes first (flat_map f line) next (flat_map f (drop (i + 1) line))
+letters_more f line i first now next lt so_far more =
+    let Q : List ℕ → Type 0 = λ x. Completes first (flat_map f line) now (flat_map f x) in
+    completes_more first now next (flat_map f line) (f (get_or line i 0))
+    (flat_map f (drop (i + 1) line)) (subst Q (drop_more line i 0 lt) so_far) more
+
+pub letters_done : (f : ℕ → List ℕ) (line : List ℕ) (i : ℕ) (first now : Sheet) → length line ≤ i
+    → Completes first (flat_map f line) now (flat_map f (drop i line))
+    → Adds first (flat_map f line) now
+letters_done f line i first now le so_far =
+    let Q : List ℕ → Type 0 = λ x. Completes first (flat_map f line) now (flat_map f x) in
+    completed first now (flat_map f line) (subst Q (none_left line i le) so_far)
 
 -- one character of a header more
 pub named_more : (header : List ℕ) (i : ℕ) (first now next : Sheet) → i < length header
@@ -106,3 +99,41 @@ pub named_done : (header : List ℕ) (i : ℕ) (first now : Sheet) → length he
 named_done header i first now le so_far =
     let Q : List ℕ → Type 0 = λ x. Completes first (named 0 header) now (named i x) in
     completed first now (named 0 header) (subst Q (none_left header i le) so_far)
+
+-- whatever the lines of the rest are, they complete the lines of all
+abbrev pub LinesGoOn : ℕ → ℕ → Bool → List ℕ → List ℕ → Sheet → Sheet → Type 0
+LinesGoOn indent width in_text bytes rest first now = (left : List (List ℕ))
+    → AreLines indent width in_text rest left
+    → (all : List (List ℕ)) × AreLines indent width in_text bytes all
+    × Completes first (lines_text all) now (lines_text left)
+
+pub one_line : (indent width : ℕ) (in_text : Bool) (bytes rest line others : List ℕ)
+    (first now next : Sheet) → LinesGoOn indent width in_text bytes rest first now
+    → 0 < length rest → line ≡ take width rest → others ≡ drop width rest
+    → Adds now (10 ∷ (replicate indent 32 ++ content in_text line)) next
+    → LinesGoOn indent width in_text bytes others first next
+one_line indent width in_text bytes rest line others first now next so_far some line_is others_is
+    more left are =
+    let one : List ℕ = replicate indent 32 ++ content in_text (take width rest) in
+    let R : List ℕ → Type 0 = λ x. Adds now (10 ∷ (replicate indent 32 ++ content in_text x)) next
+    in
+    let Q : List ℕ → Type 0 = λ x. AreLines indent width in_text x left in
+    let (all, are_all, completes) = so_far (one ∷ left) (some, refl, subst Q others_is are) in (
+      all,
+      are_all,
+      completes_more first now next (lines_text all) (10 ∷ one) (lines_text left) completes
+          (subst R line_is more),
+    )
+
+pub all_lines : (indent width : ℕ) (in_text : Bool) (bytes rest : List ℕ) (first now : Sheet)
+    → LinesGoOn indent width in_text bytes rest first now → length rest ≡ 0
+    → PutsLines (AreLines indent width in_text bytes) first now
+all_lines indent width in_text bytes rest first now so_far none =
+    let (all, are_all, completes) = so_far [] (nil_from_length rest none) in
+    (all, are_all, completed first now (lines_text all) completes)
+
+-- lines, and then others
+pub lines_both : (xs ys : List (List ℕ)) (a b c : Sheet) → Adds a (lines_text xs) b
+    → Adds b (lines_text ys) c → Adds a (lines_text (xs ++ ys)) c
+lines_both xs ys a b c h k = adds_as (lines_text xs ++ lines_text ys) (lines_text (xs ++ ys)) a c
+    (sym (flat_map-append (λ line. 10 ∷ line) xs ys)) (adds_both _ _ a b c h k)

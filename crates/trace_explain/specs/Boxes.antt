@@ -1,13 +1,15 @@
 -- The box of a TPDU: what shows it, with any words between.
-use Rattle.std.specs.Prelude.{◌≡◌, ◌≢◌, ◌<◌, ℕ, List, [], ◌∷◌, ◌++◌, length, get_or, Bool, true, false, ◌==◌, ◌&&◌, ◌⊎◌, if◌then◌else◌, Option, Some, None, IfSome}
+use Rattle.std.specs.Prelude.{◌≡◌, ◌≢◌, ℕ, List, [], ◌∷◌, ◌++◌, codes, length, get_or, Bool, true, false, ◌==◌, ◌&&◌, if◌then◌else◌, Option, Some, None, IfSome}
+use Rattle.std.specs.Fmt.{decimal}
 use Rattle.std.specs.String.{string_bytes}
 use Rattle.t0_core.specs.declared.direction.Direction.{Direction}
 use Rattle.t0_core.specs.declared.direction.Direction.TheVariants.{ToCard, FromCard}
-use Rattle.tlv_core.specs.Spelling.{AreObjects}
 use Rattle.trace_explain.specs.declared.layout.Medium.{Medium}
 use Rattle.trace_explain.specs.declared.layout.Side.{Side}
 use Rattle.trace_explain.specs.declared.layout.Side.TheVariants as side
 use Rattle.trace_explain.specs.declared.links.Links.{Links}
+use Rattle.trace_explain.specs.declared.links.Whole.{Whole}
+use Rattle.trace_explain.specs.declared.links.Whole.TheVariants as whole
 use Rattle.trace_explain.specs.declared.mask.Mask.{Mask}
 use Rattle.trace_explain.specs.declared.mask.Origin.{Origin}
 use Rattle.trace_explain.specs.declared.mask.Shown.{Shown}
@@ -15,10 +17,10 @@ use Rattle.trace_explain.specs.declared.mask.Shown.TheVariants.{All, Objects, No
 use Rattle.trace_explain.specs.declared.sheet.Sheet.{Sheet}
 use Rattle.trace_explain.specs.Noted.{are_status}
 use Rattle.trace_explain.specs.Secrets.{Shows}
-use Rattle.trace_explain.specs.Sheets.{Adds, PutsRow, PutsTreeRow}
+use Rattle.trace_explain.specs.Sheets.{Adds}
 use Rattle.trace_explain.specs.Told.{IsOfCommand, Told}
-use Rattle.trace_explain.specs.Trees.{AreTree}
-use Rattle.trace_explain.specs.Written.{InTurn, IsRow, data_row, header_row, hidden, line_text, number_text, status_text}
+use Rattle.trace_explain.specs.Trees.{IsTree}
+use Rattle.trace_explain.specs.Written.{AreDigits, InTurn, data_row, header_row, hidden, line_text, lines_text, number_text, row, status_row}
 
 -- which end says what goes this way
 abbrev pub side_of : Direction → Side
@@ -30,29 +32,18 @@ abbrev pub status_side : List ℕ → List ℕ → Side
 status_side header status =
     if are_status status && (length header == 5) then side.Card else side.Told
 
--- data that are a list of objects, and hold one, stand as a tree if they may
-pub record IsTree (m : Medium) (tags : List (List ℕ)) (s : Side) (is_first may : Bool)
-    (bytes : List ℕ) (text : List ℕ) : Type 0 where
-  pub may_be : may ≡ true
-  pub are_objects : AreObjects bytes 1
-  pub lines : List (List ℕ)
-  pub some : 0 < length lines
-  pub shows : AreTree m tags bytes 1 lines
-  pub text_is : text ≡ data_row m s is_first lines
+-- a tree, or these lines where it has none
+abbrev pub Instead : (List (List ℕ) → Type 0) → List (List ℕ) → List (List ℕ) → Type 0
+Instead Are [] lines = Are lines
+Instead Are (line ∷ tree) lines = lines ≡ line ∷ tree
 
-abbrev pub IsNoTree : Medium → List (List ℕ) → Bool → List ℕ → Type 0
-IsNoTree m tags may bytes = may ≡ true → AreObjects bytes 1 → AreTree m tags bytes 1 []
-
--- what shows data, as far as they are shown
-abbrev pub ShowsData
-    : Shown → Medium → List (List ℕ) → Side → Bool → Bool → List ℕ → List ℕ → Type 0
-ShowsData All m tags s is_first may bytes text =
-    (IsNoTree m tags may bytes × IsRow m s is_first bytes text)
-    ⊎ IsTree m tags s is_first may bytes text
-ShowsData Objects m tags s is_first may bytes text =
-    (IsNoTree m tags may bytes × (text ≡ data_row m s is_first (hidden ∷ [])))
-    ⊎ IsTree m tags s is_first may bytes text
-ShowsData Nothing m tags s is_first may bytes text = text ≡ data_row m s is_first (hidden ∷ [])
+-- the lines of data, as far as they are shown
+abbrev pub ShowsData : Shown → List (List ℕ) → Bool → List ℕ → List (List ℕ) → Type 0
+ShowsData All tags may bytes lines =
+    (tree : List (List ℕ)) × IsTree tags may bytes tree × Instead (AreDigits bytes) tree lines
+ShowsData Objects tags may bytes lines = (tree : List (List ℕ)) × IsTree tags may bytes tree
+    × Instead (λ all. all ≡ hidden ∷ []) tree lines
+ShowsData Nothing tags may bytes lines = lines ≡ hidden ∷ []
 
 -- Data are shown by the mask as those of their TPDU's command; under GET RESPONSE the card's are
 -- those of the command whose response they are.
@@ -72,15 +63,17 @@ abbrev pub DataText : Medium → Mask → Option Direction → List ℕ → List
 DataText m mask None header moved text = text ≡ []
 DataText m mask (Some way) header moved text = length header ≡ 5 → (shown : Shown)
     × IsShown mask way header shown × (may : Bool) × (way ≡ FromCard → may ≡ true)
-    × ShowsData shown m mask.tags.items (side_of way) true may moved text
+    × (lines : List (List ℕ)) × ShowsData shown mask.tags.items may moved lines
+    × (text ≡ data_row m (side_of way) (lines_text lines))
 
 -- What shows a TPDU: its number, the line in which it begins, its header, its data, and its status.
 pub record IsBox (m : Medium) (mask : Mask) (number line : ℕ) (t : Told) (parts : List (List ℕ))
     : Type 0 where
   pub moved : List ℕ
+  pub words : List ℕ
   pub shows : DataText m mask t.way t.header t.moved moved
   pub parts_are : parts ≡ number_text number ∷ line_text m line ∷ header_row m t.header
-      ∷ moved ∷ status_text m (status_side t.header t.status) t.status ∷ []
+      ∷ moved ∷ status_row m (status_side t.header t.status) t.status words ∷ []
 
 -- Where memory was not wanting, some text was added that has these parts in turn.
 pub record Puts (parts : List (List ℕ)) (old new : Sheet) : Type 0 where
@@ -89,37 +82,36 @@ pub record Puts (parts : List (List ℕ)) (old new : Sheet) : Type 0 where
   pub text : new.is_cut ≡ false → (more : List ℕ)
       × (string_bytes new.text ≡ string_bytes old.text ++ more) × InTurn parts more
 
--- the row of data that stand as no tree was added
-abbrev pub PutsPlain : Shown → Side → Bool → List ℕ → Sheet → Sheet → Type 0
-PutsPlain All s is_first bytes old new = PutsRow old s is_first bytes new
-PutsPlain Objects s is_first bytes old new =
-    Adds old (data_row old.layout.medium s is_first (hidden ∷ [])) new
-PutsPlain Nothing s is_first bytes old new =
-    Adds old (data_row old.layout.medium s is_first (hidden ∷ [])) new
-
--- data may stand as a tree
-abbrev pub may_be_tree : Shown → Bool → Bool
-may_be_tree All may = may
-may_be_tree Objects may = may
-may_be_tree Nothing may = false
-
--- and they do, or nothing was added
-abbrev pub PutsTree
-    : Bool → Shown → List (List ℕ) → Side → Bool → Bool → List ℕ → Sheet → Sheet → Type 0
-PutsTree true shown tags s is_first may bytes old new =
-    (may_be_tree shown may ≡ true) × PutsTreeRow true tags s is_first bytes old new
-PutsTree false shown tags s is_first may bytes old new = Adds old [] new
-    × IsNoTree old.layout.medium tags (may_be_tree shown may) bytes
-
--- the same of data
-abbrev pub PutsData
-    : Shown → List (List ℕ) → Side → Bool → Bool → List ℕ → Sheet → Sheet → Type 0
-PutsData shown tags s is_first may bytes old new = (text : List ℕ)
-    × ShowsData shown old.layout.medium tags s is_first may bytes text × Adds old text new
+-- the row of data was added
+abbrev pub PutsDataRow
+    : Shown → List (List ℕ) → Side → Bool → List ℕ → Sheet → Sheet → Type 0
+PutsDataRow shown tags s may bytes old new = (lines : List (List ℕ))
+    × ShowsData shown tags may bytes lines
+    × Adds old (data_row old.layout.medium s (lines_text lines)) new
 
 abbrev pub PutsDataOf : Mask → Option Direction → List ℕ → List ℕ → Sheet → Sheet → Type 0
 PutsDataOf mask way header moved old new = (text : List ℕ)
     × DataText old.layout.medium mask way header moved text × Adds old text new
+
+-- the row of a status, with words behind it
+abbrev pub PutsStatus : Side → List ℕ → Sheet → Sheet → Type 0
+PutsStatus s status old new =
+    (words : List ℕ) × Adds old (status_row old.layout.medium s status words) new
+
+-- the row of what has come together, behind its size and in how many TPDUs it came
+abbrev pub size_words : ℕ → ℕ → List ℕ → List ℕ
+size_words size count parts = decimal size ++ codes " bytes in " ++ decimal count ++ parts
+
+abbrev pub whole_words : Whole → ℕ → List ℕ
+whole_words whole.None size = []
+whole_words (whole.Response n) size = size_words size n (codes " parts:")
+whole_words (whole.Value n) size = size_words size n (codes " pieces:")
+
+abbrev pub PutsWhole : Whole → Shown → List (List ℕ) → List ℕ → Sheet → Sheet → Type 0
+PutsWhole whole shown tags bytes old new = (lines : List (List ℕ))
+    × ShowsData shown tags true bytes lines
+    × Adds old (row old.layout.medium side.Told (codes "together")
+    (whole_words whole (length bytes) ++ lines_text lines)) new
 
 -- the box of a TPDU was added
 abbrev pub PutsBox : Mask → ℕ → ℕ → Told → Sheet → Sheet → Type 0

@@ -1,70 +1,62 @@
 -- The lines of a list of objects, one below the other.
-use Rattle.std.specs.Prelude.{◌≡◌, ◌<◌, ◌-◌, ℕ, zero, suc, List, [], ◌∷◌, ◌++◌, codes, length, take, drop, All, Bool, true, false}
+use Rattle.std.specs.Prelude.{◌≡◌, ◌<◌, ℕ, suc, ◌+◌, ◌-◌, ◌*◌, List, [], ◌∷◌, ◌++◌, codes, length, take, drop, replicate, All, Bool, true, false}
 use Rattle.std.specs.List.{Contains}
 use Rattle.hex.specs.Hex.{encode_upper}
-use Rattle.tlv_core.specs.Spelling.{Begins}
+use Rattle.tlv_core.specs.Spelling.{AreObjects, Begins}
 use Rattle.tlv_core.specs.TagForm.{is_constructed}
-use Rattle.trace_explain.specs.declared.layout.Medium.{Medium}
-use Rattle.trace_explain.specs.Written.{content, is_text}
+use Rattle.trace_explain.specs.Written.{AreLines, content, is_text}
 
--- two spaces for each level
-abbrev pub indent : ℕ → List ℕ
-indent zero = []
-indent (suc n) = codes "  " ++ indent n
+-- an object's tag, behind two spaces for each level below the first, which is 1
+abbrev pub indent : ℕ → ℕ
+indent level = (level - 1) * 2
 
--- The first line of an object at a level, which is counted from 1: its tag, and something behind
--- it.
-abbrev pub object_line : ℕ → List ℕ → List ℕ → List ℕ
-object_line level tag words = indent (level - 1) ++ encode_upper tag ++ words
+abbrev pub object : ℕ → List ℕ → List ℕ
+object level tag = replicate (indent level) 32 ++ encode_upper tag
 
 -- so many bytes of a value stand in a line, which are text or not
 abbrev pub value_width : Bool → ℕ
 value_width true = 15
 value_width false = 24
 
--- what a line has of these bytes of a value
-abbrev pub piece : Medium → Bool → List ℕ → List ℕ
-piece m in_text bytes = content m in_text (take (value_width in_text) bytes)
+-- a value behind its tag, and in the lines below
+abbrev pub IsValue : ℕ → List ℕ → List ℕ → List (List ℕ) → Type 0
+IsValue level [] words below = (words ≡ codes " -") × (below ≡ [])
+IsValue level (b ∷ bytes) words below =
+    (words ≡ codes " " ++ content (is_text (b ∷ bytes))
+    (take (value_width (is_text (b ∷ bytes))) (b ∷ bytes)))
+    × AreLines (indent level + 5) (value_width (is_text (b ∷ bytes))) (is_text (b ∷ bytes))
+    (drop (value_width (is_text (b ∷ bytes))) (b ∷ bytes)) below
 
-abbrev pub further_line : ℕ → List ℕ → List ℕ
-further_line level words = indent (level - 1) ++ codes "     " ++ words
-
--- these lines have all that is left of a value behind its first line
-abbrev pub AreFurther : Medium → Bool → ℕ → List ℕ → List (List ℕ) → Type 0
-AreFurther m in_text level bytes [] = bytes ≡ []
-AreFurther m in_text level bytes (line ∷ lines) = (0 < length bytes)
-    × (line ≡ further_line level (piece m in_text bytes))
-    × AreFurther m in_text level (drop (value_width in_text) bytes) lines
-
--- these lines have an object with this value
-abbrev pub AreValueLines : Medium → ℕ → List ℕ → List ℕ → List (List ℕ) → Type 0
-AreValueLines m level tag [] lines = lines ≡ object_line level tag (codes " -") ∷ []
-AreValueLines m level tag (b ∷ bytes) lines = (further : List (List ℕ))
-    × (lines ≡ object_line level tag (codes " " ++ piece m (is_text (b ∷ bytes)) (b ∷ bytes))
-    ∷ further)
-    × AreFurther m (is_text (b ∷ bytes)) level
-    (drop (value_width (is_text (b ∷ bytes))) (b ∷ bytes)) further
+-- an object, with these words behind its tag, and others
+abbrev pub listed : ℕ → List ℕ → List ℕ → List (List ℕ) → List (List ℕ) → List (List ℕ)
+listed level tag words below others = ((object level tag ++ words) ∷ below) ++ others
 
 -- The lines of the bytes, which are objects of a level: where an object's tag is among these
 -- nothing of its value stands there, and below a template stand the objects in it.
-pub data AreTree : Medium → List (List ℕ) → List ℕ → ℕ → List (List ℕ) → Type 0 where
-  no_object : {m : Medium} {tags : List (List ℕ)} {bytes : List ℕ} {level : ℕ}
-      {lines : List (List ℕ)} → All (λ b. b ≡ 0) bytes → lines ≡ []
-      → AreTree m tags bytes level lines
-  masked : {m : Medium} {tags : List (List ℕ)} {bytes : List ℕ} {level : ℕ}
-      {lines : List (List ℕ)} (padding tag size value rest : List ℕ) (others : List (List ℕ))
+pub data AreTree : List (List ℕ) → List ℕ → ℕ → List (List ℕ) → Type 0 where
+  no_object : {tags : List (List ℕ)} {bytes : List ℕ} {level : ℕ} {lines : List (List ℕ)}
+      → All (λ b. b ≡ 0) bytes → lines ≡ [] → AreTree tags bytes level lines
+  masked : {tags : List (List ℕ)} {bytes : List ℕ} {level : ℕ} {lines : List (List ℕ)}
+      (padding tag size value rest : List ℕ) (others : List (List ℕ))
       → Begins bytes padding tag size value rest level → Contains tags tag
-      → lines ≡ object_line level tag (codes " **") ∷ others
-      → AreTree m tags rest level others → AreTree m tags bytes level lines
-  primitive : {m : Medium} {tags : List (List ℕ)} {bytes : List ℕ} {level : ℕ}
-      {lines : List (List ℕ)} (padding tag size value rest : List ℕ) (own others : List (List ℕ))
+      → lines ≡ listed level tag (codes " **") [] others
+      → AreTree tags rest level others → AreTree tags bytes level lines
+  primitive : {tags : List (List ℕ)} {bytes : List ℕ} {level : ℕ} {lines : List (List ℕ)}
+      (padding tag size value rest words : List ℕ) (below others : List (List ℕ))
       → Begins bytes padding tag size value rest level → (Contains tags tag → ⊥)
-      → is_constructed tag ≡ false → AreValueLines m level tag value own → lines ≡ own ++ others
-      → AreTree m tags rest level others → AreTree m tags bytes level lines
-  template : {m : Medium} {tags : List (List ℕ)} {bytes : List ℕ} {level : ℕ}
-      {lines : List (List ℕ)} (padding tag size value rest : List ℕ)
-      (inside others : List (List ℕ))
+      → is_constructed tag ≡ false → IsValue level value words below
+      → lines ≡ listed level tag words below others
+      → AreTree tags rest level others → AreTree tags bytes level lines
+  template : {tags : List (List ℕ)} {bytes : List ℕ} {level : ℕ} {lines : List (List ℕ)}
+      (padding tag size value rest : List ℕ) (inside others : List (List ℕ))
       → Begins bytes padding tag size value rest level → (Contains tags tag → ⊥)
-      → is_constructed tag ≡ true → AreTree m tags value (suc level) inside
-      → lines ≡ (object_line level tag [] ∷ inside) ++ others
-      → AreTree m tags rest level others → AreTree m tags bytes level lines
+      → is_constructed tag ≡ true → AreTree tags value (suc level) inside
+      → lines ≡ listed level tag [] inside others
+      → AreTree tags rest level others → AreTree tags bytes level lines
+
+-- The lines of data as a tree: there are some only where the data may be objects and are some.
+pub record IsTree (tags : List (List ℕ)) (may : Bool) (bytes : List ℕ) (lines : List (List ℕ))
+    : Type 0 where
+  pub never : may ≡ false → lines ≡ []
+  pub none : (AreObjects bytes 1 → ⊥) → lines ≡ []
+  pub objects : may ≡ true → AreObjects bytes 1 → AreTree tags bytes 1 lines

@@ -1,6 +1,6 @@
 -- What is written of a TPDU, in either layout. What stands between are words, of which nothing is
 -- said here.
-use Rattle.std.specs.Prelude.{◌≡◌, ◌<◌, ℕ, zero, suc, List, [], ◌∷◌, ◌++◌, codes, length, take, drop, Bool, true, false, nat_le, ◌==◌, ◌&&◌, if◌then◌else◌}
+use Rattle.std.specs.Prelude.{◌≡◌, ◌<◌, ℕ, zero, suc, ◌-◌, List, [], ◌∷◌, ◌++◌, codes, length, take, drop, flat_map, replicate, Bool, true, false, nat_le, ◌==◌, ◌&&◌, if◌then◌else◌}
 use Rattle.std.specs.Char.{encode_utf8}
 use Rattle.std.specs.Fmt.{decimal}
 use Rattle.hex.specs.Hex.{encode_upper}
@@ -35,6 +35,38 @@ line_behind Html = codes "</small></summary>" ++ newline
 abbrev pub line_text : Medium → ℕ → List ℕ
 line_text m line = line_before m ++ decimal line ++ line_behind m
 
+-- A row begins with the sign of the end that says it, and a label, of eleven columns in a text.
+abbrev pub label_before : Medium → Side → List ℕ
+label_before Text Terminal = codes "  > "
+label_before Text Card = codes "  < "
+label_before Text Nobody = codes "    "
+label_before Html Terminal = codes "<div class=\"m t\"><b>"
+label_before Html Card = codes "<div class=\"m c\"><b>"
+label_before Html Nobody = codes "<div class=\"m n\"><b>"
+
+abbrev pub label_behind : Medium → ℕ → List ℕ
+label_behind Text size = replicate (11 - size) 32
+label_behind Html size = codes "</b><pre>"
+
+abbrev pub before : Medium → Side → List ℕ → List ℕ
+before m side label = label_before m side ++ label ++ label_behind m (length label)
+
+abbrev pub behind : Medium → Side → List ℕ
+behind Text side = newline
+behind Html Terminal = codes "</pre><i></i></div>" ++ newline
+behind Html Card = codes "</pre><i></i></div>" ++ newline
+behind Html Nobody = codes "</pre></div>" ++ newline
+
+-- Between them stands its text. Each further line of it is below the first one; on a page nothing
+-- in it is markup.
+abbrev pub letter : Medium → ℕ → List ℕ
+letter Text b = if b == 10 then newline ++ codes "               " else encode_utf8 b
+letter Html b = if b == 60 then codes "&lt;" else if b == 62 then codes "&gt;"
+    else if b == 38 then codes "&amp;" else encode_utf8 b
+
+abbrev pub row : Medium → Side → List ℕ → List ℕ → List ℕ
+row m side label text = before m side label ++ flat_map (letter m) text ++ behind m side
+
 -- the characters of a header, each behind its name on a page
 abbrev pub name_before : ℕ → List ℕ
 name_before zero = codes "CLA "
@@ -51,85 +83,42 @@ abbrev pub named : ℕ → List ℕ → List ℕ
 named place [] = []
 named place (b ∷ bytes) = character_text place b ++ named (suc place) bytes
 
-abbrev pub plain_header : List ℕ → List ℕ
-plain_header [] = []
-plain_header (b ∷ bytes) = codes "  > header     " ++ encode_upper (b ∷ bytes) ++ newline
+abbrev pub header_text : Medium → List ℕ → List ℕ
+header_text Text bytes = encode_upper bytes
+header_text Html bytes = named 0 bytes
 
 abbrev pub header_row : Medium → List ℕ → List ℕ
-header_row Text bytes = plain_header bytes
-header_row Html bytes = codes "<div class=\"m t\"><b>header</b><pre>" ++ named 0 bytes
-    ++ (codes "</pre><i></i></div>" ++ newline)
+header_row m bytes = before m Terminal (codes "header") ++ header_text m bytes ++ behind m Terminal
 
 -- a status as digits, and a space, behind which words say what it means
-abbrev pub status_before : Medium → Side → List ℕ
-status_before Text Terminal = codes "  > status     "
-status_before Text Card = codes "  < status     "
-status_before Text Nobody = codes "    status     "
-status_before Html Terminal = codes "<div class=\"m t\"><b>status</b><pre>"
-status_before Html Card = codes "<div class=\"m c\"><b>status</b><pre>"
-status_before Html Nobody = codes "<div class=\"m n\"><b>status</b><pre>"
+abbrev pub status_digits : List ℕ → List ℕ
+status_digits [] = []
+status_digits (b ∷ status) = encode_upper (b ∷ status) ++ codes " "
 
-abbrev pub status_text : Medium → Side → List ℕ → List ℕ
-status_text m side [] = status_before m side
-status_text m side (b ∷ status) =
-    status_before m side ++ encode_upper (b ∷ status) ++ codes " "
+abbrev pub status_row : Medium → Side → List ℕ → List ℕ → List ℕ
+status_row m side status words =
+    (before m side (codes "status") ++ status_digits status) ++ words ++ behind m side
 
--- Data stand in lines, whose first has the sign of the end that sends them.
-abbrev pub data_before : Medium → Side → Bool → List ℕ
-data_before Text side false = codes "               "
-data_before Html side false = newline
-data_before Text Terminal true = codes "  > data       "
-data_before Text Card true = codes "  < data       "
-data_before Text Nobody true = codes "    data       "
-data_before Html Terminal true = codes "<div class=\"m t\"><b>data</b><pre>"
-data_before Html Card true = codes "<div class=\"m c\"><b>data</b><pre>"
-data_before Html Nobody true = codes "<div class=\"m n\"><b>data</b><pre>"
+-- Data stand in lines, each behind an LF, but for the first one of a row. Where there are none,
+-- there is no row.
+abbrev pub lines_text : List (List ℕ) → List ℕ
+lines_text lines = flat_map (λ line. 10 ∷ line) lines
 
-abbrev pub line_end : Medium → List ℕ
-line_end Text = newline
-line_end Html = []
-
-abbrev pub data_end : Medium → Side → List ℕ
-data_end Text side = []
-data_end Html Terminal = codes "</pre><i></i></div>" ++ newline
-data_end Html Card = codes "</pre><i></i></div>" ++ newline
-data_end Html Nobody = codes "</pre></div>" ++ newline
-
-abbrev pub line_of : Medium → Side → Bool → List ℕ → List ℕ
-line_of m side is_first line = data_before m side is_first ++ line ++ line_end m
-
-abbrev pub lines_text : Medium → Side → Bool → List (List ℕ) → List ℕ
-lines_text m side is_first [] = []
-lines_text m side is_first (line ∷ lines) =
-    line_of m side is_first line ++ lines_text m side false lines
-
--- the rest of a row from its first data on, or behind a line of words
-abbrev pub data_row : Medium → Side → Bool → List (List ℕ) → List ℕ
-data_row m side is_first [] = []
-data_row m side is_first (line ∷ lines) =
-    lines_text m side is_first (line ∷ lines) ++ data_end m side
+abbrev pub data_row : Medium → Side → List ℕ → List ℕ
+data_row m side [] = []
+data_row m side (b ∷ text) = row m side (codes "data") text
 
 -- what stands in the place of data that are not shown
 abbrev pub hidden : List ℕ
 hidden = codes "**"
 
--- bytes as text, in which nothing is markup on a page
-abbrev pub letter : Medium → ℕ → List ℕ
-letter Text b = encode_utf8 b
-letter Html b = if b == 60 then codes "&lt;" else if b == 62 then codes "&gt;"
-    else if b == 38 then codes "&amp;" else encode_utf8 b
+-- digits, and for text the text in quotes beside them
+abbrev pub beside : Bool → List ℕ → List ℕ
+beside false line = []
+beside true line = codes " \"" ++ flat_map encode_utf8 line ++ codes "\""
 
-abbrev pub letters : Medium → List ℕ → List ℕ
-letters m [] = []
-letters m (b ∷ bytes) = letter m b ++ letters m bytes
-
--- digits, and the text in quotes beside them
-abbrev pub quoted : Medium → List ℕ → List ℕ
-quoted m line = encode_upper line ++ codes " \"" ++ letters m line ++ codes "\""
-
-abbrev pub content : Medium → Bool → List ℕ → List ℕ
-content m true line = quoted m line
-content m false line = encode_upper line
+abbrev pub content : Bool → List ℕ → List ℕ
+content in_text line = encode_upper line ++ beside in_text line
 
 -- at least three bytes, each of printable ASCII, are taken for text
 abbrev pub are_printable : List ℕ → Bool
@@ -139,19 +128,17 @@ are_printable (b ∷ bytes) = nat_le 32 b && nat_le b 126 && are_printable bytes
 abbrev pub is_text : List ℕ → Bool
 is_text bytes = nat_le 3 (length bytes) && are_printable bytes
 
--- so many bytes of data stand in a line
+-- these lines have all of the bytes, in their order, so many in a line behind so many spaces
+abbrev pub AreLines : ℕ → ℕ → Bool → List ℕ → List (List ℕ) → Type 0
+AreLines indent width in_text bytes [] = bytes ≡ []
+AreLines indent width in_text bytes (line ∷ lines) = (0 < length bytes)
+    × (line ≡ replicate indent 32 ++ content in_text (take width bytes))
+    × AreLines indent width in_text (drop width bytes) lines
+
+-- data as digits, with the text beside them where they are text
 abbrev pub width : Bool → ℕ
 width true = 25
 width false = 40
 
--- these lines have all of the data, in their order
-abbrev pub AreLines : Medium → Bool → List ℕ → List (List ℕ) → Type 0
-AreLines m in_text bytes [] = bytes ≡ []
-AreLines m in_text bytes (line ∷ lines) = (0 < length bytes)
-    × (line ≡ content m in_text (take (width in_text) bytes))
-    × AreLines m in_text (drop (width in_text) bytes) lines
-
--- the row of data as digits, with the text beside them where they are text
-abbrev pub IsRow : Medium → Side → Bool → List ℕ → List ℕ → Type 0
-IsRow m side is_first bytes text = (lines : List (List ℕ))
-    × AreLines m (is_text bytes) bytes lines × (text ≡ data_row m side is_first lines)
+abbrev pub AreDigits : List ℕ → List (List ℕ) → Type 0
+AreDigits bytes lines = AreLines 0 (width (is_text bytes)) (is_text bytes) bytes lines

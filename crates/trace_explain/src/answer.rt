@@ -1,12 +1,12 @@
 //! What is told of an answer to reset, in plain words.
 
-use crate::ascii::{push_hex_lines, push_lines};
-use crate::draft::Draft;
+use crate::ascii::{push_digits, push_hex_lines};
 use crate::layout::{Kind, Side};
 use crate::mask::Mask;
 use crate::opening::{is_direct, is_short};
 use crate::page::Page;
 use crate::preface::Preface;
+use crate::sheet::Sheet;
 use atr_core::{Atr, AtrFault, Category, Fi, di};
 
 /// Adds the box of an answer: all of it, or how far it came. What is none may be data of which the
@@ -55,12 +55,13 @@ fn tell_values(answer: &Atr, page: &mut Page) {
     page.row(Side::Told, "guard time");
     push_waiting_time(&mut page.lines, answer);
     page.row(Side::Told, "waiting");
-    push_lines(&mut page.lines, answer.historical());
+    push_digits(&mut page.lines, answer.historical());
+    page.lines.push('\n');
     page.told("historical", form_of(answer));
 }
 
 /// Adds the protocols, in the order in which they are offered.
-fn push_protocols(text: &mut Draft, answer: &Atr) {
+fn push_protocols(text: &mut Sheet, answer: &Atr) {
     for t in &answer.protocols() {
         if !text.is_empty() {
             text.push_str(", ");
@@ -71,7 +72,7 @@ fn push_protocols(text: &mut Draft, answer: &Atr) {
 }
 
 /// Adds Fi with its clock frequency, and Di, by their code in TA1 or PPS1.
-pub fn push_rate(text: &mut Draft, code: u8) {
+pub fn push_rate(text: &mut Sheet, code: u8) {
     match Fi::of(code) {
         Ok(fi) => write!(text, "Fi {fi}; "),
         Err(rfu) => write!(text, "Fi {rfu}; "),
@@ -83,14 +84,14 @@ pub fn push_rate(text: &mut Draft, code: u8) {
 }
 
 /// Adds the guard time of each protocol.
-fn push_guard_times(text: &mut Draft, answer: &Atr) {
+fn push_guard_times(text: &mut Sheet, answer: &Atr) {
     for t in &answer.protocols() {
         writeln!(text, "T={t}: {}", answer.guard_time(*t));
     }
 }
 
 /// Adds the waiting time, which T=0 alone has.
-fn push_waiting_time(text: &mut Draft, answer: &Atr) {
+fn push_waiting_time(text: &mut Sheet, answer: &Atr) {
     if !answer.protocols().contains(&0) {
         return;
     }

@@ -1,6 +1,6 @@
 //! When the TPDUs of a trace began, by the times before the signs of its lines.
 
-use crate::draft::Draft;
+use crate::sheet::Sheet;
 use std::alloc::{AllocError, Global};
 use std::mem;
 
@@ -105,7 +105,7 @@ impl Clock {
 
     /// Adds when the TPDU under way began, and how long after the one before it: nothing, where its
     /// line has no time.
-    pub fn push_begin(&self, text: &mut Draft) {
+    pub fn push_begin(&self, text: &mut Sheet) {
         if self.shown.is_empty() {
             return;
         }
@@ -120,7 +120,7 @@ impl Clock {
 
     /// Adds how long it is from the first line of characters with a time to the last: nothing,
     /// where none has one.
-    pub fn push_whole(&self, text: &mut Draft) {
+    pub fn push_whole(&self, text: &mut Sheet) {
         if self.heard.is_none() {
             return;
         }
@@ -231,14 +231,14 @@ fn sum(one: Option<u64>, other: Option<u64>) -> Option<u64> {
 }
 
 /// Adds how long after another one a TPDU began.
-fn push_span(text: &mut Draft, nanos: u64) {
+fn push_span(text: &mut Sheet, nanos: u64) {
     text.push_str(", ");
     push_duration(text, nanos);
     text.push_str(" later");
 }
 
 /// Adds how long something took.
-fn push_duration(text: &mut Draft, nanos: u64) {
+fn push_duration(text: &mut Sheet, nanos: u64) {
     let micros = nanos / 1_000;
     if nanos < SECOND {
         let (whole, rest) = (micros / 1_000, micros % 1_000);

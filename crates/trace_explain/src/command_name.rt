@@ -1,13 +1,13 @@
 //! Commands by their names, with what their P1-P2 say.
 
-use crate::draft::Draft;
 use crate::instructions::{Parts, instruction};
 use crate::parts;
+use crate::sheet::Sheet;
 use apdu_core::Header;
 
 /// Adds the name of a command with this header and these data of the terminal, with its parts, and
 /// its class where that says more.
-pub fn push_command(text: &mut Draft, header: Header, sent: &[u8]) {
+pub fn push_command(text: &mut Sheet, header: Header, sent: &[u8]) {
     match instruction(header) {
         Some((_, name, parts)) => {
             text.push_str(name);
@@ -26,7 +26,7 @@ pub fn push_command(text: &mut Draft, header: Header, sent: &[u8]) {
 }
 
 /// Adds what P1 and P2 say.
-fn push_parts(text: &mut Draft, parts: Parts, header: Header, sent: &[u8]) {
+fn push_parts(text: &mut Sheet, parts: Parts, header: Header, sent: &[u8]) {
     match parts {
         Parts::Selected => parts::push_selected(text, header, sent),
         Parts::Object => parts::push_object(text, header),

@@ -1,10 +1,10 @@
 //! What is counted over a whole trace, and told in its last block.
 
 use crate::clock::Clock;
-use crate::draft::Draft;
 use crate::instructions::instruction;
 use crate::layout::Side;
 use crate::page::Page;
+use crate::sheet::Sheet;
 use crate::story::{header_of, status_of};
 use crate::tpdu::Tpdu;
 use std::alloc::{AllocError, Global};
@@ -113,7 +113,7 @@ impl Counts {
     }
 
     /// Adds how many TPDUs came, and how many of them were cut off, if any was.
-    fn push_tpdus(&self, text: &mut Draft) {
+    fn push_tpdus(&self, text: &mut Sheet) {
         write!(text, "{}", self.tpdus);
         if self.cut_off > 0 {
             write!(text, " (cut off: {})", self.cut_off);
@@ -123,7 +123,7 @@ impl Counts {
 
     /// Adds a line for each command: those with a name, by their names; the others, by INS; and
     /// headers that did not come whole.
-    fn push_commands(&self, text: &mut Draft) {
+    fn push_commands(&self, text: &mut Sheet) {
         for (name, count) in &self.named {
             writeln!(text, "{name}: {count}");
         }
@@ -139,7 +139,7 @@ impl Counts {
     }
 
     /// Adds a line for each status other than `9000`, in the order of the words.
-    fn push_statuses(&self, text: &mut Draft) {
+    fn push_statuses(&self, text: &mut Sheet) {
         for (word, count) in &self.statuses {
             writeln!(text, "{word:04X}: {count}");
         }

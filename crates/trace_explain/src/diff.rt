@@ -2,13 +2,13 @@
 //! of time, and hides what differs.
 
 use crate::diff_fault::{DiffFault, Which};
-use crate::draft::Draft;
 use crate::explain::{CHUNK, TRACE_LIMIT, explain_chunk, explain_last};
 use crate::explain_fault::ExplainFault;
 use crate::explainer::Explainer;
 use crate::layout::{Layout, Medium};
 use crate::mask::Mask;
 use crate::reading::Reading;
+use crate::sheet::Sheet;
 use crate::tpdu::Tpdu;
 use std::alloc::{AllocError, Global};
 use std::io;
@@ -58,7 +58,7 @@ pub fn diff<R: Read, S: Read, W: Write>(
     let other = mask.copied(alloc)?;
     let mut a = Trace::new(alloc, Which::A, other, resumes, reading, reader_a);
     let mut b = Trace::new(alloc, Which::B, mask, resumes, reading, reader_b);
-    let mut text = Draft::new(alloc);
+    let mut text = Sheet::new(alloc, LAYOUT);
     let outcome = compare(&mut a, &mut b, &mut text);
     written(outcome, &mut text, writer)
 }
@@ -66,7 +66,7 @@ pub fn diff<R: Read, S: Read, W: Write>(
 /// Writes what a comparison with this outcome has told, if it came to an end.
 fn written<W: Write>(
     outcome: Result<bool, DiffFault>,
-    text: &mut Draft,
+    text: &mut Sheet,
     writer: &mut W,
 ) -> Result<bool, DiffFault> {
     let alike = outcome?;
@@ -82,7 +82,7 @@ fn written<W: Write>(
 fn compare<R: Read, S: Read>(
     a: &mut Trace<'_, R>,
     b: &mut Trace<'_, S>,
-    out: &mut Draft,
+    out: &mut Sheet,
 ) -> Result<bool, DiffFault> {
     for number in 1..u64::MAX {
         let before = number - 1;
@@ -113,7 +113,7 @@ fn compare<R: Read, S: Read>(
 }
 
 /// Tells that this trace has no more TPDUs, and which is the next of the other.
-fn push_only(out: &mut Draft, which: Which, before: u64, next: &Kept) {
+fn push_only(out: &mut Sheet, which: Which, before: u64, next: &Kept) {
     let unit = if before == 1 { "TPDU" } else { "TPDUs" };
     let other = which.other();
     writeln!(
@@ -124,7 +124,7 @@ fn push_only(out: &mut Draft, which: Which, before: u64, next: &Kept) {
 }
 
 /// Whether two TPDUs differ; then it tells of them, and in what.
-fn differ(out: &mut Draft, number: u64, a: &Kept, b: &Kept) -> bool {
+fn differ(out: &mut Sheet, number: u64, a: &Kept, b: &Kept) -> bool {
     let parts = [
         ("header", a.tpdu.header == b.tpdu.header),
         (

@@ -7,9 +7,9 @@ ghost use Rattle.trace_explain.specs.Secrets.{Names, Shows, ShowsTagged, ShowsVa
 ghost use Rattle.trace_explain.specs.Told.{IsOfCommand};
 
 use crate::ascii::push_hex_lines;
-use crate::draft::Draft;
 use crate::instructions::is_secret;
-use crate::links::Links;
+use crate::links::{Links, Whole};
+use crate::sheet::Sheet;
 use crate::story::header_of;
 use crate::tpdu::Tpdu;
 use apdu_core::Header;
@@ -83,12 +83,18 @@ impl Origin {
         Some(Origin { goes_on, ..origin })
     }
 
-    /// That of the same data with all that came before them.
-    pub fn of_all(self) -> Origin {
-        Origin {
+    /// That of what has come together with a TPDU, if anything has.
+    pub fn of_whole(tpdu: &Tpdu, links: Links) -> Option<Origin> {
+        let way = match links.whole {
+            Whole::None => return None,
+            Whole::Value(_) => Direction::ToCard,
+            Whole::Response(_) => Direction::FromCard,
+        };
+        let origin = Origin::of(tpdu, links, way)?;
+        Some(Origin {
             goes_on: false,
-            ..self
-        }
+            ..origin
+        })
     }
 }
 
@@ -205,7 +211,7 @@ impl Mask {
     }
 
     /// Adds bytes of which it can't be known what they are, as lines of digits.
-    pub fn push_unknown(&self, text: &mut Draft, bytes: &[u8]) {
+    pub fn push_unknown(&self, text: &mut Sheet, bytes: &[u8]) {
         if self.hides {
             push_hidden_line(text);
         } else {
@@ -280,6 +286,6 @@ fn tag_of(alloc: Global, digits: &str) -> Result<Tag, BadTags> {
 }
 
 /// Adds a line that shows nothing.
-pub fn push_hidden_line(text: &mut Draft) {
+pub fn push_hidden_line(text: &mut Sheet) {
     writeln!(text, "{HIDDEN}");
 }

@@ -1,8 +1,8 @@
 //! What is said of a status word (ISO/IEC 7816-4, 5.1.3).
 
-use crate::draft::Draft;
 use crate::instructions::{SIM_CLASS, counts_tries};
 use crate::phrases::unit_of;
+use crate::sheet::Sheet;
 use crate::statuses::{KINDS, SIM_WORDS, WORDS};
 use apdu_core::{Header, Status, count};
 
@@ -24,8 +24,8 @@ pub fn is_well(header: Header, status: Status) -> bool {
     }
 }
 
-/// Adds what the status of a command means.
-pub fn push_meaning(text: &mut Draft, header: Header, status: Status) {
+/// Adds what the status of a command means; of a SIM card also by 3GPP TS 51.011, 9.4.
+pub fn push_meaning(text: &mut Sheet, header: Header, status: Status) {
     if let Some(bytes) = waiting(header, status) {
         return push_waiting(text, status, bytes);
     }
@@ -37,36 +37,30 @@ pub fn push_meaning(text: &mut Draft, header: Header, status: Status) {
         (_, 0x63, 0xC0..=0xCF) => push_counter(text, header, status.sw2() & 0x0F),
         (_, 0x62, 0x02..=0x80) => push_query(text, "a warning", status.sw2()),
         (_, 0x64, 0x02..=0x80) => push_query(text, "an error of execution", status.sw2()),
-        (SIM_CLASS, 0x91, bytes) => push_fetch(text, bytes),
+        (SIM_CLASS, 0x91, bytes) => {
+            write!(
+                text,
+                "normal processing: a command of the card waits, of {bytes} bytes"
+            );
+        }
         (SIM_CLASS, 0x92, retries @ 0x00..=0x0F) => {
             write!(
                 text,
                 "normal processing, with {retries} retries of an update"
             );
         }
-        (SIM_CLASS, 0x9E, bytes) => push_download(text, bytes),
+        (SIM_CLASS, 0x9E, bytes) => {
+            write!(
+                text,
+                "an error of data download: {bytes} bytes of the response wait"
+            );
+        }
         _ => text.push_str(fixed_meaning(header, status)),
     }
 }
 
-/// Adds what `91XX` of a SIM card says (3GPP TS 51.011, 9.4.1).
-fn push_fetch(text: &mut Draft, bytes: u8) {
-    write!(
-        text,
-        "normal processing: a command of the card waits, of {bytes} bytes"
-    );
-}
-
-/// Adds what `9EXX` of a SIM card says (3GPP TS 51.011, 9.4.1).
-fn push_download(text: &mut Draft, bytes: u8) {
-    write!(
-        text,
-        "an error of data download: {bytes} bytes of the response wait"
-    );
-}
-
 /// Adds how many bytes wait: `6100` says that they are 256 or more (ISO/IEC 7816-3, 12).
-fn push_waiting(text: &mut Draft, status: Status, bytes: u16) {
+fn push_waiting(text: &mut Sheet, status: Status, bytes: u16) {
     let least = if status.sw1() == 0x61 && bytes == 256 {
         "at least "
     } else {
@@ -81,7 +75,7 @@ fn push_waiting(text: &mut Draft, status: Status, bytes: u16) {
 }
 
 /// Adds what `63CX` says: the tries that are left, where the command has such a counter.
-fn push_counter(text: &mut Draft, header: Header, left: u8) {
+fn push_counter(text: &mut Sheet, header: Header, left: u8) {
     if !counts_tries(header) {
         return write!(text, "a warning: a counter stands at {left}");
     }
@@ -93,7 +87,7 @@ fn push_counter(text: &mut Draft, header: Header, left: u8) {
 }
 
 /// Adds that the card has a question of so many bytes.
-fn push_query(text: &mut Draft, kind: &str, bytes: u8) {
+fn push_query(text: &mut Sheet, kind: &str, bytes: u8) {
     write!(text, "{kind}: the card has a query of {bytes} bytes");
 }
 

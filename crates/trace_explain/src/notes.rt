@@ -3,9 +3,9 @@
 
 ghost use Rattle.std.specs.Prelude.{◌<◌};
 
-use crate::draft::Draft;
 use crate::mask::{Mask, push_hidden_line};
 use crate::page::Page;
+use crate::sheet::Sheet;
 
 /// How many bytes of a note stand in a line.
 const NOTE_BYTES: usize = 96;
@@ -61,7 +61,7 @@ pub fn tell_note(note: &[u8], mask: &Mask, page: &mut Page) {
 }
 
 /// Adds a note in as many lines as it takes.
-fn push_note(text: &mut Draft, note: &[u8]) {
+fn push_note(text: &mut Sheet, note: &[u8]) {
     for piece in note.chunks(note_width(note)) {
         push_printable(text, piece);
         text.push('\n');
@@ -81,7 +81,7 @@ fn note_width(note: &[u8]) -> usize
 }
 
 /// Adds the bytes of a note, those that are no printable ASCII by their numbers.
-fn push_printable(text: &mut Draft, bytes: &[u8]) {
+fn push_printable(text: &mut Sheet, bytes: &[u8]) {
     for &byte in bytes {
         match byte {
             b' '..=b'~' => text.push(char::from(byte)),

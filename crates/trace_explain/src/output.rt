@@ -1,11 +1,13 @@
 //! What is written: what is proved of TPDUs, and the words beside it.
 
-ghost use Rattle.std.specs.Prelude.{◌≡◌, [], false, OnOk};
+ghost use Rattle.std.specs.Prelude.{◌≡◌, ℕ, List, [], false, OnOk};
 ghost use Rattle.std.specs.String.{string_bytes};
-ghost use Rattle.trace_explain.specs.Sheets.{Joins};
+ghost use Rattle.trace_explain.specs.Sheets.{Adds, HasText, Joins};
+ghost use Rattle.trace_explain.specs.Written.{data_row, row};
 
-use crate::layout::Layout;
+use crate::layout::{Layout, Side};
 use crate::page::Page;
+use crate::row::{push_data_row, push_lines_row};
 use crate::sheet::Sheet;
 use std::alloc::{AllocError, Global};
 
@@ -43,6 +45,25 @@ impl Output {
     /// Another one of the same layout, to which nothing has been added.
     pub fn another(&self, alloc: Global) -> Output {
         Output::new(alloc, self.sheet.layout())
+    }
+
+    /// Adds the row of data that the lines of the page are, and forgets them.
+    pub fn data_row(&mut self, side: Side)
+        ensures { (text : List ℕ) → HasText self.old.page.lines text →
+            Adds self.old.sheet (data_row self.old.sheet.layout.medium side text) self.new.sheet }
+    {
+        push_data_row(&mut self.sheet, side, &self.page.lines);
+        self.page.lines.clear();
+    }
+
+    /// Adds a row with this label, whose text the lines of the page are, and forgets them.
+    pub fn lines_row(&mut self, side: Side, label: &str)
+        ensures { (text : List ℕ) → HasText self.old.page.lines text →
+            Adds self.old.sheet (row self.old.sheet.layout.medium side label.now text)
+            self.new.sheet }
+    {
+        push_lines_row(&mut self.sheet, side, label, &self.page.lines);
+        self.page.lines.clear();
     }
 
     /// Joins the words to what is written.

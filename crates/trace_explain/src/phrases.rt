@@ -1,15 +1,20 @@
 //! What is said of a TPDU, in plain words.
 
+ghost use Rattle.std.specs.Prelude.{◌++◌};
+ghost use Rattle.std.specs.Fmt.{decimal};
+ghost use Rattle.trace_explain.specs.Boxes.{size_words, whole_words};
+ghost use Rattle.trace_explain.specs.Sheets.{Adds};
+
 use crate::command_name::push_command;
-use crate::draft::Draft;
 use crate::links::{Link, Links, Whole};
 use crate::outline::Outline;
+use crate::sheet::Sheet;
 use crate::tally::Tally;
 use apdu_core::count;
 use t0_core::Direction;
 
 /// Adds the title of a TPDU: its command by name, with its parts, and what it selects.
-pub fn push_title(text: &mut Draft, outline: &Outline, selected: &[u8]) {
+pub fn push_title(text: &mut Sheet, outline: &Outline, selected: &[u8]) {
     match outline.header {
         Some((header, _)) => push_command(text, header, selected),
         None => text.push_str("part of a header"),
@@ -17,7 +22,7 @@ pub fn push_title(text: &mut Draft, outline: &Outline, selected: &[u8]) {
 }
 
 /// Adds how a TPDU goes on with those before it.
-pub fn push_links(text: &mut Draft, links: Links) {
+pub fn push_links(text: &mut Sheet, links: Links) {
     match links.link {
         Link::None => {}
         Link::AskedAgain(count) => {
@@ -34,7 +39,7 @@ pub fn push_links(text: &mut Draft, links: Links) {
 }
 
 /// Adds how many procedure bytes came, in words; nothing where none came.
-pub fn push_procedure(text: &mut Draft, tally: Tally) {
+pub fn push_procedure(text: &mut Sheet, tally: Tally) {
     let Tally { nulls, ones, alls } = tally;
     if nulls > 0 {
         let unit = if nulls == 1 { "NULL" } else { "NULLs" };
@@ -59,7 +64,7 @@ pub fn push_procedure(text: &mut Draft, tally: Tally) {
 }
 
 /// Adds Le behind the data of a command, in words.
-pub fn push_most(text: &mut Draft, le: u8) {
+pub fn push_most(text: &mut Sheet, le: u8) {
     let most = count(le);
     let unit = unit_of(u64::from(most));
     writeln!(text, "{le:02X} up to {most} {unit}");
@@ -67,7 +72,7 @@ pub fn push_most(text: &mut Draft, le: u8) {
 
 /// Adds how far a TPDU came that was cut off: behind SW1, or within its header, or after how many
 /// of the bytes that P3 foresees, where some have come.
-pub fn push_cut_off(text: &mut Draft, outline: &Outline) {
+pub fn push_cut_off(text: &mut Sheet, outline: &Outline) {
     text.push_str("cut off");
     match (outline.header, outline.way) {
         _ if outline.has_sw1 => {}
@@ -94,13 +99,32 @@ fn comma_where(more: bool) -> &'static str {
     if more { ", " } else { "" }
 }
 
-/// Adds what has come together, in words; nothing where nothing has.
-pub fn push_whole(text: &mut Draft, whole: Whole, size: usize) {
+/// Adds the size of what has come together, and in how many TPDUs it did.
+pub fn push_whole(lines: &mut Sheet, whole: Whole, size: u64)
+    ensures { Adds lines.old (whole_words whole size) lines.new }
+{
     match whole {
         Whole::None => {}
-        Whole::Response(parts) => writeln!(text, "{size} bytes in {parts} parts:"),
-        Whole::Value(pieces) => writeln!(text, "{size} bytes in {pieces} pieces:"),
+        Whole::Response(parts) => push_size(lines, size, parts, " parts:"),
+        Whole::Value(pieces) => push_size(lines, size, pieces, " pieces:"),
     }
+}
+
+/// Adds a size, and in how many of these it came.
+fn push_size(lines: &mut Sheet, size: u64, count: u64, parts: &str)
+    ensures { Adds lines.old (size_words size count parts.now) lines.new }
+{
+    lines.push_number(size);
+    lines.push_str(" bytes in ");
+    push_count(lines, count, parts);
+}
+
+/// Adds a count of these.
+fn push_count(lines: &mut Sheet, count: u64, parts: &str)
+    ensures { Adds lines.old (decimal count ++ parts.now) lines.new }
+{
+    lines.push_number(count);
+    lines.push_str(parts);
 }
 
 /// What is counted.

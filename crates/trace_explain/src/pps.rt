@@ -2,11 +2,11 @@
 
 use crate::answer::push_rate;
 use crate::ascii::push_hex_lines;
-use crate::draft::Draft;
 use crate::layout::{Kind, Side};
 use crate::mask::Mask;
 use crate::page::Page;
 use crate::preface::Preface;
+use crate::sheet::Sheet;
 use atr_core::{Pps, PpsFault, agreed};
 
 /// Adds the box of an exchange: the request with what it asks for, and the response, as far as they
@@ -33,7 +33,7 @@ pub fn tell_exchange(mask: &Mask, preface: &Preface, page: &mut Page) {
 
 /// Adds the characters of a request or response; those that are none may be data, and are then not
 /// shown where something is not.
-fn push_characters(text: &mut Draft, mask: &Mask, bytes: &[u8], is_one: bool) {
+fn push_characters(text: &mut Sheet, mask: &Mask, bytes: &[u8], is_one: bool) {
     if is_one {
         push_hex_lines(text, bytes);
     } else {
@@ -43,7 +43,7 @@ fn push_characters(text: &mut Draft, mask: &Mask, bytes: &[u8], is_one: bool) {
 
 /// Adds whether a response accepts the request, where both are whole.
 fn push_agreed(
-    text: &mut Draft,
+    text: &mut Sheet,
     request: &Result<Pps, PpsFault>,
     response: &Result<Pps, PpsFault>,
 ) {
@@ -58,7 +58,7 @@ fn push_agreed(
 }
 
 /// Adds what a request or response says, or what is wrong with it.
-fn push_pps(text: &mut Draft, read: &Result<Pps, PpsFault>) {
+fn push_pps(text: &mut Sheet, read: &Result<Pps, PpsFault>) {
     match read {
         Ok(pps) => {
             write!(text, "T={}; ", pps.t);
@@ -72,7 +72,7 @@ fn push_pps(text: &mut Draft, read: &Result<Pps, PpsFault>) {
 }
 
 /// Adds a character that says something else, where it is there.
-fn push_other(text: &mut Draft, name: &str, byte: Option<u8>) {
+fn push_other(text: &mut Sheet, name: &str, byte: Option<u8>) {
     if let Some(byte) = byte {
         write!(text, "; {name} {byte:02X}");
     }

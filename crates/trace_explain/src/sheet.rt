@@ -1,6 +1,6 @@
-//! A text of which it is proved what is added to it.
+//! A text in the making, of which it is proved what is added to it.
 
-ghost use Rattle.std.specs.Prelude.{◌≡◌, [], false, OnOk};
+ghost use Rattle.std.specs.Prelude.{◌≡◌, ℕ, List, [], false, OnOk};
 ghost use Rattle.std.specs.String.{string_bytes};
 ghost use Rattle.std.specs.Char.{encode_utf8};
 ghost use Rattle.std.specs.Fmt.{decimal};
@@ -9,9 +9,10 @@ ghost use Rattle.trace_explain.specs.Sheets.{Adds, Joins};
 
 use crate::layout::Layout;
 use std::alloc::{AllocError, Global};
-use std::mem;
+use std::{fmt, mem};
 
-/// A text to which more is added. Once memory was wanting, nothing more is, until that is asked.
+/// A text to which more is added. Once memory ran out nothing more is: whoever adds to it asks
+/// once, at the end, whether all of it is there.
 #[derive(Drop)]
 pub struct Sheet {
     alloc: Global,
@@ -87,7 +88,14 @@ impl Sheet {
         }
     }
 
-    /// Adds words from elsewhere, and whether memory was wanting there.
+    /// Adds what `write!` and `writeln!` format.
+    pub fn write_fmt<D: fmt::Display + Drop>(&mut self, value: D) {
+        if !self.is_cut {
+            self.is_cut = self.text.write_fmt(value).is_err();
+        }
+    }
+
+    /// Adds words from elsewhere, and whether memory ran out there.
     pub fn join(&mut self, words: &str, is_cut: bool)
         ensures { Joins self.old self.new }
     {
@@ -97,6 +105,13 @@ impl Sheet {
         }
     }
 
+    /// Memory ran out: whatever was to be added is not.
+    pub fn cut(&mut self)
+        ensures { (more : List ℕ) → Adds self.old more self.new }
+    {
+        self.is_cut = true;
+    }
+
     /// What has been added since the last call of `clear`.
     pub fn as_str(&self) -> &str
         ensures { result.now ≡ string_bytes self.now.text }
@@ -104,7 +119,19 @@ impl Sheet {
         self.text.as_str()
     }
 
-    /// Forgets what has been added, as it was written.
+    /// Whether nothing has.
+    pub fn is_empty(&self) -> bool {
+        self.text.is_empty()
+    }
+
+    /// Whether memory ran out.
+    pub fn is_cut(&self) -> bool
+        ensures { result ≡ self.now.is_cut }
+    {
+        self.is_cut
+    }
+
+    /// Forgets what has been added, but not whether memory ran out.
     pub fn clear(&mut self)
         ensures text { string_bytes self.new.text ≡ [] }
         ensures layout { self.new.layout ≡ self.old.layout }

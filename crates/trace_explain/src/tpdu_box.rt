@@ -1,11 +1,12 @@
 //! What is told of a TPDU, row by row.
 
-ghost use Rattle.std.specs.Prelude.{◌≡◌, ◌∷◌, [], false};
-ghost use Rattle.trace_explain.specs.Boxes.{HasAsker, Puts, PutsBox, PutsData, PutsDataOf, PutsPlain, PutsTree, may_be_tree, side_of, status_side};
-ghost use Rattle.trace_explain.specs.Sheets.{Joins};
+ghost use Rattle.std.specs.Prelude.{◌≡◌, ◌∷◌, ℕ, List, [], false};
+ghost use Rattle.trace_explain.specs.Boxes.{HasAsker, Puts, PutsBox, PutsDataOf, PutsDataRow, PutsStatus, PutsWhole, ShowsData, side_of, status_side};
+ghost use Rattle.trace_explain.specs.Sheets.{Joins, PutsLines};
 ghost use Rattle.trace_explain.specs.Told.{told_by};
-ghost use Rattle.trace_explain.specs.Written.{line_text, number_text, status_text};
+ghost use Rattle.trace_explain.specs.Written.{hidden, line_text, number_text};
 
+use crate::ascii::push_digits;
 use crate::clock::Clock;
 use crate::instructions::may_have_objects;
 use crate::layout::{Anchor, Head, Kind, Side};
@@ -16,8 +17,9 @@ use crate::outline::{Outline, name_of};
 use crate::output::Output;
 use crate::page::Page;
 use crate::phrases;
+use crate::row::behind;
 use crate::sheet::Sheet;
-use crate::shown::{push_header, push_hidden, push_line, push_lines, push_number, push_status};
+use crate::shown::{push_header, push_line, push_number, push_status};
 use crate::story::Story;
 use crate::tpdu::{Tpdu, are_status};
 use crate::tree_row::push_tree;
@@ -43,31 +45,40 @@ pub fn tell_box(
         return;
     }
     let outline = Outline::of(tpdu);
-    tell_title(&outline, tpdu, links, began, output);
+    let status = tpdu.status.as_slice();
+    tell_title(&outline, name_of(tpdu), status, links, began, output);
     tell_time(links, clock, output);
     push_header(&mut output.sheet, tpdu.header.as_slice());
     tell_procedure(&outline, output);
     tell_data(tpdu, links, mask, output);
     tell_answer(tpdu, links, mask, output);
-    tell_status(&outline, tpdu, output);
-    tell_end(tpdu, links, story, mask, output);
+    tell_status(&outline, status_side(tpdu), status, output);
+    let all = story.whole(links.whole);
+    tell_end(links, Origin::of_whole(tpdu, links), all, mask, output);
 }
 
-/// Adds the title of a TPDU's box.
-fn tell_title(outline: &Outline, tpdu: &Tpdu, links: Links, began: u64, output: &mut Output)
+/// Adds the title of a TPDU's box, with the name that SELECT has.
+fn tell_title(
+    outline: &Outline,
+    name: &[u8],
+    status: &[u8],
+    links: Links,
+    began: u64,
+    output: &mut Output,
+)
     ensures { Puts (number_text links.number
         ∷ line_text output.old.sheet.layout.medium began ∷ []) output.old.sheet output.new.sheet }
 {
     let head = Head {
         kind: kind_of(outline),
         line: began,
-        status: tpdu.status.as_slice(),
+        status,
         anchor: Anchor::Tpdu(links.number),
     };
-    output.page.begin_numbered(head);
+    output.page.begin_box(head);
     output.join();
     push_number(&mut output.sheet, links.number);
-    phrases::push_title(&mut output.page.lines, outline, name_of(tpdu));
+    phrases::push_title(&mut output.page.lines, outline, name);
     phrases::push_links(&mut output.page.lines, links);
     output.page.push_numbered(links.number, head);
     output.join();
@@ -107,7 +118,7 @@ fn tell_procedure(outline: &Outline, output: &mut Output)
     output.join();
 }
 
-/// Adds the rows of the data: as trees where they may be objects, and are some.
+/// Adds the row of the data: as a tree where they may be objects, and are some.
 fn tell_data(tpdu: &Tpdu, links: Links, mask: &Mask, output: &mut Output)
     requires asker { HasAsker tpdu.now.header.items links }
     ensures { PutsDataOf mask.now tpdu.now.way tpdu.now.header.items tpdu.now.moved.items
@@ -120,15 +131,14 @@ fn tell_data(tpdu: &Tpdu, links: Links, mask: &Mask, output: &mut Output)
         return;
     };
     let may_be_objects = way == Direction::FromCard || may_be_objects(tpdu, links);
-    let bytes = tpdu.moved.as_slice();
-    tell_shown(
+    let side = side_of(way);
+    tell_row(
         mask.shown(origin),
-        side_of(way),
-        true,
+        side,
         may_be_objects,
-        bytes,
+        tpdu.moved.as_slice(),
         mask,
-        &mut output.sheet,
+        output,
     );
 }
 
@@ -142,72 +152,64 @@ fn side_of(way: Direction) -> Side
     }
 }
 
-/// Adds the row of data, or the rest of a row, as far as they are shown: as a tree where they may
-/// be objects and are some, and else as digits, with text beside them.
-fn tell_shown(
+/// Adds the row of data, as far as they are shown.
+fn tell_row(
     shown: Shown,
     side: Side,
-    is_first: bool,
     may_be_objects: bool,
     bytes: &[u8],
     mask: &Mask,
-    sheet: &mut Sheet,
+    output: &mut Output,
 )
-    ensures { PutsData shown mask.now.tags.items side is_first may_be_objects bytes.now
-        sheet.old sheet.new }
+    ensures { PutsDataRow shown mask.now.tags.items side may_be_objects bytes.now output.old.sheet
+        output.new.sheet }
 {
-    if !tell_tree(shown, side, is_first, may_be_objects, bytes, mask, sheet) {
-        tell_plain(shown, side, is_first, bytes, sheet);
-    }
+    output.page.lines.clear();
+    push_shown(&mut output.page.lines, shown, may_be_objects, bytes, mask);
+    output.data_row(side);
 }
 
-/// Adds the row of data as a tree where they may be objects and are some; it answers whether it
-/// has.
-fn tell_tree(
-    shown: Shown,
-    side: Side,
-    is_first: bool,
-    may_be_objects: bool,
-    bytes: &[u8],
-    mask: &Mask,
-    sheet: &mut Sheet,
-) -> bool
-    ensures { PutsTree result shown mask.now.tags.items side is_first may_be_objects bytes.now
-        sheet.old sheet.new }
-{
-    may_be_tree(shown, may_be_objects) && push_tree(sheet, side, is_first, bytes, mask)
-}
-
-/// Whether data, as far as they are shown, may stand as a tree.
-fn may_be_tree(shown: Shown, may_be_objects: bool) -> bool
-    ensures { result ≡ may_be_tree shown may_be_objects }
+/// Adds the lines of data, as far as they are shown: as a tree where they may be objects and are
+/// some, and else as digits, with text beside them.
+fn push_shown(lines: &mut Sheet, shown: Shown, may_be_objects: bool, bytes: &[u8], mask: &Mask)
+    ensures { PutsLines (ShowsData shown mask.now.tags.items may_be_objects bytes.now)
+        lines.old lines.new }
 {
     match shown {
-        Shown::Nothing => false,
-        Shown::All | Shown::Objects => may_be_objects,
+        Shown::Nothing => push_hidden(lines),
+        Shown::Objects => {
+            if !push_tree(lines, may_be_objects, bytes, mask) {
+                push_hidden(lines);
+            }
+        }
+        Shown::All => {
+            if !push_tree(lines, may_be_objects, bytes, mask) {
+                push_digits(lines, bytes);
+            }
+        }
     }
 }
 
-/// Adds the row of data that stand as no tree.
-fn tell_plain(shown: Shown, side: Side, is_first: bool, bytes: &[u8], sheet: &mut Sheet)
-    ensures { PutsPlain shown side is_first bytes.now sheet.old sheet.new }
+/// Adds the line of data that are not shown.
+fn push_hidden(lines: &mut Sheet)
+    ensures { PutsLines (λ all. all ≡ hidden ∷ []) lines.old lines.new }
 {
-    match shown {
-        Shown::All => push_lines(sheet, side, is_first, bytes),
-        Shown::Objects | Shown::Nothing => push_hidden(sheet, side, is_first),
-    }
+    lines.push_str("\n**");
 }
 
 /// Adds the rows of what a command APDU has behind its data, and of the data that came in answer to
 /// it.
 fn tell_answer(tpdu: &Tpdu, links: Links, mask: &Mask, output: &mut Output)
-    ensures { Puts [] output.old.sheet output.new.sheet }
+    ensures { Joins output.old.sheet output.new.sheet }
 {
     if tpdu.way.is_none() {
         return;
     }
     tell_le(tpdu.le, output);
-    tell_answer_data(tpdu, links, mask, output);
+    if let Some(origin) = Origin::of_answer(tpdu, links) {
+        let bytes = tpdu.answer.as_slice();
+        tell_row(mask.shown(origin), Side::Card, true, bytes, mask, output);
+    }
 }
 
 /// Adds the row of Le behind the data of a command APDU, if it has one.
@@ -221,39 +223,16 @@ fn tell_le(le: Option<u8>, output: &mut Output)
     output.join();
 }
 
-/// Adds the row of the data that came in answer to a command APDU, if any came.
-fn tell_answer_data(tpdu: &Tpdu, links: Links, mask: &Mask, output: &mut Output)
-    ensures { Puts [] output.old.sheet output.new.sheet }
-{
-    if tpdu.answer.is_empty() {
-        return;
-    }
-    if let Some(origin) = Origin::of_answer(tpdu, links) {
-        let shown = mask.shown(origin);
-        tell_shown(
-            shown,
-            Side::Card,
-            true,
-            true,
-            tpdu.answer.as_slice(),
-            mask,
-            &mut output.sheet,
-        );
-    }
-}
-
 /// Adds the row of the status, or that the TPDU was cut off.
-fn tell_status(outline: &Outline, tpdu: &Tpdu, output: &mut Output)
-    ensures { Puts (status_text output.old.sheet.layout.medium
-        (status_side tpdu.now.header.items tpdu.now.status.items) tpdu.now.status.items ∷ [])
-        output.old.sheet output.new.sheet }
+fn tell_status(outline: &Outline, side: Side, status: &[u8], output: &mut Output)
+    ensures { PutsStatus side status.now output.old.sheet output.new.sheet }
 {
-    let status = tpdu.status.as_slice();
-    let side = status_side(tpdu);
+    let medium = output.sheet.layout().medium;
     push_status(&mut output.sheet, side, status);
     push_status_words(outline, &mut output.page);
-    output.page.push_rest(side, status.len());
+    output.page.push_rest(status.len());
     output.join();
+    output.sheet.push_str(behind(medium, side));
 }
 
 /// Which end says the status: nobody says one that is cut off.
@@ -274,59 +253,47 @@ fn push_status_words(outline: &Outline, page: &mut Page) {
         return;
     };
     push_meaning(&mut page.lines, header, status);
-    page.lines.push('\n');
 }
 
 /// Adds the rows of a chain that is dropped, and of what has come together, and ends the box.
-#[tactic(auto, using(crate::proofs::BoxLemmas::puts_end))]
-fn tell_end(tpdu: &Tpdu, links: Links, story: &Story, mask: &Mask, output: &mut Output)
-    ensures { Puts [] output.old.sheet output.new.sheet }
+fn tell_end(links: Links, origin: Option<Origin>, all: &[u8], mask: &Mask, output: &mut Output)
+    ensures { Joins output.old.sheet output.new.sheet }
 {
     if links.drops_after {
         output.page.told("after", "the chain is dropped\n");
     }
     output.join();
-    tell_whole(tpdu, links, story.whole(links.whole), mask, output);
+    tell_together(links.whole, origin, all, mask, output);
     output.page.close();
     output.join();
 }
 
-/// Adds the row of what has come together.
-#[tactic(auto, using(crate::proofs::BoxLemmas::puts_behind))]
-fn tell_whole(tpdu: &Tpdu, links: Links, bytes: &[u8], mask: &Mask, output: &mut Output)
-    ensures { Puts [] output.old.sheet output.new.sheet }
-{
-    let way = match links.whole {
-        Whole::None => return,
-        Whole::Value(_) => Direction::ToCard,
-        Whole::Response(_) => Direction::FromCard,
-    };
-    let Some(origin) = Origin::of(tpdu, links, way) else {
-        return;
-    };
-    if bytes.is_empty() {
-        return;
-    }
-    tell_together(links.whole, bytes.len(), output);
-    let shown = mask.shown(origin.of_all());
-    tell_shown(
-        shown,
-        Side::Told,
-        false,
-        true,
-        bytes,
-        mask,
-        &mut output.sheet,
-    );
-}
-
-/// Begins the row of what has come together with its size.
-fn tell_together(whole: Whole, size: usize, output: &mut Output)
+/// Adds the row of what has come together, if anything has.
+fn tell_together(
+    whole: Whole,
+    origin: Option<Origin>,
+    bytes: &[u8],
+    mask: &Mask,
+    output: &mut Output,
+)
     ensures { Joins output.old.sheet output.new.sheet }
 {
-    phrases::push_whole(&mut output.page.lines, whole, size);
-    output.page.begin_row(Side::Told, "together");
-    output.join();
+    if let Some(origin) = origin
+        && !bytes.is_empty()
+    {
+        tell_whole(whole, mask.shown(origin), bytes, mask, output);
+    }
+}
+
+/// Adds the row of what has come together, behind its size.
+fn tell_whole(whole: Whole, shown: Shown, bytes: &[u8], mask: &Mask, output: &mut Output)
+    ensures { PutsWhole whole shown mask.now.tags.items bytes.now output.old.sheet
+        output.new.sheet }
+{
+    output.page.lines.clear();
+    phrases::push_whole(&mut output.page.lines, whole, bytes.len() as u64);
+    push_shown(&mut output.page.lines, shown, true, bytes, mask);
+    output.lines_row(Side::Told, "together");
 }
 
 /// Whether the data of the terminal may be objects: not where they are a piece of a chain, a name

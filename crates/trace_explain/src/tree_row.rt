@@ -1,15 +1,13 @@
-//! The row of data that are a list of objects, as a tree.
+//! The lines of data that are a list of objects, as a tree.
 
-ghost use Rattle.std.specs.Prelude.{◌≡◌, ◌<◌, ◌-◌, ◌++◌, codes, false};
-ghost use Rattle.trace_explain.specs.Sheets.{Adds, PutsFurther, PutsObjects, PutsTreeRow, PutsValue};
-ghost use Rattle.trace_explain.specs.Trees.{further_line, indent, object_line, value_width};
-ghost use Rattle.trace_explain.specs.Written.{content, line_of};
+ghost use Rattle.std.specs.Prelude.{◌≡◌, ◌<◌, ◌∷◌};
+ghost use Rattle.trace_explain.specs.Sheets.{Adds, PutsAny, PutsValue};
+ghost use Rattle.trace_explain.specs.Trees.{AreTree, IsTree, indent, object, value_width};
 
-use crate::ascii::is_text;
-use crate::layout::Side;
+use crate::ascii::{cut, is_text, push_content, push_lines};
 use crate::mask::Mask;
+use crate::row::push_spaces;
 use crate::sheet::Sheet;
-use crate::shown::{cut, data_before, data_end, line_end, push_content};
 use tlv_core::{Objects, Tag};
 
 /// How many bytes of a value stand in a line: with a tag of three bytes and at level 16 they come
@@ -19,101 +17,75 @@ const VALUE_BYTES: usize = 24;
 /// The same of a value that is text.
 const VALUE_TEXT: usize = 15;
 
-/// What stands in the place of a value that is not shown.
-const NO_VALUE: &str = " **";
-
-/// Adds a row of data that are a list of objects, or the rest of a row, with a line for each
-/// object, two spaces further in for each level below the first, and more lines for a long value,
-/// but for values that are not shown. Nothing where they are no list of objects, or hold none; it
-/// answers whether it has.
-pub fn push_tree(sheet: &mut Sheet, side: Side, is_first: bool, bytes: &[u8], mask: &Mask) -> bool
-    ensures { PutsTreeRow result mask.now.tags.items side is_first bytes.now sheet.old sheet.new }
+/// Adds a line for each object of data that may be objects and are some, two spaces further in for
+/// each level below the first, and more lines for a long value, but for values that are not shown.
+/// It answers whether there are any.
+pub fn push_tree(lines: &mut Sheet, may_be_objects: bool, bytes: &[u8], mask: &Mask) -> bool
+    ensures { PutsAny (IsTree mask.now.tags.items may_be_objects bytes.now) result
+        lines.old lines.new }
 {
+    if !may_be_objects {
+        return false;
+    }
     match Objects::over(bytes) {
-        Ok(objects) => {
-            if !push_objects(sheet, side, is_first, objects, mask) {
-                return false;
-            }
-            let medium = sheet.layout().medium;
-            sheet.push_str(data_end(medium, side));
-            true
-        }
+        Ok(objects) => push_objects(lines, objects, mask),
         Err(_) => false,
     }
 }
 
 /// Adds the lines of objects; it answers whether there are any.
-fn push_objects(
-    sheet: &mut Sheet,
-    side: Side,
-    is_first: bool,
-    objects: Objects<'_>,
-    mask: &Mask,
-) -> bool
-    ensures { PutsObjects mask.now.tags.items side is_first objects.entry.bytes
-        objects.entry.level sheet.old result sheet.new }
+fn push_objects(lines: &mut Sheet, objects: Objects<'_>, mask: &Mask) -> bool
+    ensures { PutsAny (AreTree mask.now.tags.items objects.entry.bytes objects.entry.level) result
+        lines.old lines.new }
 {
     let mut objects = objects;
-    let mut starts = is_first;
     let mut some = false;
     'listing: while let Some(object) = objects.next() {
         let tag = object.tag();
         let level = object.level();
+        push_object(lines, level, tag);
         if mask.has(tag) {
-            push_line(sheet, side, starts, level, tag, NO_VALUE);
+            lines.push_str(" **");
         } else if let Some(children) = object.children() {
-            push_line(sheet, side, starts, level, tag, "");
-            push_objects(sheet, side, false, children, mask);
+            push_objects(lines, children, mask);
         } else {
-            push_value(sheet, side, starts, level, tag, object.value());
+            push_value(lines, level, object.value());
         }
-        starts = false;
         some = true;
     }
     some
 }
 
-/// Adds the line of an object, with these words behind its tag.
-fn push_line(sheet: &mut Sheet, side: Side, is_first: bool, level: u8, tag: Tag, words: &str)
-    ensures { Adds sheet.old (line_of sheet.old.layout.medium side is_first
-        (object_line level tag words.now)) sheet.new }
+/// Begins the line of an object.
+fn push_object(lines: &mut Sheet, level: u8, tag: Tag)
+    ensures { Adds lines.old (10 ∷ object level tag) lines.new }
 {
-    let medium = sheet.layout().medium;
-    sheet.push_str(data_before(medium, side, is_first));
-    push_object(sheet, level, tag, words);
-    sheet.push_str(line_end(medium));
+    lines.push_str("\n");
+    push_spaces(lines, indent(level));
+    lines.push_hex(tag.bytes());
 }
 
-/// Adds what stands in the line of an object.
-fn push_object(sheet: &mut Sheet, level: u8, tag: Tag, words: &str)
-    ensures { Adds sheet.old (object_line level tag words.now) sheet.new }
+/// How many spaces stand before an object of this level.
+fn indent(level: u8) -> usize
+    ensures { result ≡ indent level }
 {
-    push_indent(sheet, level);
-    sheet.push_hex(tag.bytes());
-    sheet.push_str(words);
+    usize::from(level.saturating_sub(1)) * 2
 }
 
-/// Adds two spaces for each level below the first.
-fn push_indent(sheet: &mut Sheet, level: u8)
-    ensures { Adds sheet.old (indent (level - 1)) sheet.new }
-{
-    for above in 1..level {
-        sheet.push_str("  ");
-    }
-}
-
-/// Adds an object with its value, `-` where it is empty, in as many lines as it takes.
-fn push_value(sheet: &mut Sheet, side: Side, is_first: bool, level: u8, tag: Tag, value: &[u8])
-    ensures { PutsValue side is_first level tag value.now sheet.old sheet.new }
+/// Adds the value of an object behind its tag, `-` where it is empty, in as many lines as it takes.
+fn push_value(lines: &mut Sheet, level: u8, value: &[u8])
+    ensures { PutsValue level value.now lines.old lines.new }
 {
     if value.is_empty() {
-        push_line(sheet, side, is_first, level, tag, " -");
+        lines.push_str(" -");
         return;
     }
     let is_text = is_text(value);
-    let (line, rest) = cut(value, value_width(is_text));
-    push_first(sheet, side, is_first, level, tag, is_text, line);
-    push_others(sheet, side, level, is_text, rest);
+    let width = value_width(is_text);
+    let (line, rest) = cut(value, width);
+    lines.push_str(" ");
+    push_content(lines, is_text, line);
+    push_lines(lines, indent(level) + 5, width, is_text, rest);
 }
 
 /// How many bytes of a value stand in a line, which are text or not.
@@ -122,76 +94,4 @@ fn value_width(is_text: bool) -> usize
     ensures some { 0 < result }
 {
     if is_text { VALUE_TEXT } else { VALUE_BYTES }
-}
-
-/// Adds the first line of an object with these bytes of its value, which are text or not.
-fn push_first(
-    sheet: &mut Sheet,
-    side: Side,
-    is_first: bool,
-    level: u8,
-    tag: Tag,
-    is_text: bool,
-    bytes: &[u8],
-)
-    ensures { Adds sheet.old (line_of sheet.old.layout.medium side is_first
-        (object_line level tag (codes " " ++ content sheet.old.layout.medium is_text bytes.now)))
-        sheet.new }
-{
-    let medium = sheet.layout().medium;
-    sheet.push_str(data_before(medium, side, is_first));
-    push_object_with(sheet, level, tag, is_text, bytes);
-    sheet.push_str(line_end(medium));
-}
-
-/// Adds what stands in that line.
-fn push_object_with(sheet: &mut Sheet, level: u8, tag: Tag, is_text: bool, bytes: &[u8])
-    ensures { Adds sheet.old (object_line level tag
-        (codes " " ++ content sheet.old.layout.medium is_text bytes.now)) sheet.new }
-{
-    push_indent(sheet, level);
-    sheet.push_hex(tag.bytes());
-    push_behind(sheet, is_text, bytes);
-}
-
-/// Adds bytes behind a tag.
-fn push_behind(sheet: &mut Sheet, is_text: bool, bytes: &[u8])
-    ensures { Adds sheet.old (codes " " ++ content sheet.old.layout.medium is_text bytes.now)
-        sheet.new }
-{
-    sheet.push_str(" ");
-    push_content(sheet, is_text, bytes);
-}
-
-/// Adds the lines of what is left of a value behind its first line.
-fn push_others(sheet: &mut Sheet, side: Side, level: u8, is_text: bool, bytes: &[u8])
-    ensures { PutsFurther side level is_text bytes.now sheet.old sheet.new }
-{
-    let mut rest = bytes;
-    'lines: while !rest.is_empty() {
-        let (line, others) = cut(rest, value_width(is_text));
-        push_further(sheet, side, level, is_text, line);
-        rest = others;
-    }
-}
-
-/// Adds a line with more bytes of a value.
-fn push_further(sheet: &mut Sheet, side: Side, level: u8, is_text: bool, bytes: &[u8])
-    ensures { Adds sheet.old (line_of sheet.old.layout.medium side false
-        (further_line level (content sheet.old.layout.medium is_text bytes.now))) sheet.new }
-{
-    let medium = sheet.layout().medium;
-    sheet.push_str(data_before(medium, side, false));
-    push_below(sheet, level, is_text, bytes);
-    sheet.push_str(line_end(medium));
-}
-
-/// Adds what stands in that line.
-fn push_below(sheet: &mut Sheet, level: u8, is_text: bool, bytes: &[u8])
-    ensures { Adds sheet.old
-        (further_line level (content sheet.old.layout.medium is_text bytes.now)) sheet.new }
-{
-    push_indent(sheet, level);
-    sheet.push_str("     ");
-    push_content(sheet, is_text, bytes);
 }

@@ -7,8 +7,8 @@ decreases-push_objects l = 17 - l.objects.level
 
 -- the lines of the objects so far, and what is left
 abbrev pub invariant-listing : goal.invariant-listing
-invariant-listing l = Going l.mask.tags.items l.side l.fn.is_first l.fn.objects l.objects
-    l.initial.sheet l.sheet l.starts l.some
+invariant-listing l =
+    Going l.mask.tags.items l.fn.objects l.objects l.initial.lines l.lines l.some
 
 abbrev pub decreases-listing : goal.decreases-listing
 decreases-listing l = length l.objects.bytes

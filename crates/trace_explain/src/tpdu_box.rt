@@ -206,8 +206,10 @@ fn tell_answer(tpdu: &Tpdu, links: Links, mask: &Mask, output: &mut Output)
         return;
     }
     tell_le(tpdu.le, output);
-    if let Some(origin) = Origin::of_answer(tpdu, links) {
-        let bytes = tpdu.answer.as_slice();
+    let bytes = tpdu.answer.as_slice();
+    if let Some(origin) = Origin::of_answer(tpdu, links)
+        && !bytes.is_empty()
+    {
         tell_row(mask.shown(origin), Side::Card, true, bytes, mask, output);
     }
 }

@@ -55,6 +55,9 @@ puts_one x a b h = record {
   text = λ w. (x, h.text w, ([], [], sym (append-nil x), tt));
 }
 
+pub joins_both : (a b c : Sheet) → Joins a b → Joins b c → Joins a c
+joins_both a b c (x, h) (y, k) = (x ++ y, adds_both x y a b c h k)
+
 same_medium : (a b : Sheet) → b.layout ≡ a.layout → b.layout.medium ≡ a.layout.medium
 same_medium a b e = ap (λ (x : Layout). x.medium) e
 
@@ -81,32 +84,35 @@ pub boxed : (mask : Mask) (number line : ℕ) (t : Told) (header status : List �
     → Adds c (header_row c.layout.medium header) d → Joins d e
     → PutsDataOf mask t.way t.header t.moved e f → Joins f g → PutsStatus s status g h → Joins h i
     → PutsBox mask number line t a i
-boxed mask number line t header status s a b c d e f g h i refl refl refl title time head procedure
-    (text, shows, adds) answer (words, ends) end =
-    let row : Medium → List ℕ = λ m. status_row m s status words in
-    let to_c : Puts (number_text number ∷ line_text a.layout.medium line ∷ []) a c =
-    puts_both (number_text number ∷ line_text a.layout.medium line ∷ []) [] a b c title
-    (puts_words b c time) in
-    let to_d = puts_next (number_text number ∷ line_text a.layout.medium line ∷ [])
-    (λ m. header_row m header ∷ []) a c d to_c (puts_one (header_row c.layout.medium header) c d
-    head) in
+boxed mask number line t header status s a b c d e f g h i header_is status_is s_is title time head
+    procedure (text, shows, adds) answer (words, ends) end =
+    let side : Side = status_side t.header t.status in
+    let row : Medium → List ℕ = λ m. status_row m side t.status words in
+    let H : List ℕ → Type 0 = λ x. Adds c (header_row c.layout.medium x) d in
+    let S : Side → Type 0 = λ x. Adds g (status_row g.layout.medium x status words) h in
+    let T : List ℕ → Type 0 = λ x. Adds g (status_row g.layout.medium side x words) h in
+    let first : List (List ℕ) = number_text number ∷ line_text a.layout.medium line ∷ [] in
+    let to_c : Puts first a c = puts_both first [] a b c title (puts_words b c time) in
     let front : List (List ℕ) = number_text number ∷ line_text a.layout.medium line
-    ∷ header_row a.layout.medium header ∷ [] in
+    ∷ header_row a.layout.medium t.header ∷ [] in
+    let to_d : Puts front a d = puts_next first (λ m. header_row m t.header ∷ []) a c d to_c
+    (puts_one (header_row c.layout.medium t.header) c d (subst H header_is head)) in
     let to_e : Puts front a e = puts_both front [] a d e to_d (puts_words d e procedure) in
-    let to_f : Puts (front ++ text ∷ []) a f =
-    puts_both front (text ∷ []) a e f to_e (puts_one text e f adds) in
-    let to_g : Puts (front ++ text ∷ []) a g =
-    puts_both (front ++ text ∷ []) [] a f g to_f (puts_words f g answer) in
-    let to_h : Puts (front ++ text ∷ row a.layout.medium ∷ []) a h =
-    puts_next (front ++ text ∷ []) (λ m. row m ∷ []) a g h to_g
-    (puts_one (row g.layout.medium) g h ends) in
+    let most : List (List ℕ) = number_text number ∷ line_text a.layout.medium line
+    ∷ header_row a.layout.medium t.header ∷ text ∷ [] in
+    let to_f : Puts most a f = puts_both front (text ∷ []) a e f to_e (puts_one text e f adds) in
+    let to_g : Puts most a g = puts_both most [] a f g to_f (puts_words f g answer) in
+    let all : List (List ℕ) = number_text number ∷ line_text a.layout.medium line
+    ∷ header_row a.layout.medium t.header ∷ text ∷ row a.layout.medium ∷ [] in
+    let to_h : Puts all a h = puts_next most (λ m. row m ∷ []) a g h to_g
+    (puts_one (row g.layout.medium) g h (subst T status_is (subst S s_is ends))) in
     let P : Medium → Type 0 = λ m. DataText m mask t.way t.header t.moved text in (
-      front ++ text ∷ row a.layout.medium ∷ [],
+      all,
       record {
         moved = text;
         words = words;
         shows = subst P (same_medium a e to_e.layout) shows;
         parts_are = refl;
       },
-      puts_both (front ++ text ∷ row a.layout.medium ∷ []) [] a h i to_h (puts_words h i end),
+      puts_both all [] a h i to_h (puts_words h i end),
     )

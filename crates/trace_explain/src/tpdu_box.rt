@@ -261,12 +261,19 @@ fn push_status_words(outline: &Outline, page: &mut Page) {
 fn tell_end(links: Links, origin: Option<Origin>, all: &[u8], mask: &Mask, output: &mut Output)
     ensures { Joins output.old.sheet output.new.sheet }
 {
+    tell_after(links, output);
+    tell_together(links.whole, origin, all, mask, output);
+    output.page.close();
+    output.join();
+}
+
+/// Adds the row of a chain that a TPDU drops.
+fn tell_after(links: Links, output: &mut Output)
+    ensures { Joins output.old.sheet output.new.sheet }
+{
     if links.drops_after {
         output.page.told("after", "the chain is dropped\n");
     }
-    output.join();
-    tell_together(links.whole, origin, all, mask, output);
-    output.page.close();
     output.join();
 }
 

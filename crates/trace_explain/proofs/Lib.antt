@@ -5,7 +5,6 @@ pub mod TurnLemmas
 pub mod TraceLemmas
 pub mod DigitLemmas
 pub mod BareLemmas
-pub mod LogVectors
 pub mod LogLemmas
 pub mod ExchangeLemmas
 pub mod SheetLemmas

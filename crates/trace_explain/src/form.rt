@@ -32,26 +32,21 @@ pub enum Form {
     DeviceColon,
 }
 
-/// The names of the forms.
+/// The names of the forms: words of the first four, whose signs a shell takes for its own, and the
+/// terminal's signs of the others.
 pub const FORM_NAMES: [&str; 10] = [
     "angle", "angles", "arrow", "double", "TX", "TX:", "Tx:", "T:", "IFD", "IFD:",
 ];
 
 impl Form {
-    /// The form of this name.
+    /// The form of one of the names.
     pub fn of_name(name: &str) -> Option<Form> {
         match name {
             "angle" => Some(Form::Angle),
             "angles" => Some(Form::Angles),
             "arrow" => Some(Form::Arrow),
             "double" => Some(Form::Double),
-            "TX" => Some(Form::Wire),
-            "TX:" => Some(Form::WireColon),
-            "Tx:" => Some(Form::WireMixed),
-            "T:" => Some(Form::Letter),
-            "IFD" => Some(Form::Device),
-            "IFD:" => Some(Form::DeviceColon),
-            _ => None,
+            sign => Some(Sign::of_word(sign.as_bytes())?.form),
         }
     }
 

@@ -1,9 +1,10 @@
 //! What comes before a dialogue: the card's answer to reset, and PPS exchanges.
-ghost use Rattle.std.specs.Prelude.{◌≡◌, ◌++◌, ◌∷◌, [], OnOk};
+ghost use Rattle.std.specs.Prelude.{◌≡◌, [], OnOk};
 ghost use Rattle.atr_core.specs.Conventions.{as_sent};
 ghost use Rattle.atr_core.specs.FirstFault.{first_fault};
 ghost use Rattle.trace_explain.specs.Openings.{after_answer, begun, has_answered, has_begun, is_full, may_ask, opening_of, opens, role_of, unopened};
 
+use crate::digits::push;
 use crate::opening::{Role, Stage, after_answer, is_direct, is_full, role_at};
 use atr_core::Convention;
 use std::alloc::{AllocError, Global};
@@ -205,11 +206,4 @@ impl Preface {
         };
         Ok(())
     }
-}
-
-/// Appends a character.
-fn push(bytes: &mut Vec<u8>, byte: u8) -> Result<(), AllocError>
-    ensures { OnOk result (bytes.new.items ≡ bytes.old.items ++ byte ∷ []) }
-{
-    bytes.push(byte).map_err(AllocError::from)
 }

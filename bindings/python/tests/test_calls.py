@@ -9,6 +9,7 @@ from galliumtoad import (
     Answer,
     Atr,
     AtrError,
+    BlockError,
     BuildError,
     CallError,
     Card,
@@ -74,7 +75,7 @@ def test_each_code_has_its_kind():
         6: {TransportError},
         7: {AtrError},
         8: {PpsError},
-        9: {LineError},
+        9: {BlockError},
     }
     with raises(OutOfMemory, "GT_MEMORY"):
         checked(lib.GT_MEMORY)

@@ -63,9 +63,19 @@ class PpsError(Error):
     """The bytes are no PPS response."""
 
 
+class BlockError(Error):
+    """An end at T=1 gave up. `outcome` says whether the card has carried out the command: `no`,
+    `unknown` or `in part`."""
+
+    def __init__(self, code: int, outcome: Optional[int] = None) -> None:
+        super().__init__(code)
+        names = {lib.GT_NOT_CARRIED_OUT: "no", lib.GT_UNKNOWN: "unknown", lib.GT_IN_PART: "in part"}
+        self.outcome = names.get(outcome)
+
+
 # The header numbers its codes by kind, ten for each, and CallError has twenty.
 _KINDS: list[type[Error]] = [CallError, CallError, BuildError, LineError, ObjectsError]
-_KINDS += [CommandError, TransportError, AtrError, PpsError, LineError]
+_KINDS += [CommandError, TransportError, AtrError, PpsError, BlockError]
 
 
 def checked(code: int, place: Any = None) -> int:

@@ -83,5 +83,5 @@ def code(file):
 
 
 def test_the_package_stays_small():
-    files = [*TOP.glob("src/galliumtoad/*.py"), TOP / "setup.py", TOP / "build_library.py"]
-    assert 500 < sum(len(code(it)) for it in files) <= 700
+    """The modules that a program imports; `setup.py` and `build_library.py` only build them."""
+    assert 500 < sum(len(code(it)) for it in TOP.glob("src/galliumtoad/*.py")) <= 700

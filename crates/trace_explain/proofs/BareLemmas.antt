@@ -1,7 +1,7 @@
 -- A command without data whose card repeats INS: what a tap has heard of it is a whole dialogue.
 use Rattle.std.proofs.Common.{◌≡◌, ℕ, ◌<◌, List, [], ◌∷◌, ◌++◌, length, slice_index, fold, map, refl, sym, ap, subst, ◌∙◌, append-nil, append_assoc, Bool, true, false, ◌==◌, ◌&&◌, Some, None, inr, lit<, arith}
 use Rattle.std.specs.List.{AllByRecursion, flat_map}
-use Rattle.std.proofs.lemmas.Bool.{eqb-true}
+use Rattle.std.proofs.lemmas.Bool.{eqb-true, ne_eqb}
 use Rattle.apdu_core.specs.HeaderBytes.{header_bytes}
 use Rattle.apdu_core.specs.StatusWord.{IsStatusWord, count}
 use Rattle.t0_core.specs.declared.direction.Direction.{Direction}
@@ -24,7 +24,7 @@ use Rattle.trace_explain.specs.declared.tpdu.Tpdu.{Tpdu}
 use Rattle.trace_explain.specs.Told.{Told, told_by, counted, uncounted, untold, noted, is_last, Tells, TellsFront}
 use Rattle.trace_explain.specs.Noted.{AreStatus, HasNoted, IsBare, IsNoted, bared, ended_by, is_bare}
 use Rattle.trace_explain.proofs.ExplainedLemmas.{both_hold}
-use Rattle.trace_explain.proofs.NotedLemmas.{alone, heard_inside, heard_reset, tells_nothing, tells_one_more, told_more}
+use Rattle.trace_explain.proofs.NotedLemmas.{alone, cut_of, heard_inside, heard_reset, tells_both, tells_nothing}
 
 -- with P3 00 no data move to the card
 none_to_card : (segments : List Step) → all_moves segments 0 ≡ 0
@@ -196,27 +196,27 @@ heard_bare events told old new n bare status tap_is is =
       are_noted = all_more IsNoted n.items (Whole d) n.are_noted (is_so.0, inr is_so.1);
       is_front = lit< tt;
       stands = subst S (sym tap_is) (refl, lit< tt);
-      are_told = tells_one_more n.items told d (bared t) n.are_told is_so.3;
+      are_told = tells_both n.items told (Whole d ∷ []) (bared t ∷ []) n.are_told
+          (is_so.3, tt);
       under_way = subst Q (sym is) tells_nothing;
     }
 
 -- and with the next character of the terminal a header begins
-pub heard_behind : (events : List Event) (before : List Told) (was now : List Tpdu) (whole : Tpdu)
+pub heard_behind : (events : List Event) (before : List Told) (whole : Tpdu)
     (old mid new : Listener) (h : Heard) (byte : ℕ)
-    → HasNoted events (before ++ map told_by was) old → is_bare (told_by old.under_way) ≡ true
+    → HasNoted events before old → is_bare (told_by old.under_way) ≡ true
     → AreStatus (told_by old.under_way).moved → mid.tap ≡ afresh → told_by mid.under_way ≡ untold
-    → now ≡ was ++ whole ∷ [] → told_by whole ≡ bared (told_by old.under_way)
+    → told_by whole ≡ bared (told_by old.under_way)
     → ((es : List Event) (led : HasHeard es mid.tap) → HearsOn led h (Terminal, byte) new.tap)
     → h ≡ heard_at mid.tap Terminal byte
     → told_by new.under_way ≡ noted (told_by mid.under_way) h byte
-    → HasNoted (events ++ Passed (Terminal, byte) ∷ []) (before ++ map told_by now) new
-heard_behind events before was now whole old mid new h byte n bare status tap_is is more whole_is on
-    h_is noted_is =
-    let told = before ++ map told_by now in
-    let P : List Told → Type 0 = λ ts. HasNoted events ts mid in
+    → HasNoted (events ++ Passed (Terminal, byte) ∷ []) (before ++ told_by whole ∷ []) new
+heard_behind events before whole old mid new h byte n bare status tap_is is whole_is on h_is
+    noted_is =
+    let told = before ++ told_by whole ∷ [] in
+    let P : Told → Type 0 = λ t. HasNoted events (before ++ t ∷ []) mid in
     let ended : HasNoted events told mid =
-    subst P (told_more before was now whole (bared (told_by old.under_way)) more whole_is)
-    (heard_bare events (before ++ map told_by was) old mid n bare status tap_is is) in
+    subst P (sym whole_is) (heard_bare events before old mid n bare status tap_is is) in
     heard_inside events told mid new h (Terminal, byte) ended
     (on (passed (front_characters ended.front)) (alone events told mid ended))
     (ap is_last (h_is ∙ ap (λ p. heard_at p Terminal byte) tap_is)) noted_is
@@ -228,6 +228,16 @@ header_refused p byte why is refused =
     absurd (let no : Some why ≡ None =
     refused ∙ ap (λ q. unheard_at q Terminal byte) is in cc)
 
+-- something of such a command has come
+bare_some : (t : Told) (n : ℕ) → n ≡ length t.header → is_bare t ≡ true → (front : Front)
+    → TellsFront t front → AreStatus t.moved → (n == 0) ≡ false
+bare_some t n n_is bare (In_header bytes) tells status =
+    let P : List ℕ → Type 0 = λ xs. AreStatus xs in absurd (subst P tells.0.moved_is status)
+bare_some t n n_is bare (In_body b) tells status =
+    ne_eqb n 0 (omega (arith, n_is, ap length tells.0.header_is))
+bare_some t n n_is bare (After_first b sw1) tells status =
+    ne_eqb n 0 (omega (arith, n_is, ap length tells.0.header_is))
+
 -- a reset has come, behind such a command or anything else
 pub reset_noted : (events : List Event) (told : List Told) (old new : Listener)
     → HasNoted events told old → new.tap ≡ afresh → told_by new.under_way ≡ untold
@@ -238,14 +248,20 @@ reset_noted events told old new n tap_is is status = split (is_bare t) refl
     t : Told
     t = told_by old.under_way
 
-    split : (v : Bool) → is_bare t ≡ v
-        → HasNoted (events ++ Reset ∷ []) (told ++ ended_by t) new
+    P : List Told → Type 0
+    P ts = HasNoted (events ++ Reset ∷ []) ts new
+
+    split : (v : Bool) → is_bare t ≡ v → P (told ++ ended_by t)
     split true e =
-        let P : List Told → Type 0 = λ ts. HasNoted (events ++ Reset ∷ []) (told ++ ts) new in
-        let none : ended_by t ≡ bared t ∷ [] = rw e refl in
-        subst P (sym none) (heard_reset events (told ++ bared t ∷ []) new new
+        let some = bare_some t (length t.header) refl e n.front n.under_way (status e) in
+        let same : ended_by t ≡ bared t ∷ [] = rw some (rw e refl) in
+        let none : cut_of (told_by new.under_way) ≡ [] = ap cut_of is in
+        let nothing : (told ++ bared t ∷ []) ++ cut_of (told_by new.under_way)
+        ≡ told ++ bared t ∷ [] =
+        ap (λ ts. (told ++ bared t ∷ []) ++ ts) none ∙ append-nil (told ++ bared t ∷ []) in
+        subst P (nothing ∙ ap (λ ts. told ++ ts) (sym same))
+        (heard_reset events (told ++ bared t ∷ []) new new
         (heard_bare events told old new n e (status e) tap_is is) tap_is is)
     split false e =
-        let P : List Told → Type 0 = λ ts. HasNoted (events ++ Reset ∷ []) ts new in
-        let none : told ++ ended_by t ≡ told = rw e (append-nil told) in
-        subst P (sym none) (heard_reset events told old new n tap_is is)
+        let same : cut_of t ≡ ended_by t = rw e refl in
+        subst P (ap (λ ts. told ++ ts) same) (heard_reset events told old new n tap_is is)

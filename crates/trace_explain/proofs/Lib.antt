@@ -1,7 +1,7 @@
 pub mod NotedLemmas
 pub mod OpeningLemmas
 pub mod ExplainedLemmas
-pub mod TurnLemmas
+pub mod TakenLemmas
 pub mod TraceLemmas
 pub mod DigitLemmas
 pub mod BareLemmas

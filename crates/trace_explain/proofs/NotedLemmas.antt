@@ -1,15 +1,14 @@
 -- What is told of dialogues, one character or one reset further.
-use Rattle.std.proofs.Common.{◌≡◌, ℕ, ◌<◌, List, [], ◌∷◌, ◌++◌, refl, sym, subst, ◌∙◌, ap, ◌⊎◌, inl, inr, lit<, true, false, append_assoc, append-nil, map, ◌+◌, length, take, get_or}
+use Rattle.std.proofs.Common.{◌≡◌, ◌<◌, ℕ, List, [], ◌∷◌, ◌++◌, ◌==◌, if◌then◌else◌, refl, sym, subst, ◌∙◌, ap, ◌⊎◌, inl, inr, lit<, true, false, append_assoc, append-nil, ◌+◌, length, arith}
 use Rattle.std.specs.List.{AllByRecursion, flat_map}
-use Rattle.std.proofs.lemmas.List.{map-append, take_more}
+use Rattle.std.proofs.lemmas.Bool.{ne_eqb}
 use Rattle.std.proofs.lemmas.List.Concat.{flat_map-append}
 use Rattle.std.proofs.lemmas.List.Sums.{fold-append}
 use Rattle.t0_core.specs.declared.direction.Direction.{Direction}
 use Rattle.t0_core.specs.declared.plan.Step.{Step}
 use Rattle.t0_core.specs.declared.heard.Heard.{Heard}
 use Rattle.t0_core.specs.declared.heard.Heard.TheVariants as heard
-use Rattle.t0_core.specs.declared.end.End.{End}
-use Rattle.t0_core.specs.Character.{Character, sent_by}
+use Rattle.t0_core.specs.Character.{Character}
 use Rattle.t0_core.specs.Dialogue.{Body, Dialogue}
 use Rattle.t0_core.specs.Front.{Front, In_header, In_body, After_first, GoesOn, Ends, fresh, front_characters, with_segment, with_moved}
 use Rattle.t0_core.specs.History.{Event, Passed, Reset, Item, Whole, Cut_off, events_of, passed}
@@ -17,7 +16,6 @@ use Rattle.t0_core.specs.TapSide.{Place, TapStandsAt, Makes, Concludes, turned, 
 use Rattle.t0_core.specs.TapHistory.{HasHeard, HearsOn, IsOverheard}
 use Rattle.t0_core.specs.TapLaws as law
 use Rattle.trace_explain.specs.declared.listener.Listener.{Listener}
-use Rattle.trace_explain.specs.declared.tpdu.Tpdu.{Tpdu}
 use Rattle.trace_explain.specs.Told.{Told, told_by, counted, uncounted, untold, noted, is_last, TellsBody, TellsFront, Tells}
 use Rattle.trace_explain.specs.Noted.{HasNoted, IsNoted, TellsItems}
 
@@ -151,23 +149,40 @@ ends_last (heard.Data direction) d ends_so last = absurd ends_so
 ends_last heard.FirstStatus d ends_so last = absurd ends_so
 ends_last (heard.SecondStatus said status) d ends_so last = absurd (cc)
 
--- one dialogue more, or one that was cut off
-pub tells_one_more : (items : List Item) (told : List Told) (d : Dialogue) (t : Told)
-    → TellsItems items told → Tells t d → TellsItems (items ++ Whole d ∷ []) (told ++ t ∷ [])
-tells_one_more [] [] d t h this = (this, tt)
-tells_one_more [] (u ∷ told) d t h this = absurd h
-tells_one_more (Whole e ∷ items) [] d t h this = absurd h
-tells_one_more (Whole e ∷ items) (u ∷ told) d t h this =
-    (h.0, tells_one_more items told d t h.1 this)
-tells_one_more (Cut_off part ∷ items) told d t h this = tells_one_more items told d t h this
+-- dialogues behind others
+pub tells_both : (items : List Item) (told : List Told) (more : List Item) (later : List Told)
+    → TellsItems items told → TellsItems more later → TellsItems (items ++ more) (told ++ later)
+tells_both [] [] more later h k = k
+tells_both [] (t ∷ told) more later h k = absurd h
+tells_both (Whole d ∷ items) [] more later h k = absurd h
+tells_both (Whole d ∷ items) (t ∷ told) more later h k =
+    (h.0, tells_both items told more later h.1 k)
+tells_both (Cut_off [] ∷ items) told more later h k = tells_both items told more later h k
+tells_both (Cut_off (c ∷ part) ∷ items) [] more later h k = absurd h
+tells_both (Cut_off (c ∷ part) ∷ items) (t ∷ told) more later h k =
+    (h.0, tells_both items told more later h.1 k)
 
-tells_cut_off : (items : List Item) (told : List Told) (part : List Character)
-    → TellsItems items told → TellsItems (items ++ Cut_off part ∷ []) told
-tells_cut_off [] [] part h = tt
-tells_cut_off [] (u ∷ told) part h = absurd h
-tells_cut_off (Whole e ∷ items) [] part h = absurd h
-tells_cut_off (Whole e ∷ items) (u ∷ told) part h = (h.0, tells_cut_off items told part h.1)
-tells_cut_off (Cut_off other ∷ items) told part h = tells_cut_off items told part h
+-- what is told of one that is cut off, if any of it came
+abbrev pub cut_of : Told → List Told
+cut_of t = if length t.header == 0 then [] else t ∷ []
+
+cut_some : (t : Told) → 0 < length t.header → cut_of t ≡ t ∷ []
+cut_some t some =
+    ap (λ v. if v then [] else t ∷ []) (ne_eqb (length t.header) 0 (omega (arith, some)))
+
+of_body : (t : Told) (b : Body) → TellsBody t b → 0 < length t.header
+of_body t b h = omega (arith, ap length h.header_is)
+
+tells_part : (t : Told) (front : Front) → TellsFront t front
+    → TellsItems (Cut_off (front_characters front) ∷ []) (cut_of t)
+tells_part t (In_header []) h = rw h.0.header_is tt
+tells_part t (In_header (b ∷ bytes)) h =
+    rw (cut_some t (omega (arith, ap length h.0.header_is)))
+    ((In_header (b ∷ bytes), refl, h), tt)
+tells_part t (In_body b) h =
+    rw (cut_some t (of_body t b h.0)) ((In_body b, refl, h), tt)
+tells_part t (After_first b sw1) h =
+    rw (cut_some t (of_body t b h.0)) ((After_first b sw1, refl, h), tt)
 
 pub tells_nothing : TellsFront untold fresh
 tells_nothing = (record { header_is = refl; tally_is = refl; moved_is = refl }, refl)
@@ -267,25 +282,29 @@ heard_last events told old new h c n on last is = split on.goes
         let R : Front → Type 0 = λ f. TellsFront untold f in
         noted_on events (Passed c ∷ []) told (told ++ t2 ∷ []) old new n on.now
         (subst P (ap (λ items. n.items ++ items) (sym items_are))
-        (tells_one_more n.items told d t2 n.are_told
-        (noted_ends (told_by old.under_way) (turned on.way n.front) d h c
-        (tells_turned (told_by old.under_way) on.way n.front n.under_way) ends ends_so)))
+        (tells_both n.items told (Whole d ∷ []) (t2 ∷ []) n.are_told (
+          noted_ends (told_by old.under_way) (turned on.way n.front) d h c
+              (tells_turned (told_by old.under_way) on.way n.front n.under_way) ends ends_so,
+          tt,
+        )))
         (subst Q (sym is) (subst R (sym front_is) tells_nothing))
 
 -- a reset has come
 pub heard_reset : (events : List Event) (told : List Told) (old new : Listener)
     → HasNoted events told old → new.tap ≡ afresh → told_by new.under_way ≡ untold
-    → HasNoted (events ++ Reset ∷ []) told new
+    → HasNoted (events ++ Reset ∷ []) (told ++ cut_of (told_by old.under_way)) new
 heard_reset events told old new n tap_is is =
+    let t = told_by old.under_way in
     let part = front_characters n.front in
     let (cut, items_are, front_is) =
     law.heard_reset (passed part) old.tap new.tap tap_is (alone events told old n) in
-    let P : List Item → Type 0 = λ items. TellsItems items told in
-    let Q : Told → Type 0 = λ t. TellsFront t cut.front in
+    let P : List Item → Type 0 = λ items. TellsItems items (told ++ cut_of t) in
+    let Q : Told → Type 0 = λ x. TellsFront x cut.front in
     let R : Front → Type 0 = λ f. TellsFront untold f in
-    noted_on events (Reset ∷ []) told told old new n cut
+    noted_on events (Reset ∷ []) told (told ++ cut_of t) old new n cut
     (subst P (ap (λ items. n.items ++ items) (sym items_are))
-    (tells_cut_off n.items told part n.are_told))
+    (tells_both n.items told (Cut_off part ∷ []) (cut_of t) n.are_told
+    (tells_part t n.front n.under_way)))
     (subst Q (sym is) (subst R (sym front_is) tells_nothing))
 
 -- nothing has come
@@ -304,40 +323,3 @@ heard_nothing new is tap_is =
       are_told = tt;
       under_way = subst Q (sym is) tells_nothing;
     }
-
--- one more is told
-pub told_more : (before : List Told) (old new : List Tpdu) (whole : Tpdu) (t : Told)
-    → new ≡ old ++ whole ∷ [] → told_by whole ≡ t
-    → before ++ map told_by old ++ t ∷ [] ≡ before ++ map told_by new
-told_more before old new whole t more is =
-    append_assoc before (map told_by old) (t ∷ [])
-    ∙ ap (λ x. before ++ (map told_by old ++ x ∷ [])) (sym is)
-    ∙ ap (λ x. before ++ x) (sym (map-append told_by old (whole ∷ []))
-    ∙ ap (map told_by) (sym more))
-
-pub heard_told : (events : List Event) (before : List Told) (was now : List Tpdu) (whole : Tpdu)
-    (old new : Listener) (h : Heard) (c : Character)
-    (n : HasNoted events (before ++ map told_by was) old)
-    → HearsOn (alone events (before ++ map told_by was) old n) h c new.tap
-    → is_last h ≡ true → told_by new.under_way ≡ untold
-    → now ≡ was ++ whole ∷ [] → told_by whole ≡ noted (told_by old.under_way) h c.1
-    → HasNoted (events ++ Passed c ∷ []) (before ++ map told_by now) new
-heard_told events before was now whole old new h c n on last is more whole_is =
-    let P : List Told → Type 0 = λ told. HasNoted (events ++ Passed c ∷ []) told new in
-    subst P (told_more before was now whole (noted (told_by old.under_way) h c.1) more whole_is)
-    (heard_last events (before ++ map told_by was) old new h c n on last is)
-
--- the characters of a line up to a place, and one more
-pub events_more : (events : List Event) (from : End) (bytes : List ℕ) (place : ℕ)
-    → place < length bytes
-    → events ++ passed (sent_by from (take place bytes)) ++ Passed (from, get_or bytes place 0) ∷ []
-    ≡ events ++ passed (sent_by from (take (place + 1) bytes))
-events_more events from bytes place lt =
-    append_assoc events (passed (sent_by from (take place bytes)))
-    (Passed (from, get_or bytes place 0) ∷ [])
-    ∙ ap (λ x. events ++ x)
-    (sym (map-append (λ c. Passed c) (sent_by from (take place bytes))
-    ((from, get_or bytes place 0) ∷ []))
-    ∙ ap passed (sym (map-append (λ byte. (from, byte)) (take place bytes)
-    (get_or bytes place 0 ∷ [])))
-    ∙ ap (λ x. passed (sent_by from x)) (sym (take_more bytes place 0 lt)))

@@ -1,20 +1,21 @@
 -- The boxes that are added, in turn, where TPDUs are told.
-use Rattle.std.specs.Prelude.{◌≡◌, ℕ, List, [], ◌∷◌, ◌++◌, Bool, false, if◌then◌else◌, Option}
+use Rattle.std.specs.Prelude.{◌≡◌, ℕ, List, [], ◌∷◌, ◌++◌, map, Bool, false, Option}
 use Rattle.std.specs.Io.KnownBytes.{Appends}
 use Rattle.std.specs.String.{string_bytes}
 use Rattle.trace_explain.specs.declared.explainer.Explainer.{Explainer}
 use Rattle.trace_explain.specs.declared.layout.Layout.{Layout}
 use Rattle.trace_explain.specs.declared.layout.Medium.{Medium}
+use Rattle.trace_explain.specs.declared.listener.Listener.{Listener}
 use Rattle.trace_explain.specs.declared.mask.Mask.{Mask}
 use Rattle.trace_explain.specs.declared.sheet.Sheet.{Sheet}
 use Rattle.trace_explain.specs.Boxes.{IsBox, PutsBox}
-use Rattle.trace_explain.specs.Told.{Told, one_more}
+use Rattle.trace_explain.specs.Noted.{ended_by}
+use Rattle.trace_explain.specs.Told.{Told, one_more, told_by}
 use Rattle.trace_explain.specs.Written.{InTurn}
 
--- a box: of a TPDU that is whole, or of what came of one
+-- a box, of a TPDU or of what came of one
 pub record Boxed : Type 0 where
   pub told : Told
-  pub is_whole : Bool
   pub line : ℕ
   pub parts : List (List ℕ)
 
@@ -28,17 +29,16 @@ abbrev pub number_after : ℕ → List Boxed → ℕ
 number_after n [] = n
 number_after n (b ∷ boxes) = number_after (one_more n) boxes
 
--- the whole TPDUs of boxes
+-- what boxes tell
 abbrev pub told_in : List Boxed → List Told
-told_in [] = []
-told_in (b ∷ boxes) = (if b.is_whole then b.told ∷ [] else []) ++ told_in boxes
+told_in boxes = map (λ (b : Boxed). b.told) boxes
 
 abbrev pub parts_in : List Boxed → List (List ℕ)
 parts_in [] = []
 parts_in (b ∷ boxes) = b.parts ++ parts_in boxes
 
 -- Behind so many boxes a text has others, one after another, with any words between: they show
--- these whole TPDUs, in turn.
+-- these, in turn, and no others.
 pub record ShowsTold (m : Medium) (mask : Mask) (number : ℕ) (told : List Told) (text : List ℕ)
     (after : ℕ) : Type 0 where
   pub boxes : List Boxed
@@ -55,32 +55,45 @@ pub record AddsText (m : Medium) (mask : Mask) (number : ℕ) (told : List Told)
   pub text_is : string_bytes new.text ≡ string_bytes old.text ++ more
   pub shows : ShowsTold m mask number told more after
 
--- An explainer that writes what it tells, and no summary alone, has added the boxes of these whole
--- TPDUs in turn, where memory was not wanting.
-pub record AddsBoxes (told : List Told) (old new : Explainer) : Type 0 where
+-- how an explainer writes, how many boxes it has counted, and what is written
+pub record Account : Type 0 where
+  pub keeps : Bool
+  pub mask : Mask
+  pub number : ℕ
+  pub sheet : Sheet
+
+abbrev pub account_of : Explainer → Account
+account_of e = record {
+  keeps = e.keeps;
+  mask = e.mask;
+  number = e.story.number;
+  sheet = e.output.sheet;
+}
+
+-- One that writes what it tells, and no summary alone, has added the boxes of these in turn, and no
+-- others, where memory was not wanting.
+pub record Shows (told : List Told) (old new : Account) : Type 0 where
   pub keeps : new.keeps ≡ old.keeps
   pub mask : new.mask ≡ old.mask
-  pub layout : new.output.sheet.layout ≡ old.output.sheet.layout
-  pub adds : old.keeps ≡ false → old.output.sheet.layout.is_summary ≡ false
-      → new.output.sheet.is_cut ≡ false
-      → AddsText old.output.sheet.layout.medium old.mask old.story.number told
-      new.story.number old.output.sheet new.output.sheet
+  pub layout : new.sheet.layout ≡ old.sheet.layout
+  pub adds : old.keeps ≡ false → old.sheet.layout.is_summary ≡ false → new.sheet.is_cut ≡ false
+      → AddsText old.sheet.layout.medium old.mask old.number told new.number old.sheet new.sheet
+
+abbrev pub AddsBoxes : List Told → Explainer → Explainer → Type 0
+AddsBoxes told old new = Shows told (account_of old) (account_of new)
 
 -- the same of one box with this number, which is counted already
-pub record AddsBox (number : ℕ) (t : Told) (old new : Explainer) : Type 0 where
+pub record AddsBox (number line : ℕ) (t : Told) (old new : Account) : Type 0 where
   pub keeps : new.keeps ≡ old.keeps
   pub mask : new.mask ≡ old.mask
-  pub layout : new.output.sheet.layout ≡ old.output.sheet.layout
-  pub counted : new.story.number ≡ old.story.number
-  pub box : old.keeps ≡ false → old.output.sheet.layout.is_summary ≡ false
-      → PutsBox old.mask number old.began t old.output.sheet new.output.sheet
+  pub layout : new.sheet.layout ≡ old.sheet.layout
+  pub counted : new.number ≡ old.number
+  pub box : old.keeps ≡ false → old.sheet.layout.is_summary ≡ false
+      → PutsBox old.mask number line t old.sheet new.sheet
 
 -- what is written stays
-pub record StaysWritten (old new : Explainer) : Type 0 where
-  pub keeps : new.keeps ≡ old.keeps
-  pub mask : new.mask ≡ old.mask
-  pub counted : new.story.number ≡ old.story.number
-  pub sheet : new.output.sheet ≡ old.output.sheet
+abbrev pub StaysWritten : Explainer → Explainer → Type 0
+StaysWritten old new = account_of new ≡ account_of old
 
 -- how an explainer writes, and what of it is written out already
 pub record Out : Type 0 where
@@ -89,7 +102,7 @@ pub record Out : Type 0 where
   pub mask : Mask
   pub text : List ℕ
 
--- What was written has shown these whole TPDUs, since the explainer was made; it reads characters.
+-- What was written has shown these, since the explainer was made; it reads characters.
 pub record HasWritten (out : Out) (told : List Told) (e : Explainer) : Type 0 where
   pub hears : e.reading.of_tpdus ≡ false
   pub keeps : e.keeps ≡ out.keeps
@@ -106,11 +119,13 @@ out_with out more = record out { text = out.text ++ more }
 abbrev pub first_out : Layout → Mask → Out
 first_out layout mask = record { keeps = false; layout = layout; mask = mask; text = [] }
 
--- What a writer got, behind what it had, shows these whole TPDUs in turn, where it is known and no
--- summary alone is asked for.
-abbrev pub WritesTold : Layout → Mask → Option (List ℕ) → Option (List ℕ) → List Told → Type 0
-WritesTold layout mask old new told = layout.is_summary ≡ false → (text : List ℕ) × (number : ℕ)
-    × Appends old new text × ShowsTold layout.medium mask 0 told text number
+-- What a writer got, behind what it had, shows these in turn, and then what is under way at the end
+-- of the trace, where it is known and no summary alone is asked for.
+abbrev pub WritesTold
+    : Layout → Mask → Option (List ℕ) → Option (List ℕ) → List Told → Listener → Type 0
+WritesTold layout mask old new told l = layout.is_summary ≡ false → (text : List ℕ)
+    × (number : ℕ) × Appends old new text
+    × ShowsTold layout.medium mask 0 (told ++ ended_by (told_by l.under_way)) text number
 
 -- all of it is written out
 pub record WritesOut (old new : Explainer) : Type 0 where

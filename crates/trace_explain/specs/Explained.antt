@@ -1,38 +1,35 @@
 -- What an explainer that does not resume has explained, line after line.
-use Rattle.std.specs.Prelude.{◌≡◌, ◌<◌, ℕ, ◌+◌, ◌-◌, ◌^◌, min, List, [], ◌∷◌, ◌++◌, length, take, get_or, Bool, Option, Some, None, false, ◌==◌, ◌&&◌, not, is_some, Result, Ok, Err}
+use Rattle.std.specs.Prelude.{◌≡◌, ◌<◌, ◌≤◌, ℕ, ◌+◌, ◌-◌, ◌^◌, min, List, [], ◌∷◌, ◌++◌, length, take, get_or, Bool, Option, Some, None, true, false, ◌==◌, ◌&&◌, not, is_some, Result, Ok, Err}
 use Rattle.std.specs.Result.{IsErrAnd}
 use Rattle.t0_core.specs.declared.end.End.{End}
-use Rattle.t0_core.specs.Character.{sent_by}
 use Rattle.t0_core.specs.History as history
-use Rattle.t0_core.specs.History.{Event, passed}
+use Rattle.t0_core.specs.History.{Event}
 use Rattle.t0_core.specs.TapSide.{due_at}
 use Rattle.trace_explain.specs.declared.complaint.Complaint.{Complaint}
 use Rattle.trace_explain.specs.declared.explain_fault.ExplainFault.{ExplainFault}
 use Rattle.trace_explain.specs.declared.explain_fault.ExplainFault.TheVariants as fault
 use Rattle.trace_explain.specs.declared.explainer.Explainer.{Explainer}
-use Rattle.trace_explain.specs.declared.form.Form.{Form}
 use Rattle.trace_explain.specs.declared.listener.Listener.{Listener}
 use Rattle.trace_explain.specs.declared.trace_line.BadLine.{BadLine}
 use Rattle.trace_explain.specs.declared.trace_line.BadLine.TheVariants as bad
+use Rattle.trace_explain.specs.declared.trace_line.Source.{Source}
 use Rattle.trace_explain.specs.declared.trace_line.TraceLine.{TraceLine}
+use Rattle.trace_explain.specs.declared.trace_line.TraceLine.TheVariants as said
 use Rattle.trace_explain.specs.declared.turn.NoTurn.{NoTurn}
-use Rattle.trace_explain.specs.declared.unsigned_line.UnsignedLine.{UnsignedLine}
-use Rattle.trace_explain.specs.declared.ways.Ways.{Ways}
 use Rattle.trace_explain.specs.Account.{AddsBoxes}
-use Rattle.trace_explain.specs.Lines.{SpellsCharacters, Suits, Says, IsBadLine, Standing, TakesCharacters, TakesLine, bytes_in, heard_in, sender}
+use Rattle.trace_explain.specs.Lines.{IsBadLine, IsHeard, Says, Standing, TakesCharacter, TakesCharacters, read_on}
 use Rattle.trace_explain.specs.Noted.{HasNoted, NoneGoesOn}
-use Rattle.trace_explain.specs.Openings.{Opening, begins_answer, dialogue_in, has_begun, opening_of}
-use Rattle.trace_explain.specs.Times.{behind_clock}
+use Rattle.trace_explain.specs.Openings.{Opening, begins_answer, has_begun, is_dialogue, opening_of, role_of}
 use Rattle.trace_explain.specs.Told.{Told, told_by}
-use Rattle.trace_explain.specs.Turns.{turn_at}
-use Rattle.trace_explain.specs.Unsigned.{IsBadUnsigned, IsHeard, SaysUnsigned, TakesInTurn, TakesUnsigned}
+use Rattle.trace_explain.specs.Turns.{source_at}
+
+-- it reads characters, and neither resumes nor passes anything over
+abbrev pub IsPlain : Explainer → Type 0
+IsPlain e = (e.resumes ≡ false) × (e.passes_over ≡ false) × (e.reading.of_tpdus ≡ false)
 
 -- It has heard these events, and told these dialogues.
-pub record HasExplained (events : List Event) (told : List Told) (e : Explainer) : Type 0 where
-  pub noted : HasNoted events told e.listener
-  pub resumes : e.resumes ≡ false
-  pub passes_over : e.passes_over ≡ false
-  pub hears : e.reading.of_tpdus ≡ false
+abbrev pub HasExplained : List Event → List Told → Explainer → Type 0
+HasExplained events told e = HasNoted events told e.listener × IsPlain e
 
 -- where it stands in the trace
 abbrev pub standing_of : Explainer → Standing
@@ -54,38 +51,23 @@ ExplainsReset events before old new =
     (told : List Told) × HasExplained (events ++ history.Reset ∷ []) (before ++ told) new
     × AddsBoxes told old new
 
--- and these are the events of characters
-abbrev pub ExplainsCharacters : End → List ℕ → List Event → List Told → Explainer → Explainer
-    → Type 0
-ExplainsCharacters from bytes events before old new = (more : List Event) × (at : Standing)
-    × TakesCharacters events (standing_of old) from bytes more at
+-- and these are the events of a character
+abbrev pub ExplainsCharacter : End → ℕ → List Event → List Told → Explainer → Explainer → Type 0
+ExplainsCharacter from b events before old new = (more : List Event) × (at : Standing)
+    × TakesCharacter events (standing_of old) from b more at
     × ExplainsMore more at events before old new
 
--- or of those of which each is of the end whose turn it is
-abbrev pub ExplainsInTurn : Ways → List ℕ → List Event → List Told → Explainer → Explainer → Type 0
-ExplainsInTurn ways bytes events before old new = (more : List Event) × (at : Standing)
-    × TakesInTurn ways events (standing_of old) bytes more at
+-- or of those of a line
+abbrev pub ExplainsCharacters
+    : Source → List ℕ → List Event → List Told → Explainer → Explainer → Type 0
+ExplainsCharacters source bytes events before old new = (more : List Event) × (at : Standing)
+    × TakesCharacters source events (standing_of old) bytes more at
     × ExplainsMore more at events before old new
 
--- or of a line with signs
-abbrev pub ExplainsSigned : List ℕ → List Event → List Told → Explainer → Explainer → Type 0
-ExplainsSigned line events before old new = (said : TraceLine) × Says old.reading.form line said
-    × (more : List Event) × (at : Standing)
-    × TakesLine events (standing_of old) said more at
-    × ExplainsMore more at events before old new
-
--- or without
-abbrev pub ExplainsUnsigned : Ways → List ℕ → List Event → List Told → Explainer → Explainer
-    → Type 0
-ExplainsUnsigned ways line events before old new = (said : UnsignedLine) × SaysUnsigned line said
-    × (more : List Event) × (at : Standing)
-    × TakesUnsigned ways events (standing_of old) said more at
-    × ExplainsMore more at events before old new
-
--- or of any line, as lines are read
+-- or of any line
 abbrev pub ExplainsLine : List ℕ → List Event → List Told → Explainer → Explainer → Type 0
 ExplainsLine line events before old new = (more : List Event) × (at : Standing)
-    × IsHeard old.reading.unsigned events (standing_of old) line more at
+    × IsHeard events (standing_of old) line more at
     × ExplainsMore more at events before old new
 
 -- the card answers again with this character
@@ -93,142 +75,98 @@ abbrev pub answers_again : Opening → Listener → End → ℕ → Bool
 answers_again o l from b = has_begun o.stage && begins_answer from b
     && (length (told_by l.under_way).header == 0)
 
--- The complaint is right: the characters of one end before its place have been heard and told, as
--- far as they are of the dialogue; the one at this place is, but none goes on with it, and the card
--- does not answer again with it.
-pub record IsRight (c : Complaint) (o : Opening) (from : End) (bytes : List ℕ)
-    (events : List Event) (before : List Told) : Type 0 where
-  pub told : List Told
-  pub listener : Listener
-  pub within : c.place < length bytes
-  pub is_heard : 0 < length (dialogue_in o from (take (c.place + 1) bytes))
-  pub noted : HasNoted (events ++ heard_in o from (take c.place bytes)) (before ++ told)
-      listener
-  pub none : NoneGoesOn listener (from, get_or bytes c.place 0)
-  pub not_again : answers_again o listener from (get_or bytes c.place 0) ≡ false
-  pub due_is : c.due ≡ due_at listener.tap
-  pub from_is : c.from ≡ from
-  pub byte_is : c.came.byte ≡ get_or bytes c.place 0
-
--- the complaint at another place
-abbrev pub at_place : Complaint → ℕ → Complaint
-at_place c place = record c { place = place }
-
--- where characters of a line, behind so many others, stop it: no such fault is one of a line's form
-abbrev pub StopsRightly : ExplainFault → ℕ → ℕ → Opening → End → List ℕ → List Event → List Told
-    → Type 0
-StopsRightly (fault.NoDialogue c) line ahead o from bytes events before = (c.line ≡ line)
-    × (place : ℕ) × (c.place ≡ ahead + place)
-    × IsRight (at_place c place) o from bytes events before
-StopsRightly (fault.BadHex number) line ahead o from bytes events before = ⊥
-StopsRightly (fault.OtherForm number expected) line ahead o from bytes events before = ⊥
-StopsRightly (fault.NoSign number) line ahead o from bytes events before = ⊥
-StopsRightly (fault.Signed number) line ahead o from bytes events before = ⊥
-StopsRightly (fault.NoTurn number place why) line ahead o from bytes events before = ⊥
-StopsRightly (fault.LineTooLong number) line ahead o from bytes events before = ⊥
-StopsRightly fault.NoCharacters line ahead o from bytes events before = ⊥
-StopsRightly other line ahead o from bytes events before = Unit {0}
-
--- Of characters of which each is of the end whose turn it is, those before this place have been
--- taken, and each whole dialogue was told.
-pub record IsReachedInTurn (ways : Ways) (at : Standing) (bytes : List ℕ) (place : ℕ)
+-- Of the characters of a line those before this place have been taken, and each dialogue was told.
+pub record IsReachedAt (source : Source) (at : Standing) (bytes : List ℕ) (place : ℕ)
     (events : List Event) (before : List Told) : Type 0 where
   pub within : place < length bytes
   pub more : List Event
   pub standing : Standing
-  pub takes : TakesInTurn ways events at (take place bytes) more standing
+  pub takes : TakesCharacters source events at (take place bytes) more standing
   pub told : List Told
   pub listener : Listener
   pub noted : HasNoted (events ++ more) (before ++ told) listener
 
--- The complaint is right for the character at its place, which is the end's whose turn it is.
-abbrev pub IsRightInTurn : Ways → Complaint → Standing → List ℕ → List Event → List Told → Type 0
-IsRightInTurn ways c at bytes events before =
-    (here : IsReachedInTurn ways at bytes c.place events before)
-    × (turn_at ways here.standing.opening here.listener (get_or bytes c.place 0) ≡ Ok c.from)
-    × IsRight (at_place c 0) here.standing.opening c.from (get_or bytes c.place 0 ∷ [])
-    (events ++ here.more) (before ++ here.told)
+-- The complaint is right: the character at its place is this end's, and of the dialogue; but none
+-- goes on with it, and the card does not answer again with it.
+pub record IsRight (c : Complaint) (source : Source) (at : Standing) (bytes : List ℕ)
+    (events : List Event) (before : List Told) : Type 0 where
+  pub here : IsReachedAt source at bytes c.place events before
+  pub sent : source_at source here.standing.reading here.standing.opening here.listener
+      (get_or bytes c.place 0) ≡ Ok c.from
+  pub is_heard : is_dialogue (role_of here.standing.opening c.from (get_or bytes c.place 0)) ≡ true
+  pub none : NoneGoesOn here.listener (c.from, get_or bytes c.place 0)
+  pub not_again : answers_again here.standing.opening here.listener c.from
+      (get_or bytes c.place 0) ≡ false
+  pub due_is : c.due ≡ due_at here.listener.tap
+  pub byte_is : c.came.byte ≡ get_or bytes c.place 0
 
 -- it can't be known for this reason whose the character at this place is
-abbrev pub IsUnsent : Ways → NoTurn → ℕ → Standing → List ℕ → List Event → List Told → Type 0
-IsUnsent ways why place at bytes events before =
-    (here : IsReachedInTurn ways at bytes place events before)
-    × (turn_at ways here.standing.opening here.listener (get_or bytes place 0) ≡ Err why)
+pub record IsUnsent (why : NoTurn) (place : ℕ) (source : Source) (at : Standing) (bytes : List ℕ)
+    (events : List Event) (before : List Told) : Type 0 where
+  pub here : IsReachedAt source at bytes place events before
+  pub unsent : source_at source here.standing.reading here.standing.opening here.listener
+      (get_or bytes place 0) ≡ Err why
 
--- where such characters stop it
-abbrev pub StopsInTurn : ExplainFault → Ways → ℕ → Standing → List ℕ → List Event → List Told
+-- The characters of a line with this number stop it for one of these two, or memory was wanting.
+abbrev pub StopsAmong : ExplainFault → Source → ℕ → Standing → List ℕ → List Event → List Told
     → Type 0
-StopsInTurn (fault.NoDialogue c) ways line at bytes events before =
-    (c.line ≡ line) × IsRightInTurn ways c at bytes events before
-StopsInTurn (fault.NoTurn number place why) ways line at bytes events before =
-    (number ≡ line) × IsUnsent ways why place at bytes events before
-StopsInTurn (fault.BadHex number) ways line at bytes events before = ⊥
-StopsInTurn (fault.OtherForm number expected) ways line at bytes events before = ⊥
-StopsInTurn (fault.NoSign number) ways line at bytes events before = ⊥
-StopsInTurn (fault.Signed number) ways line at bytes events before = ⊥
-StopsInTurn (fault.LineTooLong number) ways line at bytes events before = ⊥
-StopsInTurn fault.NoCharacters ways line at bytes events before = ⊥
-StopsInTurn other ways line at bytes events before = Unit {0}
+StopsAmong (fault.NoDialogue c) source line at bytes events before =
+    (c.line ≡ line) × IsRight c source at bytes events before
+StopsAmong (fault.NoTurn number place why) source line at bytes events before =
+    (number ≡ line) × IsUnsent why place source at bytes events before
+StopsAmong fault.OutOfMemory source line at bytes events before = Unit {0}
+StopsAmong other source line at bytes events before = ⊥
 
 -- the number of the next line
 abbrev pub next_line : Explainer → ℕ
 next_line e = min (e.line + 1) (2 ^ 64 - 1)
 
--- The complaint is right for a character of a line with signs: the line is one of characters.
-abbrev pub IsRightSigned : Complaint → Standing → List ℕ → List Event → List Told → Type 0
-IsRightSigned c at line events before = (form : Form) × (from : End) × (bytes : List ℕ)
-    × SpellsCharacters form line from bytes × Suits at.reading.form form
-    × IsRight c at.opening (sender at.reading from) bytes events before
+-- the line that a fault tells, if it tells one
+abbrev pub line_of : ExplainFault → Option ℕ
+line_of (fault.NoDialogue c) = Some c.line
+line_of (fault.NoTurn number place why) = Some number
+line_of (fault.BadHex number) = Some number
+line_of (fault.OtherForm number expected) = Some number
+line_of (fault.NoSign number) = Some number
+line_of (fault.Signed number) = Some number
+line_of (fault.LineTooLong number) = Some number
+line_of other = None
 
--- and of a line without
-abbrev pub IsRightUnsigned : Ways → Complaint → Standing → List ℕ → List Event → List Told → Type 0
-IsRightUnsigned ways c at line events before = (bytes : List ℕ)
-    × (bytes_in (behind_clock line) ≡ Some bytes)
-    × IsRightInTurn ways c at bytes events before
+-- what a line says are characters, of which this holds
+abbrev pub HoldsFor : (Source → Standing → List ℕ → Type 0) → Standing → TraceLine → Type 0
+HoldsFor Holds at (said.Characters source bytes) =
+    Holds source (record at { reading = read_on source at.reading }) bytes.items
+HoldsFor Holds at other = ⊥
 
--- Where a line stops an explainer for a character, the complaint is right; where it stops it for
--- what it is, it is such a line. Each fault tells its number.
-abbrev pub StopsAtSigned : ExplainFault → List ℕ → Explainer → List Event → List Told → Type 0
-StopsAtSigned (fault.NoDialogue c) line old events before =
-    (c.line ≡ next_line old) × IsRightSigned c (standing_of old) line events before
-StopsAtSigned (fault.BadHex number) line old events before =
-    (number ≡ next_line old) × IsBadLine bad.Hex old.reading.form line
-StopsAtSigned (fault.OtherForm number expected) line old events before =
-    (number ≡ next_line old) × IsBadLine (bad.OtherForm expected) old.reading.form line
-StopsAtSigned (fault.NoSign number) line old events before =
-    (number ≡ next_line old) × IsBadLine bad.NoSign old.reading.form line
-StopsAtSigned (fault.Signed number) line old events before = ⊥
-StopsAtSigned (fault.NoTurn number place why) line old events before = ⊥
-StopsAtSigned (fault.LineTooLong number) line old events before = ⊥
-StopsAtSigned fault.NoCharacters line old events before = ⊥
-StopsAtSigned other line old events before = Unit {0}
+abbrev pub HoldsIn : (Source → Standing → List ℕ → Type 0) → Standing → List ℕ → Type 0
+HoldsIn Holds at line =
+    (this : TraceLine) × Says at.reading line this × HoldsFor Holds at this
 
--- the same of a line without signs
-abbrev pub StopsAtUnsigned : ExplainFault → Ways → List ℕ → Explainer → List Event → List Told
+-- Where a line stops an explainer for a character, that is right; where it stops it for what it is,
+-- it is such a line. One that is too long has, without the CR right before its LF, as many bytes as
+-- a line may have, or more.
+abbrev pub StopsRightly : ExplainFault → Standing → List ℕ → List Event → List Told → Type 0
+StopsRightly (fault.NoDialogue c) at line events before =
+    HoldsIn (λ source from bytes. IsRight c source from bytes events before) at line
+StopsRightly (fault.NoTurn number place why) at line events before =
+    HoldsIn (λ source from bytes. IsUnsent why place source from bytes events before) at line
+StopsRightly (fault.BadHex number) at line events before = IsBadLine bad.Hex at.reading line
+StopsRightly (fault.OtherForm number expected) at line events before =
+    IsBadLine (bad.OtherForm expected) at.reading line
+StopsRightly (fault.NoSign number) at line events before = IsBadLine bad.NoSign at.reading line
+StopsRightly (fault.Signed number) at line events before = IsBadLine bad.Signed at.reading line
+StopsRightly (fault.LineTooLong number) at line events before = 4194304 ≤ length line
+StopsRightly other at line events before = ⊥
+
+abbrev pub StopsIfAt : Option ℕ → ExplainFault → List ℕ → Explainer → List Event → List Told
     → Type 0
-StopsAtUnsigned (fault.NoDialogue c) ways line old events before =
-    (c.line ≡ next_line old) × IsRightUnsigned ways c (standing_of old) line events before
-StopsAtUnsigned (fault.NoTurn number place why) ways line old events before =
-    (number ≡ next_line old) × (bytes : List ℕ) × (bytes_in (behind_clock line) ≡ Some bytes)
-    × IsUnsent ways why place (standing_of old) bytes events before
-StopsAtUnsigned (fault.BadHex number) ways line old events before =
-    (number ≡ next_line old) × IsBadUnsigned bad.Hex line
-StopsAtUnsigned (fault.Signed number) ways line old events before =
-    (number ≡ next_line old) × IsBadUnsigned bad.Signed line
-StopsAtUnsigned (fault.OtherForm number expected) ways line old events before = ⊥
-StopsAtUnsigned (fault.NoSign number) ways line old events before = ⊥
-StopsAtUnsigned (fault.LineTooLong number) ways line old events before = ⊥
-StopsAtUnsigned fault.NoCharacters ways line old events before = ⊥
-StopsAtUnsigned other ways line old events before = Unit {0}
+StopsIfAt None f line old events before = Unit {0}
+StopsIfAt (Some number) f line old events before =
+    (number ≡ next_line old) × StopsRightly f (standing_of old) line events before
 
--- and of a line as lines are read
-abbrev pub StopsBy : Option Ways → ExplainFault → List ℕ → Explainer → List Event → List Told
-    → Type 0
-StopsBy None f line old events before = StopsAtSigned f line old events before
-StopsBy (Some ways) f line old events before = StopsAtUnsigned f ways line old events before
-
+-- and each fault tells its number
 abbrev pub StopsAtLine : ExplainFault → List ℕ → Explainer → List Event → List Told → Type 0
-StopsAtLine f line old events before = StopsBy old.reading.unsigned f line old events before
+StopsAtLine f line old events before = StopsIfAt (line_of f) f line old events before
 
 -- the fault of a line that is refused
 abbrev pub refused : ℕ → BadLine → ExplainFault
@@ -251,17 +189,22 @@ IsStop other c = ⊥
 abbrev pub Stopped : {T : Type 0} → Result T ExplainFault → Complaint → Type 0
 Stopped result c = IsErrAnd result (λ f. IsStop f c)
 
--- It has heard these characters of the dialogue, and told what ended with them; or those before
--- this place, and none goes on with the one there.
-abbrev pub HearsUpTo : Option ℕ → End → List ℕ → List Event → List Told → Explainer → Explainer
-    → Type 0
-HearsUpTo None from bytes events before old e = (told : List Told)
-    × HasExplained (events ++ passed (sent_by from bytes)) (before ++ told) e
-    × AddsBoxes told old e
-HearsUpTo (Some place) from bytes events before old e = (told : List Told)
-    × HasExplained (events ++ passed (sent_by from (take place bytes))) (before ++ told) e
-    × (place < length bytes) × NoneGoesOn e.listener (from, get_or bytes place 0)
-    × AddsBoxes told old e
+-- It has heard this character of the dialogue, and told what ended with it; or none goes on with
+-- it.
+abbrev pub Hears : Bool → End → ℕ → List Event → List Told → Explainer → Explainer → Type 0
+Hears true from b events before old new = (told : List Told)
+    × HasExplained (events ++ history.Passed (from, b) ∷ []) (before ++ told) new
+    × AddsBoxes told old new
+Hears false from b events before old new = HasExplained events before new
+    × (new.listener ≡ old.listener) × NoneGoesOn new.listener (from, b) × AddsBoxes [] old new
+
+-- It has taken this character; or it stops, as it is one of the dialogue and none goes on with it.
+abbrev pub TakesOrStops : Bool → End → ℕ → List Event → List Told → Explainer → Explainer → Type 0
+TakesOrStops false from b events before old new =
+    ExplainsCharacter from b events before old new
+TakesOrStops true from b events before old new = Hears false from b events before old new
+    × (is_dialogue (role_of (opening_of old.preface) from b) ≡ true)
+    × (answers_again (opening_of old.preface) new.listener from b ≡ false)
 
 -- all that is heard and told stays
 pub record KeepsAll (old new : Explainer) : Type 0 where

@@ -5,7 +5,6 @@ pub mod Times
 pub mod Lines
 pub mod WaysOf
 pub mod Turns
-pub mod Unsigned
 pub mod LogLines
 pub mod Exchanges
 pub mod Logs

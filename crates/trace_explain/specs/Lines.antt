@@ -1,23 +1,27 @@
--- The lines of a trace, and what is heard of each.
-use Rattle.std.specs.Prelude.{◌≡◌, ◌≢◌, ◌⊎◌, ℕ, ◌+◌, ◌*◌, List, [], ◌∷◌, ◌++◌, take, drop, codes, length, eqb, Option, Some, None, Bool, true, false, not, nat_le, ◌==◌, ◌&&◌, ◌||◌, if◌then◌else◌}
+-- The lines of a trace, with signs or without, and what is heard of each.
+use Rattle.std.specs.Prelude.{◌≡◌, ◌≢◌, ◌⊎◌, ℕ, ◌+◌, ◌*◌, List, [], ◌∷◌, ◌++◌, take, drop, codes, length, eqb, Option, Some, None, Ok, Bool, true, false, not, nat_le, ◌==◌, ◌&&◌, ◌||◌, if◌then◌else◌}
 use Rattle.std.specs.List.{AllByRecursion, flat_map, starts_with}
 use Rattle.hex.specs.Hex.{hex_digit_value, is_hex_digit}
 use Rattle.t0_core.specs.declared.end.End.{End}
 use Rattle.t0_core.specs.declared.end.End.TheVariants as end
-use Rattle.t0_core.specs.Character.{sent_by}
-use Rattle.t0_core.specs.TapSide.{other_end}
 use Rattle.t0_core.specs.History as history
-use Rattle.t0_core.specs.History.{Event, Item, events_of, passed}
+use Rattle.t0_core.specs.History.{Event, Item, events_of}
 use Rattle.trace_explain.specs.declared.form.Form.{Form}
 use Rattle.trace_explain.specs.declared.form.Form.TheVariants as form
 use Rattle.trace_explain.specs.declared.reading.Reading.{Reading}
+use Rattle.trace_explain.specs.declared.listener.Listener.{Listener}
 use Rattle.trace_explain.specs.declared.trace_line.BadLine.{BadLine}
 use Rattle.trace_explain.specs.declared.trace_line.BadLine.TheVariants as bad
+use Rattle.trace_explain.specs.declared.trace_line.Source.{Source}
+use Rattle.trace_explain.specs.declared.trace_line.Source.TheVariants.{Sign, Turn}
 use Rattle.trace_explain.specs.declared.trace_line.TraceLine.{TraceLine}
 use Rattle.trace_explain.specs.declared.trace_line.TraceLine.TheVariants as said
-use Rattle.trace_explain.specs.Noted.{IsNoted}
-use Rattle.trace_explain.specs.Openings.{Opening, begins_answer, dialogue_in, has_begun, opened, unopened}
-use Rattle.trace_explain.specs.Times.{behind_time, place_of}
+use Rattle.trace_explain.specs.declared.ways.Ways.{Ways}
+use Rattle.trace_explain.specs.Noted.{HasNoted, IsNoted, NoneGoesOn}
+use Rattle.trace_explain.specs.Openings.{Opening, begins_answer, has_begun, is_dialogue, opens, role_of, unopened}
+use Rattle.trace_explain.specs.Times.{behind_clock, behind_time, place_of}
+use Rattle.trace_explain.specs.Told.{Told}
+use Rattle.trace_explain.specs.Turns.{source_at}
 
 -- the sign before the characters of an end, in each form
 abbrev pub sign_of : Form → End → List ℕ
@@ -127,13 +131,33 @@ abbrev pub Suits : Option Form → Form → Type 0
 Suits None form = Unit {0}
 Suits (Some known) form = form ≡ known
 
--- what a line says, where the lines before it are of this form, if one of them has a sign
-abbrev pub Says : Option Form → List ℕ → TraceLine → Type 0
-Says known line (said.Characters form from bytes) =
+-- What a line says where lines have signs, of this form if that is known: characters behind a sign;
+-- a reset; or a note.
+abbrev pub SaysSigned : Option Form → List ℕ → TraceLine → Type 0
+SaysSigned known line (said.Characters (Sign form from) bytes) =
     SpellsCharacters form line from bytes.items × Suits known form
-Says known line said.Reset = behind_time line ≡ codes "reset"
-Says known line (said.Note note) = (is_signed (behind_time line) ≡ false)
+SaysSigned known line (said.Characters (Turn ways) bytes) = ⊥
+SaysSigned known line said.Reset = behind_time line ≡ codes "reset"
+SaysSigned known line (said.Note note) = (is_signed (behind_time line) ≡ false)
     × (behind_time line ≢ codes "reset") × (known ≡ None → are_digits line ≡ false)
+
+-- and where they have none, as the words say these ways: characters are digits behind a time or
+-- none
+abbrev pub SaysUnsigned : Ways → List ℕ → TraceLine → Type 0
+SaysUnsigned ways line (said.Characters (Sign form from) bytes) = ⊥
+SaysUnsigned ways line (said.Characters (Turn known) bytes) = (known ≡ ways)
+    × (is_digits (behind_clock line) ≡ true) × (bytes_in (behind_clock line) ≡ Some bytes.items)
+SaysUnsigned ways line said.Reset = behind_time line ≡ codes "reset"
+SaysUnsigned ways line (said.Note note) = (is_digits (behind_clock line) ≡ false)
+    × (is_signed (behind_time line) ≡ false) × (behind_time line ≢ codes "reset")
+
+abbrev pub SaysBy : Option Ways → Option Form → List ℕ → TraceLine → Type 0
+SaysBy None known line said = SaysSigned known line said
+SaysBy (Some ways) known line said = SaysUnsigned ways line said
+
+-- what a line says, as lines are read
+abbrev pub Says : Reading → List ℕ → TraceLine → Type 0
+Says reading line said = SaysBy reading.unsigned reading.form line said
 
 -- these are no characters of an end, in any form
 abbrev pub SpellsNothing : List ℕ → Type 0
@@ -142,20 +166,30 @@ SpellsNothing line = (form : Form) (from : End) (bytes : List ℕ)
 
 -- A line that is refused begins with a sign and is of no form; is of another form than the lines
 -- before it; or has nothing but digits, and no line before it has a sign.
-abbrev pub IsBadLine : BadLine → Option Form → List ℕ → Type 0
-IsBadLine bad.Hex known line = (is_signed (behind_time line) ≡ true) × SpellsNothing line
-IsBadLine (bad.OtherForm expected) known line = (known ≡ Some expected)
+abbrev pub IsBadSigned : BadLine → Option Form → List ℕ → Type 0
+IsBadSigned bad.Hex known line = (is_signed (behind_time line) ≡ true) × SpellsNothing line
+IsBadSigned (bad.OtherForm expected) known line = (known ≡ Some expected)
     × (form : Form) × (from : End) × (bytes : List ℕ) × SpellsCharacters form line from bytes
     × (form ≢ expected)
-IsBadLine bad.NoSign known line = (known ≡ None) × (are_digits line ≡ true)
+IsBadSigned bad.NoSign known line = (known ≡ None) × (are_digits line ≡ true)
     × (is_signed (behind_time line) ≡ false)
-IsBadLine bad.Signed known line = ⊥
-IsBadLine bad.OutOfMemory known line = Unit {0}
+IsBadSigned bad.Signed known line = ⊥
+IsBadSigned bad.OutOfMemory known line = Unit {0}
 
--- whether a character has come by then
-abbrev pub came_after : Bool → List ℕ → Bool
-came_after came [] = came
-came_after came (b ∷ bytes) = true
+-- or has digits that are not two for each byte, or begins with a sign where lines have none
+abbrev pub IsBadUnsigned : BadLine → List ℕ → Type 0
+IsBadUnsigned bad.Hex line = (is_digits (behind_clock line) ≡ true)
+    × (bytes_in (behind_clock line) ≡ None)
+IsBadUnsigned bad.Signed line = is_signed (behind_time line) ≡ true
+IsBadUnsigned bad.OutOfMemory line = Unit {0}
+IsBadUnsigned other line = ⊥
+
+abbrev pub IsBadBy : Option Ways → BadLine → Option Form → List ℕ → Type 0
+IsBadBy None why known line = IsBadSigned why known line
+IsBadBy (Some ways) why known line = IsBadUnsigned why line
+
+abbrev pub IsBadLine : BadLine → Reading → List ℕ → Type 0
+IsBadLine why reading line = IsBadBy reading.unsigned why reading.form line
 
 -- Where a trace stands between two lines: at the opening since it began or the card was reset;
 -- whether a character of either end has come; and how its lines are read from here on.
@@ -168,23 +202,23 @@ pub record Standing : Type 0 where
 abbrev pub first_of_all : Reading → Standing
 first_of_all reading = record { opening = unopened; came = false; reading = reading }
 
--- a line with a sign of this form has come
-abbrev pub of_form : Form → Reading → Reading
-of_form form reading = record reading { form = Some form }
+-- a line of characters of this source has come, whose sign says the form
+abbrev pub read_on : Source → Reading → Reading
+read_on (Sign form from) reading = record reading { form = Some form }
+read_on (Turn ways) reading = reading
 
--- the end whose characters stand behind its sign: the other one, where the signs are swapped
-abbrev pub sender : Reading → End → End
-sender reading from = if reading.swaps then other_end from else from
-
-abbrev pub after_characters : Standing → End → List ℕ → Standing
-after_characters at from bytes = record at {
-  opening = opened at.opening from bytes;
-  came = came_after at.came bytes;
+-- a character of this end has come
+abbrev pub after_character : Standing → End → ℕ → Standing
+after_character at from b = record {
+  opening = opens at.opening (role_of at.opening from b) b;
+  came = true;
+  reading = at.reading;
 }
 
--- what is heard of characters: those of the dialogue, and not those of an opening
-abbrev pub heard_in : Opening → End → List ℕ → List Event
-heard_in o from bytes = passed (sent_by from (dialogue_in o from bytes))
+-- what is heard of it: one of the dialogue, and not one of an opening
+abbrev pub heard_of : Opening → End → ℕ → List Event
+heard_of o from b =
+    if is_dialogue (role_of o from b) then history.Passed (from, b) ∷ [] else []
 
 -- these events are whole dialogues and resets, and no dialogue is under way
 pub record AreOver (events : List Event) : Type 0 where
@@ -192,31 +226,55 @@ pub record AreOver (events : List Event) : Type 0 where
   pub events_are : events ≡ flat_map events_of items
   pub are_noted : AllByRecursion IsNoted items
 
--- The card answers again, though no line says that it was reset: in its characters stands one that
--- begins an answer where no dialogue is under way. There the card was reset, and an opening begins.
-pub record AnswersAgain (so_far : List Event) (at : Standing) (from : End) (bytes : List ℕ)
+-- The card answers again, though no line says that it was reset: with this character an answer
+-- begins where no dialogue is under way, and none goes on with it for who has heard these events.
+-- There the card was reset, and an opening begins.
+pub record AnswersAgain (so_far : List Event) (at : Standing) (from : End) (b : ℕ)
     (events : List Event) (after : Standing) : Type 0 where
-  pub front : List ℕ
-  pub ts : ℕ
-  pub behind : List ℕ
-  pub is_cut : bytes ≡ front ++ ts ∷ behind
   pub has_begun : has_begun at.opening.stage ≡ true
-  pub begins : begins_answer from ts ≡ true
-  pub are_over : AreOver (so_far ++ passed (sent_by from front))
-  pub events_are : events ≡ passed (sent_by from front) ++ history.Reset ∷ []
-  pub after_is : after ≡ record at { opening = opened unopened from (ts ∷ behind); came = true }
+  pub begins : begins_answer from b ≡ true
+  pub are_over : AreOver so_far
+  pub told : List Told
+  pub listener : Listener
+  pub noted : HasNoted so_far told listener
+  pub none : NoneGoesOn listener (from, b)
+  pub events_are : events ≡ history.Reset ∷ []
+  pub after_is : after ≡ after_character (record at { opening = unopened }) from b
 
--- What is heard of characters behind these events, and where the trace stands then.
-abbrev pub TakesCharacters : List Event → Standing → End → List ℕ → List Event → Standing → Type 0
-TakesCharacters so_far at from bytes events after =
-    ((events ≡ heard_in at.opening from bytes) × (after ≡ after_characters at from bytes))
-    ⊎ AnswersAgain so_far at from bytes events after
+-- What is heard of a character behind these events, and where the trace stands then.
+abbrev pub TakesCharacter : List Event → Standing → End → ℕ → List Event → Standing → Type 0
+TakesCharacter so_far at from b events after =
+    ((events ≡ heard_of at.opening from b) × (after ≡ after_character at from b))
+    ⊎ AnswersAgain so_far at from b events after
+
+-- Behind these events a character is this end's: who has heard them, and stands at their front,
+-- knows whose it is.
+pub record IsSent (source : Source) (so_far : List Event) (at : Standing) (b : ℕ) (from : End)
+    : Type 0 where
+  pub told : List Told
+  pub listener : Listener
+  pub noted : HasNoted so_far told listener
+  pub sent : source_at source at.reading at.opening listener b ≡ Ok from
+
+-- what is heard of the characters of a line
+abbrev pub TakesCharacters
+    : Source → List Event → Standing → List ℕ → List Event → Standing → Type 0
+TakesCharacters source so_far at [] events after = (events ≡ []) × (after ≡ at)
+TakesCharacters source so_far at (b ∷ bytes) events after = (from : End)
+    × IsSent source so_far at b from
+    × (first rest : List Event) × (next : Standing)
+    × TakesCharacter so_far at from b first next
+    × (events ≡ first ++ rest) × TakesCharacters source (so_far ++ first) next bytes rest after
 
 -- and of a line
 abbrev pub TakesLine : List Event → Standing → TraceLine → List Event → Standing → Type 0
-TakesLine so_far at (said.Characters form from bytes) events after =
-    TakesCharacters so_far (record at { reading = of_form form at.reading })
-    (sender at.reading from) bytes.items events after
+TakesLine so_far at (said.Characters source bytes) events after =
+    TakesCharacters source so_far (record at { reading = read_on source at.reading }) bytes.items
+    events after
 TakesLine so_far at said.Reset events after =
     (events ≡ history.Reset ∷ []) × (after ≡ record at { opening = unopened })
 TakesLine so_far at (said.Note note) events after = (events ≡ []) × (after ≡ at)
+
+abbrev pub IsHeard : List Event → Standing → List ℕ → List Event → Standing → Type 0
+IsHeard so_far at line events after =
+    (this : TraceLine) × Says at.reading line this × TakesLine so_far at this events after

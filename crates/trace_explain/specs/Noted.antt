@@ -1,5 +1,5 @@
 -- What a listener has heard and told: all that has gone on since it was made.
-use Rattle.std.specs.Prelude.{◌≡◌, ◌<◌, ◌⊎◌, ℕ, List, [], ◌∷◌, ◌++◌, Some, None, Bool, false, ◌==◌, ◌&&◌, if◌then◌else◌, length, slice_index, take, get_or}
+use Rattle.std.specs.Prelude.{◌≡◌, ◌<◌, ◌⊎◌, ℕ, List, [], ◌∷◌, ◌++◌, Some, None, Bool, false, ◌==◌, ◌&&◌, if◌then◌else◌, length, slice_index}
 use Rattle.std.specs.List.{AllByRecursion, flat_map}
 use Rattle.apdu_core.specs.StatusWord.{IsStatusWord, is_first_status}
 use Rattle.t0_core.specs.declared.direction.Direction.TheVariants.{ToCard}
@@ -7,26 +7,32 @@ use Rattle.t0_core.specs.declared.end.End.{End}
 use Rattle.t0_core.specs.declared.end.End.TheVariants.{Terminal}
 use Rattle.t0_core.specs.declared.plan.Step.{Step}
 use Rattle.t0_core.specs.declared.plan.Step.TheVariants.{Null, All}
-use Rattle.t0_core.specs.Character.{Character, sent_by}
+use Rattle.t0_core.specs.Character.{Character}
 use Rattle.t0_core.specs.Dialogue.{Body, Dialogue, IsDialogue}
 use Rattle.t0_core.specs.Front.{Front, IsFront, GoesOn, Ends, front_characters}
 use Rattle.t0_core.specs.TapSide.{TapStandsAt, IsRead, IsReadFront, unheard_at}
 use Rattle.t0_core.specs.History.{Event, Item, Whole, Cut_off, events_of, passed}
 use Rattle.t0_core.specs.TapHistory.{IsOverheard}
 use Rattle.trace_explain.specs.declared.listener.Listener.{Listener}
-use Rattle.trace_explain.specs.declared.listener.Stop.{Stop}
 use Rattle.trace_explain.specs.declared.refusal.Refusal.{Refusal}
 use Rattle.trace_explain.specs.declared.refusal.Refusal.TheVariants.{NoDialogue, OutOfMemory}
-use Rattle.trace_explain.specs.declared.tpdu.Tpdu.{Tpdu}
 use Rattle.trace_explain.specs.Told.{Told, told_by, Tells, TellsFront}
 
--- each whole dialogue is told, in turn, and no more
+-- this much is told of a dialogue of which these characters came before a reset
+abbrev pub TellsPart : Told → List Character → Type 0
+TellsPart t part = (front : Front) × (part ≡ front_characters front) × TellsFront t front
+
+-- Each whole dialogue is told, in turn, and what a reset cut off of one, if any of it came; and no
+-- more.
 abbrev pub TellsItems : List Item → List Told → Type 0
 TellsItems [] [] = Unit {0}
 TellsItems [] (t ∷ told) = ⊥
 TellsItems (Whole d ∷ items) [] = ⊥
 TellsItems (Whole d ∷ items) (t ∷ told) = Tells t d × TellsItems items told
-TellsItems (Cut_off part ∷ items) told = TellsItems items told
+TellsItems (Cut_off [] ∷ items) told = TellsItems items told
+TellsItems (Cut_off (c ∷ part) ∷ items) [] = ⊥
+TellsItems (Cut_off (c ∷ part) ∷ items) (t ∷ told) =
+    TellsPart t (c ∷ part) × TellsItems items told
 
 -- A command without data, with P3 00, whose card repeats INS before its status, perhaps behind
 -- NULLs. A tap takes INS for the beginning of 256 data from the card.
@@ -63,15 +69,16 @@ is_bare t = (slice_index t.header 4 == 0) && (t.tally.ones == 0) && (length t.st
 abbrev pub bared : Told → Told
 bared t = record { header = t.header; tally = t.tally; way = None; moved = []; status = t.moved }
 
--- what is told of the dialogue under way where it goes on no more, and whether it was a whole one
+-- what is told of the dialogue under way where it goes on no more, if any of it came
 abbrev pub as_ended : Told → Told
 as_ended t = if is_bare t then bared t else t
 
 abbrev pub ended_by : Told → List Told
-ended_by t = if is_bare t then bared t ∷ [] else []
+ended_by t = if length t.header == 0 then [] else as_ended t ∷ []
 
--- These events are whole dialogues, each of which was told, resets, each with what it cut off, and
--- a front of one dialogue more, at which the tap stands and of which this much is noted.
+-- These events are whole dialogues, each of which was told; resets, each with what it cut off,
+-- which was told too; and a front of one dialogue more, at which the tap stands and of which this
+-- much is noted.
 pub record HasNoted (events : List Event) (told : List Told) (l : Listener) : Type 0 where
   pub items : List Item
   pub front : Front
@@ -91,18 +98,7 @@ pub record NoneGoesOn (l : Listener) (c : Character) : Type 0 where
   pub not_bare : c.0 ≡ Terminal → is_bare (told_by l.under_way) ≡ false
 
 -- A character was refused for this reason, and nothing has changed; or memory was wanting.
-abbrev pub IsRefused : Refusal → Listener → List Tpdu → Character → Listener → List Tpdu → Type 0
-IsRefused (NoDialogue unheard) old told c new still =
-    NoneGoesOn old c × (unheard_at old.tap c.0 c.1 ≡ Some unheard) × (new ≡ old) × (still ≡ told)
-IsRefused OutOfMemory old told c new still = Unit {0}
-
--- Of these bytes of one end those before this place have been heard and noted, and with the one at
--- this place no dialogue goes on; or memory was wanting.
-abbrev pub StopsWith : Refusal → ℕ → List Event → End → List ℕ → List Told → Listener → Type 0
-StopsWith (NoDialogue unheard) place events from bytes told l = (place < length bytes)
-    × HasNoted (events ++ passed (sent_by from (take place bytes))) told l
-    × NoneGoesOn l (from, get_or bytes place 0)
-StopsWith OutOfMemory place events from bytes told l = Unit {0}
-
-abbrev pub StopsAt : Stop → List Event → End → List ℕ → List Told → Listener → Type 0
-StopsAt stop = StopsWith stop.refusal stop.place
+abbrev pub IsRefused : Refusal → Listener → Character → Listener → Type 0
+IsRefused (NoDialogue unheard) old c new =
+    NoneGoesOn old c × (unheard_at old.tap c.0 c.1 ≡ Some unheard) × (new ≡ old)
+IsRefused OutOfMemory old c new = Unit {0}

@@ -160,11 +160,6 @@ opens o role.Response b = record o {
 opens o role.Stray b = record o { stage = stage.Astray }
 opens o role.Dialogue b = begun
 
--- and with all these characters of one end
-abbrev pub opened : Opening → End → List ℕ → Opening
-opened o from [] = o
-opened o from (b ∷ bytes) = opened (opens o (role_of o from b) b) from bytes
-
 abbrev pub is_dialogue : Role → Bool
 is_dialogue (role.Ts turned) = false
 is_dialogue role.Answer = false
@@ -174,13 +169,6 @@ is_dialogue role.ResponsePpss = false
 is_dialogue role.Response = false
 is_dialogue role.Stray = false
 is_dialogue role.Dialogue = true
-
--- where the dialogue begins in characters of one end: with the first of these that is part of it
-abbrev pub dialogue_in : Opening → End → List ℕ → List ℕ
-dialogue_in o from [] = []
-dialogue_in o from (b ∷ bytes) =
-    if is_dialogue (role_of o from b) then b ∷ bytes
-    else dialogue_in (opens o (role_of o from b) b) from bytes
 
 -- the card may begin an answer with this character
 abbrev pub begins_answer : End → ℕ → Bool

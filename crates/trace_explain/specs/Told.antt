@@ -31,6 +31,10 @@ told_by t = record {
   status = t.status.items;
 }
 
+abbrev pub told_of : Option Tpdu → List Told
+told_of None = []
+told_of (Some t) = told_by t ∷ []
+
 -- one more, up to the greatest number that is counted
 abbrev pub one_more : ℕ → ℕ
 one_more n = min (n + 1) (2 ^ 64 - 1)

@@ -1,4 +1,4 @@
--- Whose turn it is, where no sign says who sent a character.
+-- Who sends a character: the end of a sign, or the one whose turn it is.
 use Rattle.std.specs.Prelude.{ℕ, Option, Some, None, Bool, true, false, ◌==◌, nat_lt, length, get_or, is_some, if◌then◌else◌, Result, Ok, Err}
 use Rattle.atr_core.specs.Conventions.{convention_of}
 use Rattle.t0_core.specs.declared.direction.Direction.{Direction}
@@ -7,12 +7,15 @@ use Rattle.t0_core.specs.declared.end.End.{End}
 use Rattle.t0_core.specs.declared.end.End.TheVariants.{Terminal, Card}
 use Rattle.t0_core.specs.declared.heard.Due.{Due}
 use Rattle.t0_core.specs.declared.heard.Due.TheVariants as due
-use Rattle.t0_core.specs.TapSide.{due_at}
+use Rattle.t0_core.specs.TapSide.{due_at, other_end}
 use Rattle.trace_explain.specs.declared.listener.Listener.{Listener}
 use Rattle.trace_explain.specs.declared.opening.Stage.{Stage}
 use Rattle.trace_explain.specs.declared.opening.Stage.TheVariants as stage
 use Rattle.trace_explain.specs.declared.turn.NoTurn.{NoTurn}
 use Rattle.trace_explain.specs.declared.turn.NoTurn.TheVariants as unknown
+use Rattle.trace_explain.specs.declared.reading.Reading.{Reading}
+use Rattle.trace_explain.specs.declared.trace_line.Source.{Source}
+use Rattle.trace_explain.specs.declared.trace_line.Source.TheVariants.{Sign, Turn}
 use Rattle.trace_explain.specs.declared.ways.Ways.{Ways}
 use Rattle.trace_explain.specs.Openings.{Opening, has_answered, has_begun, turned_by}
 use Rattle.trace_explain.specs.Told.{Told, told_by}
@@ -88,3 +91,12 @@ abbrev pub turn_at : Ways → Opening → Listener → ℕ → Result End NoTurn
 turn_at ways o l b =
     if has_begun o.stage then turn_within ways (due_at l.tap) (told_by l.under_way) b
     else turn_before o.stage (has_answered o) b
+
+-- the end whose characters stand behind a sign: the other one, where the signs are swapped
+abbrev pub sender : Reading → End → End
+sender reading from = if reading.swaps then other_end from else from
+
+-- who sends a character that comes next
+abbrev pub source_at : Source → Reading → Opening → Listener → ℕ → Result End NoTurn
+source_at (Sign form from) reading o l b = Ok (sender reading from)
+source_at (Turn ways) reading o l b = turn_at ways o l b

@@ -1,6 +1,5 @@
 -- What is kept from one byte of a trace to the next: for proofs alone, no part of a promise.
-use Rattle.std.specs.Prelude.{◌≡◌, ◌≤◌, ℕ, ◌+◌, List, ◌++◌, length, take, drop, true}
-use Rattle.t0_core.specs.declared.end.End.{End}
+use Rattle.std.specs.Prelude.{◌≡◌, ℕ, List, ◌++◌}
 use Rattle.t0_core.specs.History.{Event}
 use Rattle.trace_explain.specs.declared.explain_fault.ExplainFault.{ExplainFault}
 use Rattle.trace_explain.specs.declared.explain_fault.ExplainFault.TheVariants as fault
@@ -8,7 +7,6 @@ use Rattle.trace_explain.specs.declared.explainer.Explainer.{Explainer}
 use Rattle.trace_explain.specs.declared.reading.Reading.{Reading}
 use Rattle.trace_explain.specs.Account.{HasWritten, Out}
 use Rattle.trace_explain.specs.Explained.{HasExplained, next_line, standing_of}
-use Rattle.trace_explain.specs.Openings.{Opening, dialogue_in, has_begun, opened}
 use Rattle.trace_explain.specs.Told.{Told}
 use Rattle.trace_explain.specs.Trace.{SayAll, lines_from, number_behind}
 
@@ -33,16 +31,3 @@ IsOfLines fault.Closed = ⊥
 IsOfLines fault.InputTooLong = ⊥
 IsOfLines fault.NoCharacters = ⊥
 IsOfLines other = Unit {0}
-
--- These characters of one end are all of an opening, whatever follows them.
-pub record Passes (o : Opening) (from : End) (bytes : List ℕ) (after : Opening) : Type 0 where
-  pub dialogue : (rest : List ℕ) → dialogue_in o from (bytes ++ rest) ≡ dialogue_in after from rest
-  pub opens : (rest : List ℕ) → opened o from (bytes ++ rest) ≡ opened after from rest
-
--- So many characters are of an opening, and all behind them are the dialogue's.
-pub record OpensUpTo (start : ℕ) (o : Opening) (from : End) (bytes : List ℕ) (after : Opening)
-    : Type 0 where
-  pub within : start ≤ length bytes
-  pub dialogue : (n : ℕ) → dialogue_in o from (take (start + n) bytes) ≡ take n (drop start bytes)
-  pub after_is : after ≡ opened o from bytes
-  pub begun : has_begun o.stage ≡ true → start ≡ 0

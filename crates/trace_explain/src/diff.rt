@@ -70,7 +70,7 @@ fn written<W: Write>(
     writer: &mut W,
 ) -> Result<bool, DiffFault> {
     let alike = outcome?;
-    text.outcome()?;
+    text.is_whole()?;
     match writer.write_all(text.as_str().as_bytes()) {
         Ok(()) => Ok(alike),
         Err(error) if error.kind() == io::ErrorKind::BrokenPipe => Ok(alike),

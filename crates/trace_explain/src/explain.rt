@@ -67,7 +67,8 @@ fn explain_chunks<R: Read, W: Write>(
         standing_of explainer.old ≡ first_of_all reading → explainer.old.line ≡ 0 →
         HasWritten first [] explainer.old →
         OnOk result (IfSome (R.remaining reader.old) (λ bytes. IsExplained
-        (λ told. (more : List ℕ) × Appends (W.contents writer.old) (W.contents writer.new) more
+        (λ told listener. (listener ≡ explainer.new.listener) × (more : List ℕ)
+        × Appends (W.contents writer.old) (W.contents writer.new) more
         × HasWritten (out_with first more) told explainer.new)
         reading (lines_of bytes) (standing_of explainer.new))) }
     ensures stops { (first : Out) (reading : Reading) →
@@ -127,8 +128,8 @@ pub fn explain_chunk(
 pub fn explain_last(explainer: &mut Explainer, line: &[u8]) -> Result<(), ExplainFault>
     ensures explained { (front : Out) (reading : Reading) (all : List (List ℕ)) →
         HasCome front reading all line.now [] explainer.old →
-        OnOk result (IsExplained (λ told. HasWritten front told explainer.new) reading all
-        (standing_of explainer.new)) }
+        OnOk result (IsExplained (λ told listener. (listener ≡ explainer.new.listener)
+        × HasWritten front told explainer.new) reading all (standing_of explainer.new)) }
     ensures stops { (front : Out) (reading : Reading) (all : List (List ℕ)) →
         HasCome front reading all line.now [] explainer.old → IfErr result (StopsIn reading all) }
     ensures of_lines { IfErr result IsOfLines }

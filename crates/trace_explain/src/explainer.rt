@@ -1,20 +1,19 @@
 //! Explains a trace line by line: hears its characters, and tells of each TPDU once it has ended.
 
-ghost use Rattle.std.specs.Prelude.{◌≡◌, ◌<◌, ◌+◌, ◌^◌, ◌∷◌, ◌++◌, ◌==◌, ◌&&◌, List, [], true, false, get_or, length, map, Bool, if◌then◌else◌, OnOk, IfErr, IfOk, IfSome};
+ghost use Rattle.std.specs.Prelude.{◌≡◌, ◌<◌, ◌+◌, ◌^◌, ◌∷◌, ◌++◌, ◌==◌, ◌&&◌, List, [], true, false, not, get_or, length, map, Bool, if◌then◌else◌, OnOk, IfErr, IfOk, IfSome};
 ghost use Rattle.std.specs.Result.{IsErrAnd};
-ghost use Rattle.t0_core.specs.declared.end.End.TheVariants.{Card};
-ghost use Rattle.t0_core.specs.Character.{sent_by};
-ghost use Rattle.t0_core.specs.History.{Event, Reset, passed};
+ghost use Rattle.t0_core.specs.History.{Event, Reset};
 ghost use Rattle.t0_core.specs.TapSide.{due_at};
-ghost use Rattle.trace_explain.specs.Explained.{HasExplained, ExplainsCharacters, ExplainsMore, ExplainsReset, ExplainsLine, ExplainsSigned, ExplainsUnsigned, ExplainsInTurn, HearsUpTo, StopsRightly, StopsAtLine, StopsAtSigned, StopsAtUnsigned, StopsInTurn, Stopped, KeepsAll, KeepsHeard, is_astray, next_line, refused, standing_of};
-ghost use Rattle.trace_explain.specs.Account.{AddsBox, AddsBoxes, HasWritten, StaysWritten, first_out};
+ghost use Rattle.trace_explain.specs.Explained.{HasExplained, ExplainsCharacters, ExplainsMore, ExplainsReset, ExplainsLine, Hears, StopsAtLine, StopsAmong, Stopped, TakesOrStops, KeepsAll, KeepsHeard, is_astray, next_line, refused, standing_of};
+ghost use Rattle.trace_explain.specs.Account.{AddsBox, AddsBoxes, HasWritten, StaysWritten, account_of, first_out};
 ghost use Rattle.trace_explain.specs.Boxes.{HasAsker};
 ghost use Rattle.trace_explain.specs.Trace.{IsOfEnd};
-ghost use Rattle.trace_explain.specs.UnderWay.{IsOfLines, OpensUpTo};
-ghost use Rattle.trace_explain.specs.Lines.{came_after, first_of_all};
-ghost use Rattle.trace_explain.specs.Openings.{begins_answer, opened, opening_of, unopened};
+ghost use Rattle.trace_explain.specs.UnderWay.{IsOfLines};
+ghost use Rattle.trace_explain.specs.Lines.{first_of_all, read_on};
+ghost use Rattle.trace_explain.specs.Noted.{ended_by};
+ghost use Rattle.trace_explain.specs.Openings.{begins_answer, is_dialogue, opening_of, opens, role_of, unopened};
 ghost use Rattle.trace_explain.specs.Told.{Told, told_by};
-ghost use Rattle.trace_explain.specs.Turns.{turn_at};
+ghost use Rattle.trace_explain.specs.Turns.{source_at, turn_at};
 
 use crate::clock::Clock;
 use crate::complaint::{Complaint, Seen};
@@ -30,19 +29,18 @@ use crate::log::{Log, Logged};
 use crate::log_line::time_of;
 use crate::mask::Mask;
 use crate::notes::{Passed, tell_bytes, tell_note, tell_passed};
-use crate::opening::begins_answer;
+use crate::opening::{Role, begins_answer};
 use crate::output::Output;
 use crate::preface::Preface;
 use crate::preface_box::{tell_after, tell_before, tell_part};
 use crate::reading::Reading;
 use crate::refusal::Refusal;
 use crate::story::Story;
-use crate::time::{cut_clock, cut_time};
+use crate::time::cut_time;
 use crate::tpdu::Tpdu;
 use crate::tpdu_box::tell_box;
-use crate::trace_line::{BadLine, TraceLine, read_line};
+use crate::trace_line::{BadLine, Source, TraceLine, read_line};
 use crate::turn::{NoTurn, turn_before, turn_within};
-use crate::unsigned_line::{UnsignedLine, read_unsigned};
 use crate::ways::Ways;
 use std::alloc::{AllocError, Global};
 use t0_core::End;
@@ -58,6 +56,8 @@ pub struct Explainer {
     preface: Preface,
     came: bool,
     line: u64,
+    /// The last line of which characters that are of no TPDU and no part were told.
+    strays: u64,
     began: u64,
     clock: Clock,
     listener: Listener,
@@ -101,6 +101,7 @@ impl Explainer {
             preface: Preface::new(alloc),
             came: false,
             line: 0,
+            strays: 0,
             began: 0,
             clock: Clock::new(alloc),
             listener: Listener::new(alloc),
@@ -175,33 +176,19 @@ impl Explainer {
         ensures counts { OnOk result (self.new.line ≡ next_line self.old) }
         ensures of_lines { IfErr result IsOfLines }
     {
-        match self.reading.unsigned {
-            None => self.signed_line(line),
-            Some(ways) => self.unsigned_line(&ways, line),
-        }
-    }
-
-    /// Explains the next line of a trace without signs.
-    fn unsigned_line(&mut self, ways: &Ways, line: &[u8]) -> Result<(), ExplainFault>
-        ensures explained { (events : List Event) (before : List Told) →
-            HasExplained events before self.old →
-            OnOk result (ExplainsUnsigned ways.now line.now events before self.old self.new) }
-        ensures stops { (events : List Event) (before : List Told) →
-            HasExplained events before self.old →
-            IfErr result (λ fault. StopsAtUnsigned fault ways.now line.now self.old events before) }
-        ensures counts { OnOk result (self.new.line ≡ next_line self.old) }
-        ensures of_lines { IfErr result IsOfLines }
-    {
         self.line = self.line.saturating_add(1);
-        let (time, _) = cut_clock(line);
-        self.clock.pass(time)?;
-        match read_unsigned(self.alloc, line) {
-            Ok(UnsignedLine::Characters(bytes)) => self.unsigned(ways, bytes.as_slice()),
-            Ok(UnsignedLine::Reset) => {
+        let (time, rest) = cut_time(line);
+        self.clock.pass(self.reading.counted(time))?;
+        match read_line(self.alloc, &self.reading, line, time, rest) {
+            Ok(TraceLine::Characters(source, bytes)) => {
+                self.reading = self.reading.with(&source);
+                self.characters(&source, bytes.as_slice())
+            }
+            Ok(TraceLine::Reset) => {
                 self.reset()?;
                 Ok(())
             }
-            Ok(UnsignedLine::Note(note)) => {
+            Ok(TraceLine::Note(note)) => {
                 self.note(note)?;
                 Ok(())
             }
@@ -209,29 +196,44 @@ impl Explainer {
         }
     }
 
-    /// Explains characters of which no sign says who sent them: each is of the end that has the
-    /// turn.
-    fn unsigned(&mut self, ways: &Ways, bytes: &[u8]) -> Result<(), ExplainFault>
+    /// Explains the characters of a line, if they are not passed over.
+    fn characters(&mut self, source: &Source, bytes: &[u8]) -> Result<(), ExplainFault>
         ensures explained { (events : List Event) (before : List Told) →
-            HasExplained events before self.old →
-            OnOk result (ExplainsInTurn ways.now bytes.now events before self.old self.new) }
+            HasExplained events before self.old → OnOk result
+            (ExplainsCharacters source.now bytes.now events before self.old self.new) }
         ensures stops { (events : List Event) (before : List Told) →
             HasExplained events before self.old →
-            IfErr result (λ fault. StopsInTurn fault ways.now self.old.line (standing_of self.old)
-            bytes.now events before) }
+            IfErr result (λ fault. StopsAmong fault source.now self.old.line
+            (standing_of self.old) bytes.now events before) }
         ensures counts { OnOk result (self.new.line ≡ self.old.line) }
         ensures of_lines { IfErr result IsOfLines }
     {
+        if self.is_passed_over(source, bytes) {
+            return Ok(());
+        }
         for place in 0..bytes.len() {
-            if self.is_passed_over(End::Card, bytes) {
-                return Ok(());
-            }
-            match self.turn(ways, bytes[place]) {
-                Ok(from) => self.characters(from, &bytes[place..place + 1], place)?,
+            match self.sender(source, bytes[place]) {
+                Ok(from) => {
+                    let stops = self.character(from, bytes[place], &bytes[place..])?;
+                    if stops {
+                        return self.stop(source, from, bytes, place);
+                    }
+                }
                 Err(why) => return self.stop_unsent(place, why),
             }
         }
         Ok(())
+    }
+
+    /// Who sends this character, which comes next.
+    fn sender(&self, source: &Source, byte: u8) -> Result<End, NoTurn>
+        ensures { result ≡ source_at source.now self.now.reading (opening_of self.now.preface)
+            self.now.listener byte }
+    {
+        match source {
+            Source::Sign(_, from) => Ok(self.reading.sender(*from)),
+            Source::Turn(ways) => self.turn(ways, byte),
+        }
     }
 
     /// Whose turn it is to send this character.
@@ -263,37 +265,6 @@ impl Explainer {
             place,
             why,
         })
-    }
-
-    /// Explains the next line of a trace with signs.
-    fn signed_line(&mut self, line: &[u8]) -> Result<(), ExplainFault>
-        ensures explained { (events : List Event) (before : List Told) →
-            HasExplained events before self.old →
-            OnOk result (ExplainsSigned line.now events before self.old self.new) }
-        ensures stops { (events : List Event) (before : List Told) →
-            HasExplained events before self.old →
-            IfErr result (λ fault. StopsAtSigned fault line.now self.old events before) }
-        ensures counts { OnOk result (self.new.line ≡ next_line self.old) }
-        ensures of_lines { IfErr result IsOfLines }
-    {
-        self.line = self.line.saturating_add(1);
-        let (time, _) = cut_time(line);
-        self.clock.pass(time)?;
-        match read_line(self.alloc, self.reading.form, line) {
-            Ok(TraceLine::Characters(form, from, bytes)) => {
-                self.reading = self.reading.of_form(form);
-                self.characters(self.reading.sender(from), bytes.as_slice(), 0)
-            }
-            Ok(TraceLine::Reset) => {
-                self.reset()?;
-                Ok(())
-            }
-            Ok(TraceLine::Note(note)) => {
-                self.note(note)?;
-                Ok(())
-            }
-            Err(why) => Err(refused(self.line, why)),
-        }
     }
 
     /// Explains the next line of a log of TPDUs.
@@ -425,80 +396,89 @@ impl Explainer {
         Ok(())
     }
 
-    /// Explains characters of a line, behind so many others, if they are not passed over.
-    fn characters(&mut self, from: End, bytes: &[u8], ahead: usize) -> Result<(), ExplainFault>
-        requires within { ahead + length bytes.now < 2 ^ 64 }
-        ensures explained { (events : List Event) (before : List Told) →
-            HasExplained events before self.old →
-            OnOk result (ExplainsCharacters from bytes.now events before self.old self.new) }
-        ensures stops { (events : List Event) (before : List Told) →
-            HasExplained events before self.old →
-            IfErr result (λ fault. StopsRightly fault self.old.line ahead
-            (opening_of self.old.preface) from bytes.now events before) }
+    /// Takes a character, with which `rest` of its line begins: of an opening, or of the dialogue,
+    /// or one with which the card answers again. It answers whether it is none of these.
+    fn character(&mut self, from: End, byte: u8, rest: &[u8]) -> Result<bool, ExplainFault>
+        ensures takes { (events : List Event) (before : List Told) →
+            HasExplained events before self.old → IfOk result
+            (λ stops. TakesOrStops stops from byte events before self.old self.new) }
         ensures counts { OnOk result (self.new.line ≡ self.old.line) }
-        ensures of_lines { IfErr result IsOfLines }
+        ensures wants { IfErr result (λ fault. fault ≡ ExplainFault.OutOfMemory) }
     {
-        if self.is_passed_over(from, bytes) {
-            return Ok(());
-        }
-        self.came = came_after(self.came, bytes);
+        self.came = true;
         let begun = self.preface.stage().has_begun();
-        let start = self.open(from, bytes)?;
-        match self.hear(from, &bytes[start..])? {
-            None => Ok(()),
-            Some(place) if begun && self.answers_again(from, bytes[start + place]) => {
-                self.answer_again(&bytes[start + place..])?;
-                Ok(())
-            }
-            Some(place) => self.stop(from, bytes, start + place, ahead),
+        let opens = self.open(from, byte, rest)?;
+        if opens {
+            return Ok(false);
         }
+        let goes_on = self.hear(from, byte)?;
+        if goes_on {
+            return Ok(false);
+        }
+        if self.answers_again(begun, from, byte) {
+            self.answer_again(from, byte, rest)?;
+            return Ok(false);
+        }
+        Ok(true)
     }
 
-    /// Takes the characters of an opening, and tells of its parts that end; it answers how many
-    /// characters come before the first of the dialogue.
-    fn open(&mut self, from: End, bytes: &[u8]) -> Result<usize, AllocError>
-        ensures opens { IfOk result (λ start. OpensUpTo start (opening_of self.old.preface) from
-            bytes.now (opening_of self.new.preface)) }
+    /// Takes a character, with which `rest` of its line begins, if it is of an opening, and tells
+    /// of the parts that end; it answers whether it is none of the dialogue.
+    fn open(&mut self, from: End, byte: u8, rest: &[u8]) -> Result<bool, AllocError>
+        ensures opens { OnOk result (opening_of self.new.preface
+            ≡ opens (opening_of self.old.preface)
+            (role_of (opening_of self.old.preface) from byte) byte) }
+        ensures dialogue { IfOk result (λ is_of. is_dialogue
+            (role_of (opening_of self.old.preface) from byte) ≡ not is_of) }
         ensures keeps { OnOk result (KeepsHeard self.old self.new) }
     {
-        let mut tells_strays = true;
-        for place in 0..bytes.len() {
-            let role = self.preface.role_of(from, bytes[place]);
-            let rest = &bytes[place..];
-            tells_strays = tell_before(
-                role,
-                tells_strays,
+        let role = self.preface.role_of(from, byte);
+        self.tell_before(role, rest);
+        self.preface.take(role, byte, self.line)?;
+        if role.is_dialogue() {
+            return Ok(false);
+        }
+        self.is_led = true;
+        tell_after(role, &self.preface, &self.mask, &mut self.output.page);
+        self.output.outcome()?;
+        Ok(true)
+    }
+
+    /// Tells what comes before a character that is this, and with which `rest` of its line begins.
+    fn tell_before(&mut self, role: Role, rest: &[u8])
+        ensures keeps { KeepsAll self.old self.new }
+        ensures stays { StaysWritten self.old self.new }
+    {
+        tell_before(role, &self.preface, &self.mask, &mut self.output.page);
+        if role.is_stray() && self.strays != self.line {
+            self.strays = self.line;
+            tell_bytes(
+                "before a header, from the card:\n",
                 rest,
-                &self.preface,
                 &self.mask,
                 &mut self.output.page,
             );
-            self.preface.take(role, bytes[place], self.line)?;
-            if role.is_dialogue() {
-                return Ok(place);
-            }
-            self.is_led = true;
-            tell_after(role, &self.preface, &self.mask, &mut self.output.page);
         }
-        Ok(bytes.len())
     }
 
-    /// Whether the card answers again with this character, with which no dialogue goes on.
-    fn answers_again(&self, from: End, byte: u8) -> bool
-        ensures { result ≡ (begins_answer from byte
+    /// Whether the card answers again with this character, with which no dialogue goes on, where
+    /// one had begun before it.
+    fn answers_again(&self, begun: bool, from: End, byte: u8) -> bool
+        ensures { result ≡ (begun && begins_answer from byte
             && (length self.now.listener.under_way.header.items == 0)) }
     {
-        begins_answer(from, byte) && self.listener.under_way().is_empty()
+        begun && begins_answer(from, byte) && self.listener.under_way().is_empty()
     }
 
-    /// Takes these characters of the card as those behind a reset of which no line says.
-    fn answer_again(&mut self, bytes: &[u8]) -> Result<(), AllocError>
+    /// Takes this character, with which `rest` of its line begins, as the first behind a reset of
+    /// which no line says.
+    fn answer_again(&mut self, from: End, byte: u8, rest: &[u8]) -> Result<(), AllocError>
         ensures explained { (events : List Event) (before : List Told) →
-            (length self.old.listener.under_way.header.items == 0) ≡ true →
             HasExplained events before self.old →
-            OnOk result (ExplainsReset events before self.old self.new) }
-        ensures opened { OnOk result
-            (opening_of self.new.preface ≡ opened unopened Card bytes.now) }
+            (length self.old.listener.under_way.header.items == 0) ≡ true → OnOk result
+            (HasExplained (events ++ Reset ∷ []) before self.new × AddsBoxes [] self.old self.new) }
+        ensures opened { OnOk result (opening_of self.new.preface
+            ≡ opens unopened (role_of unopened from byte) byte) }
         ensures keeps { OnOk result ((self.new.came ≡ self.old.came)
             × (self.new.line ≡ self.old.line) × (self.new.reading ≡ self.old.reading)) }
     {
@@ -510,18 +490,17 @@ impl Explainer {
         };
         self.output.page.note_line(note);
         self.preface.reset();
-        self.open(End::Card, bytes)?;
-        self.output.outcome()?;
+        self.open(from, byte, rest)?;
         Ok(())
     }
 
     /// Whether such a line is passed over; a header ends that.
-    fn is_passed_over(&mut self, from: End, bytes: &[u8]) -> bool
+    fn is_passed_over(&mut self, source: &Source, bytes: &[u8]) -> bool
         ensures none { self.old.passes_over ≡ false →
             (result ≡ false) × (self.new ≡ self.old) }
         ensures counts { self.new.line ≡ self.old.line }
     {
-        if self.passes_over && self.may_begin(from, bytes) {
+        if self.passes_over && self.may_begin(source, bytes) {
             self.passes_over = false;
         }
         if self.passes_over {
@@ -535,100 +514,90 @@ impl Explainer {
 
     /// Whether it goes on with this line, as with a header: not where something is not shown, since
     /// what is taken for a header is, and may be data.
-    fn may_begin(&self, from: End, bytes: &[u8]) -> bool {
-        is_header(from, bytes) && !self.mask.hides()
+    fn may_begin(&self, source: &Source, bytes: &[u8]) -> bool {
+        let is_terminals = match source {
+            Source::Sign(_, from) => self.reading.sender(*from) == End::Terminal,
+            Source::Turn(_) => false,
+        };
+        is_terminals && bytes.len() == 5 && !self.mask.hides()
     }
 
-    /// Hears characters of the dialogue, and tells of the TPDUs that end; it answers the place of
-    /// the first with which none goes on, counted from 0.
-    fn hear(&mut self, from: End, bytes: &[u8]) -> Result<Option<usize>, ExplainFault>
-        ensures explained { (events : List Event) (before : List Told) →
+    /// Hears a character of the dialogue, and tells of the TPDU that ends with it or before it; it
+    /// answers whether a dialogue goes on with it.
+    fn hear(&mut self, from: End, byte: u8) -> Result<bool, ExplainFault>
+        ensures hears { (events : List Event) (before : List Told) →
             HasExplained events before self.old →
-            IfOk result (λ stop. HearsUpTo stop from bytes.now events before self.old self.new) }
+            IfOk result (λ goes_on. Hears goes_on from byte events before self.old self.new) }
         ensures keeps { OnOk result ((self.new.resumes ≡ self.old.resumes)
             × (self.new.passes_over ≡ self.old.passes_over)
             × (self.new.preface ≡ self.old.preface) × (self.new.came ≡ self.old.came)
             × (self.new.line ≡ self.old.line) × (self.new.reading ≡ self.old.reading)) }
-        ensures within { IfOk result (λ stop. IfSome stop (λ place. place < length bytes.now)) }
         ensures wants { IfErr result (λ fault. fault ≡ ExplainFault.OutOfMemory) }
     {
-        tell_passed(self.passed, &mut self.output.page);
-        self.note_beginning(from, bytes);
-        let mut told = Vec::new(self.alloc);
-        let heard = self.listener.hear_all(from, bytes, &mut told);
-        self.tell_all(told.as_slice())?;
-        self.note_next(told.is_empty());
-        match heard {
-            Ok(()) => Ok(None),
-            Err(stop) => match stop.refusal {
-                Refusal::NoDialogue(_) => Ok(Some(stop.place)),
-                Refusal::OutOfMemory => Err(ExplainFault::OutOfMemory),
-            },
+        self.note_beginning(from);
+        match self.listener.hear(from, byte) {
+            Ok(None) => Ok(true),
+            Ok(Some(tpdu)) => {
+                self.tell_whole(&tpdu)?;
+                Ok(true)
+            }
+            Err(Refusal::NoDialogue(_)) => Ok(false),
+            Err(Refusal::OutOfMemory) => Err(ExplainFault::OutOfMemory),
         }
     }
 
-    /// Notes the line in which a TPDU begins, where none is under way and the terminal sends, that
-    /// nothing is passed over, and the time.
-    fn note_beginning(&mut self, from: End, bytes: &[u8])
+    /// Notes that nothing is passed over any more, and the time; and the line in which a TPDU
+    /// begins, where none is under way and the terminal sends.
+    fn note_beginning(&mut self, from: End)
         ensures keeps { KeepsAll self.old self.new }
         ensures stays { StaysWritten self.old self.new }
     {
+        tell_passed(self.passed, &mut self.output.page);
         self.passed = None;
         self.clock.hear();
-        if from == End::Terminal && !bytes.is_empty() && self.listener.under_way().is_empty() {
+        if from == End::Terminal && self.listener.under_way().is_empty() {
             self.began = self.line;
             self.clock.begin();
         }
     }
 
-    /// Notes the line in which what is under way begins, where a TPDU has ended in it.
-    fn note_next(&mut self, none_ended: bool)
-        ensures keeps { KeepsAll self.old self.new }
-        ensures stays { StaysWritten self.old self.new }
-    {
-        if !none_ended && !self.listener.under_way().is_empty() {
-            self.began = self.line;
-            self.clock.begin();
-        }
-    }
-
-    /// Tells of the TPDUs that ended. The error is want of memory for anything told so far.
-    fn tell_all(&mut self, told: &[Tpdu]) -> Result<(), AllocError>
+    /// Tells of a TPDU that has ended, and notes the line in which what is under way begins.
+    fn tell_whole(&mut self, tpdu: &Tpdu) -> Result<(), AllocError>
         ensures keeps { OnOk result (KeepsAll self.old self.new) }
-        ensures boxes { OnOk result (AddsBoxes (map told_by told.now) self.old self.new) }
+        ensures boxes { OnOk result (AddsBoxes (told_by tpdu.now ∷ []) self.old self.new) }
     {
-        for tpdu in told {
-            self.tell_one(tpdu)?;
-            self.is_led = true;
-        }
+        self.tell_one(tpdu)?;
+        self.is_led = true;
         self.output.outcome()?;
+        if !self.listener.under_way().is_empty() {
+            self.began = self.line;
+            self.clock.begin();
+        }
         Ok(())
     }
 
     /// Tells of a TPDU, which is counted, and what it is among those before it.
     fn tell_one(&mut self, tpdu: &Tpdu) -> Result<(), AllocError>
         ensures keeps { OnOk result (KeepsAll self.old self.new) }
-        ensures boxes { (whole : Bool) → OnOk result
-            (AddsBoxes (if whole then told_by tpdu.now ∷ [] else []) self.old self.new) }
+        ensures boxes { OnOk result (AddsBoxes (told_by tpdu.now ∷ []) self.old self.new) }
     {
         self.counts.take(tpdu)?;
         let links = self.story.tell(tpdu)?;
         self.tell(tpdu, links)
     }
 
-    /// Tells of a character at this place, behind so many others of its line, with which no
-    /// dialogue goes on, and stops or passes over what follows.
+    /// Tells of a character at this place of a line, with which no dialogue goes on, and stops or
+    /// passes over what follows.
     fn stop(
         &mut self,
+        source: &Source,
         from: End,
         bytes: &[u8],
         place: usize,
-        ahead: usize,
     ) -> Result<(), ExplainFault>
-        requires within { ahead + place < 2 ^ 64 }
         ensures stopped { self.old.resumes ≡ false → Stopped result (record {
           line = self.old.line;
-          place = ahead + place;
+          place = place;
           due = due_at self.old.listener.tap;
           from = from;
           came = record { byte = get_or bytes.now place 0; hides = self.old.mask.hides };
@@ -639,7 +608,7 @@ impl Explainer {
     {
         let complaint = Complaint {
             line: self.line,
-            place: ahead + place,
+            place,
             due: self.listener.due(),
             from,
             came: Seen {
@@ -658,16 +627,7 @@ impl Explainer {
             return Err(ExplainFault::NoDialogue(complaint));
         }
         self.first = Some(self.first.unwrap_or(complaint));
-        self.resume(from, bytes, complaint.place)
-    }
-
-    /// Goes on after a character at this place of a line: with that line, where it is a header, and
-    /// else passes over what follows.
-    fn resume(&mut self, from: End, bytes: &[u8], place: usize) -> Result<(), ExplainFault>
-        ensures counts { self.new.line ≡ self.old.line }
-        ensures of_lines { IfErr result IsOfLines }
-    {
-        if self.may_begin(from, bytes) {
+        if self.may_begin(source, bytes) {
             return self.hear_header(bytes);
         }
         self.pass_over(place);
@@ -693,11 +653,8 @@ impl Explainer {
     {
         self.began = self.line;
         self.clock.begin();
-        let mut told = Vec::new(self.alloc);
-        match self.listener.hear_all(End::Terminal, bytes, &mut told) {
-            Ok(()) => Ok(()),
-            Err(_) => Err(ExplainFault::OutOfMemory),
-        }
+        self.listener.hear_header(bytes)?;
+        Ok(())
     }
 
     /// Explains a reset.
@@ -737,7 +694,8 @@ impl Explainer {
         ensures cut_off { (events : List Event) (before : List Told) →
             HasExplained events before self.old →
             OnOk result (ExplainsReset events before self.old self.new) }
-        ensures shown { OnOk result (AddsBoxes [] self.old self.new) }
+        ensures shown { OnOk result
+            (AddsBoxes (ended_by (told_by self.old.listener.under_way)) self.old self.new) }
         ensures keeps { OnOk result ((self.new.preface ≡ self.old.preface)
             × (self.new.came ≡ self.old.came)
             × (self.new.resumes ≡ self.old.resumes)
@@ -788,15 +746,14 @@ impl Explainer {
         self.output.is_whole()
     }
 
-    /// Explains what is under way where the trace ends, and adds the last block; nothing where what
-    /// was told ends within a line, since memory was wanting there.
+    /// Explains what is under way where the trace ends, and adds the last block; nothing where
+    /// memory was wanting before.
     pub fn end(&mut self) -> Result<(), AllocError>
         ensures stands { OnOk result (standing_of self.new ≡ standing_of self.old) }
-        ensures adds { self.old.reading.of_tpdus ≡ false →
-            OnOk result (AddsBoxes [] self.old self.new) }
+        ensures adds { self.old.reading.of_tpdus ≡ false → OnOk result
+            (AddsBoxes (ended_by (told_by self.old.listener.under_way)) self.old self.new) }
     {
-        self.output.join();
-        if ends_within_line(self.output.as_str()) {
+        if self.output.outcome().is_err() {
             return Ok(());
         }
         self.end_log()?;
@@ -833,8 +790,8 @@ impl Explainer {
     fn tell(&mut self, tpdu: &Tpdu, links: Links) -> Result<(), AllocError>
         requires asker { HasAsker tpdu.now.header.items links }
         ensures keeps { OnOk result (KeepsAll self.old self.new) }
-        ensures shows { OnOk result
-            (AddsBox links.number (told_by tpdu.now) self.old self.new) }
+        ensures shows { OnOk result (AddsBox links.number self.old.began (told_by tpdu.now)
+            (account_of self.old) (account_of self.new)) }
     {
         if self.keeps {
             let kept = self.kept_of(tpdu, links, self.output.another(self.alloc))?;
@@ -892,21 +849,4 @@ fn refused(line: u64, why: BadLine) -> ExplainFault
         BadLine::Signed => ExplainFault::Signed { line },
         BadLine::OutOfMemory => ExplainFault::OutOfMemory,
     }
-}
-
-/// Whether a text ends within a line.
-fn ends_within_line(text: &str) -> bool {
-    !text.is_empty() && !text.ends_with('\n')
-}
-
-/// Whether a character has come by then.
-fn came_after(came: bool, bytes: &[u8]) -> bool
-    ensures { result ≡ came_after came bytes.now }
-{
-    came || !bytes.is_empty()
-}
-
-/// Whether these can be the five characters of a header, alone in a line.
-fn is_header(from: End, bytes: &[u8]) -> bool {
-    from == End::Terminal && bytes.len() == 5
 }

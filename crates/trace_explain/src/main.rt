@@ -55,7 +55,6 @@ mod tpdu_box;
 mod trace_line;
 mod tree_row;
 mod turn;
-mod unsigned_line;
 mod ways;
 
 use main_status::{main_status, status_without_words};

@@ -63,6 +63,11 @@ impl Role {
         )
     }
 
+    /// Whether it is the card's, and of no part.
+    pub fn is_stray(self) -> bool {
+        matches!(self, Role::Stray)
+    }
+
     /// Whether it is part of the dialogue.
     pub fn is_dialogue(self) -> bool
         ensures { result ≡ is_dialogue self }

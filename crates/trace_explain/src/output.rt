@@ -1,6 +1,6 @@
 //! What is written: what is proved of TPDUs, and the words beside it.
 
-ghost use Rattle.std.specs.Prelude.{◌≡◌, ℕ, List, [], false, OnOk};
+ghost use Rattle.std.specs.Prelude.{◌≡◌, ℕ, List, [], true, false, IfErr, OnOk};
 ghost use Rattle.std.specs.String.{string_bytes};
 ghost use Rattle.trace_explain.specs.Sheets.{Adds, HasText, Joins};
 ghost use Rattle.trace_explain.specs.Written.{data_row, row};
@@ -98,16 +98,14 @@ impl Output {
         self.sheet.is_whole()
     }
 
-    /// Joins the words, and answers whether all is there. The error is want of memory, of which it
-    /// tells once.
+    /// Joins the words, and answers whether all is there. The error is want of memory.
     pub fn outcome(&mut self) -> Result<(), AllocError>
-        ensures { OnOk result ((Joins self.old.sheet self.new.sheet)
-            × (self.new.sheet.is_cut ≡ false)) }
+        ensures joins { Joins self.old.sheet self.new.sheet }
+        ensures whole { OnOk result (self.new.sheet.is_cut ≡ false) }
+        ensures cut { IfErr result (λ _. self.new.sheet.is_cut ≡ true) }
     {
         self.join();
-        let words = self.page.outcome();
-        self.sheet.outcome()?;
-        words
+        self.sheet.is_whole()
     }
 
     /// All that has been added.

@@ -6,12 +6,12 @@ use crate::layout::{Anchor, Head, Kind, Layout, Medium, Side};
 use crate::row::{ROW_INDENT, behind, between, push_before};
 use crate::sheet::Sheet;
 use crate::shown::push_line;
-use std::alloc::{AllocError, Global};
+use std::alloc::Global;
 
 /// The most columns of a line of text.
 const COLUMNS: usize = 100;
 
-/// An explanation to which more is added. Once memory ran out nothing more is, until that is asked.
+/// An explanation to which more is added. Once memory ran out nothing more is.
 #[derive(Drop)]
 pub struct Page {
     layout: Layout,
@@ -38,14 +38,6 @@ impl Page {
     /// Forgets what has been added, as it was written.
     pub fn clear(&mut self) {
         self.out.clear();
-    }
-
-    /// Whether all that was added is there. The error is want of memory, of which it tells once.
-    pub fn outcome(&mut self) -> Result<(), AllocError> {
-        let lines = self.lines.outcome();
-        self.lines.clear();
-        self.out.outcome()?;
-        lines
     }
 
     /// Whether memory ran out.

@@ -2,9 +2,12 @@
 
 ghost use Rattle.std.specs.Prelude.{◌≡◌};
 ghost use Rattle.t0_core.specs.TapSide.{other_end};
-ghost use Rattle.trace_explain.specs.Lines.{of_form, sender};
+ghost use Rattle.trace_explain.specs.Lines.{read_on};
+ghost use Rattle.trace_explain.specs.Turns.{sender};
 
 use crate::form::Form;
+use crate::time::are_decimal;
+use crate::trace_line::Source;
 use crate::ways::Ways;
 use t0_core::End;
 
@@ -22,13 +25,25 @@ pub struct Reading {
 }
 
 impl Reading {
-    /// The same, with lines of this form.
-    pub fn of_form(self, form: Form) -> Reading
-        ensures { result ≡ of_form form self }
+    /// The same behind a line of characters of this source, whose sign says the form.
+    pub fn with(self, source: &Source) -> Reading
+        ensures { result ≡ read_on source.now self }
     {
-        Reading {
-            form: Some(form),
-            ..self
+        match source {
+            Source::Sign(form, _) => Reading {
+                form: Some(*form),
+                ..self
+            },
+            Source::Turn(_) => self,
+        }
+    }
+
+    /// The time that is counted: where lines have no signs, digits alone are none.
+    pub fn counted<'a>(&self, time: &'a [u8]) -> &'a [u8] {
+        if self.unsigned.is_some() && are_decimal(time) {
+            &[]
+        } else {
+            time
         }
     }
 

@@ -1,6 +1,6 @@
 //! A text in the making, of which it is proved what is added to it.
 
-ghost use Rattle.std.specs.Prelude.{◌≡◌, ℕ, List, [], false, OnOk};
+ghost use Rattle.std.specs.Prelude.{◌≡◌, ℕ, List, [], true, false, IfErr, OnOk};
 ghost use Rattle.std.specs.String.{string_bytes};
 ghost use Rattle.std.specs.Char.{encode_utf8};
 ghost use Rattle.std.specs.Fmt.{decimal};
@@ -9,7 +9,7 @@ ghost use Rattle.trace_explain.specs.Sheets.{Adds, Joins};
 
 use crate::layout::Layout;
 use std::alloc::{AllocError, Global};
-use std::{fmt, mem};
+use std::fmt;
 
 /// A text to which more is added. Once memory ran out nothing more is: whoever adds to it asks
 /// once, at the end, whether all of it is there.
@@ -142,22 +142,10 @@ impl Sheet {
 
     /// Whether all is there. The error is want of memory.
     pub fn is_whole(&self) -> Result<(), AllocError>
-        ensures { OnOk result (self.now.is_cut ≡ false) }
+        ensures whole { OnOk result (self.now.is_cut ≡ false) }
+        ensures cut { IfErr result (λ _. self.now.is_cut ≡ true) }
     {
         if self.is_cut { Err(AllocError) } else { Ok(()) }
-    }
-
-    /// Whether all that was added is there. The error is want of memory, of which it tells once.
-    pub fn outcome(&mut self) -> Result<(), AllocError>
-        ensures layout { self.new.layout ≡ self.old.layout }
-        ensures whole { OnOk result ((self.old.is_cut ≡ false) × (self.new.is_cut ≡ false)) }
-        ensures text { string_bytes self.new.text ≡ string_bytes self.old.text }
-    {
-        if mem::replace(&mut self.is_cut, false) {
-            Err(AllocError)
-        } else {
-            Ok(())
-        }
     }
 
     /// The whole text.

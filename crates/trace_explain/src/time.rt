@@ -16,20 +16,18 @@ pub fn cut_time(line: &[u8]) -> (&[u8], &[u8])
     (time, behind_spaces(rest))
 }
 
-/// The same of a line without a sign, where a count is none: it is digits, as bytes are.
-pub fn cut_clock(line: &[u8]) -> (&[u8], &[u8])
-    ensures { result.1.now ≡ behind_clock line.now }
+/// What stands behind the time of a line without a sign, which has this time and this behind it: a
+/// count is none, as it is digits like bytes.
+pub fn behind_clock<'a>(line: &'a [u8], time: &[u8], rest: &'a [u8]) -> &'a [u8]
+    requires time { time.now ≡ time_in line.now }
+    requires rest { rest.now ≡ behind_time line.now }
+    ensures { result.now ≡ behind_clock line.now }
 {
-    let (time, rest) = cut_time(line);
-    if are_decimal(time) {
-        (&line[..0], line)
-    } else {
-        (time, rest)
-    }
+    if are_decimal(time) { line } else { rest }
 }
 
 /// Whether each of these is a digit from `0` to `9`.
-fn are_decimal(bytes: &[u8]) -> bool
+pub fn are_decimal(bytes: &[u8]) -> bool
     ensures { result ≡ are_decimal bytes.now }
 {
     for &byte in bytes {

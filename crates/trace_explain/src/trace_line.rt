@@ -1,19 +1,30 @@
-//! The lines of a trace.
+//! The lines of a trace of characters, with signs or without.
 ghost use Rattle.std.specs.Prelude.{◌≡◌, IfOk, IfErr};
-ghost use Rattle.trace_explain.specs.Lines.{Says, SpellsNothing, IsBadLine, begins_with_word, ends_word, is_signed};
-ghost use Rattle.trace_explain.specs.Times.{behind_time};
+ghost use Rattle.trace_explain.specs.Lines.{Says, SaysSigned, SaysUnsigned, SpellsNothing, IsBadLine, IsBadSigned, IsBadUnsigned, begins_with_word, ends_word, is_signed};
+ghost use Rattle.trace_explain.specs.Times.{behind_time, time_in};
 
 use crate::digits::{bytes_of, is_digits};
 use crate::form::{Form, Sign};
-use crate::time::{cut_time, place_of};
+use crate::reading::Reading;
+use crate::time::{behind_clock, place_of};
+use crate::ways::Ways;
 use std::alloc::{AllocError, Global};
 use t0_core::End;
+
+/// Who sends the characters of a line.
+#[derive(Clone, Copy)]
+pub enum Source {
+    /// The end of a sign, which is of this form.
+    Sign(Form, End),
+    /// The end whose turn it is, where this is said of the ways of instructions.
+    Turn(Ways),
+}
 
 /// What a line of a trace is.
 #[derive(Drop)]
 pub enum TraceLine<'a> {
-    /// Characters, behind the sign of an end in some form, and a time or none before it.
-    Characters(Form, End, Vec<u8>),
+    /// Characters, behind a time or none.
+    Characters(Source, Vec<u8>),
     /// `reset`: the card was reset.
     Reset,
     /// Any other line.
@@ -46,12 +57,36 @@ impl From<AllocError> for BadLine {
     }
 }
 
-/// What the line is, where lines are of this form, if that is known.
-pub fn read_line(alloc: Global, known: Option<Form>, line: &[u8]) -> Result<TraceLine<'_>, BadLine>
-    ensures says { IfOk result (λ said. Says known line.now said) }
-    ensures refused { IfErr result (λ why. IsBadLine why known line.now) }
+/// What the line is, as lines are read: it has this time, and this behind it.
+pub fn read_line<'a>(
+    alloc: Global,
+    reading: &Reading,
+    line: &'a [u8],
+    time: &[u8],
+    rest: &[u8],
+) -> Result<TraceLine<'a>, BadLine>
+    requires time { time.now ≡ time_in line.now }
+    requires rest { rest.now ≡ behind_time line.now }
+    ensures says { IfOk result (λ said. Says reading.now line.now said) }
+    ensures refused { IfErr result (λ why. IsBadLine why reading.now line.now) }
 {
-    let (_, rest) = cut_time(line);
+    match reading.unsigned {
+        None => read_signed(alloc, reading.form, line, rest),
+        Some(ways) => read_unsigned(alloc, ways, line, time, rest),
+    }
+}
+
+/// What the line is, where lines have signs of this form, if that is known.
+fn read_signed<'a>(
+    alloc: Global,
+    known: Option<Form>,
+    line: &'a [u8],
+    rest: &[u8],
+) -> Result<TraceLine<'a>, BadLine>
+    requires { rest.now ≡ behind_time line.now }
+    ensures says { IfOk result (λ said. SaysSigned known line.now said) }
+    ensures refused { IfErr result (λ why. IsBadSigned why known line.now) }
+{
     let (word, digits) = rest.split_at(place_of(b' ', rest));
     let Some(sign) = Sign::of_word(word) else {
         return without_sign(known, line, rest);
@@ -59,33 +94,60 @@ pub fn read_line(alloc: Global, known: Option<Form>, line: &[u8]) -> Result<Trac
     let bytes = bytes_of(alloc, digits)?;
     match known {
         Some(expected) if expected != sign.form => Err(BadLine::OtherForm(expected)),
-        _ => Ok(TraceLine::Characters(sign.form, sign.from, bytes)),
+        _ => Ok(TraceLine::Characters(Source::Sign(sign.form, sign.from), bytes)),
     }
+}
+
+/// What the line is, where lines have no signs. `Hex` is one of digits that are not two for each
+/// byte, and `Signed` one that begins with a sign.
+fn read_unsigned<'a>(
+    alloc: Global,
+    ways: Ways,
+    line: &'a [u8],
+    time: &[u8],
+    rest: &[u8],
+) -> Result<TraceLine<'a>, BadLine>
+    requires time { time.now ≡ time_in line.now }
+    requires rest { rest.now ≡ behind_time line.now }
+    ensures says { IfOk result (λ said. SaysUnsigned ways line.now said) }
+    ensures refused { IfErr result (λ why. IsBadUnsigned why line.now) }
+{
+    let digits = behind_clock(line, time, rest);
+    if is_digits(digits) {
+        return Ok(TraceLine::Characters(Source::Turn(ways), bytes_of(alloc, digits)?));
+    }
+    if is_signed(rest) {
+        return Err(BadLine::Signed);
+    }
+    Ok(match rest {
+        b"reset" => TraceLine::Reset,
+        _ => TraceLine::Note(line),
+    })
 }
 
 /// What a line is, behind whose time or none this stands, of which the first word is no sign.
 fn without_sign<'a>(
     known: Option<Form>,
     line: &'a [u8],
-    rest: &[u8],
+    behind: &[u8],
 ) -> Result<TraceLine<'a>, BadLine>
-    requires { rest.now ≡ behind_time line.now }
-    ensures says { IfOk result (λ said. Says known line.now said) }
+    requires { behind.now ≡ behind_time line.now }
+    ensures says { IfOk result (λ said. SaysSigned known line.now said) }
     ensures refused { IfErr result (λ why.
-        SpellsNothing line.now → IsBadLine why known line.now) }
+        SpellsNothing line.now → IsBadSigned why known line.now) }
 {
-    if is_signed(rest) {
+    if is_signed(behind) {
         return Err(BadLine::Hex);
     }
-    match rest {
+    match behind {
         b"reset" => Ok(TraceLine::Reset),
-        _ if known.is_none() && (is_digits(line) || is_digits(rest)) => Err(BadLine::NoSign),
+        _ if known.is_none() && (is_digits(line) || is_digits(behind)) => Err(BadLine::NoSign),
         _ => Ok(TraceLine::Note(line)),
     }
 }
 
 /// Whether the line begins with a sign; one of letters alone is a word.
-pub fn is_signed(line: &[u8]) -> bool
+fn is_signed(line: &[u8]) -> bool
     ensures { result ≡ is_signed line.now }
 {
     line.starts_with(b">")

@@ -9,10 +9,9 @@ use Rattle.trace_explain.proofs.explain.explain_chunk.Goals.{then-byte-eq10+in_o
 pub returns-in_err-line-clause-stops : goal.returns-in_err-line-clause-stops
 returns-in_err-line-clause-stops c = λ front reading all left come.
     let i = c.loop-byte.byte-index in
-    fed_stops front reading c.from_residual.result c.in_err-line.field-0.0 all
-    c.loop-byte.line.items
-    c.without_return.result.now (drop (i + 1) c.args.chunk.now ++ left) _ _ c.loop-byte.explainer
-    c.from_residual.ensures.1 (c.loop-byte.invariant front reading all left come)
+    fed_stops c.from_residual.result c.in_err-line.field-0.0 c.without_return.result.now
+    (drop (i + 1) c.args.chunk.now ++ left) _ c.from_residual.ensures.1
+    c.in_err-line.ensures.of_lines (c.loop-byte.invariant front reading all left come)
     (next_byte c.args.chunk.now left i c.loop-byte-test.true) c.if-byte-eq10.true
     (c.without_return.ensures ∙ ap strip_carriage_return c.as_slice.ensures.value)
     c.in_err-line.ensures.stops
@@ -22,36 +21,29 @@ loop-byte-preserved c = λ front reading all left come.
     let i = c.loop-byte.byte-index in
     let before = c.loop-byte.invariant front reading all left come in
     let next = next_byte c.args.chunk.now left i c.loop-byte-test.true in
+    let rest = drop (i + 1) c.args.chunk.now ++ left in
     elim c.if-byte-eq10.branch [
       | then-byte-eq10+in_ok-line w ↦
-          let P : List ℕ → Type 0 = λ line. HasCome front reading all line
-          (drop (i + 1) c.args.chunk.now ++ left)
-          w.line.new.self in
+          let P : List ℕ → Type 0 = λ line. HasCome front reading all line rest w.line.new.self in
           rw (w.explainer-is) (subst P (sym (ap (λ r. r.items) w.line-is ∙ w.clear.ensures.items))
-          (line_fed front reading all c.loop-byte.line.items w.without_return.result.now
-          (drop (i + 1) c.args.chunk.now ++ left) _ _ c.loop-byte.explainer w.line.new.self before
-          w.in_ok-line.ensures.counts next
-          w.if-byte-eq10.true
+          (line_fed w.without_return.result.now rest _ w.line.new.self before
+          w.in_ok-line.ensures.counts next w.if-byte-eq10.true
           (w.without_return.ensures ∙ ap strip_carriage_return w.as_slice.ensures.value)
           w.in_ok-line.ensures.explained))
       | else-byte-eq10+then-len-lt-LINE_LIMIT+in_ok-push w ↦
-          rw (w.explainer-is) (byte_more front reading all c.loop-byte.line.items
-          c.if-byte-eq10.line.items
-          (drop (i + 1) c.args.chunk.now ++ left) _ _ c.loop-byte.explainer before next
-          (ne_eqb _ 10 w.if-byte-eq10.false)
-          (ap (λ r. r.items) w.line-is ∙ w.in_ok-push.ensures))
+          rw (w.explainer-is) (byte_more c.if-byte-eq10.line.items rest _ before next
+          (ne_eqb _ 10 w.if-byte-eq10.false) (ap (λ r. r.items) w.line-is ∙ w.in_ok-push.ensures))
     ]
 
 pub returns-clause-explained : goal.returns-clause-explained
 returns-clause-explained c = λ front reading all left come.
-    none_of_chunk front reading all c.loop-byte.line.items c.args.chunk.now left
-    c.loop-byte.byte-index
-    c.loop-byte.explainer c.loop-byte-test.false (c.loop-byte.invariant front reading all left come)
+    none_of_chunk c.args.chunk.now left c.loop-byte.byte-index c.loop-byte-test.false
+    (c.loop-byte.invariant front reading all left come)
 
 pub returns-else-len-lt-LINE_LIMIT-clause-stops : goal.returns-else-len-lt-LINE_LIMIT-clause-stops
 returns-else-len-lt-LINE_LIMIT-clause-stops c = λ front reading all left come.
     let i = c.loop-byte.byte-index in
-    too_long front reading all c.loop-byte.line.items _ (drop (i + 1) c.args.chunk.now ++ left) _
-    c.next_line.result c.loop-byte.explainer (c.loop-byte.invariant front reading all left come)
+    too_long (drop (i + 1) c.args.chunk.now ++ left) _ c.next_line.result
+    (c.loop-byte.invariant front reading all left come)
     (next_byte c.args.chunk.now left i c.loop-byte-test.true) (ne_eqb _ 10 c.if-byte-eq10.false)
     (omega (arith, c.if-len-lt-LINE_LIMIT.false, c.len.ensures)) c.next_line.ensures

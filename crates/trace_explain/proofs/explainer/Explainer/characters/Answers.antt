@@ -1,123 +1,109 @@
-use Rattle.std.proofs.Common.{[], refl, ◌≡◌, ℕ, ◌+◌, ◌-◌, ◌==◌, ◌∙◌, length, drop, get_or, Option, Some, false, ap, subst, sym, take}
-use Rattle.std.proofs.lemmas.List.{take_rest}
+use Rattle.std.proofs.Common.{◌≡◌, ◌<◌, ◌≤◌, ◌∙◌, Bool, List, ℕ, true, false, ap, arith, get_or, length, refl, subst, sym, take, IfErr}
+use Rattle.std.proofs.lemmas.List.{take_all}
 use Rattle.trace_explain.specs.declared.explainer.Explainer.{Explainer}
-use Rattle.trace_explain.specs.Explained.{HearsUpTo, answers_again, is_astray}
-use Rattle.trace_explain.specs.Lines.{came_after}
-use Rattle.trace_explain.specs.Openings.{begins_answer, has_begun, opening_of}
-use Rattle.trace_explain.specs.Told.{told_by}
-use Rattle.trace_explain.specs.UnderWay.{OpensUpTo}
-use Rattle.trace_explain.proofs.AccountLemmas.{boxes_same}
-use Rattle.trace_explain.proofs.ExplainedLemmas.{both_hold, explained_on, explains_again, explains_heard, first_fails, hears_from, others_fail, stops_rightly}
+use Rattle.t0_core.specs.History.{Event}
+use Rattle.trace_explain.specs.Told.{Told}
+use Rattle.trace_explain.specs.Explained.{ExplainsCharacters, HasExplained, StopsAmong, TakesOrStops, standing_of}
+use Rattle.trace_explain.proofs.TakenLemmas.{none_resumes, none_stops, not_ok, taken_none, taken_on, unsent_stops}
 use Rattle.trace_explain.proofs.explainer.Explainer.characters.Goals as goal
-use Rattle.trace_explain.proofs.explainer.Explainer.characters.Goals.{then-begun+else-answers_again, else-begun}
 
-pub returns-in-None-clause-explained : goal.returns-in-None-clause-explained
-returns-in-None-clause-explained c = λ events before h.
-    let same = (c.is_passed_over.ensures.none h.passes_over).1 in
-    let start = c.in_ok-start.start in
-    let bytes = c.args.bytes.now in
-    let heard = take (length bytes - start) (drop start bytes) in
-    let heard_is = take_rest bytes start in
-    let after = opening_of c.open.new.self.preface in
-    let opened = c.in_ok-start.ensures.keeps in
-    let kept = c.in_ok-hear.ensures.keeps in
-    let P : Explainer → Type 0 = λ e. OpensUpTo start (opening_of e.preface) c.args.from bytes
-    after in
-    let Q : Option ℕ → Type 0 = λ stop. HearsUpTo stop c.args.from heard events before
-    c.args.self.now c.hear.new.self in
-    let begins = boxes_same [] c.args.self.now c.is_passed_over.new.self _ c.open.new.self same refl
-    refl refl refl opened.boxes in
-    let hears = hears_from c.in_ok-hear.field-0 c.args.from heard events before c.args.self.now
-    c.open.new.self c.hear.new.self begins (c.in_ok-hear.ensures.explained events before
-    (explained_on events before c.args.self.now c.is_passed_over.new.self c.open.new.self h same
-    opened.listener opened.resumes opened.passes_over opened.reading)) in
-    explains_heard start after c.args.from bytes heard events before c.args.self.now c.hear.new.self
-    (subst P same c.in_ok-start.ensures.opens) heard_is
-    (subst Q c.in-None.is hears)
-    (ap opening_of kept.2)
-    (kept.3 ∙ opened.came ∙ c.came_after-self.ensures
-    ∙ ap (λ (e : Explainer). came_after e.came bytes) same)
-    (kept.5 ∙ opened.reading ∙ ap (λ (e : Explainer). e.reading) same)
+pub loop-place-init : goal.loop-place-init
+loop-place-init c = (λ events before h. taken_none c.args.source.now events before _ h, refl)
 
-pub returns-in_ok-answer_again-in-Some-clause-explained :
-    goal.returns-in_ok-answer_again-in-Some-clause-explained
-returns-in_ok-answer_again-in-Some-clause-explained c = λ events before h.
-    let same = (c.is_passed_over.ensures.none h.passes_over).1 in
-    let start = c.in_ok-start.start in
-    let place = c.in-Some.place in
-    let bytes = c.args.bytes.now in
-    let heard = take (length bytes - start) (drop start bytes) in
-    let heard_is = take_rest bytes start in
-    let after = opening_of c.open.new.self.preface in
-    let opened = c.in_ok-start.ensures.keeps in
-    let kept = c.in_ok-hear.ensures.keeps in
-    let again_bytes =
-    take (length bytes - (start + place)) (drop (start + place) bytes) in
-    let again = c.in_ok-answer_again-in-Some.ensures in
-    let P : Explainer → Type 0 = λ e. OpensUpTo start (opening_of e.preface) c.args.from bytes
-    after in
-    let Q : Option ℕ → Type 0 = λ stop. HearsUpTo stop c.args.from heard events before
-    c.args.self.now c.hear.new.self in
-    let begins = boxes_same [] c.args.self.now c.is_passed_over.new.self _ c.open.new.self same refl
-    refl refl refl opened.boxes in
-    let hears = hears_from c.in_ok-hear.field-0 c.args.from heard events before c.args.self.now
-    c.open.new.self c.hear.new.self begins (c.in_ok-hear.ensures.explained events before
-    (explained_on events before c.args.self.now c.is_passed_over.new.self c.open.new.self h same
-    opened.listener opened.resumes opened.passes_over opened.reading)) in
-    let both = both_hold (begins_answer c.args.from (get_or bytes (start + place) 0))
-    (length (told_by c.hear.new.self.listener.under_way).header == 0)
-    (sym c.answers_again.ensures ∙ c.if-answers_again.true) in
-    explains_again start place after c.args.from bytes heard again_bytes events
-    before c.args.self.now c.hear.new.self c.answer_again.new.self
-    (subst P same c.in_ok-start.ensures.opens) heard_is
-    (ap (λ (e : Explainer). has_begun e.preface.stage) (sym same)
-    ∙ ap has_begun (sym c.stage.ensures) ∙ sym c.has_begun-begun.ensures ∙ c.if-begun.true)
-    (subst Q c.in-Some.is hears)
-    both.0 both.1 (λ es ts. again.explained es ts both.1) (take_rest bytes (start + place))
-    again.opened
-    (again.keeps.0 ∙ kept.3 ∙ opened.came ∙ c.came_after-self.ensures
-    ∙ ap (λ (e : Explainer). came_after e.came bytes) same)
-    (again.keeps.2 ∙ kept.5 ∙ opened.reading ∙ ap (λ (e : Explainer). e.reading) same)
+pub loop-place-preserved : goal.loop-place-preserved
+loop-place-preserved c = (
+  λ events before h.
+      let place = c.loop-place.place in
+      let bytes = c.args.bytes.now in
+      taken_on c.args.source.now bytes place c.in-Ok.from events before c.is_passed_over.new.self
+      c.loop-place.self c.character.new.self (omega (arith, c.loop-place-test.true))
+      (sym c.sender.ensures ∙ c.in-Ok.is)
+      (λ es ts k.
+      let Q : Bool → Type 0 = λ v. TakesOrStops v c.in-Ok.from (get_or bytes place 0) es ts
+      c.loop-place.self c.character.new.self in
+      subst Q c.if-stops.false (c.in_ok-stops-in-Ok.ensures.takes es ts k))
+      (c.loop-place.invariant.0 events before h),
+  c.in_ok-stops-in-Ok.ensures.counts ∙ c.loop-place.invariant.1,
+)
 
-pub returns-in-Some-2-clause-stops : goal.returns-in-Some-2-clause-stops
-returns-in-Some-2-clause-stops c = λ events before h.
-    let same = (c.is_passed_over.ensures.none h.passes_over).1 in
-    let start = c.in_ok-start.start in
-    let place = c.in-Some.place in
+pub returns-then-is_passed_over-clause-explained :
+    goal.returns-then-is_passed_over-clause-explained
+returns-then-is_passed_over-clause-explained c = λ events before h.
+    absurd (let no : false ≡ true = sym (c.is_passed_over.ensures.none h.1.1).0
+    ∙ c.if-is_passed_over.true in cc)
+
+pub returns-then-stops-clause-stops : goal.returns-then-stops-clause-stops
+returns-then-stops-clause-stops c = λ events before h.
+    let place = c.loop-place.place in
     let bytes = c.args.bytes.now in
-    let heard = take (length bytes - start) (drop start bytes) in
-    let heard_is = take_rest bytes start in
-    let after = opening_of c.open.new.self.preface in
-    let opened = c.in_ok-start.ensures.keeps in
-    let kept = c.in_ok-hear.ensures.keeps in
-    let P : Explainer → Type 0 = λ e. OpensUpTo start (opening_of e.preface) c.args.from bytes
-    after in
-    let Q : Option ℕ → Type 0 = λ stop. HearsUpTo stop c.args.from heard events before
-    c.args.self.now c.hear.new.self in
-    let begins = boxes_same [] c.args.self.now c.is_passed_over.new.self _ c.open.new.self same refl
-    refl refl refl opened.boxes in
-    let hears = hears_from c.in_ok-hear.field-0 c.args.from heard events before c.args.self.now
-    c.open.new.self c.hear.new.self begins (c.in_ok-hear.ensures.explained events before
-    (explained_on events before c.args.self.now c.is_passed_over.new.self c.open.new.self h same
-    opened.listener opened.resumes opened.passes_over opened.reading)) in
-    let hears_so : HearsUpTo (Some place) c.args.from heard events before c.args.self.now
-    c.hear.new.self = subst Q c.in-Some.is hears in
-    let stage_is : has_begun c.args.self.now.preface.stage ≡ c.has_begun-begun.result =
-    ap (λ (e : Explainer). has_begun e.preface.stage) (sym same)
-    ∙ ap has_begun (sym c.stage.ensures) ∙ sym c.has_begun-begun.ensures in
-    let begun = has_begun c.args.self.now.preface.stage in
-    let begins = begins_answer c.args.from (get_or bytes (start + place) 0) in
-    let nothing = length (told_by c.hear.new.self.listener.under_way).header == 0 in
-    let not_again : answers_again (opening_of c.args.self.now.preface) c.hear.new.self.listener
-    c.args.from (get_or bytes (start + place) 0) ≡ false =
-    elim c.if-begun.branch [
-      | then-begun+else-answers_again w ↦ others_fail begun begins nothing
-          (sym w.answers_again.ensures ∙ w.if-answers_again.false)
-      | else-begun w ↦ first_fails begun begins nothing (stage_is ∙ w.if-begun.false)
-    ] in
-    stops_rightly c.stop.result start place c.args.ahead c.hear.new.self.line c.args.self.now.line
-    (is_astray c.hear.new.self) c.hear.new.self.mask.hides after
-    c.args.from bytes heard events before c.args.self.now c.hear.new.self
-    (c.stop.ensures.stopped hears_so.1.resumes)
-    (kept.4 ∙ opened.line ∙ c.is_passed_over.ensures.counts)
-    (subst P same c.in_ok-start.ensures.opens) heard_is hears_so not_again
+    let source = c.args.source.now in
+    let first = c.is_passed_over.new.self in
+    let mid = c.loop-place.self in
+    let new = c.character.new.self in
+    let same = (c.is_passed_over.ensures.none h.1.1).1 in
+    let E : Explainer → Type 0 = λ e. HasExplained events before e in
+    let P : Explainer → Type 0 = λ e. IfErr c.stop.result (λ f. StopsAmong f source e.line
+    (standing_of e) bytes events before) in
+    let so_far = c.loop-place.invariant.0 events before (subst E (sym same) h) in
+    let stops : (es : List Event) (ts : List Told) → HasExplained es ts mid
+    → TakesOrStops true c.in-Ok.from (get_or bytes place 0) es ts mid new = λ es ts k.
+    let Q : Bool → Type 0 = λ v. TakesOrStops v c.in-Ok.from (get_or bytes place 0) es ts mid new in
+    subst Q c.if-stops.true (c.in_ok-stops-in-Ok.ensures.takes es ts k) in
+    subst P same (none_stops c.stop.result source bytes place new.line first.line c.in-Ok.from _ _
+    events before first mid new (omega (arith, c.loop-place-test.true))
+    (c.in_ok-stops-in-Ok.ensures.counts ∙ c.loop-place.invariant.1)
+    (sym c.sender.ensures ∙ c.in-Ok.is) stops
+    (c.stop.ensures.stopped (none_resumes source (take place bytes) c.in-Ok.from
+    (get_or bytes place 0) events before first mid new stops so_far)) so_far)
+
+pub returns-then-stops-clause-explained : goal.returns-then-stops-clause-explained
+returns-then-stops-clause-explained c = λ events before h.
+    let place = c.loop-place.place in
+    let bytes = c.args.bytes.now in
+    let first = c.is_passed_over.new.self in
+    let mid = c.loop-place.self in
+    let new = c.character.new.self in
+    let E : Explainer → Type 0 = λ e. HasExplained events before e in
+    let same = (c.is_passed_over.ensures.none h.1.1).1 in
+    not_ok c.stop.result _ _ (c.stop.ensures.stopped
+    (none_resumes c.args.source.now (take place bytes) c.in-Ok.from (get_or bytes place 0) events
+    before first mid new
+    (λ es ts k.
+    let Q : Bool → Type 0 = λ v. TakesOrStops v c.in-Ok.from (get_or bytes place 0) es ts mid new in
+    subst Q c.if-stops.true (c.in_ok-stops-in-Ok.ensures.takes es ts k))
+    (c.loop-place.invariant.0 events before (subst E (sym same) h))))
+
+pub returns-in-Err-clause-stops : goal.returns-in-Err-clause-stops
+returns-in-Err-clause-stops c = λ events before h.
+    let bytes = c.args.bytes.now in
+    let first = c.is_passed_over.new.self in
+    let same = (c.is_passed_over.ensures.none h.1.1).1 in
+    let E : Explainer → Type 0 = λ e. HasExplained events before e in
+    let P : Explainer → Type 0 = λ e. IfErr c.stop_unsent.result (λ f. StopsAmong f
+    c.args.source.now e.line (standing_of e) bytes events before) in
+    let so_far = c.loop-place.invariant.0 events before (subst E (sym same) h) in
+    subst P same (unsent_stops c.stop_unsent.result c.args.source.now bytes c.loop-place.place
+    c.loop-place.self.line first.line c.in-Err.why events before first c.loop-place.self
+    (omega (arith, c.loop-place-test.true)) c.loop-place.invariant.1
+    (sym c.sender.ensures ∙ c.in-Err.is) (c.stop_unsent.ensures.stopped so_far.3.explained.1.0)
+    so_far)
+
+pub returns-in-Err-clause-explained : goal.returns-in-Err-clause-explained
+returns-in-Err-clause-explained c = λ events before h.
+    let same = (c.is_passed_over.ensures.none h.1.1).1 in
+    let E : Explainer → Type 0 = λ e. HasExplained events before e in
+    not_ok c.stop_unsent.result _ _ (c.stop_unsent.ensures.stopped
+    (c.loop-place.invariant.0 events before (subst E (sym same) h)).3.explained.1.0)
+
+pub returns-clause-explained : goal.returns-clause-explained
+returns-clause-explained c = λ events before h.
+    let bytes = c.args.bytes.now in
+    let past : length bytes ≤ c.loop-place.place = omega (arith, c.loop-place-test.false) in
+    let same = (c.is_passed_over.ensures.none h.1.1).1 in
+    let E : Explainer → Type 0 = λ e. HasExplained events before e in
+    let P : List ℕ → Type 0 = λ bs. ExplainsCharacters c.args.source.now bs events before
+    c.is_passed_over.new.self c.loop-place.self in
+    let Q : Explainer → Type 0 = λ e. ExplainsCharacters c.args.source.now bytes events before e
+    c.loop-place.self in
+    subst Q same (subst P (take_all c.loop-place.place bytes past)
+    (c.loop-place.invariant.0 events before (subst E (sym same) h)))

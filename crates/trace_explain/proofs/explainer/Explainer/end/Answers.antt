@@ -1,17 +1,22 @@
-use Rattle.std.proofs.Common.{[], refl}
-use Rattle.trace_explain.proofs.AccountLemmas.{boxes_both, boxes_none, boxes_same, boxes_words}
+use Rattle.std.proofs.Common.{◌∙◌, refl, subst, sym}
+use Rattle.trace_explain.specs.declared.explainer.Explainer.{Explainer}
+use Rattle.trace_explain.specs.Account.{AddsBoxes}
+use Rattle.trace_explain.specs.Noted.{ended_by}
+use Rattle.trace_explain.specs.Told.{told_by}
+use Rattle.trace_explain.proofs.AccountLemmas.{boxes_both, boxes_cut, boxes_none, boxes_words}
 use Rattle.trace_explain.proofs.ExplainedLemmas.{on_ok_too}
 use Rattle.trace_explain.proofs.explainer.Explainer.end.Goals as goal
 
-pub returns-then-ends_within_line-clause-adds : goal.returns-then-ends_within_line-clause-adds
-returns-then-ends_within_line-clause-adds c = λ chars.
-    boxes_none c.args.self.now _ refl refl refl c.join.ensures
+pub returns-then-is_err-clause-adds : goal.returns-then-is_err-clause-adds
+returns-then-is_err-clause-adds c = λ chars.
+    boxes_cut c.outcome.result refl refl c.outcome.ensures.joins
+    (sym c.is_err.ensures.value ∙ c.if-is_err.true) c.outcome.ensures.cut
 
 pub returns-clause-adds : goal.returns-clause-adds
 returns-clause-adds c = λ chars.
-    on_ok_too c.outcome.result _ _ c.outcome.ensures (λ w.
-    boxes_words [] c.args.self.now c.cut_off.new.self _
-    (boxes_both [] [] c.args.self.now _ c.cut_off.new.self
-    (boxes_none c.args.self.now _ refl refl refl c.join.ensures)
-    (boxes_same [] _ c.end_log.new.self _ c.cut_off.new.self (c.end_log.ensures.none chars) refl
-    refl refl refl c.in_ok-cut_off.ensures.shown)) refl refl refl w.0)
+    let P : Explainer → Type 0 = λ e. AddsBoxes (ended_by (told_by e.listener.under_way)) e
+    c.cut_off.new.self in
+    on_ok_too c.outcome-2.result _ _ c.outcome-2.ensures.whole (λ w.
+    boxes_words (boxes_both (boxes_none refl refl refl c.outcome.ensures.joins)
+    (subst P (c.end_log.ensures.none chars) c.in_ok-cut_off.ensures.shown)) refl refl refl
+    c.outcome-2.ensures.joins)

@@ -1,79 +1,67 @@
-use Rattle.std.proofs.Common.{◌++◌, ◌∙◌, ap, get_or, map, subst, sym, take}
-use Rattle.t0_core.specs.Character.{sent_by}
-use Rattle.t0_core.specs.History.{passed}
+use Rattle.std.proofs.Common.{◌++◌, ◌∷◌, [], ◌∙◌, Option, subst, sym}
+use Rattle.t0_core.specs.History.{Passed}
 use Rattle.trace_explain.specs.declared.listener.Listener.{Listener}
-use Rattle.trace_explain.specs.declared.reading.Reading.{Reading}
 use Rattle.trace_explain.specs.declared.refusal.Refusal.{Refusal}
-use Rattle.trace_explain.specs.Noted.{HasNoted, NoneGoesOn, StopsWith}
-use Rattle.trace_explain.specs.Told.{told_by}
-use Rattle.trace_explain.proofs.AccountLemmas.{boxes_as, boxes_from, boxes_to}
-use Rattle.trace_explain.proofs.ExplainedLemmas.{noted_none}
+use Rattle.trace_explain.specs.declared.tpdu.Tpdu.{Tpdu}
+use Rattle.trace_explain.specs.Noted.{HasNoted, IsRefused, NoneGoesOn}
+use Rattle.trace_explain.specs.Told.{told_by, told_of}
+use Rattle.trace_explain.proofs.AccountLemmas.{boxes_from, boxes_stay}
+use Rattle.trace_explain.proofs.ExplainedLemmas.{explained_so}
 use Rattle.trace_explain.proofs.explainer.Explainer.hear.Goals as goal
 
-pub returns-in-Ok-clause-explained : goal.returns-in-Ok-clause-explained
-returns-in-Ok-clause-explained c = λ events before h.
+pub returns-in-Ok-None-clause-hears : goal.returns-in-Ok-None-clause-hears
+returns-in-Ok-None-clause-hears c = λ events before h.
     let kept = c.note_beginning.ensures.keeps in
-    let told = c.in_ok-tell_all.ensures.keeps in
-    let next = c.note_next.ensures.keeps in
     let stays = c.note_beginning.ensures.stays in
-    let after = c.note_next.ensures.stays in
-    let P : Listener → Type 0 = λ l.
-    HasNoted (events ++ passed (sent_by c.args.from c.args.bytes.now))
-    (before ++ map told_by c.hear_all-heard.new.told.items) l in (
-      map told_by c.hear_all-heard.new.told.items,
-      record {
-        noted = subst P (sym (next.listener ∙ told.listener)) (c.in-Ok.ensures.noted events before
-            (noted_none events before c.new-told.result.items c.args.self.now.listener
-            c.note_beginning.new.self.listener c.new-told.ensures.items kept.listener h.noted));
-        resumes = next.resumes ∙ told.resumes ∙ kept.resumes ∙ h.resumes;
-        passes_over = next.passes_over ∙ told.passes_over ∙ kept.passes_over ∙ h.passes_over;
-        hears = ap (λ (r : Reading). r.of_tpdus) (next.reading ∙ told.reading ∙ kept.reading)
-            ∙ h.hears;
-      },
-      boxes_to (map told_by c.hear_all-heard.new.told.items) c.args.self.now c.tell_all.new.self
-          c.note_next.new.self
-          (boxes_from (map told_by c.hear_all-heard.new.told.items) c.args.self.now _
-          c.tell_all.new.self stays.keeps stays.mask stays.counted stays.sheet
-          (boxes_as (map told_by c.as_slice.result.now)
-          (map told_by c.hear_all-heard.new.told.items) _ c.tell_all.new.self
-          (ap (map told_by) c.as_slice.ensures.value) c.in_ok-tell_all.ensures.boxes))
-          after.keeps after.mask after.counted after.sheet,
+    let P : Listener → Type 0 = λ l. HasNoted events before l in
+    let Q : Option Tpdu → Type 0 = λ told. HasNoted
+    (events ++ Passed (c.args.from, c.args.byte) ∷ [])
+    (before ++ told_of told) c.hear.new.self in (
+      [],
+      explained_so c.args.self.now
+          (record c.note_beginning.new.self { listener = c.hear.new.self })
+          (subst Q c.in-Ok-None.field-0-is
+          (c.in-Ok-None.ensures.noted events before (subst P (sym kept.listener) h.0))) h.1
+          kept.resumes kept.passes_over kept.reading,
+      boxes_from stays boxes_stay,
     )
 
-pub returns-in-NoDialogue-clause-explained : goal.returns-in-NoDialogue-clause-explained
-returns-in-NoDialogue-clause-explained c = λ events before h.
+pub returns-in_ok-tell_whole-in-Ok-Some-clause-hears :
+    goal.returns-in_ok-tell_whole-in-Ok-Some-clause-hears
+returns-in_ok-tell_whole-in-Ok-Some-clause-hears c = λ events before h.
     let kept = c.note_beginning.ensures.keeps in
-    let told = c.in_ok-tell_all.ensures.keeps in
-    let next = c.note_next.ensures.keeps in
     let stays = c.note_beginning.ensures.stays in
-    let after = c.note_next.ensures.stays in
-    let place = c.in-Err.stop.place in
-    let bytes = c.args.bytes.now in
-    let P : Listener → Type 0 = λ l. HasNoted
-    (events ++ passed (sent_by c.args.from (take place bytes)))
-    (before ++ map told_by c.hear_all-heard.new.told.items) l in
-    let Q : Refusal → Type 0 = λ why. StopsWith why place events c.args.from bytes
-    (before ++ map told_by c.hear_all-heard.new.told.items) c.hear_all-heard.new.self in
-    let N : Listener → Type 0 = λ l. NoneGoesOn l (c.args.from, get_or bytes place 0) in
-    let stops = subst Q c.in-NoDialogue.is (c.in-Err.ensures.refused events before
-    (noted_none events before c.new-told.result.items c.args.self.now.listener
-    c.note_beginning.new.self.listener c.new-told.ensures.items kept.listener h.noted)) in (
-      map told_by c.hear_all-heard.new.told.items,
-      record {
-        noted = subst P (sym (next.listener ∙ told.listener)) stops.1;
-        resumes = next.resumes ∙ told.resumes ∙ kept.resumes ∙ h.resumes;
-        passes_over = next.passes_over ∙ told.passes_over ∙ kept.passes_over ∙ h.passes_over;
-        hears = ap (λ (r : Reading). r.of_tpdus) (next.reading ∙ told.reading ∙ kept.reading)
-            ∙ h.hears;
-      },
-      stops.0,
-      subst N (sym (next.listener ∙ told.listener)) stops.2,
-      boxes_to (map told_by c.hear_all-heard.new.told.items) c.args.self.now c.tell_all.new.self
-          c.note_next.new.self
-          (boxes_from (map told_by c.hear_all-heard.new.told.items) c.args.self.now _
-          c.tell_all.new.self stays.keeps stays.mask stays.counted stays.sheet
-          (boxes_as (map told_by c.as_slice.result.now)
-          (map told_by c.hear_all-heard.new.told.items) _ c.tell_all.new.self
-          (ap (map told_by) c.as_slice.ensures.value) c.in_ok-tell_all.ensures.boxes))
-          after.keeps after.mask after.counted after.sheet,
+    let told = c.in_ok-tell_whole-in-Ok-Some.ensures in
+    let one = told_by c.in-Ok-Some.tpdu ∷ [] in
+    let P : Listener → Type 0 = λ l. HasNoted events before l in
+    let Q : Option Tpdu → Type 0 = λ t. HasNoted (events ++ Passed (c.args.from, c.args.byte) ∷ [])
+    (before ++ told_of t) c.hear.new.self in
+    let R : Listener → Type 0 = λ l. HasNoted (events ++ Passed (c.args.from, c.args.byte) ∷ [])
+    (before ++ one) l in (
+      one,
+      explained_so c.args.self.now c.tell_whole.new.self (subst R (sym told.keeps.listener)
+          (subst Q c.in-Ok-Some.field-0-is
+          (c.in-Ok-Some.ensures.noted events before (subst P (sym kept.listener) h.0)))) h.1
+          (told.keeps.resumes ∙ kept.resumes) (told.keeps.passes_over ∙ kept.passes_over)
+          (told.keeps.reading ∙ kept.reading),
+      boxes_from stays told.boxes,
+    )
+
+pub returns-in-Err-NoDialogue-clause-hears : goal.returns-in-Err-NoDialogue-clause-hears
+returns-in-Err-NoDialogue-clause-hears c = λ events before h.
+    let kept = c.note_beginning.ensures.keeps in
+    let stays = c.note_beginning.ensures.stays in
+    let old = c.note_beginning.new.self.listener in
+    let P : Refusal → Type 0 = λ why. IsRefused why old (c.args.from, c.args.byte)
+    c.hear.new.self in
+    let N : Listener → Type 0 = λ l. NoneGoesOn l (c.args.from, c.args.byte) in
+    let L : Listener → Type 0 = λ l. HasNoted events before l in
+    let refused = subst P c.in-Err-NoDialogue.field-0-is c.in-Err-NoDialogue.ensures.refused in
+    let same = refused.2 ∙ kept.listener in (
+      explained_so c.args.self.now
+          (record c.note_beginning.new.self { listener = c.hear.new.self })
+          (subst L (sym same) h.0) h.1 kept.resumes kept.passes_over kept.reading,
+      same,
+      subst N (sym refused.2) refused.0,
+      boxes_from stays boxes_stay,
     )

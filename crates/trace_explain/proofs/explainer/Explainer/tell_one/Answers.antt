@@ -5,7 +5,7 @@ use Rattle.trace_explain.proofs.ExplainedLemmas.{on_ok_too}
 use Rattle.trace_explain.proofs.explainer.Explainer.tell_one.Goals as goal
 
 pub returns-clause-boxes : goal.returns-clause-boxes
-returns-clause-boxes c = λ whole.
+returns-clause-boxes c =
     on_ok_too c.tell-2.result _ _ c.tell-2.ensures.shows
-    (λ h. boxes_one whole (told_by c.args.tpdu.now) c.in_ok-links.links.number c.args.self.now _
-    c.tell-2.new.self refl refl refl c.tell.ensures.next c.in_ok-links.ensures.number h)
+    (λ h. boxes_one (told_by c.args.tpdu.now) c.in_ok-links.links.number c.args.self.now.began refl
+    refl refl c.tell.ensures.next c.in_ok-links.ensures.number h)

@@ -7,9 +7,9 @@ use Rattle.trace_explain.proofs.listener.Listener.hear_behind_bare.Goals as goal
 
 pub returns-in_ok-note-in-Ok-clause-noted : goal.returns-in_ok-note-in-Ok-clause-noted
 returns-in_ok-note-in-Ok-clause-noted c = λ events before n.
-    heard_behind events before c.args.told.now.items c.push.new.told.items c.bared-whole.result
-    c.args.self.now c.cut.new.self _ c.in-Ok.heard c.args.byte n c.requires.bare c.requires.status
-    (c.cut.ensures.tap ∙ c.reset.ensures.afresh) c.cut.ensures.left c.in_ok-push.ensures
+    heard_behind events before c.bared-whole.result c.args.self.now c.cut.new.self _ c.in-Ok.heard
+    c.args.byte n c.requires.bare c.requires.status (c.cut.ensures.tap ∙ c.reset.ensures.afresh)
+    c.cut.ensures.left
     (c.bared-whole.ensures ∙ ap (λ t. bared (told_by t)) c.cut.ensures.cut)
     c.in-Ok.ensures.led c.in-Ok.ensures.taken.0 c.in_ok-note-in-Ok.ensures
 

@@ -444,11 +444,13 @@ impl Explainer {
         Ok(true)
     }
 
-    /// Tells what comes before a character that is this, and with which `rest` of its line begins.
+    /// Notes the time, and tells what comes before a character that is this, and with which `rest`
+    /// of its line begins.
     fn tell_before(&mut self, role: Role, rest: &[u8])
         ensures keeps { KeepsAll self.old self.new }
         ensures stays { StaysWritten self.old self.new }
     {
+        self.clock.hear();
         tell_before(role, &self.preface, &self.mask, &mut self.output.page);
         if role.is_stray() && self.strays != self.line {
             self.strays = self.line;
@@ -546,15 +548,14 @@ impl Explainer {
         }
     }
 
-    /// Notes that nothing is passed over any more, and the time; and the line in which a TPDU
-    /// begins, where none is under way and the terminal sends.
+    /// Notes that nothing is passed over any more, and the line in which a TPDU begins, where none
+    /// is under way and the terminal sends.
     fn note_beginning(&mut self, from: End)
         ensures keeps { KeepsAll self.old self.new }
         ensures stays { StaysWritten self.old self.new }
     {
         tell_passed(self.passed, &mut self.output.page);
         self.passed = None;
-        self.clock.hear();
         if from == End::Terminal && self.listener.under_way().is_empty() {
             self.began = self.line;
             self.clock.begin();

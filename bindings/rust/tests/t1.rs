@@ -58,6 +58,12 @@ fn gives_up(end: &mut T1, cause: Cause, outcome: Outcome) {
     assert_eq!(end.response_into(&mut room), Err(Error::State));
     let fault = end.fault().expect("a fault");
     assert_eq!((fault.cause, fault.outcome), (cause, outcome));
+    let words = match outcome {
+        Outcome::NotCarriedOut => "the card has not carried out the command",
+        Outcome::Unknown => "the card may have carried out the command",
+        Outcome::InPart => "the card has carried out the command",
+    };
+    assert!(fault.to_string().ends_with(words));
     end.reset().expect("a handle");
     assert_eq!(end.fault(), None);
     assert_eq!(end.block_into(&mut room), Ok(None));
@@ -112,9 +118,6 @@ fn faults() {
     end.missed().expect("a block is awaited");
     end.missed().expect("a block is awaited");
     let text = end.fault().expect("a fault").to_string();
-    assert_eq!(
-        text,
-        "no valid block, too often: the card has not carried out the command"
-    );
+    assert!(text.starts_with("no valid block, too often: "));
     gives_up(&mut end, Cause::TriesSpent, Outcome::NotCarriedOut);
 }

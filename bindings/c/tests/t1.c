@@ -225,10 +225,41 @@ static void requests(void) {
     gt_t1_free(&t);
 }
 
+/* An I-block inside a chain without a field is invalid: a chain of them would never end. */
+static void empty_fields(void) {
+    gt_t1 t = GT_INIT;
+    int i;
+    open_end(&t, 5, GET, sizeof GET);
+    sends(&t, 0x00, GET, 5, 1);
+    for (i = 0; i < 2; i++) {
+        comes(&t, 0x20, NULL, 0);
+        sends(&t, 0x80, NULL, 0, 1);
+    }
+    comes(&t, 0x20, NULL, 0);
+    is_faulty(&t, GT_TRIES_SPENT, GT_UNKNOWN);
+    gt_t1_free(&t);
+    open_end(&t, 5, GET, sizeof GET);
+    comes(&t, 0x20, GET, 3);
+    for (i = 0; i < 2; i++) {
+        sends(&t, 0x90, NULL, 0, 1);
+        comes(&t, 0x60, NULL, 0);
+    }
+    sends(&t, 0x90, NULL, 0, 1);
+    comes(&t, 0x60, NULL, 0);
+    is_faulty(&t, GT_TRIES_SPENT, GT_IN_PART);
+    gt_t1_free(&t);
+    open_end(&t, 5, GET, sizeof GET);
+    comes(&t, 0x20, GET, 3);
+    comes(&t, 0x40, NULL, 0);
+    responds(&t, GET, 3);
+    gt_t1_free(&t);
+}
+
 int main(void) {
     arguments();
     chains();
     tries();
+    empty_fields();
     requests();
     return check_result("t1");
 }

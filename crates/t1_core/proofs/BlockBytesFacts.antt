@@ -1,6 +1,7 @@
 -- A block is spelled in one way, and read as it is spelled.
-use Rattle.std.proofs.Common.{◌≡◌, refl, sym, ap, ◌∙◌, ℕ, ◌+◌, ◌≤◌, true, false, List, [], ◌∷◌, ◌++◌, length, take, Some, slice_index, length-append, arith, nat_lt, ◌==◌, eq-eqb}
+use Rattle.std.proofs.Common.{◌≡◌, refl, sym, ap, subst, ◌∙◌, ℕ, ◌+◌, ◌≤◌, Bool, true, false, Option, None, List, [], ◌∷◌, ◌++◌, length, take, Some, slice_index, length-append, arith, nat_lt, ◌==◌, eq-eqb}
 use Rattle.std.specs.List.{slice_range}
+use Rattle.std.proofs.lemmas.Option.{same_Some}
 use Rattle.std.proofs.Math.Seq.{take-append_seam, get_or-append_seam}
 use Rattle.t1_core.specs.declared.pcb.Pcb.{Pcb}
 use Rattle.t1_core.specs.declared.pcb.Pcb.TheVariants.{Information, Ready, Supervisory}
@@ -9,7 +10,7 @@ use Rattle.t1_core.specs.declared.pcb.Subject.TheVariants.{Resynch, Ifs, Abort, 
 use Rattle.t1_core.specs.PcbBytes.{pcb_byte, pcb_of}
 use Rattle.t1_core.specs.declared.control.Control.{Control}
 use Rattle.t1_core.specs.declared.control.Control.TheVariants as control
-use Rattle.t1_core.specs.Block.{Block, I, R, Request, Response}
+use Rattle.t1_core.specs.Block.{Block, I, R, Request, Response, is_filled}
 use Rattle.t1_core.specs.BlockBytes.{lrc, before_lrc, spelled, parts_of, block_in, block_of, bytes_of, pcb_for, info_of, control_of, controlled, field_of, subject_of}
 
 -- of all PCBs
@@ -70,13 +71,39 @@ controls (control.Ifs size) = refl
 controls control.Abort = refl
 controls (control.Wtx multiple) = refl
 
-block_again : (b : Block) → block_in (Some (pcb_for b, info_of b)) ≡ Some b
-block_again (I number more field) = refl
-block_again (R number) = refl
-block_again (Request c) = ap (controlled false) (controls c)
-block_again (Response c) = ap (controlled true) (controls c)
+block_again : (b : Block) → is_filled b ≡ true → block_in (Some (pcb_for b, info_of b)) ≡ Some b
+block_again (I number true []) filled = absurd (cc)
+block_again (I number true (b ∷ field)) filled = refl
+block_again (I number false field) filled = refl
+block_again (R number) filled = refl
+block_again (Request c) filled = ap (controlled false) (controls c)
+block_again (Response c) filled = ap (controlled true) (controls c)
 
-pub reads_written : (b : Block) (bytes : List ℕ) → length (info_of b) ≤ 254 → bytes ≡ bytes_of b
-    → block_of bytes ≡ Some b
-reads_written b bytes few is =
-    ap block_of is ∙ ap block_in (reads_spelled (pcb_for b) (info_of b) few) ∙ block_again b
+pub reads_written : (b : Block) (bytes : List ℕ) → length (info_of b) ≤ 254 → is_filled b ≡ true
+    → bytes ≡ bytes_of b → block_of bytes ≡ Some b
+reads_written b bytes few filled is =
+    ap block_of is ∙ ap block_in (reads_spelled (pcb_for b) (info_of b) few) ∙ block_again b filled
+
+-- what is read has a field inside a chain
+controlled_is_filled : (response : Bool) (c : Option Control) (b : Block)
+    → controlled response c ≡ Some b → is_filled b ≡ true
+controlled_is_filled true (Some c) b e = subst (λ x. is_filled x ≡ true) (same_Some _ _ e) refl
+controlled_is_filled false (Some c) b e = subst (λ x. is_filled x ≡ true) (same_Some _ _ e) refl
+controlled_is_filled response None b e = absurd (cc)
+
+block_is_filled : (parts : Option (Pcb × List ℕ)) (b : Block) → block_in parts ≡ Some b
+    → is_filled b ≡ true
+block_is_filled None b e = absurd (cc)
+block_is_filled (Some (Information number true, [])) b e = absurd (cc)
+block_is_filled (Some (Information number true, x ∷ field)) b e =
+    subst (λ x. is_filled x ≡ true) (same_Some _ _ e) refl
+block_is_filled (Some (Information number false, field)) b e =
+    subst (λ x. is_filled x ≡ true) (same_Some _ _ e) refl
+block_is_filled (Some (Ready number reason, [])) b e =
+    subst (λ x. is_filled x ≡ true) (same_Some _ _ e) refl
+block_is_filled (Some (Ready number reason, x ∷ field)) b e = absurd (cc)
+block_is_filled (Some (Supervisory response what, field)) b e =
+    controlled_is_filled response (control_of what field) b e
+
+pub read_is_filled : (bytes : List ℕ) (b : Block) → block_of bytes ≡ Some b → is_filled b ≡ true
+read_is_filled bytes b e = block_is_filled (parts_of bytes) b e

@@ -1,15 +1,17 @@
--- A terminal that makes no step forward stops, whatever any peer sends.
-use Rattle.std.proofs.Common.{◌≡◌, refl, ap, ℕ, zero, suc, ◌+◌, ◌≤◌, ◌<◌, Bool, true, false, List, [], ◌∷◌, length, nat_lt, Option, Some, None, cond, ◌==◌, arith, ◌⊎◌, inl, inr}
+-- A terminal stops, whatever any peer sends.
+use Rattle.std.proofs.Common.{◌≡◌, refl, ap, ℕ, zero, suc, ◌+◌, ◌*◌, ◌≤◌, ◌<◌, Bool, true, false, List, [], ◌∷◌, length, length-append, length-drop, nat_lt, Option, Some, None, cond, ◌==◌, arith, ◌⊎◌, inl, inr}
 use Rattle.t1_core.specs.declared.control.Control.{Control}
 use Rattle.t1_core.specs.declared.control.Control.TheVariants.{Resynch, Ifs, Abort, Wtx}
 use Rattle.t1_core.specs.declared.terminal.Out.{Out}
 use Rattle.t1_core.specs.declared.terminal.Out.TheVariants.{Own, Asks}
 use Rattle.t1_core.specs.declared.terminal.Phase.{Phase}
 use Rattle.t1_core.specs.declared.terminal.Phase.TheVariants.{Opening, Sending, Receiving, Aborting, Over, GivenUp}
-use Rattle.t1_core.specs.Block.{Block, I, R, Request, Response, same, is_size}
-use Rattle.t1_core.specs.Mild.{Stays, StaysAlong, takes_all}
+use Rattle.t1_core.specs.Block.{Block, I, R, Request, Response, is_filled, is_size, same}
+use Rattle.t1_core.specs.BlockBytes.{block_of}
+use Rattle.t1_core.specs.Mild.{meets_all, most_receptions, steps_left}
 use Rattle.t1_core.specs.TerminalSide.{Terminal, spend, takes, takes_in, takes_opening, takes_sending, takes_receiving, takes_field, gathers, acknowledged, answered, asked, extend, opens, longest, has_stopped}
-use Rattle.t1_core.proofs.Bits.{other_is_not}
+use Rattle.t1_core.proofs.BlockBytesFacts.{read_is_filled}
+use Rattle.t1_core.proofs.Measure.{weigh}
 
 -- what a phase can still come to without a step forward
 abbrev room : Phase → ℕ
@@ -21,95 +23,143 @@ room Over = 0
 room (GivenUp cause) = 0
 
 abbrev left : Terminal → ℕ
-left t = t.tries + t.extensions + room t.phase
+left t = t.tries + t.extensions + room t.phase + steps_left t * (t.settings.tries + 1)
 
--- a step forward, or an end, or less than before
+-- an end, or less than before
+abbrev Ends : Terminal → Terminal → Type 0
+Ends old new = (has_stopped new.phase ≡ true) ⊎ (left new + 1 ≤ left old)
+
+-- what stays on the way
+abbrev Stands : Terminal → Terminal → Type 0
+Stands old new = (new.settings ≡ old.settings) × (0 < new.size)
+
 abbrev Takes : Terminal → Terminal → Type 0
-Takes old new = (Stays old new → ⊥) ⊎ (has_stopped new.phase ≡ true) ⊎ (left new + 1 ≤ left old)
+Takes old new = Stands old new × Ends old new
 
-spends : (t : Terminal) (out : Out) → Takes t (spend t.tries t out)
-spends t out = Of t.tries refl where
-  Of : (n : ℕ) → t.tries ≡ n → Takes t (spend n t out)
-  Of zero e = inr (inl refl)
-  Of (suc n) e = inr (inr (omega (arith, e)))
+module _ (t : Terminal) (sized : 0 < t.size) where
+  spends : (out : Out) → Takes t (spend t.tries t out)
+  spends out = Of t.tries refl where
+    Of : (n : ℕ) → t.tries ≡ n → Takes t (spend n t out)
+    Of zero e = ((refl, sized), inl refl)
+    Of (suc n) e = ((refl, sized), inr (omega (arith, e)))
 
-either : (t x y : Terminal) (c : Bool) → Takes t x → Takes t y → Takes t (cond c x y)
-either t x y true p q = p
-either t x y false p q = q
+  either : (x y : Terminal) (c : Bool) → Takes t x → Takes t y → Takes t (cond c x y)
+  either x y true p q = p
+  either x y false p q = q
 
-field_spends : (t : Terminal) (more : Bool) (f : List ℕ) → Takes t (takes_field more t f)
-field_spends t true f = inl (λ s. other_is_not t.due s.1)
-field_spends t false f = inl (λ s. other_is_not t.due s.1)
+  -- a field within the limit
+  field_spends : (n more : Bool) (f : List ℕ) → is_filled (I n more f) ≡ true
+      → 1 ≤ room t.phase → nat_lt t.settings.limit (length t.got + length f) ≡ false
+      → Takes t (takes_field more t f)
+  field_spends n false f filled some fits = ((refl, sized), inl refl)
+  field_spends n true [] filled some fits = absurd (cc)
+  field_spends n true (b ∷ f) filled some fits =
+      let k : ℕ = t.settings.tries + 1 in
+      let longer = length-append t.got (b ∷ f) in
+      let old : ℕ = steps_left t in
+      let new : ℕ = steps_left (takes_field true t (b ∷ f)) in
+      let step : new + 1 ≤ old = grind (arith, fits, longer) in
+      let less = weigh new old k step in
+      ((refl, sized), inr (omega (arith, less, some)))
 
-gathers_spends : (t : Terminal) (more : Bool) (f : List ℕ) → Takes t (gathers more t f)
-gathers_spends t more f =
-    either t _ _ (nat_lt t.settings.limit (length t.got + length f)) (inr (inl refl))
-    (field_spends t more f)
+  gathers_spends : (n more : Bool) (f : List ℕ) → is_filled (I n more f) ≡ true
+      → 1 ≤ room t.phase → Takes t (gathers more t f)
+  gathers_spends n more f filled some =
+      Of (nat_lt t.settings.limit (length t.got + length f)) refl where
+        Of : (v : Bool) → nat_lt t.settings.limit (length t.got + length f) ≡ v
+            → Takes t (gathers more t f)
+        Of true e = rw e ((refl, sized), inl refl)
+        Of false e = rw e (field_spends n more f filled some e)
 
-acknowledged_spends : (t : Terminal) (rest : List ℕ) → Takes t (acknowledged rest t)
-acknowledged_spends t [] = spends t Asks
-acknowledged_spends t (b ∷ bytes) = inl (λ s. other_is_not t.number s.0)
+  acknowledged_spends : (rest : List ℕ) → t.rest ≡ rest → Takes t (acknowledged rest t)
+  acknowledged_spends [] e = spends Asks
+  acknowledged_spends (b ∷ bytes) e =
+      let k : ℕ = t.settings.tries + 1 in
+      let cut = length-drop t.size (b ∷ bytes) in
+      let long : length t.rest ≡ suc (length bytes) = ap length e in
+      let old : ℕ = steps_left t in
+      let new : ℕ = steps_left (acknowledged (b ∷ bytes) t) in
+      let step : new + 1 ≤ old = grind (arith, cut, long, sized) in
+      let less = weigh new old k step in
+      ((refl, sized), inr (omega (arith, less)))
 
-answered_spends : (t : Terminal) (rest : List ℕ) (more : Bool) (f : List ℕ)
-    → Takes t (answered rest t more f)
-answered_spends t [] more f = inl (λ s. other_is_not t.number s.0)
-answered_spends t (b ∷ bytes) more f = spends t Asks
+  answered_spends : (n more : Bool) (rest f : List ℕ) → is_filled (I n more f) ≡ true
+      → 1 ≤ room t.phase → Takes t (answered rest t more f)
+  answered_spends n more [] f filled some = gathers_spends n more f filled some
+  answered_spends n more (b ∷ bytes) f filled some = spends Asks
 
-extended : (t : Terminal) (size : ℕ) (control : Control) (n : ℕ) → t.extensions ≡ n
-    → Takes t (extend n (record t { size = size }) control)
-extended t size control zero e = inr (inl refl)
-extended t size control (suc n) e = inr (inr (omega (arith, e)))
+  extended : (size : ℕ) (control : Control) (n : ℕ) → 0 < size → t.extensions ≡ n
+      → Takes t (extend n (record t { size = size }) control)
+  extended size control zero some e = ((refl, some), inl refl)
+  extended size control (suc n) some e = ((refl, some), inr (omega (arith, e)))
 
-asked_spends : (t : Terminal) (control : Control) → 1 ≤ room t.phase → Takes t (asked control t)
-asked_spends t (Wtx multiple) some = extended t t.size (Wtx multiple) t.extensions refl
-asked_spends t (Ifs size) some =
-    either t _ _ (is_size size) (extended t size (Ifs size) t.extensions refl) (spends t Asks)
-asked_spends t Abort some = inr (inr (omega (arith, some)))
-asked_spends t Resynch some = spends t Asks
+  resized : (size : ℕ) (v : Bool) → is_size size ≡ v
+      → Takes t (cond v (extend t.extensions (record t { size = size }) (Ifs size))
+      (spend t.tries t Asks))
+  resized zero true e = absurd (cc)
+  resized (suc n) true e = extended (suc n) (Ifs (suc n)) t.extensions (omega arith) refl
+  resized size false e = spends Asks
 
-opens_spends : (t : Terminal) (control : Control) → t.phase ≡ Opening → Takes t (opens control t)
-opens_spends t (Ifs size) e =
-    either t _ _ (size == longest)
-    (let two : room t.phase ≡ 2 = ap room e in inr (inr (omega (arith, two)))) (spends t Asks)
-opens_spends t (Wtx multiple) e = spends t Asks
-opens_spends t Abort e = spends t Asks
-opens_spends t Resynch e = spends t Asks
+  asked_spends : (control : Control) → 1 ≤ room t.phase → Takes t (asked control t)
+  asked_spends (Wtx multiple) some = extended t.size (Wtx multiple) t.extensions sized refl
+  asked_spends (Ifs size) some = resized size (is_size size) refl
+  asked_spends Abort some = ((refl, sized), inr (omega (arith, some)))
+  asked_spends Resynch some = spends Asks
 
-opening_spends : (t : Terminal) (b : Block) → t.phase ≡ Opening → Takes t (takes_opening b t)
-opening_spends t (I n more f) e = spends t Asks
-opening_spends t (R n) e = spends t Asks
-opening_spends t (Request control) e =
-    asked_spends t control (let two : room t.phase ≡ 2 = ap room e in omega (arith, two))
-opening_spends t (Response control) e = opens_spends t control e
+  opens_spends : (control : Control) → t.phase ≡ Opening → Takes t (opens control t)
+  opens_spends (Ifs size) e =
+      either _ _ (size == longest)
+      (let two : room t.phase ≡ 2 = ap room e in ((refl, sized), inr (omega (arith, two))))
+      (spends Asks)
+  opens_spends (Wtx multiple) e = spends Asks
+  opens_spends Abort e = spends Asks
+  opens_spends Resynch e = spends Asks
 
-sending_spends : (t : Terminal) (b : Block) → t.phase ≡ Sending → Takes t (takes_sending b t)
-sending_spends t (I n more f) e =
-    either t _ _ (same n t.due) (answered_spends t t.rest more f) (spends t Asks)
-sending_spends t (R n) e = either t _ _ (same n t.number) (spends t Own)
-    (acknowledged_spends t t.rest)
-sending_spends t (Request control) e =
-    asked_spends t control (let one : room t.phase ≡ 1 = ap room e in omega (arith, one))
-sending_spends t (Response control) e = spends t Asks
+  opening_spends : (b : Block) → t.phase ≡ Opening → Takes t (takes_opening b t)
+  opening_spends (I n more f) e = spends Asks
+  opening_spends (R n) e = spends Asks
+  opening_spends (Request control) e =
+      asked_spends control (let two : room t.phase ≡ 2 = ap room e in omega (arith, two))
+  opening_spends (Response control) e = opens_spends control e
 
-receiving_spends : (t : Terminal) (b : Block) → t.phase ≡ Receiving → Takes t (takes_receiving b t)
-receiving_spends t (I n more f) e =
-    either t _ _ (same n t.due) (gathers_spends t more f) (spends t Asks)
-receiving_spends t (R n) e = spends t Asks
-receiving_spends t (Request control) e =
-    asked_spends t control (let one : room t.phase ≡ 1 = ap room e in omega (arith, one))
-receiving_spends t (Response control) e = spends t Asks
+  sending_spends : (b : Block) → is_filled b ≡ true → t.phase ≡ Sending
+      → Takes t (takes_sending b t)
+  sending_spends (I n more f) filled e =
+      either _ _ (same n t.due)
+      (answered_spends n more t.rest f filled
+      (let one : room t.phase ≡ 1 = ap room e in omega (arith, one))) (spends Asks)
+  sending_spends (R n) filled e =
+      either _ _ (same n t.number) (spends Own) (acknowledged_spends t.rest refl)
+  sending_spends (Request control) filled e =
+      asked_spends control (let one : room t.phase ≡ 1 = ap room e in omega (arith, one))
+  sending_spends (Response control) filled e = spends Asks
 
-takes_spends : (t : Terminal) (b : Option Block) (p : Phase) → t.phase ≡ p → Takes t
-    (takes_in p b t)
-takes_spends t None Opening e = spends t Asks
-takes_spends t (Some b) Opening e = opening_spends t b e
-takes_spends t None Sending e = spends t Asks
-takes_spends t (Some b) Sending e = sending_spends t b e
-takes_spends t None Receiving e = spends t Asks
-takes_spends t (Some b) Receiving e = receiving_spends t b e
-takes_spends t b Aborting e = inr (inl refl)
-takes_spends t b Over e = inr (inl (ap has_stopped e))
-takes_spends t b (GivenUp cause) e = inr (inl (ap has_stopped e))
+  receiving_spends : (b : Block) → is_filled b ≡ true → t.phase ≡ Receiving
+      → Takes t (takes_receiving b t)
+  receiving_spends (I n more f) filled e =
+      either _ _ (same n t.due)
+      (gathers_spends n more f filled
+      (let one : room t.phase ≡ 1 = ap room e in omega (arith, one))) (spends Asks)
+  receiving_spends (R n) filled e = spends Asks
+  receiving_spends (Request control) filled e =
+      asked_spends control (let one : room t.phase ≡ 1 = ap room e in omega (arith, one))
+  receiving_spends (Response control) filled e = spends Asks
+
+  abbrev AreFilled : Option Block → Type 0
+  AreFilled None = Unit {0}
+  AreFilled (Some b) = is_filled b ≡ true
+
+  takes_spends : (b : Option Block) (p : Phase) → AreFilled b → t.phase ≡ p
+      → Takes t (takes_in p b t)
+  takes_spends None Opening filled e = spends Asks
+  takes_spends (Some b) Opening filled e = opening_spends b e
+  takes_spends None Sending filled e = spends Asks
+  takes_spends (Some b) Sending filled e = sending_spends b filled e
+  takes_spends None Receiving filled e = spends Asks
+  takes_spends (Some b) Receiving filled e = receiving_spends b filled e
+  takes_spends b Aborting filled e = ((refl, sized), inl refl)
+  takes_spends b Over filled e = ((refl, sized), inl (ap has_stopped e))
+  takes_spends b (GivenUp cause) filled e = ((refl, sized), inl (ap has_stopped e))
 
 stays_stopped : (t : Terminal) (b : Option Block) (p : Phase) → t.phase ≡ p → has_stopped p ≡ true
     → has_stopped (takes_in p b t).phase ≡ true
@@ -120,19 +170,40 @@ stays_stopped t b Opening e h = absurd (cc)
 stays_stopped t b Sending e h = absurd (cc)
 stays_stopped t b Receiving e h = absurd (cc)
 
-all_stopped : (bs : List (Option Block)) (t : Terminal) → has_stopped t.phase ≡ true
-    → has_stopped (takes_all t bs).phase ≡ true
-all_stopped [] t h = h
-all_stopped (b ∷ bs) t h = all_stopped bs (takes t b) (stays_stopped t b t.phase refl h)
+-- the block of a reception
+abbrev block : Option (List ℕ) → Option Block
+block None = None
+block (Some bytes) = block_of bytes
 
-ends : (bs : List (Option Block)) (t : Terminal) → StaysAlong t bs → left t < length bs
-    → has_stopped (takes_all t bs).phase ≡ true
-ends [] t stay few = absurd (omega (arith, few))
-ends (b ∷ bs) t stay few =
-    elim (takes_spends t b t.phase refl) [
-      | inl moved ↦ absurd (moved stay.0)
-      | inr (inl h) ↦ all_stopped bs (takes t b) h
-      | inr (inr less) ↦ ends bs (takes t b) stay.1 (omega (arith, less, few))
+are_filled : (t : Terminal) (sized : 0 < t.size) (x : Option (List ℕ)) → AreFilled t sized (block x)
+are_filled t sized None = tt
+are_filled t sized (Some bytes) = Of (block_of bytes) refl where
+  Of : (b : Option Block) → block_of bytes ≡ b → AreFilled t sized b
+  Of None e = tt
+  Of (Some b) e = read_is_filled bytes b e
+
+all_stopped : (xs : List (Option (List ℕ))) (t : Terminal) → has_stopped t.phase ≡ true
+    → has_stopped (meets_all t xs).phase ≡ true
+all_stopped [] t h = h
+all_stopped (None ∷ xs) t h = all_stopped xs (takes t None) (stays_stopped t None t.phase refl h)
+all_stopped (Some bytes ∷ xs) t h =
+    all_stopped xs (takes t (block_of bytes)) (stays_stopped t (block_of bytes) t.phase refl h)
+
+ends : (xs : List (Option (List ℕ))) (t : Terminal) → 0 < t.size → left t < length xs
+    → has_stopped (meets_all t xs).phase ≡ true
+ends [] t sized few = absurd (omega (arith, few))
+ends (None ∷ xs) t sized few =
+    let step = takes_spends t sized None t.phase tt refl in
+    elim step.1 [
+      | inl h ↦ all_stopped xs (takes t None) h
+      | inr less ↦ ends xs (takes t None) step.0.1 (omega (arith, less, few))
+    ]
+ends (Some bytes ∷ xs) t sized few =
+    let b : Option Block = block_of bytes in
+    let step = takes_spends t sized b t.phase (are_filled t sized (Some bytes)) refl in
+    elim step.1 [
+      | inl h ↦ all_stopped xs (takes t b) h
+      | inr less ↦ ends xs (takes t b) step.0.1 (omega (arith, less, few))
     ]
 
 room_le : (p : Phase) → room p ≤ 2
@@ -143,6 +214,6 @@ room_le Aborting = omega arith
 room_le Over = omega arith
 room_le (GivenUp cause) = omega arith
 
-pub no_livelock : (t : Terminal) (bs : List (Option Block)) → StaysAlong t bs
-    → t.tries + t.extensions + 2 < length bs → has_stopped (takes_all t bs).phase ≡ true
-no_livelock t bs stay few = ends bs t stay (let le = room_le t.phase in omega (arith, few, le))
+pub no_livelock : (t : Terminal) (xs : List (Option (List ℕ))) → 0 < t.size
+    → most_receptions t < length xs → has_stopped (meets_all t xs).phase ≡ true
+no_livelock t xs sized few = ends xs t sized (let le = room_le t.phase in omega (arith, few, le))

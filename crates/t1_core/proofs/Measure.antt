@@ -30,7 +30,7 @@ le_plus : (x y z : ℕ) → x ≤ y → x + z ≤ y + z
 le_plus x y z le = omega (arith, le)
 
 -- one step less is a try for each reception less
-weigh : (x y t : ℕ) → x + 1 ≤ y → x * t + t ≤ y * t
+pub weigh : (x y t : ℕ) → x + 1 ≤ y → x * t + t ≤ y * t
 weigh x y t le =
     let e : suc x * t ≡ x * t + t = suc-mul x t in
     subst (λ n. n ≤ y * t) e (mul-le-mul_right t (omega (arith, le)))

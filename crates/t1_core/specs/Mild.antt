@@ -1,10 +1,11 @@
--- Lines that are mild enough, and stretches in which a terminal makes no step forward.
+-- Lines that are mild enough, and how many receptions a terminal survives.
 use Rattle.std.specs.Prelude.{◌≡◌, ℕ, ◌+◌, ◌-◌, ◌≤◌, ◌*◌, true, List, [], ◌∷◌, length, Option, Some, None}
 use Rattle.t1_core.specs.declared.line.Fate.{Fate}
 use Rattle.t1_core.specs.declared.line.Fate.TheVariants.{Delivers}
 use Rattle.t1_core.specs.declared.line.Fates.{Fates}
 use Rattle.t1_core.specs.declared.settings.Settings.{Settings}
-use Rattle.t1_core.specs.Block.{Block, is_size}
+use Rattle.t1_core.specs.Block.{is_size}
+use Rattle.t1_core.specs.BlockBytes.{block_of}
 use Rattle.t1_core.specs.CardSide.{Meaning}
 use Rattle.t1_core.specs.TerminalSide.{Terminal, takes}
 use Rattle.t1_core.specs.World.{World, exchange}
@@ -47,11 +48,19 @@ pub record Enough (m : Meaning) (f : ℕ) (settings : Settings) : Type 0 where
   pub sizes : (ran : List (List ℕ)) → IsSize (m.asks ran).size
   pub fits : (ran : List (List ℕ)) → length (m.does ran) ≤ settings.limit
 
--- a terminal that takes what any peer sends
-abbrev pub takes_all : Terminal → List (Option Block) → Terminal
-takes_all t [] = t
-takes_all t (b ∷ bs) = takes_all (takes t b) bs
+-- the bytes that the command's rest and a response within the limit still have: each can be a step
+-- forward
+abbrev pub steps_left : Terminal → ℕ
+steps_left t = length t.rest + (t.settings.limit - length t.got)
 
-abbrev pub StaysAlong : Terminal → List (Option Block) → Type 0
-StaysAlong t [] = Unit {0}
-StaysAlong t (b ∷ bs) = Stays t (takes t b) × StaysAlong (takes t b) bs
+-- After so many receptions a terminal has stopped: its tries and extensions and two more, and for
+-- each of those steps all tries again and one more.
+abbrev pub most_receptions : Terminal → ℕ
+most_receptions t =
+    t.tries + t.extensions + 2 + steps_left t * (t.settings.tries + 1)
+
+-- a terminal that meets what any peer sends: the bytes of a block, or none in time
+abbrev pub meets_all : Terminal → List (Option (List ℕ)) → Terminal
+meets_all t [] = t
+meets_all t (None ∷ xs) = meets_all (takes t None) xs
+meets_all t (Some bytes ∷ xs) = meets_all (takes t (block_of bytes)) xs

@@ -1,7 +1,8 @@
 //! The bytes of a block: NAD 00, PCB, LEN, the field and the LRC.
 
-ghost use Rattle.std.specs.Prelude.{◌≡◌, ◌≤◌, ◌<◌, ◌++◌, ◌∷◌, [], List, ℕ, length, IfOk, IfSome, Some, None};
+ghost use Rattle.std.specs.Prelude.{◌≡◌, ◌≤◌, ◌<◌, ◌++◌, ◌∷◌, [], List, ℕ, true, length, IfOk, IfSome, Some, None};
 ghost use Rattle.std.specs.Option.{option_map};
+ghost use Rattle.t1_core.specs.Block.{is_filled};
 ghost use Rattle.t1_core.specs.BlockView.{said};
 ghost use Rattle.t1_core.specs.BlockBytes.{lrc, spelled, parts_of, block_of, block_in, bytes_of, info_of, control_of, field_of, subject_of, Sent, Reads};
 ghost use Rattle.t1_core.specs.declared.pcb.Pcb.{Pcb};
@@ -88,14 +89,16 @@ fn spell(alloc: Global, pcb: Pcb, info: &[u8]) -> Result<Vec<u8>, AllocError>
     Ok(out)
 }
 
-/// Reads a whole block; `None` if a byte of it is wrong: NAD, PCB, LEN, the field of an R-block or
-/// an S-block, or the LRC. The owner of the line then calls `damaged`.
+/// Reads a whole block, or returns `None` if a byte of it is wrong: NAD, PCB, LEN, the LRC, or the
+/// field of an R-block or an S-block. An I-block without a field that says that more follows is
+/// wrong too (profile). The owner of the line then calls `damaged`.
 pub fn read(bytes: &[u8]) -> Option<Block<'_>>
     ensures exact { option_map said result ≡ block_of bytes.now }
 
     // What is written so is read.
-    ensures written { (block : Sent) → length (info_of block) ≤ 254 → bytes.now ≡ bytes_of block →
-        option_map said result ≡ Some block }
+    ensures written { (block : Sent) → length (info_of block) ≤ 254 → is_filled block ≡ true →
+        bytes.now ≡ bytes_of block → option_map said result ≡ Some block }
+    ensures filled { IfSome result (λ b. is_filled (said b) ≡ true) }
 {
     read_whole(bytes)
 }
@@ -144,6 +147,7 @@ fn block_in(pcb: Pcb, info: &[u8]) -> Option<Block<'_>>
     ensures { option_map said result ≡ block_in (Some (pcb, info.now)) }
 {
     match pcb {
+        Pcb::Information { more: true, .. } if info.is_empty() => None,
         Pcb::Information { number, more } => Some(Block::Information { number, more, info }),
         Pcb::Ready { number, .. } if info.is_empty() => Some(Block::Ready(number)),
         Pcb::Ready { .. } => None,

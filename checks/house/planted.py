@@ -1,13 +1,20 @@
 """A repository of a few lines in which nothing is wrong, and for each kind of fault an edit of it
 that the check has to find, at a file and a line: so the check itself is tried."""
 
+from comments import code
 from sources import Repository
 
 LIST = "checks/house/stays.txt"
+DONE = "checks/house/plain.txt"
+PHRASES = "checks/house/phrases.txt"
 
 SOUND = {
     "crates.txt": "low:\nhigh: low\n",
     LIST: "# nothing has to stay\n",
+    DONE: "# what is plain\ncrates/low/\ndocs/LAMPS.md\nbindings/lamp.h\n",
+    PHRASES: "# phrases\nis told: shows\n",
+    "docs/LAMPS.md": "# Lamps\n\n| Lamp | Light |\n|---|---|\n| `a` | red |\n\nOne burns.\n",
+    "bindings/lamp.h": "/* A lamp,\n * and its light. */\nint lamp(void);\n",
     "docs/RULES.md": "# Rules\n\n## Lamps\n\n- A lamp is lit or dark. (`IsLit`)\n",
     "crates/low/src/lib.rt": (
         "//! Lamps.\n\nmod lamp;\nmod wire;\n\npub use lamp::Lamp;\n\npub struct Shade;\n"
@@ -63,6 +70,8 @@ NAMED = "IsDark On_nothing = ⊤"
 IMPORTED = "{Hanging, On_nothing}"
 ON_WIRE = "{Hanging, On_nothing, On_wire}"
 LONG = "x" * 101
+PAGE = "docs/LAMPS.md"
+MOST = " ".join(["Word"] + ["word"] * 34)
 
 # What is planted: the kind of the finding, the file and the line of it, and an edit: a file with an
 # old text and a new one, or a file that is new.
@@ -82,7 +91,7 @@ FAULTS = [
     ("place", "crates/low/specs/Bulb.antt", 1, [("crates/low/specs/Bulb.antt", None, "")]),
     ("long", HOUSE, 4, [(HOUSE, NAMED, f"{NAMED} -- {LONG}")]),
     ("long", "checks/lamps", 2, [("checks/lamps", None, f"#!/bin/sh\n# {LONG}\n")]),
-    ("long", "bindings/lamp.h", 1, [("bindings/lamp.h", None, f"/* {LONG} */\n")]),
+    ("long", "bindings/bulb.h", 1, [("bindings/bulb.h", None, f"/* {LONG} */\n")]),
     ("first", LAMP, 1, [(LAMP, "//! A lamp.\n", "// A lamp.\n")]),
     ("rule", "docs/RULES.md", 6, [
         ("docs/RULES.md", "(`IsLit`)\n", "(`IsLit`)\n- A lamp is `warm`.\n"),
@@ -91,8 +100,29 @@ FAULTS = [
     ("unruled", "crates/low/specs/Lamp.antt", 9, [
         ("docs/RULES.md", "(`IsLit`)", "(`Hanging`)"),
     ]),
+    ("phrase", LAMP, 7, [(LAMP, "Lights it.", "It is told.")]),
+    ("phrase", LAMP, 8, [(LAMP, "Lights it.", "Lights what\n    /// it Is\n    /// told of.")]),
+    ("phrase", LAMP, 11, [(LAMP, "true", "// what is told\n        true")]),
+    ("phrase", "crates/low/specs/Lamp.antt", 4, [
+        ("crates/low/specs/Lamp.antt", "what a lamp hangs on", "what is told"),
+    ]),
+    ("phrase", "bindings/lamp.h", 2, [("bindings/lamp.h", "its light", "what is told")]),
+    ("phrase", PAGE, 5, [(PAGE, "red", "is told")]),
+    ("phrase", PAGE, 1, [(PAGE, "# Lamps", "# What is told")]),
+    ("sentence", PAGE, 7, [(PAGE, "One burns.", f"One burns. {MOST} `a lit lamp`.")]),
+    ("sentence", LAMP, 7, [(LAMP, "Lights it.", f"{MOST[:80]}\n    /// {MOST[80:]} word.")]),
+    ("cell", PAGE, 5, [(PAGE, "red", "x" * 301)]),
+    ("list", DONE, 5, [(DONE, "lamp.h\n", "lamp.h\ncrates/lost/\n")]),
     ("list", LIST, 2, [(LIST, "stay\n", "stay\nlong crates/low/src/lamp.rt: it was long once\n")]),
     ("list", LIST, 2, [(LIST, "stay\n", "stay\nlong crates/low/src/lamp.rt\n")]),
+]
+
+# What is no fault: words that are code, or in a file that is not listed, 35 words, 300 characters.
+PLAIN = [
+    (LAMP, "Lights it.", "Lights `what is told`. Who is, told him."),
+    (HOUSE, "IsDark :", "IsDark : -- is told\n  "),
+    (PAGE, "One burns.", f"{MOST}. {MOST}.\n\n```c\nis told {MOST} {MOST}\n```\n"),
+    (PAGE, "red", "x" * 300),
 ]
 
 # What the list lets stay: a fault, and the entry for it.
@@ -118,6 +148,7 @@ def tried(find):
     """For each fault whether it is found as what it is, where it is, and nothing else of its kind;
     that nothing is found where none is; and that the list lets stay what it names."""
     rows = [("nothing is wrong", find(Repository(SOUND)), None)]
+    rows += [("what is plain", find(Repository(edited(PLAIN))), None)]
     rows += [("what the list lets stay", find(Repository(edited(LETS_STAY))), None)]
     for kind, path, line, edits in FAULTS:
         found = [it for it in find(Repository(edited(edits))) if it.kind == kind]
@@ -125,3 +156,21 @@ def tried(find):
     for title, found, place in rows:
         is_well = [(it.path, it.line) for it in found] == ([place] if place else [])
         yield title, is_well, found
+
+
+# Sources for `same`: the path, a text, the text with other comments alone, and with other code.
+CODE = [
+    ("a.rt", '/// A.\nfn f(c: char) { c == \'"\' } // f "\n', "fn f(c: char) { c == '\"' }\n",
+     '/// A.\nfn f(c: char) { c == \'x\' } // f "\n'),
+    ("a.c", 'char *f = "/* //"; /* f\n * g */\n', 'char *f = "/* //";\n', 'char *f = "/*"; // "\n'),
+    ("a.antt", "-- f\nf : ℕ\nf = n --g -- h\n", "f : ℕ\nf = n --g\n", "-- f\nf : ℕ\nf = n\n"),
+    ("a.py", '"""A."""\nf = "# g"  # h\n', 'f = "# g"\n', '"""A."""\nf = "# h"  # h\n'),
+    ("a.sh", "# f\necho '\n# g\n'\n", "echo '\n# g\n'\n", "# f\necho '\n# h\n'\n"),
+]
+
+
+def compared():
+    """Whether `same` passes over other comments, and sees other code."""
+    for path, text, commented, coded in CODE:
+        yield f"comments of {path}", code(path, text) == code(path, commented), [path]
+        yield f"code of {path}", code(path, text) != code(path, coded), [path]

@@ -1,0 +1,164 @@
+"""Cuts a source into its code and its comments, in each language of the repository. The check of
+style reads the comments; `same` compares the code."""
+
+import ast
+import io
+import re
+import tokenize
+
+C_LIKE = (".rt", ".rs", ".c", ".h")
+LEXED = re.compile(
+    r"""(?P<line>//[^\n]*)
+    | (?P<block>/\*.*?\*/)
+    | b?r(?P<raw>\#*)".*?"(?P=raw)
+    | "(?:\\.|[^"\\])*"
+    | '(?:\\[^']+|[^'\\\n])'
+    | .""",
+    re.S | re.X,
+)
+ANTT = re.compile(r"""(?P<line>(?<!\S)--(?=\s|$)[^\n]*)|"(?:\\.|[^"\\\n])*"|.""", re.S)
+MARK = re.compile(r"//[/!]|//|--|/\*+|\*/|\*|#")
+
+
+def is_python(path, text):
+    return path.endswith(".py") or text.startswith("#!/usr/bin/env python")
+
+
+def is_shell(path, text):
+    return path.endswith(".sh") or text.startswith("#!/bin/sh") or text.startswith("#!/bin/bash")
+
+
+def is_cut(path, text):
+    """Whether comments of this file can be told from its code."""
+    return path.endswith((*C_LIKE, ".antt")) or is_python(path, text) or is_shell(path, text)
+
+
+def comments(path, text):
+    """The line and the text of each comment, in order. A docstring counts as one."""
+    if path.endswith(".antt"):
+        yield from lexed(ANTT, text)
+    elif path.endswith(C_LIKE):
+        yield from lexed(LEXED, text)
+    elif is_python(path, text):
+        yield from of_python(text)
+    elif is_shell(path, text):
+        yield from of_shell(text)
+
+
+def code(path, text):
+    """The code alone: without comments, blank lines and the white space around lines. For Python,
+    its syntax tree."""
+    if is_python(path, text):
+        return tree(text)
+    left = list(text)
+    starts = [0]
+    for line in text.splitlines(keepends=True):
+        starts.append(starts[-1] + len(line))
+    for place, said in placed(path, text, starts):
+        left[place : place + len(said)] = "\n" if "\n" in said else " " * len(said)
+        left[place + 1 : place + 1] = [""] * (len(said) - 1) if "\n" in said else []
+    lines = (re.sub(r"\s+", " ", line).strip() for line in "".join(left).splitlines())
+    return "\n".join(line for line in lines if line)
+
+
+def placed(path, text, starts):
+    """The place and the text of each comment of a file that is not Python."""
+    if is_shell(path, text):
+        for line, said in of_shell(text):
+            yield text.index(said, starts[line - 1]), said
+        return
+    pattern = ANTT if path.endswith(".antt") else LEXED
+    for it in pattern.finditer(text):
+        if is_comment(it):
+            yield it.start(), it[0]
+
+
+def is_comment(found):
+    named = found.groupdict()
+    return (named.get("line") or named.get("block")) is not None
+
+
+def lexed(pattern, text):
+    line, last = 1, 0
+    for it in pattern.finditer(text):
+        if is_comment(it):
+            line += text.count("\n", last, it.start())
+            last = it.start()
+            yield line, it[0]
+
+
+def of_python(text):
+    found = [
+        (it.start[0], it.string)
+        for it in tokenize.generate_tokens(io.StringIO(text).readline)
+        if it.type == tokenize.COMMENT
+    ]
+    for node in ast.walk(ast.parse(text)):
+        if has_docstring(node):
+            found.append((node.body[0].lineno, node.body[0].value.value))
+    yield from sorted(found)
+
+
+def has_docstring(node):
+    kinds = (ast.Module, ast.ClassDef, ast.FunctionDef, ast.AsyncFunctionDef)
+    return isinstance(node, kinds) and ast.get_docstring(node, clean=False) is not None
+
+
+def tree(text):
+    root = ast.parse(text)
+    for node in ast.walk(root):
+        if has_docstring(node):
+            node.body = node.body[1:] or [ast.Pass()]
+    return ast.dump(root, indent=0)
+
+
+def of_shell(text):
+    """Whole lines that begin with `#`, outside quotes and here-documents. Any other `#` may be
+    code."""
+    quote, ends = "", None
+    for number, line in enumerate(text.splitlines(), 1):
+        if ends is not None:
+            ends = None if line.strip() == ends else ends
+            continue
+        if not quote and line.lstrip().startswith("#"):
+            if number > 1 or not line.startswith("#!"):
+                yield number, line.strip()
+            continue
+        at = 0
+        while at < len(line):
+            sign = line[at]
+            if quote:
+                if sign == "\\" and quote == '"':
+                    at += 1
+                elif sign == quote:
+                    quote = ""
+            elif sign == "\\":
+                at += 1
+            elif sign in "'\"":
+                quote = sign
+            elif sign == "#" and (at == 0 or line[at - 1].isspace()):
+                break
+            at += 1
+        here = re.search(r"<<-?\s*(['\"]?)(\w+)\1", line)
+        if here and not quote:
+            ends = here[2]
+
+
+def blocks(path, text):
+    """Comments without their marks: each as its first line and its lines of text. Line comments
+    that follow one another and stand alone with the same mark are one block."""
+    lines = text.splitlines()
+    found, last = [], (0, "")
+    for line, said in comments(path, text):
+        first = said.split("\n")[0]
+        mark = MARK.match(first.strip())
+        mark = mark[0] if mark else ""
+        alone = line <= len(lines) and lines[line - 1].strip().startswith(first.strip())
+        parts = said.removesuffix("*/").split("\n")
+        stripped = [MARK.sub("", part.strip(), count=1) for part in parts]
+        if "\n" not in said and alone and last == (line - 1, mark) and mark:
+            found[-1][1].extend(stripped)
+        else:
+            found.append((line, stripped))
+        last = (line, mark) if alone and "\n" not in said else (0, "")
+    return found

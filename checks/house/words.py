@@ -1,0 +1,125 @@
+"""The style of comments and documents: phrases that have a plainer form (phrases.txt), sentences of
+more than 35 words, and cells of tables of more than 300 characters.
+
+It looks at the files that plain.txt lists: those that have been rewritten. Code in fences and
+spans is passed over; a span counts as one word."""
+
+import re
+
+from comments import blocks, is_cut
+from findings import Finding
+
+PHRASES = "checks/house/phrases.txt"
+DONE = "checks/house/plain.txt"
+MOST_WORDS = 35
+MOST_CHARACTERS = 300
+FIRST_WORDS = 5
+
+# A full stop, and what begins the next sentence. Two dots leave something out and end nothing.
+SENTENCE_END = re.compile(r"""(?<!\.)[.!?][)"'*_]*\s+(?=[^a-z\s])""")
+SPAN = re.compile(r"(`+).+?\1")
+LINK = re.compile(r"\[([^\]]*)\]\([^)]*\)")
+ITEM = re.compile(r"\s*(?:[-*+]|\d+\.)\s+")
+
+
+def listed(text):
+    """The lines of a list that are no comments, each with its number."""
+    for number, line in enumerate(text.splitlines(), 1):
+        if line.strip() and not line.startswith("#"):
+            yield number, line.strip()
+
+
+def is_in(path, place):
+    return path == place or (place.endswith("/") and path.startswith(place))
+
+
+def paragraphs(first, lines):
+    """The first line and the text of each paragraph, heading, item and cell, and whether it is a
+    cell. Code in fences is passed over."""
+    fenced, found = False, []
+    after = None
+    for number, line in enumerate(lines, first):
+        said = line.strip()
+        if said.startswith(("```", "~~~")):
+            fenced, after = not fenced, None
+        elif fenced or not said:
+            after = None
+        elif said.startswith("|"):
+            after = None
+            if not re.fullmatch(r"[|\s:-]+", said):
+                for cell in cells(said):
+                    found.append([number, cell, True])
+        elif said.startswith("#") or ITEM.match(line) or after is None:
+            found.append([number, ITEM.sub("", said), False])
+            after = None if said.startswith("#") else found[-1]
+        else:
+            after[1] += "\n" + said
+    return found
+
+
+def cells(row):
+    """The cells of a row. A stroke in a span of code, or behind a backslash, ends none."""
+    hidden = SPAN.sub(lambda it: "\0" * len(it[0]), row.replace("\\|", "\0\0"))
+    places = [at for at, sign in enumerate(hidden) if sign == "|"] + [len(row)]
+    return [row[a + 1 : b].strip() for a, b in zip(places, places[1:]) if row[a + 1 : b].strip()]
+
+
+def read(path, text):
+    if path.endswith(".md"):
+        yield from paragraphs(1, text.splitlines())
+    elif is_cut(path, text):
+        for line, lines in blocks(path, text):
+            yield from paragraphs(line, lines)
+
+
+def sentences(text):
+    start = 0
+    for it in SENTENCE_END.finditer(text):
+        yield start, text[start : it.end()]
+        start = it.end()
+    yield start, text[start:]
+
+
+def count_words(text):
+    return sum(any(sign.isalnum() for sign in word) for word in text.split())
+
+
+def of_paragraph(path, line, text, is_cell, phrases):
+    begins = " ".join(text.split()[:FIRST_WORDS])
+    if is_cell and len(text) > MOST_CHARACTERS:
+        what = f"a cell of {len(text)} characters: '{begins} ..'"
+        yield Finding("cell", path, line, begins, what)
+    text = LINK.sub(r"\1", text)
+    plain = SPAN.sub(lambda it: "`x`" + "\n" * it[0].count("\n"), text)
+    for pattern, phrase, better in phrases:
+        for it in pattern.finditer(plain):
+            at = line + plain.count("\n", 0, it.start())
+            yield Finding("phrase", path, at, phrase, f"'{phrase}': write {better}")
+    for start, sentence in sentences(plain):
+        if (count := count_words(sentence)) > MOST_WORDS:
+            at = line + plain.count("\n", 0, start)
+            begins = " ".join(sentence.split()[:FIRST_WORDS])
+            what = f"a sentence of {count} words: '{begins} ..'"
+            yield Finding("sentence", path, at, begins, what)
+
+
+def read_phrases(text):
+    """The patterns of the list: `PHRASE: WHAT TO WRITE`, by whole words, over the ends of lines."""
+    found = []
+    for _, line in listed(text):
+        phrase, _, better = line.partition(": ")
+        words = r"\s+".join(re.escape(word) for word in phrase.split())
+        found.append((re.compile(rf"(?<![\w-]){words}(?![\w-])", re.I), phrase, better))
+    return found
+
+
+def findings(repository):
+    phrases = read_phrases(repository.texts.get(PHRASES, ""))
+    done = list(listed(repository.texts.get(DONE, "")))
+    for number, place in done:
+        if not any(is_in(path, place) for path in repository.texts):
+            yield Finding("list", DONE, number, place, f"fits nothing: {place}")
+    for path, text in repository.texts.items():
+        if any(is_in(path, place) for _, place in done):
+            for line, said, is_cell in read(path, text):
+                yield from of_paragraph(path, line, said, is_cell, phrases)

@@ -1,4 +1,4 @@
--- What bit 5 of a byte does.
+-- Bit 5 of a byte.
 use Rattle.std.specs.Prelude.{IsTrue}
 use Rattle.std.proofs.Common.{◌≡◌, ◌≢◌, ℕ, zero, suc, ◌-◌, ◌<◌, Bool, true, false, ◌&&◌, ◌||◌, ◌==◌, not, bit_and, bit_or, refl, arith, subst, eq-zero-or-pos, inl, inr}
 use Rattle.std.proofs.lemmas.Bool.Decides.{nat_tests}
@@ -12,7 +12,7 @@ both : (a b : Bool) → IsTrue (a && b) → IsTrue a × IsTrue b
 both true b h = (refl, h)
 both false b h = cc
 
--- a test that is true of each number below n, as it computes, is true of any of them
+-- a test that computes to true for each number below n is true of each of them
 every_below : (p : ℕ → Bool) (n : ℕ) → IsTrue (all_below p n) → (i : ℕ) → i < n → IsTrue (p i)
 every_below p zero h i l = absurd (omega arith)
 every_below p (suc n) h i l =
@@ -25,7 +25,7 @@ every_below p (suc n) h i l =
       | inr some ↦ every_below p n parts.1 i (omega arith)
     ]
 
--- a byte whose bit 5 is clear is the same with it cleared
+-- clearing bit 5 of a byte changes nothing if it is clear already
 abbrev stays : ℕ → Bool
 stays b = not (bit_and b 0x10 == 0) || (bit_and b 0xEF == b)
 

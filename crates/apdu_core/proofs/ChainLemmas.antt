@@ -1,11 +1,11 @@
--- The room of a chain that has taken bytes more.
+-- The buffer of a chain after it took more bytes.
 use Rattle.std.proofs.Common.{arith, ◌≡◌, ℕ, ◌+◌, ◌-◌, ◌≤◌, List, ◌++◌, length, take, drop, replicate, Some, ap, ◌∙◌, subst, sym}
 use Rattle.std.proofs.Math.Seq.{take-append_seam}
 use Rattle.std.proofs.lemmas.List.{drop-drop, drop-replicate, length-take-le}
 use Rattle.apdu_core.specs.declared.header.Header.{Header}
 use Rattle.apdu_core.specs.Chaining.{IsChain}
 
--- What lies behind a place of a list with zeros at its end, once other bytes stand before it.
+-- The bytes after the chain are still zeros once more bytes are written before them.
 still_zeros : (old new : List ℕ) (at n : ℕ) → length new ≡ length old →
     drop (at + n) new ≡ drop (at + n) old → drop at old ≡ replicate (length old - at) 0 →
     drop (at + n) new ≡ replicate (length new - (at + n)) 0
@@ -15,7 +15,7 @@ still_zeros old new at n size same zeros =
     sym (drop-drop n at old) ∙ ap (drop n) zeros ∙ drop-replicate n _ 0 in
     same ∙ behind ∙ ap (λ k. replicate k 0) fewer
 
--- what is asked of the room of a pending chain with so many bytes
+-- the invariant of a pending chain of `len` bytes, over its buffer
 abbrev pub IsRoom : Header → ℕ → List ℕ → Type 0
 IsRoom first len room =
     IsChain (record { bytes = take len room; limit = length room; pending = Some first })

@@ -1,4 +1,4 @@
--- A byte list is that of at most one command.
+-- The same bytes are never those of two commands.
 use Rattle.std.proofs.Common.{◌≡◌, ℕ, ◌%◌, ◌≤◌, List, [], ◌∷◌, ◌++◌, length, Option, Some, None, IfSome, refl, arith, ap}
 use Rattle.apdu_core.specs.declared.header.Header.{Header}
 use Rattle.apdu_core.specs.CommandBytes.{Command, HasSizes, command_bytes, lc_field, le_field}
@@ -15,7 +15,7 @@ same_le (Some m) (Some n) h k e =
     let same : m ≡ n = omega arith in
     ap Some same
 
--- the bytes after the header tell data and Le
+-- the bytes after the header determine data and Le
 same_fields : (b c : List ℕ) (m n : Option ℕ) → HasSizes b m → HasSizes c n →
     lc_field b ++ le_field m ≡ lc_field c ++ le_field n → (b ≡ c) × (m ≡ n)
 same_fields [] [] m n h k e = (refl, same_le m n h.le_in_range k.le_in_range e)
@@ -29,7 +29,7 @@ same_fields (b ∷ bs) (c ∷ cs) m n h k e =
     let both = parted (b ∷ bs) (le_field m) (c ∷ cs) (le_field n) size rest in
     (both.0, same_le m n h.le_in_range k.le_in_range both.1)
 
--- the command, taken apart
+-- the command, rebuilt from its parts
 abbrev same_parts : Command → Command
 same_parts c =
     let h = c.header in

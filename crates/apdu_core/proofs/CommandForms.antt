@@ -1,10 +1,10 @@
--- Bytes of at least a header, and the commands that the fields after it make of them.
+-- Bytes of four or more, and the command that the fields after the header make.
 use Rattle.std.proofs.Common.{◌≡◌, ℕ, ◌-◌, ◌≤◌, List, [], ◌∷◌, ◌++◌, Option, length, take, drop, slice_index_or, false, arith}
 use Rattle.std.proofs.Math.Seq.{take-length}
 use Rattle.apdu_core.specs.HeaderBytes.{ins_is_valid}
 use Rattle.apdu_core.specs.CommandBytes.{Command, HasSizes, HasForm, HasInvalidIns, command_bytes, lc_field, le_field}
 
--- the command that a header and these fields make
+-- the command of the header in these bytes, these data and this Le
 abbrev made : List ℕ → List ℕ → Option ℕ → Command
 made bytes content le = record {
   header = record {

@@ -1,4 +1,4 @@
--- Where two lists that are joined can be told apart again.
+-- When two equal concatenations have equal parts.
 use Rattle.std.proofs.Common.{◌≡◌, ℕ, List, ◌++◌, length, take, drop, ap, ◌∙◌, sym}
 use Rattle.std.proofs.Math.Seq.{take-append_seam, drop-append_seam}
 

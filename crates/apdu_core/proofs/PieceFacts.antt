@@ -1,4 +1,4 @@
--- What the pieces of a value and the commands of a chain are.
+-- Facts on the pieces of a value and on the commands of a chain.
 use Rattle.std.specs.Prelude.{All, IsBitSet}
 use Rattle.std.proofs.Common.{◌≡◌, ◌↔◌, ℕ, ◌+◌, ◌<◌, ◌≤◌, List, [], ◌∷◌, ◌++◌, length, map, Option, Some, None, IfSome, true, refl, arith, ap, ◌∙◌, sym, subst}
 use Rattle.std.proofs.lemmas.List.{length-append, append-nil, append_assoc}
@@ -141,7 +141,7 @@ module _ (header : Header) (byte : header.cla < 256) (clear : IsLast header) whe
   abbrev pub gathered : ChainState → List (List ℕ) → ChainState
   gathered chain p = pending_with (chain.bytes ++ concat p) chain.limit header
 
-  -- a chain that may go on with this header takes the commands exactly where their data have room
+  -- a chain that accepts this header takes all commands exactly if their data fit
   pub gathers : (first : List ℕ) (others : List (List ℕ)) (chain after : ChainState) →
       IfSome chain.pending (λ h. h ≡ header) →
       AreAdded chain (chain_commands header (first ∷ others)) after

@@ -1,4 +1,4 @@
--- The pieces of a value as they are cut, and their commands.
+-- How a value is cut into pieces, and the commands of the pieces.
 use Rattle.std.proofs.Common.{◌≡◌, ℕ, zero, suc, ◌+◌, ◌-◌, ◌*◌, ◌/◌, ◌<◌, ◌≤◌, List, [], ◌∷◌, ◌++◌, length, take, drop, Option, Some, None, true, refl, arith, ap, ◌∙◌, length-drop}
 use Rattle.std.proofs.lemmas.List.{take-append-drop, append-nil, length-take-le}
 use Rattle.std.specs.List.{concat}
@@ -41,7 +41,7 @@ pieces_of-more value h =
     omega arith in
     ap (λ n. cut n value) one_more
 
--- the first command of a chain of two and more
+-- the first command of a chain of two or more
 commands-cons : (header : Header) (piece : List ℕ) (more : ℕ) (rest : List ℕ) →
     chain_commands header (piece ∷ cut more rest)
     ≡ link (with_more header) piece ∷ chain_commands header (cut more rest)
@@ -55,7 +55,7 @@ commands-more header value h =
     ap (chain_commands header) (pieces_of-more value h)
     ∙ commands-cons header (take 255 value) _ (drop 255 value)
 
--- what `next` gives where more than one piece is left
+-- what `next` returns if more than one piece is left
 module _ (header first : Header) (value piece rest : List ℕ) where
   pub next_more : (left : List Command) (r : Option Command) →
       255 < length value → ins_is_valid header.ins ≡ true →
@@ -76,7 +76,7 @@ module _ (header first : Header) (value piece rest : List ℕ) where
       let it = made.1 in
       cc
 
--- an iterator that gives the first of what is left ends
+-- an iterator that returns the first of what is left ends
 pub makes_progress : (left others : List Command) (r : Option Command) →
     YieldsFirst (λ l. l) left r others →
     MakesProgress (λ _. Unit {0}) (item_count (λ l. l)) left r others

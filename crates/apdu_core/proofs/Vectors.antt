@@ -40,7 +40,7 @@ case_four_is_a_command = record {
   sizes = record { fits = omega arith; le_in_range = (omega arith, omega arith) };
 }
 
--- the fields after the header of 00A404000000 and of 00DA5F200241 are none of a command's
+-- the bytes after the header of 00A404000000, and of 00DA5F200241, fit no case
 no_fields_of_two_zeros : (content : List ℕ) (le : Option ℕ) →
     lc_field content ++ le_field le ≢ 0x00 ∷ 0x00 ∷ []
 no_fields_of_two_zeros [] None e = cc

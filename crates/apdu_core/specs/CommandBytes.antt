@@ -3,33 +3,33 @@ use Rattle.std.specs.Prelude.{◌≡◌, ℕ, ◌%◌, ◌≤◌, List, [], ◌�
 use Rattle.apdu_core.specs.declared.header.Header.{Header}
 use Rattle.apdu_core.specs.HeaderBytes.{header_bytes, ins_is_valid}
 
--- A command: no data and no count is case 1, a count alone case 2, data alone case 3, both case 4.
+-- A command. Case 1: neither data nor Le. Case 2: Le. Case 3: data. Case 4: both.
 pub record Command : Type 0 where
   pub header : Header
   pub content : List ℕ
   pub le : Option ℕ
 
--- Lc is 1 to 255, and Le is 1 to 256
+-- at most 255 bytes of data, and Le of 1 to 256
 pub record HasSizes (content : List ℕ) (le : Option ℕ) : Type 0 where
   pub fits : length content ≤ 255
   pub le_in_range : IfSome le (λ n. (1 ≤ n) × (n ≤ 256))
 
--- a command, whose INS is none of 6X and 9X
+-- a command with a valid INS
 pub record IsCommand (c : Command) : Type 0 where
   pub valid_ins : ins_is_valid c.header.ins ≡ true
   pub sizes : HasSizes c.content c.le
 
--- a command but for its INS, which is 6X or 9X
+-- a command except that its INS is 6X or 9X
 pub record HasInvalidIns (c : Command) : Type 0 where
   pub invalid_ins : ins_is_valid c.header.ins ≡ false
   pub sizes : HasSizes c.content c.le
 
--- no data: nothing; else Lc and the data
+-- Lc and the data, or nothing if there are no data
 abbrev pub lc_field : List ℕ → List ℕ
 lc_field [] = []
 lc_field (b ∷ bs) = length (b ∷ bs) ∷ (b ∷ bs)
 
--- no count: nothing; else Le, where 00 stands for 256
+-- Le, where 00 means 256, or nothing if the command asks for no data
 abbrev pub le_field : Option ℕ → List ℕ
 le_field None = []
 le_field (Some n) = n % 256 ∷ []

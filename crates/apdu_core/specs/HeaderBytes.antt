@@ -6,6 +6,6 @@ use Rattle.apdu_core.specs.declared.header.Header.{Header}
 abbrev pub header_bytes : Header → List ℕ
 header_bytes h = h.cla ∷ h.ins ∷ h.p1 ∷ h.p2 ∷ []
 
--- 6X and 9X are first status bytes and no instructions
+-- 6X and 9X are the first bytes of statuses, not instructions
 abbrev pub ins_is_valid : ℕ → Bool
 ins_is_valid ins = not (ins / 16 == 6) && not (ins / 16 == 9)

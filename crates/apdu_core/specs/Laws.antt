@@ -1,23 +1,22 @@
--- What the laws say of the commands of a chain.
+-- Words for the laws on the commands of a chain.
 use Rattle.std.specs.Prelude.{◌≡◌, ◌+◌, ◌≤◌, List, [], ◌∷◌, ◌++◌, length, All, IsBitSet, None}
 use Rattle.apdu_core.specs.declared.header.Header.{Header}
 use Rattle.apdu_core.specs.CommandBytes.{Command, IsCommand}
 use Rattle.apdu_core.specs.Chaining.{IsLast, as_last, ChainState, Accepts, added}
 
--- bit 5 of CLA, whose number is 4 where bits count from 0, is set in every command but the last
+-- bit 5 of CLA (bit 4 counting from 0) is set in every command except the last
 abbrev pub MoreInAllButLast : List Command → Type 0
 MoreInAllButLast commands =
     (before : List Command) × (last : Command) × (commands ≡ before ++ last ∷ [])
     × All (λ c. IsBitSet c.header.cla 4) before × IsLast last.header
 
--- a command without Le whose header is this one but for bit 5 of CLA
+-- a command without Le, whose header differs from this one in bit 5 of CLA at most
 pub record IsLink (header : Header) (c : Command) : Type 0 where
   pub command : IsCommand c
   pub same : as_last c.header ≡ header
   pub no_le : c.le ≡ None
 
--- each command is accepted in its turn and has room, and the chain is at the end as the last of
--- them leaves it
+-- the chain accepts each command in turn and has room for it; `after` is its state at the end
 abbrev pub AreAdded : ChainState → List Command → ChainState → Type 0
 AreAdded chain [] after = after ≡ chain
 AreAdded chain (c ∷ others) after =

@@ -1,7 +1,7 @@
--- A value cut into its pieces, as a function.
+-- The pieces of a value, as a function that computes them.
 use Rattle.std.specs.Prelude.{ℕ, zero, suc, ◌-◌, ◌/◌, List, [], ◌∷◌, length, take, drop}
 
--- so many pieces of 255 bytes, and the rest as the last
+-- the given number of pieces of 255 bytes, and the rest as the last piece
 abbrev pub cut : ℕ → List ℕ → List (List ℕ)
 cut zero value = value ∷ []
 cut (suc more) value = take 255 value ∷ cut more (drop 255 value)

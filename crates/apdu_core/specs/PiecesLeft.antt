@@ -6,7 +6,7 @@ use Rattle.apdu_core.specs.Chaining.{chain_commands}
 use Rattle.apdu_core.specs.PieceList.{pieces_of}
 use Rattle.apdu_core.specs.declared.cut.iter.Pieces.TheInside.{Inside}
 
--- the commands that are still to come
+-- the commands that are left
 abbrev pub commands_left : Inside → List Command
 commands_left pieces =
     option_map_or (λ left. chain_commands pieces.header (pieces_of left.now)) pieces.left []

@@ -1,4 +1,4 @@
-//! The bytes of a chain of commands, as they come together at the card.
+//! The commands of one chain, gathered at the card.
 ghost use Rattle.std.specs.Prelude.{◌≡◌, ◌+◌, ◌-◌, ◌<◌, ◌≤◌, ◌↔◌, ◌++◌, [], length, take, drop, replicate, None, IsTrue, IsSome, IsErr, IfOk, OnOk, OnErr};
 ghost use Rattle.apdu_core.specs.Chaining as spec;
 ghost use Rattle.apdu_core.specs.Chaining.{Accepts, IsChain, added, idle};
@@ -9,7 +9,7 @@ use std::error::Error;
 use std::fmt;
 use std::marker::Model;
 
-/// A chain would pass its limit.
+/// Adding the data would make a chain longer than its limit. The chain is unchanged.
 #[derive(Clone, Copy, Debug, PartialEq, Eq)]
 pub struct TooLong;
 
@@ -25,8 +25,11 @@ impl fmt::Display for TooLong {
 
 impl Error for TooLong {}
 
-/// The bytes of the chain that is pending, if any, in room that was taken beforehand. The rest of
-/// the room holds zeros: bytes that leave the chain are overwritten.
+/// The data of one command chain (ISO/IEC 7816-4, 5.1.1.1), in a buffer that is allocated once. Its
+/// length is the chain's limit, in bytes. Bytes that leave the chain are overwritten with zeros.
+///
+/// While a chain is pending, `accepts` asks whether a command continues it, and `add` adds its
+/// data.
 #[derive(Debug, Drop)]
 pub struct Chain<A: Allocator = Global> {
     room: Vec<u8, A>,
@@ -58,7 +61,11 @@ impl<A: Allocator> Model for Chain<A> {
 }
 
 impl<A: Allocator> Chain<A> {
-    /// Nothing pending, with room for `limit` bytes. An `Err` is want of memory.
+    /// Creates an idle chain with a limit of `limit` bytes.
+    ///
+    /// # Errors
+    ///
+    /// - `AllocError`: memory ran out; no chain exists.
     pub fn with_room(alloc: A, limit: usize) -> Result<Chain<A>, AllocError>
         ensures { IfOk result (λ chain. chain ≡ idle limit) }
     {
@@ -69,7 +76,8 @@ impl<A: Allocator> Chain<A> {
         })
     }
 
-    /// Whether a chain has begun and was not dropped since. Its last command does not end it.
+    /// Whether a chain has begun and has not been dropped since. `add` also leaves the chain
+    /// pending after its last command.
     pub fn is_pending(&self) -> bool
         ensures pending { IsTrue result ↔ IsSome self.now.pending }
         ensures chain { IsChain self.now }
@@ -77,7 +85,7 @@ impl<A: Allocator> Chain<A> {
         self.pending.is_some()
     }
 
-    /// How many bytes the chain has.
+    /// The number of bytes in the chain.
     pub fn len(&self) -> usize
         ensures value { result ≡ length self.now.bytes }
         ensures chain { IsChain self.now }
@@ -85,7 +93,7 @@ impl<A: Allocator> Chain<A> {
         self.len
     }
 
-    /// The bytes of the chain's commands, concatenated.
+    /// The data of the chain's commands, concatenated.
     pub fn bytes(&self) -> &[u8]
         ensures value { result.now ≡ self.now.bytes }
         ensures chain { IsChain self.now }
@@ -93,24 +101,28 @@ impl<A: Allocator> Chain<A> {
         &self.room[..self.len]
     }
 
-    /// The room behind the chain's bytes. It holds zeros: nothing is left there of bytes that the
-    /// chain had before.
+    /// The unused rest of the buffer. It holds zeros, so nothing is left of bytes that the chain
+    /// held before.
     pub fn spare(&self) -> &[u8]
         ensures { result.now ≡ replicate (self.now.limit - length self.now.bytes) 0 }
     {
         &self.room[self.len..]
     }
 
-    /// Whether a command with this header may come: nothing is pending, or INS, P1, P2 and CLA but
-    /// for bit 5 are the chain's.
+    /// Whether a command with this header may follow: nothing is pending, or CLA (except bit 5),
+    /// INS, P1 and P2 equal the chain's.
     pub fn accepts(&self, header: Header) -> bool
         ensures { IsTrue result ↔ Accepts self.now header }
     {
         self.pending.is_none_or(|first| header.as_last() == first)
     }
 
-    /// Adds the data of a command. The chain is then pending. An `Err` comes exactly where the
-    /// limit would be passed, and leaves the chain as it was.
+    /// Appends the data of a command. The chain is pending afterwards, also if the command was the
+    /// last of its chain: the caller ends it by `drop_all`.
+    ///
+    /// # Errors
+    ///
+    /// - `TooLong`: the data would exceed the limit; the chain is unchanged.
     pub fn add(&mut self, header: Header, content: &[u8]) -> Result<(), TooLong>
         requires { Accepts self.old header }
         ensures too_long { IsErr result ↔
@@ -127,8 +139,8 @@ impl<A: Allocator> Chain<A> {
         Ok(())
     }
 
-    /// Keeps the first `len` bytes, and overwrites the others with zeros. The chain is pending or
-    /// not as before.
+    /// Keeps the first `len` bytes, at most `len()`, and overwrites the others with zeros. A
+    /// pending chain stays pending.
     pub fn keep_first(&mut self, len: usize)
         requires { len ≤ length self.old.bytes }
         ensures { self.new ≡ record self.old { bytes = take len self.old.bytes } }
@@ -137,7 +149,7 @@ impl<A: Allocator> Chain<A> {
         self.len = len;
     }
 
-    /// Drops the chain, overwrites its bytes with zeros, and keeps the room.
+    /// Drops the chain and overwrites its bytes with zeros. The buffer is kept for the next chain.
     pub fn drop_all(&mut self)
         ensures { self.new ≡ idle self.old.limit }
     {
@@ -146,7 +158,7 @@ impl<A: Allocator> Chain<A> {
     }
 }
 
-/// Copies these bytes to a place.
+/// Copies `content` into `room`, from index `at`.
 fn lay(room: &mut [u8], at: usize, content: &[u8])
     requires { at + length content.now ≤ length room.old }
     ensures front { take (at + length content.now) room.new ≡ take at room.old ++ content.now }
@@ -157,7 +169,7 @@ fn lay(room: &mut [u8], at: usize, content: &[u8])
     room[at..at + content.len()].copy_from_slice(content);
 }
 
-/// Overwrites the bytes from one place up to another with zeros.
+/// Overwrites the bytes at `from..to` with zeros.
 fn wipe(room: &mut [u8], from: usize, to: usize)
     requires { (from ≤ to) × (to ≤ length room.old) }
     ensures front { take from room.new ≡ take from room.old }

@@ -1,4 +1,4 @@
-//! Commands of the four cases, read from their bytes and written as them.
+//! Commands of the four cases, parsed from bytes and written as bytes.
 ghost use Rattle.std.specs.Prelude.{◌≡◌, ◌≢◌, ℕ, List, Option, IfNone, ◌<◌, ◌≤◌, ◌++◌, ◌↔◌, length, vec_len, IfOk, OnOk, OnErr, IfSome, IsSome, MatchOption, ⊤};
 ghost use Rattle.std.specs.Option.{SomeIff};
 ghost use Rattle.apdu_core.specs.declared.command.ApduFault.TheVariants.{TooShort, BadLength, InvalidIns};
@@ -12,7 +12,7 @@ use std::error::Error;
 use std::fmt;
 use std::marker::Model;
 
-/// Why bytes are no command.
+/// Why bytes are not a command.
 #[derive(Clone, Copy, Debug, PartialEq, Eq)]
 pub enum ApduFault {
     /// There are fewer than four bytes.
@@ -40,7 +40,8 @@ impl fmt::Display for ApduFault {
 
 impl Error for ApduFault {}
 
-/// A command of one of the four cases (ISO/IEC 7816-4, 5.1). Extended lengths are left out.
+/// A command APDU of one of the four cases (ISO/IEC 7816-4, 5.1). Extended lengths are not
+/// supported.
 #[derive(Debug, Drop)]
 pub struct Command<'a> {
     header: Header,
@@ -75,8 +76,15 @@ impl Clone for Command<'_> {
 }
 
 impl<'a> Command<'a> {
-    /// The command that these bytes are, all of them. Faults in this order: `TooShort` under four
-    /// bytes, `BadLength` where no case fits the bytes after the header, `InvalidIns`.
+    /// Parses a command that takes up all of `bytes`.
+    ///
+    /// # Errors
+    ///
+    /// In this order:
+    ///
+    /// - `TooShort`: there are fewer than four bytes.
+    /// - `BadLength`: the bytes after the header fit none of the four cases.
+    /// - `InvalidIns`: INS is `6X` or `9X`.
     pub fn read(bytes: &'a [u8]) -> Result<Command<'a>, ApduFault>
         ensures command { IfOk result (λ c. IsCommand c × (bytes.now ≡ command_bytes c)) }
         ensures each { (c : spec.Command) →
@@ -109,8 +117,8 @@ impl<'a> Command<'a> {
         })
     }
 
-    /// The command with these parts; `None` for an invalid INS, more than 255 bytes of data, or a
-    /// `le` outside 1 to 256.
+    /// Makes a command of these parts. `None` if INS is `6X` or `9X`, `content` exceeds 255 bytes,
+    /// or `le` is not 1 to 256.
     pub fn new(header: Header, content: &'a [u8], le: Option<u16>) -> Option<Command<'a>>
         ensures { let parts : spec.Command =
             record { header = header; content = content.now; le = le } in
@@ -126,7 +134,7 @@ impl<'a> Command<'a> {
         })
     }
 
-    /// The header.
+    /// The header: CLA, INS, P1 and P2.
     pub fn header(&self) -> Header
         ensures value { result ≡ self.now.header }
         ensures command { IsCommand self.now }
@@ -134,7 +142,7 @@ impl<'a> Command<'a> {
         self.header
     }
 
-    /// The data to the card; none in cases 1 and 2.
+    /// The data to the card, at most 255 bytes. They are empty in cases 1 and 2.
     pub fn data(&self) -> &'a [u8]
         ensures value { result.now ≡ self.now.content }
         ensures command { IsCommand self.now }
@@ -142,7 +150,7 @@ impl<'a> Command<'a> {
         self.content
     }
 
-    /// How many bytes are asked for, 1 to 256; `None` in cases 1 and 3.
+    /// Le, the number of bytes that the command asks for, 1 to 256. `None` in cases 1 and 3.
     pub fn le(&self) -> Option<u16>
         ensures value { result ≡ self.now.le }
         ensures command { IsCommand self.now }
@@ -150,7 +158,11 @@ impl<'a> Command<'a> {
         self.le
     }
 
-    /// Appends the command's bytes. An `Err`, want of memory, leaves `out` as it was.
+    /// Appends the bytes of the command to `out`.
+    ///
+    /// # Errors
+    ///
+    /// - `AllocError`: memory ran out; `out` is unchanged.
     pub fn write<A: Allocator>(&self, out: &mut Vec<u8, A>) -> Result<(), AllocError>
         ensures ok { OnOk result (out.new.items ≡ out.old.items ++ command_bytes self.now) }
         ensures err { OnErr result (out.new.items ≡ out.old.items) }
@@ -172,7 +184,7 @@ impl<'a> Command<'a> {
     }
 }
 
-/// The data and the Le that the bytes after a header stand for, in one of the four cases' forms.
+/// Parses the bytes after a header as data and Le. `None` if they fit none of the four cases.
 fn fields(bytes: &[u8]) -> Option<(&[u8], Option<u16>)>
     ensures none { IfNone result ((content : List ℕ) (le : Option ℕ) →
         HasSizes content le → bytes.now ≢ lc_field content ++ le_field le) }

@@ -1,4 +1,4 @@
-//! A value cut into the commands of a chain.
+//! Cuts a value into the commands of a chain.
 ghost use Rattle.std.specs.Prelude.{◌≡◌, ℕ, List, true};
 ghost use Rattle.apdu_core.specs.HeaderBytes.{ins_is_valid};
 ghost use Rattle.apdu_core.specs.Chaining.{IsPieces, IsLast, chain_commands};
@@ -8,10 +8,12 @@ mod iter;
 use crate::header::Header;
 pub use iter::Pieces;
 
-/// The commands that carry `value` in a chain with this header, whose bit 5 of CLA is clear: pieces
-/// of 255 bytes, the last of 1 to 255, and one empty piece for the empty value. Bit 5 is set in
-/// each command but the last (ISO/IEC 7816-4, 5.1.1.1). The size of the pieces is this project's
-/// profile.
+/// Returns the commands that carry `value` in a chain (ISO/IEC 7816-4, 5.1.1.1). Bit 5 of CLA is
+/// set in each command except the last.
+///
+/// `header` is the header of the last command: its INS is valid, and bit 5 of its CLA is clear.
+/// Each command except the last carries 255 bytes, the last 1 to 255 (profile). An empty value
+/// makes one command without data.
 pub fn pieces(header: Header, value: &[u8]) -> Pieces<'_>
     requires valid_ins { ins_is_valid header.ins ≡ true }
     requires last { IsLast header }

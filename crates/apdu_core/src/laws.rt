@@ -1,4 +1,5 @@
-//! Laws of the definitions that the contracts of this crate cite. Each function's contract is one.
+//! Laws of this crate's definitions, for proofs in the crates above. Each function is empty: its
+//! contract is the law.
 ghost use Rattle.std.specs.Prelude.{◌≡◌, ◌<◌, ◌≤◌, ◌↔◌, ℕ, List, length, map, All, Some, true};
 ghost use Rattle.std.specs.List.{concat};
 ghost use Rattle.apdu_core.specs.declared.header.Header.{Header};
@@ -7,13 +8,13 @@ ghost use Rattle.apdu_core.specs.CommandBytes.{Command, HasSizes, command_bytes}
 ghost use Rattle.apdu_core.specs.Chaining.{IsPieces, IsLast, chain_commands, ChainState, idle};
 ghost use Rattle.apdu_core.specs.Laws.{MoreInAllButLast, IsLink, AreAdded};
 
-/// A byte list is that of at most one command, whatever its INS.
+/// The same bytes are never those of two commands, whatever their INS.
 pub fn bytes_are_of_one_command()
     ensures { (c d : Command) → HasSizes c.content c.le → HasSizes d.content d.le →
         command_bytes c ≡ command_bytes d → c ≡ d }
 {}
 
-/// A value has pieces, and no others, and concatenated they are the value.
+/// Each value is cut into pieces in exactly one way, and the pieces concatenate to the value.
 pub fn a_value_has_its_pieces()
     ensures exist { (value : List ℕ) → (p : List (List ℕ)) × IsPieces value p }
     ensures determined { (value : List ℕ) (p q : List (List ℕ)) →
@@ -22,8 +23,8 @@ pub fn a_value_has_its_pieces()
         IsPieces value p → concat p ≡ value }
 {}
 
-/// The commands of a chain carry the value, bit 5 of CLA is set in all but the last, and each is a
-/// command without Le whose header is the chain's but for that bit.
+/// The commands of a chain carry the value. Bit 5 of CLA is set in all except the last. Each is a
+/// command without Le, whose header is the chain's apart from that bit.
 pub fn the_commands_of_a_chain()
     ensures concatenate { (header : Header) (value : List ℕ) (p : List (List ℕ)) →
         IsPieces value p → concat (map (λ c. c.content) (chain_commands header p)) ≡ value }
@@ -34,8 +35,8 @@ pub fn the_commands_of_a_chain()
         All (IsLink header) (chain_commands header p) }
 {}
 
-/// A chain with nothing pending takes the commands that carry a value, each in its turn, exactly
-/// where the value keeps to the limit. It has then that value, and is pending.
+/// An idle chain accepts all commands of a value, in turn, exactly if the value keeps to the limit.
+/// It then holds that value, and is pending.
 pub fn a_chain_gathers_the_value()
     ensures { (header : Header) (value : List ℕ) (p : List (List ℕ)) (limit : ℕ)
         (after : ChainState) → IsPieces value p → IsLast header → header.cla < 256 →

@@ -1,11 +1,11 @@
-//! Status words, and what they announce or correct.
+//! Status words, and the lengths that `61XX` and `6CXX` state.
 ghost use Rattle.std.specs.Prelude.{◌≡◌, ◌↔◌, IsTrue};
 ghost use Rattle.std.specs.Option.{SomeIff};
 ghost use Rattle.apdu_core.specs.StatusWord.{StatusWord, IsStatusWord, ok, count, announces, corrects};
 
 use std::marker::Model;
 
-/// A status word SW1 SW2, whose first byte is `61` to `6F` or `90` to `9F` (ISO/IEC 7816-4, 5.1).
+/// A status word SW1 SW2, where SW1 is `61` to `6F` or `90` to `9F` (ISO/IEC 7816-4, 5.1).
 #[derive(Clone, Copy, Debug, PartialEq, Eq, Hash)]
 pub struct Status {
     sw1: u8,
@@ -23,8 +23,7 @@ impl Model for Status {
 }
 
 impl Status {
-    /// The status word of these two bytes; `None` where SW1 is outside `61` to `6F` and `90` to
-    /// `9F`.
+    /// Makes a status word of two bytes. `None` if SW1 is neither `61` to `6F` nor `90` to `9F`.
     pub fn new(sw1: u8, sw2: u8) -> Option<Status>
         ensures { SomeIff result (IsStatusWord (sw1, sw2)) (sw1, sw2) }
     {
@@ -35,7 +34,7 @@ impl Status {
         }
     }
 
-    /// The first byte.
+    /// SW1, the first byte.
     pub fn sw1(self) -> u8
         ensures value { result ≡ self.0 }
         ensures status { IsStatusWord self }
@@ -43,7 +42,7 @@ impl Status {
         self.sw1
     }
 
-    /// The second byte.
+    /// SW2, the second byte.
     pub fn sw2(self) -> u8
         ensures value { result ≡ self.1 }
         ensures status { IsStatusWord self }
@@ -51,22 +50,23 @@ impl Status {
         self.sw2
     }
 
-    /// Whether the word is `9000`, normal processing.
+    /// Whether the status is `9000`: normal processing.
     pub fn is_ok(self) -> bool
         ensures { IsTrue result ↔ (self ≡ ok) }
     {
         self.sw1 == 0x90 && self.sw2 == 0x00
     }
 
-    /// How many bytes wait, 1 to 256: `count(XX)` of `61XX`. `None` for every other word.
+    /// The number of bytes that wait at the card, 1 to 256, if the status is `61XX`. `None` for any
+    /// other status.
     pub fn announces(self) -> Option<u16>
         ensures { result ≡ announces self }
     {
         (self.sw1 == 0x61).then(|| count(self.sw2))
     }
 
-    /// How many bytes should have been asked for, 1 to 256: `count(XX)` of `6CXX`. `None` for every
-    /// other word.
+    /// The number of bytes that the terminal should have asked for, 1 to 256, if the status is
+    /// `6CXX`. `None` for any other status.
     pub fn corrects(self) -> Option<u16>
         ensures { result ≡ corrects self }
     {
@@ -74,7 +74,7 @@ impl Status {
     }
 }
 
-/// What a byte counts: `00` stands for 256 (ISO/IEC 7816-4, 5.1).
+/// The length that a byte encodes, 1 to 256: `00` means 256 (ISO/IEC 7816-4, 5.1).
 pub fn count(byte: u8) -> u16
     ensures { result ≡ count byte }
 {

@@ -10,10 +10,11 @@ use crate::header::Header;
 use std::iter::FusedIterator;
 use std::marker::Model;
 
-/// How many bytes each piece of a value has but the last.
+/// The number of bytes in each piece of a value except the last (profile).
 const PIECE: usize = 255;
 
-/// The commands of a chain, in order, seen as the list of those that are still to come.
+/// Iterates over the commands of a chain, in order. Contracts see it as the list of the commands
+/// that are left.
 #[derive(Debug, Drop)]
 pub struct Pieces<'a> {
     header: Header,

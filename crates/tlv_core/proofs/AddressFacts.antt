@@ -1,4 +1,4 @@
--- Facts of the addresses of tags.
+-- Facts about the addresses of tags.
 use Rattle.std.proofs.Common.{◌≡◌, ℕ, List, [], ◌∷◌, sym, ap, arith, ◌∙◌}
 use Rattle.tlv_core.specs.Address.{NamesTag}
 

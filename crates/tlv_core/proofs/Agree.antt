@@ -11,7 +11,7 @@ use Rattle.tlv_core.specs.LengthLaws.{length_start_is_not_inside}
 use Rattle.tlv_core.specs.StartLaws.{after_tags_agree}
 use Rattle.tlv_core.proofs.PlaceFacts.{padded_place, object_place, reached_inside, object_is_long, object_is_some}
 
--- What follows the tag, for the three reasons that speak of it.
+-- What follows the tag, for the three reasons that depend on it.
 TagThen : List ℕ → (List ℕ → Type 0) → Type 0
 TagThen bytes P = (tag rest : List ℕ) × IsTag tag × (bytes ≡ tag ++ rest) × P rest
 
@@ -43,7 +43,7 @@ unfolding TagThen
 value_then bytes level (low, (tag, size, rest, n, is_tag, is_size, e, short)) =
     (tag, size ++ rest, is_tag, e ∙ append_assoc tag size rest, (size, rest, n, is_size, refl))
 
--- Bytes fail for one reason.
+-- Bytes fail for at most one reason.
 pub fails_agree : (bytes : List ℕ) (level : ℕ) (r q : Reason) → FailsFor bytes level r
     → FailsFor bytes level q → r ≡ q
 fails_agree bytes level TooDeep TooDeep x y = refl
@@ -123,7 +123,7 @@ fails_agree bytes level ValueCut LengthForm x y =
     StartsWithLength (λ rest p q. p.1 q) (form_then bytes level y) (value_then bytes level x))
 fails_agree bytes level ValueCut ValueCut x y = refl
 
--- What stands at a place is reached in one way.
+-- Each place is reached in one way.
 pub record SamePlace (left : List ℕ) (depth : ℕ) (path : List (List ℕ)) (left' : List ℕ)
     (depth' : ℕ) (path' : List (List ℕ)) : Type 0 where
   pub same_left : left ≡ left'

@@ -40,7 +40,7 @@ first_is bytes place end h =
     get_or-take (end - place) (drop place bytes) 0 0 (omega arith) ∙ get_or-drop place bytes 0 0
     ∙ ap (λ x. get_or bytes x 0) same
 
--- What the byte at the place says of the bytes up to the end.
+-- How the byte at the place determines the bytes from there to the end.
 pub padding_first : (bytes : List ℕ) (place end : ℕ) → place < end → end ≤ length bytes
     → get_or bytes place 0 ≡ 0
     → cut bytes place end ≡ 0 ∷ cut bytes (place + 1) end
@@ -75,7 +75,7 @@ kind_first bytes t s v r place end h starts =
     starts.is_tag
     ∙ ap (λ x. is_constructed (x ∷ [])) (first_is bytes place end h)
 
--- What follows an object that starts there, and its value.
+-- The bytes after an object that starts there, and the bytes of its value.
 pub cut_rest : (bytes t s v r : List ℕ) (place end next : ℕ)
     → StartsWith (cut bytes place end) t s v r → next ≡ place + length (t ++ s ++ v)
     → next ≤ end → cut bytes next end ≡ r

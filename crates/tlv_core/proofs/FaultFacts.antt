@@ -1,4 +1,4 @@
--- Facts of the first fault of bytes.
+-- Facts about the first fault of bytes.
 use Rattle.std.proofs.Common.{◌≡◌, ℕ, zero, suc, ◌+◌, ◌≤◌, List, [], ◌∷◌, ◌++◌, length, refl, sym, arith, length-append, ◌∙◌, ◌⊎◌, inl, inr, true, false}
 use Rattle.std.proofs.lemmas.Bool.{cases_eq, cases_Bool}
 use Rattle.tlv_core.specs.TagForm.{is_constructed}

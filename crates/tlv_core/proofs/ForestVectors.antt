@@ -1,4 +1,4 @@
--- Lists of objects, with bytes that spell them and what is written of them, and near misses.
+-- Lists of objects, bytes that spell them, their encoding, and near misses.
 use Rattle.std.proofs.Common.{◌≡◌, ℕ, zero, suc, List, [], ◌∷◌, ◌++◌, refl, arith}
 use Rattle.std.specs.List.{All}
 use Rattle.std.proofs.lemmas.List.Elements.{All-nil, All-cons}
@@ -17,7 +17,7 @@ one_zero = All-cons Zero 0 [] refl no_padding
 two_zeros : All Zero (0 ∷ 0 ∷ [])
 two_zeros = All-cons Zero 0 (0 ∷ []) refl one_zero
 
--- so many templates, each in the one before it
+-- n templates, each inside the one before
 abbrev nested : ℕ → Forest
 nested zero = Empty
 nested (suc n) = Template (0x70 ∷ []) (nested n) Empty

@@ -1,4 +1,4 @@
--- Objects found by their tags, step by step.
+-- Objects found by a path, step by step.
 use Rattle.std.proofs.Common.{◌≡◌, ◌≢◌, ℕ, suc, ◌+◌, ◌<◌, List, [], ◌∷◌, ◌++◌, length, refl, sym, ap, arith, append_assoc, append-nil, length-append, ◌∙◌, ◌⊎◌, inl, inr, true}
 use Rattle.tlv_core.specs.TagForm.{is_constructed}
 use Rattle.tlv_core.specs.Object.{Object}
@@ -7,7 +7,7 @@ use Rattle.tlv_core.specs.Place.{StartsWith, Reached, at_front, past_padding, pa
 use Rattle.tlv_core.specs.StartLaws.{starts_at_object, starts_agree}
 use Rattle.tlv_core.proofs.PlaceFacts.{object_is_long, padded_place, object_place, reached_inside}
 
--- Objects of padded bytes, and of bytes that start with an object.
+-- Objects in padded bytes, and in bytes that start with an object.
 stands_past_padding : (rest : List ℕ) (level place : ℕ) (path : List (List ℕ)) (o : Object)
     → LiesAt rest level path place o
     → LiesAt (0 ∷ rest) level path (1 + place) o
@@ -142,8 +142,7 @@ stands_inside bytes level place path o h =
       object_is_long h.left (starts_at_object h.left o.tag o.size o.value h.rest h.stands),
     )
 
--- A part of a list, so many bytes behind its front, as a reader looks for a path: none stands
--- before it.
+-- `rest` is a part of a list, `by` bytes from its front, and no object on the path precedes it.
 pub record Seeks (bytes : List ℕ) (level : ℕ) (path : List (List ℕ)) (by : ℕ)
     (rest : List ℕ) : Type 0 where
   pub none : NoneLiesAt rest level path → NoneLiesAt bytes level path
@@ -162,7 +161,7 @@ seeks_one_zero rest level path = record {
   };
 }
 
--- An object is passed that is not the one sought, and does not hold it.
+-- The object at the front is not the one wanted, and does not contain it: the reader skips it.
 pub seeks_past_object : (at t s v r : List ℕ) (level : ℕ) (path : List (List ℕ))
     → StartsWith at t s v r → (path ≡ t ∷ [] → ⊥)
     → ((below : List (List ℕ)) → path ≡ t ∷ below → is_constructed t ≡ true
@@ -185,7 +184,7 @@ seeks_past_object at t s v r level path b here inside = record {
   };
 }
 
--- The object in front is the one sought.
+-- The object at the front is the one wanted.
 pub found_here : (at t s v r : List ℕ) (level : ℕ) (path : List (List ℕ)) → StartsWith at t s v r
     → path ≡ t ∷ []
     → IsFirstPlaced at level path 0 (record { tag = t; size = s; value = v; level = level })
@@ -194,7 +193,7 @@ found_here at t s v r level path b e = record {
   none_before = λ p q g. omega arith;
 }
 
--- The first one in the object in front, under a longer path, is the one sought.
+-- The first object on the path inside the object at the front is the one wanted.
 pub found_within : (at t s v r : List ℕ) (level : ℕ) (path below : List (List ℕ)) (place : ℕ)
     (o : Object) → StartsWith at t s v r
     → is_constructed t ≡ true → path ≡ t ∷ below → below ≢ []
@@ -220,11 +219,11 @@ found_within at t s v r level path below place o b kind e more h = record {
   ];
 }
 
--- Nothing stands in what is left at the end.
+-- An empty list contains nothing.
 pub none_in_nil : (level : ℕ) (path : List (List ℕ)) → NoneLiesAt [] level path
 none_in_nil level path place o h = omega (arith, stands_inside [] level place path o h)
 
--- The bytes of an object stand at its place.
+-- The bytes of an object are at its place.
 reached_stands : (bytes : List ℕ) (level place : ℕ) (left : List ℕ) (depth : ℕ)
     (path : List (List ℕ))
     → Reached bytes level place left depth path → (before after : List ℕ) × (place ≡ length before)

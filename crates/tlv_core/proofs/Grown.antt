@@ -1,4 +1,4 @@
--- A forest grows with the objects that a list gives.
+-- A forest grows by each object that the iterator returns.
 use Rattle.std.proofs.Common.{◌≡◌, ℕ, suc, ◌+◌, ◌<◌, ◌≤◌, List, length, true, false, Some, None, refl, ap, ◌∙◌, subst, add-one, arith}
 use Rattle.tlv_core.specs.TagForm.{is_constructed}
 use Rattle.tlv_core.specs.Spelling.{Forest, Empty, Primitive, Template, Begins, Spells, AreObjects, encoding, levels, longest, deepest}
@@ -28,14 +28,15 @@ joined-with_last (Primitive tag value rest) item next =
 joined-with_last (Template tag children rest) item next =
     ap (Template tag children) (joined-with_last rest item next)
 
--- What was read, followed by what the rest of a list spells, is spelled by the whole list.
+-- The objects so far, followed by those that the rest of a list spells, are what the whole list
+-- spells.
 pub record Grows (forest : Forest) (whole rest : ObjectList) : Type 0 where
   pub one_level : rest.level ≡ whole.level
   pub left : AreObjects rest.bytes rest.level
   pub spelled : (next : Forest) → Spells next rest.bytes rest.level
       → Spells (joined forest next) whole.bytes whole.level
 
--- what follows an object that stands in front of objects
+-- the bytes after the first object of a list are a list of objects
 after_object : (bytes p t s v r : List ℕ) (level : ℕ) (f : Forest) → Begins bytes p t s v r level
     → Spells f bytes level → AreObjects r level
 after_object bytes p t s v r level Empty b h = absurd (no_object bytes p t s v r level h b)
@@ -84,14 +85,14 @@ pub grown : (f : Forest) (whole before after : ObjectList) → Grows f whole bef
 grown f whole before after h gives = let P : Forest → Type 0 =
     λ g. Spells g whole.bytes whole.level in subst P (joined-Empty f) (h.spelled Empty gives.0)
 
--- what the list of an object's children spells, its value spells
+-- the value of an object spells what the list of its children spells
 pub children_spelled : (f : Forest) (list : ObjectList) (value : List ℕ) (level : ℕ) → list
     ≡ record { bytes = value; level = level } → Spells f list.bytes list.level
     → Spells f value level
 children_spelled f list value level e h = let P : ObjectList → Type 0 =
     λ l. Spells f l.bytes l.level in subst P e h
 
--- the value of an object given is one that can be written
+-- the value of an object that the iterator returned can be written
 pub given_fits : (before after : ObjectList) (o : Object) → GivesNext before (Some o) after
     → length o.value ≤ longest
 given_fits before after o gives = spelled_below o.size (length o.value) gives.0.1.is_size

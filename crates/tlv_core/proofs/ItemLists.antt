@@ -1,4 +1,4 @@
--- A forest is the list of its objects.
+-- A forest as the list of its objects.
 use Rattle.std.proofs.Common.{◌≡◌, ℕ, zero, suc, ◌+◌, ◌<◌, ◌≤◌, get_or, take, min, max, List, [], ◌∷◌, ◌++◌, length, refl, sym, ap, ◌∙◌, subst, append_assoc, length-append, arith}
 use Rattle.std.proofs.Common.{Option, Some, None, Bor, slice_get, option_copied}
 use Rattle.std.specs.Slice.{IsItemAt}
@@ -51,7 +51,7 @@ sound-with_last (Primitive tag value rest) n (t, kind, size, more) k =
 sound-with_last (Template tag children rest) n (t, kind, size, inner, more) k =
     (t, kind, size, inner, sound-with_last rest n more k)
 
--- a longer forest is written with as many bytes as both parts need, counted up to a bound
+-- the written size of a longer forest is the sum of both sizes, up to a bound
 pub written-with_last : (f : Forest) (n : Item) (most : ℕ) →
     min (length (encoding (with_last f n))) most
     ≡ min (min (length (encoding f)) most + length (encoding (with_first n Empty))) most
@@ -63,13 +63,13 @@ written-with_last f n most =
           (encoding (with_first n Empty)),
     )
 
--- what a look-up lends is the element at the place
+-- a look-up returns the element with that index
 pub item_lent : {X : Type 0} (xs : List X) (i : ℕ) (r : Option (Bor X)) → IsItemAt xs i r
     → option_copied r ≡ slice_get xs i
 item_lent xs i None h = sym (slice_get_past xs i h.3)
 item_lent xs i (Some x) h = sym (slice_get_read xs (length xs) i x.now refl h.3.0 h.1)
 
--- one more object at the end is kept as the others are
+-- the invariant of a forest holds after one more object
 pub kept-push : {A : Type 0} {allocator : Ghosts A} (ns : List Item) (n : Item)
     (written depth size deep written' depth' : ℕ) → IsKept allocator (forest_of ns) written depth
     → HasSoundObjects (with_first n Empty) → size ≡ length (encoding (with_first n Empty)) → deep
@@ -102,7 +102,7 @@ sound_at (PrimitiveItem tag value ∷ ns) (suc i) n within is (t, k, size, more)
 sound_at (TemplateItem tag children ∷ ns) (suc i) n within is (t, k, size, inner, more) =
     sound_at ns i n (omega arith) is more
 
--- one more object is written after the others
+-- the encoding of one more object follows that of the others
 pub encoding-more : (ns : List Item) (i : ℕ) (n : Item) → i < length ns → n ≡ get_or ns i n
     → encoding (forest_of (take (i + 1) ns)) ≡ encoding (forest_of (take i ns))
     ++ encoding (with_first n Empty)
@@ -110,7 +110,7 @@ encoding-more ns i n within is =
     rw (take_more ns i n within, ← is, forest_of-push)
     (encoding-with_last (forest_of (take i ns)) n)
 
--- what a sound forest writes fits the lengths that there are
+-- the values of a sound forest fit a length
 pub primitive_fits : (ns : List Item) (i : ℕ) (n : Item) (tag value : List ℕ) → i < length ns → n
     ≡ get_or ns i n → PrimitiveItem tag value ≡ n
     → HasSoundObjects (forest_of ns) → length value ≤ longest
@@ -125,7 +125,7 @@ template_fits ns i n tag children within is e h =
     let P : Item → Type 0 = λ x. HasSoundObjects (with_first x Empty) in
     (subst P (sym e) (sound_at ns i n within is h)).2
 
--- an object appended to what is written of the objects before it
+-- appending an object to the bytes of those before it
 pub appended_object : (ns : List Item) (i : ℕ) (n : Item) (start now next : List ℕ) → i < length ns
     → n ≡ get_or ns i n
     → now ≡ start ++ encoding (forest_of (take i ns)) → next ≡ now ++ encoding (with_first n Empty)
@@ -133,7 +133,7 @@ pub appended_object : (ns : List Item) (i : ℕ) (n : Item) (start now next : Li
 appended_object ns i n start now next within is before after =
     after ∙ rw (before, encoding-more ns i n within is) (simp append_assoc)
 
--- what is written of one object
+-- the encoding of one object
 pub primitive_written : (n : Item) (tag value : List ℕ) → PrimitiveItem tag value ≡ n
     → object_bytes tag value ≡ encoding (with_first n Empty)
 primitive_written n tag value e = rw (← e) (simp append-nil)
@@ -143,7 +143,7 @@ pub template_written : (n : Item) (tag : List ℕ) (children : Forest) (len : �
     → (tag ++ shortest len) ++ encoding children ≡ encoding (with_first n Empty)
 template_written n tag children len e size = rw (← e, size) (simp append-nil)
 
--- the size that a forest keeps is that of what it writes, where this is the content of a template
+-- the size that a forest stores is the size of the template value that it becomes
 pub kept_size : {A : Type 0} {allocator : Ghosts A} (f g : Forest) (written depth : ℕ)
     → IsKept allocator f written depth → f ≡ g → length (encoding g) ≤ longest → written
     ≡ length (encoding g)

@@ -1,4 +1,4 @@
--- What stands at the front of bytes that start with an object, by the bytes that a reader looks at.
+-- The object at the front of bytes, by the bytes that the reader looks at.
 use Rattle.std.proofs.Common.{◌≡◌, ℕ, ◌≤◌, List, ◌++◌, length, drop, sym, ap, arith, append_assoc, length-append, ◌∙◌, Ok}
 use Rattle.std.proofs.lemmas.List.{drop_at}
 use Rattle.tlv_core.specs.TagForm.{StartsWithTag}

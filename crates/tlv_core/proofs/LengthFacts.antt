@@ -1,4 +1,4 @@
--- Facts of how lengths are spelled.
+-- Facts about the spelling of lengths.
 use Rattle.std.proofs.Common.{◌≡◌, ◌≢◌, ℕ, ◌+◌, ◌-◌, ◌*◌, ◌<◌, ◌≤◌, List, [], ◌∷◌, ◌++◌, length, get_or, drop, refl, sym, ap, arith, append-nil, ◌∙◌, ◌⊎◌, inl, inr}
 use Rattle.std.proofs.lemmas.List.{get_or-drop, length-drop}
 use Rattle.std.proofs.lemmas.Bool.{cases_lt, cases_eq}
@@ -6,7 +6,7 @@ use Rattle.tlv_core.specs.Length.{SpellsLength, StartsWithLength, EndsInsideLeng
 use Rattle.tlv_core.specs.FrontParts.{IsFrontSpelling, IsSpelledFrom, HasNoFrontLength}
 use Rattle.tlv_core.specs.declared.fault.Reason.TheVariants.{LengthForm}
 
--- Bytes that agree with no spelling start with none and end inside none.
+-- Bytes that no spelling agrees with neither start with a length nor end inside one.
 AgreesWithNone : List ℕ → Type 0
 AgreesWithNone bytes = (size x y : List ℕ) (n : ℕ) → SpellsLength size n → bytes ++ x ≡ size ++ y
     → ⊥
@@ -104,7 +104,7 @@ length_cases (a ∷ rest) = elim (cases_lt a 128) [
   ]
 ]
 
--- The cases of a reader, by the bytes that it looks at.
+-- One lemma for each branch of `length_at`, by the bytes that it looks at.
 pub front_none : (bytes : List ℕ) → length bytes < 1 → EndsInsideLength bytes
 front_none [] short = inside_nil
 front_none (a ∷ rest) short = absurd (omega arith)
@@ -131,7 +131,7 @@ front_cut_second (a ∷ []) two first second = absurd (omega arith)
 front_cut_second (a ∷ b ∷ []) two first second = rw first (inside_82_of_two b second)
 front_cut_second (a ∷ b ∷ c ∷ rest) two first second = absurd (omega arith)
 
--- The same from a place of the bytes.
+-- The same, from an index of the bytes.
 first_there : (bytes : List ℕ) (start k : ℕ)
     → get_or (drop start bytes) k 0 ≡ get_or bytes (start + k) 0
 first_there bytes start k = get_or-drop start bytes k 0

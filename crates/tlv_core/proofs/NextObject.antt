@@ -1,4 +1,4 @@
--- What a list gives is the first object of the forest that it spells.
+-- The next object of a list is the first object of the forest that the list spells.
 use Rattle.std.proofs.Common.{◌≡◌, ℕ, suc, List, Some, None, refl, sym, subst, add-one}
 use Rattle.tlv_core.specs.Spelling.{Forest, Empty, Primitive, Template, Spells}
 use Rattle.tlv_core.specs.Items.{Item, PrimitiveItem, TemplateItem, with_first}

@@ -1,4 +1,4 @@
--- Bytes spell at most one list of objects.
+-- The same bytes never spell two lists of objects.
 use Rattle.std.proofs.Common.{◌≡◌, ℕ, suc, ◌<◌, List, ◌∷◌, ◌++◌, length, refl, sym, ap, ◌∙◌, subst, append_assoc}
 use Rattle.std.specs.List.{All}
 use Rattle.tlv_core.specs.TagForm.{is_constructed}
@@ -8,7 +8,7 @@ use Rattle.tlv_core.specs.LengthLaws.{sizes_agree}
 use Rattle.tlv_core.specs.StartLaws.{after_tags_agree, fronts_agree}
 use Rattle.std.proofs.lemmas.List.{append_cancel_left}
 
--- what follows the padding starts with a byte that is none
+-- the first byte after the padding is not padding
 pub record IsAfterPadding (bytes padding tail : List ℕ) : Type 0 where
   pub first : ℕ
   pub more : List ℕ
@@ -37,7 +37,7 @@ after_padding bytes padding tag size value rest level h =
     let start = tag_front tag h.is_tag in
     seen_after bytes padding tag size value rest start.0 start.1 h.spelled start.2 start.3
 
--- one object starts the bytes, with one value and one rest
+-- the object at the front has one value and one rest
 pub one_object : (bytes p t s v r q u x w z : List ℕ) (level : ℕ) → Begins bytes p t s v r level
     → Begins bytes q u x w z level
     → (t ≡ u) × (v ≡ w) × (r ≡ z)
@@ -55,7 +55,7 @@ one_object bytes p t s v r q u x w z level h k =
     let values = fronts_agree v w r z sizes.1 after in
     (tags.0, values.0, values.1)
 
--- padding alone has no object
+-- nothing but padding contains no object
 pub no_object : (bytes p t s v r : List ℕ) (level : ℕ) → All (λ b. b ≡ 0) bytes
     → Begins bytes p t s v r level → ⊥
 no_object bytes p t s v r level none h =

@@ -1,4 +1,4 @@
--- The ends that a reader keeps, as cells of which so many are in use.
+-- The ends that a reader stores, as the used cells of an array.
 use Rattle.std.proofs.Common.{◌≡◌, ◌≢◌, ℕ, zero, suc, ◌+◌, ◌-◌, ◌<◌, ◌≤◌, List, [], ◌∷◌, length, get_or, refl, ap, arith, add-one, get_or-set_same, get_or-set_other}
 use Rattle.std.proofs.Math.ListN.{set}
 use Rattle.tlv_core.specs.FrontParts.{innermost_first}
@@ -30,6 +30,6 @@ last_left cells (suc n) h =
 pub none_left : (cells : List ℕ) (n : ℕ) → n ≡ 0 → innermost_first cells n ≡ []
 none_left cells n e = rw e refl
 
--- so many levels down
+-- the level after n open templates
 pub depth_is : (cells : List ℕ) (level n : ℕ) → level + n ≡ level + length (innermost_first cells n)
 depth_is cells level n = omega (arith, count_is cells n)

@@ -1,10 +1,10 @@
--- Bytes begin with one padding.
+-- The padding at the front of bytes.
 use Rattle.std.proofs.Common.{◌≡◌, ℕ, ◌<◌, List, [], ◌∷◌, ◌++◌, refl, arith}
 use Rattle.std.specs.List.{All}
 use Rattle.std.proofs.lemmas.List.Elements.{All-head, All-tail}
 use Rattle.tlv_core.specs.TagForm.{IsTag}
 
--- a tag starts with a byte that is no padding
+-- the first byte of a tag is not padding
 pub tag_front : (t : List ℕ) → IsTag t → (a : ℕ) × (more : List ℕ) × (t ≡ a ∷ more) × (0 < a)
 tag_front [] h = absurd h
 tag_front (a ∷ []) h = (a, [], refl, omega arith)
@@ -12,7 +12,7 @@ tag_front (a ∷ b ∷ []) h = (a, b ∷ [], refl, omega arith)
 tag_front (a ∷ b ∷ c ∷ []) h = (a, b ∷ c ∷ [], refl, omega arith)
 tag_front (a ∷ b ∷ c ∷ d ∷ t) h = absurd h
 
--- the padding before the first byte that is none
+-- two paddings before a byte other than 00 are equal
 pub one_padding : (p q r s : List ℕ) (a b : ℕ) → All (λ x. x ≡ 0) p → All (λ x. x ≡ 0) q → 0 < a → 0
     < b
     → p ++ a ∷ r ≡ q ++ b ∷ s → (p ≡ q) × (a ∷ r ≡ b ∷ s)
@@ -27,7 +27,7 @@ one_padding (x ∷ p) (y ∷ q) r s a b hp hq ha hb e =
     cc in
     let first : x ≡ y = cc in (cc, same.1)
 
--- nothing but padding holds no byte that is none
+-- nothing but padding contains no byte other than 00
 pub not_in_padding : (p r : List ℕ) (a : ℕ) → 0 < a → All (λ x. x ≡ 0) (p ++ a ∷ r) → ⊥
 not_in_padding [] r a h k = let z : a ≡ 0 = All-head (λ x. x ≡ 0) a r k in omega arith
 not_in_padding (x ∷ p) r a h k = not_in_padding p r a h (All-tail (λ y. y ≡ 0) x (p ++ a ∷ r) k)

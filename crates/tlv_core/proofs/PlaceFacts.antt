@@ -1,4 +1,4 @@
--- Facts of the places of objects.
+-- Facts about the places of objects.
 use Rattle.std.proofs.Common.{◌≡◌, ℕ, suc, ◌+◌, ◌<◌, ◌≤◌, List, [], ◌∷◌, ◌++◌, length, ap, arith, length-append, ◌∙◌, ◌⊎◌, inl, inr, true}
 use Rattle.tlv_core.specs.TagForm.{is_constructed}
 use Rattle.tlv_core.specs.Place.{StartsWith, Reached, at_front, past_padding, past_object, into_template}
@@ -24,7 +24,7 @@ pub object_is_long : (left : List ℕ) → IsAtObject left → 0 < length left
 object_is_long [] h = absurd h
 object_is_long (a ∷ left) h = omega arith
 
--- What is left at a place lies in the bytes.
+-- The rest of a list at a place fits inside the bytes.
 pub reached_inside : (bytes : List ℕ) (level place : ℕ) (left : List ℕ) (depth : ℕ)
     (path : List (List ℕ))
     → Reached bytes level place left depth path → place + length left ≤ length bytes
@@ -46,7 +46,7 @@ reached_inside bytes level place left depth path
       reached_inside v (suc level) inner left depth below r,
     )
 
--- A fault lies before the end.
+-- A fault is before the end.
 pub fault_inside : (bytes : List ℕ) (level place : ℕ) (reason : Reason)
     → IsFault bytes level place reason → place < length bytes
 fault_inside bytes level place reason f =
@@ -74,7 +74,7 @@ padded_place bytes level place left depth path (into_template t s v more inner b
     let h : StartsWith (0 ∷ rest) t s v more = rw (← e) o in
     absurd (zero_starts_none rest t s v more h)
 
--- A place reached in bytes that start with an object is their front, or past the object, or in it.
+-- A place in bytes that start with an object is the front, or after the object, or in it.
 pub record IsFront (bytes : List ℕ) (level place : ℕ) (left : List ℕ) (depth : ℕ)
     (path : List (List ℕ)) : Type 0 where
   pub at : place ≡ 0

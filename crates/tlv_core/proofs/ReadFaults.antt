@@ -1,4 +1,4 @@
--- What a read answers where no forest was read.
+-- What a read returns if it reads no forest.
 use Rattle.std.proofs.Common.{◌≡◌, ℕ, List, ◌↔◌, Result, Ok, Err, IsErrAnd, IsErrOf}
 use Rattle.tlv_core.specs.Spelling.{AreObjects}
 use Rattle.tlv_core.specs.FirstFault.{IsFirstFault}
@@ -11,7 +11,7 @@ use Rattle.tlv_core.specs.PlaceLaws.{spelled_has_no_fault}
 one_fault : (f g : TlvFault) → f.place ≡ g.place → f.reason ≡ g.reason → f ≡ g
 one_fault f g place reason i = record { place = place i; reason = reason i }
 
--- the fault answered is the one first fault
+-- the fault returned is the first one
 pub fault_is_first : {X : Type 0} (bytes : List ℕ) (r : Result X ReadFault) (f : TlvFault)
     → IsErrAnd r (λ e. e ≡ Tlv f)
     → IsFirstFault bytes 1 f.place f.reason → (fault : TlvFault) → IsErrOf r (Tlv fault)
@@ -24,7 +24,7 @@ fault_is_first bytes (Err e) f h first fault = (
       let both = one_fault f fault same.0 same.1 in cc,
 )
 
--- want of memory is no fault of the bytes
+-- running out of memory is not a fault of the bytes
 pub want_is_no_fault : {X : Type 0} (bytes : List ℕ) (r : Result X ReadFault)
     → IsErrAnd r (λ e. e ≡ OutOfMemory) → AreObjects bytes 1
     → (fault : TlvFault) → IsErrOf r (Tlv fault) ↔ IsFirstFault bytes 1 fault.place fault.reason

@@ -1,4 +1,4 @@
--- A reader in open templates: what is left of the innermost list decides about the whole.
+-- A reader inside open templates: the rest of the innermost list decides about the whole.
 use Rattle.std.proofs.Common.{◌≡◌, ◌≢◌, ℕ, suc, ◌+◌, ◌-◌, ◌<◌, ◌≤◌, List, [], ◌∷◌, ◌++◌, length, get_or, refl, sym, subst, arith, length-append, ◌∙◌, inl, inr, true, false}
 use Rattle.std.proofs.lemmas.Bool.{cases_Bool}
 use Rattle.std.proofs.lemmas.List.{take_all, length-set}
@@ -16,18 +16,16 @@ use Rattle.tlv_core.proofs.FaultFacts.{first_past_padding, first_past_object, fi
 use Rattle.tlv_core.proofs.Outers.{one_more, last_left, none_left, depth_is}
 use Rattle.tlv_core.proofs.Cuts.{cut, cut_length, cut_empty, padding_first, object_first, kind_first, cut_rest, cut_value}
 
--- The reader stands at a place of a list that ends in the bytes, and the first fault of what is
--- left
--- of the list is theirs.
+-- The reader is at a place of a list. The first fault of the rest of that list is the first fault
+-- of the bytes.
 pub record IsIn (bytes : List ℕ) (level place end depth : ℕ) : Type 0 where
   pub inside : place ≤ end
   pub within : end ≤ length bytes
   pub faulty : (p : ℕ) (r : Reason) → IsFirstFault (cut bytes place end) depth p r
       → IsFirstFault bytes level (place + p) r
 
--- Once the rest of the innermost list is objects, the reader goes on behind its template in the
--- next
--- one, and past the outermost one the bytes are objects.
+-- If the rest of the innermost list is objects, the reader continues after its template, in the
+-- list around it. If the outermost list ends so, the bytes are objects.
 abbrev pub Reads : List ℕ → List ℕ → ℕ → ℕ → ℕ → ℕ → Type 0
 Reads [] bytes level place end depth =
     IsIn bytes level place end depth
@@ -42,7 +40,7 @@ pub reads_in : (outer bytes : List ℕ) (level place end depth : ℕ)
 reads_in [] bytes level place end depth h = h.0
 reads_in (e ∷ outer) bytes level place end depth h = h.0
 
--- The reader moves on in its list.
+-- The reader moves ahead in its list.
 goes_in : (bytes : List ℕ) (level place end depth passed next : ℕ) → next ≡ place + passed → next
     ≤ end
     → ((p : ℕ) (r : Reason) → IsFirstFault (cut bytes next end) depth p r
@@ -168,7 +166,7 @@ nothing_left : (bytes : List ℕ) (place end depth : ℕ) → place ≡ end → 
     → AreObjects (cut bytes place end) depth
 nothing_left bytes place end depth e h = rw (cut_empty bytes place end e h) (Empty, All_nil)
 
--- At the end of the innermost list.
+-- The reader is at the end of the innermost list.
 pub reads_behind : (outer bytes : List ℕ) (level place end outer_end depth above : ℕ) → place ≡ end
     → depth ≡ suc above
     → Reads (outer_end ∷ outer) bytes level place end depth
@@ -182,7 +180,7 @@ pub reads_to_end : (bytes : List ℕ) (level place end depth : ℕ) → place �
 reads_to_end bytes level place end depth e (h, done) =
     done (nothing_left bytes place end depth e h.within)
 
--- A reader at a place of a list, which lies in templates of lists that end at `outer`.
+-- A reader at a place of a list, inside templates whose lists end at `outer`.
 pub record Stands (outer bytes : List ℕ) (level place end : ℕ) : Type 0 where
   pub inside : place ≤ end
   pub within : end ≤ length bytes
@@ -267,7 +265,7 @@ fault_at_place outer bytes level place end depth reason e low object fails h =
     rw g (i.faulty 0 reason (first_here (cut bytes place end) (level + length outer) reason
     (object_first bytes place end low h.within object) f))
 
--- The same with the ends in cells, of which so many are in use.
+-- The same with the ends in an array: its first `used` cells count.
 pub record Keeps (cells bytes : List ℕ) (level used place end : ℕ) : Type 0 where
   pub cells_are : length cells ≡ deepest
   pub few : level + used ≤ deepest + 1

@@ -1,4 +1,4 @@
--- What a comparison of tags tells.
+-- When two tags are equal.
 use Rattle.std.proofs.Common.{◌≡◌, ◌≢◌, ℕ, ◌-◌, List, length, replicate, refl, sym, Bool, true, false, not, ◌&&◌, nat_eq, eq-eqb, inl, inr}
 use Rattle.std.specs.Cmp.Lexicographic.{pointwise, same_text, other_text}
 use Rattle.std.proofs.lemmas.Bool.{cases_Bool, eqb-true}

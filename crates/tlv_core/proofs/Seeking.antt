@@ -1,4 +1,4 @@
--- A reader that looks for a path in open templates, and enters those on the path alone.
+-- A reader that looks for a path inside open templates, and enters only those on the path.
 use Rattle.std.proofs.Common.{◌≡◌, ◌≢◌, ℕ, suc, ◌+◌, ◌-◌, ◌<◌, ◌≤◌, List, [], ◌∷◌, ◌++◌, length, get_or, drop, refl, sym, ap, subst, arith, length-append, ◌∙◌, true, false}
 use Rattle.std.proofs.lemmas.List.{take_all, drop_all, length-drop}
 use Rattle.std.proofs.Math.Seq.{drop-cons}
@@ -13,8 +13,8 @@ use Rattle.tlv_core.proofs.PlaceFacts.{starts_length}
 use Rattle.tlv_core.proofs.Found.{Seeks, seeks_one_zero, seeks_past_object, found_here, found_within, none_in_nil, lies_stands}
 use Rattle.tlv_core.proofs.Cuts.{cut, cut_length, cut_empty, padding_first, object_first, cut_rest, cut_value}
 
--- The reader stands at a place of a list that ends in the bytes, and the first object on the path
--- from there is theirs.
+-- The reader is at a place of a list. The first object on the path from there on is the first of
+-- the bytes.
 pub record IsIn (bytes : List ℕ) (path : List (List ℕ)) (place end depth : ℕ)
     (below : List (List ℕ)) : Type 0 where
   pub inside : place ≤ end
@@ -23,9 +23,8 @@ pub record IsIn (bytes : List ℕ) (path : List (List ℕ)) (place end depth : �
   pub first : (p : ℕ) (o : Object) → IsFirstPlaced (cut bytes place end) depth below p o
       → IsFirstPlaced bytes 1 path (place + p) o
 
--- Where none is in the rest of the innermost list, the reader goes on behind its template in the
--- next
--- one, and past the outermost one there is none.
+-- If the rest of the innermost list contains no such object, the reader continues after its
+-- template, in the list around it. If the outermost list ends so, no object is on the path.
 abbrev pub Looks : List ℕ → List ℕ → List (List ℕ) → ℕ → ℕ → Type 0
 Looks [] bytes path place end =
     IsIn bytes path place end 1 path
@@ -73,7 +72,7 @@ goes_on (outer_end ∷ outer) bytes path place end next by e low step objects (h
   λ none. done (step.none none),
 )
 
--- A reader at a place of a list, which lies in templates of lists that end at `outer`.
+-- A reader at a place of a list, inside templates whose lists end at `outer`.
 pub record Stands (outer bytes : List ℕ) (path : List (List ℕ)) (place end : ℕ) : Type 0 where
   pub inside : place ≤ end
   pub within : end ≤ length bytes
@@ -127,7 +126,7 @@ stands_past_zero outer bytes path place end low first h =
     (objects_past_zero (cut bytes place end) (cut bytes (place + 1) end)
     (suc (length outer)) e i.objects) h.looks)
 
--- The object in front is not the one sought, and does not hold it.
+-- The object at the front is not the one wanted, and does not contain it.
 passes : (outer bytes : List ℕ) (path : List (List ℕ)) (t s v r : List ℕ) (place end next : ℕ)
     → StartsWith (cut bytes place end) t s v r
     → (drop (length outer) path ≡ t ∷ [] → ⊥)
@@ -152,7 +151,7 @@ passes outer bytes path t s v r place end next starts here inside e h =
     (rw rest (after_is_spelled (cut bytes place end) t s v r (suc (length outer)) starts i.objects))
     h
 
--- The reader stands at an object, and has the tag that is next on the path.
+-- The reader is at an object; `wanted` is the next tag on the path.
 pub record Faces (outer bytes : List ℕ) (path : List (List ℕ)) (place end : ℕ)
     (wanted t s v r : List ℕ) : Type 0 where
   pub stands : Stands outer bytes path place end
@@ -194,7 +193,7 @@ stands_elsewhere outer bytes path place end wanted t s v r f other =
     ∙ f.next in cc)))
     f.behind f.stands.looks)
 
--- The path goes on below the object's tag.
+-- The path continues below the object's tag.
 goes_below : (path : List (List ℕ)) (n : ℕ) (wanted t : List ℕ) → drop n path ≡ wanted
     ∷ drop (suc n) path → t ≡ wanted
     → drop n path ≡ t ∷ drop (suc n) path
@@ -264,7 +263,7 @@ stands_in_template outer inner bytes path place end n wanted t s v r g e deep f 
           f.behind f.stands.looks,
     ))
 
--- The object is the one sought.
+-- The object is the one wanted.
 pub found : (outer bytes : List ℕ) (path : List (List ℕ)) (place end n : ℕ)
     (wanted t s v r : List ℕ) (o : Object) → n ≡ length outer
     → Faces outer bytes path place end wanted t s v r → t ≡ wanted → n + 1 ≡ length path
@@ -306,7 +305,7 @@ none_at_end outer bytes path place end f e h =
     let k : Stands [] bytes path place end = rw (← f) h in
     let nil = cut_empty bytes place end e k.within in k.looks.1 (rw nil (none_in_nil 1 path))
 
--- An object stands there, not too deep.
+-- An object is there, not too deep.
 pub starts_there : (outer bytes : List ℕ) (path : List (List ℕ)) (place end n : ℕ) → n
     ≡ length outer → place < end
     → get_or bytes place 0 ≢ 0 → Stands outer bytes path place end

@@ -1,10 +1,10 @@
--- The shortest spelling of a length is one, and no other is shorter.
+-- The shortest spelling of a length spells it, and no other is shorter.
 use Rattle.std.proofs.Common.{ℕ, ◌/◌, ◌%◌, ◌<◌, ◌≤◌, List, [], ◌∷◌, length, refl, ltb, arith}
 use Rattle.std.proofs.lemmas.Bool.{cond_both, ltb-true}
 use Rattle.std.proofs.lemmas.Bool.{ltb-false}
 use Rattle.tlv_core.specs.Length.{SpellsLength, shortest}
 
--- a fact of each of the three forms holds of the one that is written
+-- a fact of each of the three forms is a fact of the shortest spelling
 shortest_cases : (n : ℕ) (P : List ℕ → Type 0) → (n < 0x80 → P (n ∷ []))
     → (0x80 ≤ n → n < 0x100 → P (0x81 ∷ n ∷ []))
     → (0x100 ≤ n → P (0x82 ∷ n / 256 ∷ n % 256 ∷ [])) → P (shortest n)

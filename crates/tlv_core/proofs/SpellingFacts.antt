@@ -1,4 +1,4 @@
--- Facts of what bytes spell.
+-- Facts about what bytes spell.
 use Rattle.std.proofs.Common.{◌≡◌, ℕ, suc, ◌≤◌, List, [], ◌∷◌, ◌++◌, refl, ap, arith, add-one, ◌∙◌, true, false, All, ◌≢◌, length, ◌==◌}
 use Rattle.std.proofs.lemmas.List.Elements.{All-cons, All-tail}
 use Rattle.tlv_core.specs.TagForm.{is_constructed}
@@ -22,7 +22,7 @@ starts_begins bytes t s v r level h low =
       in_depth = low;
     }
 
--- One 00 more or less in front changes no forest.
+-- One 00 more in front changes no forest.
 pub begins_more : (rest p t s v r : List ℕ) (level : ℕ) → Begins rest p t s v r level
     → Begins (0 ∷ rest) (0 ∷ p) t s v r level
 begins_more rest p t s v r level h =
@@ -42,7 +42,7 @@ spells_more (Primitive tag value next) rest level (p, s, r, b, kind, more) =
 spells_more (Template tag children next) rest level (p, s, v, r, b, kind, inner, more) =
     (0 ∷ p, s, v, r, begins_more rest p tag s v r level b, kind, inner, more)
 
--- Objects put in front of what is spelled.
+-- An object in front of bytes that spell a forest.
 pub spells_primitive : (bytes t s v r : List ℕ) (level : ℕ) (next : Forest)
     → StartsWith bytes t s v r → level ≤ deepest
     → is_constructed t ≡ false → Spells next r level → Spells (Primitive t v next) bytes level
@@ -56,7 +56,7 @@ pub spells_template : (bytes t s v r : List ℕ) (level : ℕ) (children next : 
 spells_template bytes t s v r level children next h low kind inner more =
     ([], s, v, r, starts_begins bytes t s v r level h low, kind, inner, more)
 
--- Padding in front of what is spelled, passed.
+-- Bytes without their padding in front spell the same forest.
 pub objects_past_padding : (bytes rest : List ℕ) (level : ℕ) (padding : List ℕ)
     → All (λ b. b ≡ 0) padding → bytes ≡ padding ++ rest
     → AreObjects bytes level → AreObjects rest level
@@ -74,7 +74,7 @@ pub objects_past_zero : (bytes rest : List ℕ) (level : ℕ) → bytes ≡ 0 �
 objects_past_zero bytes rest level e (forest, h) =
     let k : Spells forest (0 ∷ rest) level = rw (← e) h in (forest, spells_less forest rest level k)
 
--- Where objects are spelled, one of them stands in front.
+-- If the bytes spell objects and do not start with padding, an object is in front.
 pub spelled_starts : (bytes : List ℕ) (level : ℕ) → AreObjects bytes level → IsAtObject bytes
     → StartsWithObject bytes × (level ≤ deepest)
 spelled_starts bytes level (forest, spells) at =
@@ -91,7 +91,7 @@ spelled_is_object bytes t s v r level objects low h = record {
   inside = λ kind. rw add-one (inside_is_spelled bytes t s v r level h kind objects);
 }
 
--- What is left past padding is at an object, unless it is nothing.
+-- What follows the padding starts with an object, unless it is empty.
 pub object_left : (rest : List ℕ) → false ≡ (length rest == 0) → (rest ≢ [] → IsAtObject rest)
     → IsAtObject rest
 object_left rest e h = h (λ nil. let clash : false ≡ true = e ∙ ap (λ x. length x == 0) nil in cc)

@@ -1,4 +1,4 @@
--- Facts of what bytes start with.
+-- Facts about the front of bytes.
 use Rattle.std.proofs.Common.{◌≡◌, ℕ, ◌-◌, ◌<◌, ◌≤◌, List, [], ◌∷◌, ◌++◌, length, take, drop, refl, sym, ap, arith, append_assoc, length-append, ◌∙◌, ◌⊎◌, inl, inr, Ok}
 use Rattle.std.proofs.lemmas.List.{take_at, drop_at, take-append-drop, length-take-le}
 use Rattle.std.proofs.lemmas.Bool.{cases_lt}
@@ -22,7 +22,7 @@ tag_is_some (a ∷ t) h = omega arith
 pub zero_starts_none : (rest t s v r : List ℕ) → StartsWith (0 ∷ rest) t s v r → ⊥
 zero_starts_none rest t s v r h = starts_at_object (0 ∷ rest) t s v r h refl
 
--- Bytes that are neither empty nor padding start with an object, or fail for a reason.
+-- Bytes that are neither empty nor padded in front start with an object, or have a fault there.
 pub record IsWhole (bytes : List ℕ) (level : ℕ) : Type 0 where
   pub tag : List ℕ
   pub size : List ℕ
@@ -82,7 +82,7 @@ front_answer bytes level = elim (cases_lt deepest level) [
   ]
 ]
 
--- What the readers of a tag and of a length found, put together.
+-- The tag at the front, as `tag_size` returns it, and the rest.
 after_tag : (bytes : List ℕ) (n : ℕ) → IsFrontTagSize bytes (Ok n)
     → (tag : List ℕ) × IsTag tag × (length tag ≡ n) × (bytes ≡ tag ++ drop n bytes)
 after_tag bytes n (tag, (is_tag, (rest, e)), same) =
@@ -110,7 +110,7 @@ fails_for_length bytes n level reason low front h =
     let (tag, is_tag, same, e) = after_tag bytes n front in
     fails_for bytes tag (drop n bytes) level reason low is_tag e h
 
--- A tag and a length, and what follows them.
+-- The tag and the length at the front, and what follows them.
 heads : (bytes : List ℕ) (n end value : ℕ) → IsFrontTagSize bytes (Ok n)
     → IsSpelledFrom bytes n end value
     → (tag size rest : List ℕ) × IsTag tag × SpellsLength size value × (bytes ≡ tag ++ size ++ rest)
@@ -163,7 +163,7 @@ has_parts bytes n end value level low front spelling enough =
       value_is = length-take-le value rest fits;
     }
 
--- The parts cut by their sizes.
+-- The parts of an object, cut by their sizes.
 pub parts_cut : (bytes head after_head tag size value rest : List ℕ) (level n end m : ℕ)
     → HasParts bytes level n end m
     → head ≡ take end bytes → after_head ≡ drop end bytes → tag ≡ take n head → size ≡ drop n head

@@ -1,4 +1,4 @@
--- Facts of how tags begin.
+-- Facts about how tags begin.
 use Rattle.std.proofs.Common.{◌≡◌, ℕ, ◌%◌, ◌<◌, ◌≤◌, List, [], ◌∷◌, ◌++◌, refl, arith, Err, ◌⊎◌, inl, inr}
 use Rattle.std.proofs.lemmas.Bool.{cases_lt, cases_eq, cases_order}
 use Rattle.tlv_core.specs.TagForm.{IsTag, StartsWithTag, EndsInsideTag}

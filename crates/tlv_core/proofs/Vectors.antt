@@ -1,4 +1,4 @@
--- Rows that the definitions give, and near misses.
+-- Rows computed from the definitions, and near misses.
 use Rattle.std.proofs.Common.{◌≡◌, ℕ, [], ◌∷◌, refl, true, false, arith, inr}
 use Rattle.tlv_core.specs.TagForm.{IsTag, is_constructed}
 use Rattle.tlv_core.specs.Length.{SpellsLength, shortest}
@@ -107,7 +107,7 @@ padded_object = spells_more (Primitive (0x50 ∷ []) (0x41 ∷ []) Empty)
 template_tag : IsTag (0x70 ∷ [])
 template_tag = (omega arith, omega arith, omega arith)
 
--- The value of 50 passes the end by four bytes.
+-- The value of 50 extends four bytes past the end.
 cut_value : IsFirstFault (0x50 ∷ 0x05 ∷ 0x41 ∷ []) 1 0 ValueCut
 cut_value = first_here (0x50 ∷ 0x05 ∷ 0x41 ∷ []) 1 ValueCut (λ e. omega arith) (
   omega arith,
@@ -123,7 +123,7 @@ cut_value = first_here (0x50 ∷ 0x05 ∷ 0x41 ∷ []) 1 ValueCut (λ e. omega a
   ),
 )
 
--- The innermost object is at fault, and not the template round it.
+-- The fault is that of the innermost object, not of the template around it.
 cut_value_in_template : IsFirstFault (0x70 ∷ 0x03 ∷ 0x50 ∷ 0x02 ∷ 0xAA ∷ []) 1 2 ValueCut
 cut_value_in_template =
     first_in_template (0x70 ∷ 0x03 ∷ 0x50 ∷ 0x02 ∷ 0xAA ∷ []) (0x70 ∷ []) (0x03 ∷ [])
@@ -171,7 +171,7 @@ cut_value_behind =
       ),
     )))
 
--- 9F alone ends inside a tag; 9F 80 starts no tag, also where the bytes end there.
+-- 9F alone ends inside a tag. 9F 80 starts no tag, even though the bytes end there.
 cut_tag : IsFirstFault (0x9F ∷ []) 1 0 TagCut
 cut_tag = first_here (0x9F ∷ []) 1 TagCut (λ e. omega arith)
     (omega arith, front_cut_first (0x9F ∷ []) (omega arith) (omega arith) refl)

@@ -1,4 +1,4 @@
--- What `encoding` writes is spelled by that list of objects, and nothing shorter is.
+-- The encoding of a list of objects spells it, and no shorter bytes do.
 use Rattle.std.proofs.Common.{◌≡◌, ℕ, suc, ◌+◌, ◌-◌, ◌≤◌, List, [], ◌++◌, length, refl, ap, ◌∙◌, length-append, arith}
 use Rattle.std.proofs.lemmas.List.Elements.{All-nil}
 use Rattle.tlv_core.specs.TagForm.{IsTag}
@@ -49,7 +49,7 @@ size_of_spelled : (bytes padding tag size value rest : List ℕ) (level : ℕ)
     → length bytes ≡ length padding + length tag + length size + length value + length rest
 size_of_spelled bytes padding tag size value rest level h = ap length h.spelled ∙ simp length-append
 
--- no shorter list is spelled by these objects
+-- no shorter bytes spell these objects
 pub shortest_encoding : (f : Forest) (bytes : List ℕ) (level : ℕ) → Spells f bytes level
     → length (encoding f) ≤ length bytes
 shortest_encoding Empty bytes level h = omega arith
@@ -74,7 +74,7 @@ shortest_encoding (Template tag children rest) bytes level
           tag s value more level begins,
     )
 
--- what bytes spell can be written
+-- a forest that some bytes spell can be written
 pub sound_when_spelled : (f : Forest) (bytes : List ℕ) (level : ℕ) → Spells f bytes level
     → HasSoundObjects f
 sound_when_spelled Empty bytes level h = tt

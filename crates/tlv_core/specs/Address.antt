@@ -1,8 +1,8 @@
 -- Addresses of tags (ISO/IEC 7816-4, GET DATA and PUT DATA).
 use Rattle.std.specs.Prelude.{◌≡◌, ◌≢◌, ℕ, ◌%◌, ◌<◌, ◌≤◌, List, [], ◌∷◌}
 
--- The tags that a command can name, and the P1-P2 that name them (which tags: this project's
--- profile). A tag of one byte stands in P2, one of two bytes in P1-P2.
+-- The tags that P1-P2 can name, with these P1-P2 (which tags: profile). A tag of one byte is in P2,
+-- one of two bytes in P1-P2.
 abbrev pub NamesTag : List ℕ → ℕ → ℕ → Type 0
 NamesTag (a ∷ []) p1 p2 = (0x40 ≤ a) × (a ≤ 0xFE) × (a % 32 ≢ 31) × (p1 ≡ 0) × (p2 ≡ a)
 NamesTag (a ∷ b ∷ []) p1 p2 = (0x5F ≤ a) × (a < 256) × (a % 32 ≡ 31) × (0 < b) × (b < 0x80)

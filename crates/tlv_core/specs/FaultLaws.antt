@@ -1,10 +1,10 @@
--- Faults, and the first of them.
+-- Faults at the front of bytes.
 use Rattle.std.proofs.Common.{ℕ, List, [], refl, arith}
 use Rattle.tlv_core.specs.Place.{at_front}
 use Rattle.tlv_core.specs.FirstFault.{FailsFor, IsAtObject, IsFirstFault}
 use Rattle.tlv_core.specs.declared.fault.Reason.{Reason}
 
--- The first fault, found step by step.
+-- A fault at the front is the first fault.
 pub first_here : (bytes : List ℕ) (level : ℕ) (reason : Reason) → IsAtObject bytes
     → FailsFor bytes level reason
     → IsFirstFault bytes level 0 reason

@@ -1,4 +1,4 @@
--- The texts of faults.
+-- The texts of errors.
 use Rattle.std.specs.Prelude.{ℕ, List, ◌++◌, codes, decimal}
 use Rattle.tlv_core.specs.declared.fault.Reason.{Reason}
 use Rattle.tlv_core.specs.declared.fault.Reason.TheVariants.{TagCut, TagForm, LengthCut, LengthForm, ValueCut, TooDeep}
@@ -8,7 +8,7 @@ use Rattle.tlv_core.specs.declared.build_fault.BuildFault.TheVariants as build
 use Rattle.tlv_core.specs.declared.read_fault.ReadFault.{ReadFault}
 use Rattle.tlv_core.specs.declared.read_fault.ReadFault.TheVariants as read
 
--- why no object stands at a place
+-- why no object is at a place
 abbrev pub reason_text : Reason → List ℕ
 reason_text TagCut = codes "TagCut"
 reason_text TagForm = codes "TagForm"
@@ -17,7 +17,7 @@ reason_text LengthForm = codes "LengthForm"
 reason_text ValueCut = codes "ValueCut"
 reason_text TooDeep = codes "TooDeep"
 
--- the reason, and where
+-- the reason and its place
 abbrev pub fault_text : TlvFault → List ℕ
 fault_text fault = reason_text fault.reason ++ codes " at " ++ decimal fault.place
 

@@ -1,4 +1,4 @@
--- The first fault of bytes that are no list of objects (this project's profile).
+-- The first fault of bytes that are not a list of objects (profile).
 use Rattle.std.specs.Prelude.{◌≡◌, ◌≢◌, ℕ, ◌<◌, ◌≤◌, List, [], ◌∷◌, ◌++◌, length}
 use Rattle.tlv_core.specs.TagForm.{IsTag, StartsWithTag, EndsInsideTag}
 use Rattle.tlv_core.specs.Length.{SpellsLength, StartsWithLength, EndsInsideLength}
@@ -7,8 +7,8 @@ use Rattle.tlv_core.specs.Place.{Reached}
 use Rattle.tlv_core.specs.declared.fault.Reason.{Reason}
 use Rattle.tlv_core.specs.declared.fault.Reason.TheVariants.{TagCut, TagForm, LengthCut, LengthForm, ValueCut, TooDeep}
 
--- Why bytes that are neither empty nor start with padding do not start with an object of this
--- level: the first of TooDeep, TagCut, TagForm, LengthCut, LengthForm and ValueCut that holds.
+-- Why bytes that are neither empty nor padded in front do not start with an object of this level.
+-- It is the first that holds of TooDeep, TagCut, TagForm, LengthCut, LengthForm and ValueCut.
 abbrev pub FailsFor : List ℕ → ℕ → Reason → Type 0
 FailsFor bytes level TooDeep = deepest < level
 FailsFor bytes level TagCut = (level ≤ deepest) × EndsInsideTag bytes
@@ -23,12 +23,12 @@ FailsFor bytes level ValueCut = (level ≤ deepest)
     × ((tag size rest : List ℕ) × (n : ℕ) × IsTag tag × SpellsLength size n
     × (bytes ≡ tag ++ size ++ rest) × (length rest < n))
 
--- a byte other than 00 stands in front
+-- the first byte is not 00
 abbrev pub IsAtObject : List ℕ → Type 0
 IsAtObject [] = ⊥
 IsAtObject (byte ∷ _) = byte ≢ 0
 
--- a reached place, before the end of its list and at no padding, where no object stands
+-- a place that a reader reaches, not at the end of its list and not at padding, where no object is
 pub record IsFault (bytes : List ℕ) (level place : ℕ) (reason : Reason) : Type 0 where
   pub left : List ℕ
   pub depth : ℕ

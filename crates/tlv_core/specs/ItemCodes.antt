@@ -1,4 +1,5 @@
--- How a proof tells two forests apart, and two objects: by a tree of numbers that gives them back.
+-- For the proof: codes that tell two forests, or two objects, apart. A code is a tree of numbers
+-- from which the value can be rebuilt.
 use Rattle.std.specs.Prelude.{◌≡◌, ℕ, List, refl}
 use Rattle.std.specs.Coded.{Coded, coded_ℕ, coded_list, coded×, coded⊎, code_by}
 use Rattle.std.proofs.Common.{ap, ◌⊎◌, inl, inr}
@@ -48,7 +49,7 @@ to_tree_inj (Template tag children rest) (Template tag' children' rest') e =
     let values = to_tree_inj children children' (ap (λ x. front_of (back_of (back_of x))) e) in
     let rests = to_tree_inj rest rest' (ap (λ x. back_of (back_of (back_of x))) e) in cc
 
--- how a proof tells two forests apart
+-- the code of a forest
 abbrev pub forest_code : Coded Forest
 forest_code = record { code = to_tree; inj = to_tree_inj }
 

@@ -2,7 +2,7 @@
 use Rattle.std.specs.Prelude.{ℕ, List, [], ◌∷◌, Option, Some, None}
 use Rattle.tlv_core.specs.Spelling.{Forest, Empty, Primitive, Template}
 
--- an object by itself: its tag, with its value or its children
+-- one object: its tag, with its value or its children
 pub data Item : Type 0 where
   PrimitiveItem : (tag value : List ℕ) → Item
   TemplateItem : (tag : List ℕ) (children : Forest) → Item

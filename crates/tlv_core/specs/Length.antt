@@ -2,14 +2,14 @@
 use Rattle.std.specs.Prelude.{◌≡◌, ℕ, ◌+◌, ◌*◌, ◌/◌, ◌%◌, ◌<◌, List, [], ◌∷◌, ◌++◌, nat_lt, if◌then◌else◌}
 use Rattle.tlv_core.specs.TagForm.{IsProperPrefix}
 
--- the spellings of a length
+-- these bytes spell the length n
 abbrev pub SpellsLength : List ℕ → ℕ → Type 0
 SpellsLength (a ∷ []) n = (a < 0x80) × (n ≡ a)
 SpellsLength (a ∷ b ∷ []) n = (a ≡ 0x81) × (b < 256) × (n ≡ b)
 SpellsLength (a ∷ b ∷ c ∷ []) n = (a ≡ 0x82) × (b < 256) × (c < 256) × (n ≡ 256 * b + c)
 SpellsLength _ n = ⊥
 
--- the shortest of them
+-- the shortest bytes that spell n
 abbrev pub shortest : ℕ → List ℕ
 shortest n =
     if nat_lt n 0x80 then n ∷ []
@@ -21,6 +21,6 @@ abbrev pub StartsWithLength : List ℕ → Type 0
 StartsWithLength bytes = (size rest : List ℕ) × (n : ℕ) × SpellsLength size n
     × (bytes ≡ size ++ rest)
 
--- the bytes end inside the spelling of a length, or before it
+-- the bytes end inside a spelled length, or are empty
 abbrev pub EndsInsideLength : List ℕ → Type 0
 EndsInsideLength bytes = (size : List ℕ) × (n : ℕ) × SpellsLength size n × IsProperPrefix bytes size

@@ -1,4 +1,4 @@
--- Lengths at the front of bytes: a spelling, a part of one, or neither.
+-- The front of bytes is a spelled length, a part of one, or neither.
 use Rattle.std.proofs.Common.{◌≡◌, ℕ, List, [], ◌∷◌, ◌++◌, length, sym, ap, arith, append_assoc, length-append, append-nil, ◌∙◌}
 use Rattle.std.proofs.lemmas.List.{nil_from_length, append_cancel_left}
 use Rattle.tlv_core.specs.Length.{SpellsLength, StartsWithLength, EndsInsideLength}

@@ -1,11 +1,10 @@
--- All objects of a list, those of its templates among them, with their places (this project's
--- profile).
+-- All objects of a list, templates and what is inside them, with their places (profile).
 use Rattle.std.specs.Prelude.{◌≡◌, ℕ, suc, ◌+◌, List, [], ◌∷◌, ◌++◌, length, All, true, false}
 use Rattle.tlv_core.specs.TagForm.{is_constructed}
 use Rattle.tlv_core.specs.Spelling.{Begins}
 
--- an object by its places: where its first byte stands, and how many it has; where its value
--- begins, and how many bytes that has
+-- an object by its offsets: its first byte and its size, the first byte of its value and the
+-- value's size
 pub record Placed : Type 0 where
   pub tag : List ℕ
   pub level : ℕ
@@ -25,8 +24,8 @@ placed place tag size value level =
       value_size = length value;
     }
 
--- The objects of the bytes, which begin at a place and are objects of a level, in the order of
--- their first bytes: a template comes before the objects in it.
+-- The objects of the bytes, a list at `level` that begins at offset `start`, in the order of their
+-- first bytes. A template precedes the objects in it.
 pub data Lists : List ℕ → ℕ → ℕ → List Placed → Type 0 where
   no_object : {bytes : List ℕ} {start level : ℕ} {all : List Placed}
       → All (λ b. b ≡ 0) bytes → all ≡ [] → Lists bytes start level all

@@ -1,4 +1,4 @@
--- What a forest in memory keeps.
+-- What a forest in memory holds.
 use Rattle.std.specs.Prelude.{◌≡◌, ℕ, suc, min, max, List, length}
 use Rattle.std.specs.declared.alloc.Allocator.{Ghosts}
 use Rattle.tlv_core.specs.Spelling.{Forest, Empty, Primitive, Template, encoding, levels, longest, IsWritable}
@@ -11,7 +11,7 @@ abbrev pub item_of : {A : Type 0} → List ℕ → Content A → Item
 item_of tag (content.Primitive value) = PrimitiveItem tag value.items
 item_of tag (content.Template children) = TemplateItem tag children
 
--- how far forests and their objects lie inside one another
+-- how deep forests and their objects are nested: a measure for recursion
 abbrev pub forest_size : Forest → ℕ
 forest_size Empty = 0
 forest_size (Primitive tag value rest) = max 1 (forest_size rest)
@@ -21,9 +21,9 @@ abbrev pub item_size : Item → ℕ
 item_size (PrimitiveItem tag value) = 0
 item_size (TemplateItem tag children) = suc (forest_size children)
 
--- the objects can be written, with the bytes that they need, up to one more than a value can have,
--- and their levels; where a forest is dropped, the check finds its allocator by this fact alone,
--- which says nothing else of it
+-- The objects can be written. `written` is the size of their encoding, up to one more than the
+-- longest value, and `depth` is the number of levels. For the proof: the allocator is named here so
+-- that the check finds it when a forest is dropped.
 pub record IsKept {A : Type 0} (allocator : Ghosts A) (forest : Forest) (written depth : ℕ) : Type 0
   where
     pub writable : IsWritable forest

@@ -1,4 +1,4 @@
--- Objects as they stand in bytes, one after another.
+-- The objects in bytes, one after another.
 use Rattle.std.specs.Prelude.{◌≡◌, ℕ, ◌+◌, ◌≤◌, List, [], length, All, Option, Some, None, true, false}
 use Rattle.tlv_core.specs.TagForm.{IsTag, is_constructed}
 use Rattle.tlv_core.specs.Length.{SpellsLength}
@@ -12,7 +12,8 @@ pub record Object : Type 0 where
   pub value : List ℕ
   pub level : ℕ
 
--- its length is that of its value, and the value of a constructed one is a list of objects
+-- Its length as spelled is that of its value. The value of a constructed object is a list of
+-- objects one level deeper.
 pub record IsObject (object : Object) : Type 0 where
   pub is_tag : IsTag object.tag
   pub is_size : SpellsLength object.size (length object.value)
@@ -28,8 +29,8 @@ pub record ObjectList : Type 0 where
 abbrev pub IsObjectList : ObjectList → Type 0
 IsObjectList list = AreObjects list.bytes list.level
 
--- Going on in a list gives its next object, past any padding, and leaves what follows it; at the
--- end, past any padding, it gives none.
+-- The next object of a list, past any padding, with the bytes that follow it. At the end no object
+-- follows, and nothing but padding was left.
 abbrev pub GivesNext : ObjectList → Option Object → ObjectList → Type 0
 GivesNext before None after = All (λ b. b ≡ 0) before.bytes × (after.bytes ≡ [])
     × (after.level ≡ before.level)
@@ -38,8 +39,8 @@ GivesNext before (Some object) after =
     after.bytes before.level)
     × (object.level ≡ before.level) × (after.level ≡ before.level)
 
--- the object is the one of a forest: a primitive with its tag and value, or a template whose value
--- spells the children
+-- the object is this item of a forest: a primitive with its tag and value, or a template whose
+-- value spells the children
 abbrev pub IsItemOf : Item → Object → Type 0
 IsItemOf (PrimitiveItem tag value) object =
     (object.tag ≡ tag) × (is_constructed tag ≡ false) × (object.value ≡ value)

@@ -1,10 +1,10 @@
--- Objects found by the tags that lead to them (this project's profile).
+-- Objects found by a path of tags (profile).
 use Rattle.std.specs.Prelude.{◌≡◌, ℕ, ◌≤◌, List, [], ◌∷◌, ◌++◌, length}
 use Rattle.tlv_core.specs.Object.{Object}
 use Rattle.tlv_core.specs.Place.{Reached, StartsWith}
 
--- At this place of the bytes, which are objects of a level, stands the object, and the tags from
--- that level down to its own are the path.
+-- At this place of the bytes, a list of objects at a level, is the object. The path lists the tags
+-- from that level down to the object's own.
 pub record LiesAt (bytes : List ℕ) (level : ℕ) (path : List (List ℕ)) (place : ℕ)
     (object : Object) : Type 0 where
   pub left : List ℕ
@@ -14,7 +14,7 @@ pub record LiesAt (bytes : List ℕ) (level : ℕ) (path : List (List ℕ)) (pla
   pub stands : StartsWith left object.tag object.size object.value rest
   pub is_path : path ≡ above ++ object.tag ∷ []
 
--- the first of them in the order of the bytes, with its place
+-- the first object on the path, in the order of the bytes, with its place
 pub record IsFirstPlaced (bytes : List ℕ) (level : ℕ) (path : List (List ℕ)) (place : ℕ)
     (object : Object) : Type 0 where
   pub here : LiesAt bytes level path place object
@@ -27,7 +27,7 @@ abbrev pub NoneLiesAt : List ℕ → ℕ → List (List ℕ) → Type 0
 NoneLiesAt bytes level path = (place : ℕ) (object : Object)
     → LiesAt bytes level path place object → ⊥
 
--- the object's bytes stand at this place
+-- the object's bytes are at this place
 abbrev pub StandsAt : List ℕ → ℕ → Object → Type 0
 StandsAt bytes place object = (before after : List ℕ) × (place ≡ length before)
     × (bytes ≡ before ++ object.tag ++ object.size ++ object.value ++ after)

@@ -1,4 +1,4 @@
--- How deep an object lies that a path leads to.
+-- The level of the object at the end of a path.
 use Rattle.std.proofs.Common.{◌≡◌, ℕ, suc, ◌+◌, ◌<◌, List, [], ◌∷◌, length, ap, arith, length-append}
 use Rattle.tlv_core.specs.Spelling.{AreObjects, deepest}
 use Rattle.tlv_core.specs.Path.{NoneLiesAt}
@@ -7,7 +7,7 @@ use Rattle.tlv_core.specs.PlaceLaws.{reached_spelled}
 use Rattle.tlv_core.specs.SpellingLaws.{spelled_object}
 use Rattle.tlv_core.specs.StartLaws.{starts_at_object}
 
--- Each template that is entered is one level.
+-- Each template around a place is one level.
 reached_depth : (bytes : List ℕ) (level place : ℕ) (left : List ℕ) (depth : ℕ)
     (path : List (List ℕ))
     → Reached bytes level place left depth path → depth ≡ level + length path
@@ -20,7 +20,7 @@ reached_depth bytes level place left depth path
     (into_template t s v rest inner below h kind p q r) =
     omega (arith, ap length q, reached_depth v (suc level) inner left depth below r)
 
--- In a list of objects no path leads below the deepest level.
+-- In a list of objects no path reaches below the deepest level.
 pub none_below : (bytes : List ℕ) (path : List (List ℕ)) → AreObjects bytes 1
     → deepest < length path → NoneLiesAt bytes 1 path
 none_below bytes path objects long place o h =

@@ -1,9 +1,9 @@
--- The places that a reader of objects reaches (this project's profile).
+-- The places that a reader of objects reaches (profile).
 use Rattle.std.specs.Prelude.{◌≡◌, ℕ, suc, ◌+◌, List, [], ◌∷◌, ◌++◌, length, true}
 use Rattle.tlv_core.specs.TagForm.{IsTag, is_constructed}
 use Rattle.tlv_core.specs.Length.{SpellsLength}
 
--- an object that starts the bytes and lies in them whole
+-- an object at the front of the bytes, which contain all of it
 pub record StartsWith (bytes tag size value rest : List ℕ) : Type 0 where
   pub spelled : bytes ≡ tag ++ size ++ value ++ rest
   pub is_tag : IsTag tag
@@ -12,9 +12,9 @@ pub record StartsWith (bytes tag size value rest : List ℕ) : Type 0 where
 abbrev pub StartsWithObject : List ℕ → Type 0
 StartsWithObject bytes = (tag size value rest : List ℕ) × StartsWith bytes tag size value rest
 
--- A reader at the front of the bytes, which are a list of objects at a level, reaches a place:
--- there the bytes up to the end of the innermost list are `left`, that list is at the level
--- `depth`, and `path` has the tags of the templates that were entered, the outermost first.
+-- A place that a reader reaches from the front of the bytes, which are a list of objects at
+-- `level`. `left` is the rest of the innermost list there, `depth` is that list's level. `path`
+-- lists the tags of the templates around the place, the outermost first.
 pub data Reached : List ℕ → ℕ → ℕ → List ℕ → ℕ → List (List ℕ) → Type 0 where
   at_front : {bytes : List ℕ} {level place : ℕ} {left : List ℕ} {depth : ℕ} {path : List (List ℕ)}
       → place ≡ 0 → left ≡ bytes → depth ≡ level → path ≡ []

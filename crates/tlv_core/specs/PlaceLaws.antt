@@ -1,4 +1,4 @@
--- The places that a reader reaches, step by step, and the first fault among them.
+-- The places that a reader reaches step by step, and the first fault among them.
 use Rattle.std.proofs.Common.{ℕ, suc, List, ◌∷◌}
 use Rattle.tlv_core.specs.Spelling.{Forest, Spells}
 use Rattle.tlv_core.specs.Place.{Reached, at_front, past_padding, past_object, into_template}
@@ -7,7 +7,7 @@ use Rattle.tlv_core.specs.declared.fault.Reason.{Reason}
 use Rattle.tlv_core.specs.StartLaws.{starts_fails_not}
 use Rattle.tlv_core.specs.SpellingLaws.{spells_less, spelled_object, after_is_spelled, inside_is_spelled}
 
--- Where some forest spells the bytes, one spells what is left at each place.
+-- If a forest spells the bytes, one spells what is left at each place.
 pub reached_spelled : (bytes : List ℕ) (level place : ℕ) (left : List ℕ) (depth : ℕ)
     (path : List (List ℕ))
     → Reached bytes level place left depth path → (forest : Forest) × Spells forest bytes level
@@ -23,7 +23,7 @@ reached_spelled bytes level place left depth path
     reached_spelled v (suc level) inner left depth below r
     (inside_is_spelled bytes t s v rest level o kind h)
 
--- Bytes that a forest spells have no fault.
+-- Bytes that spell a forest have no fault.
 pub spelled_has_no_fault : (bytes : List ℕ) (level place : ℕ) (reason : Reason) → (forest : Forest)
     × Spells forest bytes level
     → IsFault bytes level place reason → ⊥

@@ -1,4 +1,4 @@
--- Bytes that a forest spells, object by object.
+-- What a forest says of the bytes that spell it, object by object.
 use Rattle.std.proofs.Common.{◌≡◌, ℕ, suc, ◌≤◌, List, [], ◌∷◌, ◌++◌, refl, sym, ap, arith, ◌∙◌, true, false}
 use Rattle.std.proofs.lemmas.List.Elements.{All-tail}
 use Rattle.tlv_core.specs.TagForm.{is_constructed}
@@ -12,7 +12,7 @@ pub begins_starts : (bytes t s v r : List ℕ) (level : ℕ) → Begins bytes []
 begins_starts bytes t s v r level h =
     record { spelled = h.spelled; is_tag = h.is_tag; is_size = h.is_size }
 
--- The padding before an object starts with the 00 that the bytes start with.
+-- If the bytes start with 00, that 00 is the first byte of the padding.
 zero_padding : (rest p t s v r : List ℕ) (level : ℕ) → Begins (0 ∷ rest) p t s v r level
     → (q : List ℕ) × (p ≡ 0 ∷ q) × Begins rest q t s v r level
 zero_padding rest [] t s v r level b =
@@ -40,7 +40,7 @@ spells_less (Primitive tag value next) rest level (p, s, r, b, kind, more) =
 spells_less (Template tag children next) rest level (p, s, v, r, b, kind, inner, more) =
     let (q, e, c) = zero_padding rest p tag s v r level b in (q, s, v, r, c, kind, inner, more)
 
--- Where bytes start with an object there is no padding before it.
+-- Bytes that start with an object have no padding in front.
 no_padding : (bytes p t s v r : List ℕ) (level : ℕ) → IsAtObject bytes
     → Begins bytes p t s v r level → StartsWith bytes t s v r
 no_padding bytes [] t s v r level h b = begins_starts bytes t s v r level b
@@ -50,7 +50,7 @@ no_padding (c ∷ bytes) (a ∷ q) t s v r level h b =
     let e : c ∷ bytes ≡ a ∷ (q ++ t ++ s ++ v ++ r) = b.spelled in
     absurd (h cc)
 
--- An object in front, and the forests of what follows it and of its value.
+-- The object at the front, and the forests that its value and the bytes after it spell.
 pub record SpelledObject (bytes : List ℕ) (level : ℕ) : Type 0 where
   pub tag : List ℕ
   pub size : List ℕ
@@ -87,7 +87,7 @@ spelled_object (Template tag children next) bytes level at (p, s, v, r, b, kind,
       after = (next, more);
     }
 
--- What follows an object, and what is in it, are spelled where the whole is.
+-- If the bytes spell a forest, so do the bytes after an object, and those in it.
 pub after_is_spelled : (bytes t s v r : List ℕ) (level : ℕ) → StartsWith bytes t s v r
     → (forest : Forest) × Spells forest bytes level
     → (forest : Forest) × Spells forest r level

@@ -1,4 +1,4 @@
--- An object at the front of bytes.
+-- The object at the front of bytes.
 use Rattle.std.proofs.Common.{◌≡◌, ℕ, ◌≤◌, List, [], ◌∷◌, ◌++◌, length, take, drop, refl, sym, ap, arith, append_assoc, length-append, ◌∙◌}
 use Rattle.std.proofs.lemmas.List.{take_at, drop_at}
 use Rattle.tlv_core.specs.TagForm.{IsTag}
@@ -10,14 +10,14 @@ use Rattle.tlv_core.specs.declared.fault.Reason.TheVariants.{TagCut, TagForm, Le
 use Rattle.tlv_core.specs.TagLaws.{tags_agree, start_is_not_inside}
 use Rattle.tlv_core.specs.LengthLaws.{sizes_agree, length_start_is_not_inside}
 
--- Lists of one length that start one list are equal, and so is what follows them.
+-- Two lists of equal length at the front of one list are equal, and so is what follows them.
 pub fronts_agree : (s t x y : List ℕ) → length s ≡ length t → s ++ x ≡ t ++ y → (s ≡ t) × (x ≡ y)
 fronts_agree s t x y same e = (
   sym (take_at s x (length s) refl) ∙ ap (take (length s)) e ∙ take_at t y (length s) (sym same),
   sym (drop_at s x (length s) refl) ∙ ap (drop (length s)) e ∙ drop_at t y (length s) (sym same),
 )
 
--- What follows the tag that bytes start with.
+-- The tag at the front of bytes determines what follows it.
 pub after_tags_agree : (s t x y : List ℕ) → IsTag s → IsTag t → s ++ x ≡ t ++ y → (s ≡ t) × (x ≡ y)
 after_tags_agree s t x y hs ht e = fronts_agree s t x y (ap length (tags_agree s t x y hs ht e)) e
 
@@ -52,7 +52,7 @@ pub starts_at_object : (bytes t s v r : List ℕ) → StartsWith bytes t s v r �
 starts_at_object bytes t s v r h =
     rw (h.spelled, regroup t s v r) (tag_at_object t (s ++ (v ++ r)) h.is_tag)
 
--- Bytes that start with an object of this level fail for no reason.
+-- Bytes that start with an object of this level have no fault at their front.
 pub starts_fails_not : (bytes t s v r : List ℕ) (level : ℕ) (reason : Reason)
     → StartsWith bytes t s v r → level ≤ deepest
     → FailsFor bytes level reason → ⊥

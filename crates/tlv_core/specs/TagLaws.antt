@@ -1,4 +1,4 @@
--- Tags at the front of bytes: a tag, a part of one, or neither.
+-- The front of bytes is a tag, a part of one, or neither.
 use Rattle.std.proofs.Common.{◌≡◌, ◌≢◌, ℕ, ◌%◌, ◌<◌, ◌≤◌, List, [], ◌∷◌, ◌++◌, length, get_or, refl, sym, ap, arith, append_assoc, length-append, append-nil, ◌∙◌, Ok, Err, ◌⊎◌, inl, inr}
 use Rattle.std.proofs.lemmas.List.{nil_from_length, append_cancel_left}
 use Rattle.tlv_core.specs.TagForm.{IsTag, StartsWithTag, EndsInsideTag}
@@ -40,7 +40,7 @@ start_is_not_inside bytes (tag, rest, is_tag, e) (whole, is_whole, (more, f, som
       ap length (append_cancel_left tag (rest ++ more) [] k),
     )))
 
--- Bytes that agree with no tag start with none and end inside none.
+-- Bytes that no tag agrees with neither start with a tag nor end inside one.
 pub neither : (bytes : List ℕ) → ((tag x y : List ℕ) → IsTag tag → bytes ++ x ≡ tag ++ y → ⊥)
     → IsFrontTag bytes (Err TagForm)
 neither bytes none = (
@@ -75,7 +75,7 @@ form_third f s third rest (a ∷ b ∷ c ∷ []) x y first second past h e = let
 form_third f s third rest [] x y first second past h e = h
 form_third f s third rest (a ∷ b ∷ c ∷ d ∷ t) x y first second past h e = h
 
--- The cases of a reader, by the bytes that it looks at.
+-- One lemma for each branch of `tag_size`, by the bytes that it looks at.
 pub front_none : (bytes : List ℕ) → length bytes < 1 → EndsInsideTag bytes
 front_none [] short = (1 ∷ [], (omega arith, omega arith, omega arith), (1 ∷ [], refl, λ e. cc))
 front_none (a ∷ rest) short = absurd (omega arith)

@@ -1,18 +1,18 @@
-//! The reasons why an object cannot be added to a forest, with their texts.
+//! The errors of adding an object to a forest.
 
 use std::alloc::AllocError;
 use std::fmt;
 
-/// Why an object cannot be added to a forest: the first of these that holds.
+/// Why an object cannot be added to a forest. If several reasons hold, the error is the first.
 #[derive(Clone, Copy, Debug, PartialEq, Eq, Hash)]
 pub enum BuildFault {
-    /// The tag is constructed and the object is a primitive, or the other way round.
+    /// The tag is constructed and the object is primitive, or the other way round.
     WrongKind,
-    /// The value, as it is written, would have more than 65,535 bytes.
+    /// The value would have more than 65,535 bytes when written.
     TooLong,
-    /// An object would lie at level 17.
+    /// An object would be at level 17; the deepest level is 16 (profile).
     TooDeep,
-    /// Memory was refused.
+    /// Memory ran out.
     OutOfMemory,
 }
 

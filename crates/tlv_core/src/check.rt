@@ -1,4 +1,4 @@
-//! The first fault of bytes that are to be objects, at all levels, in one loop without recursion.
+//! Finds the first fault of a list of objects, at all levels, in one loop without recursion.
 
 ghost use Rattle.std.specs.Prelude.{◌≡◌, ◌↔◌, ◌≤◌, ◌+◌, true, IsNone, IfSome, MatchOption};
 ghost use Rattle.tlv_core.specs.FirstFault.{IsFirstFault};
@@ -9,8 +9,9 @@ use crate::fault::TlvFault;
 use crate::front::{DEEPEST, front_parts};
 use crate::tag::{Tag, starts_template};
 
-/// The first fault of the value as that of an object at level 1 with this tag, its place counted in
-/// the value; None where it has none, and for a primitive tag.
+/// Returns the first fault of `value`, read as the value of an object at level 1 with the tag
+/// `tag`. The fault's place counts from the start of the value. `None` if `value` has no fault or
+/// the tag is primitive.
 pub fn value_fault(tag: Tag, value: &[u8]) -> Option<TlvFault>
     ensures fits { IsNone result ↔ (is_constructed tag ≡ true → AreObjects value.now 2) }
     ensures fault { IfSome result (λ fault. (is_constructed tag ≡ true)
@@ -23,7 +24,8 @@ pub fn value_fault(tag: Tag, value: &[u8]) -> Option<TlvFault>
     }
 }
 
-/// The first fault of the bytes as a list of objects at this level, from 1 to one past the deepest.
+/// Returns the first fault of `bytes`, read as a list of objects at `level`, which is 1 to 17.
+/// `None` if the bytes are such a list.
 pub(crate) fn first_fault(bytes: &[u8], level: usize) -> Option<TlvFault>
     requires above { 1 ≤ level }
     requires in_depth { level ≤ deepest + 1 }

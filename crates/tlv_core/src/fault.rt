@@ -1,10 +1,11 @@
-//! What is wrong with bytes that are no objects, and where: a reason with its place.
+//! The errors of reading objects: a reason and its place.
 
 ghost use Rattle.std.specs.Prelude.{◌≡◌};
 
 use std::fmt;
 
-/// Why no object stands at a place (this project's profile).
+/// Why no object is at a place (profile). If several reasons hold, the error is the first of
+/// `TooDeep` and then the others in this order.
 #[derive(Clone, Copy, Debug, PartialEq, Eq, Hash)]
 pub enum Reason {
     /// The list ends inside a tag.
@@ -15,9 +16,9 @@ pub enum Reason {
     LengthCut,
     /// No length follows the tag.
     LengthForm,
-    /// The value passes the end of the list.
+    /// The value extends past the end of the list.
     ValueCut,
-    /// The list is a level below the deepest one.
+    /// The list is at level 17; the deepest level is 16 (profile).
     TooDeep,
 }
 
@@ -40,8 +41,8 @@ impl fmt::Display for Reason {
     }
 }
 
-/// Where bytes fail to be a list of objects, and why. `place` is the offset of the first byte of
-/// the innermost object at fault.
+/// Why bytes are not a list of objects, and where. `place` is the offset of the first byte of the
+/// innermost object at fault.
 #[derive(Clone, Copy, Debug, PartialEq, Eq, Hash)]
 pub struct TlvFault {
     pub place: usize,

@@ -1,5 +1,4 @@
-//! A list of objects in memory, which is built object by object and written with the shortest
-//! lengths.
+//! A list of objects in memory: built object by object, written with the shortest lengths.
 
 ghost use Rattle.std.specs.Prelude.{◌≡◌, ◌≢◌, ℕ, ◌+◌, ◌<◌, ◌≤◌, ◌++◌, ◌==◌, ◌↔◌, length, slice_get, true, false, IsErrOf, OnErr, OnOk, IfOk};
 ghost use Rattle.std.specs.Option.{option_copied};
@@ -16,19 +15,22 @@ use crate::tag::Tag;
 use std::alloc::{AllocError, Allocator, Global};
 use std::marker::Model;
 
-/// The least number of bytes that no value has.
+/// One more than the longest value, in bytes.
 const TOO_LONG: usize = 65_536;
 
-/// A list of objects that can be written: each tag is of its object's kind, each value has at most
-/// 65,535 bytes when written, and no object lies at level 17. Objects and values stand in memory of
-/// the allocator `A`. Contracts see the list as the forest that it stands for.
+/// A list of objects that can be written. Each tag suits its object, each value has at most 65,535
+/// bytes when written, and no object is deeper than level 16.
+///
+/// `push_primitive` and `push_template` add objects, `write` returns their bytes, and `Tree::read`
+/// makes a forest of bytes. Objects and values use memory of the allocator `A`. Contracts see a
+/// forest as the definitions' `Forest`.
 #[cycle(forest)]
 #[derive(Drop)]
 pub struct Forest<A: Allocator = Global> {
     nodes: Vec<Node<A>, A>,
-    /// How many bytes the objects are when written, up to `TOO_LONG`.
+    /// The number of bytes that the objects take when written, up to `TOO_LONG`.
     written: usize,
-    /// How many levels of objects there are.
+    /// The number of levels of objects: 0 for an empty forest.
     levels: u8,
 }
 
@@ -56,7 +58,7 @@ impl<A: Allocator> Model for Forest<A> {
 }
 
 impl<A: Allocator> Forest<A> {
-    /// No objects. This takes no memory.
+    /// Makes an empty forest. It allocates nothing.
     pub fn new(alloc: A) -> Forest<A>
         ensures { result ≡ Empty }
     {
@@ -67,33 +69,38 @@ impl<A: Allocator> Forest<A> {
         }
     }
 
-    /// How many objects there are at level 1.
+    /// The number of objects at level 1.
     pub fn len(&self) -> usize
         ensures { result ≡ length (items self.now) }
     {
         self.nodes.len()
     }
 
-    /// Whether there are no objects.
+    /// Whether the forest is empty.
     pub fn is_empty(&self) -> bool
         ensures { result ≡ (length (items self.now) == 0) }
     {
         self.nodes.is_empty()
     }
 
-    /// The object at this place among those at level 1, counted from 0.
+    /// Returns the object with this index, from 0, among those at level 1. `None` past the last.
     pub fn get(&self, index: usize) -> Option<&Node<A>>
         ensures { option_copied result ≡ slice_get (items self.now) index }
     {
         self.nodes.get(index)
     }
 
-    /// Adds a primitive at the end.
+    /// Appends a primitive object at level 1.
     ///
     /// # Errors
     ///
-    /// `WrongKind` for a tag of a constructed object, `TooLong` for more than 65,535 bytes,
-    /// `OutOfMemory`; never `TooDeep`. A refusal leaves the forest as it was, and drops the value.
+    /// After each, the forest is unchanged and `value` is dropped:
+    ///
+    /// - `WrongKind`: the tag is that of a constructed object.
+    /// - `TooLong`: the tag is primitive, and the value has more than 65,535 bytes.
+    /// - `OutOfMemory`: memory ran out.
+    ///
+    /// `TooDeep` never occurs.
     pub fn push_primitive(&mut self, tag: Tag, value: Vec<u8, A>) -> Result<(), BuildFault>
         ensures ok { OnOk result (self.new ≡ with_last self.old (PrimitiveItem tag value.items)) }
         ensures err { OnErr result (self.new ≡ self.old) }
@@ -112,13 +119,16 @@ impl<A: Allocator> Forest<A> {
         Ok(())
     }
 
-    /// Adds a template at the end, which holds the objects of `children`.
+    /// Appends a template at level 1 that contains the objects of `children`.
     ///
     /// # Errors
     ///
-    /// `WrongKind` for a tag of a primitive object, `TooLong` where the children are more than
-    /// 65,535 bytes when written, `TooDeep` where an object would come to lie at level 17, and
-    /// `OutOfMemory`, in this order. A refusal leaves the forest as it was, and drops the children.
+    /// In this order. After each, the forest is unchanged and `children` is dropped:
+    ///
+    /// - `WrongKind`: the tag is that of a primitive object.
+    /// - `TooLong`: the children take more than 65,535 bytes when written.
+    /// - `TooDeep`: `children` has 16 levels, so an object would be at level 17.
+    /// - `OutOfMemory`: memory ran out.
     pub fn push_template(&mut self, tag: Tag, children: Forest<A>) -> Result<(), BuildFault>
         ensures ok { OnOk result (self.new ≡ with_last self.old (TemplateItem tag children)) }
         ensures err { OnErr result (self.new ≡ self.old) }
@@ -142,7 +152,7 @@ impl<A: Allocator> Forest<A> {
         Ok(())
     }
 
-    /// Adds a primitive that can be written.
+    /// Appends a primitive object that can be written.
     pub(crate) fn add_primitive(&mut self, tag: Tag, value: Vec<u8, A>) -> Result<(), AllocError>
         requires tag { IsTag tag }
         requires kind { is_constructed tag ≡ false }
@@ -155,7 +165,7 @@ impl<A: Allocator> Forest<A> {
         self.add(Node { tag, content }, size, 1)
     }
 
-    /// Adds a template that can be written.
+    /// Appends a template that can be written.
     pub(crate) fn add_template(&mut self, tag: Tag, children: Forest<A>) -> Result<(), AllocError>
         requires tag { IsTag tag }
         requires kind { is_constructed tag ≡ true }
@@ -170,7 +180,7 @@ impl<A: Allocator> Forest<A> {
         self.add(Node { tag, content }, size, depth)
     }
 
-    /// Adds an object of `size` bytes, with so many levels.
+    /// Appends an object of `size` bytes and `depth` levels.
     fn add(&mut self, node: Node<A>, size: usize, depth: u8) -> Result<(), AllocError>
         requires sound { HasSoundObjects (with_first node Empty) }
         requires is_size { size ≡ length (encoding (with_first node Empty)) }
@@ -185,7 +195,7 @@ impl<A: Allocator> Forest<A> {
         Ok(())
     }
 
-    /// Appends the bytes of the objects.
+    /// Appends the bytes of the objects to `bytes`.
     fn append_to(&self, bytes: &mut Vec<u8, A>) -> Result<(), AllocError>
         ensures { OnOk result (bytes.new.items ≡ bytes.old.items ++ encoding self.now) }
     {
@@ -203,8 +213,12 @@ impl<A: Allocator> Forest<A> {
 }
 
 impl<A: Allocator + Clone> Forest<A> {
-    /// The bytes of the objects, each with the shortest length and no padding. They spell the
-    /// objects, as any forest can be written. A clone of the allocator gives the memory.
+    /// Returns the bytes of the objects, with the shortest lengths and without padding. They spell
+    /// exactly these objects. The memory comes from a clone of the allocator.
+    ///
+    /// # Errors
+    ///
+    /// - `AllocError`: memory ran out; the forest is unchanged.
     pub fn write(&self) -> Result<Vec<u8, A>, AllocError>
         ensures bytes { IfOk result (λ bytes. bytes.items ≡ encoding self.now) }
         ensures writable { IsWritable self.now }
@@ -215,7 +229,7 @@ impl<A: Allocator + Clone> Forest<A> {
     }
 }
 
-/// The bytes of an object with this tag and a value of `len` bytes.
+/// The size in bytes of an object with this tag and a value of `len` bytes.
 fn object_size(tag: Tag, len: usize) -> usize
     requires tag { IsTag tag }
     requires fits { len ≤ longest }
@@ -224,7 +238,7 @@ fn object_size(tag: Tag, len: usize) -> usize
     head(tag, len as u16).bytes().len() + len
 }
 
-/// Appends a tag, and a length in its shortest spelling.
+/// Appends a tag, and `len` in its shortest spelling.
 fn append_head<A: Allocator>(bytes: &mut Vec<u8, A>, tag: Tag, len: u16) -> Result<(), AllocError>
     ensures { OnOk result (bytes.new.items ≡ bytes.old.items ++ (tag ++ shortest len)) }
 {

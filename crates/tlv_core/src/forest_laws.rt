@@ -1,26 +1,27 @@
-//! Laws of lists of objects and of the bytes that spell them.
+//! Laws of lists of objects and their bytes, for proofs in the crates above. Each function is
+//! empty: its contract is the law.
 
 ghost use Rattle.std.specs.Prelude.{◌≡◌, ℕ, ◌≤◌, List, length};
 ghost use Rattle.tlv_core.specs.Spelling.{Forest, Spells, encoding, IsWritable};
 
-/// Bytes spell at most one list of objects.
+/// The same bytes never spell two lists of objects.
 pub fn one_forest()
     ensures { (f g : Forest) (bytes : List ℕ) (level : ℕ) →
         Spells f bytes level → Spells g bytes level → f ≡ g }
 {}
 
-/// What is written of objects spells them.
+/// The written bytes of objects spell those objects.
 pub fn written_bytes_spell()
     ensures { (f : Forest) → IsWritable f → Spells f (encoding f) 1 }
 {}
 
-/// No bytes that spell the objects are fewer than those that are written.
+/// No bytes that spell the objects are shorter than the written ones.
 pub fn written_bytes_are_fewest()
     ensures { (f : Forest) (bytes : List ℕ) (level : ℕ) →
         Spells f bytes level → length (encoding f) ≤ length bytes }
 {}
 
-/// What bytes spell can be written.
+/// A list of objects that some bytes spell can be written.
 pub fn spelled_objects_can_be_written()
     ensures { (f : Forest) (bytes : List ℕ) → Spells f bytes 1 → IsWritable f }
 {}

@@ -1,4 +1,4 @@
-//! What stands at the front of bytes: padding, a tag, a length, an object.
+//! Reads what is at the front of bytes: padding, a tag, a length, an object.
 
 ghost use Rattle.std.specs.Prelude.{◌≡◌, ◌≤◌, ◌<◌, length, drop, MatchResult};
 ghost use Rattle.tlv_core.specs.FrontParts.{IsFrontTagSize, IsSpelledFrom, HasNoFrontLength, IsPastPadding, HasParts};
@@ -11,18 +11,18 @@ ghost use Rattle.tlv_core.specs.Spelling.{deepest};
 use crate::fault::Reason;
 use crate::tag::{Tag, tag_size};
 
-/// The deepest level at which objects stand (this project's profile).
+/// The deepest level of an object (profile).
 pub(crate) const DEEPEST: u8 = 16;
 
-/// A length as it is spelled: where it ends, and for how many bytes of value.
+/// A length that was read: where its spelling ends, and the number of bytes of the value.
 #[derive(Clone, Copy)]
 struct Length {
     end: usize,
     value: usize,
 }
 
-/// How many bytes the parts of an object have: its tag, its head, which is the tag and the length
-/// as spelled, and its value.
+/// The sizes of an object's parts, in bytes: its tag, its head (tag and length as spelled), and its
+/// value.
 #[derive(Clone, Copy)]
 pub(crate) struct Parts {
     pub(crate) tag: usize,
@@ -30,7 +30,7 @@ pub(crate) struct Parts {
     pub(crate) value: usize,
 }
 
-/// The object at the front of bytes, and what follows it.
+/// The object at the front of bytes, and the bytes that follow it.
 #[derive(Drop)]
 pub(crate) struct FirstObject<'a> {
     pub(crate) tag: Tag,
@@ -39,7 +39,7 @@ pub(crate) struct FirstObject<'a> {
     pub(crate) rest: &'a [u8],
 }
 
-/// The bytes from the first one that is not 00.
+/// The bytes from the first that is not `00`.
 pub(crate) fn past_padding(bytes: &[u8]) -> &[u8]
     ensures { IsPastPadding bytes.now result.now }
 {
@@ -50,7 +50,7 @@ pub(crate) fn past_padding(bytes: &[u8]) -> &[u8]
     rest
 }
 
-/// The length that is spelled from this place of the bytes, or why there is none.
+/// Reads the length that is spelled from index `start`, or returns why none is.
 #[inline(always)]
 fn length_at(bytes: &[u8], start: usize) -> Result<Length, Reason>
     requires { start ≤ length bytes.now }
@@ -84,8 +84,8 @@ fn length_at(bytes: &[u8], start: usize) -> Result<Length, Reason>
     }
 }
 
-/// How many bytes the parts of the object at the front of a list at this level have, or why there
-/// is none.
+/// Returns the sizes of the parts of the object at the front of a list at `level`, or why there is
+/// no object.
 #[inline(always)]
 pub(crate) fn front_parts(bytes: &[u8], level: usize) -> Result<Parts, Reason>
     ensures { MatchResult result
@@ -107,7 +107,7 @@ pub(crate) fn front_parts(bytes: &[u8], level: usize) -> Result<Parts, Reason>
     })
 }
 
-/// How many bytes the tag has that the bytes start with.
+/// The size in bytes of the tag at the front. The caller knows that there is one.
 #[inline(always)]
 fn known_tag(bytes: &[u8]) -> usize
     requires { StartsWithTag bytes.now }
@@ -122,7 +122,7 @@ fn known_tag(bytes: &[u8]) -> usize
     }
 }
 
-/// The length that is spelled from this place of the bytes.
+/// The length that is spelled from index `start`. The caller knows that there is one.
 #[inline(always)]
 fn known_length(bytes: &[u8], start: usize) -> Length
     requires inside { start ≤ length bytes.now }
@@ -140,7 +140,7 @@ fn known_length(bytes: &[u8], start: usize) -> Length
     Length { end, value }
 }
 
-/// The object that the bytes start with. Nothing is checked.
+/// The object at the front. The caller knows that there is one, so nothing is checked.
 #[inline(always)]
 pub(crate) fn front_object(bytes: &[u8]) -> FirstObject<'_>
     requires { StartsWithObject bytes.now }

@@ -1,10 +1,10 @@
-//! The bytes of a head, which is a tag with a length.
+//! The bytes of a head, which is a tag followed by a length.
 
 ghost use Rattle.std.specs.Prelude.{◌≡◌};
 
 use std::marker::Model;
 
-/// A tag and a length in its shortest spelling: at most 6 bytes. Contracts see it as these bytes.
+/// A tag and a length in its shortest spelling: two to six bytes. Contracts see it as these bytes.
 #[derive(Drop)]
 pub struct Head {
     pub(crate) bytes: [u8; 6],
@@ -25,14 +25,14 @@ impl Model for Head {
 impl Head {
     ghost use Rattle.tlv_core.specs.PaddedCells.{padded};
 
-    /// The bytes: a tag and a length, two to six of them.
+    /// The bytes: the tag and then the length.
     pub fn bytes(&self) -> &[u8]
         ensures { result.now ≡ self.now }
     {
         &self.bytes[..self.len]
     }
 
-    /// The bytes, with `00` after them up to six, so that they can be copied all at once.
+    /// The bytes, followed by `00` up to six, so that a caller can copy them all at once.
     pub fn padded(&self) -> [u8; 6]
         ensures { result ≡ padded 6 self.now }
     {

@@ -51,7 +51,7 @@ impl<A: Allocator> Node<A> {
         self.tag
     }
 
-    /// The value of a primitive, and `None` for a template.
+    /// The value of a primitive object; `None` for a template.
     pub fn value(&self) -> Option<&[u8]>
         ensures { option_copied result ≡ item_value self.now }
     {
@@ -61,7 +61,7 @@ impl<A: Allocator> Node<A> {
         }
     }
 
-    /// The objects in a template, and `None` for a primitive.
+    /// The objects in a template; `None` for a primitive object.
     pub fn children(&self) -> Option<&Forest<A>>
         ensures { option_copied result ≡ item_children self.now }
     {

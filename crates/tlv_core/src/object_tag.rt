@@ -6,9 +6,8 @@ ghost use Rattle.tlv_core.specs.Address.{NamesTag, IsAddressable};
 use crate::tag::Tag;
 use std::marker::Model;
 
-/// A tag that GET DATA and PUT DATA can name (ISO/IEC 7816-4; which tags: this project's profile):
-/// one byte `40` to `FE`, or two bytes of which the first is at least `5F`. Contracts see it as
-/// the list of its bytes.
+/// A tag that P1-P2 of GET DATA and PUT DATA can name (ISO/IEC 7816-4). It is one byte from `40` to
+/// `FE`, or two bytes from `5F01` on (profile). Contracts see it as its bytes.
 #[derive(Clone, Copy, Debug, PartialEq, Eq, Hash)]
 pub struct ObjectTag {
     tag: Tag,
@@ -29,7 +28,7 @@ impl Model for ObjectTag {
 
 impl ObjectTag {
     #[tactic(auto, using(crate::specs::AddressLaws::named_by_one, crate::specs::AddressLaws::named_by_two))]
-    /// The tag, where it can be named; None for every other one.
+    /// Makes an object tag of `tag`. `None` if P1-P2 cannot name it.
     pub fn new(tag: Tag) -> Option<ObjectTag>
         ensures named { IsSome result ↔ IsAddressable tag }
         ensures same { IfSome result (λ object_tag. object_tag ≡ tag) }
@@ -40,7 +39,8 @@ impl ObjectTag {
         }
     }
 
-    /// The tag that P1-P2 name; None where they name none.
+    /// Returns the tag that P1-P2 name: P2 alone if P1 is `00`, else both bytes. `None` if they
+    /// name none.
     pub fn from_p1p2(p1: u8, p2: u8) -> Option<ObjectTag>
         ensures named { IsSome result ↔ ((tag : List ℕ) × NamesTag tag p1 p2) }
         ensures tag { IfSome result (λ tag. NamesTag tag p1 p2) }
@@ -55,7 +55,7 @@ impl ObjectTag {
         }
     }
 
-    /// The P1-P2 that name the tag.
+    /// Returns the P1-P2 that name the tag. P1 is `00` if the tag has one byte.
     pub fn p1p2(&self) -> (u8, u8)
         ensures { NamesTag self.now result.0 result.1 }
     {
@@ -66,7 +66,7 @@ impl ObjectTag {
         }
     }
 
-    /// The tag itself.
+    /// The tag.
     pub fn tag(&self) -> Tag
         ensures tag { result ≡ self.now }
         ensures addressable { IsAddressable self.now }

@@ -1,4 +1,4 @@
-//! Objects as they stand in bytes, one after another; nothing is copied.
+//! Iterates over objects in bytes, without copying them.
 
 ghost use Rattle.std.specs.Prelude.{◌≡◌, ◌↔◌, ◌≤◌, ◌+◌, ◌++◌, length, true, false, IsOk, IfOk, IfErr, IsNone, IfSome};
 ghost use Rattle.std.specs.Iterator.{at_most};
@@ -13,8 +13,9 @@ use crate::front::{FirstObject, front_object, past_padding};
 use crate::tag::Tag;
 use std::marker::Model;
 
-/// A list of objects (EMV Book 3, Annex B), which goes on from object to object. Contracts see it
-/// as the bytes that are left of the list, with the level of its objects.
+/// An iterator over a list of objects (EMV Book 3, Annex B). `Objects::over` checks all levels at
+/// once, so the iteration never fails. Contracts see it as the bytes that are left, with the level
+/// of their objects.
 #[derive(Debug, Drop)]
 pub struct Objects<'a> {
     bytes: &'a [u8],
@@ -31,8 +32,8 @@ impl<'a> Model for Objects<'a> {
     ghost invariant = { λ o. IsObjectList (record { bytes = o.bytes.now; level = o.level }) };
 }
 
-/// One object of a list, as it stands in the bytes. Contracts see it as its tag, its length as
-/// spelled, its value, and its level.
+/// One object of a list, borrowed from its bytes. Contracts see it as its tag, its length as
+/// spelled, its value and its level.
 #[derive(Debug, Drop)]
 pub struct Obj<'a> {
     tag: Tag,
@@ -54,8 +55,12 @@ impl<'a> Model for Obj<'a> {
 }
 
 impl<'a> Objects<'a> {
-    /// The objects that the bytes are, at level 1, once all levels are checked. The fault is the
-    /// first one.
+    /// Checks that the bytes are a list of objects at level 1, at all levels, and returns an
+    /// iterator over it.
+    ///
+    /// # Errors
+    ///
+    /// - `TlvFault`: the bytes are not such a list; the fault is the first one, with its place.
     pub fn over(bytes: &'a [u8]) -> Result<Objects<'a>, TlvFault>
         ensures objects { IsOk result ↔ AreObjects bytes.now 1 }
         ensures list { IfOk result (λ list. list ≡ record { bytes = bytes.now; level = 1 }) }
@@ -67,7 +72,7 @@ impl<'a> Objects<'a> {
         }
     }
 
-    /// How many bytes are left of the list, padding among them.
+    /// The number of bytes that are left of the list, padding included.
     pub fn left(&self) -> usize
         ensures { result ≡ length self.now.bytes }
     {
@@ -126,7 +131,7 @@ impl<'a> Obj<'a> {
         self.tag
     }
 
-    /// The level, from 1.
+    /// The level, 1 to 16. An object of the outermost list is at level 1.
     pub fn level(&self) -> u8
         ensures { result ≡ self.now.level }
     {
@@ -140,7 +145,7 @@ impl<'a> Obj<'a> {
         self.value
     }
 
-    /// How many bytes the object has: its tag, its length as spelled, and its value.
+    /// The size of the whole object in bytes: its tag, its length as spelled, and its value.
     pub fn size(&self) -> usize
         ensures { result ≡ length (self.now.tag ++ self.now.size ++ self.now.value) }
     {
@@ -148,7 +153,8 @@ impl<'a> Obj<'a> {
         head + self.value.len()
     }
 
-    /// The objects in the value, which were checked with the list; None for a primitive object.
+    /// Iterates over the objects in the value. `Objects::over` checked them, so nothing is checked
+    /// again. `None` for a primitive object.
     pub fn children(&self) -> Option<Objects<'a>>
         ensures primitive { IsNone result ↔ (is_constructed self.now.tag ≡ false) }
         ensures list { IfSome result (λ list.

@@ -1,4 +1,4 @@
-//! The first object on a path of tags, and its place in the bytes.
+//! Finds the first object on a path of tags, and its place.
 
 ghost use Rattle.std.specs.Prelude.{◌↔◌, IsOk, IfOk, IfErr, MatchOption};
 ghost use Rattle.tlv_core.specs.FirstFault.{IsFirstFault};
@@ -10,8 +10,13 @@ use crate::front::{DEEPEST, front_object};
 use crate::objects::{Obj, Objects};
 use crate::tag::Tag;
 
-/// The first object, in the order of the bytes, whose tags from level 1 down to its own are the
-/// path; None where there is none, and for the empty path. The fault is the first one of the bytes.
+/// Finds the first object, in the order of the bytes, at the end of `path` (profile). The path
+/// lists the tags from level 1 down to the object's own. `None` if there is no such object, or the
+/// path is empty.
+///
+/// # Errors
+///
+/// - `TlvFault`: the bytes are not a list of objects; the fault is the first one, with its place.
 pub fn find<'a>(bytes: &'a [u8], path: &[Tag]) -> Result<Option<Obj<'a>>, TlvFault>
     ensures objects { IsOk result ↔ AreObjects bytes.now 1 }
     ensures found { IfOk result (λ found. MatchOption found (NoneLiesAt bytes.now 1 path.now)
@@ -24,8 +29,11 @@ pub fn find<'a>(bytes: &'a [u8], path: &[Tag]) -> Result<Option<Obj<'a>>, TlvFau
     }
 }
 
-/// The object that `find` finds, with the place of its first byte, from 0. None and the faults are
-/// those of `find`.
+/// Finds the same object as `find`, and the offset of its first byte.
+///
+/// # Errors
+///
+/// - `TlvFault`: the bytes are not a list of objects; the fault is the first one, with its place.
 pub fn find_placed<'a>(bytes: &'a [u8], path: &[Tag]) -> Result<Option<(usize, Obj<'a>)>, TlvFault>
     ensures objects { IsOk result ↔ AreObjects bytes.now 1 }
     ensures found { IfOk result (λ found. MatchOption found (NoneLiesAt bytes.now 1 path.now)

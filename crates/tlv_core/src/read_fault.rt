@@ -1,15 +1,15 @@
-//! The reasons why bytes are not read as a forest, with their texts.
+//! The errors of reading bytes as a forest.
 
 use crate::fault::TlvFault;
 use std::alloc::AllocError;
 use std::fmt;
 
-/// Why no forest was read: the first fault of the bytes, or want of memory.
+/// Why no forest was read.
 #[derive(Clone, Copy, Debug, PartialEq, Eq, Hash)]
 pub enum ReadFault {
-    /// The bytes are no list of objects.
+    /// The bytes are not a list of objects: their first fault.
     Tlv(TlvFault),
-    /// Memory was refused.
+    /// Memory ran out.
     OutOfMemory,
 }
 

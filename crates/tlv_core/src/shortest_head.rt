@@ -1,4 +1,4 @@
-//! A tag and a length in its shortest spelling.
+//! Makes the head of an object: its tag and the shortest length.
 
 ghost use Rattle.std.specs.Prelude.{◌≡◌, ◌≤◌, ◌++◌, length};
 ghost use Rattle.tlv_core.specs.Length.{shortest};
@@ -6,7 +6,7 @@ ghost use Rattle.tlv_core.specs.Length.{shortest};
 use crate::head_bytes::Head;
 use crate::tag::Tag;
 
-/// The tag, and the length `len` in its shortest spelling.
+/// Returns the tag followed by `len`, the length of the value in bytes, in its shortest spelling.
 pub fn head(tag: Tag, len: u16) -> Head
     ensures { result ≡ tag ++ shortest len }
 {
@@ -18,8 +18,8 @@ pub fn head(tag: Tag, len: u16) -> Head
     }
 }
 
-/// The tag, followed by a spelled length. The tag is copied with its padding, which the length and
-/// the padding of the whole then replace.
+/// The tag followed by a spelled length. The tag is copied with its padding; the length overwrites
+/// the padding from the tag's end on.
 fn joined(tag: Tag, size: &[u8]) -> Head
     requires { length size.now ≤ 3 }
     ensures { result ≡ tag ++ size.now }

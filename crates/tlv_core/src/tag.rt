@@ -1,4 +1,4 @@
-//! Tags of one to three bytes, and the reading of one from the front of bytes.
+//! Tags of one to three bytes.
 
 ghost use Rattle.std.specs.Prelude.{◌≡◌, ◌↔◌, ◌++◌, ◌∷◌, [], ℕ, List, length, false, IfOk, IsErrOf, IsOk, IsTrue};
 ghost use Rattle.tlv_core.specs.TagForm.{IsTag, StartsWithTag, EndsInsideTag, is_constructed};
@@ -7,8 +7,8 @@ ghost use Rattle.tlv_core.specs.FrontParts.{IsFrontTagSize};
 use crate::fault::{Reason, TlvFault};
 use std::marker::Model;
 
-/// A tag of one to three bytes (EMV Book 3, Annex B; three at most: this project's profile).
-/// Contracts see it as the list of its bytes.
+/// A tag of one to three bytes (EMV Book 3, Annex B; at most three: profile). Contracts see it as
+/// its bytes.
 #[derive(Clone, Copy, Debug, PartialEq, Eq, Hash)]
 pub struct Tag {
     bytes: [u8; 3],
@@ -34,10 +34,14 @@ impl Model for Tag {
 impl Tag {
     ghost use Rattle.tlv_core.specs.PaddedCells.{padded};
 
-    /// Reads the tag at the front of `bytes`, with its size in bytes.
+    /// Reads the tag at the front of `bytes`, and returns it with its size in bytes, 1 to 3.
     ///
-    /// Both faults are at place 0: `TagCut` where the bytes end before the tag does, also where
-    /// there are none, and `TagForm` where they start with no tag.
+    /// # Errors
+    ///
+    /// Both at place 0:
+    ///
+    /// - `TagCut`: the bytes end inside a tag, or are empty.
+    /// - `TagForm`: the bytes neither start with a tag nor end inside one.
     pub fn read(bytes: &[u8]) -> Result<(Tag, usize), TlvFault>
         ensures tag { IfOk result (λ read. IsTag read.0 × (read.1 ≡ length read.0)
             × ((rest : List ℕ) × (bytes.now ≡ read.0 ++ rest))) }
@@ -51,7 +55,7 @@ impl Tag {
         Ok((Tag::of(&bytes[..size]), size))
     }
 
-    /// The tag that the bytes are.
+    /// Makes a tag of its bytes.
     pub(crate) fn of(bytes: &[u8]) -> Tag
         requires { IsTag bytes.now }
         ensures { result ≡ bytes.now }
@@ -74,21 +78,21 @@ impl Tag {
         }
     }
 
-    /// The bytes of the tag, with `00` after them up to three.
+    /// The bytes of the tag, followed by `00` up to three.
     pub(crate) fn padded(&self) -> [u8; 3]
         ensures { result ≡ padded 3 self.now }
     {
         self.bytes
     }
 
-    /// Whether the value is a list of objects: bit 6 of the first byte.
+    /// Whether the value is a list of objects: bit 6 of the first byte is set.
     pub fn is_constructed(&self) -> bool
         ensures { result ≡ is_constructed self.now }
     {
         starts_template(self.bytes[0])
     }
 
-    /// Whether the value is any bytes.
+    /// Whether the value is plain bytes: bit 6 of the first byte is clear.
     pub(crate) fn is_primitive(&self) -> bool
         ensures kind { IsTrue result ↔ (is_constructed self.now ≡ false) }
         ensures tag { IsTag self.now }
@@ -106,7 +110,7 @@ impl Tag {
 }
 
 #[tactic(auto, using(crate::specs::TagLaws::front_none, crate::specs::TagLaws::front_zero, crate::specs::TagLaws::front_one, crate::specs::TagLaws::front_cut_first, crate::specs::TagLaws::front_second, crate::specs::TagLaws::front_two, crate::specs::TagLaws::front_cut_second, crate::specs::TagLaws::front_third, crate::specs::TagLaws::front_three))]
-/// How many bytes the tag at the front of the bytes has, or why there is none.
+/// The size in bytes of the tag at the front, or why no tag is there.
 #[inline(always)]
 pub(crate) fn tag_size(bytes: &[u8]) -> Result<usize, Reason>
     ensures { IsFrontTagSize bytes.now result }
@@ -138,7 +142,7 @@ pub(crate) fn tag_size(bytes: &[u8]) -> Result<usize, Reason>
     Ok(3)
 }
 
-/// Whether this first byte of a tag says that the value is a list of objects.
+/// Whether a tag with this first byte is constructed: bit 6 is set.
 pub(crate) fn starts_template(first: u8) -> bool
     ensures { result ≡ is_constructed (first ∷ []) }
 {

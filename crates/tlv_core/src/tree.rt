@@ -1,4 +1,4 @@
-//! The reading of bytes as a forest.
+//! Reads bytes as a forest.
 
 ghost use Rattle.std.specs.Prelude.{◌≡◌, ◌↔◌, ◌≤◌, ◌<◌, IfOk, IsErrOf};
 ghost use Rattle.tlv_core.specs.FirstFault.{IsFirstFault};
@@ -11,16 +11,19 @@ use crate::objects::Objects;
 use crate::read_fault::ReadFault;
 use std::alloc::{AllocError, Allocator};
 
-/// Reads bytes as a forest.
+/// Reads bytes as a forest, by `Tree::read`.
 pub struct Tree;
 
 impl Tree {
-    /// The forest that the bytes spell at level 1. Clones of `alloc` give its memory.
+    /// Reads `bytes` as a list of objects at level 1, and copies it. The memory comes from clones
+    /// of `alloc`.
     ///
     /// # Errors
     ///
-    /// `Tlv` with the first fault, exactly where the bytes are no list of objects, and
-    /// `OutOfMemory`.
+    /// No forest exists after either:
+    ///
+    /// - `Tlv`: the bytes are not a list of objects; it holds the first fault.
+    /// - `OutOfMemory`: memory ran out.
     pub fn read<A: Allocator + Clone>(alloc: A, bytes: &[u8]) -> Result<Forest<A>, ReadFault>
         ensures forest { IfOk result (λ forest. Spells forest bytes.now 1) }
         ensures fault { (fault : Fault) → IsErrOf result (ReadFault.Tlv fault)

@@ -5,7 +5,7 @@ use Rattle.tlv_core.proofs.check.first_fault.Given as goal
 abbrev pub invariant-reading : goal.invariant-reading
 invariant-reading l = Keeps l.ends l.bytes l.level l.open l.place l.end
 
--- each object is passed, or entered and left
+-- For the proof: the measure of the loop. Each object is skipped, or entered and left.
 abbrev pub decreases-reading : goal.decreases-reading
 decreases-reading l = 2 * (length l.bytes - l.place) + l.open
 

@@ -1,4 +1,4 @@
--- No fault is found exactly where the value is a list of objects.
+-- There is no fault exactly if the value is a list of objects.
 use Rattle.std.proofs.Common.{◌≡◌, ◌↔◌, List, ℕ, true, Bool, Option, Some, None, IsNone, MatchOption, refl, sym}
 use Rattle.tlv_core.specs.FirstFault.{IsFirstFault}
 use Rattle.tlv_core.specs.Spelling.{AreObjects}

@@ -1,4 +1,4 @@
--- The parts cut where their sizes say.
+-- The parts of an object, cut by their sizes.
 use Rattle.tlv_core.proofs.StartFacts.{parts_cut}
 use Rattle.tlv_core.proofs.Known.{known_starts_tag, known_inside, known_starts_length, known_parts}
 use Rattle.tlv_core.proofs.front.front_object.Goals as goal

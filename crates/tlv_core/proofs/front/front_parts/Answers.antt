@@ -1,4 +1,4 @@
--- What the two readers found, put together.
+-- What the readers of a tag and of a length found, combined.
 use Rattle.std.proofs.lemmas.Result.{err_from_is_err_and}
 use Rattle.tlv_core.proofs.StartFacts.{tag_fits, fails_for_length, cut_for_value, has_parts}
 use Rattle.tlv_core.proofs.front.front_parts.Goals as goal

@@ -1,4 +1,4 @@
--- A length that the bytes cut off, and the longest spelling.
+-- A length that is cut off, and the longest spelling.
 use Rattle.std.proofs.Common.{◌+◌, arith}
 use Rattle.tlv_core.proofs.LengthFacts.{cut_at_length, cut_in_81, cut_in_82, spelled_by_82}
 use Rattle.tlv_core.proofs.front.length_at.Goals as goal

@@ -11,6 +11,6 @@ invariant-seeking l = record {
   stands : Stands (innermost_first l.ends l.open) l.bytes l.path l.place l.end;
 }
 
--- each object is passed, or entered and left
+-- For the proof: the measure of the loop. Each object is skipped, or entered and left.
 abbrev pub decreases-seeking : goal.decreases-seeking
 decreases-seeking l = 2 * (length l.bytes - l.place) + l.open

@@ -1,4 +1,4 @@
--- The tag with its padding, and then the length, and what is left of the padding.
+-- The tag with its padding, the length written over that, and the rest of the padding.
 use Rattle.std.proofs.Common.{◌≡◌, ℕ, ◌+◌, ◌-◌, ◌≤◌, List, [], ◌∷◌, ◌++◌, length, take, drop, replicate, refl, sym, ◌∙◌, ap, arith, append_assoc, length-append}
 use Rattle.std.specs.Prelude.{slice_index_or}
 use Rattle.std.proofs.lemmas.List.{take_at, drop_at, drop-replicate, length-replicate, replicate-append-replicate}
@@ -35,7 +35,7 @@ three (a ∷ b ∷ []) long = absurd (omega (arith, long))
 three (a ∷ b ∷ c ∷ []) long = refl
 three (a ∷ b ∷ c ∷ d ∷ rest) long = absurd (omega (arith, long))
 
--- three cells with the tag in front, and three more
+-- three cells with the tag in front, and three more cells
 six : (tag : List ℕ) → length tag ≤ 3
     → (tag ++ replicate (3 - length tag) 0) ++ replicate 3 0 ≡ padded 6 tag
 six tag short =
@@ -56,7 +56,7 @@ length_put tag size =
     ∙ ap (λ l. tag ++ (size ++ l)) (drop-replicate k (6 - n) 0 ∙ ap (λ m. replicate m 0) e)
     ∙ sym (append_assoc tag size (replicate (6 - length (tag ++ size)) 0))
 
--- all cells, once the length is put behind the tag
+-- all cells after the length is written after the tag
 cells : (tag size start rest p : List ℕ) (a k : ℕ) → IsTag tag
     → p ≡ tag ++ replicate (3 - length tag) 0 → a ≡ length tag → rest ≡ size → k ≡ length size
     → start ≡ p ++ replicate 3 0 → put_mid a k start rest ≡ padded 6 (tag ++ size)

@@ -1,4 +1,4 @@
--- Bytes with a fault are no list of objects.
+-- Bytes with a fault are not a list of objects.
 use Rattle.tlv_core.specs.PlaceLaws.{spelled_has_no_fault}
 use Rattle.tlv_core.proofs.objects.Objects.over.Goals as goal
 

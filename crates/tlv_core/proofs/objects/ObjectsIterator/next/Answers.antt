@@ -1,4 +1,4 @@
--- What is left of a list of objects is one, so it starts with its next object.
+-- The rest of a list of objects is such a list, so it starts with its next object.
 use Rattle.tlv_core.specs.SpellingLaws.{after_is_spelled}
 use Rattle.tlv_core.proofs.SpellingFacts.{objects_past_padding, spelled_starts, spelled_is_object, object_left}
 use Rattle.tlv_core.proofs.objects.ObjectsIterator.next.Goals as goal

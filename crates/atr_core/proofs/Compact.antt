@@ -9,18 +9,18 @@ skipped zero bytes = refl
 skipped (suc n) [] = refl
 skipped (suc n) (b ∷ bytes) = skipped n bytes
 
--- a value that is cut has no status behind it
+-- a value that is cut off has no status after it
 too_short : (n : ℕ) (bytes : List ℕ) → length bytes < n → compact_status n bytes ≡ None
 too_short zero bytes h = absurd (omega arith)
 too_short (suc n) [] h = refl
 too_short (suc n) (b ∷ bytes) h = too_short n bytes (omega arith)
 
--- the test of an object at a place
+-- whether the object at a place is the last and a status
 abbrev pub is_last : List ℕ → ℕ → Bool
 is_last bytes place = get_or bytes place 0 / 16 == 8
     && (length bytes - place - 1) == get_or bytes place 0 % 16
 
--- what an object at a place comes to
+-- the result from the object at a place
 at_object : (bytes : List ℕ) (place : ℕ) → place < length bytes
     → compact_status 0 (drop place bytes)
     ≡ (if is_last bytes place then status_from (drop (place + 1) bytes)

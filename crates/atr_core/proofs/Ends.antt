@@ -1,4 +1,4 @@
--- The end of a reading: historical bytes and the check byte.
+-- The end of an answer: historical bytes and the check byte.
 use Rattle.std.proofs.Common.{◌≡◌, ◌≢◌, ℕ, suc, ◌+◌, ◌-◌, ◌<◌, ◌≤◌, List, [], ◌∷◌, ◌++◌, length, drop, replicate, Option, Bool, true, false, refl, sym, ap, ◌∙◌, arith, append_assoc, length-append, length-drop}
 use Rattle.atr_core.specs.FirstFault.{Plain, end_fault, fault}
 use Rattle.atr_core.specs.Reading.{IsAt, fault_at, Fails, FailsAtHistorical, HasHistorical, Ranges}
@@ -16,7 +16,7 @@ pub record AreHistorical (all : List ℕ) (start k i : ℕ) (historical : List �
       → fault_at all (replicate k Plain) last checked start
       ≡ fault_at all (replicate n Plain) last checked place
 
--- from the historical byte that is due on
+-- the first fault from the next historical byte on
 at_next : (all : List ℕ) (start k i place : ℕ) (historical : List ℕ) → i < k
     → AreHistorical all start k i historical place → (n : ℕ) (last : Option ℕ) (checked : Bool)
     → n + (i + 1) ≡ k → fault_at all (replicate k Plain) last checked start
@@ -61,7 +61,7 @@ all_read all start k i place historical h m are =
       passes = λ last checked. are.passes 0 last checked (omega arith);
     }
 
--- what is left has so many characters
+-- the number of characters left
 left : (all : List ℕ) (place n : ℕ) → length all - place ≡ n → length (drop place all) ≡ n
 left all place n h = length-drop place all ∙ h
 

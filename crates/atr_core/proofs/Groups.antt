@@ -1,4 +1,4 @@
--- The groups of a reading.
+-- The groups of an answer, as they are read.
 use Rattle.std.proofs.Common.{◌≡◌, ℕ, ◌+◌, ◌*◌, ◌/◌, ◌%◌, ◌<◌, ◌≤◌, ◌==◌, ◌||◌, not, List, [], ◌∷◌, ◌++◌, length, drop, Option, Some, None, true, false, refl, sym, ap, ◌∙◌, arith, append_assoc, append-nil, length-append}
 use Rattle.std.proofs.Math.Bool.{or_assoc}
 use Rattle.atr_core.specs.Answer.{bit, announcing, group_before, from_indicator, names_other_than_0, may_follow, AreInOrder}
@@ -8,7 +8,7 @@ use Rattle.atr_core.specs.declared.group.Group.{Group}
 use Rattle.atr_core.specs.declared.group.TypedGroup.{TypedGroup}
 use Rattle.atr_core.proofs.Steps.{read_at}
 
--- Y is what the group and the groups behind it say
+-- Y announces the group and the groups after it
 pub announcing_is : (g : Group) (ns : List TypedGroup) (y : ℕ) → y < 16 → bit g.ta ≡ y % 2
     → bit g.tb ≡ y / 2 % 2 → bit g.tc ≡ y / 4 % 2 → more ns ≡ y / 8 → announcing g ns ≡ y
 announcing_is g [] y fits a b c m = omega arith
@@ -28,7 +28,7 @@ pub unrolled : (low : ℕ) (g : Group) (ns : List TypedGroup) (rest : List ℕ)
 unrolled low g [] rest = refl
 unrolled low g (n ∷ ns) rest = refl
 
--- what stands from an indicator on
+-- the bytes from an indicator on
 pub indicator_splits : (all : List ℕ) (place b end : ℕ) (g : Group) (ns : List TypedGroup)
     (tail : List ℕ) → b < 256 → IsAt all place b → HasGroup all (place + 1) (b / 16) g end
     → more ns ≡ b / 16 / 8 → drop end all ≡ groups_before ns tail
@@ -45,7 +45,7 @@ names_snoc [] n = elim (not (n.t == 0)) as (λ v. (v || false) ≡ v) [ true ↦
 names_snoc (m ∷ ns) n = ap (λ v. not (m.t == 0) || v) (names_snoc ns n)
     ∙ sym (or_assoc (not (m.t == 0)) (names_other_than_0 ns) (not (n.t == 0)))
 
--- the groups so far, in a reading from a place on at which Y announced a TD or did not
+-- the groups so far, read from a place where Y announced a TD or none
 pub record AreRead (all : List ℕ) (start y0 : ℕ) (others : List TypedGroup) (place y : ℕ)
     (last : Option ℕ) : Type 0 where
   pub ranges : Ranges all start place
@@ -64,7 +64,7 @@ with_td y due fits h = let e : y / 8 ≡ 1 = omega arith in rw e refl
 without_td : (y : ℕ) (due : List Due) → y < 8 → when (y / 8) Td due ≡ due
 without_td y due h = let e : y / 8 ≡ 0 = omega arith in rw e refl
 
--- from the TD that is due on
+-- the first fault from the next TD on
 at_td : (all : List ℕ) (start y0 place y : ℕ) (others : List TypedGroup) (last : Option ℕ)
     → AreRead all start y0 others place y last → 8 ≤ y → (due : List Due)
     → fault_at all (when (y0 / 8) Td due) None false start

@@ -1,4 +1,4 @@
--- Bytes have one reading.
+-- The same bytes are never two answers.
 use Rattle.std.proofs.Common.{◌≡◌, ℕ, ◌+◌, ◌*◌, ◌<◌, List, [], ◌∷◌, ◌++◌, length, Option, Some, None, refl, sym, ap, ◌∙◌, arith}
 use Rattle.atr_core.specs.Answer.{Answer, IsAnswer, AreInOrder, announcing, bit, before, group_before, from_indicator, check_field, characters, ts}
 use Rattle.atr_core.specs.declared.convention.Convention.{Convention}
@@ -26,7 +26,7 @@ heads m n x y e = cc
 pub tails : (m n : ℕ) (x y : List ℕ) → m ∷ x ≡ n ∷ y → x ≡ y
 tails m n x y e = cc
 
--- a character that is there in both, or in neither
+-- a character that is present in both, or in neither
 pub same_before : (c d : Option ℕ) (x y : List ℕ) → bit c ≡ bit d → before c x ≡ before d y
     → (c ≡ d) × (x ≡ y)
 same_before None None x y b e = (refl, e)
@@ -34,7 +34,7 @@ same_before (Some m) (Some n) x y b e = (ap Some (heads m n x y e), tails m n x 
 same_before None (Some n) x y b e = absurd (omega arith)
 same_before (Some m) None x y b e = absurd (omega arith)
 
--- indicators say one thing
+-- the parts of two equal indicators
 record AreSame (low low2 : ℕ) (g h : Group) (ns ns2 : List TypedGroup) : Type 0 where
   pub low_is : low ≡ low2
   pub ta_is : bit g.ta ≡ bit h.ta
@@ -122,7 +122,7 @@ same_list n m ns ms t group others =
 apart : (m n : ℕ) → m ≡ 0 → n ≡ 1 → m ≡ n → ⊥
 apart m n zero one e = omega arith
 
--- what an indicator with all behind it can be is one thing
+-- the bytes from an indicator on determine all parts
 pub same_from : (low low2 : ℕ) (g h : Group) (ns ns2 : List TypedGroup) (x y : List ℕ)
     (last last2 : Option ℕ) → low < 16 → low2 < 16 → AreInOrder last ns → AreInOrder last2 ns2
     → from_indicator low g ns x ≡ from_indicator low2 h ns2 y → IsSame low low2 g h ns ns2 x y
@@ -161,7 +161,7 @@ same_from low low2 g h (n ∷ ns) [] x y last last2 fits fits2 ordered ordered2 
     let same = same_indicator low low2 g h (n ∷ ns) [] fits fits2 head in
     absurd (apart (more []) (more (n ∷ ns)) refl refl (sym same.others_are))
 
--- lists of one length, before others
+-- two lists of equal length, before others
 same_lists : (s t x y : List ℕ) → length s ≡ length t → s ++ x ≡ t ++ y → s ≡ t
 same_lists [] [] x y n e = refl
 same_lists (b ∷ s) (c ∷ t) x y n e =

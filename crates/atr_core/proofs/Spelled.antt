@@ -22,7 +22,7 @@ step : (all : List ℕ) (character : Due) (due : List Due) (last : Option ℕ) (
     (checked_after character b checked) (place + 1) rest
 step all character due last checked place b rest h none = rw (not_33 place h, none) refl
 
--- a character that may be there, in a row of n
+-- a character that may be present, in a row of n
 past_maybe : (all : List ℕ) (c : Option ℕ) (due : List Due) (last : Option ℕ) (checked : Bool)
     (place next n : ℕ) (rest : List ℕ) → n ≤ 33 → place + length (before c rest) ≡ n
     → next + length rest ≡ n → fault_from all (when (bit c) Plain due) last checked place
@@ -80,7 +80,7 @@ has_bits g ns =
     let m : more ns < 2 = more_fits ns in
     record { ta = omega arith; tb = omega arith; tc = omega arith; td = omega arith }
 
--- a group, in a row of n
+-- a group in a row of n
 past_group : (all : List ℕ) (g : Group) (ns : List TypedGroup) (due : List Due) (last : Option ℕ)
     (checked : Bool) (place next n : ℕ) (rest : List ℕ) → n ≤ 33
     → place + length (group_before g rest) ≡ n → next + length rest ≡ n
@@ -107,12 +107,12 @@ y_of y low h = omega arith
 low_of : (y low : ℕ) → low < 16 → (16 * y + low) % 16 ≡ low
 low_of y low h = omega arith
 
--- where the groups end
+-- the last T of the groups
 abbrev last_of : Option ℕ → List TypedGroup → Option ℕ
 last_of last [] = last
 last_of last (n ∷ ns) = last_of (Some n.t) ns
 
--- what is due behind an indicator, and stands there
+-- the characters expected after an indicator, which are there
 past_indicator : (all : List ℕ) (y low : ℕ) (g : Group) (ns : List TypedGroup) (due : List Due)
     (last : Option ℕ) (checked : Bool) (place next n : ℕ) (rest : List ℕ) → n ≤ 33
     → AreInOrder last ns → y ≡ announcing g ns
@@ -188,7 +188,7 @@ end_passes all body b true e fits =
     ∙ ap (λ n. slice_range (b ∷ (body ++ xor_of body ∷ [])) 1 n) place
     ∙ range_is b body (xor_of body ∷ []))))
 
--- behind T0
+-- the characters after T0
 past_t0 : (all : List ℕ) (b : ℕ) (g : Group) (ns : List TypedGroup) (bytes check : List ℕ)
     (n : ℕ) → n ≤ 33 → length bytes < 16 → AreInOrder None ns
     → b ≡ 16 * announcing g ns + length bytes

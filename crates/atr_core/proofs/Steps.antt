@@ -1,4 +1,4 @@
--- One character of a reading.
+-- One expected character.
 use Rattle.std.proofs.Common.{rules, ◌≡◌, ◌≢◌, ℕ, ◌+◌, ◌<◌, ◌==◌, List, [], ◌∷◌, length, drop, Option, None, Bool, true, false, refl, arith}
 use Rattle.std.proofs.lemmas.List.{drop_all}
 use Rattle.std.proofs.lemmas.Grind.{common_steps}
@@ -15,13 +15,13 @@ is_33 place h = grind (arith, common_steps)
 pub not_33_is : (place : ℕ) → place ≢ 33 → (place == 33) ≡ false
 not_33_is place h = search rules
 
--- nothing stands where a character is due and may stand
+-- the bytes end at a place where a character is expected and may be
 pub cut_at : (all : List ℕ) (place : ℕ) → place ≢ 33 → place ≡ length all
     → Fails all place (record { place = place; reason = Cut })
 cut_at all place h e character due last checked =
     rw (drop_all place all (omega arith), not_33_is place h) refl
 
--- a character is due at the place behind the last that an answer may have
+-- a character is expected after the last place of an answer
 long_from : (all rest : List ℕ) (place : ℕ) → place ≡ 33 → (character : Due) (due : List Due)
     (last : Option ℕ) (checked : Bool)
     → fault_from all (character ∷ due) last checked place rest ≡ fault place TooLong

@@ -1,11 +1,11 @@
--- A byte that is turned twice.
+-- A byte converted twice.
 use Rattle.std.proofs.Common.{rules, tests, ◌≡◌, ◌≢◌, ℕ, zero, suc, ◌<◌, ◌==◌, ◌&&◌, Bool, true, false, refl, sym, subst, arith, ◌⊎◌, inl, inr}
 use Rattle.std.specs.Int.{reverse_bits, reverse_bits_onto, w8}
 use Rattle.atr_core.specs.Conventions.{as_sent, reversed}
 use Rattle.atr_core.specs.declared.convention.Convention.{Convention}
 use Rattle.atr_core.specs.declared.convention.Convention.TheVariants.{Direct, Inverse}
 
--- a test holds of all numbers below this one
+-- a test holds for each number below this one
 all_below : ℕ → (ℕ → Bool) → Bool
 all_below zero p = true
 all_below (suc n) p = p n && all_below n p

@@ -1,4 +1,4 @@
--- Rows that the definitions give, worked by hand from the standard's tables, and near misses.
+-- Rows worked by hand from the standard's tables, and near misses.
 use Rattle.std.proofs.Common.{◌≡◌, ℕ, List, [], ◌∷◌, ◌++◌, replicate, Option, Some, None, Ok, Err, true, false, refl}
 use Rattle.atr_core.specs.Answer.{Answer, characters}
 use Rattle.atr_core.specs.BlockValues.{ifsc, edc_code, edc_of, block_waiting_integer, character_waiting_integer, character_waiting_time, block_waiting_time}
@@ -58,12 +58,12 @@ emv_t1_missing : first_fault (0x3B ∷ 0xE0 ∷ 0 ∷ 0 ∷ 0x81 ∷ 0x31 ∷ 0x
     ≡ fault 8 CheckMissing
 emv_t1_missing = refl
 
--- a wrong check byte is judged behind all else
+-- a wrong check byte counts only after all other faults
 emv_t1_longer : first_fault (0x3B ∷ 0xE0 ∷ 0 ∷ 0 ∷ 0x81 ∷ 0x31 ∷ 0x20 ∷ 0x45 ∷ 0x34 ∷ 0 ∷ [])
     ≡ fault 9 Surplus
 emv_t1_longer = refl
 
--- the least answer, and what is wrong at each of its places
+-- the shortest answer, and a fault at each of its places
 least : first_fault (0x3B ∷ 0x00 ∷ []) ≡ None
 least = refl
 
@@ -88,7 +88,7 @@ two_behind = refl
 no_historical_byte : first_fault (0x3B ∷ 0x01 ∷ []) ≡ fault 2 Cut
 no_historical_byte = refl
 
--- T=0 and then T=1, with TCK 80 xor 80 xor 01; T=0 behind T=1; T=15 in TD1, and in TD2
+-- T=0 and then T=1, with TCK 80 xor 80 xor 01; T=0 after T=1; T=15 in TD1, and in TD2
 in_order : first_fault (0x3B ∷ 0x80 ∷ 0x80 ∷ 0x01 ∷ 0x01 ∷ []) ≡ None
 in_order = refl
 
@@ -98,14 +98,14 @@ out_of_order = refl
 t15_in_td1 : first_fault (0x3B ∷ 0x80 ∷ 0x0F ∷ 0x8F ∷ []) ≡ fault 2 OutOfOrder
 t15_in_td1 = refl
 
--- T=15 makes a check byte due: 80 xor 80 xor 0F
+-- T=15 requires a check byte: 80 xor 80 xor 0F
 t15_in_td2 : first_fault (0x3B ∷ 0x80 ∷ 0x80 ∷ 0x0F ∷ 0x0F ∷ []) ≡ None
 t15_in_td2 = refl
 
 t15_unchecked : first_fault (0x3B ∷ 0x80 ∷ 0x80 ∷ 0x0F ∷ []) ≡ fault 4 CheckMissing
 t15_unchecked = refl
 
--- 32 characters after TS, and 33, of which the last came or not
+-- 32 characters after TS, and 33 with the last one present or not
 longest : first_fault (0x3B ∷ (replicate 31 0x80 ++ 0x00 ∷ [])) ≡ None
 longest = refl
 
@@ -127,7 +127,7 @@ announced_33rd = refl
 check_byte_33rd : first_fault (0x3B ∷ (replicate 30 0x80 ++ 0x01 ∷ [])) ≡ fault 32 CheckMissing
 check_byte_33rd = refl
 
--- conventions: what a receiver of the direct one sees of TS
+-- conventions: TS as a receiver in direct convention reads it
 ts_inverse : as_sent Inverse 0x3F ≡ 0x03
 ts_inverse = refl
 
@@ -180,7 +180,7 @@ di_10 = refl
 di_1A : di_of 0x1A ≡ Err (record {})
 di_1A = refl
 
--- protocols: T=0 by default; T=0 and T=1, with T=1 named twice and T=15 last; T=15 is none
+-- protocols: T=0 by default; T=0 and T=1, with T=1 named twice and T=15 last; T=15 is not one
 by_default : protocols_of [] ≡ 0 ∷ []
 by_default = refl
 
@@ -254,7 +254,7 @@ default_bwt = refl
 default_edc : edc_of (edc_code plain_t1) ≡ Ok Lrc
 default_edc = refl
 
--- TA2, TB2 and TC2 are none of T=1, where TD1 names it, nor is TA3 where TD2 names T=15
+-- TA2, TB2 and TC2 are not for T=1 if TD1 names it, nor is TA3 if TD2 names T=15
 abbrev second_of_t1 : Answer
 second_of_t1 = answer absent (behind 1 (of (Some 0x81) (Some 0x91) (Some 1)) ∷ []) []
 
@@ -271,7 +271,7 @@ no_ifsc_behind_t15 : ifsc (answer absent
     (behind 1 absent ∷ behind 15 (of (Some 0xC7) None None) ∷ []) []) ≡ Ok 32
 no_ifsc_behind_t15 = refl
 
--- behind T=0 in TD1; of two groups each character is the first one
+-- after T=0 in TD1; of two groups each character is the first one
 ifsc_behind_t0 : ifsc (answer absent
     (behind 0 absent ∷ behind 1 (of (Some 0x40) None None) ∷ []) []) ≡ Ok 64
 ifsc_behind_t0 = refl
@@ -289,7 +289,7 @@ first_tb = refl
 first_tc : edc_of (edc_code two_of_t1) ≡ Ok Crc
 first_tc = refl
 
--- 00 and FF are reserved for IFSC, 10 to 15 for BWI, and what is above 1 for the code
+-- 00 and FF are reserved for IFSC, 10 to 15 for BWI, and anything above 1 for the code
 ifsc_00 : ifsc (of_t1 (Some 0) None None) ≡ Err (record {})
 ifsc_00 = refl
 
@@ -340,7 +340,7 @@ specific_81 = refl
 specific_10 : mode_of (Some 0x10) ≡ Specific 0 true true
 specific_10 = refl
 
--- the first TA behind T=15
+-- the first TA for T=15
 supply_C7 : supply_code (answer absent (behind 0 (of (Some 0x11) None None)
     ∷ behind 15 absent ∷ behind 15 (of (Some 0xC7) None None) ∷ []) []) ≡ 0xC7
 supply_C7 = refl
@@ -402,7 +402,7 @@ pps_reserved = refl
 pps_none : pps_fault (0xFE ∷ []) ≡ Some pps.NoPpss
 pps_none = refl
 
--- a response may repeat PPS1 or leave it out, and nothing else
+-- a response may repeat PPS1 or omit it, and nothing else
 echoed : agreed (asked 0 (Some 0x95)) (asked 0 (Some 0x95)) ≡ true
 echoed = refl
 
@@ -442,7 +442,7 @@ status_object : status_of (0x80 ∷ 0x31 ∷ 0xC0 ∷ 0x82 ∷ 0x90 ∷ 0x00 ∷
     ≡ Some (record { life_cycle = None; sw = Some (0x90, 0x00) })
 status_object = refl
 
--- 82 90 in the value of another object is no status
+-- 82 90 in the value of another object is not a status
 no_status_object : status_of (0x80 ∷ 0x33 ∷ 0xC0 ∷ 0x82 ∷ 0x90 ∷ []) ≡ None
 no_status_object = refl
 

@@ -1,4 +1,4 @@
--- What a reading says, and nothing else.
+-- The bytes of an answer are read as that answer.
 use Rattle.std.proofs.Common.{◌≡◌, ℕ, List, Some, None, Result, Ok, Err, MatchResult, sym, ap, ◌∙◌}
 use Rattle.atr_core.specs.Answer.{Answer, IsAnswer, characters}
 use Rattle.atr_core.specs.FirstFault.{first_fault}

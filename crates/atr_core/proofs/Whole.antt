@@ -1,4 +1,4 @@
--- A reading from TS to the end.
+-- An answer read from TS to the end.
 use Rattle.std.proofs.Common.{rules, tests, if◌then◌else◌, ◌≡◌, ◌≢◌, ℕ, ◌+◌, ◌*◌, ◌/◌, ◌%◌, ◌<◌, ◌≤◌, ◌==◌, List, [], ◌∷◌, ◌++◌, length, drop, replicate, slice_range, Option, Some, None, Bool, true, false, refl, sym, ap, subst, ◌∙◌, arith, append-nil, length-drop}
 use Rattle.std.proofs.lemmas.List.{append_cancel_right}
 use Rattle.std.proofs.lemmas.List.Folds.{drop_split}
@@ -62,7 +62,7 @@ to_end all b t0 place end last a h =
     to_historical all b t0 place end a.convention a.first a.others h.first h.groups
     ∙ h.historical.passes h.groups.last (names_other_than_0 a.others)
 
--- what stands before others can be taken off
+-- a part in front can be split off
 pub before_append : (c : Option ℕ) (rest more : List ℕ)
     → before c (rest ++ more) ≡ before c rest ++ more
 before_append None rest more = refl
@@ -95,7 +95,7 @@ body_append a more =
 ts_is : (b : ℕ) (convention : Convention) → convention_of b ≡ Some convention → ts convention ≡ b
 ts_is b convention h = grind (arith)
 
--- all characters, but for what stands at the end
+-- all characters except those at the end
 body_is : (all : List ℕ) (b t0 place end last : ℕ) (a : Answer)
     → HasAll all b t0 place end last a → drop 1 all ≡ body_before a (drop last all)
 body_is all b t0 place end last a h =
@@ -112,7 +112,7 @@ all_is all b t0 place end last a h = h.first.ts.at.split
     ∙ ap (λ x. x ∷ drop 1 all) (sym (ts_is b a.convention h.first.ts.is))
     ∙ ap (λ x. ts a.convention ∷ x) (body_is all b t0 place end last a h)
 
--- nothing is wrong at the end only where it is the check field
+-- the end has no fault only if it is the check field
 nothing_behind : (all : List ℕ) (place : ℕ) (rest : List ℕ)
     → end_fault all false place rest ≡ None → rest ≡ []
 nothing_behind all place [] h = refl
@@ -148,7 +148,7 @@ check_behind all place (b ∷ []) h =
     }
 check_behind all place (b ∷ c ∷ rest) h = many_ok (place == 33) _ _ h
 
--- the body as it stands in the bytes
+-- the characters from T0 on, as a range of the bytes
 body_range : (all : List ℕ) (b t0 place end last : ℕ) (a : Answer)
     → HasAll all b t0 place end last a → slice_range all 1 last ≡ body_before a []
 body_range all b t0 place end last a h =

@@ -1,4 +1,4 @@
--- An answer that is written.
+-- An answer as it is written.
 use Rattle.std.proofs.Common.{◌≡◌, ℕ, ◌+◌, ◌-◌, ◌*◌, ◌<◌, ◌≤◌, List, [], ◌∷◌, ◌++◌, length, length-drop, drop, Option, Some, None, Bool, true, false, refl, sym, ap, ◌∙◌, arith, append_assoc, length-append}
 use Rattle.atr_core.specs.Answer.{Answer, IsAnswer, AreInOrder, announcing, bit, before, group_before, from_indicator, body_before, check_field, characters, ts, names_other_than_0}
 use Rattle.atr_core.specs.Written.{y_of, group_size, groups_size, one_if, size_of}
@@ -15,7 +15,7 @@ parts convention first others historical = record {
   historical = historical;
 }
 
--- what is written before an indicator, which is due with the groups that are left
+-- what is written before an indicator, with the groups that are left
 pub record AreWritten (a : Answer) (out : List ℕ) (low : ℕ) (g : Group) (left : List TypedGroup)
     : Type 0 where
   pub low_fits : low < 16
@@ -59,7 +59,7 @@ room a out low g left is are =
       size_from low g left rest,
     )
 
--- an indicator and its group, before what stands behind them
+-- an indicator and its group, before what follows them
 behind : (out rest : List ℕ) (b : ℕ) (g : Group)
     → (out ++ b ∷ group_before g []) ++ rest ≡ out ++ (b ∷ group_before g rest)
 behind out rest b g = append_assoc out (b ∷ group_before g []) rest
@@ -75,7 +75,7 @@ all_groups a out new low g are e =
     ap (λ x. x ++ rest) e ∙ behind out rest (16 * y_of g 0 + low) g
     ∙ ap (λ y. out ++ ((16 * y + low) ∷ group_before g rest)) y ∙ are.is rest
 
--- the size of what is written without a check byte, and of all
+-- the size of an answer without its check byte, and with it
 pub body_fits : (a : Answer) → IsAnswer a → length (ts a.convention ∷ body_before a []) ≤ 33
 body_fits a is =
     let fits : length (characters a) ≤ 33 = is.fits in
@@ -95,7 +95,7 @@ size_check : (a : Answer) (due : Bool) → names_other_than_0 a.others ≡ due
 size_check a true due = rw due refl
 size_check a false due = rw due refl
 
--- how many characters an answer has
+-- the number of characters of an answer
 pub size_is : (a : Answer) → length (characters a) ≡ size_of a.first a.others a.historical
 size_is a =
     let check = size_check a (names_other_than_0 a.others) refl in

@@ -1,4 +1,4 @@
--- The texts of faults.
+-- The texts of errors.
 use Rattle.std.specs.Prelude.{ℕ, List, ◌++◌, codes, decimal}
 use Rattle.atr_core.specs.declared.fault.Reason.{Reason}
 use Rattle.atr_core.specs.declared.fault.Reason.TheVariants.{NoTs, Cut, TooLong, OutOfOrder, Surplus, CheckMissing, CheckNotDue, CheckWrong}
@@ -8,7 +8,7 @@ use Rattle.atr_core.specs.declared.pps.PpsFault.TheVariants as pps
 use Rattle.atr_core.specs.declared.build_fault.BuildFault.{BuildFault}
 use Rattle.atr_core.specs.declared.build_fault.BuildFault.TheVariants as build
 
--- why bytes are no answer to reset
+-- why bytes are not an answer to reset
 abbrev pub reason_text : Reason → List ℕ
 reason_text NoTs = codes "no TS"
 reason_text Cut = codes "cut"
@@ -19,7 +19,7 @@ reason_text CheckMissing = codes "check byte missing"
 reason_text CheckNotDue = codes "check byte not due"
 reason_text CheckWrong = codes "wrong check byte"
 
--- the reason, and where
+-- the reason and its place
 abbrev pub fault_text : AtrFault → List ℕ
 fault_text fault = reason_text fault.reason ++ codes " at " ++ decimal fault.place
 
@@ -29,7 +29,7 @@ build_text build.TooManyHistorical = codes "too many historical bytes"
 build_text build.OutOfOrder = codes "T out of order"
 build_text build.TooLong = codes "too long"
 
--- why bytes are no PPS request or response
+-- why bytes are not a PPS request or response
 abbrev pub pps_text : PpsFault → List ℕ
 pps_text pps.NoPpss = codes "no PPSS"
 pps_text pps.Cut = codes "cut"

@@ -14,16 +14,16 @@ category_of (b ∷ bytes) =
     else if nat_le 0x81 b && nat_le b 0x8F then Reserved
     else Proprietary
 
--- A status: the life cycle in one byte, SW1 and SW2 in two, all in three.
+-- A status: the life cycle in one byte, SW1 and SW2 in two, all of them in three.
 abbrev pub status_from : List ℕ → Option CardStatus
 status_from (l ∷ []) = Some (record { life_cycle = Some l; sw = None })
 status_from (m ∷ n ∷ []) = Some (record { life_cycle = None; sw = Some (m, n) })
 status_from (l ∷ m ∷ n ∷ []) = Some (record { life_cycle = Some l; sw = Some (m, n) })
 status_from _ = None
 
--- The status among objects in COMPACT-TLV. Each has its tag in bits 8 to 5 of its first byte, its
--- length in bits 4 to 1, and its value behind that. The status is the last, and its tag is 8. In
--- front stand `skipped` bytes of a value.
+-- The status among objects in COMPACT-TLV. Bits 8 to 5 of an object's first byte are its tag, bits
+-- 4 to 1 the length of its value, which follows. The status is the last object, with tag 8. The
+-- first `skipped` bytes belong to the value of an object before.
 abbrev pub compact_status : ℕ → List ℕ → Option CardStatus
 compact_status skipped [] = None
 compact_status (suc skipped) (b ∷ bytes) = compact_status skipped bytes

@@ -6,20 +6,20 @@ use Rattle.atr_core.specs.declared.pps.Pps.{Pps}
 use Rattle.atr_core.specs.declared.pps.PpsFault.{PpsFault}
 use Rattle.atr_core.specs.declared.pps.PpsFault.TheVariants.{NoPpss, Cut, Reserved, Surplus, CheckWrong}
 
--- PPSS; PPS0, with T in bits 4 to 1 and a bit for each of PPS1 to PPS3, bit 5 for PPS1; and these
+-- PPSS; PPS0, with T in bits 4 to 1 and bits 5 to 7 for PPS1 to PPS3; and those that are present
 abbrev pub pps_body : Pps → List ℕ
 pps_body p = 0xFF ∷ (p.t + 16 * bit p.pps1 + 32 * bit p.pps2 + 64 * bit p.pps3)
     ∷ before p.pps1 (before p.pps2 (before p.pps3 []))
 
--- and PCK, with which the exclusive-or of all is 00
+-- followed by PCK, which makes the exclusive-or of all 00
 abbrev pub pps_characters : Pps → List ℕ
 pps_characters p = pps_body p ++ xor_of (pps_body p) ∷ []
 
--- the place of PCK, by PPS0
+-- the index of PCK, by PPS0
 abbrev pub pps_end : ℕ → ℕ
 pps_end pps0 = 2 + pps0 / 16 % 2 + pps0 / 32 % 2 + pps0 / 64 % 2
 
--- what is wrong with bytes as a request or response: the first of these
+-- the first fault of bytes as a request or response, in this order
 abbrev pub pps_fault : List ℕ → Option PpsFault
 pps_fault bytes =
     let pps0 : ℕ = slice_index bytes 1 in
@@ -33,13 +33,13 @@ pps_fault bytes =
     else if slice_index bytes end == xor_of (take end bytes) then None
     else Some CheckWrong
 
--- a character of a response is as asked for, or is not there
+-- a character of a response repeats the request's, or is absent
 abbrev pub answers : Option ℕ → Option ℕ → Bool
 answers asked None = true
 answers None (Some answered) = false
 answers (Some asked) (Some answered) = asked == answered
 
--- the response accepts what the request asks for, or all of it but what it leaves out (9.3)
+-- the response accepts the request, except for what it omits (9.3)
 abbrev pub agreed : Pps → Pps → Bool
 agreed request response = request.t == response.t && answers request.pps1 response.pps1
     && answers request.pps2 response.pps2 && answers request.pps3 response.pps3

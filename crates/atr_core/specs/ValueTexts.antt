@@ -1,4 +1,4 @@
--- The texts of what interface bytes say.
+-- The texts of values in interface bytes.
 use Rattle.std.specs.Prelude.{ℕ, List, ◌++◌, ◌==◌, codes, decimal, if◌then◌else◌}
 use Rattle.atr_core.specs.declared.convention.Convention.{Convention}
 use Rattle.atr_core.specs.declared.convention.Convention.TheVariants.{Direct, Inverse}
@@ -16,7 +16,7 @@ convention_text Inverse = codes "inverse"
 abbrev pub fi_text : Fi → List ℕ
 fi_text fi = decimal fi.value ++ codes ", up to " ++ decimal fi.max_khz ++ codes " kHz"
 
--- so many etu, and so many times Fi/Di clock cycles, where there are some
+-- etu, and Fi/Di clock cycles unless their number is 0
 abbrev pub guard_time_text : GuardTime → List ℕ
 guard_time_text time =
     if time.indicated == 0 then decimal time.etu ++ codes " etu"
@@ -27,7 +27,7 @@ abbrev pub edc_text : Edc → List ℕ
 edc_text Lrc = codes "LRC"
 edc_text Crc = codes "CRC"
 
--- so many etu, and so many clock cycles
+-- etu and clock cycles
 abbrev pub block_waiting_text : BlockWaitingTime → List ℕ
 block_waiting_text time = decimal time.etu ++ (codes " etu and " ++ (decimal time.cycles
     ++ codes " cycles"))

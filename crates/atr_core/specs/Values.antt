@@ -1,4 +1,4 @@
--- What the interface bytes of an answer say (ISO/IEC 7816-3, 8.3).
+-- The values in the interface bytes of an answer (ISO/IEC 7816-3, 8.3).
 use Rattle.std.specs.Prelude.{ℕ, ◌+◌, ◌*◌, ◌/◌, ◌%◌, ◌==◌, List, [], ◌∷◌, get_or, Option, Some, None, Result, Ok, Err, Bool, true, false, not, ◌&&◌, is_some, if◌then◌else◌}
 use Rattle.std.specs.List.{list_any}
 use Rattle.atr_core.specs.Answer.{Answer}
@@ -13,23 +13,23 @@ use Rattle.atr_core.specs.declared.supply.ClockStop.{ClockStop}
 use Rattle.atr_core.specs.declared.supply.ClockStop.TheVariants as stop
 use Rattle.atr_core.specs.declared.supply.Classes.{Classes}
 
--- Whether a T is a new offer: 15 is no protocol, and one that is named again is no new one.
+-- Whether a T is a new offer: 15 is not a protocol, and a T named again is not new.
 abbrev pub is_offer : Option ℕ → ℕ → Bool
 is_offer None t = not (t == 15)
 is_offer (Some last) t = not (t == 15) && not (t == last)
 
--- the protocols that TDs offer, in their order, behind one that named `last`
+-- the protocols that TDs offer, in order, after a TD that named `last`
 abbrev pub offered : Option ℕ → List TypedGroup → List ℕ
 offered last [] = []
 offered last (n ∷ ns) = if is_offer last n.t then n.t ∷ offered (Some n.t) ns
     else offered (Some n.t) ns
 
--- the protocols in the order offered: T=0 alone, where there is no TD1
+-- the protocols in the order offered; T=0 alone if TD1 is absent
 abbrev pub protocols_of : List TypedGroup → List ℕ
 protocols_of [] = 0 ∷ []
 protocols_of (n ∷ ns) = offered None (n ∷ ns)
 
--- whether some TD names T=15, which is no protocol: what follows it holds for all of them
+-- whether a TD names T=15, which is not a protocol: the bytes after it hold for all protocols
 abbrev pub names_15 : List TypedGroup → Bool
 names_15 others = list_any (λ n. n.t == 15) others
 
@@ -37,12 +37,12 @@ abbrev pub or_else : ℕ → Option ℕ → ℕ
 or_else default None = default
 or_else default (Some b) = b
 
--- TA2, TB2 and TC2: those behind TD1
+-- TA2, TB2 and TC2, which follow TD1
 abbrev pub second : List TypedGroup → Group
 second [] = record { ta = None; tb = None; tc = None }
 second (n ∷ ns) = n.group
 
--- an entry of a table, where a code is not reserved for future use
+-- an entry of a table, or an error if its code is reserved for future use
 abbrev pub known : {X : Type 0} → Option X → Result X Rfu
 known None = Err (record {})
 known (Some x) = Ok x
@@ -70,7 +70,7 @@ fi_of code = known (get_or fi_table (code / 16) None)
 abbrev pub di_of : ℕ → Result ℕ Rfu
 di_of code = known (get_or di_table (code % 16) None)
 
--- TA1: 11, which is Fi 372 and Di 1, where it is not there
+-- TA1, or 11 (Fi 372 and Di 1) if it is absent
 abbrev pub rate_code : Answer → ℕ
 rate_code a = or_else 0x11 a.first.ta
 
@@ -78,9 +78,9 @@ rate_code a = or_else 0x11 a.first.ta
 abbrev pub extra_guard_time : Answer → ℕ
 extra_guard_time a = or_else 0 a.first.tc
 
--- The guard time of a protocol: so many etu, and so many times Fi/Di clock cycles. N = 255 is the
--- least that the protocol has, 11 etu in T=1 and 12 in any other. Else it is 12 etu and N: N etu
--- where T=15 is absent, and N times Fi/Di cycles where it is there.
+-- The guard time of a protocol, in etu and in Fi/Di clock cycles. N = 255 means the least of the
+-- protocol: 11 etu for T=1, 12 for any other. Any other N adds to 12 etu: N etu if T=15 is absent,
+-- N times Fi/Di cycles if it is present.
 abbrev pub guard_time : Answer → ℕ → GuardTime
 guard_time a t =
     let n : ℕ = extra_guard_time a in
@@ -88,7 +88,7 @@ guard_time a t =
     else if names_15 a.others then record { etu = 12; indicated = n }
     else record { etu = 12 + n; indicated = 0 }
 
--- WI: TC2, where 00 is reserved, or 10 (10.2)
+-- WI: TC2, or 10 if it is absent; 00 is reserved (10.2)
 abbrev pub waiting_integer : Answer → Result ℕ Rfu
 waiting_integer a =
     let wi : ℕ = or_else 10 (second a.others).tc in
@@ -104,18 +104,18 @@ cycles (Ok wi) (Ok rate) = Ok (wi * 960 * rate.value)
 abbrev pub waiting_time : Answer → Result ℕ Rfu
 waiting_time a = cycles (waiting_integer a) (fi_of (rate_code a))
 
--- TA2 (8.3): where it is there the card is in specific mode, with the T in bits 4 to 1; bit 8 says
--- that it cannot change to negotiable mode, bit 5 that Fi and Di are implicit and not those of TA1
+-- The mode by TA2 (8.3). If TA2 is present, the card is in specific mode, with the T of bits 4 to
+-- 1. Bit 8: it cannot change to negotiable mode. Bit 5: Fi and Di are implicit, not those of TA1.
 abbrev pub mode_of : Option ℕ → Mode
 mode_of None = Negotiable
 mode_of (Some b) = Specific (b % 16) (b / 128 == 0) (b / 16 % 2 == 1)
 
--- the first TA behind T=15
+-- the first TA for T=15
 abbrev pub ta_of_15 : List TypedGroup → Option ℕ
 ta_of_15 [] = None
 ta_of_15 (n ∷ ns) = if n.t == 15 && is_some n.group.ta then n.group.ta else ta_of_15 ns
 
--- clock stop is not supported, and class A alone, where it is not there
+-- that TA, or class A alone and no clock stop if it is absent
 abbrev pub supply_code : Answer → ℕ
 supply_code a = or_else 0x01 (ta_of_15 a.others)
 

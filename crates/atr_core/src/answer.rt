@@ -1,4 +1,4 @@
-//! An answer to reset: read from its bytes, made from its parts, and written.
+//! An answer to reset: parsed from bytes, made from parts, and written.
 
 ghost use Rattle.std.specs.Prelude.{◌≡◌, ◌↔◌, ◌≤◌, length, Some, Err, Ok, IfOk, MatchResult};
 ghost use Rattle.atr_core.specs.Answer as spec;
@@ -21,7 +21,10 @@ use std::marker::Model;
 
 /// An answer to reset (ISO/IEC 7816-3, 8.2). Contracts see it as what it says: convention, groups
 /// and historical bytes.
-// Arrays of the most that there can be: it is read without memory, and borrows nothing.
+///
+/// `Atr::read` parses the bytes that a card sent. The methods return each value of the interface
+/// bytes, with the standard's default if a byte is absent.
+// Why arrays of full size: reading then needs no allocator, and the answer borrows nothing.
 #[derive(Debug, Drop)]
 pub struct Atr {
     convention: Convention,
@@ -51,8 +54,13 @@ impl Model for Atr {
 }
 
 impl Atr {
-    /// The answer that these bytes are, all of them. The fault is the first one from the left, and
-    /// at one place the first of `Reason`; a wrong check byte is judged last.
+    /// Parses an answer to reset that takes up all of `bytes`.
+    ///
+    /// # Errors
+    ///
+    /// - `AtrFault`: the bytes are not an answer to reset. It is the leftmost fault. At one place
+    ///   it is the first of `Reason`, and a wrong check byte counts only if nothing else is wrong
+    ///   (profile).
     pub fn read(bytes: &[u8]) -> Result<Atr, AtrFault>
         ensures answer { IfOk result (λ a. IsAnswer a × (bytes.now ≡ characters a)) }
         ensures each { (a : spec.Answer) →
@@ -63,8 +71,16 @@ impl Atr {
         whole(bytes)
     }
 
-    /// The answer of these parts, for a card's own. T0, the TDs and TCK follow from them. Refused
-    /// is the first of `BuildFault` that holds.
+    /// Makes an answer of its parts, for a card that sends it. T0, the TDs and TCK follow from the
+    /// parts.
+    ///
+    /// # Errors
+    ///
+    /// The first that holds:
+    ///
+    /// - `TooManyHistorical`: there are more than 15 historical bytes.
+    /// - `OutOfOrder`: a T in `others` is above 15, below the T before it, or 15 in TD1.
+    /// - `TooLong`: the answer would have more than 32 characters after TS.
     pub fn new(
         convention: Convention,
         first: Group,
@@ -100,28 +116,29 @@ impl Atr {
         })
     }
 
-    /// The bytes of the answer.
+    /// Returns the characters of the answer, TS first: 2 to 33 bytes.
     pub fn write(&self) -> ArrayVec<u8, LONGEST>
         ensures { result.items ≡ characters self.now }
     {
         written(self.convention, self.first, &self.others, &self.historical)
     }
 
-    /// The convention.
+    /// The convention, which TS states.
     pub fn convention(&self) -> Convention
         ensures { result ≡ self.now.convention }
     {
         self.convention
     }
 
-    /// TA1, TB1 and TC1.
+    /// The group TA1, TB1 and TC1.
     pub fn first(&self) -> Group
         ensures { result ≡ self.now.first }
     {
         self.first
     }
 
-    /// Each T that a TD names, with the characters behind that TD: at most 31.
+    /// The groups that TDs announce, in order: each T with the TA, TB and TC after its TD. At most
+    /// 31.
     pub fn others(&self) -> &[TypedGroup]
         ensures groups { result.now ≡ self.now.others }
         ensures few { length result.now ≤ 31 }
@@ -129,7 +146,7 @@ impl Atr {
         &self.others
     }
 
-    /// The historical bytes: at most 15.
+    /// The historical bytes, at most 15.
     pub fn historical(&self) -> &[u8]
         ensures bytes { result.now ≡ self.now.historical }
         ensures few { length result.now ≤ 15 }
@@ -138,7 +155,7 @@ impl Atr {
     }
 }
 
-/// The answer that these bytes are.
+/// Parses an answer to reset that takes up all of `bytes`.
 fn whole(bytes: &[u8]) -> Result<Atr, AtrFault>
     ensures { MatchResult result (IsWhole bytes.now) (λ fault. first_fault bytes.now ≡ Some fault) }
 {

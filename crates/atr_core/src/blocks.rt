@@ -1,4 +1,4 @@
-//! What an answer says of T=1: the longest field, the error detection code, and the times.
+//! The values of an answer for T=1: field size, error detection code and times.
 
 ghost use Rattle.std.specs.Prelude.{◌≡◌, ◌≤◌, ◌<◌, ◌^◌, drop, IfOk};
 ghost use Rattle.atr_core.specs.BlockValues.{first_of_t1, characters_of_t1, with_group, ifsc, edc_of, edc_code, waiting_code, block_waiting_integer, character_waiting_integer, character_waiting_time, block_waiting_time, block_guard_time};
@@ -9,20 +9,22 @@ use crate::group::{Group, TypedGroup};
 use crate::rate::Rfu;
 use crate::timing::BlockWaitingTime;
 
-/// IFSC, if there is no TA for T=1.
+/// IFSC if no TA is for T=1.
 const DEFAULT_IFSC: u8 = 32;
 
-/// BWI 4 and CWI 13, if there is no TB for T=1.
+/// BWI 4 and CWI 13, if no TB is for T=1.
 const DEFAULT_WAITING: u8 = 0x4D;
 
-/// LRC, if there is no TC for T=1.
+/// LRC, if no TC is for T=1.
 const DEFAULT_EDC: u8 = 0;
 
 impl Atr {
-    /// IFSC, the longest field of a block that the card takes: the first TA for T=1, or 32.
+    /// Returns IFSC, the longest information field in bytes that a block to the card may have, 1 to
+    /// 254. It is the first TA for T=1, or 32 (ISO/IEC 7816-3, clause 11).
     ///
     /// # Errors
-    /// - `Rfu`: it is 0 or 255.
+    ///
+    /// - `Rfu`: the byte is 0 or 255.
     pub fn ifsc(&self) -> Result<u8, Rfu>
         ensures { result ≡ ifsc self.now }
     {
@@ -32,10 +34,11 @@ impl Atr {
         }
     }
 
-    /// The error detection code: the first TC for T=1, or LRC.
+    /// Returns the error detection code of blocks: the first TC for T=1, or LRC.
     ///
     /// # Errors
-    /// - `Rfu`: one of its bits 8 to 2 is 1.
+    ///
+    /// - `Rfu`: one of bits 8 to 2 is set.
     pub fn edc(&self) -> Result<Edc, Rfu>
         ensures { result ≡ edc_of (edc_code self.now) }
     {
@@ -46,9 +49,10 @@ impl Atr {
         }
     }
 
-    /// BWI, 0 to 9: bits 8 to 5 of the first TB for T=1, or 4.
+    /// Returns BWI, 0 to 9: bits 8 to 5 of the first TB for T=1, or 4.
     ///
     /// # Errors
+    ///
     /// - `Rfu`: it is above 9.
     pub fn block_waiting_integer(&self) -> Result<u8, Rfu>
         ensures is { result ≡ block_waiting_integer self.now }
@@ -58,7 +62,7 @@ impl Atr {
         if bwi > 9 { Err(Rfu) } else { Ok(bwi) }
     }
 
-    /// CWI, 0 to 15: bits 4 to 1 of the first TB for T=1, or 13.
+    /// Returns CWI, 0 to 15: bits 4 to 1 of the first TB for T=1, or 13.
     pub fn character_waiting_integer(&self) -> u8
         ensures is { result ≡ character_waiting_integer self.now }
         ensures bound { result < 16 }
@@ -66,19 +70,20 @@ impl Atr {
         self.waiting_code() % 16
     }
 
-    /// CWT in etu, 11 + 2^CWI: the most from one character of a block to the next.
+    /// Returns CWT in etu, 11 + 2^CWI: the longest time from one character of a block to the next.
     pub fn character_waiting_time(&self) -> u16
         ensures { result ≡ character_waiting_time self.now }
     {
         11 + power_of_two(self.character_waiting_integer())
     }
 
-    /// BWT, times a multiplier: 1, or for one block that of the S(WTX) that the card sent, 0
-    /// counting as 1. The most from the last character of a block to the card to the first of
-    /// its answer.
+    /// Returns BWT times `multiplier`: the longest time from the last character of a block to the
+    /// card to the first character of its answer. The multiplier is 1, or for one block that of the
+    /// card's S(WTX). A multiplier of 0 counts as 1 (profile).
     ///
     /// # Errors
-    /// - `Rfu`: BWI is reserved.
+    ///
+    /// - `Rfu`: BWI is above 9.
     pub fn block_waiting_time(&self, multiplier: u8) -> Result<BlockWaitingTime, Rfu>
         ensures { result ≡ block_waiting_time self.now multiplier }
     {
@@ -97,14 +102,15 @@ impl Atr {
     }
 }
 
-/// BGT in etu: the least from the last character of a block to the first of one the other way.
+/// Returns BGT in etu, 22: the shortest time from the last character of a block to the first of a
+/// block in the other direction.
 pub fn block_guard_time() -> u16
     ensures { result ≡ block_guard_time }
 {
     22
 }
 
-/// 2 to the power of this.
+/// 2 to the power of `exponent`.
 fn power_of_two(exponent: u8) -> u16
     requires { exponent < 16 }
     ensures is { result ≡ 2 ^ exponent }
@@ -113,7 +119,7 @@ fn power_of_two(exponent: u8) -> u16
     1 << exponent
 }
 
-/// The first TA, TB and TC for T=1, those that are there: none of them is behind TD1.
+/// The first TA, TB and TC for T=1. Those after TD1 are never for T=1.
 fn first_of_t1(others: &[TypedGroup]) -> Group
     ensures { result ≡ first_of_t1 others.now }
 {
@@ -136,7 +142,7 @@ fn characters_of_t1(named: &[TypedGroup]) -> Group
     first
 }
 
-/// The first characters for T=1 of this group and those behind it.
+/// The first characters for T=1 of this group and of those after it.
 fn with_group(named: TypedGroup, behind: Group) -> Group
     ensures { result ≡ with_group named behind }
 {

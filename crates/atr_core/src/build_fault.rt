@@ -1,13 +1,13 @@
-//! The reasons why an answer cannot be made of its parts, with their texts.
+//! The errors of making an answer of its parts.
 
 use std::fmt;
 
-/// Why an answer cannot be made of its parts: the first of these that holds.
+/// Why an answer cannot be made of its parts. If several reasons hold, the error is the first.
 #[derive(Clone, Copy, Debug, PartialEq, Eq, Hash)]
 pub enum BuildFault {
     /// There are more than 15 historical bytes.
     TooManyHistorical,
-    /// A T is above 15, below the one before it, or 15 in TD1.
+    /// A T is above 15, below the T before it, or 15 in TD1.
     OutOfOrder,
     /// The answer would have more than 32 characters after TS.
     TooLong,

@@ -1,4 +1,4 @@
-//! The characters of an answer to reset, read from the left, each where it is announced.
+//! Parses the characters of an answer from the left, each where it is announced.
 
 ghost use Rattle.std.specs.Prelude.{◌≡◌, ◌≤◌, ◌<◌, drop, length, MatchResult};
 ghost use Rattle.atr_core.specs.Answer.{xor_of, may_follow, names_other_than_0};
@@ -9,16 +9,16 @@ use crate::fault::{AtrFault, Reason};
 use crate::group::{Group, TypedGroup};
 use arrayvec::ArrayVec;
 
-/// How many characters an answer has at most, TS among them (ISO/IEC 7816-3, 8.2).
+/// The most characters of an answer, TS included (ISO/IEC 7816-3, 8.2).
 pub(crate) const LONGEST: usize = 33;
 
-/// How many TDs an answer has at most: as many as characters behind T0.
+/// The most TDs of an answer: one for each character after T0.
 pub(crate) const MOST_GROUPS: usize = 31;
 
 /// The most historical bytes.
 pub(crate) const MOST_HISTORICAL: usize = 15;
 
-/// A character that is announced at this place.
+/// Reads the announced character at this place.
 pub(crate) fn character(bytes: &[u8], place: usize) -> Result<u8, AtrFault>
     requires inside { place ≤ length bytes.now }
     requires within { place ≤ 33 }
@@ -39,7 +39,7 @@ pub(crate) fn character(bytes: &[u8], place: usize) -> Result<u8, AtrFault>
     }
 }
 
-/// A character that may be announced at this place, where the bit says so, and where it ends.
+/// Reads the character at this place if `bit` is 1, and returns the place after it.
 fn maybe(bytes: &[u8], place: usize, bit: u8) -> Result<(Option<u8>, usize), AtrFault>
     requires inside { place ≤ length bytes.now }
     requires within { place ≤ 33 }
@@ -54,7 +54,7 @@ fn maybe(bytes: &[u8], place: usize, bit: u8) -> Result<(Option<u8>, usize), Atr
     Ok((Some(byte), place + 1))
 }
 
-/// TA, TB and TC that Y announces from this place on, and where they end.
+/// Reads the TA, TB and TC that Y announces from this place on, and returns the place after them.
 pub(crate) fn group(bytes: &[u8], place: usize, y: u8) -> Result<(Group, usize), AtrFault>
     requires inside { place ≤ length bytes.now }
     requires within { place ≤ 33 }
@@ -67,7 +67,8 @@ pub(crate) fn group(bytes: &[u8], place: usize, y: u8) -> Result<(Group, usize),
     Ok((Group { ta, tb, tc }, place))
 }
 
-/// The groups that TDs name, the first where Y announces one at this place, and where they end.
+/// Reads all groups that TDs announce, and returns the place after them. The first TD is at `start`
+/// if Y announces one.
 pub(crate) fn typed_groups(
     bytes: &[u8],
     start: usize,
@@ -102,7 +103,7 @@ pub(crate) fn typed_groups(
     Ok((others, place))
 }
 
-/// Whether a TD may name this T behind one that named `last`.
+/// Whether a TD may name this T after a TD that named `last`.
 pub(crate) fn may_follow(last: Option<u8>, t: u8) -> bool
     ensures { result ≡ may_follow last t }
 {
@@ -112,7 +113,7 @@ pub(crate) fn may_follow(last: Option<u8>, t: u8) -> bool
     }
 }
 
-/// So many historical bytes, and where they end.
+/// Reads `count` historical bytes, and returns the place after them.
 pub(crate) fn historical(
     bytes: &[u8],
     start: usize,
@@ -134,7 +135,7 @@ pub(crate) fn historical(
     Ok((historical, place))
 }
 
-/// Whether a T other than 0 is named, so that a check byte is due.
+/// Whether some TD names a T other than 0, so that the answer ends in a check byte.
 pub(crate) fn names_other_than_0(others: &[TypedGroup]) -> bool
     ensures { result ≡ names_other_than_0 others.now }
 {
@@ -152,7 +153,7 @@ pub(crate) fn xor_of(bytes: &[u8]) -> u8
     sum
 }
 
-/// Looks that the answer ends at this place, with a check byte where one is due.
+/// Checks that the answer ends at this place, with a correct check byte if `is_due`.
 pub(crate) fn check_end(bytes: &[u8], place: usize, is_due: bool) -> Result<(), AtrFault>
     requires inside { place ≤ length bytes.now }
     requires behind { 1 ≤ place }

@@ -1,4 +1,4 @@
-//! The two conventions by which a character's bits stand on the line.
+//! The two conventions for the bits of a character on the line.
 
 ghost use Rattle.std.specs.Prelude.{◌≡◌};
 ghost use Rattle.atr_core.specs.Answer.{ts};
@@ -6,17 +6,17 @@ ghost use Rattle.atr_core.specs.Conventions.{convention_of, convention_shown, as
 
 use std::fmt;
 
-/// How the bits of a character stand on the line (ISO/IEC 7816-3, 8.1).
+/// How the bits of a character are sent (ISO/IEC 7816-3, 8.1).
 #[derive(Clone, Copy, Debug, PartialEq, Eq)]
 pub enum Convention {
-    /// A high state is 1, and the lowest bit comes first. TS is `3B`.
+    /// A high state is 1, and the lowest bit is sent first. TS is `3B`.
     Direct,
-    /// A low state is 1, and the highest bit comes first. TS is `3F`.
+    /// A low state is 1, and the highest bit is sent first. TS is `3F`.
     Inverse,
 }
 
 impl Convention {
-    /// The convention of an answer that begins with this TS; `None` where it is no TS.
+    /// Returns the convention of an answer with this TS. `None` if the byte is not a TS.
     pub fn of_ts(ts: u8) -> Option<Convention>
         ensures { result ≡ convention_of ts }
     {
@@ -27,8 +27,8 @@ impl Convention {
         }
     }
 
-    /// The convention of a card whose first character a receiver of the direct convention has read
-    /// as this byte: `3B`, or `03`, which is TS `3F` of the inverse one; `None` for any other.
+    /// Returns the convention of a card, by its first byte as a receiver in direct convention reads
+    /// it. `3B` is direct. `03` is inverse, since TS `3F` reads so. `None` for any other byte.
     pub fn of_line(first: u8) -> Option<Convention>
         ensures { result ≡ convention_shown first }
     {
@@ -39,7 +39,7 @@ impl Convention {
         }
     }
 
-    /// TS of an answer.
+    /// The TS of this convention.
     pub fn ts(self) -> u8
         ensures { result ≡ ts self }
     {
@@ -49,8 +49,8 @@ impl Convention {
         }
     }
 
-    /// A byte as it stands on the line of this convention, read as the direct one reads it; and the
-    /// byte that is meant by what was read so.
+    /// Converts between a byte and what a receiver in direct convention reads if it is sent in this
+    /// convention. The same function converts both ways.
     pub fn turn(self, byte: u8) -> u8
         ensures { result ≡ as_sent self byte }
     {

@@ -1,11 +1,11 @@
-//! The error detection code of blocks.
+//! The error detection code of T=1 blocks.
 
 use std::fmt;
 
-/// The error detection code that ends a block of T=1 (ISO/IEC 7816-3, clause 11).
+/// The error detection code at the end of a T=1 block (ISO/IEC 7816-3, clause 11).
 #[derive(Clone, Copy, Debug, PartialEq, Eq)]
 pub enum Edc {
-    /// One byte: the exclusive-or of all others of the block.
+    /// One byte: the exclusive-or of all other bytes of the block.
     Lrc,
     /// Two bytes: a cyclic redundancy check.
     Crc,

@@ -1,33 +1,34 @@
-//! What is wrong with bytes that are no answer to reset, and where.
+//! The errors of reading an answer to reset: a reason and its place.
 
 use std::fmt;
 
-/// Why bytes are no answer to reset (ISO/IEC 7816-3, 8.2).
+/// Why bytes are not an answer to reset (ISO/IEC 7816-3, 8.2).
 #[derive(Clone, Copy, Debug, PartialEq, Eq, Hash)]
 pub enum Reason {
     /// The first byte is neither `3B` nor `3F`.
     NoTs,
-    /// The bytes end before an announced character, and it can still follow: there are fewer than
-    /// 33 bytes. So a reader may read one more byte as long as the fault is this one.
+    /// The bytes end before an announced character, and there are fewer than 33. One more byte may
+    /// mend this, so a reader may continue to read as long as the error is this one.
     Cut,
-    /// More than 32 characters after TS are announced, or due with the check byte. The place is 33,
-    /// whether a byte stands there or not.
+    /// More than 32 characters after TS are announced, counting the check byte. The place is 33,
+    /// whether or not a byte is there.
     TooLong,
-    /// The T that this TD names is below the one before it, or is 15 in TD1.
+    /// The T of this TD is below the T before it, or is 15 in TD1.
     OutOfOrder,
-    /// Characters stand behind the end.
+    /// There are characters after the end of the answer.
     Surplus,
-    /// No check byte stands at the end, and one is due, as a T other than 0 is named. It can still
-    /// follow.
+    /// The check byte is missing at the end, and some T other than 0 is named. One more byte may
+    /// mend this.
     CheckMissing,
-    /// One byte stands behind the end, and no check byte is due, as no T other than 0 is named.
+    /// One byte follows the end, although no T other than 0 is named and so no check byte is
+    /// expected.
     CheckNotDue,
-    /// The check byte does not make the exclusive-or of all characters after TS `00`.
+    /// The exclusive-or of all characters after TS is not `00`.
     CheckWrong,
 }
 
-/// The first fault of bytes that are no answer to reset. `place` is the offset of the first byte
-/// that is at fault, TS being at 0, or how many bytes there are where one is wanting.
+/// The first fault of bytes that are not an answer to reset. `place` is the offset of the first
+/// wrong byte, with TS at 0. If a byte is missing, it is the number of bytes.
 #[derive(Clone, Copy, Debug, PartialEq, Eq, Hash)]
 pub struct AtrFault {
     pub place: usize,

@@ -1,29 +1,29 @@
-//! What the historical bytes of an answer say.
+//! The values in the historical bytes of an answer.
 
 ghost use Rattle.std.specs.Prelude.{◌≡◌, ◌/◌, ◌%◌, ◌==◌, ◌&&◌};
 ghost use Rattle.atr_core.specs.HistoricalBytes.{category_of, compact_status, status_from, status_of};
 
 use crate::answer::Atr;
 
-/// The form of the historical bytes, by the first of them (ISO/IEC 7816-4, 12.1.1).
+/// The format of the historical bytes, by the first of them (ISO/IEC 7816-4, 12.1.1).
 #[derive(Clone, Copy, Debug, PartialEq, Eq)]
 pub enum Category {
-    /// There are none.
+    /// There are no historical bytes.
     Absent,
-    /// `00`: objects in COMPACT-TLV, and behind them a status of three bytes.
+    /// `00`: objects in COMPACT-TLV, followed by a status of three bytes.
     StatusBehind,
-    /// `10`: the byte behind it refers to a record of EF.DIR.
+    /// `10`: the next byte refers to a record of EF.DIR.
     DirReference,
-    /// `80`: objects in COMPACT-TLV, of which the last may be a status.
+    /// `80`: objects in COMPACT-TLV; the last may be a status.
     Objects,
-    /// `81` to `8F`, which are reserved.
+    /// `81` to `8F`: reserved.
     Reserved,
-    /// Any other: the form is the maker's own.
+    /// Any other: the format is the maker's own.
     Proprietary,
 }
 
-/// The status of a card as its historical bytes have it (ISO/IEC 7816-4, 12.1.1): its life cycle,
-/// and SW1 and SW2, or one of the two.
+/// The card status in the historical bytes (ISO/IEC 7816-4, 12.1.1): the life cycle, or SW1 and
+/// SW2, or both.
 #[derive(Clone, Copy, Debug, PartialEq, Eq)]
 pub struct CardStatus {
     pub life_cycle: Option<u8>,
@@ -31,7 +31,7 @@ pub struct CardStatus {
 }
 
 impl Atr {
-    /// The form of the historical bytes.
+    /// Returns the format of the historical bytes.
     pub fn category(&self) -> Category
         ensures { result ≡ category_of self.now.historical }
     {
@@ -45,7 +45,8 @@ impl Atr {
         }
     }
 
-    /// The status in the historical bytes, where their category is `00` or `80` and it is there.
+    /// Returns the card status in the historical bytes. `None` if their category is neither `00`
+    /// nor `80`, or they contain no status.
     pub fn card_status(&self) -> Option<CardStatus>
         ensures { result ≡ status_of self.now.historical }
     {
@@ -53,7 +54,7 @@ impl Atr {
     }
 }
 
-/// The status in historical bytes.
+/// The card status in historical bytes.
 fn status_of(historical: &[u8]) -> Option<CardStatus>
     ensures { result ≡ status_of historical.now }
 {
@@ -69,7 +70,7 @@ fn status_of(historical: &[u8]) -> Option<CardStatus>
     status_from(&bytes[bytes.len() - 3..])
 }
 
-/// The status that is the last of objects in COMPACT-TLV.
+/// The card status, if the last object in COMPACT-TLV is one.
 fn compact_status(bytes: &[u8]) -> Option<CardStatus>
     ensures { result ≡ compact_status 0 bytes.now }
 {
@@ -88,14 +89,15 @@ fn compact_status(bytes: &[u8]) -> Option<CardStatus>
     None
 }
 
-/// Whether an object in COMPACT-TLV with so many bytes behind its head is the last, and a status.
+/// Whether an object in COMPACT-TLV is the last and a status, by its first byte and the number of
+/// bytes that follow it.
 fn is_status(head: u8, behind: usize) -> bool
     ensures { result ≡ (head / 16 == 8 && behind == head % 16) }
 {
     head / 16 == 8 && behind == usize::from(head % 16)
 }
 
-/// A status of one to three bytes.
+/// A card status of one to three bytes.
 fn status_from(bytes: &[u8]) -> Option<CardStatus>
     ensures { result ≡ status_from bytes.now }
 {

@@ -1,4 +1,4 @@
-//! What the interface bytes of an answer say.
+//! The values in the interface bytes of an answer.
 
 ghost use Rattle.std.specs.Prelude.{◌≡◌, ◌≤◌, length};
 ghost use Rattle.atr_core.specs.Values.{second, ta_of_15, names_15, offered, protocols_of, rate_code, fi_of, di_of, extra_guard_time, guard_time, waiting_integer, waiting_time, mode_of, supply_code, clock_stop_of, classes_of};
@@ -12,64 +12,72 @@ use crate::supply::{Classes, ClockStop};
 use crate::timing::GuardTime;
 use arrayvec::ArrayVec;
 
-/// The standard's TA1, where it is not there: Fi 372 and Di 1.
+/// TA1 if it is absent: Fi 372 and Di 1.
 const DEFAULT_RATE: u8 = 0x11;
 
-/// The standard's WI, where there is no TC2.
+/// WI if TC2 is absent.
 const DEFAULT_WI: u8 = 10;
 
-/// Class A alone, and no clock stop, where nothing is said.
+/// Class A alone and no clock stop, if no TA is for T=15.
 const DEFAULT_SUPPLY: u8 = 0x01;
 
-/// The N that stands for the least guard time of the protocol.
+/// The N that means the least guard time of the protocol.
 const LEAST_GUARD_TIME: u8 = 255;
 
 impl Atr {
-    /// The protocols in the order offered, each once: T=0 alone where there is no TD1. T=15 is
-    /// none.
+    /// Returns the protocols that the card offers, in its order, each once. T=0 alone if TD1 is
+    /// absent. T=15 is not a protocol.
     pub fn protocols(&self) -> ArrayVec<u8, MOST_GROUPS>
         ensures { result.items ≡ protocols_of self.now.others }
     {
         protocols_of(self.others())
     }
 
-    /// Whether T=15 is named, which says that what follows it holds for all protocols.
+    /// Whether a TD names T=15. The bytes after that TD hold for all protocols.
     pub fn names_15(&self) -> bool
         ensures { result ≡ names_15 self.now.others }
     {
         names_15(self.others())
     }
 
-    /// TA1, or `11` where it is not there.
+    /// Returns TA1, the code of Fi and Di, or `11` if it is absent.
     pub fn rate_code(&self) -> u8
         ensures { result ≡ rate_code self.now }
     {
         self.first().ta.unwrap_or(DEFAULT_RATE)
     }
 
-    /// Fi and the highest clock frequency, by TA1; 372 and 5 MHz where it is not there.
+    /// Returns Fi and the highest clock frequency, by TA1; 372 and 5 MHz if it is absent.
+    ///
+    /// # Errors
+    ///
+    /// - `Rfu`: bits 8 to 5 of TA1 are a reserved code.
     pub fn fi(&self) -> Result<Fi, Rfu>
         ensures { result ≡ fi_of (rate_code self.now) }
     {
         Fi::of(self.rate_code())
     }
 
-    /// Di by TA1; 1 where it is not there.
+    /// Returns Di, by TA1; 1 if it is absent.
+    ///
+    /// # Errors
+    ///
+    /// - `Rfu`: bits 4 to 1 of TA1 are a reserved code.
     pub fn di(&self) -> Result<u8, Rfu>
         ensures { result ≡ di_of (rate_code self.now) }
     {
         di(self.rate_code())
     }
 
-    /// N, which is TC1, or 0: the extra guard time (ISO/IEC 7816-3, 8.3).
+    /// Returns N, the extra guard time: TC1, or 0 if it is absent (ISO/IEC 7816-3, 8.3).
     pub fn extra_guard_time(&self) -> u8
         ensures { result ≡ extra_guard_time self.now }
     {
         self.first().tc.unwrap_or(0)
     }
 
-    /// The guard time of this protocol. N = 255 is the least that it has, which is 11 etu in T=1
-    /// and 12 in any other.
+    /// Returns the guard time of T=`protocol`: 12 etu and N. N counts etu, or Fi/Di clock cycles if
+    /// a TD names T=15. N = 255 means the least of the protocol: 11 etu for T=1, 12 for any other.
     pub fn guard_time(&self, protocol: u8) -> GuardTime
         ensures { result ≡ guard_time self.now protocol }
     {
@@ -91,7 +99,11 @@ impl Atr {
         }
     }
 
-    /// WI, which is TC2, or 10 where that is not there; 0 is reserved (ISO/IEC 7816-3, 10.2).
+    /// Returns WI, 1 to 255: TC2, or 10 if it is absent (ISO/IEC 7816-3, 10.2).
+    ///
+    /// # Errors
+    ///
+    /// - `Rfu`: TC2 is 0.
     pub fn waiting_integer(&self) -> Result<u8, Rfu>
         ensures { result ≡ waiting_integer self.now }
     {
@@ -101,7 +113,11 @@ impl Atr {
         }
     }
 
-    /// The waiting time of T=0 in clock cycles, WI times 960 times Fi.
+    /// Returns the waiting time of T=0 in clock cycles: WI times 960 times Fi.
+    ///
+    /// # Errors
+    ///
+    /// - `Rfu`: TC2 is 0, or Fi is a reserved code.
     pub fn waiting_time(&self) -> Result<u32, Rfu>
         ensures { result ≡ waiting_time self.now }
     {
@@ -110,21 +126,25 @@ impl Atr {
         Ok(u32::from(wi) * 960 * u32::from(fi.value))
     }
 
-    /// The mode that TA2 says.
+    /// Returns the mode, by TA2.
     pub fn mode(&self) -> Mode
         ensures { result ≡ mode_of (second self.now.others).ta }
     {
         Mode::of(second(self.others()).ta)
     }
 
-    /// Whether the clock may stop; not, where nothing is said behind T=15.
+    /// Returns whether the clock may stop. It may not if no TA is for T=15.
     pub fn clock_stop(&self) -> ClockStop
         ensures { result ≡ clock_stop_of (supply_code self.now) }
     {
         ClockStop::of(self.supply_code())
     }
 
-    /// Which classes of voltage the card takes; A alone, where nothing is said behind T=15.
+    /// Returns the voltage classes of the card. Class A alone if no TA is for T=15.
+    ///
+    /// # Errors
+    ///
+    /// - `Rfu`: bits 6 to 1 of the first TA for T=15 are a reserved code.
     pub fn classes(&self) -> Result<Classes, Rfu>
         ensures { result ≡ classes_of (supply_code self.now) }
     {
@@ -158,7 +178,7 @@ fn protocols_of(others: &[TypedGroup]) -> ArrayVec<u8, MOST_GROUPS>
     protocols
 }
 
-/// Whether T=15 is named.
+/// Whether a TD names T=15.
 fn names_15(others: &[TypedGroup]) -> bool
     ensures { result ≡ names_15 others.now }
 {
@@ -179,7 +199,7 @@ fn second(others: &[TypedGroup]) -> Group
     }
 }
 
-/// The first TA behind T=15.
+/// The first TA for T=15.
 fn ta_of_15(others: &[TypedGroup]) -> Option<u8>
     ensures { result ≡ ta_of_15 others.now }
 {

@@ -1,4 +1,22 @@
-//! Answers to reset and PPS of smart cards by ISO/IEC 7816-3, clauses 8 and 9.
+//! Answers to reset and PPS exchanges of smart cards (ISO/IEC 7816-3, clauses 8 and 9).
+//!
+//! [`Atr::read`] parses the bytes that a card sends after a reset. The methods of [`Atr`] return
+//! each value with its default: protocols, [`Fi`], Di, [`GuardTime`], [`Mode`], and those of T=1.
+//! [`Atr::new`] makes an answer for a card of a [`Convention`], [`Group`]s and historical bytes.
+//! [`Pps`] is a request or response, and [`agreed`] compares two. [`AtrFault`], [`BuildFault`],
+//! [`PpsFault`] and [`Rfu`] are the errors. This prints the protocols that a card offers:
+//!
+//! ```rust
+//! // crates/atr_read/src/say.rt
+//! write!(output, "  protocols    ")?;
+//! for t in &answer.protocols() {
+//!     write!(output, " T={t}")?;
+//! }
+//! writeln!(output)?;
+//! ```
+//!
+//! Proved: exactly the answers of the standard's form are read, each error is the first fault, and
+//! each value equals its definition in `specs/`. The README lists the contracts. Nothing allocates.
 #![tactic(auto)]
 
 mod answer;

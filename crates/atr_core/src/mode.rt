@@ -3,13 +3,13 @@
 ghost use Rattle.std.specs.Prelude.{◌≡◌};
 ghost use Rattle.atr_core.specs.Values.{mode_of};
 
-/// In which mode a card is after its answer (ISO/IEC 7816-3, 6.3.1 and 8.3, TA2).
+/// The mode of a card after its answer (ISO/IEC 7816-3, 6.3.1 and 8.3, TA2).
 #[derive(Clone, Copy, Debug, PartialEq, Eq)]
 pub enum Mode {
-    /// The terminal may ask for other values by PPS.
+    /// The terminal may propose other values by PPS.
     Negotiable,
-    /// The card goes on at once with protocol `t`; whether it can change to negotiable mode, and
-    /// whether Fi and Di are implicit, and not those of TA1.
+    /// The card uses protocol `t` at once. `can_change`: it can change to negotiable mode.
+    /// `is_implicit`: Fi and Di are implicit, not those of TA1.
     Specific {
         t: u8,
         can_change: bool,
@@ -18,7 +18,7 @@ pub enum Mode {
 }
 
 impl Mode {
-    /// What TA2 says.
+    /// The mode that TA2 states.
     pub(crate) fn of(ta2: Option<u8>) -> Mode
         ensures { result ≡ mode_of ta2 }
     {

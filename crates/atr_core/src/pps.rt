@@ -1,4 +1,4 @@
-//! PPS: how a terminal asks for other values, and what a card may answer.
+//! PPS: how a terminal proposes other values, and what a card may respond.
 
 ghost use Rattle.std.specs.Prelude.{◌≡◌, ◌↔◌, ◌<◌, ◌≤◌, ◌+◌, ◌++◌, [], ◌==◌, length, slice_index, Some, None, Ok, Err, IfOk, if◌then◌else◌};
 ghost use Rattle.atr_core.specs.Answer.{before, bit};
@@ -10,14 +10,14 @@ use crate::characters::xor_of;
 use arrayvec::ArrayVec;
 use std::fmt;
 
-/// How many characters a PPS request or response has at most.
+/// The most characters of a PPS request or response.
 const LONGEST: usize = 6;
 
-/// What PPS1 says where it is not there: Fi 372 and Di 1.
+/// PPS1 if it is absent: Fi 372 and Di 1.
 const DEFAULT_RATE: u8 = 0x11;
 
-/// A PPS request or response (ISO/IEC 7816-3, 9.2): the T of PPS0, 0 to 15, and PPS1 to PPS3, those
-/// that are there.
+/// A PPS request or response (ISO/IEC 7816-3, 9.2): the T of PPS0, 0 to 15, and PPS1 to PPS3, each
+/// `None` if absent.
 #[derive(Clone, Copy, Debug, PartialEq, Eq)]
 pub struct Pps {
     pub t: u8,
@@ -26,18 +26,19 @@ pub struct Pps {
     pub pps3: Option<u8>,
 }
 
-/// Why bytes are no PPS request or response. They are judged from the left, and PCK last.
+/// Why bytes are not a PPS request or response. The error is the leftmost; a wrong PCK counts last
+/// (profile).
 #[derive(Clone, Copy, Debug, PartialEq, Eq)]
 pub enum PpsFault {
     /// The first byte is not `FF`.
     NoPpss,
-    /// The bytes end before a character that is due.
+    /// The bytes end before an announced character.
     Cut,
-    /// Bit 8 of PPS0 is 1, which is reserved.
+    /// Bit 8 of PPS0, which is reserved, is set.
     Reserved,
-    /// Characters stand behind PCK.
+    /// Characters follow PCK.
     Surplus,
-    /// PCK does not make the exclusive-or of all characters `00`.
+    /// The exclusive-or of all characters is not `00`.
     CheckWrong,
 }
 
@@ -61,7 +62,17 @@ impl fmt::Display for PpsFault {
 impl std::error::Error for PpsFault {}
 
 impl Pps {
-    /// The request or response that these bytes are, all of them.
+    /// Parses a request or response that takes up all of `bytes`.
+    ///
+    /// # Errors
+    ///
+    /// The leftmost that holds, and `CheckWrong` only if nothing else is wrong (profile):
+    ///
+    /// - `NoPpss`: the first byte is not `FF`.
+    /// - `Cut`: the bytes are empty, or end before an announced character.
+    /// - `Reserved`: bit 8 of PPS0 is set.
+    /// - `Surplus`: characters follow PCK.
+    /// - `CheckWrong`: the exclusive-or of all characters is not `00`.
     pub fn read(bytes: &[u8]) -> Result<Pps, PpsFault>
         ensures pps { IfOk result (λ p. (p.t < 16) × (bytes.now ≡ pps_characters p)) }
         ensures each { (p : spec.Pps) → p.t < 16 → bytes.now ≡ pps_characters p → result ≡ Ok p }
@@ -74,16 +85,16 @@ impl Pps {
         }
     }
 
-    /// How many characters a request or response with this PPS0 has, PPSS and PCK among them: 3 to
-    /// 6. Bit 8, which is reserved, is not looked at: who hears a request character by character
-    /// has to know where it ends, also if it is none.
+    /// The number of characters of a request or response with this PPS0, PPSS and PCK included: 3
+    /// to 6. Bit 8, which is reserved, is ignored: a card that receives a request character by
+    /// character must know where it ends, even if it is invalid.
     pub fn size(pps0: u8) -> usize
         ensures { result ≡ pps_end pps0 + 1 }
     {
         pps_end(pps0) + 1
     }
 
-    /// The bytes of the request or response.
+    /// Returns the characters of the request or response, 3 to 6 bytes. `t` is at most 15.
     pub fn write(&self) -> ArrayVec<u8, LONGEST>
         requires { self.now.t < 16 }
         ensures { result.items ≡ pps_characters self.now }
@@ -99,7 +110,7 @@ impl Pps {
         out
     }
 
-    /// The code of Fi and Di that PPS1 says, as TA1 does; `11` where it is not there.
+    /// The code of Fi and Di, in the format of TA1: PPS1, or `11` if it is absent.
     pub fn rate_code(&self) -> u8
         ensures { result ≡ pps_rate_code self.now }
     {
@@ -107,8 +118,8 @@ impl Pps {
     }
 }
 
-/// Whether the response accepts the request (ISO/IEC 7816-3, 9.3): it names the same T, and each of
-/// PPS1 to PPS3 is as it was asked for or is not there, which accepts all but that one.
+/// Whether the response accepts the request (ISO/IEC 7816-3, 9.3): it names the same T, and repeats
+/// or omits each of PPS1 to PPS3. An omitted one is not agreed.
 pub fn agreed(request: &Pps, response: &Pps) -> bool
     ensures { result ≡ agreed request.now response.now }
 {
@@ -118,7 +129,7 @@ pub fn agreed(request: &Pps, response: &Pps) -> bool
         && answers(request.pps3, response.pps3)
 }
 
-/// Whether a character of a response is as asked for, or is not there.
+/// Whether a character of a response repeats the one of the request, or is absent.
 fn answers(asked: Option<u8>, answered: Option<u8>) -> bool
     ensures { result ≡ answers asked answered }
 {
@@ -129,14 +140,14 @@ fn answers(asked: Option<u8>, answered: Option<u8>) -> bool
     }
 }
 
-/// 1 where the character is there.
+/// 1 if the character is present, else 0.
 fn bit(byte: Option<u8>) -> u8
     ensures { result ≡ bit byte }
 {
     u8::from(byte.is_some())
 }
 
-/// Appends a character that may be there.
+/// Appends the character if it is present.
 fn push_maybe(out: &mut ArrayVec<u8, LONGEST>, byte: Option<u8>)
     requires { length out.old.items + bit byte ≤ 6 }
     ensures { out.new.items ≡ out.old.items ++ before byte [] }
@@ -146,7 +157,7 @@ fn push_maybe(out: &mut ArrayVec<u8, LONGEST>, byte: Option<u8>)
     }
 }
 
-/// What is wrong with the bytes, if anything is.
+/// The fault of the bytes, if any.
 fn pps_fault(bytes: &[u8]) -> Option<PpsFault>
     ensures { result ≡ pps_fault bytes.now }
 {
@@ -175,14 +186,14 @@ fn pps_fault(bytes: &[u8]) -> Option<PpsFault>
     }
 }
 
-/// The place of PCK, by PPS0.
+/// The index of PCK, by PPS0.
 fn pps_end(pps0: u8) -> usize
     ensures { result ≡ pps_end pps0 }
 {
     2 + usize::from(pps0 / 16 % 2) + usize::from(pps0 / 32 % 2) + usize::from(pps0 / 64 % 2)
 }
 
-/// What the bytes say, where nothing is wrong with them.
+/// The values in bytes that have no fault.
 fn parts(bytes: &[u8]) -> Pps
     requires { pps_fault bytes.now ≡ None }
     ensures t { result.t < 16 }
@@ -202,7 +213,7 @@ fn parts(bytes: &[u8]) -> Pps
     }
 }
 
-/// The character at this place, where the bit is 1.
+/// The character at this index if `bit` is 1.
 fn taken(bytes: &[u8], place: usize, bit: u8) -> Option<u8>
     requires { place < length bytes.now }
     ensures { result ≡ (if bit == 1 then Some (slice_index bytes.now place) else None) }

@@ -1,11 +1,11 @@
-//! Fi and Di: how many clock cycles a bit takes.
+//! Fi and Di, which state the number of clock cycles per bit.
 
 ghost use Rattle.std.specs.Prelude.{◌≡◌, ◌≤◌, IfOk};
 ghost use Rattle.atr_core.specs.Values.{fi_of, di_of};
 
 use std::fmt;
 
-/// A code that the standard reserves for future use.
+/// The code is reserved for future use by the standard.
 #[derive(Clone, Copy, Debug, PartialEq, Eq)]
 pub struct Rfu;
 
@@ -21,7 +21,7 @@ impl fmt::Display for Rfu {
 
 impl std::error::Error for Rfu {}
 
-/// The clock rate conversion integer, and the highest clock frequency that goes with it, in kHz.
+/// Fi, the clock rate conversion integer, and the highest clock frequency for it, in kHz.
 #[derive(Clone, Copy, Debug, PartialEq, Eq)]
 pub struct Fi {
     pub value: u16,
@@ -29,7 +29,11 @@ pub struct Fi {
 }
 
 impl Fi {
-    /// What bits 8 to 5 of TA1 or PPS1 say (ISO/IEC 7816-3, 8.3).
+    /// Decodes bits 8 to 5 of TA1 or PPS1 (ISO/IEC 7816-3, 8.3).
+    ///
+    /// # Errors
+    ///
+    /// - `Rfu`: the code is reserved.
     pub fn of(code: u8) -> Result<Fi, Rfu>
         ensures value { result ≡ fi_of code }
         ensures bound { IfOk result (λ fi. fi.value ≤ 2048) }
@@ -64,7 +68,12 @@ impl fmt::Display for Fi {
     }
 }
 
-/// The baud rate adjustment integer: what bits 4 to 1 of TA1 or PPS1 say (ISO/IEC 7816-3, 8.3).
+/// Decodes Di, the baud rate adjustment integer, from bits 4 to 1 of TA1 or PPS1 (ISO/IEC 7816-3,
+/// 8.3).
+///
+/// # Errors
+///
+/// - `Rfu`: the code is reserved.
 pub fn di(code: u8) -> Result<u8, Rfu>
     ensures { result ≡ di_of code }
 {

@@ -1,4 +1,4 @@
-//! Clock stop and classes of voltage, which stand behind T=15.
+//! Clock stop and voltage classes, from the first TA for T=15.
 
 ghost use Rattle.std.specs.Prelude.{◌≡◌};
 ghost use Rattle.atr_core.specs.Values.{clock_stop_of, classes_of};
@@ -15,7 +15,7 @@ pub enum ClockStop {
 }
 
 impl ClockStop {
-    /// What bits 8 and 7 of the first TA behind T=15 say.
+    /// Decodes bits 8 and 7 of the first TA for T=15.
     pub(crate) fn of(code: u8) -> ClockStop
         ensures { result ≡ clock_stop_of code }
     {
@@ -28,7 +28,7 @@ impl ClockStop {
     }
 }
 
-/// Which classes of voltage a card takes: A is 5 V, B 3 V, C 1.8 V (ISO/IEC 7816-3, 8.3).
+/// The voltage classes of a card: A is 5 V, B is 3 V, C is 1.8 V (ISO/IEC 7816-3, 8.3).
 #[derive(Clone, Copy, Debug, PartialEq, Eq)]
 pub struct Classes {
     pub a: bool,
@@ -37,7 +37,7 @@ pub struct Classes {
 }
 
 impl Classes {
-    /// What bits 6 to 1 of the first TA behind T=15 say.
+    /// Decodes bits 6 to 1 of the first TA for T=15.
     pub(crate) fn of(code: u8) -> Result<Classes, Rfu>
         ensures { result ≡ classes_of code }
     {

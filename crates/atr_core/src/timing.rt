@@ -2,18 +2,18 @@
 
 use std::fmt;
 
-/// The least time between the beginnings of two characters to the card (ISO/IEC 7816-3, 8.3): `etu`
-/// elementary time units as they are in use, and `indicated` times Fi/Di clock cycles, by Fi and Di
-/// of TA1.
+/// The guard time: the least time between the starts of two characters to the card (ISO/IEC 7816-3,
+/// 8.3). It is `etu` elementary time units at the current rate, plus `indicated` times Fi/Di clock
+/// cycles, with the Fi and Di of TA1.
 #[derive(Clone, Copy, Debug, PartialEq, Eq)]
 pub struct GuardTime {
     pub etu: u16,
     pub indicated: u16,
 }
 
-/// The most from the last character of a block to the card to the first of its answer, BWT
-/// (ISO/IEC 7816-3, clause 11): `etu` elementary time units as they are in use, and so many clock
-/// cycles. Neither is rounded.
+/// BWT: the longest time from the last character of a block to the card to the first character of
+/// its answer (ISO/IEC 7816-3, clause 11). It is `etu` elementary time units at the current rate,
+/// plus `cycles` clock cycles. Neither is rounded.
 #[derive(Clone, Copy, Debug, PartialEq, Eq)]
 pub struct BlockWaitingTime {
     pub etu: u16,

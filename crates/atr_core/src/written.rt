@@ -1,4 +1,4 @@
-//! The characters of an answer, written.
+//! Writes the characters of an answer.
 
 ghost use Rattle.std.specs.Prelude.{◌≡◌, ◌↔◌, ◌≤◌, ◌<◌, ◌+◌, ◌*◌, ◌∷◌, [], ◌++◌, length, None, IsTrue};
 ghost use Rattle.atr_core.specs.Answer.{AreInOrder, IsAnswer, before, bit, characters, group_before};
@@ -9,7 +9,7 @@ use crate::convention::Convention;
 use crate::group::{Group, TypedGroup};
 use arrayvec::ArrayVec;
 
-/// All characters of the answer with these parts.
+/// Returns all characters of the answer with these parts.
 pub(crate) fn written(
     convention: Convention,
     first: Group,
@@ -49,7 +49,8 @@ pub(crate) fn written(
     out
 }
 
-/// Appends an indicator and the group that it announces; `td` is 8 where it announces a TD.
+/// Appends an indicator (T0 or a TD) and its group. `td` is 8 if the indicator announces a TD, else
+/// 0.
 fn push_indicator(out: &mut ArrayVec<u8, LONGEST>, low: u8, group: Group, td: u8)
     requires low { low < 16 }
     requires td { td ≤ 8 }
@@ -65,7 +66,7 @@ fn push_indicator(out: &mut ArrayVec<u8, LONGEST>, low: u8, group: Group, td: u8
     push_maybe(out, group.tc);
 }
 
-/// Appends a character that may be there.
+/// Appends the character if it is present.
 fn push_maybe(out: &mut ArrayVec<u8, LONGEST>, byte: Option<u8>)
     requires { length out.old.items + bit byte ≤ 33 }
     ensures { out.new.items ≡ out.old.items ++ before byte [] }
@@ -75,7 +76,7 @@ fn push_maybe(out: &mut ArrayVec<u8, LONGEST>, byte: Option<u8>)
     }
 }
 
-/// How many characters the answer with these parts has; `others` are at most 31.
+/// The number of characters of the answer with these parts. `others` has at most 31 items.
 pub(crate) fn size(first: Group, others: &[TypedGroup], historical: &[u8]) -> usize
     requires few { length others.now ≤ 31 }
     requires few_historical { length historical.now ≤ 15 }
@@ -88,7 +89,7 @@ pub(crate) fn size(first: Group, others: &[TypedGroup], historical: &[u8]) -> us
     size + usize::from(names_other_than_0(others))
 }
 
-/// How many of TA, TB and TC are there.
+/// The number of characters that are present in the group.
 fn group_size(group: Group) -> usize
     ensures { result ≡ group_size group }
 {
@@ -98,7 +99,7 @@ fn group_size(group: Group) -> usize
     ta + tb + tc
 }
 
-/// Whether each T may stand where it does.
+/// Whether each T is at most 15 and may follow the one before it.
 pub(crate) fn are_in_order(others: &[TypedGroup]) -> bool
     ensures { IsTrue result ↔ AreInOrder None others.now }
 {

@@ -1,4 +1,5 @@
-//! Says what answers to reset say: each line of standard input is one, in hexadecimal digits.
+//! The program `atr_read`: prints what answers to reset mean. Each line of standard input is an
+//! answer in hexadecimal digits.
 #![tactic(auto)]
 
 mod say;
@@ -35,7 +36,7 @@ fn main(rt: HostRuntime) -> ExitCode {
     ExitCode::from(status)
 }
 
-/// Parses the words, which ask for nothing but help.
+/// Parses the command line, which accepts only options for help and version.
 fn parsed(rt: &HostRuntime) -> Result<(), Error> {
     let alloc = rt.alloc();
     let words: Vec<String> = match env::args(rt) {
@@ -50,7 +51,7 @@ fn parsed(rt: &HostRuntime) -> Result<(), Error> {
     Ok(())
 }
 
-/// The status for what the parser answered in place of matches.
+/// The exit status after help, version or a wrong option, which it prints.
 fn answered(rt: &HostRuntime, error: &Error) -> u8 {
     match error.kind() {
         ErrorKind::DisplayHelp | ErrorKind::DisplayVersion => {
@@ -63,7 +64,7 @@ fn answered(rt: &HostRuntime, error: &Error) -> u8 {
     }
 }
 
-/// Says each line of the input, and whether all of them are answers.
+/// Prints the meaning of each line of the input. Returns whether all lines are answers to reset.
 fn all_said(rt: &HostRuntime) -> io::Result<bool> {
     let mut output = io::writer(rt);
     let mut well = true;

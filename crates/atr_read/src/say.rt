@@ -1,11 +1,11 @@
-//! What is said of one answer.
+//! Prints what one answer to reset means.
 
 use atr_core::{Atr, Classes, ClockStop, Group, Mode, block_guard_time};
 use std::alloc::Global;
 use std::io;
 use std::io::Write;
 
-/// Says what the answer in this text says, and whether it is one.
+/// Prints what the answer in this text means. Returns whether the text is an answer to reset.
 pub fn say<W: Write>(alloc: Global, text: &str, output: &mut W) -> io::Result<bool> {
     let mut digits = String::new(alloc);
     for word in text.split_ascii_whitespace() {
@@ -29,7 +29,7 @@ pub fn say<W: Write>(alloc: Global, text: &str, output: &mut W) -> io::Result<bo
     }
 }
 
-/// The convention, the characters by their names, and the historical bytes.
+/// Prints the convention, each interface byte by its name, and the historical bytes.
 fn say_groups<W: Write>(answer: &Atr, output: &mut W) -> io::Result<()> {
     writeln!(output, "  convention    {}", answer.convention())?;
     say_group(1, answer.first(), output)?;
@@ -49,7 +49,7 @@ fn say_groups<W: Write>(answer: &Atr, output: &mut W) -> io::Result<()> {
     writeln!(output)
 }
 
-/// TA, TB and TC with this number, those that are there.
+/// Prints the TA, TB and TC with this number that are present.
 fn say_group<W: Write>(number: u32, group: Group, output: &mut W) -> io::Result<()> {
     for (name, byte) in [("TA", group.ta), ("TB", group.tb), ("TC", group.tc)] {
         if let Some(byte) = byte {
@@ -59,7 +59,7 @@ fn say_group<W: Write>(number: u32, group: Group, output: &mut W) -> io::Result<
     Ok(())
 }
 
-/// What the interface bytes say.
+/// Prints the values of the interface bytes.
 fn say_values<W: Write>(answer: &Atr, output: &mut W) -> io::Result<()> {
     write!(output, "  protocols    ")?;
     for t in &answer.protocols() {
@@ -89,7 +89,7 @@ fn say_values<W: Write>(answer: &Atr, output: &mut W) -> io::Result<()> {
     say_supply(answer, output)
 }
 
-/// What the interface bytes say of T=1.
+/// Prints the values for T=1.
 fn say_blocks<W: Write>(answer: &Atr, output: &mut W) -> io::Result<()> {
     match answer.ifsc() {
         Ok(size) => writeln!(output, "  IFSC          {size}")?,

@@ -1,4 +1,4 @@
--- All that was read, put together.
+-- All parts of the answer, combined.
 use Rattle.std.proofs.Common.{◌≡◌, ℕ, List, drop, ◌∙◌, ap, sym, arith}
 use Rattle.atr_core.specs.Answer.{Answer, names_other_than_0}
 use Rattle.atr_core.specs.FirstFault.{end_fault}

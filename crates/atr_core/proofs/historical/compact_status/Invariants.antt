@@ -2,7 +2,7 @@ use Rattle.std.proofs.Common.{◌≡◌, ◌≤◌, ◌-◌, drop, length}
 use Rattle.atr_core.specs.HistoricalBytes.{compact_status}
 use Rattle.atr_core.proofs.historical.compact_status.Given as goal
 
--- no object before this place is the last one
+-- the last object is at this place or after it
 abbrev pub invariant-objects : goal.invariant-objects
 invariant-objects l = (compact_status 0 (drop l.place l.bytes) ≡ compact_status 0 l.bytes)
     × (l.place ≤ length l.bytes)

@@ -8,7 +8,7 @@ without_td : (ns : List TypedGroup) → length ns ≡ 0 → protocols_of ns ≡ 
 without_td [] h = refl
 without_td (n ∷ ns) h = absurd (omega arith)
 
--- where there is a TD, all are offered by TDs
+-- if there is a TD, TDs offer all protocols
 by_tds : (ns : List TypedGroup) → length ns ≢ 0 → protocols_of ns ≡ offered None ns
 by_tds [] h = absurd (h refl)
 by_tds (n ∷ ns) h = refl

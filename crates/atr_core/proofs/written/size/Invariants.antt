@@ -2,7 +2,7 @@ use Rattle.std.proofs.Common.{◌≡◌, ◌≤◌, ◌+◌, ◌*◌, drop, leng
 use Rattle.atr_core.specs.Written.{group_size, groups_size}
 use Rattle.atr_core.proofs.written.size.Given as goal
 
--- the size so far with those that are left
+-- the size so far, plus that of the groups that are left
 abbrev pub invariant-loop-named : goal.invariant-loop-named
 invariant-loop-named l =
     (l.size + groups_size (drop l.named-index l.others)

@@ -1,4 +1,4 @@
--- There is room for each character, as an answer has 33 at most.
+-- There is room for each character, since an answer has at most 33.
 use Rattle.std.proofs.Common.{◌≡◌, ◌++◌, List, [], drop, true, rules, arith, subst}
 use Rattle.std.proofs.lemmas.List.{drop_all}
 use Rattle.atr_core.specs.Answer.{Answer, names_other_than_0}

@@ -8,7 +8,7 @@ abbrev pub invariant-groups : goal.invariant-groups
 invariant-groups l = AreWritten (parts l.fn.convention l.fn.first l.others l.historical)
     l.out.items l.low l.group (drop l.named-index l.others)
 
--- what is written with the historical bytes that are left
+-- the characters so far, followed by the historical bytes that are left
 abbrev pub invariant-historical : goal.invariant-historical
 invariant-historical l =
     let a : Answer = parts l.fn.convention l.fn.first l.others l.historical in

@@ -1,4 +1,4 @@
--- The parts fit, or which of the reasons holds.
+-- The parts fit, or one of the reasons holds.
 use Rattle.std.proofs.Common.{◌≡◌, ◌<◌, length, None, rules, ap, ◌∙◌, subst}
 use Rattle.atr_core.specs.Answer.{Answer, AreInOrder, IsAnswer}
 use Rattle.atr_core.proofs.Writing.{parts, made, too_long, too_many}

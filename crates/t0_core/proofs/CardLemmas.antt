@@ -1,4 +1,4 @@
--- The card's end goes through dialogues, step by step of a plan.
+-- The card's end passes through dialogues, step by step of a plan.
 use Rattle.std.proofs.Common.{◌≡◌, ℕ, ◌+◌, ◌-◌, ◌<◌, ◌≤◌, List, [], ◌∷◌, ◌++◌, length, take, drop, refl, sym, subst, ◌∙◌, ap, arith, inl, inr, lit<, true, false, Bool, ◌&&◌, nat_lt, Some, eq-eqb, length-append}
 use Rattle.std.specs.List.{slice_get}
 use Rattle.std.proofs.lemmas.Bool.{ltb-false, lt-ltb}
@@ -32,7 +32,7 @@ dialogue b status = record { body = b; status = status }
 true_is_not_false : (b : Bool) → b ≡ true → b ≡ false → ⊥
 true_is_not_false b is_true is_false = absurd (cc)
 
--- no data of the terminal are due, and some are to move: they are the card's
+-- data are to move, but not the terminal's: they are the card's
 not_the_terminals : (a b : Bool) → (a && b) ≡ false → b ≡ true → a ≡ false
 not_the_terminals true true none due = absurd (cc)
 not_the_terminals true false none due = absurd (cc)
@@ -107,7 +107,7 @@ sends_data Does old prepared cut plan s next came after byte b next_is lt due is
       λ on. on,
     ))
 
--- the service is the same but for the counts
+-- the service is the same except for the counts
 serves_same : {State : Type 0} (prepared : Prepared State) (d : Direction) (s next : Service)
     (came after : List ℕ) (cut : ℕ) (moved : List ℕ) → next.header ≡ s.header → next.p3 ≡ s.p3
     → next.moved ≡ s.moved → after ≡ came
@@ -188,7 +188,7 @@ begins_segment {State = State} Does old prepared cut plan s next came after step
           s.done next.done on is.segments),
     )
 
--- SW1 begins the status, when all data have moved
+-- SW1 starts the status, after all data have moved
 begins_status : {State : Type 0} (Does : State → ℕ → Tpdu → State → Type 0) (old : State)
     (prepared : Prepared State) (cut : ℕ) (plan : Course) (before : Stage) (b : Body)
     (status : StatusWord)
@@ -229,7 +229,7 @@ tpdu_from_card : (b : Body) (status : StatusWord) → b.direction ≡ FromCard
     }
 tpdu_from_card b status from_card = rw from_card refl
 
--- the card's answer, when all data have moved
+-- the card's answer, after all data have moved
 concludes : {State : Type 0} (Does : State → ℕ → Tpdu → State → Type 0) (old : State)
     (before prepared : Prepared State) (d : Direction) (s : Service) (came content : List ℕ)
     (cut : ℕ) (b : Body) (status : StatusWord)
@@ -384,7 +384,7 @@ refuses_with_status {State = State} Does old prepared cut plan h p3 status done 
         by_way ToCard way = sym (tpdu_to_card b status way ∙ rw (header, p3_is, none) refl)
         by_way FromCard way = sym (tpdu_from_card b status way ∙ rw (header, p3_is, none) refl)
 
--- the card's state stands
+-- the card's state is unchanged
 pub while_standing : {State : Type 0} (Does : State → ℕ → Tpdu → State → Type 0) (cut : ℕ)
     (plan : Course) (before : Stage) (front : Front) (byte : ℕ) (old new : State)
     (prepared : Prepared State) (stage : Stage)
@@ -395,7 +395,7 @@ while_standing {State = State} Does cut plan before front byte old new prepared 
     let P : State → Type 0 = λ s. Advances Does cut plan before front byte old s prepared stage in
     subst P (sym stands) advances
 
--- the header is whole when the card's turn comes
+-- the header is complete when the card's turn comes
 pub whole_header : (bytes : List ℕ) (taken : ℕ) → length bytes ≡ 5 → taken ≤ 5
     → nat_lt (length (take taken bytes)) 5 ≡ false → take taken bytes ≡ bytes
 whole_header bytes taken five le due =
@@ -474,7 +474,7 @@ service_advances Does old new before prepared cut plan phase stage came s byte f
     at (After_first b sw1) stands = absurd stands
     at (In_body b) stands = serves b stands
 
--- with the header alone both directions have the same characters, and the same status
+-- with a header alone both directions have the same characters and the same status
 same_alone : (h : Header) (p3 : ℕ) (d e : Direction) (status : StatusWord)
     → tpdu_of (dialogue (header_only h p3 d) status)
     ≡ tpdu_of (dialogue (header_only h p3 e) status)
@@ -533,7 +533,7 @@ status_alone {State = State} Does cut plan bytes h p3 d e byte old new prepared 
       λ none. record { all_or_nothing = inl refl; step_by_step = (at.1 none).step_by_step },
     )
 
--- before its first character nothing of a plan is done
+-- before the first character, no step of a plan is done
 from_header : {State : Type 0} (Does : State → ℕ → Tpdu → State → Type 0) (cut : ℕ) (plan : Course)
     (judged : Stage) (bytes : List ℕ) (front : Front) (byte : ℕ) (old new : State)
     (prepared : Prepared State) (stage : Stage)
@@ -544,7 +544,7 @@ from_header Does cut plan judged bytes front byte old new prepared stage on (inl
 from_header Does cut plan judged bytes front byte old new prepared stage on (inr ends) =
     inr (ends.0, ends.1, ends.2, ends.3, ends.4, ends.5, λ none. ends.6 on)
 
--- the direction that a verdict settles
+-- the direction that a verdict determines
 pub direction_in : Stage → Direction → Direction
 direction_in (Taking_header bytes) d = d
 direction_in (Refusing h p3 status done) d = d
@@ -559,7 +559,7 @@ suits_itself (Refusing h q status done) i p3 d = tt
 suits_itself (Serving s came) h p3 d = refl
 suits_itself (Ending status) h p3 d = tt
 
--- where data are to move, or a NULL has gone, the direction is that of the front
+-- if data are to move, or a NULL was sent, the direction is that of the front
 abbrev Opened : {State : Type 0} (Does : State → ℕ → Tpdu → State → Type 0) (cut : ℕ)
     (plan : Course) (bytes : List ℕ) (h : Header) (p3 : ℕ) (byte : ℕ) (old new : State)
     (prepared : Prepared State) (stage : Stage) → Direction → Type 0
@@ -645,7 +645,7 @@ opening_advances Does cut plan phase judged bytes came taken byte front old new 
         (In_body (header_only b.header b.p3 d)) byte old new prepared stage first.1 first.0))
         suits
 
--- with the first character after a header a plan is taken
+-- the first character after a header takes a plan
 pub takes_a_plan : (phase : Phase) (bytes came : List ℕ) (taken : ℕ) → phase ≡ Opening bytes taken
     → (length bytes ≡ 5) × (taken ≤ 5) → listens (stage_of phase came) ≡ false
     → takes_plan (stage_of phase came) ≡ true
@@ -655,7 +655,7 @@ takes_a_plan phase bytes came taken is held due =
     subst Takes (sym is)
     (λ due. eq-eqb _ _ (ap length (whole_header bytes taken held.0 held.1 due) ∙ held.0)) due
 
--- only a header in the making is taken
+-- only an incomplete header is taken
 pub no_header : (phase : Phase) (came bytes : List ℕ)
     → ((all : List ℕ) (taken : ℕ) → phase ≡ Opening all taken → ⊥)
     → stage_of phase came ≡ Taking_header bytes → ⊥
@@ -664,7 +664,7 @@ no_header (Refused h p3 status done) came bytes never is = absurd (cc)
 no_header (Accepted s) came bytes never is = absurd (cc)
 no_header (SecondStatus status) came bytes never is = absurd (cc)
 
--- a whole header is what the end has taken
+-- a whole header is the one that the end has taken
 pub header_taken : (phase : Phase) (bytes came : List ℕ) (taken : ℕ) (h : Header) (p3 : ℕ)
     → phase ≡ Opening bytes taken → (length bytes ≡ 5) × (taken ≤ 5)
     → listens (stage_of phase came) ≡ false → stage_of phase came ≡ Taking_header (begins_with h p3)
@@ -676,7 +676,7 @@ header_taken phase bytes came taken h p3 is held due whole =
     (λ due whole. let e : take taken bytes ≡ begins_with h p3 = cc in
     sym (whole_header bytes taken held.0 held.1 due) ∙ e) due whole
 
--- what a verdict permits stays so until the status
+-- what a verdict permits stays permitted until the status
 pub stays_permitted : (MayReceive MaySend : ℕ → Type 0) (ins : ℕ) (judged stage : Stage)
     → KeepsDirection judged stage → IsPermitted MayReceive MaySend ins judged
     → IsPermitted MayReceive MaySend ins stage

@@ -1,4 +1,4 @@
--- A card's end takes a run of data characters: so many of one each.
+-- A card's end takes a run of data characters, which is one step for each.
 use Rattle.std.proofs.Common.{◌≡◌, ℕ, ◌+◌, ◌<◌, ◌≤◌, List, [], ◌∷◌, ◌++◌, length, take, refl, sym, subst, ap, ◌∙◌, arith, inl, inr, true, add-zero, append-nil, append_assoc, get_or}
 use Rattle.std.proofs.lemmas.List.{take_more}
 use Rattle.t0_core.specs.declared.tpdu_card.TpduCard.{Ghosts}
@@ -59,7 +59,7 @@ module _ {C : Type 0} (card : Ghosts C) (e : C) where
             (run_taken bytes (one_moved s) (came ++ b ∷ []) way (omega (arith, fits)) within)),
       )
 
-  -- what has come in a run was taken
+  -- the characters of a run are taken one by one
   pub run_steps : (phase next : Phase) (came room bytes : List ℕ) (seen : EndOf C)
       → Fits (card.prepared e) phase → end_at e (stage_of phase came) ≡ seen
       → IsRun phase came bytes next room
@@ -84,7 +84,7 @@ module _ {C : Type 0} (card : Ghosts C) (e : C) where
       (subst (λ (x : EndOf C). Steps (IsTaken card) x bytes last) begun
       (run_taken bytes s (take s.moved came) run.2 run.3 fit.within))
 
--- the card has made ready what it had
+-- what the card has prepared still suits the phase
 pub run_fits : {State : Type 0} (prepared : Prepared State) (phase next : Phase)
     (came room bytes : List ℕ) → Fits prepared phase → IsRun phase came bytes next room
     → Fits prepared next
@@ -110,7 +110,7 @@ run_forgets phase next came room bytes gone (inl none) =
 run_forgets phase next came room bytes gone (inr run) =
     subst (λ (p : Phase). IsForgotten p room) (sym run.4) tt
 
--- one character more
+-- one more character
 pub one_more : {C : Type 0} (card : Ghosts C) (bytes : List ℕ) (s last next : EndOf C) (b : ℕ)
     → Steps (IsTaken card) s bytes last → IsTaken card last b next
     → Steps (IsTaken card) s (bytes ++ b ∷ []) next

@@ -1,4 +1,4 @@
--- A terminal's end hands out a run of its data: so many turns of one character each.
+-- A terminal's end sends a run of its data, which is one turn for each.
 use Rattle.std.proofs.Common.{◌≡◌, ℕ, zero, suc, add-zero, ◌+◌, ◌<◌, ◌≤◌, List, ◌++◌, length, take, drop, refl, sym, subst, ap, ◌∙◌, arith, slice_index}
 use Rattle.std.proofs.lemmas.List.{drop_more, take_at, drop_at, length-take-le, length-drop}
 use Rattle.std.proofs.lemmas.Bool.{lt-ltb}
@@ -12,7 +12,7 @@ use Rattle.t0_core.specs.HostSide.{IsInRange, IsRequest, moving}
 use Rattle.t0_core.specs.Buffers.{Steps, HandsOut, IsDataTurn}
 use Rattle.t0_core.proofs.HostLemmas.{host_at, host_sends}
 
--- data move until they are there
+-- data move until all have moved
 still_moving : (m u : ℕ) → m < u → moving m u ≡ Moving m u
 still_moving m u below = rw (lt-ltb m u below) refl
 
@@ -29,7 +29,7 @@ module _ (h : Header) (p3 : ℕ) (content : List ℕ) (u : ℕ) where
         (slice_index content m) range stands refl;
   }
 
-  -- so many of the data from this place on
+  -- n of the data from this index on
   run_of : (n m : ℕ) → IsRequest (host_at h p3 ToCard content (Moving m u))
       → u ≤ foreseen ToCard p3 → m + n ≤ u
       → Steps IsDataTurn (host_at h p3 ToCard content (moving m u)) (take n (drop m content))
@@ -53,7 +53,7 @@ module _ (h : Header) (p3 : ℕ) (content : List ℕ) (u : ℕ) where
         subst R e (run_of n (m + 1) request fits (omega (arith, within))),
       ))
 
-  -- they are handed out into a buffer
+  -- they are written to a buffer
   run_handed : (n m : ℕ) (before after : List ℕ)
       → IsInRange (host_at h p3 ToCard content (Moving m u)) → m + n ≤ u → n ≤ length before
       → after ≡ take n (drop m content) ++ drop n before
@@ -76,7 +76,7 @@ module _ (h : Header) (p3 : ℕ) (content : List ℕ) (u : ℕ) where
             ∙ drop_at (take n (drop m content)) (drop n before) n len;
       }
 
--- the same of an end as its fields have it
+-- the same for an end by its fields
 pub run_in : (h : Header) (p3 : ℕ) (d : Direction) (own content : List ℕ) (stage last : HostStage)
     (m u n : ℕ) (before after : List ℕ) → d ≡ ToCard → own ≡ content → stage ≡ Moving m u
     → IsInRange (host_at h p3 d own stage) → m + n ≤ u → n ≤ length before

@@ -1,4 +1,4 @@
--- Events have one cutting into dialogues and resets, but for a direction that nobody saw.
+-- Events are cut into dialogues and resets in one way, except for a direction that nobody saw.
 use Rattle.std.proofs.Common.{◌≡◌, ℕ, ◌<◌, List, [], ◌∷◌, ◌++◌, refl, sym, subst, ◌∙◌, ap, inl, inr, ◌⊎◌, lit<, append-nil, append_assoc, Option, Some, None}
 use Rattle.std.specs.List.{AllByRecursion, flat_map}
 use Rattle.std.proofs.lemmas.List.{append_cancel_left}
@@ -26,7 +26,7 @@ so_far (After_first b sw1) = (b.segments, b.moved)
 abbrev in_all : Dialogue → List Step × List ℕ
 in_all d = (d.body.segments, d.body.moved)
 
--- with what a character was
+-- the same after what a character was
 abbrev and_then : Heard → ℕ → List Step × List ℕ → List Step × List ℕ
 and_then (heard.Procedure step) byte so = (so.0 ++ step ∷ [], so.1)
 and_then (heard.Data way) byte so = (so.0, so.1 ++ byte ∷ [])
@@ -50,7 +50,7 @@ ends_so (In_header bytes) c d ends = absurd ends
 ends_so (In_body b) c d ends = absurd ends
 ends_so (After_first b sw1) c d ends = rw (ends.2) refl
 
--- a dialogue that ends does not go on
+-- a dialogue that ends does not continue
 no_end : (place : Place) (f g new : Front) (c k : Character) (d : Dialogue) → TapStandsAt place f
     → TapStandsAt place g → Ends f c d → GoesOn g k new → ⊥
 no_end place (In_header bytes) g new c k d at by ends goes = ends
@@ -115,7 +115,7 @@ module _ (d e : Dialogue) (read : IsRead d.body) (too : IsRead e.body)
       (makes_so heard f new c goes one.makes ∙ ap (and_then heard c.1) same
       ∙ sym (makes_so heard g other c went two.makes)) on through off.1
 
--- no dialogue that follows a plan begins another
+-- no dialogue that follows a plan begins another one
 same_dialogue : (d e : Dialogue) (p q : Course) (es fs : List Event) → IsUnderPlan d p
     → IsUnderPlan e q → d.body.header.ins < 256
     → passed (characters d) ++ es ≡ passed (characters e) ++ fs → AreAlike d e × (es ≡ fs)
@@ -143,7 +143,7 @@ heard_part : (part : List Character) (es : List Event) → heard_in es ≡ []
 heard_part part es none =
     heard_passed part es ∙ ap (λ cs. part ++ cs) none ∙ append-nil part
 
--- parts before a reset, or the end, are the same
+-- the parts before a reset, or before the end, are equal
 same_part : (part other : List Character) (es fs : List Event) → heard_in es ≡ []
     → heard_in fs ≡ [] → passed part ++ es ≡ passed other ++ fs → (part ≡ other) × (es ≡ fs)
 same_part part other es fs none void equal =
@@ -196,7 +196,7 @@ bytes_left : (items : List Item) (part : List Character) → AllBytes (events_in
 bytes_left items part bytes = all_after IsByteEvent (passed (first_of items part))
     (left_of items part) (subst AllBytes (begins_with items part) bytes)
 
--- no dialogue begins a part of one
+-- no whole dialogue begins a part of one
 no_whole : (d : Dialogue) (p : Course) (items others : List Item) (part other : List Character)
     → IsUnderPlan d p → IsPart (first_of others other) → heard_in (left_of others other) ≡ []
     → AllBytes (events_in (Whole d ∷ items) part)
@@ -222,7 +222,7 @@ no_whole d p items others part other is (q, (e, c, rest, also, e_is)) none bytes
     some_left [] e = absurd (cc)
     some_left (x ∷ cs) e = absurd (cc)
 
--- Events have one cutting.
+-- Events are cut in one way.
 pub one_cutting : (items others : List Item) (part other : List Character)
     → AllByRecursion IsItem items → AllByRecursion IsItem others → IsPart part → IsPart other
     → AllBytes (events_in items part) → events_in items part ≡ events_in others other

@@ -24,7 +24,7 @@ use Rattle.t0_core.proofs.PlanLemmas.{nulls_move_nothing}
 use Rattle.t0_core.specs.CardLaws.{due_data, next_front, taken_stays, begun}
 use Rattle.t0_core.proofs.CardLemmas.{direction_in, suits_itself}
 
--- nothing leads to a fresh end
+-- the empty history leads to a fresh end
 pub leads_fresh : {State : Type 0} (Does : State → ℕ → Tpdu → State → Type 0)
     (after_reset : State → State) (standing : State) (prepared : Prepared State)
     → Leads Does after_reset standing [] standing prepared (Taking_header [])
@@ -37,7 +37,7 @@ leads_fresh Does after_reset standing prepared = record {
   at_front = at_fresh Does standing prepared 256 (lit≤ tt, lit≤ tt);
 }
 
--- a dialogue under any plan begins with nothing
+-- a dialogue under any plan begins with no characters
 begins_fresh : {State : Type 0} (Does : State → ℕ → Tpdu → State → Type 0) (standing : State)
     (prepared : Prepared State) (plan : Course) → IsCut plan.cut
     → IsPartUnder plan (front_characters fresh)
@@ -62,7 +62,7 @@ leads_under_fresh Does standing prepared = record {
       (lit≤ tt, lit≤ tt);
 }
 
--- a character of the terminal comes where one is due
+-- the terminal sends a character where one of its own is next
 terminal_sends : (d : Direction) → Terminal ≡ data_sender d → comes_from_terminal d ≡ true
 terminal_sends ToCard is = refl
 terminal_sends FromCard is = absurd (cc)
@@ -119,7 +119,7 @@ data_taken prepared s came cut byte b way lt served = record {
   serves = one_came prepared s.direction s came cut b.moved byte way served.serves;
 }
 
--- the dialogue goes on with a character of the terminal, and stays on its plan
+-- the dialogue continues with a character of the terminal, and stays on its plan
 abbrev pub Goes : {State : Type 0} (Does : State → ℕ → Tpdu → State → Type 0) (standing : State)
     (prepared : Prepared State) (old stage : Stage) (cut : ℕ) (front new : Front) → Type 0
 Goes Does standing prepared old stage cut front new = StandsAt Does standing prepared stage cut new
@@ -250,7 +250,7 @@ leads_with {State = State} Does after_reset first old new before prepared at sta
           stands;
     }
 
--- a reset cuts off what is under way
+-- a reset cuts off the dialogue in progress
 pub leads_reset : {State : Type 0} (Does : State → ℕ → Tpdu → State → Type 0)
     (after_reset : State → State) (first old new : State) (before prepared : Prepared State)
     (at : Stage) (events : List Event)
@@ -332,7 +332,7 @@ take_leads_under Does first standing prepared stage came taken byte due led =
           led.at_front.in_range grown.0 goes.0 (goes.1 led.plan led.on_plan);
     }
 
--- an end that does not listen is at no front that the terminal takes on
+-- an end that does not listen is at no front that a character of the terminal continues
 abbrev NoneDue : {C State : Type 0} (Does : State → ℕ → Tpdu → State → Type 0)
     (standing : C → State) (prepared : C → Prepared State) → ℕ → EndOf C → Type 0
 NoneDue Does standing prepared byte e = (cut : ℕ) (front new : Front)
@@ -400,7 +400,7 @@ take_leads_under_on {C = C} {State = State} Does standing prepared byte inside s
     (take_leads_under Does first (standing inside.card) (prepared inside.card) inside.stage came
     taken byte due led))
 
--- the same led, at a front whose direction the card has chosen
+-- the same for a front whose direction the card has chosen
 chosen : {State : Type 0} (Does : State → ℕ → Tpdu → State → Type 0) (after_reset : State → State)
     (first standing : State) (prepared : Prepared State) (stage next : Stage) (events : List Event)
     (cut : ℕ)
@@ -437,7 +437,7 @@ chosen Does after_reset first s p (Taking_header bytes) next events cut ranges s
         )
 chosen _ after_reset first s p _ next events cut ranges silent led = (led, λ takes. absurd (cc))
 
--- what a hand-out does
+-- what a character of the card does
 abbrev pub HandsOut : {State : Type 0} (Does : State → ℕ → Tpdu → State → Type 0) (kept : Course)
     (old new : State) (before prepared : Prepared State) (at stage : Stage) (byte : ℕ) → Type 0
 HandsOut Does kept old new before prepared at stage byte = (cut : ℕ) (front : Front)
@@ -510,7 +510,7 @@ turn_leads_on {C = C} {State = State} Does after_reset standing prepared kept se
     inside.stage stage events sent from.0
     (hands from.0.cut from.0.front from.1 from.0.at_front.stands)))
 
--- the last of a list
+-- the last element of a list
 last : {A : Type 0} → A → List A → A
 last other [] = other
 last other (x ∷ xs) = last x xs
@@ -523,8 +523,8 @@ last-append other x (y ∷ xs) = last-append y x xs
 same_last : {A : Type 0} (x y : A) (xs ys : List A) → xs ++ x ∷ [] ≡ ys ++ y ∷ [] → x ≡ y
 same_last x y xs ys is = sym (last-append x x xs) ∙ ap (last x) is ∙ last-append x y ys
 
--- a TPDU under one cursor, at a front whose direction the card has chosen, and the plans taken with
--- this character
+-- a TPDU under one cursor, at a front whose direction the card has chosen, and the plans taken up
+-- to this character
 pub record ChosenUnder {State : Type 0} (Does : State → ℕ → Tpdu → State → Type 0) (first : State)
     (came : List Character) (taken : List Course)
     (standing : State) (prepared : Prepared State) (stage next : Stage) (kept : Course) : Type 0
@@ -661,7 +661,7 @@ turn_leads_under Does first old new kept before prepared at stage came taken byt
       begins = begins_fresh Does new prepared kept led.at_front.in_range;
     }
 
--- under one cursor the plan that is kept is the one taken last
+-- under one cursor the kept plan is the one taken last
 same_kept : (old new : Cursor) (takes : Bool) (taken : List Course)
     → new ≡ (if takes then advanced old else old)
     → (takes ≡ false → IsTakenLast (plan_kept old) taken)
@@ -708,7 +708,7 @@ turn_leads_under_on {C = C} {State = State} Does standing prepared old cursor se
     inside.stage stage came taken sent from
     (hands kept.cut from.front from.suits from.at_front.stands)))
 
--- a turn of an end seen so
+-- a turn of an end, as contracts see it
 abbrev pub TurnAdvances : {C State : Type 0} (Does : State → ℕ → Tpdu → State → Type 0)
     (standing : C → State) (prepared : C → Prepared State) → Course → ℕ → State → Prepared State
     → Stage → EndOf C → Type 0

@@ -1,4 +1,4 @@
--- The terminal's end goes through each dialogue that it opened.
+-- The terminal's end passes through each dialogue that it opened.
 use Rattle.std.proofs.Common.{◌≡◌, ℕ, zero, suc, ◌+◌, ◌-◌, ◌<◌, ◌≤◌, List, [], ◌∷◌, ◌++◌, length, take, refl, sym, subst, ◌∙◌, ap, arith, inl, inr, lit<, true, false, Bool, ◌==◌, nat_lt, if◌then◌else◌, Option, Some, None, length-append, slice_index}
 use Rattle.std.proofs.lemmas.List.{take_more}
 use Rattle.std.proofs.lemmas.Bool.{ltb-true, ltb-false}
@@ -25,7 +25,7 @@ abbrev pub host_at : Header → ℕ → Direction → List ℕ → HostStage →
 host_at h p3 d content stage =
     record { header = h; p3 = p3; direction = d; content = content; stage = stage }
 
--- the same of an end as it is seen
+-- the same for an end as contracts see it
 pub seen_at : (host seen : Hosting) (front : Front) → host ≡ seen → HostStandsAt seen front
     → HostStandsAt host front
 seen_at host seen front is stands = let P : Hosting → Type 0 = λ v. HostStandsAt v front in
@@ -41,7 +41,7 @@ pub sends_is : (a b : ℕ) → Sends a ≡ Sends b → a ≡ b
 unfolding byte_of
 sends_is a b e = ap (λ t. byte_of t 0) e
 
--- the end stands where data move, or all of the segment have moved
+-- the end is inside a segment, or the segment has moved all its data
 moves_on : (host : Hosting) (m u : ℕ) (b : Body) (v : Bool) → nat_lt m u ≡ v → m ≤ u
     → IsOpenedBy host b → length b.moved ≡ m → to_move b ≡ u
     → HostStandsAt (at_stage host (if v then Moving m u else Awaiting m)) (In_body b)
@@ -148,13 +148,13 @@ full_is_too_long : (full : Bool) (f : LineFault) → (if full then Some TooLong 
 full_is_too_long true f e = cc
 full_is_too_long false f e = absurd (cc)
 
--- What the end makes of a character with which a dialogue of its own goes on: it stands at the
--- front with it, and there is no fault but want of room.
+-- What the end does with a character that continues a dialogue of its own: it is at the front with
+-- it, and the only possible error is lack of room.
 pub record HostTakes (host : Hosting) (room : Room) (byte : ℕ) (new : Front) : Type 0 where
   pub stands : HostStandsAt (at_stage host (after_taking host byte)) new
   pub fault : (f : LineFault) → fault_of host room byte ≡ Some f → f ≡ TooLong
 
--- so far the next segment moves data
+-- the segments before and including the next one move this number of data
 up_to : (d : Direction) (p3 m : ℕ) (b : Body) (s : Step) → b.direction ≡ d → b.p3 ≡ p3 → IsBetween b
     → length b.moved ≡ m
     → to_move (with_segment b s) ≡ m + moves s (foreseen d p3 - m)

@@ -1,4 +1,4 @@
--- What the terminal's end takes goes on with the dialogue that it opened, or ends it.
+-- A character that the terminal's end takes continues the dialogue that it opened, or ends it.
 use Rattle.std.proofs.Common.{◌≡◌, ℕ, ◌<◌, List, [], ◌∷◌, ◌++◌, refl, sym, ◌∙◌, ap, arith, inl, inr, lit<, true, false, Bool, ◌==◌, if◌then◌else◌, Option, Some, None, append-nil, append_assoc, ◌⊎◌, bit_xor}
 use Rattle.std.proofs.lemmas.Bool.{eqb-true}
 use Rattle.apdu_core.specs.declared.header.Header.{Header}
@@ -19,7 +19,7 @@ use Rattle.t0_core.specs.HostSide.{Hosting, data_in, gathered, HostStandsAt, IsI
 use Rattle.t0_core.specs.Room.{Room}
 use Rattle.t0_core.proofs.HostLemmas.{host_at, host_takes}
 
--- the dialogue goes on with the character, or ends with it
+-- the dialogue continues with the character, or ends with it
 abbrev pub Took : Hosting → Front → ℕ → Type 0
 Took host front byte =
     ((new : Front) × GoesOn front (Card, byte) new
@@ -124,7 +124,7 @@ host_took h p3 d content (AwaitingSecond sw1) room byte (In_body b) small range 
 host_took h p3 d content (Ended status) room byte front small range at none = absurd (cc)
 host_took h p3 d content Broken room byte front small range at none = absurd (cc)
 
--- the gather has the data
+-- the gather contains the data
 brings_one : (d : Direction) (moved : List ℕ) (byte : ℕ) → Card ≡ data_sender d
     → from_card d (moved ++ byte ∷ []) ≡ from_card d moved ++ byte ∷ []
 brings_one ToCard moved byte from = absurd (cc)

@@ -1,4 +1,4 @@
--- How the segments of a plan come one by one.
+-- The segments of a plan, one by one.
 use Rattle.std.proofs.Common.{◌≡◌, ℕ, zero, suc, ◌+◌, ◌-◌, List, [], ◌∷◌, ◌++◌, drop, refl, sym, subst, ◌∙◌, ap, arith, append_assoc, append-nil}
 use Rattle.std.specs.List.{AllByRecursion}
 use Rattle.t0_core.specs.declared.plan.Step.{Step}
@@ -7,7 +7,7 @@ use Rattle.t0_core.specs.Dialogue.{moves, all_moves}
 use Rattle.t0_core.specs.Plan.{segments_of}
 use Rattle.t0_core.specs.CardSide.{Starts, IsFrugal, AreOnPlan}
 
--- a step is carried out where data are left, and a NULL always
+-- a step is carried out if data are left, and a NULL always
 pub carried_out : (s : Step) (rest : List Step) (left : ℕ) → Starts s left
     → segments_of (s ∷ rest) left ≡ s ∷ segments_of rest (left - moves s left)
 carried_out Null rest left starts = let same : left - 0 ≡ left = omega arith in rw same refl
@@ -33,8 +33,8 @@ frugal_more (t ∷ segments) s n frugal starts =
     - all_moves segments (n - moves t n) = omega arith in
     (frugal.0, frugal_more segments s (n - moves t n) frugal.1 (subst (Starts s) same starts))
 
--- Segments of which none is begun in vain are those of the plan that they are, and where data are
--- left one more "all" moves them.
+-- Segments that each move data, or are NULLs, are those of the plan made of them. One more `All`
+-- moves the data that are left.
 pub frugal_goes_on : (segments : List Step) (n : ℕ) → IsFrugal segments n
     → segments_of segments n ≡ segments ++ segments_of [] (n - all_moves segments n)
 frugal_goes_on [] n frugal = let same : n - 0 ≡ n = omega arith in
@@ -46,7 +46,7 @@ frugal_goes_on (s ∷ segments) n frugal =
     ∙ ap (λ x. s ∷ x) (frugal_goes_on segments (n - moves s n) frugal.1)
     ∙ ap (λ k. s ∷ (segments ++ segments_of [] k)) left
 
--- where they move all data nothing more comes
+-- if they move all data, nothing follows
 pub follows_itself : (segments : List Step) (n : ℕ) → IsFrugal segments n → all_moves segments n ≡ n
     → segments ≡ segments_of segments n
 follows_itself segments n frugal all =
@@ -67,7 +67,7 @@ moves_all (All ∷ steps) zero = moves_all steps zero
 moves_all (All ∷ steps) (suc n) =
     let none : suc n - suc n ≡ 0 = omega arith in rw none (omega (arith, moves_all steps 0))
 
--- and where none are left, they are NULLs
+-- if no data are left, the segments are NULLs
 pub nulls_where_none_left : (steps : List Step)
     → AllByRecursion (λ s. s ≡ Null) (segments_of steps 0)
 nulls_where_none_left [] = tt
@@ -100,7 +100,7 @@ on_plan_more segments steps s whole until next done count on is =
     on ∙ ap (λ x. segments ++ x) is
     ∙ sym (append_assoc segments (s ∷ []) (segments_of (drop count steps) (whole - next)))
 
--- all segments of the plan have come
+-- all segments of the plan were passed
 pub on_plan_all : (segments steps : List Step) (whole until done : ℕ)
     → AreOnPlan segments steps whole until done → segments_of (drop done steps) (whole - until) ≡ []
     → segments ≡ segments_of steps whole

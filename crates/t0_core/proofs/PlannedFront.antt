@@ -1,4 +1,4 @@
--- The front at which a card's end stands is that of a dialogue that follows the plan it is on.
+-- The front of a card's end is that of a dialogue that follows its plan.
 use Rattle.std.proofs.Common.{◌≡◌, ℕ, ◌-◌, ◌<◌, List, [], ◌∷◌, ◌++◌, length, drop, refl, sym, subst, ◌∙◌, ap, arith, inl, inr, lit<, lit≤, true, false, append_assoc, append-nil}
 use Rattle.std.specs.List.{AllByRecursion}
 use Rattle.apdu_core.specs.declared.header.Header.{Header}
@@ -105,7 +105,7 @@ no_bytes : (bytes : List ℕ) → length bytes ≡ 0 → bytes ≡ []
 no_bytes [] none = refl
 no_bytes (x ∷ bytes) none = absurd (omega (arith, none))
 
--- where no data move, NULLs alone are still to come
+-- if no data move, only NULLs are still to come
 no_data : (cs : List Character) (plan : Course) (b : Body) (later : List Step)
     (rest : List Character) → IsCut plan.cut → IsBegun b → IsBetween b
     → segments_of plan.steps 0 ≡ b.segments ++ later
@@ -124,7 +124,7 @@ no_data cs plan b later rest in_range begun between on nulls is =
       step_by_step = all ∙ ap (λ n. segments_of plan.steps n) (sym none);
     })
 
--- in service the data are filled up, and then those of the segments that are still to come
+-- during a service: the missing data of the current segment, and then the segments still to come
 in_service : {State : Type 0} (prepared : Prepared State) (plan : Course) (s : Service)
     (came : List ℕ) (cut : ℕ) (b : Body) (later : List Step)
     → IsCut plan.cut → IsFront (In_body b) → IsServed prepared s came cut b
@@ -170,7 +170,7 @@ fresh_body cs plan h p3 d rest in_range is =
     (record { in_last = refl; only_nulls = λ _. tt }) refl refl
     (nulls_where_none_left plan.steps) is
 
--- of the plan that it is on
+-- for the plan that it is on
 pub planned_under : {State : Type 0} (Does : State → ℕ → Tpdu → State → Type 0) (standing : State)
     (prepared : Prepared State) (stage : Stage) (cut : ℕ) (plan : Course) (front : Front)
     → IsCut plan.cut → IsFront front → StandsAt Does standing prepared stage cut front
@@ -206,7 +206,7 @@ planned_under _ _ _ _ _ _ _ _ _ at _ = absurd at
 abbrev any_cut : IsCut 256
 any_cut = (lit≤ tt, lit≤ tt)
 
--- of some plan in any case: of the one whose steps are its own segments
+-- for some plan in any case: the one made of its own segments
 planned : {State : Type 0} (Does : State → ℕ → Tpdu → State → Type 0) (standing : State)
     (prepared : Prepared State) (stage : Stage) (cut : ℕ) (front : Front)
     → IsFront front → StandsAt Does standing prepared stage cut front
@@ -238,7 +238,7 @@ planned Does standing prepared (Ending status) cut (After_first b sw1) is at = (
 )
 planned _ _ _ _ _ _ _ at = absurd at
 
--- where a card's end stands
+-- the front of a card's end
 pub at_front : {State : Type 0} (Does : State → ℕ → Tpdu → State → Type 0) (standing : State)
     (prepared : Prepared State) (stage : Stage) (cut : ℕ) (front : Front)
     → IsFront front → IsCut cut → StandsAt Does standing prepared stage cut front

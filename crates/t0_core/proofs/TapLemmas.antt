@@ -1,4 +1,5 @@
--- A tap takes each dialogue that it reads, and each character that it takes is one of a dialogue.
+-- A tap takes each dialogue that it can read, and each character that it takes is one of a
+-- dialogue.
 use Rattle.std.proofs.Common.{◌≡◌, ℕ, zero, suc, ◌+◌, ◌-◌, ◌<◌, ◌≤◌, List, [], ◌∷◌, ◌++◌, length, take, drop, refl, sym, subst, ◌∙◌, ap, arith, inl, inr, lit<, true, false, Bool, ◌==◌, ◌⊎◌, nat_lt, if◌then◌else◌, Option, Some, None, length-append, not}
 use Rattle.std.specs.List.{AllByRecursion, flat_map}
 use Rattle.std.proofs.lemmas.List.{take_all, length-take-le}
@@ -34,13 +35,13 @@ use Rattle.t0_core.proofs.HistoryLemmas.{events_with, passed_more}
 use Rattle.t0_core.proofs.PlanLemmas.{nulls_move_nothing}
 use Rattle.t0_core.specs.CardLaws.{next_header}
 
--- What the tap makes of a character with which a dialogue goes on.
+-- What the tap does with a character that continues a dialogue.
 pub record TapTook (place : Place) (from : End) (byte : ℕ) (front new : Front) : Type 0 where
   pub none : unheard_at place from byte ≡ None
   pub makes : Makes (heard_at place from byte) front (from, byte) new
   pub stands : TapStandsAt (after_hearing place from byte) new
 
--- a header that is not whole
+-- a header that is incomplete
 opened_short : (bytes : List ℕ) → length bytes < 5 → after_opening bytes ≡ In_opening bytes
 opened_short (a ∷ b ∷ c ∷ d ∷ e ∷ bytes) lt = absurd (omega (arith, lt))
 opened_short _ _ = refl
@@ -73,7 +74,7 @@ in_header bytes heard from byte new same lt (way, inr (h, direction, whole, is))
       );
     }
 
--- each procedure byte is told, and a status byte is none
+-- each procedure byte is recognised, and SW1 is not one
 begun_is : (ins : ℕ) (s : Step) (v : Bool) → ins_is_valid ins ≡ v → ins < 256
     → (ins_is_valid ins ≡ false → s ≡ Null) → begun_by ins (procedure_byte ins s) ≡ Some s
 begun_is ins s true valid small nulls = rw valid (step_is ins s valid small)
@@ -93,14 +94,14 @@ status_begins_nothing ins byte false invalid small status =
       ]),
     ) refl
 
--- With P3 other than 00 both ways foresee as many.
+-- With P3 other than 00 both directions have the same number of data characters.
 pub both_foresee : (d e : Direction) (p3 : ℕ) → (p3 == 0) ≡ false → foreseen d p3 ≡ foreseen e p3
 both_foresee ToCard ToCard p3 some = refl
 both_foresee ToCard FromCard p3 some = rw some refl
 both_foresee FromCard ToCard p3 some = rw some refl
 both_foresee FromCard FromCard p3 some = refl
 
--- what is left by what the tap has seen is what is left, or P3 is 00 and nothing goes to the card
+-- what is left by the tap's count is what is left, or P3 is 00 and nothing goes to the card
 foresees : (seen : Option Direction) (d : Direction) (p3 : ℕ) (moved : List ℕ) → Shows seen d moved
     → (foreseen_by seen p3 ≡ foreseen d p3) ⊎ ((d ≡ ToCard) × (p3 ≡ 0))
 foresees (Some seen) d p3 moved shows = inl (ap (λ x. foreseen x p3) shows.0)
@@ -112,7 +113,7 @@ foresees None ToCard p3 moved shows = split (p3 == 0) refl
     split true none = inr (refl, eqb-true p3 0 none)
     split false some = inl (both_foresee FromCard ToCard p3 some)
 
--- the last of them
+-- the last segment is a NULL if all are
 last_null : (segments : List Step) (s : Step) → AllByRecursion (λ t. t ≡ Null) (segments ++ s ∷ [])
     → s ≡ Null
 last_null [] s all = all.0
@@ -136,7 +137,7 @@ as_many said b s says read between =
           more ∙ rw (null, so_far) refl
     ]
 
--- the tap stands where data move, or all of the segment have moved
+-- the tap is inside a segment, or the segment has moved all its data
 stands_on : (said : Said) (until : ℕ) (b : Body) (v : Bool) → nat_lt said.moved until ≡ v
     → said.moved ≤ until → SaysSo said b → to_move b ≡ until
     → TapStandsAt (if v then In_data said until else Between said) (In_body b)
@@ -193,7 +194,7 @@ sender_goes : (d : Direction) → goes_this_way d (data_sender d) ≡ true
 sender_goes ToCard = refl
 sender_goes FromCard = refl
 
--- where data are due and P3 is 00 they are the card's
+-- if data follow and P3 is 00, they come from the card
 from_the_card : (d : Direction) (p3 : ℕ) → 0 < foreseen d p3 → p3 ≡ 0 → d ≡ FromCard
 from_the_card ToCard p3 some none = absurd (omega (arith, some, none))
 from_the_card FromCard p3 some none = refl
@@ -282,7 +283,7 @@ takes_all (In_data said until) from byte (In_body b) new range at (inr begins) r
 takes_all (After_sw1 said sw1) from byte (After_first b first) new range at goes read = absurd goes
 takes_all _ _ _ _ _ _ at _ _ = absurd at
 
--- ---- what is taken is of a dialogue
+-- ---- a character that is taken is one of a dialogue
 
 -- a character that is taken comes from an end that may send it
 taken_in_turn : (v : Bool) (o : Option Unheard) → (if v then o else Some OutOfTurn) ≡ None
@@ -308,7 +309,7 @@ drop_none : (n : ℕ) → drop n nothing ≡ []
 drop_none zero = refl
 drop_none (suc n) = refl
 
--- where no data have moved nobody sees which way they are to go
+-- if no data have moved, nobody sees their direction
 no_data_characters : (ins : ℕ) (d e : Direction) (segments : List Step) (n m : ℕ)
     → segment_characters ins d segments n [] ≡ segment_characters ins e segments m []
 no_data_characters ins d e [] n m = refl
@@ -341,7 +342,7 @@ nulls_in_last (s ∷ t ∷ segments) n nulls =
       subst InLast (omega arith) (nulls_in_last (t ∷ segments) (n - moves s n) nulls.1),
     )
 
--- the front turned to the other way is one too
+-- the front in the other direction is one too
 abbrev TurnsTo : Direction → Body → Type 0
 TurnsTo way b = IsBegun b → IsBegun (turned_body way b)
 
@@ -364,7 +365,7 @@ abbrev TakesBody : Place → End → ℕ → Body → Type 0
 TakesBody place from byte b =
     Takes (heard_at place from byte) (In_body b) (from, byte) (after_hearing place from byte)
 
--- the dialogue goes on from the front turned this way
+-- the dialogue continues from the front in this direction
 goes_so : (place : Place) (from : End) (byte : ℕ) (b : Body) (new : Front) (way : Direction)
     → body_characters (turned_body way b) ≡ body_characters b → TurnsTo way b
     → GoesOn (In_body (turned_body way b)) (from, byte) new
@@ -384,7 +385,7 @@ goes_straight : (place : Place) (from : End) (byte : ℕ) (b : Body) (new : Fron
 goes_straight place from byte b new goes took =
     goes_so place from byte b new b.direction refl (λ is. is) goes took
 
--- where a header goes on, nothing of a dialogue has come that the tap does not read
+-- while a header continues, nothing has happened that the tap does not read
 header_read : (heard : List ℕ) (c : Character) (new : Front) → GoesOnInHeader heard c new
     → IsReadFront new
 header_read heard c new (way, inl (short, is)) = let P : Front → Type 0 = λ f. IsReadFront f in
@@ -415,7 +416,7 @@ took_header bytes heard from byte same lt way =
       goes = inl (next.0, goes, took.makes, took.stands);
     }
 
--- what a byte is told as it is
+-- a byte is recognised as what it is
 begun_tells : (ins byte : ℕ) (s : Step) (v : Bool) → ins_is_valid ins ≡ v
     → begun_by ins byte ≡ Some s
     → (byte ≡ procedure_byte ins s) × (ins_is_valid ins ≡ false → s ≡ Null)
@@ -519,7 +520,7 @@ took_between said from byte b None begun range says between way none =
     (inr (inr (between, way, status, refl)))
     (at_status said from byte b range says between way status)
 
--- which way data go that this end sends
+-- the direction of data that this end sends
 this_way : (d : Direction) (from : End) → goes_this_way d from ≡ true → from ≡ data_sender d
 this_way ToCard from e = of_terminal from e
 this_way FromCard from e = of_card from e
@@ -618,14 +619,14 @@ took place from byte front range small at none =
         took_end said sw1 from byte b first small at.0 at.1 (of_card from turn)
     at_place _ _ _ at _ _ = absurd at
 
--- ---- as the tap is seen
+-- ---- the tap as contracts see it
 
 pub stands_inside : (p seen : Place) (front : Front) → p ≡ seen → TapStandsAt seen front
     → TapStandsAt p front
 stands_inside p seen front is stands = let P : Place → Type 0 = λ x. TapStandsAt x front in
     subst P (sym is) stands
 
--- where it takes nothing no dialogue goes on
+-- if it refuses a character, no dialogue continues with it
 pub hears_none : (p seen : Place) (from : End) (byte : ℕ) (fault : Unheard) → p ≡ seen → IsPlace p
     → unheard_at p from byte ≡ Some fault → (front new : Front) → TapStandsAt seen front
     → GoesOn front (from, byte) new → IsReadFront new → ⊥
@@ -636,7 +637,7 @@ hears_none p seen from byte fault is range why front new stands goes read =
     let no : None ≡ Some fault = sym none ∙ why in
     absurd (cc)
 
--- what it makes of a character that it takes
+-- what it does with a character that it takes
 pub record HearsOne (p seen : Place) (from : End) (byte : ℕ) (heard : Heard) (next : Place) : Type 0
   where
     pub seen_is : p ≡ seen

@@ -1,4 +1,5 @@
--- A tap goes through the dialogues that it reads, one after another; those that follow plans are
+-- A tap passes through the dialogues that it can read, one after another. It can read all that
+-- follow plans.
 -- among them.
 use Rattle.std.proofs.Common.{◌≡◌, ℕ, ◌<◌, List, [], ◌∷◌, ◌++◌, length, refl, sym, subst, ◌∙◌, ap, arith, inl, inr, lit<, None}
 use Rattle.std.specs.List.{AllByRecursion, flat_map}
@@ -20,7 +21,7 @@ use Rattle.t0_core.specs.TapLine.{HearsInTurn, AreTold}
 use Rattle.t0_core.proofs.PlanLemmas.{nulls_where_none_left}
 use Rattle.t0_core.proofs.TapLemmas.{TapTook, HasByte, takes_all}
 
--- the front is one of a dialogue with this header, in the tap's reading
+-- the front is one of a dialogue with this header, as the tap reads it
 abbrev pub IsOf : Front → Dialogue → Type 0
 IsOf (In_header bytes) d = Unit {0}
 IsOf (In_body b) d = (b.header ≡ d.body.header) × IsRead b
@@ -65,7 +66,7 @@ has_its_byte (Between said) (In_header bytes) d at is small = absurd at
 has_its_byte (Between said) (After_first b sw1) d at is small = absurd at
 has_its_byte _ _ _ _ _ _ = tt
 
--- a tap takes each character with which such a dialogue goes on
+-- a tap takes each character that continues such a dialogue
 pub takes_on : (cs : List Character) (place : Place) (front new : Front) (c : Character)
     (d : Dialogue) → HasByte place → TapStandsAt place front → GoesOn front c new
     → GoesThrough new cs d → IsRead d.body → TapTook place c.0 c.1 front new
@@ -90,7 +91,7 @@ closes (Between said) from byte (In_body b) d at ends = absurd ends
 closes (In_data said until) from byte (In_body b) d at ends = absurd ends
 closes _ _ _ _ _ at _ = absurd at
 
--- what it says of a character within a dialogue tells no dialogue
+-- a character inside a dialogue reports no dialogue
 told_more : (this : Heard) (front new : Front) (c : Character) (told : List Heard)
     (ds : List Dialogue) → Makes this front c new → AreTold told ds → AreTold (this ∷ told) ds
 told_more (heard.SecondStatus said status) front new c told ds makes are = absurd makes
@@ -145,7 +146,7 @@ told_both (heard.Procedure step ∷ told) more ds es one two = told_both told mo
 told_both (heard.Data direction ∷ told) more ds es one two = told_both told more ds es one two
 told_both (heard.FirstStatus ∷ told) more ds es one two = told_both told more ds es one two
 
--- what follows a plan begins no segment in vain
+-- a dialogue that follows a plan has no segment without data, except NULLs
 pub follows_read : (d : Dialogue) (plan : Course) → IsDialogue d → Follows d plan → IsRead d.body
 follows_read d plan is follows to none =
     let within = all_moves-within d.body.segments (foreseen d.body.direction d.body.p3) in

@@ -1,4 +1,4 @@
--- Why a tap doesn't take a character, and that it keeps no data.
+-- Why a tap refuses a character, and that it stores no data.
 use Rattle.std.proofs.Common.{◌≡◌, ℕ, ◌<◌, List, length, ◌↔◌, refl, sym, ◌∙◌, ap, arith, inl, inr, lit<, Option, Some, None, Bool, true, false, if◌then◌else◌}
 use Rattle.apdu_core.specs.StatusWord.{is_first_status}
 use Rattle.t0_core.specs.declared.end.End.{End}
@@ -21,7 +21,7 @@ use Rattle.t0_core.specs.DialogueLaws.{all_more}
 use Rattle.t0_core.specs.TapSide.{Place, In_opening, Between, In_data, After_sw1, SaysSo, TapStandsAt, HasTurn, other_end, unheard_at, unheard_procedure, heard_at, heard_procedure, after_hearing, begun_by, may_come_from, way_of}
 use Rattle.t0_core.proofs.TapLemmas.{HearsOne, header_goes, may_come, stands_inside}
 
--- ---- out of turn: it is the other end's turn
+-- ---- out of turn: the other end sends next
 
 not_out_of_turn : (found : Option Step) (byte : ℕ) → unheard_procedure found byte ≡ Some OutOfTurn
     → ⊥
@@ -98,7 +98,7 @@ others_turn (After_sw1 said sw1) Terminal byte (After_first b first) at e = stat
 others_turn (After_sw1 said sw1) Card byte (After_first b first) at e = absurd (cc)
 others_turn _ _ _ _ at _ = absurd at
 
--- ---- a bad procedure byte: it is not
+-- ---- a bad procedure byte: the other end does not send next
 
 terminal_is_card : Terminal ≡ Card → ⊥
 terminal_is_card e = absurd (cc)

@@ -1,4 +1,4 @@
--- What a tap says of worked dialogues, computed from the definitions, and near misses.
+-- What a tap reports about worked dialogues, computed from the definitions, and near misses.
 use Rattle.std.proofs.Common.{◌≡◌, ℕ, [], ◌∷◌, ◌++◌, refl, Some, None}
 use Rattle.t0_core.specs.declared.end.End.TheVariants.{Terminal, Card}
 use Rattle.t0_core.specs.declared.direction.Direction.TheVariants.{FromCard}
@@ -10,7 +10,7 @@ use Rattle.t0_core.specs.Character.{sent_by}
 use Rattle.t0_core.specs.TapSide.{Between, In_data, After_sw1, unheard_at, afresh, after_hearing}
 use Rattle.t0_core.specs.TapLine.{HearsInTurn}
 
--- an object of two bytes, after a NULL, one byte by itself
+-- an object of two bytes, after a NULL and one single byte
 two_bytes : HearsInTurn afresh (sent_by Terminal (0x00 ∷ 0xCA ∷ 0x5F ∷ 0x20 ∷ 0x02 ∷ [])
     ++ sent_by Card (0x60 ∷ 0x35 ∷ 0x60 ∷ 0xCA ∷ 0x90 ∷ 0x90 ∷ 0x00 ∷ []))
     (Header ∷ Header ∷ Header ∷ Header ∷ Header ∷ Procedure Null ∷ Procedure One ∷ Data FromCard
@@ -62,7 +62,7 @@ two_bytes = (
   ),
 )
 
--- a body of one data character, of which none has moved
+-- a TPDU with one data character, before any has moved
 abbrev open_with : ℕ → ℕ → Said
 open_with ins p3 = record {
   header = record { cla = 0x00; ins = ins; p1 = 0x00; p2 = 0x00 };
@@ -71,7 +71,7 @@ open_with ins p3 = record {
   moved = 0;
 }
 
--- after INS either end may send the data; with P3 00 the card alone
+-- after INS either end may send the data; with P3 00 only the card
 either_end : unheard_at (In_data (open_with 0xDA 1) 1) Terminal 0x41 ≡ None
 either_end = refl
 
@@ -81,7 +81,7 @@ the_card_alone = refl
 begins_256 : after_hearing (Between (open_with 0xCA 0)) Card 0xCA ≡ In_data (open_with 0xCA 0) 256
 begins_256 = refl
 
--- where INS is no instruction its own value is status
+-- if INS is invalid, its own value is SW1
 no_instruction : unheard_at (Between (open_with 0x6F 1)) Card 0x10 ≡ Some BadProcedure
 no_instruction = refl
 

@@ -1,4 +1,4 @@
--- The bytes of a whole TPDU, written by a terminal's end and read by a card's.
+-- The bytes of a whole TPDU, written by a terminal's end and read by a card's end.
 use Rattle.std.proofs.Common.{◌≡◌, ℕ, zero, suc, ◌<◌, ◌≤◌, List, [], ◌∷◌, length, Some, refl, ap, subst, arith, true, false, Bool, ◌==◌, ◌++◌, if◌then◌else◌}
 use Rattle.std.proofs.lemmas.Bool.{eq-eqb, eqb-false}
 use Rattle.apdu_core.specs.declared.header.Header.{Header}
@@ -15,7 +15,7 @@ so_many : (header : Header) (b : ℕ) (bs : List ℕ)
     ≡ Some (asked_for header (length (b ∷ bs)) (b ∷ bs) 0)
 so_many header b bs = rw (eq-eqb (length (b ∷ bs)) (length (b ∷ bs)) refl) refl
 
--- where data are asked for, P3 is written
+-- if data are asked for, P3 is written
 counted : (p3 : ℕ) (v : Bool) → (p3 == 0) ≡ v → p3_field p3 [] (if v then 256 else p3) ≡ p3 ∷ []
 counted p3 true is = refl
 counted zero false is = absurd (eqb-false 0 0 is refl)

@@ -83,7 +83,7 @@ may_come_was : (d : Direction) (asked : Asked) (moved : List ℕ) → d ≡ From
 may_come_was ToCard asked moved is own = absurd (cc)
 may_come_was FromCard asked moved is own = own
 
--- one more of the data that were given
+-- one more of the given data
 own_one : (content moved : List ℕ) (byte m : ℕ) → moved ≡ take (length moved) content
     → length moved ≡ m → slice_get content m ≡ Some byte
     → moved ++ byte ∷ [] ≡ take (length (moved ++ byte ∷ [])) content
@@ -108,7 +108,7 @@ received_of_card d is = rw is refl
 received_of_none : (d : Dialogue) → d.body.direction ≡ ToCard → received d ≡ []
 received_of_none d is = rw is refl
 
--- no more have come than may
+-- no more data were received than may come
 fits_asked : (asked : Asked) (d : Dialogue) → IsOf asked d.body
     → length (received d) ≤ asked.may_come
 fits_asked asked d of = by d.body.direction refl
@@ -118,7 +118,7 @@ fits_asked asked d of = by d.body.direction refl
     by FromCard is = rw (received_of_card d is)
         (may_come_was d.body.direction asked d.body.moved is of.2)
 
--- all that were given have moved or none
+-- all given data have moved, or none
 all_moved_own : (asked : Asked) (moved : List ℕ) → moved ≡ take (length moved) asked.content
     → length moved ≡ asked.p3 → IsWhole asked → (moved ≡ []) ⊎ (moved ≡ asked.content)
 all_moved_own asked moved own all (inl none) =
@@ -145,7 +145,7 @@ all_or_none asked d of moved whole = by d.body.direction refl
           ]
     ]
 
--- ---- what the end goes on with
+-- ---- the next character at the end
 
 no_rest : (stage : Stage) (plan : Course) → under_way stage plan ≡ plan ∷ []
     → stage ≡ Taking_header [] → ⊥
@@ -153,7 +153,7 @@ no_rest stage plan under rests =
     let none : under_way stage plan ≡ [] = ap (λ s. under_way s plan) rests in
     let e : [] ≡ plan ∷ [] = sym none ∙ under in absurd (cc)
 
--- a procedure byte is due between segments
+-- between segments a procedure byte follows
 all_moved : (v : Bool) (d : Direction) (m u : ℕ) → nat_lt m u ≡ v
     → (if v then data_awaited d m else next.Procedure) ≡ next.Procedure → u ≤ m
 all_moved true ToCard m u is e = absurd (cc)
@@ -268,7 +268,7 @@ ending_at Does s p (Ending status) cut sw1 at stands is = absurd stands
 abbrev GrowsBy : Asked → Body → List ℕ → Front → Type 0
 GrowsBy asked b more new = IsFrontOf asked new × (brought new ≡ brought (In_body b) ++ more)
 
--- between segments no data come
+-- between segments no data are received
 grows_between : (asked : Asked) (b : Body) (byte : ℕ) (new : Front) → IsOf asked b → IsBetween b
     → GoesOn (In_body b) (Card, byte) new → GrowsBy asked b [] new
 grows_between asked b byte new of between (inl moves) = absurd (omega (arith, moves.0, between))
@@ -351,7 +351,7 @@ Steps card plan old byte new = (cut : ℕ) (at : Front)
     → Advances card.Does cut plan old.stage at byte (card.standing old.card)
     (card.standing new.card) (card.prepared new.card) new.stage
 
--- it hands out a character that is no status's second, with which so many data come
+-- it sends a character other than SW2, which brings these data
 abbrev pub GoesFurther : {C : Type 0} (card : Ghosts C) (first : card.State) → Course → Asked
     → List ℕ → List ℕ → EndOf C → EndOf C → Type 0
 GoesFurther card first plan asked before got old new =
@@ -429,7 +429,7 @@ passes_data card first plan asked before got old new place byte on is fits falls
     (λ later goes. grows_sending asked b byte later (is_of_body asked on.front b at on.is_of) due
     from (omega (arith, place_is, fits)) goes) falls keeps steps
 
--- the second status character
+-- SW2
 pub passes_second : {C : Type 0} (card : Ghosts C) (first : card.State) (plan : Course)
     (asked : Asked) (before : List ℕ) (room : Room) (old new : EndOf C) (sw1 byte : ℕ)
     → IsCut plan.cut → IsAnswering card first plan asked before room.bytes old
@@ -536,9 +536,9 @@ passes_own {C = C} card first plan asked before got old new place byte on is byt
       falls plan,
     )
 
--- ---- faults
+-- ---- errors
 
--- data that are to move may
+-- data move only as permitted
 moves_permitted : {State : Type 0} (Does : State → ℕ → Tpdu → State → Type 0) (s : State)
     (p : Prepared State) (stage : Stage) (cut : ℕ) (b : Body) (MayReceive MaySend : ℕ → Type 0)
     (ins : ℕ) → StandsAt Does s p stage cut (In_body b) → length b.moved < to_move b
@@ -594,7 +594,7 @@ wants_more card first plan asked before room e place on is past =
 pub on_ok : {A E : Type 0} (r : Result A E) (P : Type 0) (x : A) → r ≡ Ok x → OnOk r P → P
 on_ok {A = A} {E = E} r P x is on = let Q : Result A E → Type 0 = λ s. OnOk s P in subst Q is on
 
--- where no plan is taken, the cursor stays
+-- if no plan is taken, the cursor is unchanged
 pub cursor_stays : (v : Bool) (new other old : Cursor) → v ≡ false
     → new ≡ (if v then other else old) → new ≡ old
 cursor_stays false new other old none is = is
@@ -603,7 +603,7 @@ cursor_stays true new other old none is = absurd (cc)
 pub takes_none : (v : Bool) → v ≡ false → v ≡ true → ⊥
 takes_none v none takes = absurd (cc)
 
--- the status is one
+-- the two bytes are a status
 pub second_is : {A : Type 0} (r : Option A) (P N : Type 0) (x : A) (Q : A → Type 0) → P
     → SomeIff r P x → Q x → MatchOption r N Q
 second_is None P N x Q p is q = absurd (is p)
@@ -622,7 +622,7 @@ pub at_none : {A : Type 0} (o : Option A) (N : Type 0) (Q : A → Type 0) → o 
 at_none None N Q is m = m
 at_none (Some y) N Q is m = absurd (cc)
 
--- ---- what led to the end
+-- ---- histories
 
 no_characters : {State : Type 0} (Does : State → ℕ → Tpdu → State → Type 0) (s : State)
     (p : Prepared State) (cut : ℕ) (at : Front) → StandsAt Does s p (Taking_header []) cut at
@@ -730,7 +730,7 @@ leads_on_by card plan asked before got status old new d rested rests out = (
       came taken (subst Was rested led))),
 )
 
--- up to where the end is stuck
+-- up to the character where the end is stuck
 pub leads_to_stuck : {C : Type 0} (card : Ghosts C) (plan : Course) (asked : Asked)
     (before : List ℕ) (room : Room) (old e : EndOf C) (b : Body)
     → old.stage ≡ Taking_header [] → IsCut plan.cut

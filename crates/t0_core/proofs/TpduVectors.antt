@@ -12,14 +12,14 @@ get_data = record { cla = 0x00; ins = 0xCA; p1 = 0x5F; p2 = 0x20 }
 abbrev put_data : Header
 put_data = record { cla = 0x00; ins = 0xDA; p1 = 0x5F; p2 = 0x20 }
 
--- four bytes move nothing
+-- four bytes move no data
 four_bytes : asked_in (0x00 ∷ 0xA4 ∷ 0x04 ∷ 0x00 ∷ []) ≡ Some (asked_for select 0 [] 0)
 four_bytes = refl
 
 written_as_four : tpdu_bytes (asked_for put_data 0 [] 0) ≡ 0x00 ∷ 0xDA ∷ 0x5F ∷ 0x20 ∷ []
 written_as_four = refl
 
--- five with 00 ask for 256
+-- five bytes with P3 00 ask for 256
 asks_for_256 : asked_in (0x00 ∷ 0xCA ∷ 0x5F ∷ 0x20 ∷ 0x00 ∷ [])
     ≡ Some (asked_for get_data 0 [] 256)
 asks_for_256 = refl
@@ -37,7 +37,7 @@ of_any_ins : asked_in (0x00 ∷ 0x6D ∷ 0x00 ∷ 0x00 ∷ 0x01 ∷ [])
     ≡ Some (asked_for (record { cla = 0x00; ins = 0x6D; p1 = 0x00; p2 = 0x00 }) 1 [] 1)
 of_any_ins = refl
 
--- P3 behind which other data stand, as in a command with data and Le
+-- P3 with the wrong number of data, as in a command with data and Le
 too_short : asked_in (0x00 ∷ 0xDA ∷ 0x5F ∷ [])
     ≡ None
 too_short = refl

@@ -41,7 +41,7 @@ is_dialogue = record {
 follows : Follows under_a_plan (record { steps = Null ∷ One ∷ Null ∷ All ∷ []; cut = 256 })
 follows = record { all_or_nothing = inr refl; step_by_step = refl }
 
--- data to the card go in between
+-- data to the card move between procedure bytes
 abbrev put_two : Dialogue
 put_two = record {
   body = record {
@@ -77,14 +77,14 @@ refused_at_once = refl
 refused_follows : Follows refused plain
 refused_follows = record { all_or_nothing = inl refl; step_by_step = refl }
 
--- 00 counts 256 from the card and nothing to the card
+-- P3 00 means 256 from the card and none to the card
 all_of_256 : segments_of [] 256 ≡ All ∷ []
 all_of_256 = refl
 
 nulls_alone : segments_of (One ∷ All ∷ Null ∷ []) 0 ≡ Null ∷ []
 nulls_alone = refl
 
--- near miss: the last data character under "one" is no "all"
+-- near miss: the last data character under `One` is no `All`
 all_for_the_last_one : segments_of (One ∷ One ∷ []) 2 ≡ One ∷ All ∷ [] → ⊥
 all_for_the_last_one is = absurd (cc)
 
@@ -106,7 +106,7 @@ part_of_the_data follows = absurd (cc_of follows.step_by_step)
     cc_of : One ∷ [] ≡ All ∷ [] → ⊥
     cc_of is = absurd (cc)
 
--- near miss: 6D is no instruction, so the card's 6D 00 is its status
+-- near miss: 6D is no valid INS, so the card's 6D 00 is its status
 transfer_under_6D : (p3 : ℕ) (moved : List ℕ)
     → IsDialogue (record {
       body =
@@ -122,12 +122,12 @@ transfer_under_6D : (p3 : ℕ) (moved : List ℕ)
     }) → ⊥
 transfer_under_6D p3 moved is = let all_is_null = (is.only_nulls refl).0 in absurd (cc)
 
--- the procedure bytes of CA, and a first status byte, which is none
+-- the procedure bytes of CA, and a SW1, which is not one
 kinds_of_CA : (step_of 0xCA 0x60 ≡ Some Null) × (step_of 0xCA 0xCA ≡ Some All)
     × (step_of 0xCA 0x35 ≡ Some One) × (step_of 0xCA 0x90 ≡ None)
 kinds_of_CA = (refl, refl, refl, refl)
 
--- a cursor past its list keeps none
+-- a cursor past its list keeps no plan
 past_the_end : plan_kept
     (advanced (record { rest = []; kept = Some (record { steps = Null ∷ []; cut = 1 }) })) ≡ plain
 past_the_end = refl

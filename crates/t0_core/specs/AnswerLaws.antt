@@ -1,4 +1,4 @@
--- Laws of an end that is given the answer to a whole TPDU: where it stands before and after it.
+-- Laws of a terminal's end that takes the answer to a whole TPDU: its front before and after.
 use Rattle.std.proofs.Common.{◌≡◌, ℕ, zero, suc, ◌+◌, ◌-◌, ◌<◌, ◌≤◌, List, [], ◌∷◌, ◌++◌, length, take, refl, sym, ◌∙◌, ap, arith, true, false, lit<, Bool, Option, Some, None, ◌⊎◌, inl, inr, if◌then◌else◌, subst, append_assoc, append-nil, length-append}
 use Rattle.std.proofs.lemmas.Bool.{eqb-true, le-ltb, ltb-false, leb-true, leb-false}
 use Rattle.std.specs.Prelude.{nat_lt, nat_le}
@@ -25,7 +25,7 @@ use Rattle.t0_core.specs.declared.answer_fault.AnswerFault.{AnswerFault}
 use Rattle.t0_core.specs.declared.answer_fault.AnswerFault.TheVariants.{NotDue, NotAsked, TooMany, TooLong}
 use Rattle.t0_core.specs.HostAnswer.{is_due, may_come, excess, answer_fault, Gives}
 
--- a TPDU is due exactly at the fresh front
+-- a TPDU is about to start exactly at the fresh front
 due_at : (host : Hosting) (stage : HostStage) (front : Front)
     → HostStandsAt (at_stage host stage) front → is_due (at_stage host stage) ≡ true
     → front ≡ fresh
@@ -54,7 +54,7 @@ due_sends_at : (host : Hosting) (stage : HostStage) → is_due (at_stage host st
 due_sends_at host (SendingHeader sent) due = (_, refl)
 due_sends_at host _ due = absurd (cc)
 
--- where one is due the end has a character to send
+-- in that state the end has a character to send
 pub due_sends : (host : Hosting) → is_due host ≡ true → (byte : ℕ) × (turn_of host ≡ Sends byte)
 due_sends host due = due_sends_at host host.stage due
 
@@ -81,7 +81,7 @@ no_excess true true fits excess fault none e = absurd (cc)
 no_excess true false true excess fault none e = absurd (cc)
 no_excess true false false excess fault none e = inr (cc)
 
--- a dialogue that the end opened is refused for want of room alone
+-- an answer of a dialogue that the end opened is refused only for lack of room
 pub answer_suits : (host : Hosting) (gather : Room) (bytes : List ℕ) (sw : StatusWord)
     (d : Dialogue) (fault : AnswerFault) → Gives host d bytes sw
     → answer_fault host gather bytes ≡ Some fault → (fault ≡ NotDue) ⊎ (fault ≡ TooLong)
@@ -93,7 +93,7 @@ answer_suits host gather bytes sw d fault gives e =
     (le-ltb (may_come host.direction host.p3) (length bytes)
     (omega (arith, brings_no_more d gives.is_dialogue, same, ap length gives.brings))) e
 
--- ---- each answer that is taken, or has no room, is that of a dialogue
+-- ---- each answer that is taken, or lacks room, is that of a dialogue
 
 abbrev ones : List ℕ → List Step
 ones [] = []
@@ -179,9 +179,9 @@ answer_is_given host gather bytes sw request status why =
     (ltb-false (may_come host.direction host.p3) (length bytes)
     (no_more _ _ _ host.direction _ refl why))
 
--- ---- a dialogue that brings more than so many bytes
+-- ---- a dialogue that brings more than k bytes
 
--- the dialogue is opened as the front is
+-- the dialogue starts like the front
 abbrev pub IsOpenedAlike : Front → Dialogue → Type 0
 IsOpenedAlike (In_header bytes) d = Unit {0}
 IsOpenedAlike (In_body b) d = (b.header ≡ d.body.header) × (b.p3 ≡ d.body.p3)
@@ -211,7 +211,7 @@ alike (c ∷ cs) (After_first b sw1) d (inl (ends, none)) =
 alike (c ∷ cs) front d (inr (new, goes, through)) =
     alike_before front new c d goes (alike cs new d through)
 
--- A front at which so many bytes have come, and one more is the next character.
+-- A front at which k bytes were received, and one more is the next character.
 pub record Overflows (k : ℕ) (front : Front) (cs : List Character) (d : Dialogue) : Type 0 where
   pub body : Body
   pub byte : ℕ
@@ -322,7 +322,7 @@ overflows k (c ∷ cs) front d front_is (inr (new, goes, through)) le over =
         over_now k front new c cs d front_is goes le (leb-false (length (brought new)) k e)
         (alike_before front new c d goes (alike cs new d through))
 
--- a dialogue that brings more than so many bytes comes to the first of them that is too many
+-- a dialogue that brings more than k bytes reaches the first of them that is too many
 pub dialogue_overflows : (k : ℕ) (d : Dialogue) → IsDialogue d → k < length (received d)
     → Overflows k fresh (characters d) d
 dialogue_overflows k d is over =

@@ -1,4 +1,4 @@
--- A card's end that answers a whole TPDU, between two characters: words of functions in the middle.
+-- A card's end during a whole TPDU, between two characters. Words for inner functions.
 use Rattle.std.specs.Prelude.{◌≡◌, ℕ, ◌<◌, List, ◌∷◌, [], ◌++◌, length, ◌⊎◌, Option, nat_lt, if◌then◌else◌, MatchOption, Result, MatchResult}
 use Rattle.apdu_core.specs.StatusWord.{StatusWord}
 use Rattle.t0_core.specs.declared.tpdu_card.TpduCard.{Ghosts}
@@ -16,12 +16,12 @@ use Rattle.t0_core.specs.Room.{Room}
 use Rattle.t0_core.specs.TpduBytes.{Asked}
 use Rattle.t0_core.specs.CardTpdu.{IsOf, IsCarriedOut, IsStuck, IsCause}
 
--- the next data character, the terminal's or the card's, with its place
+-- the next data character, the terminal's or the card's, with its index
 abbrev pub data_awaited : Direction → ℕ → Awaited
 data_awaited ToCard moved = next.OfTerminal moved
 data_awaited FromCard moved = next.OfCard moved
 
--- which character a card's end goes on with
+-- the next character at a card's end
 abbrev pub awaited_in : Stage → Awaited
 awaited_in (Taking_header bytes) = next.OfHeader
 awaited_in (Refusing header p3 status done) = next.Procedure
@@ -34,12 +34,12 @@ IsFrontOf asked (In_header bytes) = ⊥
 IsFrontOf asked (In_body b) = IsOf asked b
 IsFrontOf asked (After_first b sw1) = IsOf asked b
 
--- there are no data to the card, or as many as P3 says
+-- there are no data to the card, or as many as P3 states
 abbrev pub IsWhole : Asked → Type 0
 IsWhole asked = (asked.content ≡ []) ⊎ (length asked.content ≡ asked.p3)
 
--- the card has begun to answer, as it may under this instruction, its state stands, and the data
--- from it are gathered behind those before
+-- The card has begun to answer, with a verdict that this instruction permits. Its state is still
+-- the one before the TPDU. The data from it are gathered after those before.
 pub record IsAnswering {C : Type 0} (card : Ghosts C) (first : card.State) (plan : Course)
     (asked : Asked) (before got : List ℕ) (e : EndOf C) : Type 0 where
   pub whole : IsWhole asked
@@ -54,7 +54,7 @@ pub record IsAnswering {C : Type 0} (card : Ghosts C) (first : card.State) (plan
   pub begun : under_way e.stage plan ≡ plan ∷ []
   pub gathers : got ≡ before ++ brought front
 
--- the TPDU is over, and the end waits for the next header
+-- the TPDU has ended, and the end waits for the next header
 abbrev pub Ends : {C : Type 0} (card : Ghosts C) → card.State → Course → Asked → List ℕ → Room
     → EndOf C → StatusWord → Type 0
 Ends card first plan asked before room e status =
@@ -68,7 +68,7 @@ abbrev pub Sticks : {C : Type 0} (card : Ghosts C) → card.State → Course →
 Sticks card first plan asked before room e fault = (b : Body)
     × IsStuck card first plan asked before room b e × IsCause asked room b fault
 
--- So it is with what the card was answering.
+-- What one more character does to a card's end that was answering.
 abbrev pub Passes : {C : Type 0} (card : Ghosts C) → card.State → Course → Asked → List ℕ → EndOf C
     → Room → EndOf C → Result (Option StatusWord) TpduFault → Type 0
 Passes card first plan asked before old room new result = MatchResult result

@@ -1,26 +1,26 @@
--- Characters that pass by a buffer: what it does is so many steps of one character each.
+-- Many characters through a buffer: one step for each.
 use Rattle.std.specs.Prelude.{◌≡◌, ◌≤◌, ℕ, List, [], ◌∷◌, length, take, drop, Some}
 use Rattle.t0_core.specs.declared.end.End.TheVariants.{Terminal}
 use Rattle.t0_core.specs.declared.host_end.HostTurn.TheVariants.{Sends}
 use Rattle.t0_core.specs.Front.{Front, GoesOn}
 use Rattle.t0_core.specs.HostSide.{Hosting, HostStandsAt, IsRequest, at_stage, turn_of, data_due, after_turn}
 
--- These bytes lead from a state to the last, by one step for each.
+-- These bytes lead from a state to the last one, by one step each.
 abbrev pub Steps : {State : Type 0} → (State → ℕ → State → Type 0) → State → List ℕ → State
     → Type 0
 Steps Step s [] last = last ≡ s
 Steps Step s (b ∷ bs) last = (next : _) × Step s b next × Steps Step next bs last
 
--- So many bytes were handed out into a buffer, by one step for each: they stand at its front, and
--- what stands behind them stays as it was.
+-- `count` bytes were written to the front of a buffer, by one step each. The rest of the buffer is
+-- unchanged.
 pub record HandsOut {State : Type 0} (Step : State → ℕ → State → Type 0) (old : State)
     (before after : List ℕ) (count : ℕ) (new : State) : Type 0 where
   pub fits : count ≤ length before
   pub steps : Steps Step old (take count after) new
   pub behind : drop count after ≡ drop count before
 
--- A terminal's end hands out the data character that is due, as in its turn. With it a dialogue
--- that the end opened goes on.
+-- A terminal's end sends its next data character, as in its turn. A dialogue that the end opened
+-- continues with it.
 pub record IsDataTurn (old : Hosting) (byte : ℕ) (new : Hosting) : Type 0 where
   pub due : data_due old ≡ Some byte
   pub sends : turn_of old ≡ Sends byte

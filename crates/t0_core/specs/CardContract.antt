@@ -1,4 +1,4 @@
--- What the line asks of a card: its verdict on a header, and what may be called then.
+-- What the line requires of a card: its verdict on a header, and what may be called then.
 use Rattle.std.specs.Prelude.{◌≡◌, ℕ, length}
 use Rattle.apdu_core.specs.StatusWord.{count}
 use Rattle.t0_core.specs.declared.tpdu_card.Verdict.{Verdict}
@@ -11,20 +11,20 @@ IsRefusal (Refuse status) = Unit {0}
 IsRefusal Receive = ⊥
 IsRefusal Send = ⊥
 
--- Data move only for instructions to which the card may say so.
+-- Data move only for instructions for which the card may give this verdict.
 abbrev pub Permits : (ℕ → Type 0) → (ℕ → Type 0) → ℕ → Verdict → Type 0
 Permits MayReceive MaySend ins (Refuse status) = Unit {0}
 Permits MayReceive MaySend ins Receive = MayReceive ins
 Permits MayReceive MaySend ins Send = MaySend ins
 
--- there is an answer whose second status character is due
+-- an answer is decided, and its SW2 is still to be sent
 abbrev pub IsDecided : {State : Type 0} → Prepared State → Type 0
 IsDecided Nothing = ⊥
 IsDecided (Receiving ask) = ⊥
 IsDecided (Sending ask bytes) = ⊥
 IsDecided (Decided next) = Unit {0}
 
--- A refusal is an answer by the card's meaning. To send there are as many bytes as P3 counts.
+-- A refusal is an answer by the card's meaning. To send, the card has as many bytes as P3 states.
 abbrev pub Judges : {State : Type 0} → (State → ℕ → Tpdu → State → Type 0) → State → Ask → Verdict
     → Prepared State → Type 0
 Judges Does standing ask (Refuse status) prepared =

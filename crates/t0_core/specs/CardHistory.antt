@@ -1,4 +1,4 @@
--- What led to a card's end: all that has gone on since it was made, or since a reset.
+-- What led to the state of a card's end since it was made, or since a reset.
 use Rattle.std.specs.Prelude.{◌≡◌, ℕ, List, [], ◌∷◌, ◌++◌, length}
 use Rattle.std.specs.List.{AllByRecursion, flat_map}
 use Rattle.t0_core.specs.Character.{Character}
@@ -9,8 +9,8 @@ use Rattle.t0_core.specs.Front.{Front, front_characters, IsFront}
 use Rattle.t0_core.specs.CardSide.{Stage, Taking_header, Refusing, Serving, Ending, StandsAt, IsOnPlan}
 use Rattle.t0_core.specs.History.{Event, Item, IsPart, IsPartUnder, RunsOver, events_of, passed}
 
--- the end stands at this front, with which a dialogue that follows some plan begins, under a cut in
--- range
+-- The end is at this front, under a cut in range. Some dialogue that follows a plan begins with the
+-- front.
 pub record IsAt {State : Type 0} (Does : State → ℕ → Tpdu → State → Type 0)
     (standing : State) (prepared : Prepared State) (stage : Stage) (cut : ℕ) (front : Front) : Type
     0 where
@@ -19,9 +19,9 @@ pub record IsAt {State : Type 0} (Does : State → ℕ → Tpdu → State → Ty
   pub in_range : IsCut cut
   pub stands : StandsAt Does standing prepared stage cut front
 
--- These events lead to the end as it is: whole dialogues, each of which follows some plan, and
--- resets, each with what it cut off, which are a run of the card's own meaning; and a front of one
--- more dialogue.
+-- These events lead to the state of the end. They are whole dialogues under plans, and resets with
+-- the parts that they cut off, which together are a run of the card's own meaning. The front of one
+-- more dialogue ends them.
 pub record Leads {State : Type 0} (Does : State → ℕ → Tpdu → State → Type 0)
     (after_reset : State → State)
     (first : State) (events : List Event) (standing : State) (prepared : Prepared State)
@@ -49,9 +49,9 @@ pub record AreDone {State : Type 0} (Does : State → ℕ → Tpdu → State →
   pub follow : FollowInTurn whole plans
   pub runs : Runs Does first whole plans standing
 
--- Where each TPDU has one cursor throughout, the characters since a reset are whole dialogues that
--- follow the plans taken, in turn, and a front of one more, with which a dialogue begins that
--- follows the plan taken last.
+-- If each TPDU has one cursor throughout: the characters since a reset are whole dialogues that
+-- follow the plans taken, in turn, and a front of one more. Some dialogue that follows the plan
+-- taken last begins with that front.
 pub record LeadsUnder {State : Type 0} (Does : State → ℕ → Tpdu → State → Type 0) (first : State)
     (came : List Character)
     (taken : List Course) (standing : State) (prepared : Prepared State) (stage : Stage) : Type 0

@@ -1,4 +1,4 @@
--- Laws of where a card's end stands.
+-- Laws of the fronts of a card's end.
 use Rattle.std.proofs.Common.{◌≡◌, ℕ, ◌+◌, ◌<◌, List, [], ◌∷◌, length, refl, sym, ◌∙◌, ap, arith, inl, inr, lit<, true, false, ◌&&◌, nat_lt, length-append, eq-eqb}
 use Rattle.std.proofs.lemmas.Bool.{eqb-true, ltb-true, ltb-false}
 use Rattle.t0_core.specs.declared.end.End.TheVariants.{Terminal, Card}
@@ -11,7 +11,7 @@ use Rattle.t0_core.specs.Front.{Front, In_header, In_body, After_first, GoesOn, 
 use Rattle.t0_core.specs.CardSide.{Stage, Taking_header, Refusing, Serving, Ending, StandsAt, listens, takes_plan, with_character, still_to_go, comes_from_terminal}
 use Rattle.t0_core.specs.CardHistory.{under_way}
 
--- the terminal's data are due
+-- the terminal sends the next data character
 pub due_data : (d : Direction) (a b : ℕ) → (comes_from_terminal d && nat_lt a b) ≡ true
     → (d ≡ ToCard) × (a < b)
 due_data ToCard a b due = (refl, ltb-true a b due)
@@ -30,7 +30,7 @@ next_header (a ∷ b ∷ c ∷ d ∷ []) byte lt = (
 )
 next_header (a ∷ b ∷ c ∷ d ∷ e ∷ rest) byte lt = absurd (omega (arith, lt))
 
--- where a card's end listens, any character of the terminal leads to a next front
+-- if a card's end listens, any character of the terminal leads to a next front
 pub next_front : {State : Type 0} (Does : State → ℕ → Tpdu → State → Type 0) (standing : State)
     (prepared : Prepared State) (stage : Stage) (cut byte : ℕ) (front : Front)
     → listens stage ≡ true → StandsAt Does standing prepared stage cut front
@@ -52,20 +52,20 @@ next_front Does s p (Serving service came) cut byte (In_body b) due stands =
 next_front Does s p (Ending status) cut byte front due stands = absurd (cc)
 next_front _ _ _ _ _ _ _ _ stands = absurd stands
 
--- with a character of the terminal the plan of the TPDU stays
+-- a character of the terminal leaves the plan of the TPDU
 pub taken_stays : (stage : Stage) (plan : Course) (byte : ℕ)
     → under_way (with_character stage byte) plan ≡ under_way stage plan
 taken_stays (Taking_header bytes) plan byte = refl
 taken_stays _ _ _ = refl
 
--- what is to go where a plan is taken next
+-- the characters left before a plan is taken
 pub before_plan : (stage : Stage) (plan : Course) → takes_plan stage ≡ true
     → still_to_go stage plan ≡ length plan.steps + 300
 before_plan (Taking_header bytes) plan e = let five : length bytes ≡ 5 =
     eqb-true (length bytes) 5 e in omega (arith, five)
 before_plan _ plan e = absurd (cc)
 
--- how many segments and data a front has, or one, with SW1
+-- the number of segments and data of a front; 1 after SW1
 abbrev weight : Front → ℕ
 weight (In_header f) = 0
 weight (In_body b) = length b.segments + length b.moved
@@ -80,7 +80,7 @@ weighs (In_body b) new byte (inr (inl begins)) =
 weighs (In_body b) new byte (inr (inr ends)) = omega (arith, ap weight ends.3)
 weighs (After_first b sw1) new byte goes = absurd goes
 
--- after a hand-out the card has begun to answer
+-- after its first character the card has begun to answer
 pub begun : {State : Type 0} (Does : State → ℕ → Tpdu → State → Type 0) (standing : State)
     (prepared : Prepared State) (stage : Stage) (cut byte : ℕ) (plan : Course) (front new : Front)
     → GoesOn front (Card, byte) new → StandsAt Does standing prepared stage cut new
@@ -97,7 +97,7 @@ begun Does s p (Taking_header bytes) cut byte plan front (After_first b sw1) goe
     absurd stands
 begun _ _ _ _ _ _ _ _ _ _ _ = refl
 
--- where the card's turn has come, and it has its plan, it has begun to answer
+-- if it is the card's turn and it has its plan, it has begun to answer
 pub answers_on : {State : Type 0} (Does : State → ℕ → Tpdu → State → Type 0) (standing : State)
     (prepared : Prepared State) (stage : Stage) (cut : ℕ) (plan : Course) (front : Front)
     → StandsAt Does standing prepared stage cut front → listens stage ≡ false

@@ -1,4 +1,4 @@
--- The card's end of the line: how far it stands, and which dialogues led to it.
+-- The card's end of the line: its progress, and the fronts of dialogues at which it is.
 use Rattle.std.specs.Prelude.{◌≡◌, ℕ, ◌+◌, ◌-◌, ◌<◌, ◌≤◌, List, [], ◌∷◌, ◌++◌, length, take, drop, true, false, nat_lt, ◌==◌, ◌&&◌, Bool, ◌⊎◌, if◌then◌else◌}
 use Rattle.std.specs.List.{AllByRecursion}
 use Rattle.apdu_core.specs.declared.header.Header.{Header}
@@ -15,12 +15,12 @@ use Rattle.t0_core.specs.Plan.{Course, segments_of, Follows}
 use Rattle.t0_core.specs.Meaning.{Tpdu, tpdu_of, Ask, Prepared, Decided, Decides, IsReceiving, IsSending, refused}
 use Rattle.t0_core.specs.Front.{Front, In_header, In_body, After_first, header_only, GoesOn, Ends}
 
--- what a card end itself keeps of a TPDU
+-- the state of a card's end in a TPDU 20~ characters of the header, at most five
 pub data Stage : Type 0 where
   Taking_header : (bytes : List ℕ) → Stage  -- characters of the header, at most five
-  -- the status of a refused header is to come; steps done
+  -- SW1 of a refused header follows, after NULLs; the number of steps done
   Refusing : (header : Header) (p3 : ℕ) (status : StatusWord) (done : ℕ) → Stage
-  -- data are to move; those that have come from the terminal
+  -- data move; those received from the terminal 25~ SW1 was sent
   Serving : (service : Service) (came : List ℕ) → Stage
   Ending : (status : StatusWord) → Stage  -- SW1 is handed out
 
@@ -28,7 +28,7 @@ pub record EndOf (C : Type 0) : Type 0 where
   pub card : C
   pub stage : Stage
 
--- how many data characters are to move
+-- the number of data characters in the TPDU
 abbrev pub whole_of : Service → ℕ
 whole_of s = foreseen s.direction s.p3
 
@@ -36,14 +36,14 @@ abbrev pub comes_from_terminal : Direction → Bool
 comes_from_terminal ToCard = true
 comes_from_terminal FromCard = false
 
--- the next character is the terminal's: the header is not whole, or its data are due
+-- the terminal sends next: its header is incomplete, or its data follow
 abbrev pub listens : Stage → Bool
 listens (Taking_header bytes) = nat_lt (length bytes) 5
 listens (Refusing header p3 status done) = false
 listens (Serving s came) = comes_from_terminal s.direction && nat_lt s.moved s.until
 listens (Ending status) = false
 
--- the next character is the card's first of this TPDU: with it a plan is taken
+-- the card sends its first character of this TPDU next, and takes a plan with it
 abbrev pub takes_plan : Stage → Bool
 takes_plan (Taking_header bytes) = length bytes == 5
 takes_plan (Refusing header p3 status done) = false
@@ -68,9 +68,9 @@ with_character (Refusing header p3 status done) byte = Refusing header p3 status
 with_character (Serving s came) byte = Serving (one_moved s) (came ++ byte ∷ [])
 with_character (Ending status) byte = Ending status
 
--- A number that falls with each character of a TPDU, under one plan: characters of the header that
--- are to come, the steps and the data that are left, one more "all" where data will be left without
--- a step, and the status.
+-- A measure that falls with each character of a TPDU under one plan. It counts the header
+-- characters left, the steps and the data left, one more `All` if data will be left without a step,
+-- and the status.
 abbrev pub still_to_go : Stage → Course → ℕ
 still_to_go (Taking_header bytes) plan = (5 - length bytes) + length plan.steps + 300
 still_to_go (Refusing header p3 status done) plan = (length plan.steps - done) + 2
@@ -79,25 +79,25 @@ still_to_go (Serving s came) plan =
     + (if nat_lt s.until (whole_of s) then 1 else 0) + 2
 still_to_go (Ending status) plan = 1
 
--- the header is whole, and these are its characters
+-- the characters of a whole header
 abbrev pub begins_with : Header → ℕ → List ℕ
 begins_with header p3 = header_bytes header ++ p3 ∷ []
 
 abbrev pub ask_of : Service → ℕ → Ask
 ask_of s cut = record { header = s.header; p3 = s.p3; cut = cut }
 
--- a segment moves something, or is a NULL
+-- a segment moves data, or is a NULL
 abbrev pub Starts : Step → ℕ → Type 0
 Starts Null remain = Unit {0}
 Starts One remain = 0 < remain
 Starts All remain = 0 < remain
 
--- no segment is begun in vain, where so many data characters are to move
+-- no segment starts without data to move, except NULLs, if this number of characters is to move
 abbrev pub IsFrugal : List Step → ℕ → Type 0
 IsFrugal [] remain = Unit {0}
 IsFrugal (s ∷ segments) remain = Starts s remain × IsFrugal segments (remain - moves s remain)
 
--- after a refused header there are NULLs alone, and no data
+-- after a refused header only NULLs follow, and no data
 pub record IsRefused {State : Type 0} (Does : State → ℕ → Tpdu → State → Type 0) (standing : State)
     (prepared : Prepared State)
     (header : Header) (p3 : ℕ) (status : StatusWord) (cut : ℕ) (b : Body) : Type 0 where
@@ -108,7 +108,7 @@ pub record IsRefused {State : Type 0} (Does : State → ℕ → Tpdu → State �
   pub decides : Decides Does standing cut
       (refused (record { header = header; p3 = p3; cut = cut }) status) prepared
 
--- the data moved are those that the terminal sent, or the first of those that the card has ready
+-- the moved data are those of the terminal, or the first of those that the card has ready
 abbrev pub ServesBy : {State : Type 0} → Prepared State → Direction → Service → List ℕ → ℕ → List ℕ
     → Type 0
 ServesBy prepared ToCard s came cut moved =
@@ -117,7 +117,7 @@ ServesBy prepared FromCard s came cut moved =
     IsSending prepared (λ ask bytes. (ask ≡ ask_of s cut) × (length bytes ≡ count s.p3)
     × (moved ≡ take s.moved bytes))
 
--- after any other there are segments and data
+-- after an accepted header segments and data follow
 pub record IsServed {State : Type 0} (prepared : Prepared State) (s : Service) (came : List ℕ)
     (cut : ℕ) (b : Body) : Type 0 where
   pub header_is : b.header ≡ s.header
@@ -131,11 +131,11 @@ pub record IsServed {State : Type 0} (prepared : Prepared State) (s : Service) (
   pub valid : ins_is_valid s.header.ins ≡ true
   pub serves : ServesBy prepared s.direction s came cut b.moved
 
--- a dialogue follows the plan that its own segments are
+-- a dialogue follows the plan made of its own segments
 abbrev pub FollowsItself : Dialogue → ℕ → Type 0
 FollowsItself d cut = Follows d (record { steps = d.body.segments; cut = cut })
 
--- The end stands at this front of a dialogue under this cut, over a card with these members.
+-- The end is at this front of a dialogue, under this cut, over a card in this state.
 abbrev pub StandsAt : {State : Type 0} → (State → ℕ → Tpdu → State → Type 0) → State
     → Prepared State → Stage → ℕ → Front → Type 0
 StandsAt Does standing prepared (Taking_header bytes) cut (In_header front) =
@@ -158,7 +158,7 @@ StandsAt {State = State} Does standing prepared (Ending status) cut (After_first
 StandsAt Does standing prepared (Ending status) cut (In_header front) = ⊥
 StandsAt Does standing prepared (Ending status) cut (In_body b) = ⊥
 
--- the segments so far are those of the plan's steps that are done; those of the others are still to
+-- the segments so far are those of the steps done; the segments of the other steps are still to
 -- come
 abbrev pub AreOnPlan : List Step → List Step → ℕ → ℕ → ℕ → Type 0
 AreOnPlan segments steps whole until done =
@@ -179,14 +179,14 @@ IsOnPlan (Ending status) plan (After_first b sw1) =
 IsOnPlan (Ending status) plan (In_header front) = ⊥
 IsOnPlan (Ending status) plan (In_body b) = ⊥
 
--- the segments that are still to come under a plan: those of its steps from the count on
+-- the segments still to come under a plan: those of its steps after the ones done
 abbrev pub to_come : Stage → Course → List Step
 to_come (Taking_header bytes) plan = []
 to_come (Refusing header p3 status done) plan = segments_of (drop done plan.steps) 0
 to_come (Serving s came) plan = segments_of (drop s.done plan.steps) (whole_of s - s.until)
 to_come (Ending status) plan = []
 
--- between segments the card begins the first that is still to come, or, where none is, its status
+-- between segments the card starts the next one that is still to come, or else its status
 abbrev pub BeginsNext : ℕ → Stage → Course → ℕ → Stage → Type 0
 BeginsNext ins before plan byte stage =
     ((step : Step) × (to_come before plan ≡ step ∷ to_come stage plan)
@@ -194,8 +194,8 @@ BeginsNext ins before plan byte stage =
     ⊎ ((to_come before plan ≡ []) × (status : StatusWord) × (byte ≡ status.0)
     × (stage ≡ Ending status))
 
--- The steps done are counted, and from that count on any plan is gone through, also one that the
--- TPDU has not begun with.
+-- The end counts the steps done, and continues from that count in any plan, even one that the TPDU
+-- did not start with.
 abbrev pub GoesByCount : Stage → Course → ℕ → Stage → Type 0
 GoesByCount (Taking_header bytes) plan byte stage = Unit {0}
 GoesByCount (Refusing header p3 status done) plan byte stage =
@@ -205,7 +205,7 @@ GoesByCount (Serving s came) plan byte stage =
     ⊎ ((s.until ≤ s.moved) × BeginsNext s.header.ins (Serving s came) plan byte stage)
 GoesByCount (Ending status) plan byte stage = Unit {0}
 
--- data move only under instructions to which the card may say so
+-- data move only under instructions for which the card may give this verdict
 abbrev pub PermitsData : (ℕ → Type 0) → (ℕ → Type 0) → ℕ → Direction → Type 0
 PermitsData MayReceive MaySend ins ToCard = MayReceive ins
 PermitsData MayReceive MaySend ins FromCard = MaySend ins
@@ -225,9 +225,9 @@ SuitsFront (Serving s came) (In_body b) = b.direction ≡ s.direction
 SuitsFront (Serving s came) (After_first b sw1) = Unit {0}
 SuitsFront (Ending status) front = Unit {0}
 
--- With a character of the card the dialogue goes on, and the card's state stands; or it ends, is a
--- dialogue, and is a step of the card's own meaning. Where it was on the plan it stays on it, and
--- at its end has followed it.
+-- With a character of the card the dialogue continues, and the card's state is unchanged. Or the
+-- dialogue ends, and is a step of the card's own meaning. If it was on the plan, it stays on it,
+-- and at its end has followed it.
 abbrev pub Advances : {State : Type 0} → (State → ℕ → Tpdu → State → Type 0) → ℕ → Course → Stage
     → Front → ℕ → State → State → Prepared State → Stage → Type 0
 Advances Does cut plan before front byte old standing prepared stage =

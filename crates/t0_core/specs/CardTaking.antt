@@ -1,4 +1,4 @@
--- What a character of the terminal does to a card's end that listens, for calls that take many.
+-- The effect of one character on a card's end that listens, for calls that take many.
 use Rattle.std.specs.Prelude.{◌≡◌, ℕ, ◌<◌, List, [], ◌∷◌, ◌++◌, true}
 use Rattle.t0_core.specs.declared.tpdu_card.TpduCard.{Ghosts}
 use Rattle.t0_core.specs.declared.end.End.TheVariants.{Terminal}
@@ -9,8 +9,8 @@ use Rattle.t0_core.specs.History.{Event, Passed}
 use Rattle.t0_core.specs.CardHistory.{Leads, LeadsUnder}
 use Rattle.t0_core.specs.CardSide.{EndOf, StandsAt, IsOnPlan, listens, with_character, still_to_go}
 
--- It takes the character. The dialogue under way goes on with it and stays on its plan, and
--- whatever led to the end leads to it with this character.
+-- The end takes the character. The dialogue continues with it and stays on its plan. What led to
+-- the end before leads, with this character, to the end after.
 pub record IsTaken {C : Type 0} (card : Ghosts C) (old : EndOf C) (byte : ℕ) (new : EndOf C)
     : Type 0 where
   pub listening : listens old.stage ≡ true

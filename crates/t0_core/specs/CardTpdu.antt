@@ -1,5 +1,5 @@
--- A whole TPDU at a card's end, as a reader's firmware carries it out (ISO/IEC 7816-3, 10.3; what
--- comes of one that the card takes otherwise: this project's profile).
+-- A whole TPDU at a card's end, as a reader's firmware carries it out (ISO/IEC 7816-3, 10.3). The
+-- result if it cannot be carried out is this project's profile.
 use Rattle.std.specs.Prelude.{◌≡◌, ℕ, ◌<◌, ◌≤◌, List, ◌∷◌, [], ◌++◌, length, take, ◌⊎◌, Bool, true, false, ◌==◌, Some, None, Result, Err, MatchResult}
 use Rattle.apdu_core.specs.StatusWord.{StatusWord}
 use Rattle.t0_core.specs.declared.tpdu_card.TpduCard.{Ghosts}
@@ -18,14 +18,14 @@ use Rattle.t0_core.specs.CardSide.{EndOf, Stage, Taking_header, Refusing, Servin
 use Rattle.t0_core.specs.Room.{Room}
 use Rattle.t0_core.specs.TpduBytes.{Asked, asked_in}
 
--- none of a TPDU's characters has gone
+-- no character of a TPDU was sent yet
 abbrev pub rests : Stage → Bool
 rests (Taking_header bytes) = length bytes == 0
 rests (Refusing header p3 status done) = false
 rests (Serving s came) = false
 rests (Ending status) = false
 
--- To the card the first of the data that were given have moved; from it no more than may come.
+-- To the card, the first of the given data have moved; from it, no more than may come.
 abbrev pub AreAsked : Direction → Asked → List ℕ → Type 0
 AreAsked ToCard asked moved = moved ≡ take (length moved) asked.content
 AreAsked FromCard asked moved = length moved ≤ asked.may_come
@@ -34,9 +34,9 @@ abbrev pub IsOf : Asked → Body → Type 0
 IsOf asked b = (b.header ≡ asked.header) × (b.p3 ≡ asked.p3)
     × AreAsked b.direction asked b.moved
 
--- A dialogue of the card's own meaning has gone, under this plan, with the header and P3 that were
--- asked; all data that were given have moved or none, and from the card no more than may come;
--- these are gathered, and the status is this.
+-- A dialogue of the card's own meaning took place under this plan, with this header and P3, and
+-- this status. All given data have moved or none. The data from the card, no more than may come,
+-- are gathered.
 pub record IsCarriedOut {State : Type 0} (Does : State → ℕ → Tpdu → State → Type 0)
     (first : State) (plan : Course) (asked : Asked) (before got : List ℕ) (next : State)
     (status : StatusWord) (d : Dialogue) : Type 0 where
@@ -48,8 +48,8 @@ pub record IsCarriedOut {State : Type 0} (Does : State → ℕ → Tpdu → Stat
   pub gathers : got ≡ before ++ received d
   pub status_is : d.status ≡ status
 
--- The card's end has come so far with what was asked, its state stands, and data are to move next,
--- as they may under this instruction.
+-- The end is in the middle of the TPDU that was asked, the card's state is unchanged, and data move
+-- next, as this instruction permits.
 pub record IsStuck {C : Type 0} (card : Ghosts C) (first : card.State) (plan : Course)
     (asked : Asked) (before : List ℕ) (room : Room) (b : Body) (e : EndOf C) : Type 0 where
   pub is_front : IsFront (In_body b)
@@ -62,8 +62,8 @@ pub record IsStuck {C : Type 0} (card : Ghosts C) (first : card.State) (plan : C
   pub permitted : PermitsData card.MayReceive card.MaySend asked.header.ins b.direction
   pub due : length b.moved < to_move b
 
--- Why they don't move: the card takes more than were given; it sends more than may come, or more
--- than there is room for.
+-- Why the data can't move: the card takes more than were given, or sends more than may come, or
+-- more than there is room for.
 abbrev pub IsCause : Asked → Room → Body → TpduFault → Type 0
 IsCause asked room b UnderWay = ⊥
 IsCause asked room b NoTpdu = ⊥
@@ -75,7 +75,8 @@ IsCause asked room b TooLong =
     (b.direction ≡ FromCard) × (length b.moved < asked.may_come)
     × (length room.bytes ≡ room.limit)
 
--- Whatever led to the end leads to it with the characters of this dialogue, and with its plan.
+-- What led to the end before leads, with the characters of this dialogue and its plan, to the end
+-- after.
 abbrev pub LeadsOnBy : {C : Type 0} (card : Ghosts C) → Course → EndOf C → EndOf C → Dialogue
     → Type 0
 LeadsOnBy card plan old new d =
@@ -90,8 +91,8 @@ LeadsOnBy card plan old new d =
     → LeadsUnder card.Does first (came ++ characters d) (taken ++ plan ∷ [])
     (card.standing new.card) (card.prepared new.card) new.stage)
 
--- Whatever led to the end leads to it with the characters that have gone, and then a reset; and
--- nothing leads to it from there.
+-- What led to the end before leads, with these characters and then a reset, to the end after. A new
+-- history starts there too.
 abbrev pub LeadsToReset : {C : Type 0} (card : Ghosts C) → EndOf C → EndOf C → Body → Type 0
 LeadsToReset card old new b =
     ((first : card.State) (events : List Event)
@@ -105,7 +106,7 @@ LeadsToReset card old new b =
     × LeadsUnder card.Does (card.standing new.card) [] [] (card.standing new.card)
     (card.prepared new.card) new.stage
 
--- what was asked is carried out, and answered with this status
+-- the TPDU is carried out, with this status
 abbrev pub Answers : {C : Type 0} (card : Ghosts C) → Asked → Course → EndOf C → Room → StatusWord
     → EndOf C → Room → Type 0
 Answers card asked plan old room status new room' = (d : Dialogue)
@@ -113,7 +114,7 @@ Answers card asked plan old room status new room' = (d : Dialogue)
     (card.standing new.card) status d
     × LeadsOnBy card plan old new d
 
--- the card was stuck in it, and has been reset
+-- the card was stuck in the TPDU, and has been reset
 abbrev pub Fails : {C : Type 0} (card : Ghosts C) → Asked → Course → EndOf C → Room → TpduFault
     → EndOf C → Room → Type 0
 Fails {C = C} card asked plan old room fault new room' = (b : Body) × (stuck : EndOf C)
@@ -122,7 +123,7 @@ Fails {C = C} card asked plan old room fault new room' = (b : Body) × (stuck : 
     × (card.standing new.card ≡ card.after_reset (card.standing old.card))
     × LeadsToReset card old new b
 
--- one or the other, under the next of the plans
+-- either of these, under the next plan
 abbrev pub HasGone : {C : Type 0} (card : Ghosts C) → Asked → EndOf C → Cursor → Room
     → Result StatusWord TpduFault → EndOf C → Cursor → Room → Type 0
 HasGone card asked old plans room result new plans' room' =
@@ -131,7 +132,8 @@ HasGone card asked old plans room result new plans' room' =
     (λ status. Answers card asked (plan_kept plans') old room status new room')
     (λ fault. Fails card asked (plan_kept plans') old room fault new room')
 
--- These bytes are carried out, where no TPDU is under way and they are one; else nothing changes.
+-- These bytes are carried out if no TPDU is in progress and they are one. Otherwise nothing
+-- changes.
 abbrev pub CarriesOut : {C : Type 0} (card : Ghosts C) → List ℕ → EndOf C → Cursor → Room
     → Result StatusWord TpduFault → EndOf C → Cursor → Room → Type 0
 CarriesOut card bytes old plans room result new plans' room' =

@@ -1,4 +1,4 @@
--- How the fields of a card's end are seen.
+-- How contracts see the fields of a card's end.
 use Rattle.std.specs.Prelude.{◌≡◌, ℕ, ◌+◌, ◌-◌, ◌<◌, ◌≤◌, ◌⊎◌, List, [], ◌∷◌, ◌++◌, length, take, drop, replicate, true, Option, Some, None}
 use Rattle.apdu_core.specs.HeaderBytes.{ins_is_valid}
 use Rattle.apdu_core.specs.StatusWord.{StatusWord, IsStatusWord, count}
@@ -22,13 +22,13 @@ stage_of (phase.Refused header p3 status done) came = Refusing header p3 status 
 stage_of (phase.Accepted service) came = Serving service (take service.moved came)
 stage_of (phase.SecondStatus status) came = Ending status
 
--- the phase after a character of the card in a service, which is then this: with SW1 the service
--- ends
+-- the phase after a character of the card during a service, which is then in this state; the
+-- service ends with SW1
 abbrev pub phase_after : Service → Option StatusWord → Phase
 phase_after service None = phase.Accepted service
 phase_after service (Some status) = phase.SecondStatus status
 
--- what the card has made ready fits the direction
+-- what the card has prepared suits the direction
 abbrev pub IsReadyFor : {State : Type 0} → Prepared State → Direction → ℕ → Type 0
 IsReadyFor prepared ToCard p3 = IsReceiving prepared (λ ask. p3 ≡ ask.p3)
 IsReadyFor prepared FromCard p3 = IsSending prepared (λ ask bytes. length bytes ≡ count p3)
@@ -40,21 +40,21 @@ pub record IsInService {State : Type 0} (prepared : Prepared State) (s : Service
   pub small : s.p3 < 256
   pub ready : IsReadyFor prepared s.direction s.p3
 
--- what the card has made ready fits the phase
+-- what the card has prepared suits the phase
 abbrev pub Fits : {State : Type 0} → Prepared State → Phase → Type 0
 Fits prepared (phase.Opening bytes taken) = (length bytes ≡ 5) × (taken ≤ 5)
 Fits prepared (phase.Refused header p3 status done) = IsDecided prepared
 Fits prepared (phase.Accepted service) = IsInService prepared service
 Fits prepared (phase.SecondStatus status) = IsDecided prepared
 
--- between TPDUs no data are held: those of the last one are gone
+-- between TPDUs the end holds no data: those of the last one are overwritten
 abbrev pub IsForgotten : Phase → List ℕ → Type 0
 IsForgotten (phase.Opening bytes taken) came = came ≡ replicate 255 0
 IsForgotten (phase.Refused header p3 status done) came = Unit {0}
 IsForgotten (phase.Accepted service) came = Unit {0}
 IsForgotten (phase.SecondStatus status) came = Unit {0}
 
--- what fits the phase, apart from the card
+-- the ranges of a phase, apart from the card
 abbrev pub IsHeld : Phase → Type 0
 IsHeld (phase.Opening bytes taken) = (length bytes ≡ 5) × (taken ≤ 5)
 IsHeld (phase.Refused header p3 status done) = Unit {0}
@@ -72,7 +72,7 @@ pub record IsNext (s : Service) (steps : List Step) (step : Step) (next : Servic
   pub counts : ((s.done < next.done) × (next.done ≤ length steps))
       ⊎ ((step ≡ All) × (length steps ≤ next.done))
 
--- what a card answers when all data have moved
+-- the status that a card gives after all data
 abbrev pub GivesStatus : {State : Type 0} → (State → ℕ → Tpdu → State → Type 0) → State
     → Prepared State → Direction → List ℕ → StatusWord → Prepared State → Type 0
 GivesStatus Does old before ToCard content status prepared =
@@ -88,7 +88,7 @@ IsJudged (phase.Refused header p3 status done) = Unit {0}
 IsJudged (phase.Accepted service) = Unit {0}
 IsJudged (phase.SecondStatus status) = Unit {0}
 
--- what a character of the terminal leaves of a phase, apart from the characters
+-- the ranges of a phase after a character of the terminal
 abbrev pub IsAfter : Phase → Phase → Type 0
 IsAfter (phase.Opening bytes taken) new = IsOpening new where
   IsOpening : Phase → Type 0
@@ -99,12 +99,11 @@ IsAfter (phase.Accepted service) new = (service.moved < service.until)
     × (new ≡ phase.Accepted (one_moved service))
 IsAfter (phase.SecondStatus status) new = ⊥
 
--- so many data characters more have moved
+-- n more data characters have moved
 abbrev pub so_many_moved : Service → ℕ → Service
 so_many_moved s n = record s { moved = s.moved + n }
 
--- These data characters of the terminal have come in one run: none, or so many of those that are
--- due.
+-- The terminal sent these data characters in one run: none, or some of those that were expected.
 abbrev pub IsRun : Phase → List ℕ → List ℕ → Phase → List ℕ → Type 0
 IsRun old came bytes new room = ((bytes ≡ []) × (new ≡ old) × (room ≡ came))
     ⊎ ((s : Service) × (old ≡ phase.Accepted s) × (s.direction ≡ ToCard)
@@ -112,7 +111,7 @@ IsRun old came bytes new room = ((bytes ≡ []) × (new ≡ old) × (room ≡ ca
     × (new ≡ phase.Accepted (so_many_moved s (length bytes)))
     × (take (s.moved + length bytes) room ≡ take s.moved came ++ bytes))
 
--- a verdict and its direction stay until the status
+-- the verdict and its direction stay until the status
 abbrev pub KeepsDirection : Stage → Stage → Type 0
 KeepsDirection old (Taking_header bytes) = (status : StatusWord) × (old ≡ Ending status)
 KeepsDirection old (Refusing header p3 status done) =
@@ -121,7 +120,7 @@ KeepsDirection old (Serving s came) = (service : Service) × (before : List ℕ)
     × (old ≡ Serving service before) × (service.direction ≡ s.direction)
 KeepsDirection old (Ending status) = Unit {0}
 
--- after a refused header comes a NULL where the plan has one left, and else the status
+-- after a refused header a NULL follows, if the plan has one left, or else the status
 abbrev pub Refuses : Header → ℕ → StatusWord → ℕ → List Step → Phase → ℕ → Type 0
 Refuses header p3 status done steps next byte =
     ((left : ℕ) × (next ≡ phase.Refused header p3 status left) × (byte ≡ 0x60)
@@ -130,7 +129,7 @@ Refuses header p3 status done steps next byte =
     ⊎ ((next ≡ phase.SecondStatus status) × (byte ≡ status.0) × IsStatusWord status
     × (segments_of (drop done steps) 0 ≡ []))
 
--- the card has judged the header, and nothing has gone since
+-- the card has judged the header, and sent nothing since
 abbrev pub IsVerdict : Phase → Type 0
 IsVerdict (phase.Opening bytes taken) = ⊥
 IsVerdict (phase.Refused header p3 status done) = Unit {0}

@@ -2,7 +2,7 @@
 use Rattle.std.specs.Prelude.{ℕ, List, map}
 use Rattle.t0_core.specs.declared.end.End.{End}
 
--- a character of the line, with the end that sent it
+-- a character on the line, with the end that sent it
 abbrev pub Character : Type 0
 Character = End × ℕ
 

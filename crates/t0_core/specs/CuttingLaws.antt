@@ -1,5 +1,5 @@
--- Laws: where a dialogue has come to a front, its next character is settled; and dialogues that are
--- opened alike have one cutting.
+-- Laws: the next character of a dialogue at a front is determined, and no dialogue begins another
+-- one with data in the same direction.
 use Rattle.std.proofs.Common.{◌≡◌, ℕ, suc, ◌+◌, ◌<◌, ◌≤◌, List, [], ◌∷◌, ◌++◌, length, take, refl, sym, subst, ◌∙◌, ap, arith, inl, inr, ◌⊎◌, true, false, Bool, Some, None, ◌==◌, slice_index, if◌then◌else◌, append-nil, append_assoc, length-append}
 use Rattle.std.proofs.Math.Seq.{get_or-append_seam}
 use Rattle.std.proofs.lemmas.Bool.{ne_eqb}
@@ -27,7 +27,7 @@ use Rattle.t0_core.specs.DialogueLaws.{header_next}
 use Rattle.t0_core.specs.ProcedureLaws.{Apart, apart_where_valid, apart_where_invalid, step_is, status_is_no_step}
 use Rattle.t0_core.specs.FrontLaws.{begins_between}
 
--- ---- a front goes on in one way
+-- ---- a front continues in one way
 
 same_header : (a b : Header) → header_bytes a ≡ header_bytes b → a ≡ b
 same_header a b e =
@@ -37,7 +37,7 @@ same_header a b e =
     ∙ ap (λ x. byte b.cla b.ins x a.p2) (ap (at 2) e)
     ∙ ap (λ x. byte b.cla b.ins b.p1 x) (ap (at 3) e)
 
--- a body of which this one, with fewer segments or data, is the beginning
+-- `x` continues `b`: it has the same segments and data, or more
 record Grown (b x : Body) : Type 0 where
   header_is : b.header ≡ x.header
   direction_is : b.direction ≡ x.direction
@@ -102,7 +102,7 @@ on_way (In_body b) (c ∷ cs) d (inr (new, goes, on)) =
     before d.body (In_body b) new c goes (on_way new cs d on)
 on_way (After_first b sw1) (c ∷ cs) d (inr (new, goes, on)) = absurd goes
 
--- procedure bytes and SW1 are apart, whether or not INS is an instruction
+-- procedure bytes and SW1 differ, whether or not INS is valid
 abbrev IsAllowed : ℕ → Step → Type 0
 IsAllowed ins s = ins_is_valid ins ≡ false → s ≡ Null
 
@@ -175,8 +175,8 @@ no_end (In_header bytes) new c k d ends goes = ends
 no_end (In_body b) new c k d ends goes = ends
 no_end (After_first b sw1) new c k d ends goes = goes
 
--- Where the characters go to a front, a dialogue that goes on with them goes on through that
--- front, if both mean the same direction.
+-- If these characters lead to a front, a dialogue that starts with them passes through that front,
+-- provided both have the same direction.
 passes : (x : Body) (front f : Front) (cs ds r rest : List Character) (d : Dialogue)
     → x.direction ≡ d.body.direction → d.body.header.ins < 256 → IsOf f x → GoesTo front cs f
     → GoesThrough front ds d → ds ++ r ≡ cs ++ rest
@@ -217,8 +217,8 @@ last_one b sw1 byte d (c ∷ cs) r s (inl ((from, small, is), none)) e =
       ap (λ z. z ++ r) (sym none) ∙ others,
     )
 
--- Dialogues that mean the same direction, and whose characters begin one list, are the same; none
--- begins another.
+-- Two dialogues with data in the same direction, whose characters begin one list, are equal.
+-- Neither begins the other.
 pub same_dialogue : (d e : Dialogue) (r s : List Character) → d.body.header.ins < 256
     → IsDialogue d → IsDialogue e → d.body.direction ≡ e.body.direction
     → characters d ++ r ≡ characters e ++ s → (d ≡ e) × (r ≡ s)
@@ -234,8 +234,8 @@ same_dialogue d e r s small is also way equal =
 
 -- ---- the next character
 
--- The terminal's end does what the character asks of it: it sends it, or takes it, where there is
--- room or it is the last one.
+-- The terminal's end does what the character requires: it sends it, or takes it if there is room or
+-- it is the last one.
 abbrev pub Suits : Hosting → Front → Dialogue → Character → List Character → Type 0
 Suits host front d c after =
     ((c.0 ≡ Terminal) × (turn_of host ≡ Sends c.1))
@@ -262,7 +262,7 @@ in_header host sent bytes d r rest lt is opened e =
       inl (refl, ap (λ bs. Sends (slice_index bs sent)) (sym same)),
     )
 
--- the character after so much of the data
+-- the data character at an index
 read_after : (content before m others : List ℕ) (byte : ℕ) → m ≡ take (length m) content
     → m ≡ before ++ byte ∷ others → slice_index content (length before) ≡ byte
 read_after content before m others byte own is =
@@ -349,7 +349,7 @@ in_segment host moved until b d (c ∷ cs) r rest of_b of_d n lt owed
     some_left [] goes none = absurd goes
     some_left (k ∷ ks) goes none = absurd (cc)
 
--- between segments the card begins the next, or its status
+-- between segments the card starts the next one, or its status
 between : (host : Hosting) (moved : ℕ) (b : Body) (d : Dialogue) (more r rest : List Character)
     → IsRequest host → IsOpenedBy host b → IsBetween b → GoesThrough (In_body b) more d
     → more ++ r ≡ rest → HasNext (at_stage host (Awaiting moved)) (In_body b) d rest
@@ -421,8 +421,8 @@ at_next host front d c e cs es same is =
     let After : List Character → Type 0 = λ ks. Suits host front d e ks in
     subst At (sym first) (subst After (sym others) is)
 
--- Where the end stands at a front, and characters that begin with a dialogue which it opened begin
--- with that front, there is a next one, and it suits the end. A front is no whole dialogue.
+-- If the end is at a front, and the characters of a dialogue that it opened begin with that front,
+-- there is a next one, and it suits the end. A front is never a whole dialogue.
 pub next_of : (host : Hosting) (front : Front) (d : Dialogue) (r rest : List Character)
     → IsRequest host → HostStandsAt host front → IsFront front → IsDialogue d
     → IsOpenedBy host d.body → characters d ++ r ≡ front_characters front ++ rest
@@ -430,7 +430,7 @@ pub next_of : (host : Hosting) (front : Front) (d : Dialogue) (r rest : List Cha
 next_of host front d r rest request stands front_is is of_d e =
     next_at host host.stage front d r rest request stands front_is is of_d e
 
--- the character of a dialogue that has come to the front suits the end
+-- the next character of a dialogue at the front suits the end
 suits : (host : Hosting) (front : Front) (d : Dialogue) (c : Character) (rest : List Character)
     → IsRequest host → HostStandsAt host front → IsFront front → IsDialogue d
     → IsOpenedBy host d.body → characters d ≡ front_characters front ++ c ∷ rest

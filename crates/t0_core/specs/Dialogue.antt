@@ -16,20 +16,20 @@ abbrev pub data_sender : Direction → End
 data_sender ToCard = Terminal
 data_sender FromCard = Card
 
--- how many data characters P3 foresees (10.3.2): 00 stands for 256 from the card, and for none to
--- the card
+-- the number of data characters that P3 states (10.3.2); from the card 00 means 256, to the card
+-- none
 abbrev pub foreseen : Direction → ℕ → ℕ
 foreseen ToCard p3 = p3
 foreseen FromCard p3 = count p3
 
--- A segment is a procedure byte and the data characters that it starts (10.3.3): 60, a NULL, starts
--- none; INS xor FF the next one; INS all that are left.
+-- A segment is a procedure byte and the data characters that it starts (10.3.3). 60, a NULL, starts
+-- none, INS xor FF the next one, and INS all that are left.
 abbrev pub procedure_byte : ℕ → Step → ℕ
 procedure_byte ins Null = 0x60
 procedure_byte ins One = bit_xor ins 0xFF
 procedure_byte ins All = ins
 
--- how many data characters it moves, where so many remain
+-- the number of data characters that it moves if `remain` are left
 abbrev pub moves : Step → ℕ → ℕ
 moves Null remain = 0
 moves One zero = 0
@@ -48,7 +48,7 @@ segment_characters ins direction (s ∷ segments) remain moved =
     ++ segment_characters ins direction segments (remain - moves s remain)
     (drop (moves s remain) moved))
 
--- what goes over the line before the status: the header, and the segments with their data
+-- the characters before the status: the header, and the segments with their data
 pub record Body : Type 0 where
   pub header : Header
   pub p3 : ℕ
@@ -71,8 +71,8 @@ pub record Dialogue : Type 0 where
 abbrev pub characters : Dialogue → List Character
 characters d = body_characters d.body ++ sent_by Card (d.status.0 ∷ d.status.1 ∷ [])
 
--- The segments move the data. Where INS is no instruction, each segment is a NULL: 6X and 9X are
--- read as status.
+-- The segments move exactly the data. If INS is invalid, each segment is a NULL, since 6X and 9X
+-- are read as SW1.
 pub record IsDialogue (d : Dialogue) : Type 0 where
   pub moved_by_segments : length d.body.moved ≡ to_move d.body
   pub is_status : IsStatusWord d.status

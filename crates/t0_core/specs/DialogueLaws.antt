@@ -1,4 +1,4 @@
--- Dialogues one after another: one more of them, and what holds of them all.
+-- Laws of rows of dialogues: one more of them, and properties of all.
 use Rattle.std.proofs.Common.{◌≡◌, ℕ, suc, ◌+◌, ◌<◌, List, [], ◌∷◌, ◌++◌, length, take, slice_index, length-append, arith, refl, sym, subst, ◌∙◌, ap, append-nil, append_assoc}
 use Rattle.std.specs.List.{AllByRecursion, flat_map}
 use Rattle.apdu_core.specs.declared.header.Header.{Header}
@@ -18,7 +18,7 @@ flat_map_last f [] x = append-nil (f x)
 flat_map_last f (y ∷ xs) x = ap (λ bs. f y ++ bs) (flat_map_last f xs x)
     ∙ sym (append_assoc (f y) (flat_map f xs) (f x))
 
--- the items with one more, whose last event this is
+-- the items with one more, which ends in this event
 pub events_item : (events : List Event) (items : List Item) (before : List Event) (e : Event)
     (item : Item) → events ≡ flat_map events_of items ++ before → events_of item ≡ before ++ e ∷ []
     → events ++ e ∷ [] ≡ flat_map events_of (items ++ item ∷ []) ++ passed (front_characters fresh)
@@ -28,7 +28,7 @@ events_item events items before e item is last =
     ∙ sym (flat_map_last events_of items item)
     ∙ sym (append-nil (flat_map events_of (items ++ item ∷ [])))
 
--- one more dialogue is over, under its own plan
+-- one more dialogue has ended, under its own plan
 pub follow_each : (whole : List Dialogue) (plans : List Course) (d : Dialogue) (p : Course)
     → length plans ≡ length whole → FollowInTurn whole plans → Follows d p
     → FollowInTurn (whole ++ d ∷ []) (plans ++ p ∷ [])
@@ -63,7 +63,7 @@ pub all_more : {A : Type 0} (P : A → Type 0) (whole : List A) (d : A) → AllB
 all_more P [] d all this = (this, tt)
 all_more P (e ∷ whole) d all this = (all.0, all_more P whole d all.1 this)
 
--- the header and P3 go byte by byte
+-- the header and P3 byte by byte
 pub header_next : (h : Header) (p3 n : ℕ) (cs : List Character) → n < 5
     → let all = header_bytes h ++ p3 ∷ [] in (rest : List Character) × (sent_by Terminal all ++ cs
     ≡ sent_by Terminal (take n all) ++ (Terminal, slice_index all n) ∷ rest)

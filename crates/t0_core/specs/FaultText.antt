@@ -1,4 +1,4 @@
--- The texts of faults.
+-- The texts of errors.
 use Rattle.std.specs.Prelude.{ℕ, List, codes}
 use Rattle.t0_core.specs.declared.line_fault.LineFault.{LineFault}
 use Rattle.t0_core.specs.declared.line_fault.LineFault.TheVariants.{BadProcedure, AfterEnd, TooLong, Stalled, NotListening}
@@ -7,7 +7,7 @@ use Rattle.t0_core.specs.declared.answer_fault.AnswerFault.TheVariants as answer
 use Rattle.t0_core.specs.declared.tpdu_fault.TpduFault.{TpduFault}
 use Rattle.t0_core.specs.declared.tpdu_fault.TpduFault.TheVariants as tpdu
 
--- why a terminal does not take a character
+-- why a terminal refuses a character
 abbrev pub fault_text : LineFault → List ℕ
 fault_text (BadProcedure byte) = codes "bad procedure byte"
 fault_text AfterEnd = codes "character after the end"
@@ -15,7 +15,7 @@ fault_text TooLong = codes "response too long"
 fault_text Stalled = codes "response stalled"
 fault_text NotListening = codes "character out of turn"
 
--- why a terminal does not take the answer to a whole TPDU
+-- why a terminal refuses the answer to a whole TPDU
 abbrev pub answer_fault_text : AnswerFault → List ℕ
 answer_fault_text answer.NotDue = codes "no answer due"
 answer_fault_text answer.NotAsked = codes "data not asked for"

@@ -1,4 +1,4 @@
--- A dialogue goes on by one character at a time, and ends as a dialogue.
+-- A dialogue continues by one character at a time, and ends as a dialogue.
 use Rattle.std.proofs.Common.{◌≡◌, ℕ, zero, suc, ◌+◌, ◌-◌, ◌<◌, ◌≤◌, List, [], ◌∷◌, ◌++◌, length, take, drop, refl, sym, subst, ap, arith, inl, inr, false, append_assoc, length-append, ◌⊎◌}
 use Rattle.std.proofs.lemmas.List.{take_all, take-append-le, append-nil, length-drop}
 use Rattle.apdu_core.specs.HeaderBytes.{ins_is_valid}
@@ -18,7 +18,7 @@ moves-within One zero = omega arith
 moves-within One (suc n) = omega arith
 moves-within All n = omega arith
 
--- what one more segment moves
+-- the data that one more segment moves
 pub all_moves-more : (segments : List Step) (s : Step) (n : ℕ)
     → all_moves (segments ++ s ∷ []) n ≡ all_moves segments n + moves s (n - all_moves segments n)
 all_moves-more [] s n = let same : n - 0 ≡ n = omega arith in rw same (omega arith)
@@ -101,7 +101,7 @@ moved_characters ins direction (s ∷ t ∷ segments) n moved x in_last lt =
         → length (drop (moves s n) moved) < all_moves (t ∷ segments) (n - moves s n)
     shorter h = omega (arith, h, left, in_last.0)
 
--- what is no data character comes from the card, between segments
+-- a character that is not data comes from the card, between segments
 pub begins_between : (b : Body) (c : Character) (new : Front)
     → BeginsSegment b c new ⊎ BeginsStatus b c new → IsBetween b × (c.0 ≡ Card)
 begins_between b c new (inl begins) = (begins.0, begins.1)
@@ -134,7 +134,7 @@ segment_append ins direction (t ∷ segments) s n moved is =
     (ap (λ cs. (Card, procedure_byte ins t) ∷ cs)
     (sym (append_assoc (sent_by (data_sender direction) (take (moves t n) moved)) _ _)))
 
--- the front goes on, and its characters with it
+-- the front continues with this character
 abbrev pub Grows : Front → Character → Front → Type 0
 Grows front c new = IsFront new × (front_characters new ≡ front_characters front ++ c ∷ [])
 

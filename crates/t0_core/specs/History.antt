@@ -1,11 +1,11 @@
--- What has gone on at a card's end: characters that passed over the line, and resets.
+-- The history of a card's end: characters on the line, and resets.
 use Rattle.std.specs.Prelude.{◌≡◌, ◌⊎◌, ℕ, ◌<◌, List, [], ◌∷◌, ◌++◌, map}
 use Rattle.t0_core.specs.Character.{Character}
 use Rattle.t0_core.specs.Dialogue.{Dialogue, IsDialogue, characters}
 use Rattle.t0_core.specs.Plan.{Course, IsCut, Follows}
 use Rattle.t0_core.specs.Meaning.{Tpdu, tpdu_of}
 
--- a character passed, from either end, or the card's end was reset
+-- a character from either end, or a reset of the card's end
 pub data Event : Type 0 where
   Passed : (c : Character) → Event
   Reset : Event
@@ -13,7 +13,7 @@ pub data Event : Type 0 where
 abbrev pub passed : List Character → List Event
 passed cs = map (λ c. Passed c) cs
 
--- what events come to: a whole dialogue, or a reset with the part of a dialogue that it cut off,
+-- what events consist of: a whole dialogue, or a reset with the part of a dialogue that it cut off,
 -- which may be empty
 pub data Item : Type 0 where
   Whole : (d : Dialogue) → Item
@@ -29,12 +29,12 @@ pub record IsUnderPlan (d : Dialogue) (plan : Course) : Type 0 where
   pub in_range : IsCut plan.cut
   pub follows : Follows d plan
 
--- a dialogue that follows this plan begins with these characters, and more of it is to come
+-- a dialogue that follows this plan begins with these characters, and is longer
 abbrev pub IsPartUnder : Course → List Character → Type 0
 IsPartUnder plan part = (d : Dialogue) × (c : Character) × (rest : List Character)
     × IsUnderPlan d plan × (characters d ≡ part ++ c ∷ rest)
 
--- the same of some plan
+-- the same for some plan
 abbrev pub IsPart : List Character → Type 0
 IsPart part = (plan : Course) × IsPartUnder plan part
 
@@ -42,8 +42,8 @@ abbrev pub IsItem : Item → Type 0
 IsItem (Whole d) = (plan : Course) × IsUnderPlan d plan
 IsItem (Cut_off part) = IsPart part
 
--- The items are a run of a card's meaning: each whole dialogue follows some plan and is a step
--- under its cut, and a reset drops the part of a dialogue that it cut off.
+-- The items are a run of a card's meaning. Each whole dialogue follows some plan and is a step
+-- under its cut. A reset drops the part of a dialogue that it cut off.
 abbrev pub RunsOver : {State : Type 0} → (State → ℕ → Tpdu → State → Type 0) → (State → State)
     → State → List Item → State → Type 0
 RunsOver Does after_reset old [] new = new ≡ old
@@ -53,7 +53,7 @@ RunsOver {State = State} Does after_reset old (Whole d ∷ items) new =
 RunsOver Does after_reset old (Cut_off part ∷ items) new =
     IsPart part × RunsOver Does after_reset (after_reset old) items new
 
--- the same dialogue, but that nobody saw a direction where no data moved
+-- the same dialogue, except for the direction if no data moved
 pub record AreAlike (d e : Dialogue) : Type 0 where
   pub same_header : d.body.header ≡ e.body.header
   pub same_p3 : d.body.p3 ≡ e.body.p3
@@ -69,7 +69,7 @@ AreAlikeInTurn (Cut_off part ∷ items) (Cut_off other ∷ others) =
     (part ≡ other) × AreAlikeInTurn items others
 AreAlikeInTurn _ _ = ⊥
 
--- each character that passes is a byte
+-- each character is a byte
 abbrev pub IsByteEvent : Event → Type 0
 IsByteEvent (Passed c) = c.1 < 256
 IsByteEvent Reset = Unit {0}

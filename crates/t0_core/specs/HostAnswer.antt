@@ -12,7 +12,7 @@ use Rattle.t0_core.specs.Dialogue.{Body, Dialogue, IsDialogue, to_move}
 use Rattle.t0_core.specs.Meaning.{received}
 use Rattle.t0_core.specs.HostSide.{Hosting, IsOpenedBy, at_stage}
 
--- a TPDU is about to begin: none of its characters has gone
+-- a TPDU is about to start: none of its characters was sent
 abbrev pub is_start : HostStage → Bool
 is_start (SendingHeader sent) = sent == 0
 is_start _ = false
@@ -20,17 +20,17 @@ is_start _ = false
 abbrev pub is_due : Hosting → Bool
 is_due host = is_start host.stage
 
--- how many data characters may come back
+-- the most data characters that may come back
 abbrev pub may_come : Direction → ℕ → ℕ
 may_come ToCard p3 = 0
 may_come FromCard p3 = count p3
 
--- more came
+-- the error if more come
 abbrev pub excess : Direction → AnswerFault
 excess ToCard = NotAsked
 excess FromCard = TooMany
 
--- the fault that an answer with these data is, if any
+-- the error of an answer with these data, if any
 abbrev pub answer_fault : Hosting → Room → List ℕ → Option AnswerFault
 answer_fault host gather bytes =
     if is_due host then
@@ -38,7 +38,7 @@ answer_fault host gather bytes =
     else (if nat_le (length gather.bytes + length bytes) gather.limit then None else Some TooLong))
     else Some NotDue
 
--- the faults after which the end has failed
+-- the errors after which the end has failed for good
 abbrev pub fails_with : AnswerFault → Bool
 fails_with NotDue = false
 fails_with NotAsked = false
@@ -49,15 +49,15 @@ fails_with Stalled = true
 abbrev pub after_answer_fault : HostStage → AnswerFault → HostStage
 after_answer_fault stage fault = if fails_with fault then Broken else stage
 
--- the end that waits for SW2 of this status
+-- the end as it waits for SW2 of this status
 abbrev pub before_sw2 : Hosting → StatusWord → Hosting
 before_sw2 host sw = at_stage host (AwaitingSecond sw.0)
 
--- the end where these data have moved, and more of the last segment are to come
+-- the end inside a segment: these data have moved, and more follow
 abbrev pub moving_in : Hosting → Body → Hosting
 moving_in host b = at_stage host (Moving (length b.moved) (to_move b))
 
--- the dialogue is one that the end opened, and it gives these data and this status
+-- the dialogue is one that the end opened, with these data and this status
 pub record Gives (host : Hosting) (d : Dialogue) (bytes : List ℕ) (sw : StatusWord) : Type 0 where
   pub opened : IsOpenedBy host d.body
   pub is_dialogue : IsDialogue d

@@ -1,5 +1,5 @@
--- What the terminal's end is where it stands at a front of a dialogue, and where its TPDU has ended
--- or it has failed.
+-- Laws of a terminal's end at a front of a dialogue, after the end of its TPDU, and after a
+-- failure.
 use Rattle.std.proofs.Common.{◌≡◌, ℕ, List, [], ◌∷◌, ◌++◌, length, take, refl, sym, ◌∙◌, ap, arith, Option, Some, None, Bool, true, false, inl, inr, ◌==◌, if◌then◌else◌}
 use Rattle.std.proofs.lemmas.Bool.{eqb-true}
 use Rattle.std.proofs.lemmas.List.{length-take-le}
@@ -46,7 +46,7 @@ opened_at _ _ _ stands = absurd stands
 pub opened : (host : Hosting) (front : Front) → HostStandsAt host front → IsOpenedFront host front
 opened host front stands = opened_at host host.stage front stands
 
--- an end that stands at a front has neither ended nor failed
+-- an end at a front has neither ended nor failed
 data_is_going : (direction : Direction) (content : List ℕ) (moved : ℕ) (status : StatusWord)
     → data_turn direction content moved ≡ Done status → ⊥
 data_is_going ToCard content moved status e = absurd (cc)
@@ -81,7 +81,7 @@ pub unbroken : (host : Hosting) (front : Front) → HostStandsAt host front → 
     → ⊥
 unbroken host front stands e = unbroken_at host host.stage front stands e
 
--- past the end of a TPDU, and after a failure, no character is taken
+-- after the end of a TPDU, and after a failure, no character is taken
 after_done_at : (host : Hosting) (stage : HostStage) (room : Room) (byte : ℕ) (status : StatusWord)
     → turn_of (at_stage host stage) ≡ Done status
     → fault_of (at_stage host stage) room byte ≡ Some AfterEnd
@@ -108,7 +108,7 @@ pub after_failure : (host : Hosting) (room : Room) (byte : ℕ) → turn_of host
     → fault_of host room byte ≡ Some AfterEnd
 after_failure host room byte e = after_failure_at host host.stage room byte e
 
--- A data character is too long exactly where the room is full; it is one of the card's.
+-- A data character is too long exactly if the gather is full. It is one of the card's.
 no_procedure_is_too_long : (step : Option Step) (byte : ℕ)
     → procedure_fault step byte ≡ Some TooLong → ⊥
 no_procedure_is_too_long (Some step) byte e = absurd (cc)

@@ -1,20 +1,20 @@
--- A terminal's end as its mark and the data of its command.
+-- A terminal's end without its data, and with them again.
 use Rattle.std.specs.Prelude.{◌≡◌, ℕ, List, []}
 use Rattle.t0_core.specs.declared.direction.Direction.{Direction}
 use Rattle.t0_core.specs.declared.direction.Direction.TheVariants.{ToCard, FromCard}
 use Rattle.t0_core.specs.declared.host_mark.HostMark.{HostMark}
 use Rattle.t0_core.specs.HostSide.{Hosting}
 
--- what an end has of these data: all where it sends them, none where it asks the card
+-- the data of an end: all of these if it sends, none if it asks the card
 abbrev pub own_data : Direction → List ℕ → List ℕ
 own_data ToCard content = content
 own_data FromCard content = []
 
--- the end has no other data than these
+-- the end has no data other than these
 abbrev pub HasOnly : List ℕ → Hosting → Type 0
 HasOnly content host = host.content ≡ own_data host.direction content
 
--- the end that has come so far, with these data
+-- the end with this progress and these data
 abbrev pub with_data : HostMark → List ℕ → Hosting
 with_data mark content =
     record {

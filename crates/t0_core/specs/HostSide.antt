@@ -1,4 +1,4 @@
--- The terminal's end of a TPDU: how far it stands, and which fronts of a dialogue led to it.
+-- The terminal's end of a TPDU: its progress, and the fronts of dialogues at which it is.
 use Rattle.std.specs.Prelude.{◌≡◌, ℕ, ◌+◌, ◌-◌, ◌<◌, ◌≤◌, List, [], ◌∷◌, ◌++◌, length, take, Option, Some, None, true, ◌==◌, nat_lt, slice_index, if◌then◌else◌}
 use Rattle.apdu_core.specs.declared.header.Header.{Header}
 use Rattle.apdu_core.specs.HeaderBytes.{header_bytes, ins_is_valid}
@@ -18,7 +18,7 @@ use Rattle.t0_core.specs.Meaning.{received}
 use Rattle.t0_core.specs.Front.{Front, In_header, In_body, After_first, IsBetween, brought}
 use Rattle.t0_core.specs.Room.{Room}
 
--- an end that opened a TPDU, with its data to the card, or with none where it asks for data
+-- an end that opened a TPDU; its data to the card, none if it asks for data
 pub record Hosting : Type 0 where
   pub header : Header
   pub p3 : ℕ
@@ -37,7 +37,7 @@ at_stage host stage =
       stage = stage;
     }
 
--- what has moved to the card are the first of the end's own data
+-- the data moved to the card are the first of the end's own
 abbrev pub AreOwn : Direction → List ℕ → List ℕ → Type 0
 AreOwn ToCard content moved = moved ≡ take (length moved) content
 AreOwn FromCard content moved = Unit {0}
@@ -47,8 +47,8 @@ abbrev pub IsOpenedBy : Hosting → Body → Type 0
 IsOpenedBy host b = (b.header ≡ host.header) × (b.p3 ≡ host.p3) × (b.direction ≡ host.direction)
     × AreOwn host.direction host.content b.moved
 
--- The end stands at this front of a dialogue: in the header; between segments; in a segment, which
--- moves data up to a place; or after SW1.
+-- The end is at this front of a dialogue: in the header; between segments; in a segment, which
+-- moves data up to a number; or after SW1.
 abbrev pub HostStandsAt : Hosting → Front → Type 0
 HostStandsAt host front = At host.stage front where
   At : HostStage → Front → Type 0
@@ -74,7 +74,7 @@ abbrev pub data_turn : Direction → List ℕ → ℕ → HostTurn
 data_turn ToCard content moved = Sends (slice_index content moved)
 data_turn FromCard content moved = Listens
 
--- what it does when it is its turn
+-- what it does next
 abbrev pub turn_of : Hosting → HostTurn
 turn_of host = Turn host.stage where
   Turn : HostStage → HostTurn
@@ -85,7 +85,7 @@ turn_of host = Turn host.stage where
   Turn (Ended status) = Done status
   Turn Broken = Failed
 
--- the data character of its own that it sends now, if one is due
+-- the data character of its own that it sends next, if any
 abbrev pub own_due : Direction → List ℕ → ℕ → Option ℕ
 own_due ToCard content moved = Some (slice_index content moved)
 own_due FromCard content moved = None
@@ -100,11 +100,11 @@ data_due host = Due host.stage where
   Due (Ended status) = None
   Due Broken = None
 
--- the data of a segment move up to a place, or have all moved
+-- the data of a segment move up to a number, or have all moved
 abbrev pub moving : ℕ → ℕ → HostStage
 moving moved until = if nat_lt moved until then Moving moved until else Awaiting moved
 
--- a data character that it sends has moved; for one of the card it waits
+-- the stage after a data character that it sends; it waits for one of the card
 abbrev pub after_data_turn : Direction → ℕ → ℕ → HostStage
 after_data_turn ToCard moved until = moving (moved + 1) until
 after_data_turn FromCard moved until = Moving moved until
@@ -119,25 +119,24 @@ after_turn host = After host.stage where
   After (Ended status) = Ended status
   After Broken = Broken
 
--- what a byte starts as a procedure byte of this INS, if it is one
+-- the step that a byte starts as a procedure byte of this INS, if it is one
 abbrev pub step_of : ℕ → ℕ → Option Step
 step_of ins byte =
     if byte == procedure_byte ins Null then Some Null
     else (if byte == procedure_byte ins All then Some All
     else (if byte == procedure_byte ins One then Some One else None))
 
--- where a procedure byte is due, a byte that is neither one nor SW1 is a fault
+-- instead of a procedure byte, a byte that is neither one nor SW1 is an error
 abbrev pub procedure_fault : Option Step → ℕ → Option LineFault
 procedure_fault (Some step) byte = None
 procedure_fault None byte = if is_first_status byte then None else Some (BadProcedure byte)
 
--- while data move to the card, a character of it is out of turn; from the card there must be room
--- for each
+-- while data move to the card, a character of the card is out of turn; data from the card need room
 abbrev pub data_fault : Direction → Room → Option LineFault
 data_fault ToCard gather = Some NotListening
 data_fault FromCard gather = if length gather.bytes == gather.limit then Some TooLong else None
 
--- the fault that a character is, if any
+-- the error of a character, if any
 abbrev pub fault_of : Hosting → Room → ℕ → Option LineFault
 fault_of host gather byte = Fault host.stage where
   Fault : HostStage → Option LineFault
@@ -148,7 +147,7 @@ fault_of host gather byte = Fault host.stage where
   Fault (Ended status) = Some AfterEnd
   Fault Broken = Some AfterEnd
 
--- where a fault leaves the end: a character that it does not understand or has no room for breaks
+-- the stage after an error: a character that the end does not understand or has no room for breaks
 -- it
 abbrev pub after_fault : HostStage → LineFault → HostStage
 after_fault stage (BadProcedure byte) = Broken
@@ -157,12 +156,12 @@ after_fault stage Stalled = Broken
 after_fault stage AfterEnd = stage
 after_fault stage NotListening = stage
 
--- how the end goes on after a procedure byte, where so many data characters remain, or after SW1
+-- the stage after a procedure byte, if `remain` data characters are left, or after SW1
 abbrev pub after_procedure : Option Step → ℕ → ℕ → ℕ → HostStage
 after_procedure (Some step) moved remain byte = moving moved (moved + moves step remain)
 after_procedure None moved remain byte = AwaitingSecond byte
 
--- how the end goes on with a character that is no fault
+-- the stage after a character that is not an error
 abbrev pub after_taking : Hosting → ℕ → HostStage
 after_taking host byte = After host.stage where
   After : HostStage → HostStage
@@ -175,7 +174,7 @@ after_taking host byte = After host.stage where
   After (Ended status) = Ended status
   After Broken = Broken
 
--- the data characters among one that is taken
+-- the data in a character that is taken
 abbrev pub data_in : HostStage → ℕ → List ℕ
 data_in (SendingHeader sent) byte = []
 data_in (Awaiting moved) byte = []
@@ -188,12 +187,12 @@ data_in Broken byte = []
 abbrev pub gathered : Room → List ℕ → Room
 gathered room bytes = record { bytes = room.bytes ++ bytes; limit = room.limit }
 
--- to the card as many data are foreseen as the end has
+-- to the card, P3 states the number of the end's own data
 abbrev pub AreForeseen : Direction → List ℕ → ℕ → Type 0
 AreForeseen ToCard content p3 = length content ≡ p3
 AreForeseen FromCard content p3 = content ≡ []
 
--- what a stage keeps within its ranges, where so many data characters are foreseen
+-- the ranges of a stage, if the TPDU has n data characters
 abbrev pub IsStage : ℕ → HostStage → Type 0
 IsStage n (SendingHeader sent) = sent < 5
 IsStage n (Awaiting moved) = moved ≤ n
@@ -202,7 +201,7 @@ IsStage n (AwaitingSecond sw1) = IsStatusWord (sw1, 0)
 IsStage n (Ended status) = Unit {0}
 IsStage n Broken = Unit {0}
 
--- what an end keeps of the TPDU that it opened
+-- the properties of an end that hold throughout its TPDU
 abbrev pub IsRequest : Hosting → Type 0
 IsRequest host = (ins_is_valid host.header.ins ≡ true) × (host.header.ins < 256)
     × AreForeseen host.direction host.content host.p3
@@ -210,7 +209,7 @@ IsRequest host = (ins_is_valid host.header.ins ≡ true) × (host.header.ins < 2
 abbrev pub IsInRange : Hosting → Type 0
 IsInRange host = IsRequest host × IsStage (foreseen host.direction host.p3) host.stage
 
--- where so many data of a dialogue are still to come, they fit into the gather
+-- the data of a dialogue that are still to come fit into the gather
 abbrev pub HasRoom : Room → Front → Dialogue → Type 0
 HasRoom gather front d =
     (still : ℕ) → length (received d) ≡ length (brought front) + still

@@ -1,4 +1,4 @@
--- How the fields of a terminal's end are seen.
+-- How contracts see the fields of a terminal's end.
 use Rattle.std.specs.Prelude.{ℕ, List, []}
 use Rattle.t0_core.specs.declared.host_end.HostStage.{HostStage}
 use Rattle.t0_core.specs.declared.request.Transfer.{Transfer}

@@ -1,4 +1,4 @@
--- What a command TPDU means to a card, apart from the line (ISO/IEC 7816-3, clause 10.3.1).
+-- What a command TPDU means to a card, apart from the line (ISO/IEC 7816-3, 10.3.1).
 use Rattle.std.specs.Prelude.{◌≡◌, ℕ, List, [], ◌∷◌}
 use Rattle.apdu_core.specs.declared.header.Header.{Header}
 use Rattle.apdu_core.specs.StatusWord.{StatusWord}
@@ -38,7 +38,7 @@ tpdu_of d = record {
   status = d.status;
 }
 
--- the card goes from state to state, a dialogue at a time, under the plans' cuts
+-- the card goes from state to state, one dialogue at a time, under the plans' cuts
 abbrev pub Runs : {State : Type 0} → (State → ℕ → Tpdu → State → Type 0) → State → List Dialogue
     → List Course → State → Type 0
 Runs Does old [] plans new = new ≡ old
@@ -47,21 +47,21 @@ Runs {State = State} Does old (d ∷ ds) [] new = (mid : State) × Does old 256 
 Runs {State = State} Does old (d ∷ ds) (p ∷ plans) new =
     (mid : State) × Does old p.cut (tpdu_of d) mid × Runs Does mid ds plans new
 
--- what a card was asked for
+-- the header that a card judges
 pub record Ask : Type 0 where
   pub header : Header
   pub p3 : ℕ
   pub cut : ℕ
 
--- What a card has made ready, and has not yet done: nothing; P3 characters to take; bytes to send;
--- an answer, whose state stands from its second status character on.
+-- What a card has prepared and not yet done: nothing; to take P3 characters; to send bytes; or an
+-- answer, whose state takes effect with SW2.
 pub data Prepared (State : Type 0) : Type 0 where
   Nothing : Prepared State
   Receiving : (ask : Ask) → Prepared State
   Sending : (ask : Ask) (bytes : List ℕ) → Prepared State
   Decided : (next : State) → Prepared State
 
--- it has bytes to send, as many as P3 counts
+-- it has bytes to send
 abbrev pub IsSending : {State : Type 0} → Prepared State → (Ask → List ℕ → Type 0) → Type 0
 IsSending Nothing P = ⊥
 IsSending (Receiving ask) P = ⊥
@@ -81,7 +81,7 @@ abbrev pub Decides : {State : Type 0} → (State → ℕ → Tpdu → State → 
 Decides {State = State} Does old cut tpdu prepared = (next : State) × (prepared ≡ Decided next)
     × Does old cut tpdu next
 
--- how a refused header, data to the card and data from it are answered
+-- a TPDU with a refused header, with data to the card, and with data from it
 abbrev pub refused : Ask → StatusWord → Tpdu
 refused ask status =
     record { header = ask.header; p3 = ask.p3; sent = []; received = []; status = status }

@@ -1,5 +1,4 @@
--- Law: the front at which the terminal's end stands is that of a dialogue that this end opens, with
--- its own data.
+-- Law: the front of a terminal's end is that of a dialogue that this end opens, with its own data.
 use Rattle.std.proofs.Common.{◌≡◌, ℕ, ◌+◌, ◌-◌, ◌<◌, List, [], ◌∷◌, ◌++◌, length, take, refl, sym, ◌∙◌, ap, arith, lit<, length-append}
 use Rattle.std.specs.Prelude.{slice_index}
 use Rattle.std.proofs.lemmas.List.{take_more}
@@ -16,7 +15,7 @@ use Rattle.t0_core.specs.HostSide.{Hosting, HostStandsAt, IsOpenedBy, IsRequest,
 use Rattle.t0_core.specs.WholeLaws.{Supplies, longer, closes, closed, owes}
 use Rattle.t0_core.specs.DialogueLaws.{ends_with, header_next}
 
--- a dialogue that this end opened begins with the front, and more of it is to come
+-- a dialogue that this end opened begins with the front, and is longer
 abbrev pub BeginsOwn : Hosting → Front → Type 0
 BeginsOwn host front = (d : Dialogue) × (c : Character) × (rest : List Character) × IsDialogue d
     × IsOpenedBy host d.body

@@ -1,11 +1,10 @@
--- Plans: which procedure bytes a card sends, and how it cuts its responses (this project's
--- profile).
+-- Plans: which procedure bytes a card sends, and how it cuts its responses (profile).
 use Rattle.std.specs.Prelude.{◌≡◌, ℕ, ◌≤◌, zero, suc, List, [], ◌∷◌, length, Option, Some, None, ◌⊎◌}
 use Rattle.t0_core.specs.declared.plan.Step.{Step}
 use Rattle.t0_core.specs.declared.plan.Step.TheVariants.{Null, One, All}
 use Rattle.t0_core.specs.Dialogue.{Dialogue, foreseen}
 
--- a plan: its steps, and the most that a 61XX announces
+-- a plan: its steps, and the most that one 61XX announces
 pub record Course : Type 0 where
   pub steps : List Step
   pub cut : ℕ
@@ -14,12 +13,12 @@ pub record Course : Type 0 where
 abbrev pub IsCut : ℕ → Type 0
 IsCut cut = (1 ≤ cut) × (cut ≤ 256)
 
--- what a TPDU follows that the list has no plan for
+-- the plan of a TPDU if the list has no more plans
 abbrev pub plain : Course
 plain = record { steps = []; cut = 256 }
 
--- The segments of a plan, where so many characters are to move: a step that finds none left is
--- passed over, and where some are left at the end one more "all" moves them.
+-- The segments of a plan, if this number of characters is to move. A step that finds no data left
+-- is skipped, and one more `All` moves what is left at the end.
 abbrev pub segments_of : List Step → ℕ → List Step
 segments_of [] zero = []
 segments_of [] (suc remain) = All ∷ []
@@ -29,24 +28,24 @@ segments_of (One ∷ steps) (suc remain) = One ∷ segments_of steps remain
 segments_of (All ∷ steps) zero = segments_of steps zero
 segments_of (All ∷ steps) (suc remain) = All ∷ segments_of steps zero
 
--- all data move or none, step by step
+-- all data move or none, in the segments of the plan
 pub record Follows (d : Dialogue) (plan : Course) : Type 0 where
   pub all_or_nothing : (d.body.moved ≡ [])
       ⊎ (length d.body.moved ≡ foreseen d.body.direction d.body.p3)
   pub step_by_step : d.body.segments ≡ segments_of plan.steps (length d.body.moved)
 
--- The dialogues follow the plans in turn; past the end of the list a plan has no steps.
+-- The dialogues follow the plans in turn; after the last one a plan has no steps.
 abbrev pub FollowInTurn : List Dialogue → List Course → Type 0
 FollowInTurn [] plans = Unit {0}
 FollowInTurn (d ∷ ds) [] = Follows d plain × FollowInTurn ds []
 FollowInTurn (d ∷ ds) (p ∷ plans) = Follows d p × FollowInTurn ds plans
 
--- a list of plans of which some are taken: those left, and the one taken last
+-- a list of plans, some of them taken: those left, and the one taken last
 pub record Cursor : Type 0 where
   pub rest : List Course
   pub kept : Option Course
 
--- the next plan is taken; past the end of the list none is kept
+-- the next plan is taken; after the last one no plan is kept
 abbrev pub advanced : Cursor → Cursor
 advanced cursor = Advanced cursor.rest where
   Advanced : List Course → Cursor

@@ -1,4 +1,4 @@
--- Laws: the procedure bytes of an instruction are apart, and no status begins like one.
+-- Laws: the procedure bytes of an instruction differ from each other and from every SW1.
 use Rattle.std.proofs.Common.{◌≡◌, ℕ, ◌+◌, ◌<◌, ◌≤◌, refl, sym, subst, ◌∙◌, ap, arith, inl, inr, true, false, ◌&&◌, ◌⊎◌, nat_le, Some, None, ◌/◌, ◌%◌, eq-eqb, bit_xor, bit_and}
 use Rattle.std.specs.Int.Bits.{xor_add_and}
 use Rattle.std.proofs.lemmas.Nat.{and_mask}
@@ -22,7 +22,7 @@ no_six ins six valid = let e : ins_is_valid ins ≡ false = rw six refl in absur
 no_nine : (ins : ℕ) → ins / 16 ≡ 9 → ins_is_valid ins ≡ true → ⊥
 no_nine ins nine valid = let e : ins_is_valid ins ≡ false = rw nine refl in absurd (cc)
 
--- the three procedure bytes of an instruction are apart
+-- the three procedure bytes of an instruction differ
 pub step_is : (ins : ℕ) (s : Step) → ins_is_valid ins ≡ true → ins < 256
     → step_of ins (procedure_byte ins s) ≡ Some s
 step_is ins Null valid small = refl
@@ -49,7 +49,7 @@ first_is_in_range byte first =
           inr (leb-true 0x90 byte both.0, leb-true byte 0x9F both.1)
     ]
 
--- and a first status byte is none of them
+-- and no SW1 is one of them
 pub status_is_no_step : (ins byte : ℕ) → ins_is_valid ins ≡ true → ins < 256
     → IsStatusWord (byte, 0) → step_of ins byte ≡ None
 status_is_no_step ins byte valid small status =
@@ -70,7 +70,7 @@ status_is_no_step ins byte valid small status =
       ]),
     ) refl
 
--- how segments begin and status does, for the segments that an INS allows
+-- the first bytes of segments and of statuses differ, for the segments that an INS allows
 pub record Apart (ins : ℕ) (Allowed : Step → Type 0) : Type 0 where
   pub steps : (s t : Step) → Allowed s → Allowed t
       → procedure_byte ins s ≡ procedure_byte ins t → s ≡ t

@@ -1,4 +1,4 @@
--- A buffer of fixed room.
+-- A buffer with a limit.
 use Rattle.std.specs.Prelude.{ℕ, List}
 
 pub record Room : Type 0 where

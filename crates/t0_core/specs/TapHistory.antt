@@ -1,4 +1,4 @@
--- What a tap has heard: all that has gone on since it was made.
+-- What a tap has heard since it was made.
 use Rattle.std.specs.Prelude.{◌≡◌, ◌⊎◌, List, [], ◌∷◌, ◌++◌}
 use Rattle.std.specs.List.{AllByRecursion, flat_map}
 use Rattle.t0_core.specs.declared.direction.Direction.{Direction}
@@ -9,14 +9,14 @@ use Rattle.t0_core.specs.Front.{Front, IsFront, GoesOn, Ends, fresh, front_chara
 use Rattle.t0_core.specs.History.{Event, Passed, Item, Whole, Cut_off, events_of, passed}
 use Rattle.t0_core.specs.TapSide.{Place, TapStandsAt, IsRead, IsReadFront, Makes, Concludes, turned}
 
--- a dialogue, as the tap reads it, or what a reset cut off of one
+-- a dialogue that the tap reads, or the part of one that a reset cut off
 abbrev pub IsOverheard : Item → Type 0
 IsOverheard (Whole d) = IsDialogue d × IsRead d.body
 IsOverheard (Cut_off part) = (front : Front) × IsFront front × IsReadFront front
     × (part ≡ front_characters front)
 
--- These events are whole dialogues, resets, each with what it cut off, and a front of one dialogue
--- more, at which the tap stands.
+-- These events are whole dialogues, resets with what they cut off, and the front of one more
+-- dialogue, at which the tap is.
 pub record HasHeard (events : List Event) (place : Place) : Type 0 where
   pub items : List Item
   pub front : Front
@@ -25,8 +25,8 @@ pub record HasHeard (events : List Event) (place : Place) : Type 0 where
   pub is_front : IsFront front
   pub stands : TapStandsAt place front
 
--- What has been heard, with one character more. The front under way goes on with it, its data this
--- way or that, or the dialogue ends with it and is one item more.
+-- The history with one more character. The current front continues with it, with data in one
+-- direction or the other, or the dialogue ends with it and becomes one more item.
 pub record HearsOn {events : List Event} {before : Place} (led : HasHeard events before)
     (heard : Heard) (c : Character) (after : Place) : Type 0 where
   pub now : HasHeard (events ++ Passed c ∷ []) after

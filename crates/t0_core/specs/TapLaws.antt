@@ -7,7 +7,7 @@ use Rattle.t0_core.specs.History.{Event, Reset, Cut_off, passed}
 use Rattle.t0_core.specs.TapSide.{Place, In_opening, Between, In_data, After_sw1, TapStandsAt, IsReadFront, afresh}
 use Rattle.t0_core.specs.TapHistory.{HasHeard, IsOverheard}
 
--- a front at which a tap stands is one that it reads
+-- a tap reads the fronts at which it is
 stands_read : (place : Place) (front : Front) → TapStandsAt place front → IsReadFront front
 stands_read (In_opening bytes) (In_header heard) at = tt
 stands_read (Between said) (In_body b) at = at.0.is_read
@@ -15,7 +15,7 @@ stands_read (In_data said until) (In_body b) at = at.0.is_read
 stands_read (After_sw1 said sw1) (After_first b first) at = at.0.is_read
 stands_read _ _ at = absurd at
 
--- A reset cuts off the front under way, and nothing of the dialogue to come has been heard.
+-- A reset cuts off the current front, and the next dialogue starts afresh.
 pub heard_reset : (events : List Event) (before after : Place) → after ≡ afresh
     → (led : HasHeard events before) → (now : HasHeard (events ++ Reset ∷ []) after)
     × (now.items ≡ led.items ++ Cut_off (front_characters led.front) ∷ []) × (now.front ≡ fresh)

@@ -6,15 +6,15 @@ use Rattle.t0_core.specs.Character.{Character}
 use Rattle.t0_core.specs.Dialogue.{Dialogue}
 use Rattle.t0_core.specs.TapSide.{Place, unheard_at, heard_at, after_hearing, SaysSo}
 
--- it takes each of them, and this is what it says of each
+-- it takes each character, and returns these
 abbrev pub HearsInTurn : Place → List Character → List Heard → Place → Type 0
 HearsInTurn old [] told new = (told ≡ []) × (new ≡ old)
 HearsInTurn old (c ∷ cs) [] new = ⊥
 HearsInTurn old (c ∷ cs) (this ∷ told) new = (unheard_at old c.0 c.1 ≡ None)
     × (this ≡ heard_at old c.0 c.1) × HearsInTurn (after_hearing old c.0 c.1) cs told new
 
--- Each SW2 among what it says tells one of the dialogues, in turn: its header and P3, which way its
--- data moved and how many, and its status.
+-- Each SW2 among its results reports one of the dialogues, in turn: its header and P3, the
+-- direction and number of its data, and its status.
 abbrev pub AreTold : List Heard → List Dialogue → Type 0
 AreTold [] [] = Unit {0}
 AreTold [] (d ∷ ds) = ⊥

@@ -1,4 +1,4 @@
--- How the stages of a tap are seen.
+-- How contracts see the stages of a tap.
 use Rattle.std.specs.Prelude.{◌≡◌, ◌≤◌, length, take}
 use Rattle.t0_core.specs.declared.tap.TapStage.{TapStage}
 use Rattle.t0_core.specs.declared.tap.TapStage.TheVariants as stage

@@ -1,10 +1,10 @@
--- Laws of what a watch has heard.
+-- Laws of what a watch has recorded.
 use Rattle.std.specs.Prelude.{◌≡◌, ℕ, zero, suc, List, [], ◌∷◌, ◌++◌, take, Bool, true, false, refl}
 use Rattle.std.proofs.Common.{sym, ◌∙◌, ap, append-nil, append_assoc}
 use Rattle.t0_core.specs.Character.{Character}
 use Rattle.t0_core.specs.Watch.{Hearing, Hears}
 
--- a front of a front, and a front that goes past one
+-- the beginning of a beginning, and a beginning that reaches past a part
 front_of_front : (n : ℕ) (xs ys : List Character) → (m : ℕ) × (take m (xs ++ ys) ≡ take n xs)
 front_of_front zero xs ys = (0, refl)
 front_of_front (suc n) [] ys = (0, refl)
@@ -16,7 +16,7 @@ front_past [] ys m = (m, refl)
 front_past (x ∷ xs) ys m = let shorter = front_past xs ys m in
     (suc shorter.0, ap (λ cs. x ∷ cs) shorter.1)
 
--- what a watch hears of one part and then of another
+-- what a watch records of one part and then of another
 heard_front : (a b c : Hearing) (xs ys : List Character) → Hears a xs b → Hears b ys c
     → (lost : Bool) → b.lost ≡ lost → (n : ℕ) × (c.heard ≡ a.heard ++ take n (xs ++ ys))
 heard_front a b c xs ys one two true lost =

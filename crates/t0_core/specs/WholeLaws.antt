@@ -1,4 +1,4 @@
--- Each front begins a dialogue, and each dialogue is gone through front by front.
+-- Each front begins a dialogue, and each dialogue is passed front by front.
 use Rattle.std.proofs.Common.{◌≡◌, ℕ, zero, suc, ◌+◌, ◌-◌, ◌<◌, ◌≤◌, List, [], ◌∷◌, ◌++◌, length, take, drop, refl, sym, subst, ◌∙◌, ap, arith, inl, inr, lit<, false, append_assoc, append-nil, length-append}
 use Rattle.std.specs.List.{AllByRecursion}
 use Rattle.apdu_core.specs.declared.header.Header.{Header}
@@ -15,12 +15,12 @@ use Rattle.std.proofs.lemmas.List.{length-drop, length-take-le, take-append-drop
 use Rattle.t0_core.specs.FrontLaws.{goes_on, all_moves-more, all_moves-within}
 use Rattle.t0_core.specs.DialogueLaws.{ends_with}
 
--- the front is less than the dialogue
+-- the front begins a dialogue, and is not all of it
 abbrev pub BeginsDialogue : Front → Type 0
 BeginsDialogue front = (d : Dialogue) × (c : Character) × (rest : List Character) × IsDialogue d
     × (characters d ≡ front_characters front ++ c ∷ rest)
 
--- a body with the data that its last segment owed, of which Q holds
+-- a body with the data that its last segment still lacked; Q holds for all data
 pub record Longer (Q : List ℕ → Type 0) (b x : Body) : Type 0 where
   pub header_is : x.header ≡ b.header
   pub p3_is : x.p3 ≡ b.p3
@@ -32,7 +32,7 @@ pub record Longer (Q : List ℕ → Type 0) (b x : Body) : Type 0 where
   pub rest : List Character
   pub characters_are : body_characters x ≡ body_characters b ++ rest
 
--- one more data byte, of which Q holds with those before
+-- one more data byte, so that Q still holds
 abbrev pub Supplies : (List ℕ → Type 0) → Body → Type 0
 Supplies Q b = (moved : List ℕ) → length moved < foreseen b.direction b.p3 → Q moved
     → (y : ℕ) × Q (moved ++ y ∷ [])
@@ -95,7 +95,7 @@ pub closed_is : (b : Body) → IsBegun b → IsBetween b → IsDialogue (closed 
 closed_is b is between =
     record { moved_by_segments = between; is_status = (refl, lit< tt); only_nulls = is.only_nulls }
 
--- a list of characters that goes on with two more has a first that is still to come
+-- a list that is followed by two characters has a first one
 pub head_of : (rest : List Character) (a b : Character) → (c : Character) × (cs : List Character)
     × (rest ++ a ∷ b ∷ [] ≡ c ∷ cs)
 head_of [] a b = (a, b ∷ [], refl)
@@ -110,7 +110,7 @@ owes b is = within b.segments (foreseen b.direction b.p3) (length b.moved) is.in
     within (s ∷ t ∷ segments) n k h =
         omega (arith, h.0, within (t ∷ segments) (n - moves s n) (k - moves s n) h.1)
 
--- a body that goes on to a dialogue
+-- a body that can be continued to a dialogue
 pub closes : (Q : List ℕ → Type 0) (b x : Body) → Longer Q b x
     → (c : Character) × (rest : List Character) × IsDialogue (closed x)
     × (characters (closed x) ≡ body_characters b ++ c ∷ rest)
@@ -163,9 +163,9 @@ begins (After_first b sw1) is =
       ends_with (After_first b sw1) 0 d (refl, lit< tt, refl),
     )
 
--- ---- each front is reached, and each dialogue is gone through
+-- ---- each front is reached, and each dialogue is passed
 
--- from this front a dialogue goes on with these characters, front by front, to that one
+-- from this front a dialogue continues with these characters, front by front, to that one
 abbrev pub GoesTo : Front → List Character → Front → Type 0
 GoesTo front [] other = front ≡ other
 GoesTo front (c ∷ cs) other = (new : Front) × GoesOn front c new × GoesTo new cs other
@@ -319,7 +319,7 @@ whole_in_last (s ∷ t ∷ segments) k n e = (
       (omega (arith, e)),
 )
 
--- a whole dialogue but for SW2
+-- a whole dialogue except its SW2
 pub whole_front : (d : Dialogue) → IsDialogue d → IsFront (After_first d.body d.status.0)
 whole_front d is = (
   record {

@@ -1,23 +1,24 @@
-//! Why a terminal does not take the answer to a whole TPDU.
+//! The errors of giving a terminal's end the answer to a whole TPDU.
 
 use std::error::Error;
 use std::fmt;
 
-/// Why a terminal does not take the answer to a whole TPDU (this project's profile).
+/// Why a terminal's end refuses the answer to a whole TPDU (profile).
 ///
-/// After `TooLong` and `Stalled` the end has failed for good. The other faults change nothing.
+/// After `TooLong` and `Stalled` the end has failed for good. After any other error it is
+/// unchanged.
 #[derive(Clone, Copy, Debug, PartialEq, Eq)]
 pub enum AnswerFault {
-    /// No TPDU is about to begin: characters of one have gone, or it has ended or failed.
+    /// No TPDU is about to start: some of its characters have been sent, or it has ended or failed.
     NotDue,
-    /// The TPDU sends data, and data came.
+    /// The TPDU sends data, and the answer contains data.
     NotAsked,
-    /// More data came than P3 counts.
+    /// The answer contains more data than P3 asks for.
     TooMany,
-    /// There is no room for the data.
+    /// The data exceed the room of the gather.
     TooLong,
-    /// A `GET RESPONSE` has brought no data, and the card announces more. It is a fault of an
-    /// exchange of several TPDUs alone: the end of one TPDU never gives it.
+    /// A `GET RESPONSE` brought no data, and the card announces more. Only an exchange of several
+    /// TPDUs returns this, never the end of one TPDU.
     Stalled,
 }
 

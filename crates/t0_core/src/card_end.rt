@@ -26,16 +26,16 @@ use std::fmt;
 use std::marker::Model;
 pub use tpdu::Awaited;
 
-/// What a card's end does when it may.
+/// What a card's end does next.
 #[derive(Clone, Copy, Debug, PartialEq, Eq)]
 pub enum Turn {
     /// It waits for a character of the terminal.
     Listens,
-    /// It hands out this character.
+    /// It sends this character.
     Sends(u8),
 }
 
-/// A character was offered when the next one is the card's.
+/// The terminal offered a character, but the card sends next. Nothing changed.
 #[derive(Clone, Copy, Debug, PartialEq, Eq)]
 pub struct NotListening;
 
@@ -51,26 +51,26 @@ impl fmt::Display for NotListening {
 
 impl Error for NotListening {}
 
-/// How far a card's end has come in a TPDU.
+/// The progress of a card's end in a TPDU.
 #[derive(Clone, Copy, Debug, PartialEq, Eq)]
 pub enum Phase {
-    /// The terminal sends the header; so many of its characters have come, 0 to 5.
+    /// The terminal sends the header. `taken` is the number of its characters so far, 0 to 5.
     Opening {
         bytes: [u8; 5],
         taken: usize,
     },
-    /// The card has refused the header; so many steps of the plan are done.
+    /// The card refused the header. `done` is the number of steps of the plan so far.
     Refused {
         header: Header,
         p3: u8,
         status: Status,
         done: usize,
     },
-    /// The card has accepted the header.
+    /// The card accepted the header.
     Accepted {
         service: Service,
     },
-    /// SW1 is handed out.
+    /// The card sent SW1 and sends SW2 next.
     SecondStatus {
         status: Status,
     },
@@ -78,13 +78,14 @@ pub enum Phase {
 
 /// The card's end of the line, over a card (ISO/IEC 7816-3, 10.3).
 ///
-/// It takes the header of a TPDU, and then moves the data and hands out what the card answers, by
-/// the steps of the next of the plans that it is given.
+/// `take` gives it each character of the terminal, and `turn` returns each character of the card.
+/// After a header it carries out the steps of the next plan in `Plans`, moves the data, and sends
+/// the card's status.
 #[derive(Drop)]
 pub struct CardEnd<C: TpduCard> {
     card: C,
     phase: Phase,
-    /// The data characters that come from the terminal, P3 of them at most.
+    /// The data characters received from the terminal in this TPDU, at most P3.
     came: [u8; 255],
 }
 
@@ -106,7 +107,7 @@ impl<C: TpduCard> CardEnd<C> {
     ghost use Rattle.t0_core.specs.Character.{Character};
     ghost use Rattle.t0_core.specs.Front.{GoesOn};
 
-    /// The end of a card that has heard nothing yet.
+    /// Makes the end of a card, before any character.
     pub fn new(card: C) -> CardEnd<C>
         ensures fresh { result ≡ record { card = card; stage = Taking_header [] } }
         ensures led { Leads C.Does C.after_reset (C.standing card) []
@@ -128,8 +129,8 @@ impl<C: TpduCard> CardEnd<C> {
         &self.card
     }
 
-    /// The room for data of the terminal, with those of the TPDU under way in front. Between TPDUs
-    /// it holds zeros: none of the last one's are left.
+    /// The buffer for the terminal's data. It starts with those of the current TPDU. Between TPDUs
+    /// it holds zeros, so nothing is left of the last one.
     pub fn held(&self) -> &[u8; 255]
         ensures { (bytes : List ℕ) → self.now.stage ≡ Taking_header bytes →
             result.now ≡ replicate 255 0 }
@@ -137,20 +138,21 @@ impl<C: TpduCard> CardEnd<C> {
         &self.came
     }
 
-    /// Whether the header is whole and not yet answered: the next of the plans is taken with the
-    /// card's next character.
+    /// Whether the header is complete and the card has not yet answered it. The next `turn` takes
+    /// the next plan.
     pub fn takes_plan(&self) -> bool
         ensures { result ≡ takes_plan self.now.stage }
     {
         begins_to_answer(&self.phase)
     }
 
-    /// Resets the card, and drops the TPDU under way.
+    /// Resets the card, and drops the TPDU in progress.
     pub fn reset(&mut self)
         ensures card { C.standing self.new.card ≡ C.after_reset (C.standing self.old.card) }
         ensures stage { self.new.stage ≡ Taking_header [] }
 
-        // Whatever led to the end leads to it with the reset, and nothing leads to it from here.
+        // History: what led to the state before leads, with the reset, to the state after. A new
+        // history starts here too.
         ensures led { (first : C.State) (events : List Event) →
             Leads C.Does C.after_reset first events
             (C.standing self.old.card) (C.prepared self.old.card) self.old.stage →
@@ -166,8 +168,11 @@ impl<C: TpduCard> CardEnd<C> {
         self.came = [0; 255];
     }
 
-    /// Takes a character of the terminal. It is refused exactly where the next character is the
-    /// card's, and then nothing changes.
+    /// Takes a character of the terminal.
+    ///
+    /// # Errors
+    ///
+    /// - `NotListening`: the card sends the next character; nothing has changed.
     #[inline(always)]
     pub fn take(&mut self, byte: u8) -> Result<(), NotListening>
         ensures listening { is_ok result ≡ listens self.old.stage }
@@ -177,7 +182,7 @@ impl<C: TpduCard> CardEnd<C> {
         ensures falls { OnOk result ((plan : Course) →
             still_to_go self.new.stage plan < still_to_go self.old.stage plan) }
 
-        // The dialogue under way goes on with it, and stays on its plan.
+        // The dialogue continues with this character, and stays on its plan.
         ensures goes_on { (cut : ℕ) (front new : Front) →
             StandsAt C.Does (C.standing self.old.card) (C.prepared self.old.card)
             self.old.stage cut front →
@@ -188,7 +193,7 @@ impl<C: TpduCard> CardEnd<C> {
             × ((plan : Course) →
             IsOnPlan self.old.stage plan front → IsOnPlan self.new.stage plan new) }
 
-        // Whatever led to the end leads to it with this character.
+        // History: what led to the state before leads, with this character, to the state after.
         ensures led { (first : C.State) (events : List Event) →
             Leads C.Does C.after_reset first events
             (C.standing self.old.card) (C.prepared self.old.card) self.old.stage →
@@ -204,8 +209,8 @@ impl<C: TpduCard> CardEnd<C> {
         Ok(())
     }
 
-    /// Takes characters of the terminal, as `take` one at a time, as many as it listens to. Says
-    /// how many; those behind them change nothing.
+    /// Takes characters of the terminal like `take`, one at a time, until the end stops listening.
+    /// Returns how many it took. The others change nothing.
     #[inline(always)]
     pub fn take_bytes(&mut self, bytes: &[u8]) -> usize
         ensures taken { Steps (IsTaken C.TpduCard) self.old (take result bytes.now) self.new }
@@ -221,7 +226,7 @@ impl<C: TpduCard> CardEnd<C> {
         bytes.len()
     }
 
-    /// Takes the data characters that are due, in one run. Says how many.
+    /// Takes the expected data characters in one run. Returns how many it took.
     #[inline(always)]
     fn take_data(&mut self, bytes: &[u8]) -> usize
         ensures taken { Steps (IsTaken C.TpduCard) self.old (take result bytes.now) self.new }
@@ -230,11 +235,10 @@ impl<C: TpduCard> CardEnd<C> {
         take_run(&mut self.phase, bytes, &mut self.came)
     }
 
-    /// Hands out the card's next character, if it is the card's turn; else nothing changes.
+    /// Returns the card's next character if it is the card's turn. Otherwise nothing changes.
     ///
-    /// With the first character after a header the next of the plans is taken. The steps done are
-    /// counted, and the end goes on from that count in the plan that the cursor keeps. With the
-    /// second status character the card's state changes.
+    /// The first character after a header takes the next plan. Later ones continue that plan, by
+    /// the number of steps done so far. With SW2 the card's state changes.
     #[inline(always)]
     pub fn turn<A: Allocator>(&mut self, plans: &mut Plans<A>) -> Turn
         ensures whose { (result ≡ Turn.Listens) ↔ (listens self.old.stage ≡ true) }
@@ -248,18 +252,18 @@ impl<C: TpduCard> CardEnd<C> {
             ⊎ (still_to_go self.new.stage (plan_kept plans.new)
             < still_to_go self.old.stage (plan_kept plans.new)) }
 
-        // It goes on from the count of steps done, in whatever plan the cursor keeps.
+        // It continues from the number of steps done, in the plan that the cursor holds.
         ensures counts { (byte : ℕ) → result ≡ Turn.Sends byte →
             GoesByCount self.old.stage (plan_kept plans.new) byte self.new.stage }
 
-        // To this instruction the card may give this verdict.
+        // The card may give this verdict to this instruction.
         ensures permitted { (header : Header) (p3 : ℕ) →
             self.old.stage ≡ Taking_header (begins_with header p3) →
             IsPermitted C.MayReceive C.MaySend header.ins self.new.stage }
         ensures keeps { (byte : ℕ) → result ≡ Turn.Sends byte →
             takes_plan self.old.stage ≡ false → KeepsDirection self.old.stage self.new.stage }
 
-        // The dialogue under way goes on with it, or ends.
+        // The dialogue continues with this character, or ends.
         ensures advances { (byte cut : ℕ) (front : Front) → result ≡ Turn.Sends byte →
             (takes_plan self.old.stage ≡ true →
             (cut ≡ (plan_kept plans.new).cut) × SuitsFront self.new.stage front) →
@@ -269,7 +273,7 @@ impl<C: TpduCard> CardEnd<C> {
             (C.standing self.old.card)
             (C.standing self.new.card) (C.prepared self.new.card) self.new.stage }
 
-        // Whatever led to the end leads to it with this character.
+        // History: what led to the state before leads, with this character, to the state after.
         ensures led { (first : C.State) (events : List Event) (byte : ℕ) →
             result ≡ Turn.Sends byte →
             Leads C.Does C.after_reset first events
@@ -294,13 +298,13 @@ impl<C: TpduCard> CardEnd<C> {
     }
 }
 
-/// No character of a header has come.
+/// The start of a TPDU: no character of a header yet.
 const FRESH: Phase = Phase::Opening {
     bytes: [0; 5],
     taken: 0,
 };
 
-/// Drops the data of a TPDU that is over.
+/// Overwrites the terminal's data once the TPDU has ended.
 #[inline(always)]
 fn forget_data(phase: &Phase, came: &mut [u8; 255])
     ensures stage { stage_of phase.now came.new ≡ stage_of phase.now came.old }
@@ -312,7 +316,7 @@ fn forget_data(phase: &Phase, came: &mut [u8; 255])
     }
 }
 
-/// Whether the next character is the terminal's.
+/// Whether the terminal sends next.
 #[inline(always)]
 fn is_listening(phase: &Phase) -> bool
     requires { IsHeld phase.now }
@@ -325,7 +329,7 @@ fn is_listening(phase: &Phase) -> bool
     }
 }
 
-/// Whether the next character is the card's first of this TPDU.
+/// Whether the card sends its first character of this TPDU next.
 fn begins_to_answer(phase: &Phase) -> bool
     requires { IsHeld phase.now }
     ensures { (came : List ℕ) → result ≡ takes_plan (stage_of phase.now came) }
@@ -336,8 +340,7 @@ fn begins_to_answer(phase: &Phase) -> bool
     }
 }
 
-/// Takes one more character of the terminal into the phase. A data character goes to its place in
-/// `came`.
+/// Takes one more character of the terminal into the phase. A data character is stored in `came`.
 #[inline(always)]
 fn take_into(phase: &mut Phase, byte: u8, came: &mut [u8; 255]) -> Result<(), NotListening>
     requires held { IsHeld phase.old }
@@ -371,8 +374,7 @@ fn take_into(phase: &mut Phase, byte: u8, came: &mut [u8; 255]) -> Result<(), No
     Err(NotListening)
 }
 
-/// Takes data characters of the terminal to their places in `came`, as many as are due. Says how
-/// many.
+/// Stores the terminal's expected data characters in `came`, in one run. Returns how many.
 #[inline(always)]
 fn take_run(phase: &mut Phase, bytes: &[u8], came: &mut [u8; 255]) -> usize
     requires held { IsHeld phase.old }
@@ -387,7 +389,7 @@ fn take_run(phase: &mut Phase, bytes: &[u8], came: &mut [u8; 255]) -> usize
     }
 }
 
-/// Hands out the card's next character, and takes the phase past it.
+/// Returns the card's next character, and moves the phase past it.
 #[inline(always)]
 fn hand_out<C: TpduCard, A: Allocator>(
     card: &mut C,
@@ -429,8 +431,8 @@ fn hand_out<C: TpduCard, A: Allocator>(
     go_on(card, phase, came, plans)
 }
 
-/// Takes the phase past a header, by the card's verdict on it. It stands apart from what each
-/// character comes through.
+/// Moves the phase past a header, by the card's verdict on it. It is not inlined, so that the path
+/// of each data character stays short.
 #[inline(never)]
 fn judge<C: TpduCard>(card: &mut C, phase: &mut Phase, bytes: [u8; 5], cut: u16)
     requires five { length bytes ≡ 5 }
@@ -470,7 +472,7 @@ fn judge<C: TpduCard>(card: &mut C, phase: &mut Phase, bytes: [u8; 5], cut: u16)
     };
 }
 
-/// Hands out the card's next character after its verdict, and takes the phase past it.
+/// Returns the card's next character after its verdict, and moves the phase past it.
 #[inline(always)]
 fn go_on<C: TpduCard, A: Allocator>(
     card: &mut C,
@@ -498,7 +500,7 @@ fn go_on<C: TpduCard, A: Allocator>(
         (C.standing card.old) (C.standing card.new) (C.prepared card.new)
         (stage_of phase.new came.now) }
 {
-    // A service is asked for first, without a jump through a table: all data come this way.
+    // For speed: the common case first, without a jump table, since all data pass here.
     if let Phase::Accepted { service } = phase {
         let (byte, status) = serve(card, service, came, plans);
         if let Some(status) = status {
@@ -527,7 +529,7 @@ fn go_on<C: TpduCard, A: Allocator>(
     }
 }
 
-/// The next character after a refused header, and the phase after it: a NULL, or SW1.
+/// The next character after a refused header, a NULL or SW1, and the phase after it.
 #[inline(always)]
 fn refuse(header: Header, p3: u8, status: Status, done: usize, steps: &[Step]) -> (Phase, u8)
     ensures { Refuses header p3 status done steps.now result.0 result.1 }

@@ -1,4 +1,4 @@
-//! Which way the data of a TPDU move.
+//! The direction of a TPDU's data.
 ghost use Rattle.std.specs.Prelude.{◌≡◌, ◌≤◌};
 ghost use Rattle.t0_core.specs.Dialogue.{foreseen};
 ghost use Rattle.t0_core.specs.TapSide.{direction_from};
@@ -6,7 +6,7 @@ ghost use Rattle.t0_core.specs.TapSide.{direction_from};
 use crate::end::End;
 use apdu_core::count;
 
-/// Where the data of a TPDU go (ISO/IEC 7816-3, 10.3.1).
+/// The direction of a TPDU's data (ISO/IEC 7816-3, 10.3.1).
 #[derive(Clone, Copy, Debug, PartialEq, Eq)]
 pub enum Direction {
     /// From the terminal to the card.
@@ -16,7 +16,7 @@ pub enum Direction {
 }
 
 impl Direction {
-    /// The way in which the data of this end move.
+    /// The direction of data that this end sends.
     pub(crate) fn from_sender(from: End) -> Direction
         ensures { result ≡ direction_from from }
     {
@@ -26,7 +26,7 @@ impl Direction {
         }
     }
 
-    /// How many data characters P3 foresees, 0 to 256 (ISO/IEC 7816-3, 10.3.2).
+    /// The number of data characters that P3 states, 0 to 256 (ISO/IEC 7816-3, 10.3.2).
     pub(crate) fn foreseen(self, p3: u8) -> u16
         ensures value { result ≡ foreseen self p3 }
         ensures range { result ≤ 256 }

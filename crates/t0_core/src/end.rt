@@ -3,7 +3,7 @@
 /// An end of the line.
 #[derive(Clone, Copy, Debug, PartialEq, Eq, Hash)]
 pub enum End {
-    /// The interface device, which sends commands.
+    /// The terminal (interface device), which sends commands.
     Terminal,
     /// The card, which answers them.
     Card,

@@ -1,10 +1,10 @@
-//! The data that a terminal takes, in room that was taken beforehand.
+//! The buffer for the data that a terminal receives.
 ghost use Rattle.std.specs.Prelude.{◌≡◌, ℕ, ◌<◌, ◌≤◌, [], ◌∷◌, ◌++◌, length, IfOk, ◌==◌, ◌+◌, nat_le, false};
 
 use std::alloc::{AllocError, Allocator, Global};
 use std::marker::Model;
 
-/// A buffer for the data characters from the card, whose room is taken once.
+/// A buffer for the data characters from the card, allocated once.
 #[derive(Drop)]
 pub struct Gather<A: Allocator = Global> {
     bytes: Vec<u8, A>,
@@ -25,7 +25,11 @@ impl<A: Allocator> Model for Gather<A> {
 impl<A: Allocator> Gather<A> {
     ghost use Rattle.t0_core.specs.Room.{Room};
 
-    /// An empty buffer with room for `limit` bytes. Its error is want of memory.
+    /// Makes an empty buffer with room for `limit` bytes.
+    ///
+    /// # Errors
+    ///
+    /// - `AllocError`: memory ran out; no buffer exists.
     pub fn with_room(alloc: A, limit: usize) -> Result<Gather<A>, AllocError>
         ensures { IfOk result (λ g. g ≡ record { bytes = []; limit = limit }) }
     {
@@ -33,7 +37,7 @@ impl<A: Allocator> Gather<A> {
         Ok(Gather { bytes, limit })
     }
 
-    /// A buffer with no room, which takes no memory.
+    /// Makes a buffer without room. It allocates nothing.
     pub fn without_room(alloc: A) -> Gather<A>
         ensures { result ≡ record { bytes = []; limit = 0 } }
     {
@@ -43,7 +47,7 @@ impl<A: Allocator> Gather<A> {
         }
     }
 
-    /// The bytes gathered.
+    /// The bytes gathered so far.
     pub fn bytes(&self) -> &[u8]
         ensures value { result.now ≡ self.now.bytes }
         ensures fits { length result.now ≤ self.now.limit }
@@ -51,7 +55,7 @@ impl<A: Allocator> Gather<A> {
         self.bytes.as_slice()
     }
 
-    /// The bytes gathered. The room that they have not filled is given back.
+    /// Returns the bytes gathered so far, and frees the unused room.
     pub fn into_bytes(self) -> Vec<u8, A>
         ensures { result.items ≡ self.bytes }
     {
@@ -60,14 +64,14 @@ impl<A: Allocator> Gather<A> {
         bytes
     }
 
-    /// Drops the bytes, and keeps the room.
+    /// Drops the bytes, and keeps the room for others.
     pub fn clear(&mut self)
         ensures { self.new ≡ record { bytes = []; limit = self.old.limit } }
     {
         self.bytes.clear();
     }
 
-    /// Whether there is no room for one more byte.
+    /// Whether the buffer is full.
     #[inline(always)]
     pub(crate) fn is_full(&self) -> bool
         ensures { result ≡ (length self.now.bytes == self.now.limit) }
@@ -75,14 +79,14 @@ impl<A: Allocator> Gather<A> {
         self.bytes.len() == self.limit
     }
 
-    /// Whether there is room for so many bytes more.
+    /// Whether there is room for `count` more bytes.
     pub fn has_room(&self, count: usize) -> bool
         ensures { result ≡ nat_le (length self.now.bytes + count) self.now.limit }
     {
         count <= self.limit - self.bytes.len()
     }
 
-    /// Adds bytes, for which there is room.
+    /// Appends bytes, which must fit.
     pub fn extend(&mut self, bytes: &[u8])
         requires { length self.old.bytes + length bytes.now ≤ self.old.limit }
         ensures { self.new ≡ record {
@@ -95,7 +99,7 @@ impl<A: Allocator> Gather<A> {
         }
     }
 
-    /// Adds a byte, for which there is room.
+    /// Appends a byte, which must fit.
     #[inline(always)]
     pub(crate) fn push(&mut self, byte: u8)
         requires { (length self.old.bytes == self.old.limit) ≡ false }

@@ -1,4 +1,4 @@
-//! What a tap says of the characters that it takes, and what it says is due.
+//! What a tap reports about each character, and which one it expects next.
 ghost use Rattle.std.specs.Prelude.{◌≡◌, ◌+◌, ◌≤◌, Some};
 ghost use Rattle.t0_core.specs.TapSide.{foreseen_by, may_come_from, way_of};
 
@@ -7,22 +7,22 @@ use crate::end::End;
 use crate::plan::Step;
 use apdu_core::{Header, Status};
 
-/// What has been said in a TPDU since its header was whole.
+/// The state of a TPDU that a tap follows, since its header was complete.
 #[derive(Clone, Copy, Debug, PartialEq, Eq)]
 pub struct Said {
     /// CLA INS P1 P2.
     pub header: Header,
-    /// The fifth character of the header, which foresees the data.
+    /// P3, the fifth character of the header, which states the number of data characters.
     pub p3: u8,
-    /// Which way data have moved; `None` while none have.
+    /// The direction of the data; `None` before the first data character.
     pub direction: Option<Direction>,
-    /// How many data characters have moved, 0 to 256.
+    /// The number of data characters so far, 0 to 256.
     pub moved: u16,
 }
 
 impl Said {
-    /// How many data characters P3 foresees. Where nobody has seen which way they move it counts
-    /// them as data from the card: `00` then stands for 256.
+    /// The number of data characters that P3 states. While the direction is unknown, P3 counts data
+    /// from the card, so `00` means 256.
     pub(crate) fn foreseen(self) -> u16
         ensures value { result ≡ foreseen_by self.direction self.p3 }
         ensures range { result ≤ 256 }
@@ -32,8 +32,8 @@ impl Said {
             .foreseen(self.p3)
     }
 
-    /// Which way the data move that a procedure byte has started, where that is clear. With P3 `00`
-    /// they are the card's.
+    /// The direction of the data that a procedure byte has started, if it is known. With P3 `00`
+    /// they are from the card.
     pub(crate) fn way(self) -> Option<Direction>
         ensures { result ≡ way_of self.direction self.p3 }
     {
@@ -43,7 +43,7 @@ impl Said {
         self.direction
     }
 
-    /// With one more data character, which moves this way.
+    /// The same with one more data character in this direction.
     pub(crate) fn with_one_more(self, direction: Direction) -> Said
         requires { self.moved ≤ 256 }
         ensures { result ≡ record self { direction = Some direction; moved = self.moved + 1 } }
@@ -56,36 +56,36 @@ impl Said {
     }
 }
 
-/// What a character that a tap has taken was (ISO/IEC 7816-3, 10.3).
+/// What a character was that a tap took (ISO/IEC 7816-3, 10.3).
 #[derive(Clone, Copy, Debug, PartialEq, Eq)]
 pub enum Heard {
     /// One of the five characters of a header.
     Header,
-    /// A procedure byte, which starts this.
+    /// A procedure byte, which starts this step.
     Procedure(Step),
-    /// A data character that moves this way.
+    /// A data character in this direction.
     Data(Direction),
     /// SW1.
     FirstStatus,
-    /// SW2: the TPDU has ended, with this status.
+    /// SW2. The TPDU has ended with this status.
     SecondStatus { said: Said, status: Status },
 }
 
-/// Which characters a dialogue goes on with.
+/// The kind of character that a tap expects next.
 #[derive(Clone, Copy, Debug, PartialEq, Eq)]
 pub enum Due {
     /// One of the terminal, of the header.
     Header,
-    /// One of the card: a procedure byte, or SW1.
+    /// A procedure byte or SW1, from the card.
     Procedure,
-    /// A data character that moves this way, or either way where that is open.
+    /// A data character in this direction; `None` if either end may send it.
     Data(Option<Direction>),
-    /// One of the card: SW2.
+    /// SW2, from the card.
     SecondStatus,
 }
 
 impl Due {
-    /// Whether this end sends such a character.
+    /// Whether this end may send such a character.
     pub fn may_come_from(self, from: End) -> bool
         ensures { result ≡ may_come_from self from }
     {

@@ -25,10 +25,10 @@ use apdu_core::{Header, Status, count};
 use std::alloc::Allocator;
 use std::marker::Model;
 
-/// What a terminal's end does when it is asked.
+/// What a terminal's end does next.
 #[derive(Clone, Copy, Debug, PartialEq, Eq)]
 pub enum HostTurn {
-    /// It hands out this character.
+    /// It sends this character.
     Sends(u8),
     /// It waits for a character of the card.
     Listens,
@@ -38,27 +38,28 @@ pub enum HostTurn {
     Failed,
 }
 
-/// How far a terminal's end has come in its TPDU.
+/// The progress of a terminal's end in its TPDU.
 #[derive(Clone, Copy, Debug, PartialEq, Eq)]
 pub enum HostStage {
-    /// So many characters of the header are handed out, 0 to 4.
+    /// `sent` characters of the header are sent, 0 to 4.
     SendingHeader { sent: usize },
-    /// A procedure byte or SW1 is due; so many data characters have moved.
+    /// A procedure byte or SW1 follows; `moved` data characters have moved.
     Awaiting { moved: u16 },
-    /// Data characters move, one way or the other, until so many have.
+    /// Data characters follow, in one direction, until `until` have moved.
     Moving { moved: u16, until: u16 },
-    /// SW2 is due.
+    /// SW2 follows.
     AwaitingSecond { sw1: u8 },
     /// The TPDU has ended.
     Ended { status: Status },
-    /// A fault has ended it.
+    /// An error has ended it.
     Broken,
 }
 
 /// The terminal's end of one TPDU (ISO/IEC 7816-3, 10.3).
 ///
-/// It sends the header, and then follows the card: after each procedure byte data move, as many as
-/// that byte says, and the status ends it, whether or not all data have moved.
+/// `next` returns each character to send, and `take` takes each character of the card. The end
+/// sends the header and then follows the card. After each procedure byte, the data that it asks for
+/// move. The status ends the TPDU, whether or not all data have moved.
 #[derive(Drop)]
 pub struct HostEnd<'a> {
     request: Request<'a>,
@@ -84,8 +85,8 @@ impl<'a> HostEnd<'a> {
     ghost use Rattle.t0_core.specs.HostSide.{at_stage, HostStandsAt, IsRequest};
     ghost use Rattle.t0_core.specs.HostMark.{HasOnly, with_data};
 
-    /// An end that sends the card these bytes, at most 255, under a header with a valid INS. P3 is
-    /// their number.
+    /// Makes an end that sends `content`, at most 255 bytes, after a header with a valid INS. P3 is
+    /// the number of bytes.
     pub fn sending(header: Header, content: &'a [u8]) -> HostEnd<'a>
         requires valid { ins_is_valid header.ins ≡ true }
         requires counts { length content.now ≤ 255 }
@@ -106,8 +107,8 @@ impl<'a> HostEnd<'a> {
         }
     }
 
-    /// An end that asks the card for so many bytes, 1 to 256, under a header with a valid INS. P3
-    /// counts them, `00` for 256.
+    /// Makes an end that asks the card for `wanted` bytes, 1 to 256, with a header with a valid
+    /// INS. P3 states that number; `00` means 256.
     pub fn asking(header: Header, wanted: u16) -> HostEnd<'a>
         requires valid { ins_is_valid header.ins ≡ true }
         requires counts { (1 ≤ wanted) × (wanted ≤ 256) }
@@ -128,7 +129,7 @@ impl<'a> HostEnd<'a> {
         }
     }
 
-    /// How far the end has come, so that `at` makes it again over the same data.
+    /// Returns the progress of the end. `at` makes the same end from it and the data.
     pub fn mark(&self) -> HostMark
         ensures again { (content : List ℕ) → HasOnly content self.now
             → with_data result content ≡ self.now }
@@ -137,7 +138,7 @@ impl<'a> HostEnd<'a> {
         mark_of(self.request, self.stage)
     }
 
-    /// The end that has come so far in a TPDU, over the data of its command.
+    /// Makes the end with this progress, over the data of its command.
     pub fn at(mark: HostMark, content: &'a [u8]) -> HostEnd<'a>
         requires { IsInRange (with_data mark content.now) }
         ensures { result ≡ with_data mark content.now }
@@ -162,7 +163,7 @@ impl<'a> HostEnd<'a> {
         }
     }
 
-    /// What the end does now. A character to send is handed out; nothing else changes anything.
+    /// Returns what the end does next. Only a character to send changes the end's state.
     #[inline(always)]
     pub fn next(&mut self) -> HostTurn
         ensures turn { result ≡ turn_of self.old }
@@ -170,7 +171,7 @@ impl<'a> HostEnd<'a> {
         ensures keeps { IsRequest self.new }
         ensures stays { ((byte : ℕ) → result ≡ HostTurn.Sends byte → ⊥) → self.new ≡ self.old }
 
-        // With it a dialogue that the end opened goes on.
+        // A dialogue that the end opened continues with it.
         ensures goes_on { (front : Front) (byte : ℕ) → HostStandsAt self.old front
             → result ≡ HostTurn.Sends byte →
             (new : Front) × GoesOn front (Terminal, byte) new × HostStandsAt self.new new }
@@ -178,8 +179,8 @@ impl<'a> HostEnd<'a> {
         turn_at(&self.request, &mut self.stage)
     }
 
-    /// Hands out a character of the command's data, if one is due, as `next` does; else nothing
-    /// changes. A loop over it passes what a procedure byte has asked for.
+    /// Returns the next character of the command's data if one is to be sent, as `next` would.
+    /// Otherwise nothing changes. A loop over it sends what a procedure byte asked for.
     #[inline(always)]
     pub fn next_data(&mut self) -> Option<u8>
         ensures due { result ≡ data_due self.old }
@@ -188,7 +189,7 @@ impl<'a> HostEnd<'a> {
         ensures stays { result ≡ None → self.new ≡ self.old }
         ensures keeps { IsRequest self.new }
 
-        // With it a dialogue that the end opened goes on.
+        // A dialogue that the end opened continues with it.
         ensures goes_on { (front : Front) (byte : ℕ) → HostStandsAt self.old front
             → result ≡ Some byte →
             (new : Front) × GoesOn front (Terminal, byte) new × HostStandsAt self.new new }
@@ -196,9 +197,9 @@ impl<'a> HostEnd<'a> {
         data_at(&self.request, &mut self.stage)
     }
 
-    /// Hands out characters of the command's data into a buffer, as `next_data` one at a time, as
-    /// many as are due and there is room for. Says how many; what stands behind them stays as it
-    /// was.
+    /// Writes the next characters of the command's data to `bytes`, like `next_data` one at a time,
+    /// until none is to be sent or `bytes` is full. Returns how many; the rest of `bytes` is
+    /// unchanged.
     #[inline(always)]
     pub fn next_data_bytes(&mut self, bytes: &mut [u8]) -> usize
         ensures handed { HandsOut IsDataTurn self.old bytes.old bytes.new result self.new }
@@ -220,13 +221,18 @@ impl<'a> HostEnd<'a> {
         }
     }
 
-    /// Takes a character of the card; a data character goes into the gather.
+    /// Takes a character of the card. A data character is appended to `gather`.
     ///
-    /// `BadProcedure` comes where a procedure byte is due and this is neither `60`, INS, INS xor
-    /// `FF` nor a first status byte, `TooLong` where a data character of the card is due and the
-    /// gather is full: then the end has failed (this project's profile). `AfterEnd` comes where the
-    /// TPDU has ended or the end has failed, `NotListening` where it has characters to send: these
-    /// change nothing. No fault changes the gather.
+    /// # Errors
+    ///
+    /// `gather` is unchanged after each (profile):
+    ///
+    /// - `BadProcedure`: a procedure byte or SW1 is expected, and the byte is neither; the end has
+    ///   failed for good.
+    /// - `TooLong`: a data character is expected, and `gather` is full; the end has failed for
+    ///   good.
+    /// - `AfterEnd`: the TPDU has ended or failed; the end is unchanged.
+    /// - `NotListening`: the end has characters to send first; it is unchanged.
     #[inline(always)]
     pub fn take<A: Allocator>(&mut self, byte: u8, gather: &mut Gather<A>) -> Result<(), LineFault>
         ensures fault { result_err result ≡ fault_of self.old gather.old byte }
@@ -241,7 +247,7 @@ impl<'a> HostEnd<'a> {
             ⊎ (fault ≡ LineFault.AfterEnd) ⊎ (turn_of self.new ≡ HostTurn.Failed)) }
         ensures keeps { IsRequest self.new }
 
-        // It takes each dialogue that it opened, where there is room for the data.
+        // It takes each dialogue that it opened, if there is room for the data.
         ensures goes_on { (front new : Front) → HostStandsAt self.old front
             → GoesOn front (Card, byte) new →
             MatchResult result (λ _. HostStandsAt self.new new)
@@ -270,7 +276,7 @@ impl<'a> HostEnd<'a> {
         }
     }
 
-    /// The whole TPDU, if none of its characters has gone.
+    /// The whole TPDU, if none of its characters was sent yet.
     pub fn whole(&self) -> Option<WholeTpdu<'a>>
         ensures { option_map asked_of result ≡ due_by self.now }
     {
@@ -281,14 +287,18 @@ impl<'a> HostEnd<'a> {
         }
     }
 
-    /// Takes the answer to the whole TPDU, with which a transport of whole TPDUs has gone through
-    /// it: the data from the card go into the gather, and the end waits for SW2 of the status, the
-    /// one character that `take` is still to be given.
+    /// Takes the answer to the whole TPDU, which a transport of whole TPDUs has carried out.
+    /// `bytes`, the data from the card, are appended to `gather`. The end then waits for SW2, the
+    /// one character that `take` still has to get.
     ///
-    /// `NotDue` comes where a character of the TPDU has gone, `NotAsked` where the TPDU sends data
-    /// and some came, `TooMany` where more came than P3 counts: these change nothing. `TooLong`
-    /// comes where the gather has no room for them: then the end has failed. No fault changes the
-    /// gather.
+    /// # Errors
+    ///
+    /// `gather` is unchanged after each (profile):
+    ///
+    /// - `NotDue`: a character of the TPDU was sent already; the end is unchanged.
+    /// - `NotAsked`: the TPDU sends data, and `bytes` is not empty; the end is unchanged.
+    /// - `TooMany`: `bytes` exceeds what P3 states; the end is unchanged.
+    /// - `TooLong`: `gather` has too little room; the end has failed for good.
     pub fn take_up_to_sw2<A: Allocator>(
         &mut self,
         bytes: &[u8],
@@ -308,12 +318,12 @@ impl<'a> HostEnd<'a> {
             → turn_of self.new ≡ HostTurn.Failed }
         ensures keeps { IsRequest self.new }
 
-        // It takes each dialogue that it opened, where there is room for the data.
+        // It takes each dialogue that it opened, if there is room for the data.
         ensures stands { (d : Dialogue) → Gives self.old d bytes.now status →
             MatchResult result (λ _. HostStandsAt self.new (After_first d.body status.0))
             (λ fault. (fault ≡ AnswerFault.NotDue) ⊎ (fault ≡ AnswerFault.TooLong)) }
 
-        // What it takes, or has no room for, is what some dialogue that it opened gives.
+        // What it takes, or has no room for, is what some dialogue gives that it opened.
         ensures given { MatchResult result (λ _. (d : Dialogue) × Gives self.old d bytes.now status)
             (λ fault. fault ≡ AnswerFault.TooLong
             → (d : Dialogue) × Gives self.old d bytes.now status) }
@@ -332,14 +342,14 @@ impl<'a> HostEnd<'a> {
     }
 }
 
-/// Whether no character of the TPDU has gone.
+/// Whether no character of the TPDU was sent yet.
 fn is_at_start(stage: HostStage) -> bool
     ensures { result ≡ is_start stage }
 {
     matches!(stage, HostStage::SendingHeader { sent: 0 })
 }
 
-/// The TPDU that is opened.
+/// The whole TPDU that the end opens.
 fn whole_of<'a>(request: Request<'a>) -> WholeTpdu<'a>
     ensures fields { (result.header ≡ request.entry.header) × (result.p3 ≡ request.entry.p3) }
     ensures content { result.content.now ≡ content_of request.entry.transfer }
@@ -363,7 +373,7 @@ fn whole_of<'a>(request: Request<'a>) -> WholeTpdu<'a>
     }
 }
 
-/// Takes the data of an answer into the gather, or says what fault it is: then nothing changes.
+/// Appends the data of an answer to the gather, or returns an error and changes nothing.
 fn take_answer<A: Allocator>(
     request: &Request,
     stage: HostStage,
@@ -388,7 +398,7 @@ fn take_answer<A: Allocator>(
     Ok(())
 }
 
-/// How many data characters may come back.
+/// The most data characters that may come back.
 fn may_come(transfer: &Transfer, p3: u8) -> u16
     ensures { result ≡ may_come (direction_of transfer.now) p3 }
 {
@@ -398,7 +408,7 @@ fn may_come(transfer: &Transfer, p3: u8) -> u16
     }
 }
 
-/// The fault that more of them are.
+/// The error if more of them come back.
 fn excess(transfer: &Transfer) -> AnswerFault
     ensures { result ≡ excess (direction_of transfer.now) }
 {
@@ -408,7 +418,7 @@ fn excess(transfer: &Transfer) -> AnswerFault
     }
 }
 
-/// Where such a fault leaves the end.
+/// The stage after such an error.
 fn stage_after_answer_fault(stage: HostStage, fault: AnswerFault) -> HostStage
     ensures { result ≡ after_answer_fault stage fault }
 {
@@ -418,7 +428,7 @@ fn stage_after_answer_fault(stage: HostStage, fault: AnswerFault) -> HostStage
     }
 }
 
-/// How far an end at this stage has come.
+/// The progress of an end at this stage.
 fn mark_of(request: Request, stage: HostStage) -> HostMark
     ensures { (content : List ℕ) → HasOnly content (host_of request.entry stage)
         → with_data result content ≡ host_of request.entry stage }
@@ -440,7 +450,7 @@ fn mark_of(request: Request, stage: HostStage) -> HostMark
     }
 }
 
-/// The data character that an end at this stage sends, if one is due. It takes it to the next.
+/// Returns the data character that an end at this stage sends, if any, and moves the stage past it.
 #[inline(always)]
 fn data_at(request: &Request, stage: &mut HostStage) -> Option<u8>
     requires { IsInRange (host_of request.now stage.old) }
@@ -467,8 +477,8 @@ fn data_at(request: &Request, stage: &mut HostStage) -> Option<u8>
     }
 }
 
-/// Hands out the data characters that are due at this stage into a buffer, as many as it has room
-/// for, in one run.
+/// Writes the data characters that an end at this stage sends to a buffer, in one run, as many as
+/// it has room for.
 #[inline(always)]
 fn data_bytes_at(request: &Request, stage: &mut HostStage, bytes: &mut [u8]) -> usize
     requires { IsInRange (host_of request.now stage.old) }
@@ -492,8 +502,8 @@ fn data_bytes_at(request: &Request, stage: &mut HostStage, bytes: &mut [u8]) -> 
     }
 }
 
-/// Copies the data from one place up to another to the front of a buffer, as many as it has room
-/// for. Says how many.
+/// Copies the data at `place..end` to the front of a buffer, as many as it has room for. Returns
+/// how many.
 #[inline(always)]
 fn hand_run(content: &[u8], place: u16, end: u16, bytes: &mut [u8]) -> usize
     requires { (place ≤ end) × (end ≤ length content.now) }
@@ -508,7 +518,7 @@ fn hand_run(content: &[u8], place: u16, end: u16, bytes: &mut [u8]) -> usize
     count
 }
 
-/// What an end at this stage does. A character to send takes it to the next.
+/// Returns what an end at this stage does next. A character to send moves the stage past it.
 #[inline(always)]
 fn turn_at(request: &Request, stage: &mut HostStage) -> HostTurn
     requires { IsInRange (host_of request.now stage.old) }
@@ -536,7 +546,7 @@ fn turn_at(request: &Request, stage: &mut HostStage) -> HostTurn
     }
 }
 
-/// Data characters move up to this place, if they are not there yet.
+/// Data characters move until `until`, if they have not yet.
 #[inline(always)]
 fn stage_moving(moved: u16, until: u16) -> HostStage
     ensures value { result ≡ moving moved until }
@@ -549,7 +559,8 @@ fn stage_moving(moved: u16, until: u16) -> HostStage
     }
 }
 
-/// Takes a character of the card to the next stage, or says what fault it is: then nothing changes.
+/// Takes a character of the card and moves the stage past it, or returns an error and changes
+/// nothing.
 #[inline(always)]
 fn take_at<A: Allocator>(
     request: &Request,
@@ -589,7 +600,7 @@ fn take_at<A: Allocator>(
     Ok(())
 }
 
-/// The stage after a character where a procedure byte is due.
+/// The stage after a character where a procedure byte or SW1 is expected.
 fn after_procedure_byte(request: &Request, moved: u16, byte: u8) -> Result<HostStage, LineFault>
     requires { IsInRange (host_of request.now (Awaiting moved)) }
     ensures fault { result_err result
@@ -608,7 +619,7 @@ fn after_procedure_byte(request: &Request, moved: u16, byte: u8) -> Result<HostS
     }
 }
 
-/// Takes a data character of the card, where data move.
+/// Takes a data character of the card.
 #[inline(always)]
 fn take_data<A: Allocator>(
     transfer: &Transfer,
@@ -629,7 +640,7 @@ fn take_data<A: Allocator>(
     Ok(())
 }
 
-/// Where a fault leaves an end at this stage: what it can't take breaks it.
+/// The stage after an error: one that the end can't continue from breaks it.
 fn stage_after_fault(stage: HostStage, fault: LineFault) -> HostStage
     ensures { result ≡ after_fault stage fault }
 {

@@ -1,11 +1,11 @@
-//! What is kept of a terminal's end without its command's data, so that it can be made again.
+//! The state of a terminal's end without its data.
 
 use crate::direction::Direction;
 use crate::host_end::HostStage;
 use apdu_core::Header;
 
-/// How far a terminal's end has come in the TPDU that it opened, without the data that it sends:
-/// what is kept of an end where nothing can borrow its data.
+/// The progress of a terminal's end in its TPDU, without the data that it sends. Store this where
+/// nothing can borrow the data; `HostEnd::at` makes the end again.
 #[derive(Clone, Copy, Debug)]
 pub struct HostMark {
     pub(crate) header: Header,

@@ -1,4 +1,5 @@
-//! Laws of dialogues and their fronts, over the definitions alone.
+//! Laws of dialogues and their fronts, for proofs in the crates above. Each function is empty: its
+//! contract is the law.
 
 ghost use Rattle.std.specs.Prelude.{◌≡◌, ◌<◌, ◌≤◌, ◌++◌, ◌∷◌, [], ℕ, List, length, Some};
 ghost use Rattle.std.specs.List.{AllByRecursion, flat_map};
@@ -17,7 +18,7 @@ ghost use Rattle.t0_core.specs.OwnLaws.{BeginsOwn};
 ghost use Rattle.t0_core.specs.History.{Item, IsItem, IsPart, IsByteEvent, AreAlikeInTurn, events_of, passed};
 ghost use Rattle.t0_core.specs.Front.{Front, IsFront, GoesOn, Ends, GoesThrough, fresh, front_characters};
 
-/// A dialogue that goes on with a character has come that one character further.
+/// A dialogue that continues with a character is longer by that character.
 pub fn goes_on_by_one()
     ensures { (front new : Front) (c : Character) → IsFront front → GoesOn front c new →
         IsFront new × (front_characters new ≡ front_characters front ++ c ∷ []) }
@@ -29,30 +30,29 @@ pub fn ends_as_dialogue()
         IsDialogue d × (characters d ≡ front_characters front ++ c ∷ []) }
 {}
 
-/// Each front is that of a dialogue, of which more is to come.
+/// Each front begins some dialogue, and is not the whole of it.
 pub fn a_front_begins_a_dialogue()
     ensures { (front : Front) → IsFront front → (d : Dialogue) × (c : Character)
         × (rest : List Character)
         × IsDialogue d × (characters d ≡ front_characters front ++ c ∷ rest) }
 {}
 
-/// The front at which a terminal's end stands begins a dialogue that this end opened, with its own
-/// data.
+/// The front of a terminal's end begins a dialogue that this end opened, with its own data.
 pub fn a_front_begins_its_own_dialogue()
     ensures { (host : Hosting) (front : Front) → IsRequest host → HostStandsAt host front
         → IsFront front →
         BeginsOwn host front }
 {}
 
-/// Each dialogue goes on, character by character, from nothing to its end.
+/// Each dialogue is passed, character by character, from nothing to its end.
 pub fn a_dialogue_is_gone_through()
     ensures { (d : Dialogue) → IsDialogue d → GoesThrough fresh (characters d) d }
 {}
 
-/// The talk leaves a terminal's end no choice. Where it stands at a front, and a dialogue that it
-/// opened goes on from there, it sends the character that is the terminal's; for one of the card it
-/// listens, and that is no fault, where the gather has room for the dialogue's data. A front is no
-/// whole dialogue.
+/// The characters determine what a terminal's end does. Take an end at a front, and a dialogue that
+/// it opened and that continues from there. If the next character is the terminal's, the end sends
+/// exactly that one. If it is the card's, the end takes it without an error, if the gather has
+/// room. A front is never a whole dialogue.
 pub fn the_next_character_is_settled()
     ensures sent { (host : Hosting) (front : Front) (d : Dialogue) (byte : ℕ)
         (rest : List Character) → IsRequest host → HostStandsAt host front → IsFront front →
@@ -69,8 +69,8 @@ pub fn the_next_character_is_settled()
         IsOpenedBy host d.body → characters d ++ rest ≡ front_characters front → ⊥ }
 {}
 
-/// The bytes that a terminal's end writes of a whole TPDU are read as what it has opened, and there
-/// are 4 to 260 of them: so no end guesses which way data move. P3 has to be a byte.
+/// The bytes that a terminal's end writes for a whole TPDU are read as the TPDU that it opened, and
+/// are 4 to 260 bytes. So no end guesses the direction of data. P3 must be a byte.
 pub fn a_whole_tpdu_is_read_as_it_is_written()
     ensures read { (host : Hosting) → IsRequest host →
         asked_in (tpdu_bytes (asked_by host)) ≡ Some (asked_by host) }
@@ -78,8 +78,8 @@ pub fn a_whole_tpdu_is_read_as_it_is_written()
         let bytes = tpdu_bytes (asked_by host) in (4 ≤ length bytes) × (length bytes ≤ 260) }
 {}
 
-/// Dialogues whose data are to move the same way are the same where their characters begin one
-/// list, and so none begins another. It needs INS to be a byte.
+/// Of two dialogues with data in the same direction, neither begins the other: if both begin one
+/// row of characters, they are equal. INS must be a byte.
 pub fn dialogues_opened_alike_have_one_cutting()
     ensures { (d e : Dialogue) (after_d after_e : List Character) →
         d.body.header.ins < 256 → IsDialogue d → IsDialogue e →
@@ -87,9 +87,10 @@ pub fn dialogues_opened_alike_have_one_cutting()
         (d ≡ e) × (after_d ≡ after_e) }
 {}
 
-/// Equal events have equal items, but for a direction that nobody saw since no data moved: there is
-/// one cutting of what has gone on at a card's end into whole dialogues, what resets cut off, and
-/// what is under way. It needs the characters to be bytes, and each dialogue to follow some plan.
+/// There is one way to cut what happened at a card's end into whole dialogues, parts that a reset
+/// cut off, and the part in progress. Equal events have equal items, except for a direction that
+/// nobody saw because no data moved. The characters must be bytes, and each dialogue must follow
+/// some plan.
 pub fn events_have_one_cutting()
     ensures { (items others : List Item) (part other : List Character) →
         AllByRecursion IsItem items → AllByRecursion IsItem others → IsPart part → IsPart other →
@@ -98,8 +99,8 @@ pub fn events_have_one_cutting()
         AreAlikeInTurn items others × (part ≡ other) }
 {}
 
-/// Dialogues that a tap reads it takes to their end, one after another, and tells each of them,
-/// whatever card and terminal they come from. It needs the characters to be bytes.
+/// A tap takes the dialogues that it can read to their ends, one after another, and reports each of
+/// them, from any card and terminal. The characters must be bytes.
 pub fn a_tap_takes_the_dialogues_that_it_reads()
     ensures { (dialogues : List Dialogue) →
         AllByRecursion IsDialogue dialogues → AllByRecursion (λ d. IsRead d.body) dialogues →
@@ -108,7 +109,7 @@ pub fn a_tap_takes_the_dialogues_that_it_reads()
         × AreTold told dialogues }
 {}
 
-/// So it does with dialogues that follow plans, whatever the plans: it reads each of them.
+/// The same for dialogues that follow plans, whatever the plans: a tap can read each of them.
 pub fn a_tap_takes_dialogues_under_plans()
     ensures { (dialogues : List Dialogue) (plans : List Course) →
         AllByRecursion IsDialogue dialogues → FollowInTurn dialogues plans →

@@ -1,4 +1,28 @@
-//! Both ends of a command TPDU at T=0 (ISO/IEC 7816-3, clause 10).
+//! One command TPDU at T=0 (ISO/IEC 7816-3, clause 10): the terminal's end, the card's end, and a
+//! tap between them.
+//!
+//! A [`HostEnd`] opens a TPDU and appends the card's data to a [`Gather`]. A [`CardEnd`] serves any
+//! [`TpduCard`], under the [`Plan`]s of a [`Plans`] cursor. A [`Tap`] hears both and reports what
+//! each character is. [`WholeTpdu`] is for transports without single characters. A [`Watch`]
+//! observes a line. [`LineFault`], [`AnswerFault`], [`TpduFault`], [`NotListening`] and [`Unheard`]
+//! are the errors. One step between both ends:
+//!
+//! ```rust
+//! // crates/library_use/src/line.rt
+//! match terminal.next() {
+//!     HostTurn::Sends(byte) => card.take(byte).map_err(|_| LineFailed)?,
+//!     HostTurn::Listens => {
+//!         if let Turn::Sends(byte) = card.turn(plans) {
+//!             terminal.take(byte, gather).map_err(|_| LineFailed)?;
+//!         }
+//!     }
+//!     HostTurn::Done(status) => return Ok(status),
+//!     HostTurn::Failed => return Err(LineFailed),
+//! }
+//! ```
+//!
+//! Proved: each end takes a dialogue of the standard one character further, so both ends and the
+//! tap are always at one front of it. The README lists the contracts; start with `specs/Dialogue`.
 #![tactic(auto)]
 
 mod answer_fault;

@@ -1,24 +1,24 @@
-//! Why a terminal does not take a character.
+//! The errors of giving a terminal's end a character.
 
 use std::error::Error;
 use std::fmt;
 
-/// Why a terminal does not take a character (this project's profile).
+/// Why a terminal's end refuses a character (profile).
 ///
-/// After `BadProcedure`, `TooLong` and `Stalled` the end has failed for good. The other faults
-/// change nothing.
+/// After `BadProcedure`, `TooLong` and `Stalled` the end has failed for good. After any other error
+/// it is unchanged.
 #[derive(Clone, Copy, Debug, PartialEq, Eq)]
 pub enum LineFault {
-    /// A procedure byte is due, and this byte is neither one nor a first status byte.
+    /// A procedure byte is expected, and this byte is neither one nor a SW1.
     BadProcedure(u8),
     /// The TPDU has ended, or the end has failed.
     AfterEnd,
-    /// A data character of the card is due, and there is no room for it.
+    /// A data character is expected from the card, and the gather is full.
     TooLong,
-    /// A `GET RESPONSE` has brought no data, and the card announces more. It is a fault of an
-    /// exchange of several TPDUs alone: the end of one TPDU never gives it.
+    /// A `GET RESPONSE` brought no data, and the card announces more. Only an exchange of several
+    /// TPDUs returns this, never the end of one TPDU.
     Stalled,
-    /// The end has characters to send.
+    /// The end has characters to send first.
     NotListening,
 }
 

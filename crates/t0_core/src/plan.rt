@@ -8,19 +8,19 @@ ghost use Rattle.t0_core.specs.CardSide.{Starts};
 use std::alloc::{Allocator, Global};
 use std::marker::Model;
 
-/// What a procedure byte of the card starts (ISO/IEC 7816-3, 10.3.3).
+/// What a procedure byte starts (ISO/IEC 7816-3, 10.3.3).
 #[derive(Clone, Copy, Debug, PartialEq, Eq, Hash)]
 pub enum Step {
-    /// `60`: nothing moves, another procedure byte follows.
+    /// `60`: nothing; another procedure byte follows.
     Null,
     /// INS xor `FF`: the next data character.
     One,
-    /// INS: all data characters that remain.
+    /// INS: all data characters that are left.
     All,
 }
 
-/// Which procedure bytes a card sends in a TPDU, and the most response bytes, 1 to 256, that its
-/// `61XX` announces (this project's profile).
+/// The procedure bytes that a card sends in a TPDU, and its cut: the most response bytes, 1 to 256,
+/// that one `61XX` announces (profile).
 #[derive(Drop)]
 pub struct Plan<A: Allocator = Global> {
     steps: Vec<Step, A>,
@@ -42,7 +42,7 @@ impl<A: Allocator> Plan<A> {
     ghost use Rattle.std.specs.Prelude.{◌≤◌, length, MatchOption, ◌<◌, ◌⊎◌};
     ghost use Rattle.t0_core.specs.Plan.{plain};
 
-    /// A plan of these steps and this cut; `None` for a cut outside 1 to 256.
+    /// Makes a plan of these steps and this cut. `None` if the cut is not 1 to 256.
     pub fn new(steps: Vec<Step, A>, cut: u16) -> Option<Plan<A>>
         ensures { MatchOption result ((cut ≡ 0) ⊎ (256 < cut))
             (λ plan. (1 ≤ cut) × (cut ≤ 256) × (plan ≡ record { steps = steps.items; cut = cut })) }
@@ -54,7 +54,7 @@ impl<A: Allocator> Plan<A> {
         }
     }
 
-    /// A plan without steps that cuts at 256. It takes no memory.
+    /// Makes a plan without steps and with the cut 256. It allocates nothing.
     pub(crate) fn plain(alloc: A) -> Plan<A>
         ensures { result ≡ plain }
     {
@@ -78,8 +78,8 @@ impl<A: Allocator> Plan<A> {
     }
 }
 
-/// A cursor over a list of plans, which keeps the plan last taken. Each TPDU takes the next one,
-/// and past the end of the list a plan without steps and with the cut 256.
+/// A cursor over a list of plans. Each TPDU takes the next plan, and after the last one a plan
+/// without steps and with the cut 256. The cursor keeps the plan of the current TPDU.
 #[derive(Drop)]
 pub struct Plans<'a, A: Allocator = Global> {
     rest: &'a [Plan<A>],
@@ -100,7 +100,7 @@ impl<'a, A: Allocator> Plans<'a, A> {
     ghost use Rattle.std.specs.Option.{option_copied};
     ghost use Rattle.t0_core.specs.Plan.{advanced, plan_kept};
 
-    /// A cursor before the first of these plans, which keeps none.
+    /// Makes a cursor before the first of these plans, which keeps no plan.
     pub fn over(plans: &'a [Plan<A>]) -> Plans<'a, A>
         ensures { result ≡ record { rest = plans.now; kept = None } }
     {
@@ -110,15 +110,15 @@ impl<'a, A: Allocator> Plans<'a, A> {
         }
     }
 
-    /// A cursor that keeps this plan, or none, and stands before the first of these others: for who
-    /// has the plans in a store of their own, and makes a cursor for each call.
+    /// Makes a cursor that keeps the plan `kept`, before the first of `rest`. It is for an owner
+    /// that stores the plans and makes a cursor for each call.
     pub fn keeping(kept: Option<&'a Plan<A>>, rest: &'a [Plan<A>]) -> Plans<'a, A>
         ensures { result ≡ record { rest = rest.now; kept = option_copied kept.entry } }
     {
         Plans { rest, kept }
     }
 
-    /// Takes the next plan, or none past the end of the list, and answers its cut.
+    /// Takes the next plan, if any, and returns its cut.
     pub(crate) fn advance(&mut self) -> u16
         ensures after { self.new ≡ advanced self.old }
         ensures cut { result ≡ (plan_kept self.new).cut }
@@ -137,7 +137,7 @@ impl<'a, A: Allocator> Plans<'a, A> {
         }
     }
 
-    /// The steps of the plan that is kept; none where none is kept.
+    /// The steps of the plan that the cursor keeps, or none.
     pub(crate) fn steps(&self) -> &[Step]
         ensures { result.now ≡ (plan_kept self.now).steps }
     {
@@ -148,9 +148,9 @@ impl<'a, A: Allocator> Plans<'a, A> {
     }
 }
 
-/// The next step that is carried out where so many data characters are left, and how many steps are
-/// then done: one that finds no data is passed over, and after the last step one "all" is added
-/// where data are left.
+/// Returns the next step to carry out if `left` data characters are left, and the number of steps
+/// then done. A step that moves data is skipped if no data are left. After the last step, one `All`
+/// is added if data are left.
 pub(crate) fn next_step(steps: &[Step], done: usize, left: u16) -> Option<(Step, usize)>
     ensures { MatchOption result (segments_of (drop done steps.now) left ≡ [])
         (λ next. Starts next.0 left

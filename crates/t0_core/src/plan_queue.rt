@@ -1,4 +1,4 @@
-//! A queue of plans, for an owner of a card's end that is given plans one by one.
+//! A queue of plans, for an owner of a card's end that receives plans one by one.
 ghost use Rattle.std.specs.Prelude.{◌≡◌, ℕ, [], ◌∷◌, ◌++◌, length, None, MatchOption, OnOk, OnErr, if◌then◌else◌};
 ghost use Rattle.t0_core.specs.Plan.{advanced};
 
@@ -7,17 +7,17 @@ use std::alloc::{AllocError, Allocator, Global};
 use std::marker::Model;
 use std::mem;
 
-/// The plans that wait, and the one that was taken last. Contracts see it as a cursor over the
-/// plans that wait.
+/// The plans that wait, and the one taken last. Contracts see it as a cursor over the plans that
+/// wait.
 ///
-/// A plan that waits takes 32 bytes and the block of its steps; while the queue grows, up to six
-/// times the 32. Taking one takes no memory. Its steps are given back when the next one is taken,
-/// and the queue's own block when none waits.
+/// A waiting plan takes 32 bytes and a block for its steps; while the queue grows, up to six times
+/// the 32. Taking a plan allocates nothing. Its steps are freed when the next plan is taken, and
+/// the queue's own block when no plan waits.
 #[derive(Drop)]
 pub struct PlanQueue<A: Allocator + Copy = Global> {
-    /// Plans without steps in place of those taken, and then the plans that wait.
+    /// Plans without steps in place of those taken, followed by the plans that wait.
     plans: Vec<Plan<A>, A>,
-    /// How many of them were taken: no more than wait.
+    /// The number of plans taken: at most the number that wait.
     taken: usize,
     kept: Option<Plan<A>>,
 }
@@ -34,14 +34,14 @@ impl<A: Allocator + Copy> Model for PlanQueue<A> {
 }
 
 impl<A: Allocator + Copy> PlanQueue<A> {
-    /// No plan waits. It takes no memory.
+    /// Makes an empty queue. It allocates nothing.
     pub fn new(alloc: A) -> PlanQueue<A>
         ensures { result ≡ record { rest = []; kept = None } }
     {
         PlanQueue::of(Vec::new(alloc))
     }
 
-    /// All of these plans wait.
+    /// Makes a queue of these plans.
     pub fn of(plans: Vec<Plan<A>, A>) -> PlanQueue<A>
         ensures { result ≡ record { rest = plans.items; kept = None } }
     {
@@ -52,15 +52,18 @@ impl<A: Allocator + Copy> PlanQueue<A> {
         }
     }
 
-    /// How many plans wait.
+    /// The number of plans that wait.
     pub fn len(&self) -> usize
         ensures { result ≡ length self.now.rest }
     {
         self.plans.len() - self.taken
     }
 
-    /// One more plan waits, behind the others. The error is that memory ran out; the queue is then
-    /// as it was.
+    /// Appends a plan.
+    ///
+    /// # Errors
+    ///
+    /// - `AllocError`: memory ran out; the queue is unchanged, and the plan is dropped.
     pub fn push(&mut self, plan: Plan<A>) -> Result<(), AllocError>
         ensures ok { OnOk result
             (self.new ≡ record self.old { rest = self.old.rest ++ plan ∷ [] }) }
@@ -69,14 +72,14 @@ impl<A: Allocator + Copy> PlanQueue<A> {
         self.plans.push(plan).map_err(AllocError::from)
     }
 
-    /// The cursor over them.
+    /// Returns a cursor over the queue.
     pub fn cursor(&self) -> Plans<'_, A>
         ensures { result ≡ self.now }
     {
         Plans::keeping(self.kept.as_ref(), &self.plans[self.taken..])
     }
 
-    /// Takes the next plan, as a cursor does. In the long run that takes one step for each plan.
+    /// Takes the next plan, as a cursor does. On average this moves one plan.
     pub fn advance(&mut self)
         ensures { self.new ≡ advanced self.old }
     {
@@ -84,7 +87,7 @@ impl<A: Allocator + Copy> PlanQueue<A> {
         self.clear_taken();
     }
 
-    /// Takes the next plan where one is taken.
+    /// Takes the next plan if `takes_plan`.
     pub fn advance_if(&mut self, takes_plan: bool)
         ensures { self.new ≡ (if takes_plan then advanced self.old else self.old) }
     {
@@ -93,7 +96,7 @@ impl<A: Allocator + Copy> PlanQueue<A> {
         }
     }
 
-    /// Takes the first of the plans that wait, if there is one. The plan kept stays.
+    /// Removes the first plan that waits, if any. The kept plan stays.
     fn take_first(&mut self) -> Option<Plan<A>>
         ensures first { MatchOption result ((self.old.rest ≡ []) × (self.new.rest ≡ []))
             (λ plan. self.old.rest ≡ plan ∷ self.new.rest) }
@@ -107,7 +110,7 @@ impl<A: Allocator + Copy> PlanQueue<A> {
         Some(first)
     }
 
-    /// Gives up the places of the plans taken, once they are as many as those that wait.
+    /// Frees the places of taken plans, once they are as many as the plans that wait.
     fn clear_taken(&mut self)
         ensures { self.new ≡ self.old }
     {

@@ -1,11 +1,12 @@
-//! Procedure bytes: what each starts, and how many data characters that moves.
+//! Procedure bytes: the step that each starts, and the number of data characters of a step.
 ghost use Rattle.std.specs.Prelude.{◌≡◌, ◌≤◌};
 ghost use Rattle.t0_core.specs.Dialogue.{moves, procedure_byte};
 ghost use Rattle.t0_core.specs.HostSide.{step_of};
 
 use crate::plan::Step;
 
-/// What a procedure byte starts, or `None` if the byte is none (ISO/IEC 7816-3, 10.3.3).
+/// Returns the step that a procedure byte starts (ISO/IEC 7816-3, 10.3.3). `None` if the byte is
+/// not a procedure byte.
 pub(crate) fn step_of(ins: u8, byte: u8) -> Option<Step>
     ensures { result ≡ step_of ins byte }
 {
@@ -31,7 +32,7 @@ pub(crate) fn procedure_byte(ins: u8, step: Step) -> u8
     }
 }
 
-/// How many data characters it starts, where so many remain.
+/// The number of data characters that a step moves if `remain` are left.
 pub(crate) fn moves(step: Step, remain: u16) -> u16
     ensures value { result ≡ moves step remain }
     ensures within { result ≤ remain }

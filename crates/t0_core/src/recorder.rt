@@ -1,4 +1,4 @@
-//! A watch that notes each character, while there is memory.
+//! A watch that records each character while memory lasts.
 ghost use Rattle.std.specs.Prelude.{◌≡◌, ℕ, List, [], ◌∷◌, true, false};
 ghost use Rattle.t0_core.specs.Watch.{Hearing};
 
@@ -7,7 +7,7 @@ use crate::watch::Watch;
 use std::alloc::{Allocator, Global};
 use std::marker::Model;
 
-/// A watch that notes the characters, with the ends that sent them, while there is memory for it.
+/// Records the characters and their senders while memory lasts.
 #[derive(Drop)]
 pub struct Recorder<A: Allocator = Global> {
     heard: Vec<(End, u8), A>,
@@ -21,7 +21,7 @@ impl<A: Allocator> Model for Recorder<A> {
 }
 
 impl<A: Allocator> Recorder<A> {
-    /// A recorder that has noted nothing. It takes no memory.
+    /// Makes an empty recorder. It allocates nothing.
     pub fn new(alloc: A) -> Recorder<A>
         ensures { result ≡ record { heard = []; lost = false } }
     {
@@ -31,14 +31,14 @@ impl<A: Allocator> Recorder<A> {
         }
     }
 
-    /// The characters noted, in order, each with its sender.
+    /// The recorded characters in order, each with its sender.
     pub fn heard(&self) -> &[(End, u8)]
         ensures { result.now ≡ self.now.heard }
     {
         self.heard.as_slice()
     }
 
-    /// Whether memory was wanting for a character. What is noted is then a front of what was said.
+    /// Whether memory ran out. The recorded characters are then only the first ones.
     pub fn lost(&self) -> bool
         ensures { result ≡ self.now.lost }
     {

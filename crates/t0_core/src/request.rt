@@ -1,4 +1,4 @@
-//! The TPDU that a terminal's end opens: its header, its P3, and its data if it sends some.
+//! The TPDU that a terminal's end opens: its header, P3 and data.
 ghost use Rattle.std.specs.Prelude.{◌≡◌, ◌<◌, ◌++◌, [], ◌∷◌, slice_index};
 ghost use Rattle.apdu_core.specs.HeaderBytes.{header_bytes};
 ghost use Rattle.t0_core.specs.Dialogue.{foreseen};
@@ -7,20 +7,20 @@ ghost use Rattle.t0_core.specs.HostView.{direction_of};
 use crate::direction::Direction;
 use apdu_core::Header;
 
-/// Which way the data of a TPDU move.
+/// The direction of a TPDU's data.
 #[derive(Clone, Copy, Debug)]
 pub enum Transfer<'a> {
-    /// The terminal sends these, at most 255.
+    /// The terminal sends these bytes, at most 255.
     Sending(&'a [u8]),
-    /// The card sends as many as P3 counts.
+    /// The card sends up to the number of bytes that P3 states.
     Asking,
 }
 
-/// What a terminal opens a TPDU with, and which way its data move.
+/// The TPDU that a terminal's end opens.
 #[derive(Clone, Copy, Debug)]
 pub struct Request<'a> {
     pub header: Header,
-    /// How many data characters are foreseen; from the card `00` stands for 256.
+    /// The number of data characters; from the card, `00` means 256.
     pub p3: u8,
     pub transfer: Transfer<'a>,
 }
@@ -40,7 +40,7 @@ pub(crate) fn opening_character(header: &Header, p3: u8, at: usize) -> u8
     }
 }
 
-/// How many data characters P3 foresees in a transfer.
+/// The number of data characters that P3 states in this transfer.
 pub(crate) fn foreseen(transfer: &Transfer, p3: u8) -> u16
     ensures { result ≡ foreseen (direction_of transfer.now) p3 }
 {

@@ -1,4 +1,4 @@
-//! How a card's end moves the data of a TPDU.
+//! Moves the data of a TPDU at a card's end.
 ghost use Rattle.std.specs.Prelude.{◌≡◌, ℕ, ◌+◌, ◌-◌, ◌<◌, ◌≤◌, ◌⊎◌, ◌++◌, List, [], length, take, drop, false, MatchOption, nat_lt, ◌&&◌};
 ghost use Rattle.t0_core.specs.declared.plan.Step.{Step};
 ghost use Rattle.t0_core.specs.declared.direction.Direction.TheVariants.{ToCard};
@@ -19,23 +19,23 @@ use crate::tpdu_card::TpduCard;
 use apdu_core::{Header, Status};
 use std::alloc::Allocator;
 
-/// How far the data of a TPDU have moved, whose header the card has accepted.
+/// The progress of a TPDU's data, after the card accepted its header.
 #[derive(Clone, Copy, Debug, PartialEq, Eq)]
 pub struct Service {
     header: Header,
     p3: u8,
     direction: Direction,
-    /// Data characters that have moved. 16 bits would do, but such a count, stored and read again
-    /// at each character, goes through memory.
+    /// The number of data characters moved. For speed it has 32 bits: a 16-bit count, stored and
+    /// read back at each character, goes through memory.
     moved: u32,
-    /// Data characters that the procedure bytes so far are to move.
+    /// The number of data characters that the procedure bytes so far move.
     until: u32,
-    /// Steps of the plan that are carried out or passed over.
+    /// The number of steps of the plan that are carried out or skipped.
     done: usize,
 }
 
 impl Service {
-    /// No data have moved yet.
+    /// Makes a service that has moved no data.
     pub(crate) fn new(header: Header, p3: u8, direction: Direction) -> Service
         ensures { result ≡ record {
           header = header;
@@ -57,7 +57,7 @@ impl Service {
         }
     }
 
-    /// How many data characters have moved.
+    /// The number of data characters moved.
     #[inline(always)]
     pub(crate) fn moved(&self) -> u32
         ensures { result ≡ self.now.moved }
@@ -65,7 +65,7 @@ impl Service {
         self.moved
     }
 
-    /// Whether the next character is a data character of the terminal.
+    /// Whether the terminal sends a data character next.
     #[inline(always)]
     pub(crate) fn is_listening(&self) -> bool
         ensures { result
@@ -74,7 +74,7 @@ impl Service {
         matches!(self.direction, Direction::ToCard) && self.moved < self.until
     }
 
-    /// Which character its end goes on with.
+    /// The character that the end expects or sends next.
     pub(crate) fn awaited(&self) -> Awaited
         ensures { (came : List ℕ) → result ≡ awaited_in (Serving self.now came) }
     {
@@ -88,7 +88,7 @@ impl Service {
         }
     }
 
-    /// One data character more has moved.
+    /// Counts one more data character.
     #[inline(always)]
     pub(crate) fn one_moved(&mut self)
         requires { self.old.moved < 256 }
@@ -97,8 +97,7 @@ impl Service {
         self.moved += 1;
     }
 
-    /// Takes data characters of the terminal to their places in `came`, as many as are due. Says
-    /// how many.
+    /// Stores the terminal's expected data characters in `came`, in one run. Returns how many.
     #[inline(always)]
     pub(crate) fn take_run(&mut self, bytes: &[u8], came: &mut [u8; 255]) -> usize
         requires within { (self.old.until ≤ whole_of self.old) × (self.old.p3 < 256) }
@@ -122,9 +121,8 @@ impl Service {
         count
     }
 
-    /// Hands out the next procedure byte, when those so far have moved their data; `None`, and
-    /// nothing has changed, where no step is left that moves something or is a NULL, and no data
-    /// are left.
+    /// Returns the next procedure byte, once those so far have moved their data. `None`, with no
+    /// change, if no data are left and no step is left that is a NULL.
     fn next(&mut self, steps: &[Step]) -> Option<u8>
         requires { (self.old.moved ≡ self.old.until) × (self.old.until ≤ whole_of self.old) }
         ensures { MatchOption result
@@ -142,8 +140,8 @@ impl Service {
     }
 }
 
-/// Hands out a data character, the next procedure byte, or SW1, and with that the status. `came`
-/// begins with the data characters that have come from the terminal.
+/// Returns a data character, the next procedure byte, or SW1 with its status. `came` starts with
+/// the data characters from the terminal.
 #[inline(always)]
 pub(crate) fn serve<C: TpduCard, A: Allocator>(
     card: &mut C,
@@ -185,7 +183,7 @@ pub(crate) fn serve<C: TpduCard, A: Allocator>(
     }
 }
 
-/// The status, when all steps are carried out and all data have moved.
+/// The card's status, after all steps and all data.
 fn conclude<C: TpduCard>(card: &mut C, direction: Direction, content: &[u8]) -> Status
     requires { IsReadyFor (C.prepared card.old) direction (length content.now) }
     ensures decided { IsDecided (C.prepared card.new) }

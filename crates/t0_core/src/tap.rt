@@ -17,26 +17,25 @@ use crate::unheard::Unheard;
 use apdu_core::{Header, Status};
 use std::marker::Model;
 
-/// How far a tap has heard a TPDU.
+/// The progress of a tap in a TPDU.
 #[derive(Clone, Copy, Debug, PartialEq, Eq)]
 pub enum TapStage {
-    /// So many characters of CLA INS P1 P2 have come, 0 to 4.
+    /// `taken` characters of CLA INS P1 P2 so far, 0 to 4.
     Opening { bytes: [u8; 4], taken: usize },
-    /// A procedure byte or SW1 is due.
+    /// A procedure byte or SW1 follows.
     Awaiting { said: Said },
-    /// Data characters move, until so many have.
+    /// Data characters follow, until `until` have moved.
     Moving { said: Said, until: u16 },
-    /// SW2 is due.
+    /// SW2 follows.
     AwaitingSecond { said: Said, sw1: u8 },
 }
 
 /// A third party on the line, which hears both ends (ISO/IEC 7816-3, 10.3).
 ///
-/// It knows neither what the terminal means to do nor what the card's plan is, and follows each
-/// dialogue by its characters alone. Which way data move it sees from who sends the first of them.
-/// Where INS or its complement may start data either way, what comes next decides; P3 `00` alone
-/// leaves no time for that, as it foresees 256 from the card and none to it: a tap takes it for
-/// data from the card.
+/// A tap knows neither the terminal's intent nor the card's plan. It follows each dialogue by its
+/// characters alone, and reads the direction of data from the sender of the first data character.
+/// If INS or its complement may start data in either direction, the next character decides. P3 `00`
+/// states 256 bytes from the card or none to it; a tap then expects data from the card.
 #[derive(Drop)]
 pub struct Tap {
     stage: TapStage,
@@ -56,7 +55,7 @@ impl Model for Tap {
 }
 
 impl Tap {
-    /// A tap that has heard nothing yet.
+    /// Makes a tap before any character.
     pub fn new() -> Tap
         ensures afresh { result ≡ afresh }
         ensures led { HasHeard [] result }
@@ -64,26 +63,29 @@ impl Tap {
         Tap { stage: FRESH }
     }
 
-    /// Which characters the dialogue under way goes on with.
+    /// The kind of character that the tap expects next.
     pub fn due(&self) -> Due
         ensures { result ≡ due_at self.now }
     {
         due_at(self.stage)
     }
 
-    /// Hears a character and says what it was.
+    /// Takes a character that `from` sent, and returns what it was. Data characters are counted,
+    /// not stored.
     ///
-    /// `OutOfTurn` comes where the next character is the other end's, `BadProcedure` where a
-    /// procedure byte or SW1 is due and the byte is neither (this project's profile): exactly where
-    /// no dialogue that it reads goes on with the character. Then nothing changes. Data characters
-    /// are counted and not kept.
+    /// # Errors
+    ///
+    /// After each, the tap is unchanged (profile):
+    ///
+    /// - `OutOfTurn`: the other end sends the next character.
+    /// - `BadProcedure`: a procedure byte or SW1 is expected, and the byte is neither.
     pub fn hear(&mut self, from: End, byte: u8) -> Result<Heard, Unheard>
         ensures fault { result_err result ≡ unheard_at self.old from byte }
         ensures refused { OnErr result (self.new ≡ self.old) }
         ensures taken { IfOk result (λ heard. (heard ≡ heard_at self.old from byte)
             × (self.new ≡ after_hearing self.old from byte)) }
 
-        // It takes each dialogue that it reads so, and tells what each character is.
+        // It takes each dialogue that it can read, and returns what each character is.
         ensures goes_on { (front new : Front) → TapStandsAt self.old front
             → GoesOn front (from, byte) new → IsReadFront new →
             MatchResult result (λ heard. Makes heard front (from, byte) new) (λ _. ⊥)
@@ -94,15 +96,15 @@ impl Tap {
             → Ends front (from, byte) d →
             MatchResult result (λ heard. Concludes heard d) (λ _. ⊥) × (self.new ≡ afresh) }
 
-        // A character that it doesn't take is out of turn exactly where it is the other end's turn.
+        // A refused character is out of turn exactly if the other end sends next.
         ensures reason { IfErr result (λ fault. (front : Front) → TapStandsAt self.old front →
             (fault ≡ Unheard.OutOfTurn) ↔ HasTurn (other_end from) front) }
 
-        // After a data character it stands where it would after any other.
+        // The state after a data character does not depend on its value.
         ensures forgets { IfOk result (λ heard. (direction : Direction) (other : ℕ) →
             heard ≡ Heard.Data direction → self.new ≡ after_hearing self.old from other) }
 
-        // Whatever it has heard it has heard with this character.
+        // History: what the tap has heard, it has heard with this character.
         ensures led { (events : List Event) (led : HasHeard events self.old) →
             IfOk result (λ heard. HearsOn led heard (from, byte) self.new) }
     {
@@ -114,7 +116,7 @@ impl Tap {
         Ok(heard)
     }
 
-    /// Drops the dialogue under way.
+    /// Drops the dialogue in progress.
     pub fn reset(&mut self)
         ensures afresh { self.new ≡ afresh }
         ensures led { (events : List Event) → HasHeard events self.old →
@@ -124,13 +126,13 @@ impl Tap {
     }
 }
 
-/// No character of a header has come.
+/// The start of a TPDU: no character of a header yet.
 const FRESH: TapStage = TapStage::Opening {
     bytes: [0; 4],
     taken: 0,
 };
 
-/// What is due at this stage.
+/// The kind of character that is expected at this stage.
 fn due_at(stage: TapStage) -> Due
     ensures { result ≡ due_at (place_of stage) }
 {
@@ -142,7 +144,7 @@ fn due_at(stage: TapStage) -> Due
     }
 }
 
-/// The stage after a character of an end that may send one, and what it was.
+/// The stage after a character of an end that may send one, and what the character was.
 fn after(stage: TapStage, from: End, byte: u8) -> Result<(TapStage, Heard), Unheard>
     requires held { IsHeldAt stage }
     requires turn { may_come_from (due_at (place_of stage)) from ≡ true }
@@ -171,7 +173,7 @@ fn after(stage: TapStage, from: End, byte: u8) -> Result<(TapStage, Heard), Unhe
     }
 }
 
-/// The stage after one more of CLA INS P1 P2 P3.
+/// The stage after one more character of CLA INS P1 P2 P3.
 fn after_opening(mut bytes: [u8; 4], taken: usize, byte: u8) -> TapStage
     requires room { (length bytes ≡ 4) × (taken ≤ 4) }
     ensures value { place_of result ≡ after_opening (take taken bytes ++ byte ∷ []) }
@@ -195,7 +197,7 @@ fn after_opening(mut bytes: [u8; 4], taken: usize, byte: u8) -> TapStage
     }
 }
 
-/// The stage after a character of the card where a procedure byte is due.
+/// The stage after a character of the card, where a procedure byte or SW1 is expected.
 fn after_procedure_byte(said: Said, byte: u8) -> Result<(TapStage, Heard), Unheard>
     requires { IsSaid said }
     ensures fault { result_err result ≡ unheard_procedure (begun_by said.header.ins byte) byte }
@@ -218,8 +220,8 @@ fn after_procedure_byte(said: Said, byte: u8) -> Result<(TapStage, Heard), Unhea
     }
 }
 
-/// What a byte starts as a procedure byte under this header. Where INS is no instruction, `6X` and
-/// `9X` are read as status, but for a NULL.
+/// The step that a byte starts as a procedure byte of this header. If INS is invalid, only NULL is
+/// a procedure byte, and `6X` and `9X` are read as SW1.
 fn begun_by(header: Header, byte: u8) -> Option<Step>
     ensures { result ≡ begun_by header.ins byte }
 {
@@ -230,7 +232,7 @@ fn begun_by(header: Header, byte: u8) -> Option<Step>
     }
 }
 
-/// Data characters move up to this place, if they are not there yet.
+/// Data characters move until `until`, if they have not yet.
 fn moving(said: Said, until: u16) -> TapStage
     requires said { IsSaid said }
     requires within { (said.moved ≤ until) × (until ≤ foreseen_by said.direction said.p3) }

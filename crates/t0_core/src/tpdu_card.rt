@@ -1,4 +1,4 @@
-//! What the card's end of the line asks of the card that it serves.
+//! What the card's end of the line requires of the card behind it.
 ghost use Rattle.std.specs.Prelude.{◌≡◌, ℕ, ◌<◌, ◌≤◌, List, length, slice_get, Some, false};
 ghost use Rattle.apdu_core.specs.HeaderBytes.{ins_is_valid};
 ghost use Rattle.apdu_core.specs.StatusWord.{count};
@@ -7,44 +7,46 @@ ghost use Rattle.t0_core.specs.CardContract.{IsRefusal, Permits, IsDecided, Judg
 
 use apdu_core::{Header, Status};
 
-/// What a card says to a header.
+/// How a card judges a header.
 #[derive(Clone, Copy, Debug, PartialEq, Eq)]
 pub enum Verdict {
-    /// The command is refused with this status, and no data move.
+    /// The card refuses the command with this status, and no data move.
     Refuse(Status),
-    /// The terminal sends as many data characters as P3 says, 0 to 255.
+    /// The terminal sends as many data characters as P3 states, 0 to 255.
     Receive,
-    /// The card sends as many data characters as P3 counts, 1 to 256.
+    /// The card sends as many data characters as P3 states, 1 to 256.
     Send,
 }
 
-/// A card, as its end of the line sees it: command TPDUs and no characters
-/// (ISO/IEC 7816-3, 10.3.1).
+/// A card as its end of the line sees it: command TPDUs, not characters (ISO/IEC 7816-3, 10.3.1).
 ///
-/// A TPDU changes the card's state only at `answered`, by the card's own meaning.
+/// The end calls `header` for each header. After `Receive` it calls `data`. After `Send` it calls
+/// `byte` for each place and then `end_of_sending`. In each case it calls `answered` once SW2 is
+/// sent. Only `answered` and `reset` change the card's state.
 pub trait TpduCard {
-    /// What the card may be in.
+    /// The type of the card's states.
     ghost State: { Type 0 };
 
-    /// The state that stands: that before the TPDU under way.
+    /// The state before the TPDU in progress.
     ghost standing: { Self → State };
 
-    /// What a TPDU does, under a cut: the most bytes that `61XX` announces.
+    /// What a TPDU does. The number is its cut, the most bytes that one `61XX` announces.
     ghost Does: { State → ℕ → Tpdu → State → Type 0 };
 
-    /// What a reset does.
+    /// The state after a reset.
     ghost after_reset: { State → State };
 
-    /// The instructions to which it may answer `Receive`, and those to which it may answer `Send`.
+    /// The instructions for which `header` may return `Receive`, and those for `Send`.
     ghost MayReceive: { ℕ → Type 0 };
 
     ghost MaySend: { ℕ → Type 0 };
 
-    /// What is made ready for the TPDU under way.
+    /// What the card has prepared for the TPDU in progress.
     ghost prepared: { Self → Prepared State };
 
-    /// Judges a header. It may come at any time, and drops what an unfinished TPDU had made ready.
-    /// `cut` is the most bytes, 1 to 256, that a `61XX` announces. An invalid INS is refused.
+    /// Judges a header. It may be called at any time, and drops what an unfinished TPDU prepared.
+    /// `cut` is the most bytes, 1 to 256, that one `61XX` announces. A header with an invalid INS
+    /// must be refused.
     fn header(&mut self, header: Header, p3: u8, cut: u16) -> Verdict
         requires { (1 ≤ cut) × (cut ≤ 256) }
         ensures stands { standing self.new ≡ standing self.old }
@@ -53,8 +55,8 @@ pub trait TpduCard {
         ensures invalid { ins_is_valid header.ins ≡ false → IsRefusal result }
         ensures permitted { Permits MayReceive MaySend header.ins result };
 
-    /// Takes the data to the card, as many bytes as P3 says, and answers the status. It may be
-    /// called once after the verdict `Receive`.
+    /// Takes the data to the card, exactly P3 bytes, and returns the status. It may be called once,
+    /// after the verdict `Receive`.
     fn data(&mut self, content: &[u8]) -> Status
         requires { IsReceiving (prepared self.old) (λ ask. length content.now ≡ ask.p3) }
         ensures stands { standing self.new ≡ standing self.old }
@@ -62,13 +64,14 @@ pub trait TpduCard {
             Decides Does (standing self.old) ask.cut (taken_with ask content.now result)
             (prepared self.new)) };
 
-    /// The byte to send at this place, below `count(P3)`. It may be called after the verdict
-    /// `Send`.
+    /// Returns the byte to send at index `at`, below `count(P3)`. It may be called after the
+    /// verdict `Send`.
     fn byte(&self, at: u16) -> u8
         requires { IsSending (prepared self.now) (λ ask bytes. at < length bytes) }
         ensures { IsSending (prepared self.now) (λ ask bytes. slice_get bytes at ≡ Some result) };
 
-    /// The status after all data characters of a verdict `Send`.
+    /// Returns the status to send after all data characters. It may be called once, after the
+    /// verdict `Send`.
     fn end_of_sending(&mut self) -> Status
         requires { IsSending (prepared self.old) (λ ask bytes. Unit {0}) }
         ensures stands { standing self.new ≡ standing self.old }
@@ -76,14 +79,14 @@ pub trait TpduCard {
             Decides Does (standing self.old) ask.cut (answered_with ask bytes result)
             (prepared self.new)) };
 
-    /// The second status character is handed out: what was decided stands from now on.
+    /// SW2 is sent: the state that the TPDU decided takes effect.
     fn answered(&mut self)
         requires { IsDecided (prepared self.old) }
         ensures stands { (next : State) → prepared self.old ≡ Decided next
             → standing self.new ≡ next }
         ensures done { prepared self.new ≡ Nothing };
 
-    /// Resets the card, at any time, and drops what an unfinished TPDU had made ready.
+    /// Resets the card, at any time, and drops what an unfinished TPDU prepared.
     fn reset(&mut self)
         ensures stands { standing self.new ≡ after_reset (standing self.old) }
         ensures dropped { prepared self.new ≡ Nothing };

@@ -1,23 +1,23 @@
-//! Why a card's end does not carry out a whole TPDU.
+//! The errors of carrying out a whole TPDU at a card's end.
 
 use std::error::Error;
 use std::fmt;
 
-/// Why a card's end does not carry out a whole TPDU (this project's profile).
+/// Why a card's end does not carry out a whole TPDU (profile).
 ///
-/// `UnderWay` and `NoTpdu` change nothing. With the others the card is reset: neither end would go
-/// on.
+/// After `UnderWay` and `NoTpdu` nothing has changed. After any other error the card is reset,
+/// since neither end would continue.
 #[derive(Clone, Copy, Debug, PartialEq, Eq)]
 pub enum TpduFault {
-    /// Characters of another TPDU have gone.
+    /// Characters of another TPDU were sent already.
     UnderWay,
-    /// The bytes are no whole TPDU.
+    /// The bytes are not a whole TPDU.
     NoTpdu,
-    /// The card takes more data than were given: both ends would wait.
+    /// The card expects more data than were given, so both ends would wait.
     WantsData,
     /// The card sends more data than were asked for.
     SendsData,
-    /// The card sends more data than there is room for.
+    /// The card sends more data than the gather has room for.
     TooLong,
 }
 

@@ -1,15 +1,16 @@
-//! Why a tap does not take a character.
+//! The errors of giving a tap a character.
 
 use std::error::Error;
 use std::fmt;
 
-/// Why no dialogue goes on with a character (ISO/IEC 7816-3, 10.3).
+/// Why no dialogue continues with a character (ISO/IEC 7816-3, 10.3). After either, the tap is
+/// unchanged.
 #[derive(Clone, Copy, Debug, PartialEq, Eq)]
 pub enum Unheard {
-    /// The next character is the other end's.
+    /// The other end sends the next character.
     OutOfTurn,
-    /// A procedure byte or SW1 is due, and this byte is neither. Where INS is no instruction, NULL
-    /// alone is a procedure byte.
+    /// A procedure byte or SW1 is expected, and this byte is neither. If INS is invalid, only NULL
+    /// is a procedure byte.
     BadProcedure,
 }
 

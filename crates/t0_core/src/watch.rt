@@ -1,21 +1,21 @@
-//! Who is told each character that goes over the line.
+//! Watches, which observe each character on a line.
 ghost use Rattle.std.specs.Prelude.{◌≡◌, ℕ, List, [], ◌∷◌, true};
 ghost use Rattle.t0_core.specs.Watch.{Hearing, Hears};
 
 use crate::end::End;
 
-/// Something that is told each character of a line, in order.
+/// Observes each character on a line, in order.
 pub trait Watch {
-    /// What it has heard, and whether it has lost a character.
+    /// What it has recorded, and whether it has lost a character.
     ghost hearing: { Self → Hearing };
 
-    /// The character went over the line. The watch notes it, or it loses it, and from then on it
-    /// hears nothing more.
+    /// Called for each character on the line. The watch records it or loses it; once it has lost
+    /// one, it records no more.
     fn seen(&mut self, from: End, byte: u8)
         ensures { Hears (hearing self.old) ((from, byte) ∷ []) (hearing self.new) };
 }
 
-/// A watch that notes nothing: it has lost all from the start.
+/// A watch that records nothing: it has lost everything from the start.
 #[derive(Clone, Copy, Debug, PartialEq, Eq)]
 pub struct Silent;
 

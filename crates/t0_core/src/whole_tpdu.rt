@@ -5,21 +5,24 @@ ghost use Rattle.t0_core.specs.TpduBytes.{asked_of, asked_in, tpdu_bytes};
 
 use apdu_core::{Header, count};
 
-/// A whole command TPDU, as a transport of whole TPDUs is given it.
+/// A whole command TPDU, as a transport of whole TPDUs takes it.
 #[derive(Clone, Copy, Debug)]
 pub struct WholeTpdu<'a> {
     pub header: Header,
     pub p3: u8,
     /// The data to the card, 0 to 255 bytes.
     pub content: &'a [u8],
-    /// How many bytes may come back before the status, 0 to 256.
+    /// The most bytes that may come back before the status, 0 to 256.
     pub may_come: u16,
 }
 
 impl<'a> WholeTpdu<'a> {
-    /// The TPDU that these bytes are, all of them: a header alone, which moves no data and has P3
-    /// `00`; a header and P3, to which as many bytes may come back as that counts; or a header, P3
-    /// of 1 to 255, and so many data for the card. INS may be any byte.
+    /// Parses a TPDU that takes up all of `bytes`, in one of three forms. INS may be any byte.
+    /// `None` if no form fits.
+    ///
+    /// - A header: no data move, and P3 is `00`.
+    /// - A header and P3: as many bytes may come back as P3 states, 1 to 256.
+    /// - A header, P3 of 1 to 255, and that number of data bytes for the card.
     pub fn read(bytes: &'a [u8]) -> Option<WholeTpdu<'a>>
         ensures { option_map asked_of result ≡ asked_in bytes.now }
     {
@@ -59,9 +62,9 @@ impl<'a> WholeTpdu<'a> {
         }
     }
 
-    /// Writes the TPDU's bytes to the front of `out`, as `read` takes them, and tells how many they
-    /// are: 4 where no data move, else P3 and the data behind those. What the terminal's end tells
-    /// has at most 260. `None`, where `out` has fewer, changes nothing.
+    /// Writes the TPDU to the front of `out`, in the format of `read`, and returns its size in
+    /// bytes. It is 4 if no data move, else 5 and the data to the card; at most 260 for a TPDU of a
+    /// terminal's end. `None`, with no change, if `out` is too short.
     pub fn write(&self, out: &mut [u8]) -> Option<usize>
         ensures { let bytes = tpdu_bytes (asked_of self.now) in MatchOption result
             ((length out.old < length bytes) × (out.new ≡ out.old))

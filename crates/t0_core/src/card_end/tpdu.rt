@@ -1,4 +1,4 @@
-//! A whole TPDU, as a reader's firmware carries it out.
+//! Carries out a whole TPDU at a card's end, as a reader's firmware does.
 ghost use Rattle.std.specs.Prelude.{◌≡◌, ℕ, ◌<◌, ◌⊎◌, List, [], ◌∷◌, length, false, true, MatchResult};
 ghost use Rattle.apdu_core.specs.declared.header.Header.{Header};
 ghost use Rattle.t0_core.specs.Plan.{Course, IsCut, advanced, plan_kept};
@@ -16,16 +16,16 @@ use crate::whole_tpdu::WholeTpdu;
 use apdu_core::{Header, Status};
 use std::alloc::Allocator;
 
-/// Which character a card's end goes on with.
+/// The next character at a card's end.
 #[derive(Clone, Copy, Debug, PartialEq, Eq)]
 pub enum Awaited {
-    /// One of the header.
+    /// A header character.
     OfHeader,
-    /// The data character of the terminal at this place.
+    /// The terminal's data character with this index.
     OfTerminal(u32),
-    /// The data character of the card at this place.
+    /// The card's data character with this index.
     OfCard(u32),
-    /// A procedure byte, or SW1.
+    /// A procedure byte or SW1.
     Procedure,
     /// SW2, after this SW1.
     Second(u8),
@@ -35,15 +35,21 @@ impl<C: TpduCard> CardEnd<C> {
     ghost use Rattle.t0_core.specs.Front.{Front};
     ghost use Rattle.t0_core.specs.CardSide.{StandsAt, Advances, Taking_header, begins_with, listens, takes_plan, still_to_go};
 
-    /// Carries out the whole TPDU that these bytes are (`WholeTpdu::read`), under the next of the
-    /// plans, as the firmware of a reader does: it passes the header, then data as the card asks
-    /// for them or sends them, and answers the status. The data from the card go into the gather.
+    /// Carries out the whole TPDU `bytes` (see `WholeTpdu::read`) under the next plan, as a
+    /// reader's firmware does. It passes the header, then the data in either direction, and returns
+    /// the status. Data from the card are appended to `gather`.
     ///
-    /// Faults in this order: `UnderWay` where characters of another TPDU have gone, `NoTpdu` where
-    /// the bytes are none: these change nothing. `WantsData` comes where the card takes data and
-    /// none were given, `SendsData` where it sends some and none may come, `TooLong` where the
-    /// gather has no room for the next of them. Then the card is reset, and what has come of its
-    /// data is gathered.
+    /// # Errors
+    ///
+    /// In this order:
+    ///
+    /// - `UnderWay`: characters of another TPDU were sent already; nothing has changed.
+    /// - `NoTpdu`: the bytes are not a whole TPDU; nothing has changed.
+    /// - `WantsData`: the card expects data, and none were given.
+    /// - `SendsData`: the card sends data, and none may come back.
+    /// - `TooLong`: the card's next data exceed the room of `gather`.
+    ///
+    /// After the last three the card is reset, and `gather` contains the data that it had sent.
     pub fn tpdu<A: Allocator, B: Allocator>(
         &mut self,
         bytes: &[u8],
@@ -62,14 +68,14 @@ impl<C: TpduCard> CardEnd<C> {
         self.carry_out(&tpdu, plans, gather)
     }
 
-    /// Whether no character of a TPDU has gone: a whole TPDU may be carried out.
+    /// Whether a whole TPDU may be carried out: no character of one was sent yet.
     pub fn is_at_rest(&self) -> bool
         ensures { result ≡ rests self.now.stage }
     {
         is_fresh(&self.phase)
     }
 
-    /// Carries out a whole TPDU that has been read.
+    /// Carries out a whole TPDU that was parsed.
     fn carry_out<A: Allocator, B: Allocator>(
         &mut self,
         tpdu: &WholeTpdu,
@@ -105,7 +111,7 @@ impl<C: TpduCard> CardEnd<C> {
         self.came = [0; 255];
     }
 
-    /// Has the card judge the header, and hands out its first character.
+    /// Lets the card judge the header, and passes its first character.
     fn begin<A: Allocator, B: Allocator>(
         &mut self,
         tpdu: &WholeTpdu,
@@ -153,8 +159,8 @@ impl<C: TpduCard> CardEnd<C> {
         }
     }
 
-    /// Passes the next character to or from a card that has begun to answer. The answer is the
-    /// status, with its second character.
+    /// Passes the next character to or from a card that has begun to answer. Returns the status,
+    /// after its second character.
     fn pass<A: Allocator, B: Allocator>(
         &mut self,
         tpdu: &WholeTpdu,
@@ -204,7 +210,7 @@ impl<C: TpduCard> CardEnd<C> {
         }
     }
 
-    /// Hands out the next character of a card that has begun to answer.
+    /// Returns the next character of a card that has begun to answer.
     fn hand_on<A: Allocator>(&mut self, plans: &mut Plans<A>) -> u8
         requires due { listens self.old.stage ≡ false }
         requires begun { takes_plan self.old.stage ≡ false }
@@ -226,7 +232,7 @@ impl<C: TpduCard> CardEnd<C> {
         byte
     }
 
-    /// Which character the end goes on with.
+    /// The character that the end expects or sends next.
     fn awaited(&self) -> Awaited
         ensures { result ≡ awaited_in self.now.stage }
     {
@@ -234,7 +240,7 @@ impl<C: TpduCard> CardEnd<C> {
     }
 }
 
-/// Whether no character of a TPDU has gone.
+/// Whether no character of a TPDU was sent yet.
 fn is_fresh(phase: &Phase) -> bool
     requires { IsHeld phase.now }
     ensures { (came : List ℕ) → result ≡ rests (stage_of phase.now came) }
@@ -242,7 +248,7 @@ fn is_fresh(phase: &Phase) -> bool
     matches!(phase, Phase::Opening { taken: 0, .. })
 }
 
-/// Which character the end goes on with.
+/// The character that the end expects or sends next.
 fn awaited_at(phase: &Phase) -> Awaited
     requires { IsHeld phase.now }
     ensures { (came : List ℕ) → result ≡ awaited_in (stage_of phase.now came) }

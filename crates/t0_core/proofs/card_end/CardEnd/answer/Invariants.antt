@@ -5,7 +5,7 @@ use Rattle.t0_core.specs.TpduBytes.{asked_of}
 use Rattle.t0_core.specs.Answering.{IsAnswering}
 use Rattle.t0_core.proofs.card_end.CardEnd.answer.Given as goal
 
--- What the card was answering at the beginning it still is.
+-- The card is still answering what it was answering at the start.
 abbrev pub invariant-talk : goal.invariant-talk
 invariant-talk g l =
     let asked = asked_of l.tpdu in

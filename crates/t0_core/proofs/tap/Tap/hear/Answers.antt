@@ -6,7 +6,7 @@ use Rattle.t0_core.proofs.TapLemmas.{HearsOne, hears_none, hears_all, hears_of_o
 use Rattle.t0_core.proofs.TapTurns.{reason, leaves_no_trace}
 use Rattle.t0_core.proofs.tap.Tap.hear.Goals as goal
 
--- it is the other end's turn
+-- the other end sends next
 refused_is : (c : goal.Then-not-may_come_from)
     → unheard_at (place_of c.self.inside.stage) c.args.from c.args.byte ≡ Some OutOfTurn
 refused_is c = out_of_turn (place_of c.self.inside.stage) c.args.from c.args.byte
@@ -25,7 +25,7 @@ pub returns-then-not-may_come_from-clause-reason :
 returns-then-not-may_come_from-clause-reason c =
     reason _ _ c.args.from c.args.byte OutOfTurn c.self.view_is (refused_is c)
 
--- what the tap makes of the character
+-- what the tap does with the character
 hears_it : (c : goal.After-stage-2-1)
     → HearsOne (place_of c.self.inside.stage) c.args.self.now c.args.from c.args.byte
     c.in_ok-stage.heard (place_of c.in_ok-stage.stage)

@@ -1,4 +1,4 @@
--- What stands once the answer is handed out.
+-- The card once SW2 is sent.
 use Rattle.std.proofs.Common.{◌≡◌, ◌∙◌, ℕ, zero, suc, List, [], ◌∷◌, Option, Some, None, Bool, true, false, refl, sym, ap, subst}
 use Rattle.std.specs.Prelude.{slice_get, slice_set, unwrap_or, option_map, if◌then◌else◌}
 use Rattle.std.proofs.lemmas.Option.{slice_get_within}
@@ -17,7 +17,7 @@ use Rattle.object_card.specs.TableLaws.{aids}
 use Rattle.object_card.proofs.SameTag.{itself}
 use Rattle.object_card.proofs.CardFieldLemmas.{other_aid}
 
--- an entry that is not locked, or new, is put as a value is
+-- for an entry that is not locked, or new, both ways to put a value agree
 entry_with : (tag value : List ℕ) (entries : List Entry) → is_locked tag entries ≡ false
     → with_entry tag value false entries ≡ with_value tag value entries
 entry_with tag value [] free = refl
@@ -36,7 +36,7 @@ entry_with tag value (e ∷ entries) free = split (same_bytes tag e.tag) refl
         rw s (ap (λ es. e ∷ es)
         (more (subst (λ b. (if b then e.locked else is_locked tag entries) ≡ false) s free)))
 
--- a value that is put in an application's place is put under its identifier
+-- a value put at an application's place is put under its identifier
 applications_with : (held : List ApplicationView) (i : ℕ) (a b : ApplicationView)
     (tag value : List ℕ) → AreDistinct (aids (applications_of held)) → slice_get held i ≡ Some a
     → b.aid ≡ a.aid → b.entries ≡ with_entry tag value false a.entries → is_locked tag a.entries
@@ -56,7 +56,7 @@ applications_with (h ∷ held) (suc i) a b tag value distinct at_place aid entri
     (ap (λ xs. record { aid = h.aid; entries = h.entries } ∷ xs)
     (applications_with held i a b tag value distinct.1 at_place aid entries free))
 
--- the state with the value that is stored
+-- the state with the stored value
 state_stored : (held new : List ApplicationView) (i : ℕ) (a b : ApplicationView)
     (tag value : List ℕ) (chain : ChainState) (response : Option Response)
     → AreDistinct (aids (applications_of held)) → slice_get held i ≡ Some a → slice_get new i
@@ -76,7 +76,7 @@ state_stored held new i a b tag value chain response distinct before after aid e
     ∙ ap Some aid ∙ sym was in
     λ j. record { applications = applications j; selected = selected j; pending = NothingPending }
 
--- what stands then is sound, and is what was decided
+-- the new state is sound, and is the one that was decided
 pub record Settles (held new : List ApplicationView) (selected : Option ℕ) (chain : ChainState)
     (response : Option Response) (ready : Ready) (put : Option NewValue) : Type 0 where
   pub standing : IsStanding new (selected_after ready selected) (settled_chain chain ready)
@@ -119,7 +119,7 @@ stands_stored held new (Some i) chain response put standing fits stored =
     some_inj : {x y : ApplicationView} → Some x ≡ Some y → x ≡ y
     some_inj e = cc
 
--- with no value to put, the applications stay
+-- without a value to put, the applications are unchanged
 unchanged : (held new : List ApplicationView) (selected : Option ℕ) (put : Option NewValue) → put
     ≡ None → IsStored held selected put new → held ≡ new
 unchanged held new selected put none stored =
@@ -147,7 +147,7 @@ settles held new selected chain response ready.Stores put card decided stored =
     stands_stored held new selected chain response put card.standing card.fits stored
 settles _ _ _ _ _ _ _ _ decided _ = absurd decided
 
--- the fields once the answer is handed out: they are sound, and what was decided stands
+-- the fields once SW2 is sent: they are sound, and what was decided is in effect
 pub handed_out : (held now new after : List ApplicationView) (selected selected_now : Option ℕ)
     (chain chain_now : ChainState) (response response_now : Option Response)
     (made : Ready) (put taken empty : Option NewValue)
@@ -181,6 +181,6 @@ handed_out held now new after selected selected_now chain chain_now response res
     λ j. state_of (sym after_is j) (sym selected_is j) (sym chain_is j) (sym response_is j) in
     (record { standing = standing; fits = empty_is }, s.decided ∙ ap Decided state)
 
--- what is decided is one state
+-- a decision determines one state
 pub same_next : (a b : CardState) → Decided a ≡ Decided b → a ≡ b
 same_next a b e = cc

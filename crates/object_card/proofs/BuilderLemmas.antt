@@ -1,4 +1,4 @@
--- What a builder holds stays what a card can hold, whatever it adds.
+-- What a builder adds stays what a card can hold.
 use Rattle.std.proofs.Common.{◌≡◌, ◌≢◌, ℕ, zero, suc, ◌-◌, ◌<◌, ◌≤◌, List, [], ◌∷◌, ◌++◌, length, Option, Some, None, Bool, true, false, refl, sym, ap, arith, subst, ◌∙◌, Result, Ok, Err}
 use Rattle.std.specs.Prelude.{is_some, slice_get, slice_set, slice_index_or, option_map, OnOk, OnErr, IfErr, MatchOption, if◌then◌else◌}
 use Rattle.std.specs.List.{AllByRecursion}
@@ -23,7 +23,7 @@ length_and_last : {T : Type 0} (xs : List T) (y : T) → length (xs ++ y ∷ [])
 length_and_last [] y = refl
 length_and_last (x ∷ xs) y = ap suc (length_and_last xs y)
 
--- an identifier that is not found is none of them
+-- an identifier that is not found differs from all
 aid_is_new : (aid : List ℕ) (applications : List Application) → entries_in aid applications ≡ None
     → AllByRecursion (λ x. x ≢ aid) (aids applications)
 aid_is_new aid [] none = tt
@@ -61,7 +61,7 @@ application_added aid applications is takes are = record {
   );
 }
 
--- the mark is no matter to the tags
+-- the lock does not affect the tags
 same_tags : (tag value : List ℕ) (locked : Bool) (entries : List Entry)
     → tags (with_entry tag value locked entries) ≡ tags (with_value tag value entries)
 same_tags tag value locked [] = refl
@@ -135,7 +135,7 @@ aids_with_last_entry tag value locked (a ∷ []) = refl
 aids_with_last_entry tag value locked (a ∷ b ∷ applications) =
     ap (λ xs. a.aid ∷ xs) (aids_with_last_entry tag value locked (b ∷ applications))
 
--- an entry more, or one replaced, in the last application
+-- one more entry, or one replaced, in the last application
 pub object_added : (tag value : List ℕ) (locked : Bool) (applications : List Application)
     → IsAddressable tag → TakesObject tag value applications
     → AreApplications applications → AreApplications (with_last_entry tag value locked applications)
@@ -174,7 +174,7 @@ last_set tag value locked (x ∷ y ∷ applications) (suc i) a last is =
     ap (λ xs. x ∷ xs) (last_set tag value locked (y ∷ applications) i a (omega (arith, last)) is)
 last_set tag value locked _ _ a last is = absurd (omega (arith, last))
 
--- the application that one in memory is
+-- an application in memory, as one of the definitions
 abbrev pub application_in : ApplicationView → Application
 application_in h = record { aid = h.aid; entries = h.entries }
 
@@ -211,7 +211,7 @@ module _ (held : List ApplicationView) (old : ApplicationView) (some : 0 < lengt
       (ap (λ x. record { aid = x; entries = new.entries }) aid
       ∙ ap (λ es. record { aid = old.aid; entries = es }) entries ∙ ap application_in is)
 
--- what an answer says
+-- what holds after a success
 pub on_ok : {T E P Q : Type 0} (r : Result T E) → (P → Q) → OnOk r P → OnOk r Q
 on_ok (Ok x) f p = f p
 on_ok (Err e) f p = tt
@@ -225,7 +225,7 @@ pub if_err : {T E : Type 0} {P Q : E → Type 0} (r : Result T E) → ((e : E) �
 if_err (Ok x) f p = tt
 if_err (Err e) f p = f e p
 
--- what a search for an application tells
+-- the result of a search for an application
 abbrev pub Finds : List ℕ → List ApplicationView → Option ℕ → Type 0
 Finds aid held place = MatchOption place (entries_in aid (applications_of held) ≡ None)
     (λ place. (place < length held) × (aid_at held (Some place) ≡ Some aid))
@@ -270,7 +270,7 @@ pushed held after new aid done is yes_done aid_is none =
     ∙ ap (λ x. applications_of held ++ record { aid = x; entries = new.entries } ∷ []) aid_is
     ∙ ap (λ es. applications_of held ++ record { aid = aid; entries = es } ∷ []) none
 
--- what is held after a data object was added, or refused
+-- the applications after a data object was added, or refused
 module _ {T E : Type 0} (tag value : List ℕ) (locked : Bool) (r : Result T E)
     (before after : List Application)
     (stored : OnOk r (TakesObject tag value before

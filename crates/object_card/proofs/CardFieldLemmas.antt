@@ -1,4 +1,4 @@
--- What a card's state is, where its applications stand in places.
+-- A card's state, if its applications are in places.
 use Rattle.std.proofs.Common.{◌≡◌, ◌≢◌, ◌∙◌, ℕ, zero, suc, ◌≤◌, List, [], ◌∷◌, ◌++◌, length, map, Option, Some, None, Bool, true, false, refl, sym, ap, subst, take, drop}
 use Rattle.std.specs.Prelude.{slice_get, unwrap_or, option_map, option_and_then, IfNone, IsSome}
 use Rattle.std.specs.List.{AllByRecursion}
@@ -26,13 +26,13 @@ other_than x y other = split (same_bytes x y) refl
     split true e = absurd (other (sym (same_text x y (sym e))))
     split false e = refl
 
--- an identifier further on is another
+-- an identifier further on differs
 pub other_aid : (x : List ℕ) (held : List ApplicationView) (i : ℕ) (a : ApplicationView)
     → AllByRecursion (λ y. x ≢ y) (aids (applications_of held)) → slice_get held i ≡ Some a
     → same_bytes a.aid x ≡ false
 other_aid x held i a all is = other_than a.aid x (all_at (λ y. x ≢ y) held i a all is)
 
--- the entries in an application's place are those under its identifier
+-- the entries at an application's place are those under its identifier
 pub entries-in : (held : List ApplicationView) (i : ℕ) (a : ApplicationView)
     → AreDistinct (aids (applications_of held)) → slice_get held i ≡ Some a
     → entries_in a.aid (applications_of held) ≡ Some a.entries
@@ -44,7 +44,7 @@ entries-in (h ∷ held) zero a distinct is =
 entries-in (h ∷ held) (suc i) a distinct is =
     rw (other_aid h.aid held i a distinct.0 is) (entries-in held i a distinct.1 is)
 
--- so are those in the place that is selected
+-- so are those at the selected place
 pub entries-here : (held : List ApplicationView) (selected : Option ℕ) (a : ApplicationView)
     → AreDistinct (aids (applications_of held)) → held_at held selected ≡ Some a
     → entries_in a.aid (applications_of held) ≡ Some a.entries
@@ -64,7 +64,7 @@ selected-entries held (Some i) chain response is = split (slice_get held i) refl
     split None e = refl
     split (Some a) e = entries-in held i a is.are_applications.distinct_aids e
 
--- the bytes of the chain that is pending are those that stand in its room
+-- the bytes of the pending chain are those in its buffer
 pub chained-bytes : (entries : List Entry) (chain : ChainState) (response : Option Response)
     → IsChain chain → (IsSome response → chain.pending ≡ None)
     → chained (pending_in entries chain response) ≡ chain.bytes
@@ -77,7 +77,7 @@ chained-bytes entries chain None is alone = split chain.pending refl
 chained-bytes entries chain (Some r) is alone =
     sym (subst (λ v. IfNone v (chain.bytes ≡ [])) (alone refl) is.empty)
 
--- the entries that are selected
+-- the selected entries
 pub selected-known : (held : List ApplicationView) (selected : Option ℕ) (chain : ChainState)
     (response : Option Response) (a : ApplicationView)
     → IsCardState (state_of held selected chain response) → held_at held selected ≡ Some a
@@ -94,7 +94,7 @@ entries-sound held selected chain response a is at_place =
     (found_is_sound a.aid a.entries (applications_of held) is.are_applications.all_sound
     (entries-here held selected a is.are_applications.distinct_aids at_place)).are_entries
 
--- a value that is held keeps to the limit
+-- a value in the tables keeps to the limit
 pub value-fits : (held : List ApplicationView) (selected : Option ℕ) (chain : ChainState)
     (response : Option Response) (a : ApplicationView) (tag value : List ℕ)
     → IsCardState (state_of held selected chain response) → held_at held selected ≡ Some a
@@ -108,7 +108,7 @@ pub entries-known : (held : List ApplicationView) (selected : Option ℕ) (a : A
 entries-known held selected a at_place = ap (λ v. unwrap_or (option_map (λ a. a.entries) v) [])
     at_place
 
--- all of a response is left where nothing is sent
+-- all of a response is left before its first byte
 pub whole_left : (entries : List Entry) (r : Response) (front : List ℕ) (value : Option ℕ)
     → IsWhole r front value
     → left_of entries r ≡ front ++ value_at entries value

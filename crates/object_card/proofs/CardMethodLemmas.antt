@@ -1,4 +1,4 @@
--- A card that takes or sends, or on which a header is judged: what its fields are seen as.
+-- A card that takes data, sends data, or judges a header: how contracts see its fields.
 use Rattle.std.proofs.Common.{◌≡◌, ℕ, List, Option, None, refl, sym, subst}
 use Rattle.apdu_core.specs.Chaining.{ChainState}
 use Rattle.t0_core.specs.Meaning.{Ask, IsReceiving, IsSending}
@@ -9,7 +9,7 @@ use Rattle.object_card.specs.CardFields.{ApplicationView, state_of}
 use Rattle.object_card.specs.CardView.{CardView, NewValue, IsCard, IsReady, IsStanding, prepared_of, view_of}
 use Rattle.object_card.specs.PendingChain.{CanBeGivenUp}
 
--- what holds of the fields of a card that takes data, or sends bytes, and is seen so
+-- the fields of a card that takes data or sends bytes, as contracts see them
 pub record IsAtWork (held : List ApplicationView) (selected : Option ℕ) (chain : ChainState)
     (response : Option Response) (now : Ready) (put : Option NewValue) (seen : CardView) : Type 0
   where
@@ -64,7 +64,7 @@ module _ (held : List ApplicationView) (selected : Option ℕ) (chain : ChainSta
       }
       each _ _ sending = absurd sending
 
--- what is made ready can be given up
+-- what is prepared can be dropped
 pub gives_up : (held : List ApplicationView) (selected : Option ℕ) (chain : ChainState)
     (response : Option Response) (now : Ready) (put : Option NewValue)
     → IsCard held selected chain response now put → CanBeGivenUp chain now

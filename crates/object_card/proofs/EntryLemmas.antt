@@ -1,4 +1,4 @@
--- Which TPDU changes an entry.
+-- Which TPDUs change an entry.
 use Rattle.std.proofs.Common.{◌≡◌, ℕ, ◌++◌, ◌⊎◌, inl, inr, refl}
 use Rattle.std.proofs.lemmas.Bool.{eqb-true}
 use Rattle.apdu_core.specs.StatusWord.{ok}
@@ -13,7 +13,7 @@ answered_ok : (old new : CardState) (operation : Operation) (answer : Reply)
 answered_ok old new operation answer (stores tag value aid entries selected is status) = inr refl
 answered_ok _ _ _ _ _ = inl refl
 
--- Entries change only by a PUT DATA with CLA 00 that is answered 9000.
+-- Entries change only by a PUT DATA with CLA 00 whose status is 9000.
 pub entries_stay : (old new : CardState) (cut : ℕ) (t : Tpdu) → Does old cut t new
     → (new.applications ≡ old.applications)
     ⊎ ((t.header.cla ≡ 0x00) × (t.header.ins ≡ 0xDA) × (t.status ≡ ok))

@@ -1,4 +1,4 @@
--- A card of which nothing is selected, pending or ready, and what a card sends.
+-- A card with nothing selected, pending or prepared, and what a card sends.
 use Rattle.std.proofs.Common.{◌≡◌, ℕ, zero, suc, ◌<◌, List, [], ◌∷◌, arith, length, take, Option, Some, None, refl, sym, subst}
 use Rattle.std.specs.Prelude.{slice_get}
 use Rattle.apdu_core.specs.declared.header.Header.{Header}
@@ -18,7 +18,7 @@ chain_limit : (chain : ChainState) (before : Option ℕ) → (chain_before chain
 chain_limit chain None = refl
 chain_limit chain (Some len) = refl
 
--- what is ready changes no limit
+-- what is prepared changes no limit
 pub standing_limit : (chain : ChainState) (r : Ready) → (standing_chain chain r).limit ≡ chain.limit
 standing_limit chain (ready.Joins before) = chain_limit chain before
 standing_limit _ _ = refl
@@ -40,7 +40,7 @@ is_fresh held chain are is =
       fits = refl;
     })
 
--- a byte within the first ones is a byte of the whole
+-- a byte within the first n is a byte of the whole
 of_whole : (bytes : List ℕ) (n at byte : ℕ) → at < length (take n bytes) → slice_get bytes at
     ≡ Some byte
     → slice_get (take n bytes) at ≡ Some byte
@@ -49,7 +49,7 @@ of_whole (b ∷ bytes) zero at byte lt is = absurd (omega (arith, lt))
 of_whole (b ∷ bytes) (suc n) zero byte lt is = is
 of_whole (b ∷ bytes) (suc n) (suc at) byte lt is = of_whole bytes n at byte (omega (arith, lt)) is
 
--- the byte that is read is that of the data to send
+-- the byte that is read is one of the data to send
 pub sends_byte : (held : List ApplicationView) (selected : Option ℕ) (chain : ChainState)
     (response : Option Response) (r : Ready)
     (put : Option NewValue) (h : Header) (p3 cut : ℕ) (sent : Response) (at byte : ℕ) → r

@@ -26,7 +26,7 @@ pub put_reasons : (s : CardState) (h : Header) (p3 : ℕ) → h.ins ≡ 0xDA
     else if nat_lt VALUE_LIMIT (length (chained s.pending) + p3) then Some (0x67, 0x00) else None)
 put_reasons s h p3 ins = rw ins refl
 
--- the first of some reasons, and of some more
+-- the first of some reasons, or else of others
 abbrev pub first_else : Option StatusWord → Option StatusWord → Option StatusWord
 first_else None others = others
 first_else (Some status) others = Some status
@@ -45,7 +45,7 @@ first-append s h p3 (x ∷ xs) ys = split (holds s h p3 x) (first-append s h p3 
     split true e = refl
     split false e = e
 
--- the chain first, then the header's form, then the card's state
+-- first the chain, then the header's form, then the card's state
 pub in_turn : (s : CardState) (h : Header) (p3 : ℕ)
     → refusal s h p3 ≡ (if breaks_chain s.pending h then Some (0x68, 0x83) else first_else
     (first_of_them s h p3 of_form) (first_of_them s h p3 of_state))
@@ -58,7 +58,7 @@ in_turn s h p3 = split (breaks_chain s.pending h)
     split true = refl
     split false = first-append s h p3 of_form of_state
 
--- a PUT DATA for this tag, where these entries are selected
+-- a PUT DATA for this tag, if these entries are selected
 pub put_known : (s : CardState) (h : Header) (p3 : ℕ) (entries : List Entry) (tag : List ℕ) → h.ins
     ≡ 0xDA
     → selected_entries s ≡ Some entries → named_tag h.p1 h.p2 ≡ Some tag
@@ -100,7 +100,7 @@ put_fits s h p3 n entries tag ins selected named free is fits =
     put_known s h p3 entries tag ins selected named
     ∙ rw (free, is, le-ltb VALUE_LIMIT (n + p3) fits) refl
 
--- the object under this tag, where these entries are selected
+-- the object under this tag, if these entries are selected
 pub asked_known : (s : CardState) (h : Header) (entries : List Entry) (tag : List ℕ)
     → selected_entries s ≡ Some entries
     → named_tag h.p1 h.p2 ≡ Some tag → object_asked s h
@@ -148,7 +148,7 @@ goes_on_with entries chain None h same of_puts = split chain.pending same of_put
         && (h.p2 == x.p2)) ≡ false in
         subst P same (rw (class, instruction, same_as_itself h.p1, same_as_itself h.p2) refl)
 
--- and it continues the chain where it does not break it
+-- a command that does not break the chain continues it
 pub accepts : (entries : List Entry) (chain : ChainState) (response : Option Response) (h : Header)
     → (IsSome response → chain.pending ≡ None)
     → IfSome chain.pending (λ first. (first.cla ≡ 0x00) × (first.ins ≡ 0xDA))
@@ -189,7 +189,7 @@ turn_chain s h p3 breaks =
     (first_of_them s h p3 of_state)) in
     in_turn s h p3 ∙ ap Turn breaks
 
--- the parameters fit where the form is right
+-- the parameters are right if the form is
 pub form_fits : (s : CardState) (h : Header) (p3 : ℕ) → first_of_them s h p3 of_form ≡ None
     → parameters_fit h ≡ true
 form_fits s h p3 none = not-false _ (none_of_them s h p3 of_form none).1.1.1.0

@@ -1,4 +1,4 @@
--- What a history shows, however it is cut, and what stands at an end after it.
+-- What a history shows, however it is cut, and the state of an end after it.
 use Rattle.std.proofs.Common.{◌≡◌, ℕ, List, [], ◌∷◌, ◌++◌, ◌⊎◌, inl, inr, refl, sym, ap, subst, ◌∙◌}
 use Rattle.std.specs.List.{AllByRecursion}
 use Rattle.apdu_core.specs.declared.header.Header.{Header}
@@ -21,7 +21,7 @@ tpdu_from h p3 direction segments moved status = tpdu_of (record {
   status = status;
 })
 
--- A direction in which no data moved is no matter.
+-- A direction in which no data moved has no effect.
 same_parts : (h k : Header) (p q : ℕ) (a b : Direction) (s t : List Step) (m n : List ℕ)
     (x y : StatusWord) → h ≡ k → p ≡ q → m ≡ n → x ≡ y → (a ≡ b) ⊎ (m ≡ [])
     → tpdu_from h p a s m x ≡ tpdu_from k q b t n y
@@ -50,12 +50,12 @@ same_after before (Cut_off p ∷ items) (Cut_off q ∷ others) (one, rest) =
     same_after [] items others rest
 same_after _ _ _ alike = absurd alike
 
--- Alike items show the same puts.
+-- Items that are alike show the same puts.
 pub same_shown : (items others : List Item) → AreAlikeInTurn items others
     → shown_puts items ≡ shown_puts others
 same_shown items others alike = same_after [] items others alike
 
--- What a run goes over are items.
+-- A run consists of items.
 pub run_is_of_items : {State : Type 0} (Does : State → ℕ → Tpdu → State → Type 0)
     (own_reset : State → State) (old new : State) (items : List Item)
     → RunsOver Does own_reset old items new → AllByRecursion IsItem items

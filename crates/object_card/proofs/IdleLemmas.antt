@@ -1,4 +1,4 @@
--- Whether a card is idle is seen from its fields.
+-- The fields show whether a card is idle.
 use Rattle.std.proofs.Common.{◌≡◌, ◌∙◌, ℕ, ◌≤◌, List, length, Option, Some, None, Bool, true, false, refl, sym, ap, arith}
 use Rattle.std.specs.Prelude.{IsSome, is_some, is_none, not, ◌||◌}
 use Rattle.apdu_core.specs.declared.header.Header.{Header}
@@ -29,7 +29,7 @@ joined : (chain : ChainState) (before : Option ℕ)
 joined chain None = refl
 joined chain (Some len) = refl
 
--- a card is idle where no chain stands
+-- a card is idle if no chain is in effect
 pub idle_seen : (entries : List Entry) (chain : ChainState) (response : Option Response) (r : Ready)
     → (IsSome response → (standing_chain chain r).pending ≡ None)
     → stands_idle r (is_some chain.pending) ≡ is_idle
@@ -38,7 +38,7 @@ idle_seen entries chain response (ready.Joins before) alone =
     sym (joined chain before) ∙ sym (of_pending entries (chain_before chain before) response alone)
 idle_seen entries chain response _ alone = sym (of_pending entries chain response alone)
 
--- what waits in a sound state is less than a terminal gathers
+-- what waits in a sound state fits into what a terminal gathers
 pub few_wait : (selected : Option (List ℕ)) (pending : Pending) → IsPending selected pending
     → length (waiting pending) ≤ RESPONSE_LIMIT
 few_wait selected NothingPending is = omega arith

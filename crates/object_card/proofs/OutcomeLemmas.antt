@@ -1,5 +1,4 @@
--- An operation has one reply and one next state, and a TPDU one outcome, where memory is not
--- wanted.
+-- Unless memory runs out, an operation has one reply and one next state, and a TPDU one outcome.
 use Rattle.std.proofs.Common.{◌≡◌, ◌≢◌, ℕ, List, [], ◌∷◌, ◌++◌, take, drop, Some, None, true, false, refl, sym, ap, subst, ◌∙◌, arith, Option}
 use Rattle.std.specs.Prelude.{Bool, is_some, option_and_then, unwrap_or, if◌then◌else◌, ◌||◌, ◌==◌}
 use Rattle.std.proofs.lemmas.Bool.{true≢false, eqb-true}
@@ -22,7 +21,7 @@ use Rattle.object_card.specs.CardLaws.{not_ok}
 abbrev Same : Reply → Reply → CardState → CardState → Type 0
 Same r s a b = (r ≡ s) × (a ≡ b)
 
--- wants no memory
+-- memory did not run out
 abbrev pub IsServed : StatusWord → Type 0
 IsServed status = status ≢ (0x65, 0x81)
 
@@ -36,13 +35,13 @@ entries_selected : (state : CardState) (aid : List ℕ) (entries : List Entry) �
 entries_selected state aid entries selected is =
     ap (λ v. option_and_then (λ a. entries_in a state.applications) v) selected ∙ is
 
--- how a SELECT is answered, by whether the application is there
+-- the reply to a SELECT, by whether the application exists
 abbrev chosen : CardState → List ℕ → Bool → Reply × CardState
 chosen old aid true =
     (record { status = ok; content = control_information aid }, with_selected old aid)
 chosen old aid false = (reply (0x6A, 0x82), old)
 
--- how a GET DATA is answered, by the value under its tag, and by the entries
+-- the reply to a GET DATA, by the value under its tag and by the entries
 abbrev found : List ℕ → Option (List ℕ) → Reply
 found tag None = reply (0x6A, 0x88)
 found tag (Some value) = record { status = ok; content = object_bytes tag value }
@@ -51,7 +50,7 @@ abbrev got : List ℕ → Option (List Entry) → Reply
 got tag None = reply (0x69, 0x85)
 got tag (Some entries) = found tag (value_under tag entries)
 
--- what an operation comes to among these entries, where memory is not wanted
+-- the result of an operation among these entries, unless memory runs out
 abbrev Comes : CardState → Operation → Option (List Entry) → Reply → CardState → Type 0
 Comes old (Select aid) es r new =
     (r, new) ≡ chosen old aid (is_some (entries_in aid old.applications))
@@ -102,7 +101,7 @@ one_coming old a b (Put tag value) (Some entries) r s (v, put, r_is, a_is) (w, t
     )
 one_coming _ _ _ _ _ _ _ first second = (first.0 ∙ sym second.0, first.1 ∙ sym second.1)
 
--- An operation has one reply and one next state, where memory is not wanted.
+-- Unless memory runs out, an operation has one reply and one next state.
 pub one_answer : (old a b : CardState) (operation : Operation) (r s : Reply)
     → Answers old operation r a → Answers old operation s b
     → IsServed r.status → IsServed s.status → Same r s a b
@@ -134,7 +133,7 @@ would_store old tag value entries is put = split old.selected refl
         sym (ap (λ v. option_and_then (λ a. entries_in a old.applications) v) e) ∙ is in
         (with_put old aid tag value, stores tag value aid entries e found put)
 
--- Memory is wanted only where a value would be stored, and the card stays as it was.
+-- Memory runs out only if a value would be stored, and the card is unchanged.
 pub wanting_memory : (old new : CardState) (operation : Operation) (answer : Reply)
     → Answers old operation answer new → answer.status ≡ (0x65, 0x81)
     → (new ≡ old) × ((next : CardState) × Answers old operation (reply ok) next)
@@ -263,7 +262,7 @@ outcome old a b cut t u (puts_value h bytes tag answer next e ins cla named_by p
           )
     ]
 
--- A TPDU has one outcome, where memory is not wanted.
+-- Unless memory runs out, a TPDU has one outcome.
 pub one_outcome : (old a b : CardState) (cut : ℕ) (t u : Tpdu) → Does old cut t a → Does old cut u b
     → t.header ≡ u.header → t.p3 ≡ u.p3 → t.sent ≡ u.sent
     → t.status ≢ (0x65, 0x81) → u.status ≢ (0x65, 0x81) → (t.received ≡ u.received)
@@ -272,12 +271,12 @@ one_outcome old a b cut t u first second header p3 sent served served2 =
     outcome old a b cut t u first second (record { header_is = header; p3_is = p3; sent_is = sent })
     served served2
 
--- An announcement tells no want of memory.
+-- A status that announces what is left is not 6581.
 none_announced : (left : List ℕ) (cut : ℕ) → ((announcing left cut).0 == 0x65) ≡ false
 none_announced [] cut = refl
 none_announced (b ∷ left) cut = refl
 
--- Want of memory is told to the last PUT DATA of a chain alone, and changes no table.
+-- Only the last PUT DATA of a chain gets 6581, which changes no table.
 pub only_a_put_wants : (old new : CardState) (cut : ℕ) (t : Tpdu) → Does old cut t new
     → t.status ≡ (0x65, 0x81) → (t.header.cla ≡ 0x00) × (t.header.ins ≡ 0xDA) × SameTables old new
 only_a_put_wants old new cut t (refuses h p3 status e) wants =

@@ -22,7 +22,7 @@ other_status_drops_chain old new cut tpdu (sends h p3 e ins) other =
 other_status_drops_chain old new cut tpdu (chains h bytes e ins cla) other = absurd (other refl)
 other_status_drops_chain _ _ _ _ _ _ = refl
 
--- A command that is the last of its chain ends it.
+-- A command that is not followed by more of its chain ends it.
 pub last_ends_chain : (old new : CardState) (cut : ℕ) (tpdu : Tpdu) → Does old cut tpdu new
     → tpdu.header.cla ≢ 0x10 → is_idle new.pending ≡ true
 last_ends_chain old new cut tpdu (refuses h p3 status e) last =
@@ -59,7 +59,7 @@ rest_is_announced : (left : List ℕ) (cut : ℕ) (response : List ℕ) → pend
 rest_is_announced [] cut response is = absurd (cc)
 rest_is_announced (b ∷ left) cut response is = refl
 
--- A response is pending only after 61XX, or as it was after 6CXX to a GET RESPONSE.
+-- A response is pending only after 61XX, or unchanged after 6CXX to a GET RESPONSE.
 pub response_is_announced : (old new : CardState) (cut : ℕ) (tpdu : Tpdu) (left : List ℕ)
     → Does old cut tpdu new → new.pending ≡ ResponsePending left
     → IsAnnounced old new tpdu

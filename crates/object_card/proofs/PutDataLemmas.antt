@@ -1,4 +1,4 @@
--- What a PUT DATA that is not refused finds, how it comes out, and what stands after it.
+-- A PUT DATA that is not refused: what it finds, its status, and the state after it.
 use Rattle.std.proofs.Common.{◌≡◌, ◌≢◌, ◌∙◌, ℕ, zero, suc, ◌+◌, ◌<◌, ◌≤◌, List, [], ◌∷◌, ◌++◌, length, take, Option, Some, None, Bool, true, false, inl, inr, refl, sym, ap, subst, arith, length-append}
 use Rattle.std.specs.Prelude.{slice_get, slice_set, unwrap_or, option_map, is_some, IfSome, IfNone, IsSome, if◌then◌else◌, ◌==◌, ◌&&◌, ◌||◌, bit_and}
 use Rattle.std.proofs.lemmas.Bool.{eqb-true, ne_eqb, not-false}
@@ -26,11 +26,11 @@ use Rattle.object_card.proofs.CardFieldLemmas.{entries-here, entries-known, sele
 use Rattle.object_card.proofs.HeaderRefusalLemmas.{accepts}
 use Rattle.object_card.proofs.VerdictLemmas.{leaves_standing}
 
--- a command that takes data and is no SELECT is a PUT DATA
+-- a command that takes data and is not a SELECT is a PUT DATA
 pub not_select : (h : Header) → (is_select h || is_put h) ≡ true → h.ins ≢ 0xA4 → is_put h ≡ true
 not_select h toward other = subst (λ v. v ≡ true) (rw (ne_eqb h.ins 0xA4 other) refl) toward
 
--- a piece that joined is undone
+-- a piece that joined the chain is removed again
 undone : (chain : ChainState) (h : Header) (content : List ℕ) → IsChain chain → Accepts chain h
     → chain_before (added chain h content) (length_before chain) ≡ chain
 undone chain h content is accepted = split chain.pending refl
@@ -63,7 +63,7 @@ there [] i within = absurd (omega (arith, within))
 there (h ∷ held) zero within = (h, refl)
 there (h ∷ held) (suc i) within = there held i (omega (arith, within))
 
--- other room changes no application
+-- more allocated places change no application
 same_applications : (held : List ApplicationView) (i : ℕ) (a b : ApplicationView) → slice_get held i
     ≡ Some a → b.aid ≡ a.aid → b.entries ≡ a.entries
     → applications_of (slice_set held i b) ≡ applications_of held
@@ -113,7 +113,7 @@ module _ (held new : List ApplicationView) (selected : Option ℕ) (a b : Applic
 abbrev state_put : CardState → List ℕ → List ℕ → CardState
 state_put s tag value = with_pending (with_put s (unwrap_or s.selected []) tag value) NothingPending
 
--- a PUT DATA that is not refused, on fields that stand
+-- a PUT DATA that is not refused, on sound fields
 module _ (held : List ApplicationView) (selected : Option ℕ) (chain : ChainState)
     (response : Option Response) (h : Header) (cut : ℕ) (content : List ℕ)
     (standing : IsStanding held selected chain response) (is : IsChain chain)
@@ -125,7 +125,7 @@ module _ (held : List ApplicationView) (selected : Option ℕ) (chain : ChainSta
   abbrev value : List ℕ
   value = chain.bytes ++ content
 
-  -- its data are answered with this status, and the card is then in this state
+  -- its data get this status, and the card is then in this state
   abbrev Leads : StatusWord → CardState → Type 0
   Leads status new = Does state cut
       (taken_with (record { header = h; p3 = length content; cut = cut }) content status) new
@@ -140,7 +140,7 @@ module _ (held : List ApplicationView) (selected : Option ℕ) (chain : ChainSta
   bytes_are : chained state.pending ≡ chain.bytes
   bytes_are = chained-bytes (entries_at held selected) chain response is standing.alone
 
-  -- the limit of the chain is kept
+  -- the chain keeps to the limit
   pub joins_room : length chain.bytes + length content ≤ VALUE_LIMIT
   joins_room = omega (
     arith,
@@ -163,7 +163,7 @@ module _ (held : List ApplicationView) (selected : Option ℕ) (chain : ChainSta
     alone = λ some. absurd (cc);
   }
 
-  -- a piece joins the chain, and is undone where the answer is not handed out
+  -- a piece joins the chain, and is removed again if SW2 is not sent
   pub piece_is_taken : (status : StatusWord) → h.cla ≡ 0x10 → status ≡ ok
       → TakesPut held held selected chain (added chain h content) response h cut content status
       (ready.Joins (length_before chain)) None
@@ -203,7 +203,7 @@ module _ (held : List ApplicationView) (selected : Option ℕ) (chain : ChainSta
       chosen None some = some
       chosen (Some i) some = refl
 
-  -- its value can be put there
+  -- the value can be put there
   pub can_put : (i : ℕ) → selected ≡ Some i → CanPut held i h value
   can_put i here =
       let (a, at_place) = there held i
@@ -229,7 +229,7 @@ module _ (held : List ApplicationView) (selected : Option ℕ) (chain : ChainSta
       split a at_place (Some tag) e some free =
           (a, tag, at_place, e, free, omega (arith, length-append chain.bytes content, joins_room))
 
-  -- the value, and what it is answered
+  -- the value, and its status
   put_answered : (tag : List ℕ) (status : StatusWord) (new : CardState) → h.cla ≡ 0x00
       → named_tag h.p1 h.p2 ≡ Some tag → Answers state (Put tag value) (reply status) new
       → Leads status (with_pending new NothingPending)
@@ -263,7 +263,7 @@ module _ (held : List ApplicationView) (selected : Option ℕ) (chain : ChainSta
             (wants_memory tag value a.entries chosen wants.1)
       ])
 
-  -- the last piece, or the only one, makes the value that is put
+  -- the last piece, or the only one, completes the value to put
   pub last_is_taken : (i : ℕ) (new : List ApplicationView) (status : StatusWord) (next : Ready)
       (new_value : Option NewValue) → selected ≡ Some i → h.cla ≢ 0x10
       → IsPut held i h value new status next new_value

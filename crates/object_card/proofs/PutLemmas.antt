@@ -1,4 +1,4 @@
--- A value has one status with which it is put among some entries.
+-- A put of a value among some entries has one status.
 use Rattle.std.proofs.Common.{◌≡◌, ◌<◌, ◌≤◌, ℕ, List, length, true, false, ◌⊎◌, inl, inr, refl, ap, arith, Bool}
 use Rattle.std.specs.Prelude.{is_some}
 use Rattle.apdu_core.specs.StatusWord.{StatusWord, ok}
@@ -6,7 +6,7 @@ use Rattle.object_card.specs.declared.limits.TheConstants.{ENTRY_LIMIT, VALUE_LI
 use Rattle.object_card.specs.Tables.{Entry, value_under, is_locked, IsValueOf}
 use Rattle.object_card.specs.OneStep.{PutStatus, not_allowed, wrong_length, wrong_data, no_space, stored}
 
--- the first of the reasons, with what fails before it
+-- the first reason that holds, with the tests before it that fail
 abbrev IsFirst : (locked held : Bool) (size count : ℕ) (Kind : Type 0) → StatusWord → Type 0
 IsFirst locked held size count Kind s = ((locked ≡ true) × (s ≡ (0x69, 0x82)))
     ⊎ ((locked ≡ false) × (((VALUE_LIMIT < size) × (s ≡ (0x67, 0x00)))

@@ -47,7 +47,7 @@ refuses_space entries tag value status is free within kind new full =
       no_space free within kind new full,
     )
 
--- the applications from a place on begin with the one there
+-- the applications from a place on begin with the one at that place
 pub drop-at : (held : List ApplicationView) (i : ℕ) (a : ApplicationView) → slice_get held i
     ≡ Some a → drop i held ≡ a ∷ drop (suc i) held
 drop-at [] i a is = absurd (cc)

@@ -44,7 +44,7 @@ byte-value front value len sent at long fits past within =
     ∙ get_or-append_right (take len front) value len (sent + at) 0
     (omega (arith, length-take len front, long, fits)) past)
 
--- it has fewer bytes than a number may count
+-- its length fits into a number
 pub begun-small : (front value : List ℕ) (len sent : ℕ) → len ≤ 20 → sent
     ≤ length (take len front ++ value) → sent ≤ 20 + length value
 begun-small front value len sent fits begun =

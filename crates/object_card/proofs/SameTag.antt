@@ -1,4 +1,4 @@
--- Two tags are equal to the code exactly where they have the same bytes.
+-- The code finds two tags equal exactly if they have the same bytes.
 use Rattle.std.proofs.Common.{◌≡◌, ◌≢◌, ℕ, ◌-◌, List, [], ◌∷◌, ◌++◌, length, Bool, true, false, ◌&&◌, refl, sym, ap, subst, ◌∙◌, replicate, eqb, inl, inr}
 use Rattle.std.proofs.lemmas.Bool.Decides.{eqb_tells}
 use Rattle.std.specs.Cmp.Lexicographic.{pointwise, as_long}
@@ -16,7 +16,7 @@ pub itself : (p : List ℕ) → pointwise eqb p p ≡ true
 itself [] = refl
 itself (x ∷ p) = rw (same_as_itself x, itself p) refl
 
--- the same after lists of one length makes no difference
+-- equal bytes after lists of equal length do not matter
 same_end : (a b p : List ℕ) → length a ≡ length b → pointwise eqb (a ++ p) (b ++ p)
     ≡ pointwise eqb a b
 same_end [] [] p e = itself p

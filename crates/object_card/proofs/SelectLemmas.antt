@@ -1,4 +1,4 @@
--- What stands once an application is selected.
+-- The card once an application is selected.
 use Rattle.std.proofs.Common.{◌≡◌, ◌∙◌, ℕ, ◌<◌, List, length, Option, Some, None, true, refl, sym, ap, subst, arith}
 use Rattle.std.specs.Prelude.{slice_get, option_map, is_some, IfSome}
 use Rattle.std.proofs.lemmas.List.{append-nil}
@@ -31,7 +31,7 @@ misses_does held selected chain response h cut aid status asked select none is =
     (state_of held selected (idle chain.limit) None) in
     subst Answered (sym is) (misses_application h aid asked.taken select none)
 
--- where the response begins
+-- all of the response is left
 pub information_left : (entries : List Entry) (r : Response) (aid : List ℕ)
     → IsWhole r (control_information aid) None → left_of entries r ≡ control_information aid
 information_left entries r aid whole = whole_left entries r (control_information aid) None whole

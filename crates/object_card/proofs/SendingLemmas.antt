@@ -1,4 +1,4 @@
--- What stands once bytes are sent.
+-- The card once bytes are sent.
 use Rattle.std.proofs.Common.{◌≡◌, ◌∙◌, ℕ, zero, suc, ◌+◌, ◌<◌, ◌≤◌, List, [], ◌∷◌, length, take, drop, Option, Some, None, Bool, true, false, refl, sym, ap, subst, arith, length-append, length-drop, length-take}
 use Rattle.std.specs.Prelude.{unwrap_or, option_map, IfSome, if◌then◌else◌, ◌==◌, ◌||◌}
 use Rattle.std.specs.List.{AllByRecursion}

@@ -47,18 +47,18 @@ selection_moves : (before : List Tpdu) (t : Tpdu) → is_selecting t ≡ true �
     ≡ Some t.sent
 selection_moves before t is = rw is refl
 
--- the bytes of a chain that goes on with this header
+-- the bytes of a chain that this header continues
 abbrev chained_for : Header → Pending → List ℕ
 chained_for h NothingPending = []
 chained_for h (ChainPending p1 p2 bytes) = if (p1 == h.p1) && (p2 == h.p2) then bytes else []
 chained_for h (ResponsePending left) = []
 
--- the state has what the TPDUs since the last reset tell
+-- the state agrees with the TPDUs since the last reset
 record Tells (before : List Tpdu) (state : CardState) : Type 0 where
   selected_is : state.selected ≡ selected_by before
   chained_is : (h : Header) → is_put h ≡ true → run_before h before ≡ chained_for h state.pending
 
--- a TPDU that is no piece and selects nothing
+-- a TPDU that is not a piece and selects nothing
 tells_ended : (before : List Tpdu) (t : Tpdu) (old new : CardState) → is_selecting t ≡ false
     → ((h : Header) → is_put h ≡ true → is_piece_for h t ≡ false)
     → new.selected ≡ old.selected → ((h : Header) → chained_for h new.pending ≡ [])
@@ -68,7 +68,7 @@ tells_ended before t old new other ends same none tells = record {
   chained_is = λ h put. run_ends h before t (ends h put) ∙ sym (none h);
 }
 
--- no piece where the status is none
+-- a TPDU with another status than 9000 is not a piece
 not_ok_no_piece : (h : Header) (t : Tpdu) → is_ok t.status ≡ false → is_piece_for h t ≡ false
 not_ok_no_piece h t other = and_right _ (is_ok t.status) other
 
@@ -111,7 +111,7 @@ chained_where (ChainPending p1 p2 bytes) h g goes_on first second =
     rw (same_first, same_second) refl
 chained_where (ResponsePending left) h g goes_on first second = refl
 
--- a piece goes on with the run of its header, and is a run of its own for every other
+-- a piece continues the run of its header, and breaks the runs of all others
 piece_is_kept : (before : List Tpdu) (t : Tpdu) (g : Header) (pending : Pending) (bytes : List ℕ)
     → is_put g ≡ true → t.header.cla ≡ 0x10 → is_put t.header ≡ true
     → t.status ≡ ok → pending ≡ ChainPending t.header.p1 t.header.p2 (bytes ++ t.sent)
@@ -176,7 +176,7 @@ tells_on before old new cut t (puts_value h bytes tag answer next e ins cla name
     (λ g is. other_class_no_piece g t (rw cla refl))
     (put_keeps_selection old next tag (chained old.pending ++ bytes) answer put) (λ g. refl) tells
 
--- what shows no put leaves the tables
+-- a TPDU that shows no put leaves the tables unchanged
 shows_none : (before : List Tpdu) (t : Tpdu) (applications : List Application) → is_stored t ≡ false
     → applications ≡ with_puts (shown_by before t) applications
 shows_none before t applications other = rw other refl
@@ -228,7 +228,7 @@ tables_after before (Cut_off part ∷ items) old new runs tells =
     tables_after [] items (after_reset old) new runs.1
     (record { selected_is = refl; chained_is = λ g put. refl })
 
--- From a state with nothing selected and nothing pending, a history leaves the first tables with
+-- From a state with nothing selected and nothing pending, a history leads to the first tables with
 -- the puts that it shows.
 pub tables_are_shown : (first last : CardState) (items : List Item) → first.selected ≡ None
     → first.pending ≡ NothingPending

@@ -15,7 +15,7 @@ aid = 0xA0 ∷ 0x00 ∷ 0x00 ∷ 0x00 ∷ 0x03 ∷ 0x10 ∷ 0x10 ∷ []
 abbrev other_aid : List ℕ
 other_aid = 0xA0 ∷ 0x00 ∷ 0x00 ∷ 0x00 ∷ 0x04 ∷ 0x10 ∷ 0x10 ∷ []
 
--- a command that sends the card these bytes, which all move, and its status
+-- a command that sends these bytes to the card, where they all move, and its status
 abbrev sent : ℕ → ℕ → ℕ → ℕ → List ℕ → StatusWord → Item
 sent cla ins p1 p2 bytes status = Whole (record {
   body = record {
@@ -31,14 +31,14 @@ sent cla ins p1 p2 bytes status = Whole (record {
 abbrev select : List ℕ → Item
 select aid = sent 0x00 0xA4 0x04 0x00 aid (0x61, 0x0B)
 
--- 5F20 is put, and a piece of it comes
+-- 5F20 is put, and a piece of it is sent
 abbrev put : List ℕ → Item
 put bytes = sent 0x00 0xDA 0x5F 0x20 bytes (0x90, 0x00)
 
 abbrev piece : List ℕ → Item
 piece bytes = sent 0x10 0xDA 0x5F 0x20 bytes (0x90, 0x00)
 
--- a GET DATA that is refused
+-- a refused GET DATA
 abbrev refused_get : StatusWord → Item
 refused_get status = Whole (record {
   body = record {

@@ -1,4 +1,4 @@
--- The entries of an application, as they stand in its map.
+-- The entries of an application, as its map holds them.
 use Rattle.std.proofs.Common.{◌≡◌, ℕ, List, [], ◌∷◌, map, Option, Some, None, Bool, true, false, refl, sym, ap, cond, ◌∙◌, ◌<◌, ◌⊎◌, inl, inr, Ok, Err, Result}
 use Rattle.std.specs.Prelude.{slice_get, unwrap_or, option_map, is_some, IfSome, IsOk, OnOk, OnErr, if◌then◌else◌}
 use Rattle.std.specs.Map.{lookup, values_of}
@@ -8,7 +8,7 @@ use Rattle.object_card.specs.Tables.{Entry, same_bytes, value_under, is_locked, 
 use Rattle.object_card.specs.CardFields.{value_at}
 
 module _ {V : Type 0} (value : V → List ℕ) (locked : V → Bool) where
-  -- the entry that a pair of the map is
+  -- a pair of the map as an entry
   abbrev pub entry_of : List ℕ × V → Entry
   entry_of e = record { tag = e.0; value = value e.1; locked = locked e.1 }
 
@@ -124,7 +124,7 @@ module _ {V : Type 0} (value : V → List ℕ) (locked : V → Bool) where
           ap (λ o. unwrap_or (option_map value o) []) same
           ∙ sym (ap (λ o. unwrap_or (option_map (λ e. e.value) o) []) entry)
 
--- what an Ok says, where it is one
+-- what an Ok shows
 pub when_ok : {T E : Type 0} {P : Type 0} (r : Result T E) (x : T) → r ≡ Ok x → OnOk r P → P
 when_ok (Ok y) x e p = p
 when_ok (Err y) x e p = absurd (cc)

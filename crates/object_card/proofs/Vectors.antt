@@ -35,7 +35,7 @@ abbrev entries_with : List ℕ → List Entry
 entries_with value = record { tag = name_tag; value = value; locked = false }
     ∷ record { tag = 0x50 ∷ []; value = 0x41 ∷ []; locked = false } ∷ []
 
--- the card that holds these entries
+-- the card with these entries
 abbrev card : List Entry → Option (List ℕ) → Pending → CardState
 card entries selected pending =
     record {
@@ -45,7 +45,7 @@ card entries selected pending =
       pending = pending;
     }
 
--- as it is after a reset, and with its application selected
+-- the card after a reset, and with its application selected
 abbrev fresh : CardState
 fresh = card (entries_with name) None NothingPending
 
@@ -105,7 +105,7 @@ chained_select = refl
 no_tag : refusal ready (head 0x00 0xCA 0x00 0xFF) 0 ≡ Some (0x6A, 0x86)
 no_tag = refl
 
--- wrong P1-P2 come before a wrong length
+-- wrong P1-P2 are reported before a wrong length
 select_of_other_parameters : refusal ready (head 0x00 0xA4 0x00 0x00) 4 ≡ Some (0x6A, 0x86)
 select_of_other_parameters = refl
 
@@ -131,7 +131,7 @@ up_to_the_limit = refl
 wrong_le : refusal ready (head 0x00 0xCA 0x5F 0x20) 0 ≡ Some (0x6C, 0x06)
 wrong_le = refl
 
--- a value is replaced in its place, and a new tag goes last
+-- a value is replaced in place, and a new tag is appended
 in_place : with_value name_tag (0x42 ∷ []) (entries_with name) ≡ entries_with (0x42 ∷ [])
 in_place = refl
 
@@ -153,7 +153,7 @@ abbrev first_byte : Option StatusWord → ℕ
 first_byte None = 0
 first_byte (Some status) = status.0
 
--- an unknown instruction is told before that it is not chained, and that before wrong parameters
+-- an unknown instruction is reported before unsupported chaining, and that before wrong parameters
 chained_B0 : refusal ready (head 0x10 0xB0 0x00 0x00) 0 ≡ Some (0x6D, 0x00)
 chained_B0 = refl
 
@@ -168,7 +168,7 @@ chained_select_of_other_parameters = refl
 chained_select_is_not_6A86 : refusal ready (head 0x10 0xA4 0x00 0x00) 7 ≡ Some (0x6A, 0x86) → ⊥
 chained_select_is_not_6A86 e = let no : 0x68 ≡ 0x6A = ap first_byte e in omega (arith, no)
 
--- parameters that name no tag are told before that nothing is selected
+-- parameters that name no tag are reported before a missing selection
 no_tag_before_a_selection : refusal fresh (head 0x00 0xCA 0x00 0xFF) 0 ≡ Some (0x6A, 0x86)
 no_tag_before_a_selection = refl
 
@@ -184,7 +184,7 @@ locked_last_piece : refusal (guarded NothingPending) (head 0x00 0xDA 0x00 0x50) 
     ≡ Some (0x69, 0x82)
 locked_last_piece = refl
 
--- near miss: a lock that refuses the last piece alone
+-- near miss: a lock that refuses only the last piece
 locked_first_piece : refusal (guarded NothingPending) (head 0x10 0xDA 0x00 0x50) 255
     ≡ Some (0x69, 0x82)
 locked_first_piece = refl
@@ -206,7 +206,7 @@ locked_is_not_put : PutStatus (locked_entries (0x41 ∷ [])) (0x50 ∷ []) (repl
     (0x69, 0x82)
 locked_is_not_put = not_allowed refl
 
--- a put keeps the mark
+-- a put keeps the lock
 mark_stays : with_value (0x50 ∷ []) (0x42 ∷ []) (locked_entries (0x41 ∷ []))
     ≡ locked_entries (0x42 ∷ [])
 mark_stays = refl
@@ -225,7 +225,7 @@ select_row : Does fresh 256 (tpdu (head 0x00 0xA4 0x04 0x00) 7 aid [] (0x61, 0x0
     (card (entries_with name) (Some aid) (ResponsePending (control_information aid)))
 select_row = selects_application (head 0x00 0xA4 0x04 0x00) aid refl refl refl
 
--- 00A4040007 and another one: 6A82, and the selection stays
+-- 00A4040007 and another identifier: 6A82, and the selection is kept
 select_nothing_row : Does ready 256 (tpdu (head 0x00 0xA4 0x04 0x00) 7 other_aid [] (0x6A, 0x82))
     ready
 select_nothing_row = misses_application (head 0x00 0xA4 0x04 0x00) other_aid refl refl refl
@@ -236,7 +236,7 @@ response_row : Does (card (entries_with name) (Some aid)
     (tpdu (head 0x00 0xC0 0x00 0x00) 11 [] (control_information aid) (0x90, 0x00)) ready
 response_row = sends (head 0x00 0xC0 0x00 0x00) 11 refl refl
 
--- 00C000000C: 6C0B, and the response stays
+-- 00C000000C: 6C0B, and the response is kept
 longer_response_row : Does (card (entries_with name) (Some aid)
     (ResponsePending (control_information aid))) 256
     (tpdu (head 0x00 0xC0 0x00 0x00) 12 [] [] (0x6C, 0x0B))
@@ -279,7 +279,7 @@ put_row = puts_value (head 0x00 0xDA 0x5F 0x20) (0xAA ∷ 0xBB ∷ []) name_tag 
     (card (entries_with (0xAA ∷ 0xBB ∷ [])) (Some aid) NothingPending) refl refl refl address
     (stores name_tag (0xAA ∷ 0xBB ∷ []) aid (entries_with name) refl refl two_bytes_fit)
 
--- the same, where memory is wanted: 6581, and the entry stays
+-- the same if memory runs out: 6581, and the entry is unchanged
 put_without_memory_row : Does ready 256 (tpdu (head 0x00 0xDA 0x5F 0x20) 2 (0xAA ∷ 0xBB ∷ []) []
     (0x65, 0x81)) ready
 put_without_memory_row = puts_value (head 0x00 0xDA 0x5F 0x20) (0xAA ∷ 0xBB ∷ []) name_tag
@@ -304,7 +304,7 @@ empty_piece_row : Does ready 256 (tpdu (head 0x10 0xDA 0x5F 0x20) 0 [] [] (0x90,
     (in_chain [])
 empty_piece_row = chains (head 0x10 0xDA 0x5F 0x20) [] refl refl refl
 
--- 00DA007003 500541: 6A80, since the value of 50 passes the end
+-- 00DA007003 500541: 6A80, since the value of 50 extends past the end
 cut_value : AreObjects (0x50 ∷ 0x05 ∷ 0x41 ∷ []) 2 → ⊥
 cut_value objects =
     let first : IsFirstFault (0x50 ∷ 0x05 ∷ 0x41 ∷ []) 2 0 ValueCut =
@@ -335,7 +335,7 @@ wrong_data_row = puts_value (head 0x00 0xDA 0x00 0x70) (0x50 ∷ 0x05 ∷ 0x41 �
     (λ e. let no : 0x6A ≡ 0x90 = ap (λ s. s.0) e in absurd (omega (arith, no)))
     (wrong_data refl (omega arith) (λ value_of. cut_value (value_of refl))))
 
--- 00DA007006 005081014100: 9000; padding and the long length are kept as they were sent
+-- 00DA007006 005081014100: 9000; padding and the long length are stored as sent
 abbrev Zero : ℕ → Type 0
 Zero b = b ≡ 0
 
@@ -381,12 +381,12 @@ get_padded_row : Does (card with_template (Some aid) NothingPending) 256
     (card with_template (Some aid) NothingPending)
 get_padded_row = sends (head 0x00 0xCA 0x00 0x70) 8 refl refl
 
--- so many entries: DF01, DF02 and so on
+-- n entries: DF01, DF02 and so on
 abbrev numbered : ℕ → List Entry
 numbered zero = []
 numbered (suc n) = numbered n ++ record { tag = 0xDF ∷ suc n ∷ []; value = []; locked = false } ∷ []
 
--- a new tag where 64 entries are held: 6A84; a tag that is held is stored
+-- a new tag if there are 64 entries: 6A84; a tag that is present is stored
 sixty_four : length (numbered 64) ≡ 64
 sixty_four = refl
 

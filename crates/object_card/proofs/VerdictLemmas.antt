@@ -1,4 +1,4 @@
--- What a verdict on a header leaves ready, and what a header that is not refused has to send.
+-- What a verdict on a header prepares, and what a header that is not refused sends.
 use Rattle.std.proofs.Common.{◌≡◌, ◌≢◌, ◌∙◌, ℕ, zero, suc, ◌≤◌, List, [], length, Option, Some, None, Bool, true, false, inl, inr, refl, sym, ap, subst, arith}
 use Rattle.std.specs.Prelude.{unwrap_or, option_map, IfSome, IsSome, if◌then◌else◌, ◌==◌, ◌&&◌, ◌||◌, nat_lt}
 use Rattle.std.proofs.lemmas.Bool.{true≢false, ltb-false, not-false}
@@ -67,7 +67,7 @@ refused_does held selected chain response next ask status is leaves =
     ∙ ap (λ r. state_of held selected (idle chain.limit) r) (sym leaves))
     (refuses ask.header ask.p3 status is)
 
--- a next state without a chain stands
+-- a next state without a chain is in effect
 pub leaves_standing : (held : List ApplicationView) (selected : Option ℕ) (chain : ChainState)
     (response next : Option Response)
     → IsStanding held selected chain response → IfSome next (IsResponse (entries_at held selected))

@@ -1,11 +1,11 @@
--- Which commands may be carried out with a card: both ends know from them which way data move.
+-- The commands on whose direction of data both ends agree.
 use Rattle.std.specs.Prelude.{ℕ, List, [], ◌∷◌, Option, Some, None}
 use Rattle.apdu_core.specs.CommandBytes.{Command}
 use Rattle.object_card.specs.CarryingOut.{get_response}
 
--- In case 2 the card never takes data under the INS; in cases 1, 3 and 4 it never sends any; and
--- in cases 2 and 4 it never takes data under GET RESPONSE, which may follow (ISO/IEC 7816-3,
--- 10.3.1: the direction is no part of a header).
+-- In case 2 the card never takes data under the INS. In cases 1, 3 and 4 it never sends any. In
+-- cases 2 and 4 it never takes data under GET RESPONSE, which may follow (ISO/IEC 7816-3, 10.3.1: a
+-- header does not contain the direction).
 abbrev pub IsAgreed : (ℕ → Type 0) → (ℕ → Type 0) → Command → Type 0
 IsAgreed MayReceive MaySend c = AgreedBy c.content c.le where
   AgreedBy : List ℕ → Option ℕ → Type 0

@@ -1,4 +1,4 @@
--- What an operation is answered does not hang on what is pending; how a put is answered.
+-- The reply to an operation does not depend on what is pending; the reply to a put.
 use Rattle.std.proofs.Common.{◌≡◌, ℕ, List, Some, None, true, refl, sym, ap, subst, ◌∙◌}
 use Rattle.std.specs.Prelude.{is_some, option_and_then}
 use Rattle.object_card.specs.Tables.{entries_in, with_object}
@@ -11,7 +11,7 @@ same_entries a b same =
     ap (λ apps. option_and_then (λ aid. entries_in aid apps) a.selected) same.0
     ∙ ap (λ chosen. option_and_then (λ aid. entries_in aid b.applications) chosen) same.1
 
--- A card with the same tables gives the same answer, and has then the same tables.
+-- A card with the same tables gives the same reply, and has the same tables afterwards.
 pub answers_alike : (a b a' : CardState) (operation : Operation) (answer : Reply) → SameTables a b
     → Answers a operation answer a'
     → (b' : CardState) × Answers b operation answer b' × SameTables a' b'
@@ -39,7 +39,7 @@ answers_alike a b a' operation answer same (does_not_store tag value entries sta
 answers_alike a b a' operation answer same (wants_memory tag value entries is put) =
     (b, wants_memory tag value entries (sym (same_entries a b same) ∙ is) put, same)
 
--- A put is answered with a status and no data.
+-- The reply to a put has a status and no data.
 pub put_is_bare : (old new : CardState) (tag value : List ℕ) (answer : Reply)
     → Answers old (Put tag value) answer new → answer ≡ reply answer.status
 put_is_bare old new tag value answer (none_selected op kind none) = refl

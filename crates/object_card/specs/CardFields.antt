@@ -1,4 +1,4 @@
--- What the code holds, as contracts see it.
+-- How contracts see the fields of the code.
 use Rattle.std.specs.Prelude.{◌≡◌, ◌⊎◌, ℕ, ◌≤◌, ◌<◌, List, [], ◌++◌, length, take, drop, map, Option, Some, None, true, is_some, IfSome, slice_get, unwrap_or, option_map}
 use Rattle.apdu_core.specs.Chaining.{ChainState}
 use Rattle.apdu_core.specs.declared.header.Header.{Header}
@@ -6,13 +6,13 @@ use Rattle.object_card.specs.Tables.{Entry, Application, value_under}
 use Rattle.object_card.specs.State.{CardState, Pending, NothingPending, ChainPending, ResponsePending}
 use Rattle.object_card.specs.declared.response.Response.{Response}
 
--- an application, and how many more data objects it takes without memory
+-- an application, and the number of data objects that it can add without allocating
 pub record ApplicationView : Type 0 where
   pub aid : List ℕ
   pub entries : List Entry
   pub room : ℕ
 
--- a data object with this tag can be stored without memory
+-- a data object with this tag can be stored without allocating
 abbrev pub HasPlace : ApplicationView → List ℕ → Type 0
 HasPlace a tag = (is_some (value_under tag a.entries) ≡ true) ⊎ (0 < a.room)
 
@@ -35,21 +35,21 @@ abbrev pub value_at : List Entry → Option ℕ → List ℕ
 value_at entries None = []
 value_at entries (Some place) = unwrap_or (option_map (λ e. e.value) (slice_get entries place)) []
 
--- a response whole, and what is left of it
+-- a whole response
 abbrev pub whole_of : List Entry → Response → List ℕ
 whole_of entries r = take r.len r.front ++ value_at entries r.value
 
 abbrev pub left_of : List Entry → Response → List ℕ
 left_of entries r = drop r.sent (whole_of entries r)
 
--- it keeps to its room, its value is there, and no more is sent than there is
+-- It keeps to its buffer, its value is present, and no more is sent than it contains.
 pub record IsResponse (entries : List Entry) (r : Response) : Type 0 where
   pub room : length r.front ≡ 20
   pub within : r.len ≤ 20
   pub is_held : IfSome r.value (λ place. place < length entries)
   pub begun : r.sent ≤ length (whole_of entries r)
 
--- a response of which nothing is sent: what stands before its value, and the place of that, if any
+-- a response before its first byte: the bytes before its value, and the place of that value, if any
 pub record IsWhole (r : Response) (front : List ℕ) (value : Option ℕ) : Type 0 where
   pub front_is : take r.len r.front ≡ front
   pub value_is : r.value ≡ value
@@ -57,7 +57,7 @@ pub record IsWhole (r : Response) (front : List ℕ) (value : Option ℕ) : Type
   pub room : length r.front ≡ 20
   pub within : r.len ≤ 20
 
--- the chain that is pending, if any
+-- the pending chain, if any
 abbrev pub chain_pending : Option Header → List ℕ → Pending
 chain_pending None bytes = NothingPending
 chain_pending (Some h) bytes = ChainPending h.p1 h.p2 bytes

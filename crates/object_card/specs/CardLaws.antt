@@ -1,4 +1,4 @@
--- What no TPDU does, whatever the state.
+-- What no TPDU does, in any state.
 use Rattle.std.proofs.Common.{◌≡◌, ℕ, List, [], ◌++◌, Some, ◌⊎◌, inl, inr, refl, ap, arith, ◌≢◌, Bool, true, false, ◌∙◌}
 use Rattle.apdu_core.specs.StatusWord.{StatusWord, ok}
 use Rattle.t0_core.specs.Meaning.{Tpdu}
@@ -12,7 +12,7 @@ use Rattle.std.proofs.lemmas.Bool.{eqb-true, and_left, and_right}
 use Rattle.object_card.specs.ShownPuts.{is_ok}
 use Rattle.object_card.specs.StepLaws.{refused_step}
 
--- every status but 9000 is another
+-- a status other than 9000 is not 9000
 pub not_ok : (status : StatusWord) → status ≢ ok → is_ok status ≡ false
 not_ok status other = split (status.0 == 0x90) (status.1 == 0x00) refl refl
   where
@@ -23,8 +23,8 @@ not_ok status other = split (status.0 == 0x90) (status.1 == 0x00) refl refl
     split true false first second = and_right (status.0 == 0x90) (status.1 == 0x00) second
     split false b first second = and_left (status.0 == 0x90) (status.1 == 0x00) first
 
--- What a put that is answered so leaves: the state as it was, or, with 9000, with this value in the
--- application that is selected.
+-- The state after a put with this status: unchanged, or with this value in the selected application
+-- if the status is 9000.
 abbrev pub PutLeaves : CardState → List ℕ → List ℕ → StatusWord → CardState → Type 0
 PutLeaves old tag value status new = ((is_ok status ≡ false) × (new ≡ old))
     ⊎ ((aid : List ℕ) × (entries : List Entry) × (is_ok status ≡ true)
@@ -47,7 +47,7 @@ put_keeps_selection old new tag value reply h = elim (put_leaves old new tag val
   | inr w ↦ ap (λ s. s.selected) w.6
 ]
 
--- A command that is not the last of its chain changes no entry.
+-- A command that is followed by more of its chain changes no entry.
 pub chaining_keeps_applications : (old new : CardState) (cut : ℕ) (tpdu : Tpdu)
     → Does old cut tpdu new → tpdu.header.cla ≡ 0x10
     → new.applications ≡ old.applications
@@ -56,7 +56,7 @@ chaining_keeps_applications old new cut tpdu
     absurd (omega (arith, cla, more))
 chaining_keeps_applications _ _ _ _ _ _ = refl
 
--- A header that is refused moves no data, and has that status.
+-- A refused header moves no data, and has that status.
 pub refused_moves_nothing : (old new : CardState) (cut : ℕ) (tpdu : Tpdu) (status : StatusWord)
     → Does old cut tpdu new
     → refusal old tpdu.header tpdu.p3 ≡ Some status → (tpdu.sent ≡ []) × (tpdu.received ≡ [])

@@ -1,5 +1,5 @@
--- What one TPDU does to a card (ISO/IEC 7816-4, SELECT, GET DATA, PUT DATA and GET RESPONSE; that
--- 6CXX comes before any data, and 61XX after a part of them: this project's profile).
+-- What one TPDU does to a card (ISO/IEC 7816-4, SELECT, GET DATA, PUT DATA and GET RESPONSE). That
+-- 6CXX comes before any data, and 61XX after a part of them, is this project's profile.
 use Rattle.std.specs.Prelude.{◌≡◌, ℕ, suc, ◌%◌, min, List, [], ◌∷◌, ◌++◌, length, take, drop, Some, None, true, ◌==◌, ◌&&◌, ◌||◌, is_some, if◌then◌else◌}
 use Rattle.apdu_core.specs.declared.header.Header.{Header}
 use Rattle.apdu_core.specs.StatusWord.{StatusWord, ok, count}
@@ -10,12 +10,13 @@ use Rattle.object_card.specs.State.{CardState, Pending, NothingPending, ChainPen
 use Rattle.object_card.specs.OneStep.{Put, Reply, Answers, control_information}
 use Rattle.object_card.specs.Refusals.{is_select, is_get, is_put, is_get_response, to_send, refusal}
 
--- 61XX announces what is left, at most the cut of it; where nothing is left, 9000 ends the command.
+-- 61XX announces the number of bytes left, at most the cut. If nothing is left, 9000 ends the
+-- command.
 abbrev pub announcing : List ℕ → ℕ → StatusWord
 announcing [] cut = ok
 announcing (b ∷ left) cut = (0x61, min (suc (length left)) cut % 256)
 
--- What is pending after a refusal: a response, as it was, after 6CXX to a GET RESPONSE, and else
+-- What is pending after a refusal: the response, unchanged, after 6CXX to a GET RESPONSE; otherwise
 -- nothing.
 abbrev pub after_refusal : Header → StatusWord → Pending → Pending
 after_refusal h status NothingPending = NothingPending
@@ -24,8 +25,8 @@ after_refusal h status (ResponsePending left) =
     if is_get_response h && (status.0 == 0x6C) then ResponsePending left else NothingPending
 
 -- What one TPDU does, under this cut. All P3 bytes of a SELECT or a PUT DATA move, unless its
--- header is refused; of a GET DATA or a GET RESPONSE as many as P3 counts. The value of a PUT DATA
--- with CLA 00 is the bytes of the chain and its own, and the chain is then over.
+-- header is refused. A GET DATA or a GET RESPONSE brings as many as P3 states. The value of a PUT
+-- DATA with CLA 00 is the bytes of the chain followed by its own; the chain has then ended.
 pub data Does : CardState → ℕ → Tpdu → CardState → Type 0 where
   refuses : {old : CardState} {cut : ℕ} (h : Header) (p3 : ℕ) (status : StatusWord)
       → refusal old h p3 ≡ Some status

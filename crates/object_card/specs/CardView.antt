@@ -1,4 +1,4 @@
--- How a card's fields are seen.
+-- How contracts see a card.
 use Rattle.std.specs.Prelude.{◌≡◌, ℕ, ◌≤◌, ◌<◌, List, [], length, take, Option, Some, None, IfSome, IsSome, option_map, unwrap_or, Bool, true, false, ◌||◌, if◌then◌else◌, not, is_none}
 use Rattle.apdu_core.specs.declared.header.Header.{Header}
 use Rattle.apdu_core.specs.Chaining.{ChainState, idle}
@@ -14,30 +14,30 @@ use Rattle.object_card.specs.Tables.{is_locked}
 use Rattle.object_card.specs.Refusals.{refusal, is_select, is_put, is_get, is_get_response, to_send}
 use Rattle.object_card.specs.CardFields.{ApplicationView, HasPlace, IsResponse, held_at, entries_at, left_of, state_of}
 
--- the state that stands, and what is made ready
+-- the state in effect, and what is prepared
 pub record CardView : Type 0 where
   pub state : CardState
   pub prepared : Prepared CardState
 
--- a value that is put: its tag, and its bytes
+-- a value to put: its tag, and its bytes
 abbrev pub NewValue : Type 0
 NewValue = List ℕ × List ℕ
 
--- the chain as it was, before a piece joined it
+-- the chain before a piece joined it
 abbrev pub chain_before : ChainState → Option ℕ → ChainState
 chain_before chain None = idle chain.limit
 chain_before chain (Some len) = record chain { bytes = take len chain.bytes }
 
--- how many bytes the chain has that is pending, if one is
+-- the number of bytes in the pending chain, if there is one
 abbrev pub length_before : ChainState → Option ℕ
 length_before chain = option_map (λ first. length chain.bytes) chain.pending
 
--- the chain that stands
+-- the chain in effect
 abbrev pub standing_chain : ChainState → Ready → ChainState
 standing_chain chain (ready.Joins before) = chain_before chain before
 standing_chain chain _ = chain
 
--- what is selected and pending once the answer is handed out, and whether a chain is
+-- what will be selected and pending once SW2 is sent, and whether a chain will be
 abbrev pub selected_after : Ready → Option ℕ → Option ℕ
 selected_after (ready.Selects application response) selected = Some application
 selected_after _ selected = selected
@@ -51,13 +51,13 @@ abbrev pub keeps_chain : Ready → Bool
 keeps_chain (ready.Joins before) = true
 keeps_chain _ = false
 
--- whether no chain stands, where the chain is pending or not: a piece that joins one changes
--- nothing yet
+-- Whether no chain is in effect, if the chain is pending or not. A piece that joins one has no
+-- effect yet.
 abbrev pub stands_idle : Ready → Bool → Bool
 stands_idle (ready.Joins before) pending = is_none before || not pending
 stands_idle _ pending = not pending
 
--- the chain once the answer is handed out
+-- the chain once SW2 is sent
 abbrev pub settled_chain : ChainState → Ready → ChainState
 settled_chain chain next = if keeps_chain next then chain else idle chain.limit
 
@@ -67,7 +67,7 @@ state_with state None = state
 state_with state (Some value) =
     with_pending (with_put state (unwrap_or state.selected []) value.0 value.1) NothingPending
 
--- what is prepared, where this is the state that stands
+-- what is prepared, in this state
 abbrev pub prepared_of : List ApplicationView → Option ℕ → ChainState → Option Response → Ready
     → Option NewValue → Prepared CardState
 prepared_of held selected chain response ready.Nothing put = Nothing
@@ -92,8 +92,8 @@ view_of held selected chain response ready put = record {
   prepared = prepared_of held selected chain response ready put;
 }
 
--- The fields, apart from what is ready: a sound state; a chain of PUT DATA alone; a response that
--- is held, where no chain is pending.
+-- The fields except what is prepared: a sound state; only a chain of PUT DATA; a pending response
+-- only if no chain is pending.
 pub record IsStanding (held : List ApplicationView) (selected : Option ℕ) (chain : ChainState)
     (response : Option Response) : Type 0 where
   pub sound : IsCardState (state_of held selected chain response)
@@ -110,7 +110,7 @@ pub record IsAsked (state : CardState) (h : Header) (p3 cut : ℕ) : Type 0 wher
   pub cut_from : 1 ≤ cut
   pub cut_to : cut ≤ 256
 
--- what is ready fits what stands
+-- what is prepared suits the state
 abbrev pub IsReady : List ApplicationView → Option ℕ → ChainState → Option Response → Ready
     → Option NewValue → Type 0
 IsReady held selected chain response ready.Nothing put = put ≡ None
@@ -136,7 +136,7 @@ IsReady held selected chain response ready.Stores put =
     × (is_locked tag a.entries ≡ false)
     × IsCardState (state_with (state_of held selected chain response) put)
 
--- what the fields keep
+-- the invariant of the fields
 pub record IsCard (held : List ApplicationView) (selected : Option ℕ) (chain : ChainState)
     (response : Option Response) (ready : Ready) (put : Option NewValue) : Type 0 where
   pub standing : IsStanding held selected (standing_chain chain ready) response

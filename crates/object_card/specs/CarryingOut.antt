@@ -1,5 +1,5 @@
--- How an operation is carried out with a card: its commands, a TPDU each, and GET RESPONSE for what
--- waits (ISO/IEC 7816-3, clause 12.2.1; ISO/IEC 7816-4, SELECT, GET DATA, PUT DATA and 5.1.1.1).
+-- How an operation is carried out with a card: its commands, one TPDU each, and GET RESPONSE for
+-- what waits (ISO/IEC 7816-3, 12.2.1; ISO/IEC 7816-4, SELECT, GET DATA, PUT DATA and 5.1.1.1).
 use Rattle.std.specs.Prelude.{◌≡◌, ◌≢◌, ℕ, List, [], ◌∷◌, ◌++◌, length, take, drop, Some, None, true}
 use Rattle.apdu_core.specs.declared.header.Header.{Header}
 use Rattle.apdu_core.specs.StatusWord.{StatusWord, ok, count, announces}
@@ -12,8 +12,8 @@ use Rattle.object_card.specs.State.{CardState, is_idle, waiting, pending_of}
 use Rattle.object_card.specs.OneStep.{Operation, Answers, SameTables}
 use Rattle.object_card.specs.CardMeaning.{Does, announcing}
 
--- The headers: SELECT by identifier, GET DATA, PUT DATA as the last of its chain, and GET RESPONSE,
--- whose class is that of no chain and no channel (this project's profile).
+-- The headers: SELECT by identifier, GET DATA, PUT DATA as the last of its chain, and GET RESPONSE.
+-- The class of GET RESPONSE has no chaining and channel 0 (profile).
 abbrev pub select_header : Header
 select_header = record { cla = 0x00; ins = ins_of Select; p1 = 0x04; p2 = 0x00 }
 
@@ -26,7 +26,7 @@ put_header p1 p2 = record { cla = 0x00; ins = ins_of PutData; p1 = p1; p2 = p2 }
 abbrev pub get_response : Header
 get_response = record { cla = 0x00; ins = ins_of GetResponse; p1 = 0x00; p2 = 0x00 }
 
--- The operation is answered so in one step, the tables are what that leaves, and no chain is
+-- The operation gets this reply in one step, the tables are those afterwards, and no chain is
 -- pending.
 abbrev pub IsCarriedOut : CardState → Operation → StatusWord → List ℕ → CardState → Type 0
 IsCarriedOut old operation status content new =
@@ -34,26 +34,26 @@ IsCarriedOut old operation status content new =
     after
     × SameTables after new × (is_idle new.pending ≡ true)
 
--- the TPDU of a command that sends data: P3 counts them, and the card takes a front of them, all or
--- none
+-- the TPDU of a command that sends data: P3 is their number, and the card takes all of them or the
+-- first ones
 pub record Carries (header : Header) (content : List ℕ) (t : Tpdu) : Type 0 where
   pub header_is : t.header ≡ header
   pub counts : t.p3 ≡ length content
   pub takes : (rest : List ℕ) × (content ≡ t.sent ++ rest)
 
--- the command is answered with this status, under some cut
+-- the command gets this status, under some cut
 abbrev pub IsAnswered : CardState → Command → StatusWord → CardState → Type 0
 IsAnswered old c status new =
     (cut : ℕ) × (t : Tpdu) × Carries c.header c.content t × (t.status ≡ status) × Does old cut t new
 
--- the commands come in turn, and each is answered 9000
+-- the commands follow in turn, and each gets 9000
 abbrev pub AreTaken : CardState → List Command → CardState → Type 0
 AreTaken old [] new = new ≡ old
 AreTaken old (c ∷ commands) new = (mid : CardState) × IsAnswered old c ok mid
     × AreTaken mid commands new
 
--- The commands come in turn, up to the first that is answered with another status than 9000; with
--- the status of the last that came.
+-- The commands follow in turn, up to the first whose status is not 9000. The status is that of the
+-- last one.
 pub data EndsWith (old : CardState) (commands : List Command) (new : CardState) : StatusWord
     → Type 0 where
   all_taken : AreTaken old commands new → EndsWith old commands new ok
@@ -70,8 +70,8 @@ AreFetches old (t ∷ others) new =
     (cut : ℕ) × (mid : CardState) × (t.header ≡ get_response) × Does old cut t mid
     × AreFetches mid others new
 
--- After this status all that is announced is fetched, and what is announced then, until a status
--- announces no more. That is the last.
+-- After this status the terminal fetches all that is announced, and again, until a status announces
+-- no more. That status is the last.
 abbrev pub FetchAll : CardState → StatusWord → List Tpdu → StatusWord → CardState → Type 0
 FetchAll old status [] last new = (announces status ≡ None) × (last ≡ status) × (new ≡ old)
 FetchAll old status (t ∷ others) last new =
@@ -79,8 +79,8 @@ FetchAll old status (t ∷ others) last new =
     × (count t.p3 ≡ n)
     × IsCut cut × Does old cut t mid × FetchAll mid t.status others last new
 
--- What a fetch of no more than what waits brings: as many bytes as P3 counts, and word of what is
--- left.
+-- A fetch of no more than what waits brings as many bytes as P3 states, and its status announces
+-- what is left.
 pub record IsFetched (old : CardState) (cut : ℕ) (t : Tpdu) (new : CardState) : Type 0 where
   pub brought : t.received ≡ take (count t.p3) (waiting old.pending)
   pub left : new.pending ≡ pending_of (drop (count t.p3) (waiting old.pending))

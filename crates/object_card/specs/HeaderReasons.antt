@@ -1,12 +1,12 @@
--- How the refusals of a header are found in turn.
+-- The order in which the code looks for reasons to refuse a header.
 use Rattle.std.specs.Prelude.{List, [], ◌∷◌}
 use Rattle.object_card.specs.Refusals.{Reason, UnknownClass, UnknownInstruction, NotChained, WrongParameters, NoApplicationSelected, NoResponsePending, LockedEntry, NoSuchObject, ValueTooLong, NoIdentifier, MoreThanIsLeft}
 
--- the reasons that the header alone tells
+-- the reasons that depend on the header alone
 abbrev pub of_form : List Reason
 of_form = UnknownClass ∷ UnknownInstruction ∷ NotChained ∷ WrongParameters ∷ []
 
--- those that the card's state tells
+-- those that depend on the card's state
 abbrev pub of_state : List Reason
 of_state = NoApplicationSelected ∷ NoResponsePending ∷ LockedEntry ∷ NoSuchObject ∷ ValueTooLong
     ∷ NoIdentifier ∷ MoreThanIsLeft ∷ []

@@ -1,4 +1,4 @@
--- An instruction and its INS, and that under one data move one way alone.
+-- Instructions and their INS; each INS moves data in one direction only.
 use Rattle.std.proofs.Common.{◌≡◌, ◌∙◌, ℕ, Some, None, Bool, true, false, refl, sym, ap}
 use Rattle.std.specs.Prelude.{IsSome, is_some, unwrap_or, if◌then◌else◌, ◌==◌, ◌||◌}
 use Rattle.std.proofs.lemmas.Bool.{true≢false, eqb-true}
@@ -12,14 +12,14 @@ found GetData = refl
 found PutData = refl
 found GetResponse = refl
 
--- No data come from the card under an INS under which data go to it.
+-- No data come from the card under an INS that sends data to it.
 pub one_way : (ins : ℕ) → MayReceive ins → MaySend ins → ⊥
 one_way ins (i, is, takes) (j, other, gives) =
     let same : Some i ≡ Some j = sym (found i) ∙ ap instruction_of (sym is ∙ other) ∙ found j in
     let e : i ≡ j = cc in
     true≢false (sym takes ∙ ap takes_data e ∙ gives)
 
--- an INS that the card takes is that of an instruction
+-- an INS that the card accepts is that of an instruction
 pub known_some : (n : ℕ) → ((n == 0xA4) || (n == 0xCA) || (n == 0xDA) || (n == 0xC0)) ≡ true
     → IsSome (instruction_of n)
 known_some n = split (n == 0xA4) (n == 0xCA) (n == 0xDA) (n == 0xC0)

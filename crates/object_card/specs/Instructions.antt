@@ -1,5 +1,5 @@
--- The instructions that a card of data objects takes: the byte INS of each, and which way its data
--- move (ISO/IEC 7816-4, SELECT, GET DATA, PUT DATA and GET RESPONSE).
+-- The instructions of a card of data objects: the INS of each, and the direction of its data
+-- (ISO/IEC 7816-4, SELECT, GET DATA, PUT DATA and GET RESPONSE).
 use Rattle.std.specs.Prelude.{◌≡◌, ℕ, Option, Some, None, Bool, true, false, ◌==◌, if◌then◌else◌}
 use Rattle.object_card.specs.declared.instructions.Instruction.{Instruction}
 use Rattle.object_card.specs.declared.instructions.Instruction.TheVariants.{Select, GetData, PutData, GetResponse}
@@ -11,24 +11,24 @@ ins_of GetData = 0xCA
 ins_of PutData = 0xDA
 ins_of GetResponse = 0xC0
 
--- whether its data go to the card; else they come from it
+-- whether data go to the card; otherwise they come from it
 abbrev pub takes_data : Instruction → Bool
 takes_data Select = true
 takes_data GetData = false
 takes_data PutData = true
 takes_data GetResponse = false
 
--- the instruction with this INS, if the card takes it
+-- the instruction with this INS, if the card accepts it
 abbrev pub instruction_of : ℕ → Option Instruction
 instruction_of ins =
     if ins == ins_of Select then Some Select else if ins == ins_of GetData then Some GetData
     else if ins == ins_of PutData then Some PutData
     else if ins == ins_of GetResponse then Some GetResponse else None
 
--- data to the card may follow an instruction that takes them, and no other INS
+-- data to the card may follow this INS
 abbrev pub MayReceive : ℕ → Type 0
 MayReceive ins = (i : Instruction) × (ins ≡ ins_of i) × (takes_data i ≡ true)
 
--- data from the card may follow an instruction that does not, and no other INS
+-- data from the card may follow this INS
 abbrev pub MaySend : ℕ → Type 0
 MaySend ins = (i : Instruction) × (ins ≡ ins_of i) × (takes_data i ≡ false)

@@ -1,4 +1,4 @@
--- The card that answers a whole operation in one step (ISO/IEC 7816-4, SELECT, GET DATA and PUT
+-- The card that carries out a whole operation in one step (ISO/IEC 7816-4, SELECT, GET DATA and PUT
 -- DATA).
 use Rattle.std.specs.Prelude.{◌≡◌, ◌≢◌, ℕ, ◌<◌, ◌≤◌, List, [], ◌∷◌, length, Some, None, ◌⊎◌, Bool, true, false, is_some}
 use Rattle.apdu_core.specs.StatusWord.{StatusWord, ok}
@@ -7,7 +7,7 @@ use Rattle.object_card.specs.declared.limits.TheConstants.{VALUE_LIMIT, ENTRY_LI
 use Rattle.object_card.specs.Tables.{Entry, IsValueOf, is_locked, value_under, entries_in, with_object}
 use Rattle.object_card.specs.State.{CardState, selected_entries, with_selected}
 
--- what SELECT, GET DATA and PUT DATA are asked for
+-- a SELECT, GET DATA or PUT DATA with all its data
 pub data Operation : Type 0 where
   Select : (aid : List ℕ) → Operation
   Get : (tag : List ℕ) → Operation
@@ -18,17 +18,18 @@ is_selection (Select aid) = true
 is_selection (Get tag) = false
 is_selection (Put tag value) = false
 
--- the answer to an operation
+-- the reply to an operation
 pub record Reply : Type 0 where
   pub status : StatusWord
   pub content : List ℕ
 
--- a status without data
+-- a reply without data
 abbrev pub reply : StatusWord → Reply
 reply status = record { status = status; content = [] }
 
--- The file control information of an application: 6F, which holds 84, which holds the identifier
--- (ISO/IEC 7816-4, file control information; nothing else in it: this project's profile).
+-- The file control information of an application: 6F, which contains 84, which contains the
+-- identifier (ISO/IEC 7816-4, file control information). That it contains nothing else is this
+-- project's profile.
 abbrev pub control_information : List ℕ → List ℕ
 control_information aid = object_bytes (0x6F ∷ []) (object_bytes (0x84 ∷ []) aid)
 
@@ -37,9 +38,9 @@ abbrev pub with_put : CardState → List ℕ → List ℕ → List ℕ → CardS
 with_put state aid tag value =
     record state { applications = with_object aid tag value state.applications }
 
--- How a value is put among these entries: the first that holds of a locked entry, wrong length,
--- wrong data, and no space for a new tag (the order, the mark and the limits: this project's
--- profile).
+-- The status of a put among these entries: the first that holds of a locked entry, a wrong length,
+-- wrong data, and no space for a new tag. The order, the lock and the limits are this project's
+-- profile.
 pub data PutStatus (entries : List Entry) (tag value : List ℕ) : StatusWord → Type 0 where
   not_allowed : is_locked tag entries ≡ true → PutStatus entries tag value (0x69, 0x82)
   wrong_length : is_locked tag entries ≡ false → VALUE_LIMIT < length value
@@ -54,8 +55,8 @@ pub data PutStatus (entries : List Entry) (tag value : List ℕ) : StatusWord �
       → (is_some (value_under tag entries) ≡ true) ⊎ (length entries < ENTRY_LIMIT)
       → PutStatus entries tag value ok
 
--- What an operation is answered. What is pending is no matter here. Only a value that would be
--- stored may want memory (6581), and then the card stays as it was.
+-- The reply to an operation, and the state after it. What is pending has no effect. Memory can run
+-- out (6581) only for a value that would be stored; the card is then unchanged.
 pub data Answers (old : CardState) : Operation → Reply → CardState → Type 0 where
   selects : (aid : List ℕ) → is_some (entries_in aid old.applications) ≡ true
       → Answers old (Select aid) (record { status = ok; content = control_information aid })
@@ -82,7 +83,7 @@ pub data Answers (old : CardState) : Operation → Reply → CardState → Type 
   wants_memory : (tag value : List ℕ) (entries : List Entry) → selected_entries old ≡ Some entries
       → PutStatus entries tag value ok → Answers old (Put tag value) (reply (0x65, 0x81)) old
 
--- the same applications, and the same one selected
+-- the same applications, and the same selection
 abbrev pub SameTables : CardState → CardState → Type 0
 SameTables a b = (a.applications ≡ b.applications) × (a.selected ≡ b.selected)
 

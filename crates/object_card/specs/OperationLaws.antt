@@ -1,4 +1,4 @@
--- A SELECT and a GET DATA, with all that is fetched after them, are an operation in one step.
+-- A SELECT or a GET DATA, with all its fetches, is an operation in one step.
 use Rattle.std.proofs.Common.{◌≡◌, ℕ, ◌<◌, ◌≤◌, ◌/◌, ◌%◌, List, [], ◌∷◌, ◌++◌, length, take, drop, Option, Some, None, Bool, true, false, refl, sym, ap, subst, ◌∙◌, arith, length-append}
 use Rattle.std.specs.Prelude.{if◌then◌else◌, ◌||◌, not, is_some, is_none, nat_lt, option_and_then, unwrap_or}
 use Rattle.std.specs.Option.{option_map}
@@ -29,7 +29,7 @@ use Rattle.object_card.specs.ResponseLaws.{announces_some, fetched, rest_waits, 
 abbrev all_brought : List Tpdu → List ℕ
 all_brought ts = flat_map (λ t. t.received) ts
 
--- nothing is fetched where nothing is announced
+-- if nothing is announced, nothing is fetched
 none_fetched : (old new : CardState) (status last : StatusWord) (fetches : List Tpdu)
     → announces status ≡ None → FetchAll old status fetches last new
     → (all_brought fetches ≡ []) × (last ≡ status) × (new ≡ old)
@@ -42,7 +42,7 @@ announces_nothing : (cut : ℕ) (left : List ℕ) → announces (announcing left
 announces_nothing cut [] none = refl
 announces_nothing cut (b ∷ left) none = absurd (cc)
 
--- what all the fetches bring is what waited
+-- all fetches together bring what waited
 pub record IsBrought (left : List ℕ) (fetches : List Tpdu) (old new : CardState) (last : StatusWord)
     : Type 0 where
   pub whole : flat_map (λ t. t.received) fetches ≡ left
@@ -85,14 +85,14 @@ all_is_fetched old new cut status last left (t ∷ fetches) is waits idle told
       idle = after.idle;
     }
 
--- no header breaks a chain that is not there
+-- if no chain is pending, no header breaks one
 unbroken : (pending : Pending) (h : Header) → is_idle pending ≡ true
     → breaks_chain pending h ≡ false
 unbroken NothingPending h idle = refl
 unbroken (ChainPending p1 p2 bytes) h idle = absurd (true≢false (sym idle))
 unbroken (ResponsePending left) h idle = refl
 
--- an operation is carried out where it is answered so
+-- an operation is carried out if it gets this reply
 carried_out : (old after new : CardState) (operation : Operation) (status last : StatusWord)
     (content brought : List ℕ)
     → Answers old operation (record { status = status; content = content }) after → last ≡ status
@@ -110,7 +110,7 @@ carried_out old after new operation status last content brought answers same_sta
       idle,
     )
 
--- A card with the same tables carries it out so.
+-- A card with the same tables carries it out in the same way.
 pub carried_out_alike : (a b new : CardState) (operation : Operation) (status : StatusWord)
     (content : List ℕ) → SameTables a b
     → IsCarriedOut a operation status content new → IsCarriedOut b operation status content new
@@ -131,7 +131,7 @@ select_is_taken state aid idle is =
       le-ltb 16 (length aid) is.1,
     ) refl
 
--- A SELECT and all that is fetched after it select in one step.
+-- A SELECT with all its fetches selects in one step.
 pub select_is_carried_out : (old mid new : CardState) (cut : ℕ) (aid : List ℕ) (t : Tpdu)
     (fetches : List Tpdu) (last : StatusWord) → is_idle old.pending ≡ true → IsAid aid
     → IsCut cut → Carries select_header aid t → Does old cut t mid
@@ -184,13 +184,13 @@ select_is_carried_out old mid new cut aid t fetches last idle is in_range carrie
 
 -- ---- GET DATA
 
--- the object with this tag, where there is one
+-- the object with this tag, if there is one
 abbrev object_of : Option (List ℕ) → Option (List Entry) → Option (List ℕ)
 object_of tag entries =
     option_and_then (λ t. option_and_then (λ es. option_map (object_bytes t) (value_under t es))
     entries) tag
 
--- how an object is refused, or not
+-- why an object is refused, as a status, if it is
 abbrev refused_with : ℕ → Option (List ℕ) → Option StatusWord
 refused_with p3 object =
     if is_none object then Some (0x6A, 0x88) else if nat_lt (length (unwrap_or object []))
@@ -202,7 +202,7 @@ first_of_get broken p3 tag entries =
     else if is_none entries then Some (0x69, 0x85)
     else refused_with p3 (object_of tag entries)
 
--- how a GET DATA for a tag is refused, or not, and what there is to send
+-- how a GET DATA for a tag is refused, or what it sends
 data GetCase (state : CardState) (tag : List ℕ) (p3 : ℕ) : Option StatusWord → List ℕ → Type 0 where
   case_refused : (status : StatusWord) → Answers state (Get tag) (reply status) state
       → announces status ≡ None → corrects status ≡ None → GetCase state tag p3 (Some status) []
@@ -265,7 +265,7 @@ get_case state tag p1 p2 p3 idle is_named =
                 (case_given entries value e k
                 (ltb-false (length (object_bytes tag value)) (count p3) l))
 
--- the value under a tag of the application that is selected
+-- the value under a tag of the selected application
 pub record IsHeld (state : CardState) (tag value : List ℕ) : Type 0 where
   pub entries : List Entry
   pub is_selected : selected_entries state ≡ Some entries
@@ -299,16 +299,16 @@ some_bytes tag value =
         split false true = omega arith
         split false false = omega arith
 
--- a number that is some counts itself
+-- a number other than 0 is its own count
 pub count_of_some : (n : ℕ) → 1 ≤ n → count n ≡ n
 count_of_some n some = rw (ne_eqb n 0 (λ e. omega (arith, e, some))) refl
 
--- what tells what is left tells no count
+-- a status that announces what is left is not 6CXX
 pub no_correction : (left : List ℕ) (cut : ℕ) → corrects (announcing left cut) ≡ None
 no_correction [] cut = refl
 no_correction (b ∷ left) cut = refl
 
--- a TPDU of which the header is refused
+-- a TPDU with a refused header
 record Stops (old : CardState) (t : Tpdu) (new : CardState) (status : StatusWord) : Type 0 where
   status_is : t.status ≡ status
   none_received : t.received ≡ []
@@ -327,7 +327,7 @@ stops old new cut t status does refused =
           ∙ refusal_drops_chain t.header status old.pending;
     }
 
--- how a GET DATA ends, or goes on
+-- how a GET DATA ends, or continues
 pub data GetStep (old : CardState) (tag : List ℕ) (cut : ℕ) (t : Tpdu) (new : CardState)
     : Type 0 where
   get_refused : Answers old (Get tag) (reply t.status) old → announces t.status ≡ None
@@ -378,7 +378,7 @@ get_step old new tag p1 p2 cut t idle is header does =
               (ap (λ s. s.pending) new_is ∙ ap (λ bs. pending_of (drop (count t.p3) bs)) w)
         ]
 
--- A GET DATA and all that is fetched after it get the object in one step.
+-- A GET DATA with all its fetches gets the object in one step.
 pub get_is_carried_out : (old mid new : CardState) (tag : List ℕ) (p1 p2 cut : ℕ) (t : Tpdu)
     (fetches : List Tpdu) (last : StatusWord) → is_idle old.pending ≡ true
     → NamesTag tag p1 p2 → t.header ≡ get_header p1 p2 → IsCut cut → Does old cut t mid
@@ -409,8 +409,8 @@ get_is_carried_out old mid new tag p1 p2 cut t fetches last idle is header in_ra
           (same.0 ∙ more.same.0, same.1 ∙ more.same.1) more.idle
     ]
 
--- A GET DATA that comes again with the count that a 6CXX tells, and all that is fetched then, get
--- the object in one step.
+-- A GET DATA that is repeated with the length of a 6CXX, with all its fetches, gets the object in
+-- one step.
 pub get_again_is_carried_out : (old next mid new : CardState) (tag : List ℕ)
     (p1 p2 before cut n : ℕ) (t u : Tpdu) (fetches : List Tpdu) (last : StatusWord)
     → is_idle old.pending ≡ true → NamesTag tag p1 p2 → t.header ≡ get_header p1 p2

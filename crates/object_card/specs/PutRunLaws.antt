@@ -1,4 +1,4 @@
--- The commands of a value's chain are a put in one step.
+-- The commands of a value's chain are one put.
 use Rattle.std.proofs.Common.{◌≡◌, ◌≢◌, ℕ, ◌+◌, ◌≤◌, List, [], ◌∷◌, ◌++◌, length, Some, None, true, false, ◌⊎◌, inl, inr, refl, sym, ap, subst, ◌∙◌, arith, append-nil, append_assoc, length-append}
 use Rattle.std.specs.Prelude.{◌==◌}
 use Rattle.std.specs.List.{concat}
@@ -19,7 +19,7 @@ use Rattle.object_card.specs.RefusalLaws.{is_refusing, refusal_drops_chain, IsPu
 use Rattle.object_card.specs.StepLaws.{put_step, put_refused, is_chained, is_ended}
 use Rattle.object_card.specs.AnswerLaws.{answers_alike, put_is_bare}
 
--- where as many bytes have moved as there are, they are those
+-- if the number of bytes moved is the number given, they are the given ones
 pub all_have_moved : (bytes moved rest : List ℕ) → bytes ≡ moved ++ rest
     → length bytes ≡ length moved → bytes ≡ moved
 all_have_moved bytes moved [] is same = is ∙ append-nil moved
@@ -30,7 +30,7 @@ other_than_ok : (status : StatusWord) → (status.0 == 0x90) ≡ false → statu
 other_than_ok status differs is =
     true≢false (sym (ap (λ (s : StatusWord). s.0 == 0x90) is) ∙ differs)
 
--- a refusal of a command of the chain is the answer to the whole value
+-- the refusal of a command of the chain is the reply to the whole value
 refusal_answers : (state : CardState) (tag value : List ℕ) (p3 : ℕ) (status : StatusWord)
     → length (chained state.pending) + p3 ≤ length value
     → IsPutRefusal state tag p3 status → Answers state (Put tag value) (reply status) state
@@ -43,7 +43,7 @@ refusal_answers state tag value p3 status long (is_too_long entries is free long
     does_not_store tag value entries (0x67, 0x00) is (other_than_ok (0x67, 0x00) refl)
     (wrong_length free (omega (arith, long, longer)))
 
--- a value has a piece, and its pieces together are the value
+-- a value has a first piece, and its pieces concatenate to it
 some_piece : (value : List ℕ) (pieces : List (List ℕ)) → IsPieces value pieces
     → (first : List ℕ) × (others : List (List ℕ)) × (pieces ≡ first ∷ others)
     × (concat pieces ≡ value)
@@ -51,7 +51,7 @@ some_piece [] pieces is = ([], [], is, ap concat is)
 some_piece (b ∷ bytes) [] is = absurd is.1
 some_piece (b ∷ bytes) (first ∷ others) is = (first, others, refl, is.0)
 
--- where commands come to their end: the first is answered otherwise, or the others come to it
+-- either the first command gets another status, or the others end with this one
 ends_first : (old new : CardState) (c : Command) (commands : List Command) (status : StatusWord)
     → EndsWith old (c ∷ commands) new status
     → (IsAnswered old c status new × (status ≢ ok))
@@ -109,7 +109,7 @@ module _ (tag : List ℕ) (p1 p2 : ℕ) (is_named : NamesTag tag p1 p2) where
       ]
   suits_goes_on (ResponsePending left) bytes h which suits = refl
 
-  -- the card has these bytes of the value, and its tables are as they were
+  -- the card has these bytes of the value, and its tables are unchanged
   record IsGathering (old mid : CardState) (bytes : List ℕ) : Type 0 where
     same : SameTables mid old
     suits : Suits mid.pending bytes
@@ -143,7 +143,7 @@ module _ (tag : List ℕ) (p1 p2 : ℕ) (is_named : NamesTag tag p1 p2) where
         ap (λ s. is_idle s.pending) is ∙ refusal_drops_chain t.header t.status mid.pending,
       )
 
-  -- a command that is not the last is taken, or its refusal ends the put
+  -- a command that is followed by more of its chain is taken, or its refusal ends the put
   piece_step : (old mid new : CardState) (piece bytes value : List ℕ) (status : StatusWord)
       → IsGathering old mid bytes
       → IsAnswered mid (record {
@@ -287,7 +287,7 @@ module _ (tag : List ℕ) (p1 p2 : ℕ) (is_named : NamesTag tag p1 p2) where
   suits_idle (ChainPending q1 q2 came) idle = absurd (true≢false (sym idle))
   suits_idle (ResponsePending left) idle = refl
 
-  -- The commands of a value's chain, up to the first that is not answered 9000, are the put of the
+  -- The commands of a value's chain, up to the first whose status is not 9000, are the put of the
   -- value.
   pub chain_is_put : (old new : CardState) (value : List ℕ) (pieces : List (List ℕ))
       (status : StatusWord) → is_idle old.pending ≡ true → IsPieces value pieces

@@ -1,4 +1,4 @@
--- How a header is refused: with which statuses, and what holds where it is not.
+-- The statuses of refused headers, and what holds if a header is not refused.
 use Rattle.std.proofs.Common.{◌≡◌, ℕ, ◌+◌, ◌<◌, List, [], ◌∷◌, length, Option, Some, None, Bool, true, false, ◌⊎◌, inl, inr, refl, subst}
 use Rattle.std.specs.Prelude.{if◌then◌else◌, ◌==◌, ◌&&◌, not, is_some, is_none, nat_lt, bit_and}
 use Rattle.std.proofs.lemmas.Bool.{ltb-true, not-false, and_parts, eqb-true}
@@ -41,12 +41,12 @@ first_is_refusing state h p3 (r ∷ rs) status is =
         more (subst (λ b. (if b then Some (status_for state h r) else first_of_them state h p3 rs)
         ≡ Some status) e is)
 
--- A header is refused neither with 9000, nor with 61XX, nor with 6581.
+-- A header is never refused with 9000, 61XX or 6581.
 pub is_refusing : (state : CardState) (h : Header) (p3 : ℕ) (status : StatusWord)
     → refusal state h p3 ≡ Some status → IsRefusing status
 is_refusing state h p3 status is = first_is_refusing state h p3 in_order status is
 
--- A header that does not break a chain is one of its own.
+-- A header that does not break a chain belongs to it.
 pub is_of_its_chain : (p1 p2 : ℕ) (bytes : List ℕ) (h : Header)
     → breaks_chain (ChainPending p1 p2 bytes) h ≡ false
     → (bit_and h.cla 0xEF ≡ 0x00) × (h.ins ≡ 0xDA) × (h.p1 ≡ p1) × (h.p2 ≡ p2)
@@ -63,8 +63,7 @@ is_of_its_chain p1 p2 bytes h goes_on =
       eqb-true h.p2 p2 second,
     )
 
--- What holds where nothing is pending, and where the response is that was pending, holds after a
--- refusal.
+-- A property of no pending command, and of the response that was pending, holds after a refusal.
 pub after_refusal_holds : (P : Pending → Type 0) (h : Header) (status : StatusWord)
     (pending : Pending) → P NothingPending
     → ((left : List ℕ) → pending ≡ ResponsePending left → P (ResponsePending left))
@@ -77,13 +76,13 @@ after_refusal_holds P h status (ResponsePending left) nothing waits =
     kept false = nothing
 after_refusal_holds _ _ _ _ nothing _ = nothing
 
--- Nothing of a chain is left after a refusal.
+-- No chain is pending after a refusal.
 pub refusal_drops_chain : (h : Header) (status : StatusWord) (pending : Pending)
     → is_idle (after_refusal h status pending) ≡ true
 refusal_drops_chain h status pending =
     after_refusal_holds (λ p. is_idle p ≡ true) h status pending refl (λ left e. refl)
 
--- the first of the reasons that a PUT DATA may be refused for
+-- the first of the reasons for which a PUT DATA may be refused
 abbrev first_of_put : Bool → Bool → Bool → Bool → Bool → Option StatusWord
 first_of_put broken unnamed unselected locked long =
     if broken then Some (0x68, 0x83) else if unnamed then Some (0x6A, 0x86) else if unselected

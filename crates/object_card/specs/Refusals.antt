@@ -1,5 +1,4 @@
--- The refusals of a header (status words: ISO/IEC 7816-4, 5.1.3; their order: this project's
--- profile).
+-- Why a header is refused (status words: ISO/IEC 7816-4, 5.1.3; their order: profile).
 use Rattle.std.specs.Prelude.{ℕ, ◌+◌, ◌%◌, List, [], ◌∷◌, length, Option, Some, None, Bool, false, ◌==◌, ◌&&◌, ◌||◌, not, nat_lt, nat_le, is_some, is_none, if◌then◌else◌, option_and_then, unwrap_or, bit_and}
 use Rattle.std.specs.Option.{option_map}
 use Rattle.apdu_core.specs.declared.header.Header.{Header}
@@ -24,15 +23,15 @@ is_put h = h.ins == ins_of PutData
 abbrev pub is_get_response : Header → Bool
 is_get_response h = h.ins == ins_of GetResponse
 
--- 00, and 10, which says that the command is not the last of its chain; GET DATA also 80
+-- 00, or 10, which means that more commands of the chain follow; for GET DATA also 80
 abbrev pub class_is_known : Header → Bool
 class_is_known h = (h.cla == 0x00) || (h.cla == 0x10) || ((h.cla == 0x80) && is_get h)
 
 abbrev pub instruction_is_known : Header → Bool
 instruction_is_known h = is_select h || is_get h || is_put h || is_get_response h
 
--- A chain is pending, and INS, P1, P2 or CLA but for bit 5 are not the chain's (ISO/IEC 7816-4,
--- 5.1.1.1).
+-- A chain is pending, and CLA (except bit 5), INS, P1 or P2 differs from the chain's (ISO/IEC
+-- 7816-4, 5.1.1.1).
 abbrev pub breaks_chain : Pending → Header → Bool
 breaks_chain NothingPending h = false
 breaks_chain (ChainPending p1 p2 bytes) h =
@@ -40,7 +39,7 @@ breaks_chain (ChainPending p1 p2 bytes) h =
 breaks_chain (ResponsePending left) h = false
 
 -- The tag that P1-P2 name, if any: `NamesTag`, as a function (ISO/IEC 7816-4, GET DATA and PUT
--- DATA; which tags: this project's profile).
+-- DATA; which tags: profile).
 abbrev pub named_tag : ℕ → ℕ → Option (List ℕ)
 named_tag p1 p2 =
     if p1 == 0 then (if nat_le 0x40 p2 && nat_le p2 0xFE
@@ -48,14 +47,14 @@ named_tag p1 p2 =
     else (if nat_le 0x5F p1 && nat_lt p1 256 && (p1 % 32 == 31) && nat_lt 0 p2
     && nat_lt p2 0x80 then Some (p1 ∷ p2 ∷ []) else None)
 
--- SELECT by identifier has P1-P2 0400, GET RESPONSE 0000; those of GET DATA and PUT DATA name a tag
+-- P1-P2 are 0400 for SELECT, 0000 for GET RESPONSE, and name a tag for GET DATA and PUT DATA
 abbrev pub parameters_fit : Header → Bool
 parameters_fit h =
     if is_select h then (h.p1 == 0x04) && (h.p2 == 0x00)
     else if is_get_response h then (h.p1 == 0x00) && (h.p2 == 0x00)
     else is_some (named_tag h.p1 h.p2)
 
--- the object that a GET DATA asks for, whole
+-- the whole object that a GET DATA asks for
 abbrev pub object_asked : CardState → Header → Option (List ℕ)
 object_asked state h =
     option_and_then (λ tag. option_and_then
@@ -63,7 +62,7 @@ object_asked state h =
     (selected_entries state))
     (named_tag h.p1 h.p2)
 
--- what a GET RESPONSE or a GET DATA has to send
+-- the bytes that a GET RESPONSE or a GET DATA may send
 abbrev pub to_send : CardState → Header → List ℕ
 to_send state h = if is_get_response h then waiting state.pending else unwrap_or
     (object_asked state h) []
@@ -96,7 +95,7 @@ in_order =
     ∷ NoApplicationSelected ∷ NoResponsePending
     ∷ LockedEntry ∷ NoSuchObject ∷ ValueTooLong ∷ NoIdentifier ∷ MoreThanIsLeft ∷ []
 
--- where each holds
+-- when each reason holds
 abbrev pub holds : CardState → Header → ℕ → Reason → Bool
 holds state h p3 OtherThanItsChain = breaks_chain state.pending h
 holds state h p3 UnknownClass = not (class_is_known h)
@@ -113,7 +112,7 @@ holds state h p3 NoIdentifier = is_select h && (nat_lt p3 5 || nat_lt 16 p3)
 holds state h p3 MoreThanIsLeft = (is_get h || is_get_response h)
     && nat_lt (length (to_send state h)) (count p3)
 
--- how each is answered
+-- the status for each reason
 abbrev pub status_for : CardState → Header → Reason → StatusWord
 status_for state h OtherThanItsChain = (0x68, 0x83)
 status_for state h UnknownClass = (0x6E, 0x00)
@@ -128,13 +127,13 @@ status_for state h ValueTooLong = (0x67, 0x00)
 status_for state h NoIdentifier = (0x67, 0x00)
 status_for state h MoreThanIsLeft = (0x6C, length (to_send state h))
 
--- the answer to the first of the reasons that holds
+-- the status for the first of these reasons that holds
 abbrev pub first_of_them : CardState → Header → ℕ → List Reason → Option StatusWord
 first_of_them state h p3 [] = None
 first_of_them state h p3 (reason ∷ others) =
     if holds state h p3 reason then Some (status_for state h reason) else first_of_them state h p3
     others
 
--- the status with which a header is refused, if it is
+-- why a header is refused, as a status, if it is
 abbrev pub refusal : CardState → Header → ℕ → Option StatusWord
 refusal state h p3 = first_of_them state h p3 in_order

@@ -1,5 +1,5 @@
--- What a card announces waits, and is brought where it is fetched; no exchange brings more than a
--- value and its head.
+-- What a card announces waits, and a fetch brings it. No exchange brings more than a value and its
+-- head.
 use Rattle.std.proofs.Common.{◌≡◌, ℕ, suc, ◌+◌, ◌%◌, ◌≤◌, min, List, [], ◌∷◌, length, take, drop, Some, None, Bool, true, false, refl, sym, ap, subst, ◌∙◌, arith, length-append, length-take, length-drop}
 use Rattle.std.specs.Prelude.{if◌then◌else◌, ◌==◌, ◌||◌, nat_lt}
 use Rattle.std.specs.List.{flat_map}
@@ -18,7 +18,7 @@ use Rattle.object_card.specs.StepLaws.{send_step, send_refused, is_sent}
 use Rattle.object_card.specs.RefusalLaws.{is_refusing, after_refusal_holds}
 use Rattle.object_card.specs.StateLaws.{stays_sound, waiting_length, to_send_length}
 
--- a count of 1 to 256, told in a byte
+-- a length of 1 to 256, encoded in a byte
 count_told : (n : ℕ) → 1 ≤ n → n ≤ 256 → count (n % 256) ≡ n
 count_told n low high = split (n % 256 == 0) refl
   where
@@ -26,7 +26,7 @@ count_told n low high = split (n % 256 == 0) refl
     split true e = omega (arith, low, high, eqb-true (n % 256) 0 e)
     split false e = omega (arith, low, high, eqb-false (n % 256) 0 e)
 
--- What is announced is the smaller of the cut and what is left.
+-- The announced length is the smaller of the cut and the number of bytes left.
 pub announced_count : (left : List ℕ) (cut n : ℕ) → IsCut cut
     → announces (announcing left cut) ≡ Some n → n ≡ min (length left) cut
 announced_count [] cut n is announced = absurd (cc)
@@ -71,7 +71,7 @@ pub rest_waits : (left : List ℕ) → waiting (pending_of left) ≡ left
 rest_waits [] = refl
 rest_waits (b ∷ left) = refl
 
--- No chain is pending where a response may wait.
+-- No chain is pending if a response may wait.
 pub rest_is_idle : (left : List ℕ) → is_idle (pending_of left) ≡ true
 rest_is_idle [] = refl
 rest_is_idle (b ∷ left) = refl
@@ -97,7 +97,7 @@ what_is_announced_waits old new cut n t (puts_value h bytes tag answer next e in
     absurd (no_announcement answer.status n
     (answer_tells_no_count old next (Put tag _) answer put).no_more announced)
 
--- Data come before a 6CXX in no TPDU.
+-- No TPDU brings data with a 6CXX.
 pub corrected_brings_none : (old new : CardState) (cut n : ℕ) (t : Tpdu) → Does old cut t new
     → corrects t.status ≡ Some n → t.received ≡ []
 corrected_brings_none old new cut n t (sends h p3 e ins) corrected =
@@ -113,7 +113,8 @@ taken_and_left : (n : ℕ) (whole : List ℕ)
 taken_and_left n whole =
     rw (rest_waits (drop n whole)) (omega (arith, length-take n whole, length-drop n whole))
 
--- What a TPDU brings and what then waits are at most a value with its tag and length.
+-- The bytes that a TPDU brings, and those that wait afterwards, are at most a value with its tag
+-- and length.
 pub brings_within : (old new : CardState) (cut : ℕ) (t : Tpdu) → Does old cut t new
     → IsCardState old
     → length t.received + length (waiting new.pending) ≤ VALUE_LIMIT + HEAD_LIMIT
@@ -149,7 +150,8 @@ count_is_some b = split (b == 0) refl
     split true e = omega arith
     split false e = omega (arith, eqb-false b 0 e)
 
--- A GET RESPONSE for no more than what waits brings that many bytes of it, and tells what is left.
+-- A GET RESPONSE for no more than what waits brings that number of bytes, and its status announces
+-- what is left.
 pub fetched : (old new : CardState) (cut : ℕ) (t : Tpdu) → Does old cut t new
     → t.header ≡ get_response → count t.p3 ≤ length (waiting old.pending)
     → IsFetched old cut t new
@@ -172,7 +174,7 @@ fetched old new cut t does is few =
       }
     ]
 
--- What is announced is brought, by a GET RESPONSE for no more than that.
+-- A GET RESPONSE for no more than what is announced brings it.
 pub announced_is_brought : (old mid new : CardState) (cut next n : ℕ) (t fetch : Tpdu)
     → Does old cut t mid → IsCut cut → announces t.status ≡ Some n
     → Does mid next fetch new → fetch.header ≡ get_response → count fetch.p3 ≤ n
@@ -200,7 +202,7 @@ refusal_keeps_within h status pending =
     after_refusal_holds (λ p. length (waiting p) ≤ length (waiting pending)) h status pending
     (omega arith) (λ left e. subst (λ p. length left ≤ length (waiting p)) (sym e) (omega arith))
 
--- What a GET RESPONSE brings and what then waits are at most what waited.
+-- The bytes that a GET RESPONSE brings, and those that wait afterwards, are at most what waited.
 pub fetch_brings_what_waits : (old new : CardState) (cut : ℕ) (t : Tpdu) → Does old cut t new
     → t.header ≡ get_response
     → length t.received + length (waiting new.pending) ≤ length (waiting old.pending)
@@ -237,7 +239,7 @@ fetches_bring_what_waits old new (t ∷ fetches) (cut, mid, is, does, others) =
       length-append t.received (flat_map (λ t. t.received) fetches),
     )
 
--- What a TPDU and the fetches after it bring is no more than a value with its tag and length.
+-- A TPDU and its fetches bring no more than a value with its tag and length.
 pub exchange_brings_within : (old mid new : CardState) (cut : ℕ) (t : Tpdu) (fetches : List Tpdu)
     → IsCardState old → Does old cut t mid → AreFetches mid fetches new
     → length (flat_map (λ t. t.received) (t ∷ fetches)) ≤ VALUE_LIMIT + HEAD_LIMIT

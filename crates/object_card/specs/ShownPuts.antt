@@ -1,4 +1,4 @@
--- Which puts the history of a card's end shows, from its dialogues alone.
+-- The puts that the history of a card's end shows, from its dialogues alone.
 use Rattle.std.specs.Prelude.{◌≡◌, ℕ, List, [], ◌∷◌, ◌++◌, reverse, Option, Some, None, Bool, ◌==◌, ◌&&◌, if◌then◌else◌, take_while, find}
 use Rattle.std.specs.Option.{option_map}
 use Rattle.std.specs.List.{AllByRecursion, flat_map}
@@ -14,24 +14,24 @@ use Rattle.object_card.specs.Refusals.{is_select, is_put, named_tag}
 abbrev pub is_ok : StatusWord → Bool
 is_ok status = (status.0 == 0x90) && (status.1 == 0x00)
 
--- a SELECT answered 61XX
+-- a SELECT with status 61XX
 abbrev pub is_selecting : Tpdu → Bool
 is_selecting t = is_select t.header && (t.status.0 == 0x61)
 
--- a command with CLA 10, and INS, P1 and P2 of this header, answered 9000
+-- a command with CLA 10, the INS, P1 and P2 of this header, and status 9000
 abbrev pub is_piece_for : Header → Tpdu → Bool
 is_piece_for h t =
     (t.header.cla == 0x10) && (t.header.ins == h.ins) && (t.header.p1 == h.p1)
     && (t.header.p2 == h.p2)
     && is_ok t.status
 
--- a PUT DATA with CLA 00 answered 9000
+-- a PUT DATA with CLA 00 and status 9000
 abbrev pub is_stored : Tpdu → Bool
 is_stored t = (t.header.cla == 0x00) && is_put t.header && is_ok t.status
 
--- Below, `before` are the TPDUs before one, since the last reset, the latest first.
+-- Below, `before` lists the TPDUs before one, since the last reset, the latest first.
 
--- the application of the last SELECT answered 61XX
+-- the application of the last SELECT with status 61XX
 abbrev pub selected_by : List Tpdu → Option (List ℕ)
 selected_by before = option_map (λ t. t.sent) (find is_selecting before)
 
@@ -51,7 +51,7 @@ put_into None tag value = []
 put_into (Some aid) None value = []
 put_into (Some aid) (Some tag) value = record { aid = aid; tag = tag; value = value } ∷ []
 
--- what one TPDU shows: where it is stored, its run's data and its own, under the tag of its P1-P2
+-- what one TPDU shows: if it is stored, its run's data and its own, under the tag of its P1-P2
 abbrev pub shown_by : List Tpdu → Tpdu → List ShownPut
 shown_by before t =
     if is_stored t
@@ -74,7 +74,7 @@ abbrev pub with_puts : List ShownPut → List Application → List Application
 with_puts [] applications = applications
 with_puts (p ∷ puts) applications = with_puts puts (with_object p.aid p.tag p.value applications)
 
--- what has gone on, cut into items and the part of a dialogue that is under way
+-- the events, cut into items and the part of a dialogue in progress
 pub record AreCutInto (events : List Event) (items : List Item) (part : List Character)
     : Type 0 where
   pub are_items : AllByRecursion IsItem items

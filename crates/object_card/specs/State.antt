@@ -1,31 +1,29 @@
--- The state of a card: what it holds, what is selected, and what a later command may go on with.
+-- The state of a card: its tables, the selection, and what a later command may continue.
 use Rattle.std.specs.Prelude.{◌≡◌, ◌≢◌, ℕ, ◌+◌, ◌≤◌, List, [], ◌∷◌, length, Option, Some, None, IsSome, IfSome, Bool, true, false, is_some, option_and_then, slice_get}
 use Rattle.object_card.specs.declared.limits.TheConstants.{VALUE_LIMIT, HEAD_LIMIT}
 use Rattle.object_card.specs.Tables.{Application, Entry, AreApplications, entries_in}
 
 -- What is pending: nothing; a chain of PUT DATA, with its P1-P2 and the bytes so far (ISO/IEC
--- 7816-4, 5.1.1.1); or a response, with the bytes that are left of it (ISO/IEC 7816-4, GET
--- RESPONSE).
+-- 7816-4, 5.1.1.1); or a response, with the bytes that are left (ISO/IEC 7816-4, GET RESPONSE).
 pub data Pending : Type 0 where
   NothingPending : Pending
   ChainPending : (p1 p2 : ℕ) (bytes : List ℕ) → Pending
   ResponsePending : (left : List ℕ) → Pending
 
--- the applications, the identifier of the one selected, or none, and what is pending
+-- the applications, the identifier of the selected one, if any, and what is pending
 pub record CardState : Type 0 where
   pub applications : List Application
   pub selected : Option (List ℕ)
   pub pending : Pending
 
--- A chain, also an empty one, is pending only where an application is selected, and keeps to the
--- limit of a value. Of a response at least one byte is left, and at most a value with its tag and
--- length.
+-- A chain is pending only if an application is selected, and keeps to the limit of a value; it may
+-- be empty. A pending response has at least one byte, and at most a value with its tag and length.
 abbrev pub IsPending : Option (List ℕ) → Pending → Type 0
 IsPending selected NothingPending = Unit {0}
 IsPending selected (ChainPending p1 p2 bytes) = IsSome selected × (length bytes ≤ VALUE_LIMIT)
 IsPending selected (ResponsePending left) = (left ≢ []) × (length left ≤ VALUE_LIMIT + HEAD_LIMIT)
 
--- what is selected is held
+-- the selected application exists
 pub record IsCardState (state : CardState) : Type 0 where
   pub are_applications : AreApplications state.applications
   pub selected_is_held : IfSome state.selected
@@ -38,19 +36,19 @@ is_idle NothingPending = true
 is_idle (ChainPending p1 p2 bytes) = false
 is_idle (ResponsePending left) = true
 
--- the bytes of the chain that is pending
+-- the bytes of the pending chain
 abbrev pub chained : Pending → List ℕ
 chained NothingPending = []
 chained (ChainPending p1 p2 bytes) = bytes
 chained (ResponsePending left) = []
 
--- what is left of the response that is pending
+-- the bytes left of the pending response
 abbrev pub waiting : Pending → List ℕ
 waiting NothingPending = []
 waiting (ChainPending p1 p2 bytes) = []
 waiting (ResponsePending left) = left
 
--- a response is pending where some of it is left
+-- a response is pending if some of it is left
 abbrev pub pending_of : List ℕ → Pending
 pending_of [] = NothingPending
 pending_of (b ∷ left) = ResponsePending (b ∷ left)
@@ -61,7 +59,7 @@ with_pending state pending = record state { pending = pending }
 abbrev pub with_selected : CardState → List ℕ → CardState
 with_selected state aid = record state { selected = Some aid }
 
--- the entries of the application that is selected
+-- the entries of the selected application
 abbrev pub selected_entries : CardState → Option (List Entry)
 selected_entries state = option_and_then (λ aid. entries_in aid state.applications) state.selected
 
@@ -69,7 +67,7 @@ selected_entries state = option_and_then (λ aid. entries_in aid state.applicati
 abbrev pub IsFresh : CardState → Type 0
 IsFresh state = (state.selected ≡ None) × (state.pending ≡ NothingPending)
 
--- A reset keeps what is held; nothing is selected, and nothing is pending (this project's profile).
+-- A reset keeps the tables; nothing is selected, and nothing is pending (profile).
 abbrev pub after_reset : CardState → CardState
 after_reset state = record {
   applications = state.applications;
@@ -77,7 +75,7 @@ after_reset state = record {
   pending = NothingPending;
 }
 
--- the entry at a place of the application at a place, from 0
+-- the entry at index `place` of the application at index `app`, both from 0
 abbrev pub entry_at : ℕ → ℕ → CardState → Option Entry
 entry_at app place state = option_and_then (λ a. slice_get a.entries place)
     (slice_get state.applications app)

@@ -1,4 +1,4 @@
--- A card's state stays one, whatever the terminal sends.
+-- A card's state stays sound, whatever the terminal sends.
 use Rattle.std.proofs.Common.{◌≡◌, ◌<◌, ℕ, ◌+◌, ◌/◌, ◌%◌, ◌≤◌, List, [], ◌∷◌, ◌++◌, length, drop, Option, Some, None, Bool, true, false, ◌⊎◌, inl, inr, refl, sym, ap, arith, subst, ◌∙◌, length-append, length-drop}
 use Rattle.std.specs.Prelude.{is_some, is_none, IsSome, if◌then◌else◌, IfSome, ◌&&◌, ◌||◌, nat_lt, option_and_then, unwrap_or}
 use Rattle.std.specs.Option.{option_map}
@@ -22,13 +22,13 @@ use Rattle.object_card.specs.TableLaws.{applications_stay_sound, found_is_sound,
 use Rattle.object_card.specs.CardLaws.{put_leaves}
 use Rattle.object_card.specs.RefusalLaws.{after_refusal_holds}
 
--- why a value was stored
+-- what holds if a value is stored
 pub stored_why : (entries : List Entry) (tag value : List ℕ) → PutStatus entries tag value ok
     → (is_locked tag entries ≡ false) × (length value ≤ VALUE_LIMIT) × IsValueOf tag value
     × ((is_some (value_under tag entries) ≡ true) ⊎ (length entries < ENTRY_LIMIT))
 stored_why entries tag value (stored free fits value_of room) = (free, fits, value_of, room)
 
--- none of these holds where no status is given
+-- if there is no status, none of these reasons holds
 pub none_of_them : (state : CardState) (h : Header) (p3 : ℕ) (rs : List Reason)
     → first_of_them state h p3 rs ≡ None
     → AllByRecursion (λ r. holds state h p3 r ≡ false) rs
@@ -50,7 +50,7 @@ none_of_them state h p3 (r ∷ rs) none =
           (if b then Some (status_for state h r) else first_of_them state h p3 rs) ≡ None) s none),
     )
 
--- No reason holds where a header is not refused.
+-- No reason holds if a header is not refused.
 pub none_holds : (state : CardState) (h : Header) (p3 : ℕ) (r : Reason) → refusal state h p3 ≡ None
     → holds state h p3 r ≡ false
 none_holds state h p3 r none = each r (none_of_them state h p3 in_order none)
@@ -89,7 +89,7 @@ selected_where state some = split state.selected refl
         e some in absurd (cc)
     split (Some aid) e = refl
 
--- it finds an application selected
+-- and an application is selected
 pub put_is_selected : (state : CardState) (h : Header) (p3 : ℕ) → refusal state h p3 ≡ None
     → is_put h ≡ true → IsSome state.selected
 put_is_selected state h p3 none put = selected_where state (
@@ -114,7 +114,7 @@ pending_rest : (selected : Option (List ℕ)) (left : List ℕ) → length left 
 pending_rest selected [] short = tt
 pending_rest selected (b ∷ left) short = (λ e. cc, short)
 
--- the length of a value is spelled in three bytes at most
+-- the shortest length of a value has at most three bytes
 short_length : (n : ℕ) → length (shortest n) ≤ 3
 short_length n = split (nat_lt n 0x80) (nat_lt n 0x100)
   where
@@ -125,7 +125,7 @@ short_length n = split (nat_lt n 0x80) (nat_lt n 0x100)
     split false true = omega arith
     split false false = omega arith
 
--- an object is its value, and so many bytes more
+-- an object is its value and its head
 object_length : (tag value : List ℕ)
     → length (object_bytes tag value) ≤ length tag + 3 + length value
 object_length tag value =
@@ -136,7 +136,7 @@ object_length tag value =
       length-append tag (shortest (length value)),
     )
 
--- a tag that can be addressed has two bytes at most
+-- a tag that can be addressed has at most two bytes
 address_length : (tag : List ℕ) (p1 p2 : ℕ) → NamesTag tag p1 p2 → length tag ≤ 2
 address_length [] p1 p2 h = absurd h
 address_length (a ∷ []) p1 p2 h = omega arith
@@ -151,7 +151,7 @@ information_length aid =
       object_length (0x84 ∷ []) aid,
     )
 
--- an object that a GET DATA asks for has a value's bytes, its tag and its length
+-- an object that a GET DATA asks for is at most a value with its tag and length
 object_in : (tag : List ℕ) (entries : List Entry) → AllByRecursion IsEntry entries
     → length (unwrap_or (option_map (object_bytes tag) (value_under tag entries)) []) ≤ VALUE_LIMIT
     + HEAD_LIMIT
@@ -203,7 +203,7 @@ waiting_length selected NothingPending is = omega arith
 waiting_length selected (ChainPending p1 p2 bytes) is = omega arith
 waiting_length selected (ResponsePending left) is = is.1
 
--- what there is to send
+-- the size of what is sent
 pub to_send_length : (state : CardState) (h : Header) → IsCardState state
     → length (to_send state h) ≤ VALUE_LIMIT + HEAD_LIMIT
 to_send_length state h is = split (is_get_response h)
@@ -214,7 +214,7 @@ to_send_length state h is = split (is_get_response h)
     split true = waiting_length state.selected state.pending is.is_pending
     split false = object_asked_length state h is
 
--- the identifier of an application that is held is one
+-- the identifier of an application in the tables has at most 16 bytes
 held_is_aid : (state : CardState) (aid : List ℕ) → IsCardState state
     → is_some (entries_in aid state.applications) ≡ true → length aid ≤ 16
 held_is_aid state aid is held = split (entries_in aid state.applications) refl
@@ -230,7 +230,7 @@ pub control_information_is_pending : (state : CardState) (aid : List ℕ) → Is
 control_information_is_pending state aid is held =
     (λ none. cc, omega (arith, information_length aid, held_is_aid state aid is held))
 
--- the one selected is held
+-- the selected application exists
 abbrev pub IsSelectionHeld : CardState → Type 0
 IsSelectionHeld state =
     IfSome state.selected (λ aid. is_some (entries_in aid state.applications) ≡ true)
@@ -264,7 +264,7 @@ sound_with state pending is fits = record {
   is_pending = fits;
 }
 
--- A card's state stays one.
+-- A card's state stays sound.
 pub stays_sound : (old new : CardState) (cut : ℕ) (tpdu : Tpdu) → Does old cut tpdu new
     → IsCardState old → IsCardState new
 stays_sound old new cut tpdu (refuses h p3 status e) is =

@@ -1,4 +1,4 @@
--- What each command does to a card, read off the command.
+-- What each command does to a card, by its header.
 use Rattle.std.proofs.Common.{◌≡◌, ℕ, List, [], ◌++◌, length, take, drop, Some, None, true, false, refl, sym, ap, ◌∙◌}
 use Rattle.std.specs.Prelude.{◌==◌, ◌||◌, is_some, Bool}
 use Rattle.std.proofs.lemmas.Bool.{true≢false, eqb-true}
@@ -11,7 +11,7 @@ use Rattle.object_card.specs.OneStep.{Put, Reply, Answers, control_information}
 use Rattle.object_card.specs.Refusals.{is_select, is_get, is_put, is_get_response, refusal, to_send}
 use Rattle.object_card.specs.CardMeaning.{Does, refuses, selects_application, misses_application, sends, chains, puts_value, after_refusal, announcing}
 
--- the TPDU of a header that is refused
+-- the TPDU of a refused header
 pub record RefusedStep (old : CardState) (t : Tpdu) (new : CardState) (status : StatusWord) : Type 0
   where
     pub none_sent : t.sent ≡ []
@@ -37,7 +37,7 @@ refused_step old new cut t status (chains h bytes e ins cla) refused = absurd (c
 refused_step old new cut t status (puts_value h bytes tag answer next e ins cla named_by put)
     refused = absurd (cc)
 
--- that of a SELECT
+-- the TPDU of a SELECT
 pub data SelectStep (old : CardState) (cut : ℕ) (t : Tpdu) (new : CardState) : Type 0 where
   select_refused : refusal old t.header t.p3 ≡ Some t.status → t.sent ≡ [] → t.received ≡ []
       → new ≡ with_pending old (after_refusal t.header t.status old.pending)
@@ -52,7 +52,7 @@ pub data SelectStep (old : CardState) (cut : ℕ) (t : Tpdu) (new : CardState) :
       → entries_in t.sent old.applications ≡ None → t.received ≡ []
       → t.status ≡ (0x6A, 0x82) → new ≡ with_pending old NothingPending → SelectStep old cut t new
 
--- an instruction of which a test does not hold is another
+-- an INS for which a test fails is not one for which it holds
 pub other_ins : (P : ℕ → Bool) (n ins : ℕ) → P ins ≡ false → (n == ins) ≡ true → P n ≡ true → ⊥
 other_ins P n ins differs is holds = true≢false (sym holds ∙ ap P (eqb-true n ins is) ∙ differs)
 
@@ -73,7 +73,7 @@ select_step old new cut t (chains h bytes e ins cla) select =
 select_step old new cut t (puts_value h bytes tag answer next e ins cla named_by put) select =
     absurd (other_ins (λ n. n == 0xA4) h.ins 0xDA refl ins select)
 
--- that of a PUT DATA
+-- the TPDU of a PUT DATA
 pub data PutStep (old : CardState) (t : Tpdu) (new : CardState) : Type 0 where
   put_refused : refusal old t.header t.p3 ≡ Some t.status
       → new ≡ with_pending old (after_refusal t.header t.status old.pending) → PutStep old t new
@@ -100,7 +100,7 @@ put_step old new cut t (chains h bytes e ins cla) put = is_chained e cla refl re
 put_step old new cut t (puts_value h bytes tag answer next e ins cla named_by is) put =
     is_ended e cla refl refl tag answer next named_by refl is refl
 
--- that of a GET DATA or a GET RESPONSE
+-- the TPDU of a GET DATA or a GET RESPONSE
 pub data SendStep (old : CardState) (cut : ℕ) (t : Tpdu) (new : CardState) : Type 0 where
   send_refused : refusal old t.header t.p3 ≡ Some t.status → t.received ≡ []
       → new ≡ with_pending old (after_refusal t.header t.status old.pending)

@@ -1,4 +1,4 @@
--- What stays as it was when a value is put among entries, and entries among applications.
+-- What is unchanged if a value is put among entries, and entries among applications.
 use Rattle.std.proofs.Common.{◌≡◌, ◌≢◌, ℕ, suc, ◌<◌, ◌≤◌, List, [], ◌∷◌, ◌++◌, length, map, Option, Some, None, Bool, true, false, ◌⊎◌, inl, inr, refl, sym, ap, arith, subst, ◌∙◌}
 use Rattle.std.specs.Prelude.{is_some, if◌then◌else◌}
 use Rattle.std.specs.List.{AllByRecursion}
@@ -13,7 +13,7 @@ tags entries = map (λ entry. entry.tag) entries
 abbrev pub aids : List Application → List (List ℕ)
 aids applications = map (λ application. application.aid) applications
 
--- the tags stay where the tag is held
+-- if the tag is present, the tags stay the same
 pub tags_stay : (tag value : List ℕ) (entries : List Entry)
     → is_some (value_under tag entries) ≡ true → tags (with_value tag value entries) ≡ tags entries
 tags_stay tag value [] held = absurd (cc)
@@ -29,7 +29,7 @@ tags_stay tag value (e ∷ entries) held =
         (more (subst (λ b. is_some (if b then Some e.value else value_under tag entries) ≡ true) s
         held)))
 
--- a new tag goes last
+-- a new tag is appended
 pub tag_goes_last : (tag value : List ℕ) (entries : List Entry) → value_under tag entries ≡ None
     → tags (with_value tag value entries) ≡ tags entries ++ tag ∷ []
 tag_goes_last tag value [] none = refl
@@ -46,7 +46,7 @@ tag_goes_last tag value (e ∷ entries) none =
     split false s more = rw s (ap (λ ts. e.tag ∷ ts)
         (more (subst (λ b. (if b then Some e.value else value_under tag entries) ≡ None) s none)))
 
--- a tag that is not held is none of the tags
+-- an absent tag differs from all tags
 pub tag_is_new : (tag : List ℕ) (entries : List Entry) → value_under tag entries ≡ None
     → AllByRecursion (λ t. t ≢ tag) (tags entries)
 tag_is_new tag [] none = tt
@@ -69,14 +69,14 @@ all_with_last : (P : List ℕ → Type 0) (xs : List (List ℕ)) (y : List ℕ) 
 all_with_last P [] y all last = (last, tt)
 all_with_last P (x ∷ xs) y all last = (all.0, all_with_last P xs y all.1 last)
 
--- one more that is none of them
+-- the list with one more, which differs from all
 pub distinct_with_last : (xs : List (List ℕ)) (y : List ℕ) → AreDistinct xs
     → AllByRecursion (λ x. x ≢ y) xs → AreDistinct (xs ++ y ∷ [])
 distinct_with_last [] y distinct new = (tt, tt)
 distinct_with_last (x ∷ xs) y distinct new =
     (all_with_last (λ z. x ≢ z) xs y distinct.0 new.0, distinct_with_last xs y distinct.1 new.1)
 
--- each entry is sound where the new one is
+-- each entry is sound if the new one is
 pub entries_stay_sound : (tag value : List ℕ) (entries : List Entry)
     → IsEntry (record { tag = tag; value = value; locked = false }) → AllByRecursion IsEntry entries
     → AllByRecursion IsEntry (with_value tag value entries)
@@ -98,7 +98,7 @@ entries_stay_sound tag value (e ∷ entries) new all =
     )
     split false s more = rw s (all.0, more)
 
--- the tags that there are with the new value
+-- the tags with the new value are distinct
 pub tags_with : (tag value : List ℕ) (entries : List Entry) → AreDistinct (tags entries)
     → AreDistinct (tags (with_value tag value entries))
 tags_with tag value entries distinct = split (value_under tag entries) refl
@@ -148,7 +148,7 @@ length_with tag value entries fits room = split (value_under tag entries) refl
           ap length (tags_stay tag value entries (ap is_some is)),
         )
 
--- an application stays one
+-- an application stays sound
 pub application_stays_sound : (a : Application) (tag value : List ℕ) → IsApplication a
     → IsEntry (record { tag = tag; value = value; locked = false })
     → (is_some (value_under tag a.entries) ≡ true) ⊎ (length a.entries < ENTRY_LIMIT)
@@ -160,7 +160,7 @@ application_stays_sound a tag value is new room = record {
   no_more = length_with tag value a.entries is.no_more room;
 }
 
--- the identifiers stay
+-- the identifiers stay the same
 pub aids_stay : (aid tag value : List ℕ) (applications : List Application)
     → aids (with_object aid tag value applications) ≡ aids applications
 aids_stay aid tag value [] = refl
@@ -173,11 +173,11 @@ aids_stay aid tag value (a ∷ applications) =
     split true s more = rw s refl
     split false s more = rw s (ap (λ xs. a.aid ∷ xs) more)
 
--- a value can be put among the entries: its tag is held, or there is room
+-- a value can be put among the entries: its tag is present, or there is room
 abbrev pub HasRoom : List ℕ → List Entry → Type 0
 HasRoom tag entries = (is_some (value_under tag entries) ≡ true) ⊎ (length entries < ENTRY_LIMIT)
 
--- each application is sound where a sound value is put into one
+-- each application is sound if a sound value is put into one
 pub all_stay_sound : (aid tag value : List ℕ) (entries : List Entry)
     (applications : List Application)
     → IsEntry (record { tag = tag; value = value; locked = false }) → HasRoom tag entries
@@ -208,7 +208,7 @@ all_stay_sound aid tag value entries (a ∷ applications) new room found all =
               s found),
         )
 
--- what was held is held
+-- the same identifiers are found
 pub held_stays : (x aid tag value : List ℕ) (applications : List Application)
     → is_some (entries_in x (with_object aid tag value applications))
     ≡ is_some (entries_in x applications)
@@ -238,7 +238,7 @@ held_stays x aid tag value (a ∷ applications) =
     split true s more = rw s (seen (same_bytes x a.aid))
     split false s more = rw s (passed (same_bytes x a.aid) more)
 
--- the applications stay what a card can hold
+-- the applications are still ones that a card can hold
 pub applications_stay_sound : (aid tag value : List ℕ) (entries : List Entry)
     (applications : List Application) → AreApplications applications
     → IsEntry (record { tag = tag; value = value; locked = false }) → HasRoom tag entries

@@ -1,4 +1,4 @@
--- What a card holds: applications, and their data objects (ISO/IEC 7816-4, data objects of an
+-- The tables of a card: applications and their data objects (ISO/IEC 7816-4, data objects of an
 -- application).
 use Rattle.std.specs.Prelude.{◌≡◌, ◌≢◌, ℕ, ◌≤◌, List, [], ◌∷◌, length, map, Option, Some, None, Bool, true, false, nat_eq, if◌then◌else◌}
 use Rattle.std.specs.Cmp.Lexicographic.{pointwise}
@@ -8,15 +8,15 @@ use Rattle.tlv_core.specs.Spelling.{AreObjects}
 use Rattle.tlv_core.specs.Address.{IsAddressable}
 use Rattle.object_card.specs.declared.limits.TheConstants.{VALUE_LIMIT, ENTRY_LIMIT, APPLICATION_LIMIT}
 
--- A data object of an application: its tag, its value, and whether it is locked, so that no command
--- changes it (this project's profile).
+-- A data object of an application: its tag, its value, and whether it is locked. No command changes
+-- a locked one (profile).
 pub record Entry : Type 0 where
   pub tag : List ℕ
   pub value : List ℕ
   pub locked : Bool
 
--- an application: its identifier (AID), and its data objects in the order in which they were first
--- stored
+-- an application: its identifier (AID), and its data objects in the order in which their tags were
+-- first stored
 pub record Application : Type 0 where
   pub aid : List ℕ
   pub entries : List Entry
@@ -44,28 +44,28 @@ abbrev pub is_locked : List ℕ → List Entry → Bool
 is_locked tag [] = false
 is_locked tag (e ∷ entries) = if same_bytes tag e.tag then e.locked else is_locked tag entries
 
--- The value under a tag is replaced in its place, and keeps the mark; a new tag goes last, and is
--- not locked (this project's profile).
+-- The value under a tag is replaced in place, and stays locked or not. A new tag is appended, and
+-- is not locked (profile).
 abbrev pub with_value : List ℕ → List ℕ → List Entry → List Entry
 with_value tag value [] = record { tag = tag; value = value; locked = false } ∷ []
 with_value tag value (e ∷ entries) =
     if same_bytes tag e.tag then record e { value = value } ∷ entries
     else e ∷ with_value tag value entries
 
--- an entry with this tag, value and mark, in the place of the one with the tag, or last
+-- an entry with this tag, value and lock, in the place of the one with the tag, or at the end
 abbrev pub with_entry : List ℕ → List ℕ → Bool → List Entry → List Entry
 with_entry tag value locked [] = record { tag = tag; value = value; locked = locked } ∷ []
 with_entry tag value locked (e ∷ entries) =
     if same_bytes tag e.tag then record e { value = value; locked = locked } ∷ entries
     else e ∷ with_entry tag value locked entries
 
--- the entries of an application
+-- the entries of the application with this identifier
 abbrev pub entries_in : List ℕ → List Application → Option (List Entry)
 entries_in aid [] = None
 entries_in aid (a ∷ applications) =
     if same_bytes aid a.aid then Some a.entries else entries_in aid applications
 
--- the applications, with this value under the tag in the application of this identifier
+-- the applications, with this value under the tag in the application with this identifier
 abbrev pub with_object : List ℕ → List ℕ → List ℕ → List Application → List Application
 with_object aid tag value [] = []
 with_object aid tag value (a ∷ applications) =
@@ -73,12 +73,12 @@ with_object aid tag value (a ∷ applications) =
     ∷ applications
     else a ∷ with_object aid tag value applications
 
--- no two are the same
+-- no two are equal
 abbrev pub AreDistinct : List (List ℕ) → Type 0
 AreDistinct [] = Unit {0}
 AreDistinct (x ∷ others) = AllByRecursion (λ y. x ≢ y) others × AreDistinct others
 
--- a tag that GET DATA and PUT DATA can name, and a value of its kind within the limit
+-- a tag that GET DATA and PUT DATA can name, and a value within the limit that suits it
 pub record IsEntry (entry : Entry) : Type 0 where
   pub addressable : IsAddressable entry.tag
   pub within : length entry.value ≤ VALUE_LIMIT
@@ -91,7 +91,7 @@ pub record IsApplication (application : Application) : Type 0 where
   pub distinct_tags : AreDistinct (map (λ entry. entry.tag) application.entries)
   pub no_more : length application.entries ≤ ENTRY_LIMIT
 
--- what a card can hold: applications with distinct identifiers
+-- the tables of a card: applications with distinct identifiers
 pub record AreApplications (applications : List Application) : Type 0 where
   pub all_sound : AllByRecursion IsApplication applications
   pub distinct_aids : AreDistinct (map (λ application. application.aid) applications)

@@ -1,4 +1,4 @@
--- The function that gives the tag of P1-P2 is the relation between the two.
+-- The function that finds the tag of P1-P2 agrees with the relation between them.
 use Rattle.std.proofs.Common.{◌≡◌, ℕ, ◌%◌, List, [], ◌∷◌, Some, None, Bool, true, false, refl, sym, arith, subst, inl, inr, eqb, ltb, leb, not, ◌&&◌}
 use Rattle.std.specs.Prelude.{Option, IsSome, IfSome, ◌↔◌, if◌then◌else◌}
 use Rattle.std.proofs.lemmas.Bool.{and_parts, le-leb, lt-ltb, leb-true, ltb-true, eqb-true, eqb-false, eq-eqb, ne_eqb, not-true}
@@ -69,7 +69,7 @@ names tag p1 p2 h =
           )
     ]
 
--- the tag that is found, where one is found exactly for those that are named
+-- the tag found, by a search that finds exactly the named tags
 pub found_is_named : (r : Option (List ℕ)) (p1 p2 : ℕ)
     → (IsSome r ↔ ((tag : List ℕ) × NamesTag tag p1 p2))
     → IfSome r (λ tag. NamesTag tag p1 p2) → r ≡ named_tag p1 p2

@@ -1,10 +1,10 @@
-//! The identifier of an application.
+//! Application identifiers.
 ghost use Rattle.std.specs.Prelude.{◌≡◌, ◌↔◌, ℕ, List, IsSome, IfSome};
 ghost use Rattle.object_card.specs.Tables.{IsAid};
 
 use std::marker::Model;
 
-/// An application identifier of 5 to 16 bytes (ISO/IEC 7816-4). Contracts see it as the list of its
+/// An application identifier (AID) of 5 to 16 bytes (ISO/IEC 7816-4). Contracts see it as its
 /// bytes.
 #[derive(Clone, Copy, Debug, PartialEq, Eq, Hash)]
 pub struct Aid {
@@ -29,7 +29,7 @@ impl Model for Aid {
 }
 
 impl Aid {
-    /// The identifier with these bytes, where there are 5 to 16 of them; else None.
+    /// Makes an identifier of these bytes. `None` unless there are 5 to 16.
     pub fn new(bytes: &[u8]) -> Option<Aid>
         ensures takes { IsSome result ↔ IsAid bytes.now }
         ensures same { IfSome result (λ aid. aid ≡ bytes.now) }
@@ -43,7 +43,7 @@ impl Aid {
         Some(Aid { bytes: cells, len })
     }
 
-    /// Its bytes, 5 to 16 of them.
+    /// The bytes of the identifier, 5 to 16.
     pub fn bytes(&self) -> &[u8]
         ensures bytes { result.now ≡ self.now }
         ensures aid { IsAid self.now }

@@ -11,7 +11,7 @@ use std::hash::{BuildHasherDefault, FoldHasher};
 use std::marker::Model;
 use tlv_core::ObjectTag;
 
-/// What an application holds under a tag.
+/// A value that is stored under a tag.
 #[derive(Drop)]
 pub(crate) struct Stored<A: Allocator> {
     value: Vec<u8, A>,
@@ -52,7 +52,7 @@ impl<A: Allocator> Model for Application<A> {
 }
 
 impl<A: Allocator + Copy> Application<A> {
-    /// An application without data objects. It takes no memory.
+    /// Makes an application without data objects. It allocates nothing.
     pub(crate) fn new(alloc: A, aid: Aid) -> Application<A>
         ensures aid { result.aid ≡ aid }
         ensures none { result.entries ≡ [] }
@@ -63,7 +63,7 @@ impl<A: Allocator + Copy> Application<A> {
         }
     }
 
-    /// A copy of these bytes. Its error is want of memory.
+    /// Returns a copy of these bytes, or `AllocError` if memory runs out.
     pub(crate) fn copied(&self, bytes: &[u8]) -> Result<Vec<u8, A>, AllocError>
         ensures { IfOk result (λ copy. copy.items ≡ bytes.now) }
     {
@@ -85,7 +85,7 @@ impl<A: Allocator> Application<A> {
         &self.objects
     }
 
-    /// How many data objects there are.
+    /// The number of data objects.
     pub(crate) fn len(&self) -> usize
         ensures { result ≡ length self.now.entries }
     {
@@ -129,8 +129,8 @@ impl<A: Allocator> Application<A> {
         Some((*tag, held.value(), held.locked))
     }
 
-    /// Takes the place for a data object with this tag, where there is none. One that is there has
-    /// its place, and takes no memory.
+    /// Allocates a place for a data object with this tag. If there is one already, it keeps its
+    /// place and nothing is allocated.
     pub(crate) fn make_room(&mut self, tag: ObjectTag) -> Result<(), AllocError>
         ensures aid { self.new.aid ≡ self.old.aid }
         ensures entries { self.new.entries ≡ self.old.entries }
@@ -147,7 +147,7 @@ impl<A: Allocator> Application<A> {
         self.objects.reserve(1)
     }
 
-    /// Stores a value in the place that its tag has, or in the place taken for it.
+    /// Stores a value in the place of its tag, or in the place allocated for it.
     pub(crate) fn store(&mut self, tag: ObjectTag, value: Vec<u8, A>, locked: bool)
         requires { HasPlace self.old tag }
         ensures aid { self.new.aid ≡ self.old.aid }

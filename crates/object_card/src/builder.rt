@@ -1,4 +1,4 @@
-//! The builder of a card, which takes applications and data objects one by one.
+//! Builds a card of applications and data objects, one by one.
 ghost use Rattle.std.specs.Prelude.{◌≡◌, List, [], length, None, true, false, OnOk, OnErr, IfOk, IfErr, MatchResult};
 ghost use Rattle.tlv_core.specs.Address.{IsAddressable};
 ghost use Rattle.object_card.specs.Tables.{with_entry};
@@ -16,8 +16,8 @@ use std::alloc::{AllocError, Allocator, Global};
 use std::marker::Model;
 use tlv_core::{ObjectTag, value_fault};
 
-/// What a card is to hold: applications, each with its data objects. Contracts see it as the list
-/// of the applications.
+/// Builds a card: `app` adds an application, `object` and `locked` add data objects to the last
+/// one, and `finish` returns the card. Contracts see the builder as the list of its applications.
 #[derive(Drop)]
 pub struct CardBuilder<A: Allocator = Global> {
     alloc: A,
@@ -38,7 +38,7 @@ impl<A: Allocator> Model for CardBuilder<A> {
 }
 
 impl<A: Allocator + Copy> CardBuilder<A> {
-    /// No applications. It takes no memory.
+    /// Makes a builder without applications. It allocates nothing.
     pub fn new(alloc: A) -> CardBuilder<A>
         ensures { result ≡ [] }
     {
@@ -52,8 +52,11 @@ impl<A: Allocator + Copy> CardBuilder<A> {
     ///
     /// # Errors
     ///
-    /// `Twice`, `TooManyApps` and `OutOfMemory`, in this order. A refusal leaves the builder as it
-    /// was.
+    /// The first that holds; the builder is unchanged after each (profile):
+    ///
+    /// - `Twice`: an application has this identifier already.
+    /// - `TooManyApps`: there are `APPLICATION_LIMIT` applications.
+    /// - `OutOfMemory`: memory ran out.
     pub fn app(&mut self, aid: Aid) -> Result<(), BuilderFault>
         ensures ok { OnOk result (TakesApplication aid self.old
             × (self.new ≡ with_application aid self.old)) }
@@ -73,13 +76,18 @@ impl<A: Allocator + Copy> CardBuilder<A> {
         Ok(())
     }
 
-    /// Adds a data object to the last application. A tag that is there has its value replaced in
-    /// its place, and is not locked then.
+    /// Adds a data object to the last application. If the tag is there already, its value is
+    /// replaced in place, and the object is no longer locked.
     ///
     /// # Errors
     ///
-    /// `NoApp`, `ValueTooLong`, `NotObjects`, `Full` and `OutOfMemory`, in this order. A refusal
-    /// leaves the builder as it was.
+    /// The first that holds; the builder is unchanged after each (profile):
+    ///
+    /// - `NoApp`: there is no application.
+    /// - `ValueTooLong`: the value has more than `VALUE_LIMIT` bytes.
+    /// - `NotObjects`: the tag is constructed, and the value is not a list of objects.
+    /// - `Full`: the tag is new, and the application has `ENTRY_LIMIT` data objects.
+    /// - `OutOfMemory`: memory ran out.
     pub fn object(&mut self, tag: ObjectTag, value: &[u8]) -> Result<(), BuilderFault>
         ensures ok { OnOk result (TakesObject tag value.now self.old
             × (self.new ≡ with_last_entry tag value.now false self.old)) }
@@ -89,11 +97,11 @@ impl<A: Allocator + Copy> CardBuilder<A> {
         add_to_last(&mut self.applications, tag, value, false)
     }
 
-    /// Adds a data object that no command changes, as `object` adds one.
+    /// Adds a data object that no command can change, like `object`.
     ///
     /// # Errors
     ///
-    /// Those of `object`, in the same order.
+    /// Those of `object`, in the same order; the builder is unchanged after each.
     pub fn locked(&mut self, tag: ObjectTag, value: &[u8]) -> Result<(), BuilderFault>
         ensures ok { OnOk result (TakesObject tag value.now self.old
             × (self.new ≡ with_last_entry tag value.now true self.old)) }
@@ -103,15 +111,19 @@ impl<A: Allocator + Copy> CardBuilder<A> {
         add_to_last(&mut self.applications, tag, value, true)
     }
 
-    /// A card that holds these, with nothing selected and nothing pending. Its error is want of
-    /// memory for the chain, the only memory that it takes.
+    /// Makes the card, with nothing selected and nothing pending. Only the buffer for a chain is
+    /// allocated.
+    ///
+    /// # Errors
+    ///
+    /// - `AllocError`: memory ran out; the builder and its data objects are dropped.
     pub fn finish(self) -> Result<ObjectCard<A>, AllocError>
         ensures { IfOk result (λ card. card ≡ new_card self) }
     {
         self.try_finish().map_err(|_| AllocError)
     }
 
-    /// A card, as `finish` makes one. Where memory is wanting the builder comes back as it was.
+    /// Makes the card like `finish`. If memory runs out, it returns the builder unchanged.
     pub fn try_finish(self) -> Result<ObjectCard<A>, CardBuilder<A>>
         ensures { MatchResult result (λ card. card ≡ new_card self) (λ builder. builder ≡ self) }
     {
@@ -119,7 +131,7 @@ impl<A: Allocator + Copy> CardBuilder<A> {
             alloc,
             applications,
         } = self;
-        // a put may bring a value of any length up to the limit, whatever is stored now
+        // A put may bring a value of any length up to the limit, whatever is stored now.
         match Chain::with_room(alloc, VALUE_LIMIT) {
             Ok(chain) => Ok(ObjectCard::new(applications, chain)),
             Err(_) => Err(CardBuilder {

@@ -1,24 +1,24 @@
-//! Why a builder refuses an application or a data object.
+//! The errors of building a card.
 use std::alloc::AllocError;
 use std::error::Error;
 use std::fmt;
 
-/// Why a builder refuses an application or a data object.
+/// Why a builder refuses an application or a data object (profile).
 #[derive(Clone, Copy, Debug, PartialEq, Eq, Hash)]
 pub enum BuilderFault {
-    /// The identifier is that of an application before it.
+    /// An application before it has the same identifier.
     Twice,
-    /// There are as many applications as a card may have.
+    /// There are `APPLICATION_LIMIT` applications.
     TooManyApps,
-    /// There is no application to hold the data object.
+    /// There is no application for the data object.
     NoApp,
-    /// The value has more bytes than a value may have.
+    /// The value has more than `VALUE_LIMIT` bytes.
     ValueTooLong,
-    /// The tag is that of a constructed object, and the value is no list of objects.
+    /// The tag is constructed, and the value is not a list of objects.
     NotObjects,
-    /// The tag is new, and the application has as many data objects as it may have.
+    /// The tag is new, and the application has `ENTRY_LIMIT` data objects.
     Full,
-    /// Memory is wanting.
+    /// Memory ran out.
     OutOfMemory,
 }
 

@@ -28,11 +28,11 @@ use std::marker::Model;
 use t0_core::{TpduCard, Verdict};
 use tlv_core::ObjectTag;
 
-/// A card of data objects. Each application's objects stand in a map, in the order in which they
-/// were first stored, and a response is sent from where it stands.
+/// A card of data objects: applications with their data objects, the selected application, and a
+/// pending chain or response.
 ///
-/// `data` for the last PUT DATA of a chain takes memory, and no other call does; its want is the
-/// answer `6581`.
+/// Make one with `CardBuilder`, and give it to a `t0_core::CardEnd`. Only `data` for the last PUT
+/// DATA of a chain allocates; if memory runs out, the status is `6581`.
 #[derive(Drop)]
 pub struct ObjectCard<A: Allocator = Global> {
     applications: Vec<Application<A>, A>,
@@ -57,7 +57,7 @@ impl<A: Allocator> Model for ObjectCard<A> {
 }
 
 impl<A: Allocator> ObjectCard<A> {
-    /// A card with these applications, nothing selected and nothing pending.
+    /// Makes a card with these applications, nothing selected and nothing pending.
     pub(crate) fn new(applications: Vec<Application<A>, A>, chain: Chain<A>) -> ObjectCard<A>
         requires applications { AreApplications (applications_of applications.items) }
         requires chain { chain ≡ idle VALUE_LIMIT }
@@ -73,7 +73,7 @@ impl<A: Allocator> ObjectCard<A> {
         }
     }
 
-    /// The identifier of the application that is selected.
+    /// The identifier of the selected application; `None` if none is selected.
     pub fn selected(&self) -> Option<Aid>
         ensures { result ≡ self.now.state.selected }
     {
@@ -89,16 +89,16 @@ impl<A: Allocator> ObjectCard<A> {
         Apps::over(&self.applications)
     }
 
-    /// The identifier of the application at this place, from 0, in the order of `apps`; `None` past
-    /// the last.
+    /// The identifier of the application at this place, from 0, in the order of `apps`; `None`
+    /// after the last.
     pub fn app_at(&self, place: usize) -> Option<Aid>
         ensures { result ≡ option_map (λ a. a.aid) (slice_get self.now.state.applications place) }
     {
         Some(self.applications.get(place)?.aid())
     }
 
-    /// The data object at a place, from 0, of the application at a place: its tag, its value, and
-    /// whether no command changes it. `None` past the last.
+    /// The data object at index `place` of the application at index `app`, both from 0: its tag,
+    /// its value, and whether it is locked. `None` after the last.
     pub fn entry_at(&self, app: usize, place: usize) -> Option<(ObjectTag, &[u8], bool)>
         ensures { MatchOption result (entry_at app place self.now.state ≡ None)
             (λ e. entry_at app place self.now.state
@@ -108,7 +108,7 @@ impl<A: Allocator> ObjectCard<A> {
     }
 
     /// The data objects of an application, in the order in which their tags were first stored;
-    /// `None` where there is no such application.
+    /// `None` if there is no such application.
     pub fn entries(&self, aid: &Aid) -> Option<Entries<'_, A>>
         ensures { result ≡ option_map (λ entries. map (λ e. (e.tag, e.value)) entries)
             (entries_in aid.now self.now.state.applications) }
@@ -117,7 +117,7 @@ impl<A: Allocator> ObjectCard<A> {
         Some(Entries::of(&self.applications[place]))
     }
 
-    /// Whether the application has a data object with this tag, and no command changes it.
+    /// Whether the application contains a data object with this tag that is locked.
     pub fn is_locked(&self, aid: &Aid, tag: ObjectTag) -> bool
         ensures { result
             ≡ is_locked_among (Some tag) (entries_in aid.now self.now.state.applications) }

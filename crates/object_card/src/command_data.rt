@@ -1,4 +1,4 @@
-//! The data of a SELECT or a PUT DATA, and the answer that is decided on them.
+//! The data of a SELECT or a PUT DATA, and the answer to them.
 ghost use Rattle.std.specs.Prelude.{◌≡◌, ◌≢◌, None, length, true, false};
 ghost use Rattle.t0_core.specs.Meaning.{Decides, IsReceiving, taken_with};
 ghost use Rattle.object_card.specs.CardMeaning.{Does};
@@ -20,7 +20,7 @@ use crate::view::View;
 use apdu_core::{Chain, Header, Status};
 use std::alloc::Allocator;
 
-/// What is decided on the data to the card.
+/// The decision on the data to the card.
 #[derive(Drop)]
 pub(crate) struct Taken<A: Allocator> {
     pub(crate) status: Status,
@@ -28,8 +28,8 @@ pub(crate) struct Taken<A: Allocator> {
     pub(crate) put: Option<Put<A>>,
 }
 
-/// Takes the data of a SELECT or a PUT DATA, and decides the answer. The refusals of a put are
-/// decided before any memory is taken, and what it needs is taken here.
+/// Takes the data of a SELECT or a PUT DATA, and decides the answer. It checks the refusals of a
+/// put before it allocates anything, and allocates here all that the put needs.
 pub(crate) fn take_data<A: Allocator + Copy>(
     applications: &mut [Application<A>],
     selected: Option<usize>,
@@ -82,8 +82,8 @@ pub(crate) fn take_data<A: Allocator + Copy>(
     )
 }
 
-/// Takes the data of a PUT DATA: a piece joins the chain; the last one makes the value that is put,
-/// and the chain stays as it was until the answer is handed out.
+/// Takes the data of a PUT DATA. A piece joins the chain. The last one completes the value to put;
+/// the chain then stays unchanged until SW2 is sent.
 fn take_put<A: Allocator + Copy>(
     applications: &mut [Application<A>],
     selected: Option<usize>,
@@ -115,7 +115,7 @@ fn take_put<A: Allocator + Copy>(
     taken
 }
 
-/// Whether the command is not the last of its chain (ISO/IEC 7816-4, 5.1.1.1).
+/// Whether more commands of the chain follow (ISO/IEC 7816-4, 5.1.1.1).
 fn is_piece(header: Header) -> bool
     ensures piece { result ≡ true → header.cla ≡ 0x10 }
     ensures last { result ≡ false → header.cla ≢ 0x10 }

@@ -1,4 +1,4 @@
-//! What is known of every card of data objects.
+//! The trait of every card that behaves like a card of data objects.
 ghost use Rattle.std.specs.Prelude.{◌≡◌, ◌↔◌, ℕ, ◌≤◌, length};
 ghost use Rattle.object_card.specs.State.{CardState, IsCardState, is_idle, waiting};
 ghost use Rattle.object_card.specs.DataCard.{StandsFor};
@@ -7,32 +7,32 @@ ghost use Rattle.object_card.specs.Instructions.{MayReceive, MaySend};
 use crate::limits::RESPONSE_LIMIT;
 use t0_core::TpduCard;
 
-/// A card of data objects: each of its states stands for a card's state, and what a TPDU or a reset
-/// does to it is what it does to that state. It lends no data object.
+/// A card of data objects: each of its states stands for a state of the definitions, and a TPDU or
+/// a reset does to it what the definitions say. The trait does not show the data objects.
 ///
-/// A caller that knows no more of a card than this trait has its laws, and by a call of `is_idle`
-/// that the card stands in a sound state. From there on each TPDU leads to another.
+/// The laws of this crate hold for any implementation. A call of `is_idle` shows that the card's
+/// state is sound, and each TPDU leads to another sound state.
 pub trait DataCard: TpduCard {
-    /// The card's state that stands: that before the TPDU under way.
+    /// The state of the definitions before the TPDU in progress.
     ghost state: { Self → CardState };
 
     /// Whether no chain is pending.
     ///
-    /// Beside it: the state that stands is sound, so no value is over the limit, and no response is
-    /// pending that is over what a terminal gathers.
+    /// For the proof, the clauses also say that the state is sound: no value exceeds the limit, and
+    /// a pending response fits into what a terminal gathers.
     fn is_idle(&self) -> bool
         ensures idle { result ≡ is_idle (state self.now).pending }
         ensures sound { IsCardState (state self.now) }
         ensures gathered { length (waiting (state self.now).pending) ≤ RESPONSE_LIMIT };
 
-    /// What the card's own states stand for.
+    /// Each of the card's own states stands for a state of the definitions.
     ghost means: { (state_of : Self.State → CardState)
         × ((card : Self) → state_of (Self.standing card) ≡ state card)
         × StandsFor Self.Does Self.after_reset state_of };
 
-    /// Data to the card may follow SELECT and PUT DATA, and no other command.
+    /// Data go to the card only for SELECT and PUT DATA.
     ghost receives: { (ins : ℕ) → Self.MayReceive ins ↔ MayReceive ins };
 
-    /// Data from the card may follow GET DATA and GET RESPONSE, and no other command.
+    /// Data come from the card only for GET DATA and GET RESPONSE.
     ghost sends: { (ins : ℕ) → Self.MaySend ins ↔ MaySend ins };
 }

@@ -1,4 +1,4 @@
-//! The iterators over what a card holds.
+//! Iterators over the contents of a card.
 ghost use Rattle.std.specs.Prelude.{◌≡◌, map};
 ghost use Rattle.std.specs.Iterator.{YieldsFirst, YieldsFirstBy, item_count};
 
@@ -8,8 +8,8 @@ use std::alloc::{Allocator, Global};
 use std::marker::Model;
 use tlv_core::ObjectTag;
 
-/// The identifiers of a card's applications that are still to come, in order. Contracts see their
-/// list.
+/// Iterates over the identifiers of a card's applications, in order. Contracts see the list of
+/// those that are left.
 #[derive(Drop)]
 pub struct Apps<'a, A: Allocator = Global> {
     rest: &'a [Application<A>],
@@ -45,8 +45,8 @@ impl<'a, A: Allocator> Iterator for Apps<'a, A> {
     }
 }
 
-/// The data objects of an application that are still to come, in order, each as its tag and its
-/// value. Contracts see the list of these pairs.
+/// Iterates over the data objects of an application, in order, each as its tag and its value.
+/// Contracts see the list of those that are left.
 #[derive(Drop)]
 pub struct Entries<'a, A: Allocator = Global> {
     objects: indexmap::map::Iter<'a, ObjectTag, Stored<A>>,

@@ -1,4 +1,4 @@
-//! The refusals of a header.
+//! Why a header is refused.
 ghost use Rattle.std.specs.Prelude.{◌≡◌, Some, None, if◌then◌else◌, true, IfSome, ℕ, nat_lt};
 ghost use Rattle.object_card.specs.CardFields.{IsResponse, left_of};
 ghost use Rattle.std.specs.Option.{option_map};
@@ -21,8 +21,8 @@ use crate::view::View;
 use apdu_core::{Header, Status, count};
 use std::alloc::Allocator;
 
-/// The status with which a header is refused, if it is. A GET DATA asks for this object, if there
-/// is one.
+/// Why a header is refused, as a status, if it is. `asked` is the object that a GET DATA asks for,
+/// if there is one.
 pub(crate) fn refusal<A: Allocator>(
     view: &View<A>,
     header: Header,
@@ -50,7 +50,7 @@ pub(crate) fn refusal<A: Allocator>(
     }
 }
 
-/// The refusals of a header by its form alone.
+/// Why a header is refused for its form alone, as a status, if it is.
 fn form_refusal(header: Header) -> Option<Status>
     ensures { (state : CardState) (p3 : ℕ) → result ≡ first_of_them state header p3 of_form }
 {
@@ -158,7 +158,7 @@ fn get_response_refusal<A: Allocator>(view: &View<A>, header: Header, p3: u8) ->
     too_much(response.left(view.applications, view.selected), p3)
 }
 
-/// The refusal where more bytes are asked for than are left.
+/// The status if more bytes are asked for than are left.
 fn too_much(left: usize, p3: u8) -> Option<Status>
     ensures { result ≡ (if nat_lt left (count p3) then Some (0x6C, left) else None) }
 {

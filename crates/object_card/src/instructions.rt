@@ -1,4 +1,4 @@
-//! The instructions that a card of data objects takes, and the commands that are agreed with it.
+//! The instructions of a card of data objects, and the commands on whose direction both ends agree.
 ghost use Rattle.std.specs.Prelude.{◌≡◌, ◌↔◌, true};
 ghost use Rattle.object_card.specs.Agreed.{IsAgreed};
 ghost use Rattle.object_card.specs.Instructions.{MayReceive, MaySend, ins_of, instruction_of, takes_data};
@@ -17,25 +17,25 @@ pub const PUT_DATA: u8 = 0xDA;
 /// INS of GET RESPONSE (ISO/IEC 7816-4, GET RESPONSE).
 pub const GET_RESPONSE: u8 = 0xC0;
 
-/// CLA of a command that is not the last of its chain.
+/// CLA of a command that is followed by more of its chain.
 pub(crate) const CHAINED: u8 = 0x10;
 
-/// An instruction that a card of data objects takes (ISO/IEC 7816-4; which of them: this project's
-/// profile).
+/// An instruction of a card of data objects (ISO/IEC 7816-4; which ones: profile).
 #[derive(Clone, Copy, Debug, PartialEq, Eq)]
 pub enum Instruction {
-    /// SELECT by identifier: P1-P2 `0400`; the identifier goes to the card.
+    /// SELECT by identifier: P1-P2 are `0400`, and the identifier goes to the card.
     Select,
-    /// GET DATA: P1-P2 name a tag; its data object comes from the card.
+    /// GET DATA: P1-P2 name a tag, and its data object comes from the card.
     GetData,
-    /// PUT DATA: P1-P2 name a tag; its value, or a piece of it, goes to the card.
+    /// PUT DATA: P1-P2 name a tag, and its value, or a piece of it, goes to the card.
     PutData,
-    /// GET RESPONSE: P1-P2 `0000`; what is left of a response comes from the card.
+    /// GET RESPONSE: P1-P2 are `0000`, and the rest of a response comes from the card.
     GetResponse,
 }
 
 impl Instruction {
-    /// The instruction with this INS; `None` for every byte that the card answers `6D00`.
+    /// Returns the instruction with this INS. `None` for any other byte, which the card refuses
+    /// with `6D00`.
     pub fn of(ins: u8) -> Option<Instruction>
         ensures { result ≡ instruction_of ins }
     {
@@ -48,7 +48,7 @@ impl Instruction {
         }
     }
 
-    /// Its byte INS.
+    /// The byte INS.
     pub fn ins(self) -> u8
         ensures { result ≡ ins_of self }
     {
@@ -60,7 +60,7 @@ impl Instruction {
         }
     }
 
-    /// Whether its data go to the card; else they come from it.
+    /// Whether data go to the card. Otherwise they come from it.
     pub fn takes_data(self) -> bool
         ensures { result ≡ takes_data self }
     {
@@ -71,9 +71,9 @@ impl Instruction {
     }
 }
 
-/// Whether a command is agreed with a card of data objects, so that both ends know which way data
-/// move: one that only asks for data is none of SELECT and PUT DATA, and every other one is none of
-/// GET DATA and GET RESPONSE. A command with an INS that the card refuses is agreed.
+/// Whether terminal and card agree on the direction of a command's data. A command with Le and
+/// without data must not be a SELECT or PUT DATA. Any other command must not be a GET DATA or GET
+/// RESPONSE. The ends agree on a command with an INS that the card refuses.
 pub fn is_agreed(command: &Command) -> bool
     ensures { (result ≡ true) ↔ IsAgreed MayReceive MaySend command.now }
 {

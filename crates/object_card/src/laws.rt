@@ -1,6 +1,6 @@
-//! Laws of what each command does to a card: each function's contract is a law. Laws of what
-//! commands do one after another stand in `runs`, and of all that goes on at a card's end in
-//! `histories`.
+//! Laws of what one command does to a card, for proofs in the crates above. Each function is empty:
+//! its contract is the law. `runs` holds laws of several commands, and `histories` of all that
+//! happens at a card's end.
 ghost use Rattle.std.specs.Prelude.{◌≡◌, ◌≢◌, ◌↔◌, ◌⊎◌, ℕ, List, [], Some, None, length, true};
 ghost use Rattle.apdu_core.specs.StatusWord.{StatusWord, ok};
 ghost use Rattle.t0_core.specs.Meaning.{Tpdu};
@@ -14,41 +14,41 @@ ghost use Rattle.object_card.specs.CardMeaning.{Does};
 pub mod histories;
 pub mod runs;
 
-/// The tag that a header is found to name is the one that its P1-P2 name.
+/// The function that finds the tag of P1-P2 agrees with the relation between them.
 pub fn p1p2_name_the_tag()
     ensures { (tag : List ℕ) (p1 p2 : ℕ) → (named_tag p1 p2 ≡ Some tag) ↔ NamesTag tag p1 p2 }
 {}
 
-/// Whatever comes, a card's state stays one: distinct identifiers and tags, sound values, each
-/// number within its limit, what is selected is held, a chain keeps to the limit and some of a
-/// response is left. So it is after a reset.
+/// Every TPDU, and a reset, leaves a card state sound. Identifiers and tags are distinct, values
+/// are sound, and each number keeps to its limit. The selected application exists, a chain keeps to
+/// the limit, and a pending response has at least one byte.
 pub fn a_card_state_stays_one()
     ensures step { (old new : CardState) (cut : ℕ) (tpdu : Tpdu) → Does old cut tpdu new →
         IsCardState old → IsCardState new }
     ensures reset { (state : CardState) → IsCardState state → IsCardState (after_reset state) }
 {}
 
-/// A header that is refused moves no data, and is answered with the status of the first reason that
-/// holds.
+/// A refused header moves no data, and gets the status of the first reason that holds.
 pub fn a_refused_header_moves_nothing()
     ensures { (old new : CardState) (cut : ℕ) (tpdu : Tpdu) (status : StatusWord) →
         Does old cut tpdu new → refusal old tpdu.header tpdu.p3 ≡ Some status → (tpdu.sent ≡ [])
         × (tpdu.received ≡ []) × (tpdu.status ≡ status) }
 {}
 
-/// A command that is not the last of its chain changes no entry.
+/// A command that is followed by more of its chain changes no entry.
 pub fn a_piece_changes_no_entry()
     ensures { (old new : CardState) (cut : ℕ) (tpdu : Tpdu) → Does old cut tpdu new →
         tpdu.header.cla ≡ 0x10 → new.applications ≡ old.applications }
 {}
 
-/// A SELECT that finds no application keeps the one selected.
+/// A SELECT that finds no application keeps the selection.
 pub fn not_found_keeps_the_selection()
     ensures { (old new : CardState) (cut : ℕ) (tpdu : Tpdu) → Does old cut tpdu new →
         tpdu.status ≡ (0x6A, 0x82) → new.selected ≡ old.selected }
 {}
 
-/// Every status but `9000` drops a chain, and a command that is the last of its chain ends it.
+/// Every status except `9000` drops a chain. A command that is not followed by more of its chain
+/// ends it.
 pub fn a_chain_is_dropped_or_ended()
     ensures dropped { (old new : CardState) (cut : ℕ) (tpdu : Tpdu) → Does old cut tpdu new →
         tpdu.status ≢ ok → is_idle new.pending ≡ true }
@@ -56,7 +56,7 @@ pub fn a_chain_is_dropped_or_ended()
         tpdu.header.cla ≢ 0x10 → is_idle new.pending ≡ true }
 {}
 
-/// A response is pending only after `61XX`, or as it was after `6CXX` to a GET RESPONSE.
+/// A response is pending only after `61XX`, or unchanged after `6CXX` to a GET RESPONSE.
 pub fn a_response_is_announced()
     ensures { (old new : CardState) (cut : ℕ) (tpdu : Tpdu) (left : List ℕ) →
         Does old cut tpdu new → new.pending ≡ ResponsePending left →
@@ -78,16 +78,16 @@ pub fn all_of_a_select_moves()
         tpdu.p3 ≡ length tpdu.sent }
 {}
 
-/// Entries change only by a PUT DATA with CLA `00` that is answered `9000`.
+/// Entries change only by a PUT DATA with CLA `00` whose status is `9000`.
 pub fn only_a_put_changes_entries()
     ensures { (old new : CardState) (cut : ℕ) (tpdu : Tpdu) → Does old cut tpdu new →
         (new.applications ≡ old.applications) ⊎ ((tpdu.header.cla ≡ 0x00) × (tpdu.header.ins ≡ 0xDA)
         × (tpdu.status ≡ ok)) }
 {}
 
-/// An operation has one reply and one next state, and a command with the same data to the card has
-/// the same data from the card, status and next state, where memory is not wanted (`6581`). It is
-/// wanted only where a value would be stored, and the card then stays as it was.
+/// Unless memory runs out (`6581`), an operation has one reply and one next state, and a command
+/// with the same data to the card has the same data from it, status and next state. Memory can run
+/// out only if a value would be stored; the card is then unchanged.
 pub fn a_command_has_one_outcome()
     ensures operation { (old a b : CardState) (operation : Operation) (r s : Reply) →
         Answers old operation r a → Answers old operation s b → r.status ≢ (0x65, 0x81) →
@@ -101,13 +101,13 @@ pub fn a_command_has_one_outcome()
         × (t.status ≡ u.status) × (a ≡ b) }
 {}
 
-/// A put has one status, where memory is not wanted.
+/// Unless memory runs out, a put has one status.
 pub fn a_put_has_one_status()
     ensures { (entries : List Entry) (tag value : List ℕ) (s t : StatusWord) →
         PutStatus entries tag value s → PutStatus entries tag value t → s ≡ t }
 {}
 
-/// Want of memory (`6581`) is told to a PUT DATA with CLA `00` alone, and changes no table.
+/// Only a PUT DATA with CLA `00` gets `6581` (memory ran out), which changes no table.
 pub fn only_a_put_wants_memory()
     ensures { (old new : CardState) (cut : ℕ) (tpdu : Tpdu) → Does old cut tpdu new →
         tpdu.status ≡ (0x65, 0x81) → (tpdu.header.cla ≡ 0x00) × (tpdu.header.ins ≡ 0xDA)

@@ -1,49 +1,22 @@
-//! A card of data objects: what it holds, and what each TPDU does to it.
+//! A card of data objects: applications and their objects, and what each TPDU does to them.
 //!
-//! A `CardBuilder` takes applications and their data objects, `finish` makes a card of them, and an
-//! end of the line over the card (`t0_core::CardEnd`) takes the characters of a terminal and hands
-//! out those of the card. That is a card simulator:
+//! A [`CardBuilder`] takes applications by [`Aid`] and their objects, and makes an [`ObjectCard`].
+//! A `t0_core::CardEnd` over that is a card simulator: it takes the characters of a terminal and
+//! returns those of the card. The tables change only when SW2 is sent. [`Apps`] and [`Entries`]
+//! read them. [`DataCard`] is the trait of all such cards, and [`is_agreed`] tests whether both
+//! ends agree on a command. [`BuilderFault`] is the error. This makes a card with one object:
 //!
-//! ```
-//! /// A card with one application that holds a name.
-//! fn card(alloc: Global, application: Aid, name: ObjectTag) -> Result<CardEnd<ObjectCard>, Fail> {
-//!     let mut builder = CardBuilder::new(alloc);
-//!     builder.app(application)?;
-//!     builder.object(name, b"JOE")?;
-//!     Ok(CardEnd::new(builder.finish()?))
-//! }
-//!
-//! /// Takes the terminal's characters, and adds to `heard` what the card sends until it listens.
-//! fn answer(
-//!     end: &mut CardEnd<ObjectCard>,
-//!     plans: &mut Plans,
-//!     sent: &[u8],
-//!     heard: &mut Vec<u8>,
-//! ) -> Result<(), Fail> {
-//!     for &byte in sent {
-//!         end.take(byte)?;
-//!     }
-//!     for _ in 0..u64::MAX {
-//!         match end.turn(plans) {
-//!             Turn::Sends(byte) => heard.push(byte)?,
-//!             Turn::Listens => break,
-//!         }
-//!     }
-//!     Ok(())
-//! }
+//! ```rust
+//! // crates/library_use/src/card.rt
+//! let mut builder = CardBuilder::new(alloc);
+//! builder.app(aid)?;
+//! builder.object(tag, b"JOE")?;
+//! Ok(CardEnd::new(builder.finish()?))
 //! ```
 //!
-//! `Plans::over(&[])` is a card that sends no NULL and moves all data at once. `take` refuses a
-//! character where the card has some to send, and changes nothing then; `reset` of the end is a
-//! reset of the card, at any time. What the card holds is read through the end, and changes only as
-//! the second status character is handed out:
-//!
-//! ```
-//! for (tag, value) in end.card().entries(&application).ok_or("no such application")? {
-//!     let is_locked = end.card().is_locked(&application, tag);
-//!     ..
-//! }
-//! ```
+//! Proved: each TPDU does what `specs/CardMeaning` says, whatever the terminal sends, and an
+//! operation of several commands equals one step of `specs/OneStep`. The README lists the
+//! contracts; `laws` holds laws for proofs in the crates above.
 #![tactic(auto)]
 
 mod aid;

@@ -1,5 +1,5 @@
-//! What a command looks for: the application that is selected, the tag that P1-P2 name, and the
-//! data object that a GET DATA asks for.
+//! Finds what a command names: the selected application, the tag of P1-P2, and the data object of a
+//! GET DATA.
 ghost use Rattle.std.specs.Prelude.{◌≡◌, IfSome};
 ghost use Rattle.std.specs.Option.{option_map, option_copied};
 ghost use Rattle.object_card.specs.CardFields.{IsResponse, held_at, left_of};
@@ -13,7 +13,7 @@ use apdu_core::Header;
 use std::alloc::Allocator;
 use tlv_core::{ObjectTag, head};
 
-/// The application that is selected.
+/// The selected application.
 pub(crate) fn chosen<'a, A: Allocator>(
     applications: &'a [Application<A>],
     selected: Option<usize>,
@@ -30,7 +30,7 @@ pub(crate) fn named(header: Header) -> Option<ObjectTag>
     ObjectTag::from_p1p2(header.p1, header.p2)
 }
 
-/// The data object that a GET DATA asks for, whole.
+/// The data object that a GET DATA asks for, as a whole response.
 pub(crate) fn object_asked<A: Allocator>(view: &View<A>, header: Header) -> Option<Response>
     requires standing { IsStandingView view.now }
     ensures response { IfSome result (IsResponse (entries_seen view.now)) }

@@ -1,4 +1,4 @@
-//! The chain of PUT DATA that is pending.
+//! The pending chain of PUT DATA.
 ghost use Rattle.std.specs.Prelude.{◌≡◌, ◌≤◌, ◌+◌, length, IfSome};
 ghost use Rattle.object_card.specs.CardView.{standing_chain, length_before, settled_chain, chain_before};
 ghost use Rattle.apdu_core.specs.Chaining.{Accepts, IsChain, added};
@@ -8,7 +8,7 @@ use crate::ready::Ready;
 use apdu_core::{Chain, Header};
 use std::alloc::Allocator;
 
-/// How many bytes the chain has that is pending, if one is.
+/// The number of bytes in the pending chain, if there is one.
 pub(crate) fn pending_len<A: Allocator>(chain: &Chain<A>) -> Option<usize>
     ensures len { result ≡ length_before chain.now }
     ensures chain { IsChain chain.now }
@@ -20,7 +20,7 @@ pub(crate) fn pending_len<A: Allocator>(chain: &Chain<A>) -> Option<usize>
     }
 }
 
-/// The data of a command join the chain.
+/// Adds the data of a command to the chain.
 pub(crate) fn join<A: Allocator>(chain: &mut Chain<A>, header: Header, content: &[u8])
     requires accepts { Accepts chain.old header }
     requires room { length chain.old.bytes + length content.now ≤ chain.old.limit }
@@ -29,7 +29,7 @@ pub(crate) fn join<A: Allocator>(chain: &mut Chain<A>, header: Header, content: 
     chain.add(header, content).unwrap();
 }
 
-/// The chain as it stands, without a piece that has only been made ready.
+/// The chain without a piece that has joined it in the TPDU in progress.
 pub(crate) fn give_up<A: Allocator>(chain: &mut Chain<A>, ready: Ready)
     requires { CanBeGivenUp chain.old ready }
     ensures { chain.new ≡ standing_chain chain.old ready }
@@ -39,7 +39,7 @@ pub(crate) fn give_up<A: Allocator>(chain: &mut Chain<A>, ready: Ready)
     }
 }
 
-/// The chain once the answer is handed out: none, but where a piece has joined it.
+/// The chain once SW2 is sent: it stays only if a piece has joined it.
 pub(crate) fn settle<A: Allocator>(chain: &mut Chain<A>, ready: Ready)
     ensures { chain.new ≡ settled_chain chain.old ready }
 {
@@ -48,7 +48,7 @@ pub(crate) fn settle<A: Allocator>(chain: &mut Chain<A>, ready: Ready)
     }
 }
 
-/// The chain as it was, before a piece joined it; none, where none was pending.
+/// Takes the chain back to its first `before` bytes, or to no chain.
 pub(crate) fn restore<A: Allocator>(chain: &mut Chain<A>, before: Option<usize>)
     requires { IfSome before (λ len. len ≤ length chain.old.bytes) }
     ensures { chain.new ≡ chain_before chain.old before }

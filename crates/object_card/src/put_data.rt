@@ -18,7 +18,7 @@ use apdu_core::{Header, Status};
 use std::alloc::Allocator;
 use tlv_core::{ObjectTag, value_fault};
 
-/// The answer to a PUT DATA of this value, and what is then ready.
+/// The status of a PUT DATA of this value, and what is prepared.
 pub(crate) fn put_value<A: Allocator + Copy>(
     applications: &mut [Application<A>],
     selected: usize,
@@ -42,7 +42,7 @@ pub(crate) fn put_value<A: Allocator + Copy>(
     }
 }
 
-/// What is taken where a value is not put: nothing stays pending.
+/// The result if a value is not put: nothing stays pending.
 fn not_put<A: Allocator>(status: Status) -> Taken<A>
     ensures status { result.status ≡ status }
     ensures ready { result.ready ≡ Ready.Leaves None }
@@ -55,7 +55,7 @@ fn not_put<A: Allocator>(status: Status) -> Taken<A>
     }
 }
 
-/// The value in memory of its own, with a place for its tag; or the status of why it is not put.
+/// Copies the value and allocates a place for its tag, or returns the status of why it is not put.
 pub(crate) fn value_to_put<A: Allocator + Copy>(
     application: &mut Application<A>,
     tag: ObjectTag,
@@ -84,7 +84,7 @@ pub(crate) fn value_to_put<A: Allocator + Copy>(
     Ok(copy)
 }
 
-/// The status with which a value is refused that keeps to the limit, if it is.
+/// Why a value within the limit is refused, as a status, if it is.
 fn refused_value<A: Allocator>(
     application: &Application<A>,
     tag: ObjectTag,
@@ -105,7 +105,7 @@ fn refused_value<A: Allocator>(
     None
 }
 
-/// Stores the value that is put, if one is.
+/// Stores the value to put, if there is one.
 pub(crate) fn store<A: Allocator>(
     applications: &mut [Application<A>],
     selected: Option<usize>,

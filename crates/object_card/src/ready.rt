@@ -1,4 +1,4 @@
-//! What a card has made ready for the TPDU under way.
+//! What a card has prepared in the TPDU in progress.
 ghost use Rattle.std.specs.Prelude.{◌≡◌};
 
 use crate::response::Response;
@@ -6,12 +6,12 @@ use apdu_core::Header;
 use std::alloc::Allocator;
 use tlv_core::ObjectTag;
 
-/// What the card has made ready, and what stands once the answer is handed out.
+/// What the card has prepared, and what takes effect once SW2 is sent.
 #[derive(Clone, Copy, Debug)]
 pub enum Ready {
     /// Nothing.
     Nothing,
-    /// It takes the data of a SELECT or a PUT DATA.
+    /// It expects the data of a SELECT or a PUT DATA.
     Receives {
         header: Header,
         p3: u8,
@@ -24,24 +24,25 @@ pub enum Ready {
         cut: u16,
         response: Response,
     },
-    /// This response is pending, if any, and no chain.
+    /// This response, or none, will be pending, and no chain.
     Leaves {
         response: Option<Response>,
     },
-    /// This application is selected, and this response pending.
+    /// This application will be selected, and this response pending.
     Selects {
         application: usize,
         response: Response,
     },
-    /// A piece has joined the chain. Before it a chain of so many bytes was pending, if any.
+    /// A piece has joined the chain. `before` is the number of bytes of the chain before it, if
+    /// there was one.
     Joins {
         before: Option<usize>,
     },
-    /// A value is put.
+    /// A value will be put.
     Stores,
 }
 
-/// A value that is to be put, in memory of its own.
+/// A value to put, in memory of its own.
 #[derive(Drop)]
 pub(crate) struct Put<A: Allocator> {
     pub(crate) tag: ObjectTag,
@@ -51,7 +52,7 @@ pub(crate) struct Put<A: Allocator> {
 impl Ready {
     ghost use Rattle.object_card.specs.CardView.{stands_idle, selected_after, response_after, keeps_chain};
 
-    /// The application that is selected then.
+    /// The application that will be selected.
     pub(crate) fn selected_after(self, selected: Option<usize>) -> Option<usize>
         ensures { result ≡ selected_after self selected }
     {
@@ -61,7 +62,7 @@ impl Ready {
         }
     }
 
-    /// The response that is pending then.
+    /// The response that will be pending.
     pub(crate) fn response_after(self) -> Option<Response>
         ensures { result ≡ response_after self }
     {
@@ -72,15 +73,15 @@ impl Ready {
         }
     }
 
-    /// Whether a chain is pending then.
+    /// Whether a chain will be pending.
     pub(crate) fn keeps_chain(self) -> bool
         ensures { result ≡ keeps_chain self }
     {
         matches!(self, Ready::Joins { .. })
     }
 
-    /// Whether no chain stands, where the card's chain is pending or not: a piece that is only
-    /// about to join one has changed nothing yet.
+    /// Whether no chain is in effect, if the card's chain is `pending`. A piece that joins one in
+    /// the TPDU in progress has no effect yet.
     pub(crate) fn stands_idle(self, pending: bool) -> bool
         ensures { result ≡ stands_idle self pending }
     {

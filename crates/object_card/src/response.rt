@@ -1,4 +1,4 @@
-//! A response, as a place in what the card holds.
+//! A response, as a place in the card's data.
 ghost use Rattle.std.specs.Prelude.{◌≡◌, ◌+◌, ◌<◌, ◌≤◌, ◌++◌, length, take, slice_get, Some, None, IfSome};
 ghost use Rattle.object_card.specs.OneStep.{control_information};
 ghost use Rattle.object_card.specs.CardFields.{IsResponse, IsWhole, entries_at, left_of, value_at};
@@ -8,11 +8,11 @@ use crate::application::Application;
 use std::alloc::Allocator;
 use tlv_core::Head;
 
-/// The most bytes that stand before a value, or of the file control information.
+/// The most bytes before a value, or of the file control information.
 const ROOM: usize = 20;
 
-/// A response, or what is left of one: bytes of its own, the place of the value that follows them
-/// among the data objects of the application selected, if one does, and how many bytes are sent.
+/// A response, or what is left of it: bytes of its own, and then a value of the selected
+/// application, if any. `value` is the place of that value, `sent` the number of bytes sent.
 #[derive(Clone, Copy, Debug)]
 pub struct Response {
     front: [u8; 20],
@@ -22,7 +22,7 @@ pub struct Response {
 }
 
 impl Response {
-    /// The file control information of an application, whole.
+    /// The whole file control information of an application.
     pub(crate) fn information(aid: Aid) -> Response
         ensures { IsWhole result (control_information aid) None }
     {
@@ -31,9 +31,8 @@ impl Response {
         Response::new(&[0x6F, len + 2, 0x84, len], bytes)
     }
 
-    /// The data object with this tag and length, whose value stands at this place, whole. What
-    /// stands before the value is copied with its padding, since six bytes are copied faster than
-    /// as many as there are.
+    /// The whole data object with this head, whose value is at this place. For speed the head is
+    /// copied with its padding, since copying six bytes is faster than copying a varying number.
     pub(crate) fn object(head: &Head, place: usize) -> Response
         ensures { IsWhole result head.now (Some place) }
     {
@@ -63,7 +62,7 @@ impl Response {
         }
     }
 
-    /// What is left when so many more bytes are sent.
+    /// What is left after `count` more bytes are sent.
     pub(crate) fn after(self, count: usize) -> Response
         requires { self.sent + count < 65536 }
         ensures { result ≡ record self { sent = self.sent + count } }
@@ -74,7 +73,7 @@ impl Response {
         }
     }
 
-    /// How many bytes are left.
+    /// The number of bytes left.
     pub(crate) fn left<A: Allocator>(
         &self,
         applications: &[Application<A>],
@@ -87,7 +86,7 @@ impl Response {
         self.len + self.value(applications, selected).len() - self.sent
     }
 
-    /// The byte at this place among those left.
+    /// The byte at index `at` of those left.
     #[inline(always)]
     pub(crate) fn byte<A: Allocator>(
         &self,

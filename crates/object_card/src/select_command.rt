@@ -1,4 +1,4 @@
-//! SELECT: the application with an identifier, and the answer.
+//! SELECT: finds the application with an identifier, and decides the answer.
 ghost use Rattle.std.specs.Prelude.{◌≡◌, Some, None, ◌<◌, length, true, MatchOption};
 ghost use Rattle.t0_core.specs.Meaning.{Decides, taken_with};
 ghost use Rattle.object_card.specs.CardMeaning.{Does};
@@ -16,7 +16,7 @@ use crate::view::View;
 use apdu_core::{Header, Status};
 use std::alloc::Allocator;
 
-/// The answer to a SELECT of this identifier, and what is then ready.
+/// The status of a SELECT of this identifier, and what is prepared.
 pub(crate) fn select<A: Allocator>(
     view: &View<A>,
     header: Header,

@@ -1,4 +1,4 @@
-//! The answer once the bytes of a response are sent.
+//! The status after the bytes of a response are sent.
 ghost use Rattle.std.specs.Prelude.{◌≡◌, Some, None, if◌then◌else◌, ◌==◌};
 ghost use Rattle.t0_core.specs.Meaning.{IsSending, Decides, answered_with};
 ghost use Rattle.object_card.specs.CardMeaning.{Does};
@@ -12,7 +12,7 @@ use crate::view::View;
 use apdu_core::{Status, count};
 use std::alloc::Allocator;
 
-/// The answer once the bytes are sent, and what is then ready.
+/// The status after the bytes are sent, and what is prepared.
 pub(crate) fn sent<A: Allocator>(view: &View<A>, ready: Ready) -> (Ready, Status)
     requires standing { IsStandingView view.now }
     requires fits { FitsView view.now ready }
@@ -38,7 +38,7 @@ pub(crate) fn sent<A: Allocator>(view: &View<A>, ready: Ready) -> (Ready, Status
     (Ready::Leaves { response }, announcing(left, cut))
 }
 
-/// What is pending where so many bytes are left of a response.
+/// The pending response if `left` bytes of it are left.
 fn unless_sent(left: usize, rest: Response) -> Option<Response>
     ensures { result ≡ (if left == 0 then None else Some rest) }
 {

@@ -26,7 +26,7 @@ pub(crate) const LOCKED: (u8, u8) = (0x69, 0x82);
 /// Conditions of use are not satisfied: nothing is selected, or no response is pending.
 pub(crate) const NOT_NOW: (u8, u8) = (0x69, 0x85);
 
-/// Incorrect parameters in the data: the value is no list of objects.
+/// Incorrect parameters in the data: the value is not a list of objects.
 pub(crate) const WRONG_DATA: (u8, u8) = (0x6A, 0x80);
 
 /// File or application not found.
@@ -41,7 +41,7 @@ pub(crate) const WRONG_PARAMETERS: (u8, u8) = (0x6A, 0x86);
 /// Referenced data not found.
 pub(crate) const NO_OBJECT: (u8, u8) = (0x6A, 0x88);
 
-/// SW1 of `6CXX`: `XX` bytes are there, fewer than asked for.
+/// SW1 of `6CXX`: only `XX` bytes are there, fewer than asked for.
 pub(crate) const FEWER: u8 = 0x6C;
 
 /// The instruction is not supported.
@@ -58,7 +58,7 @@ pub(crate) fn status(word: (u8, u8)) -> Status
     Status::new(word.0, word.1).unwrap()
 }
 
-/// The status where so many bytes are left of a response.
+/// The status if `left` bytes of a response are left.
 pub(crate) fn announcing(left: usize, cut: u16) -> Status
     requires { cut ≤ 256 }
     ensures { (rest : List ℕ) → length rest ≡ left → result ≡ announcing rest cut }

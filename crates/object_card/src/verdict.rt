@@ -21,7 +21,7 @@ use apdu_core::{Header, Status};
 use std::alloc::Allocator;
 use t0_core::Verdict;
 
-/// The verdict on a header, and what is then ready.
+/// The verdict on a header, and what is prepared.
 pub(crate) fn judged<A: Allocator>(
     view: &View<A>,
     header: Header,
@@ -56,7 +56,7 @@ pub(crate) fn judged<A: Allocator>(
     (Verdict::Send, ready)
 }
 
-/// What is pending after a refusal: a response, after `6CXX` to a GET RESPONSE.
+/// The response that stays pending after a refusal: only after `6CXX` to a GET RESPONSE.
 fn kept(response: Option<Response>, header: Header, status: &Status) -> Option<Response>
     ensures { result
         ≡ (if is_get_response header && (status.now.0 == 0x6C) then response else None) }
@@ -68,7 +68,7 @@ fn kept(response: Option<Response>, header: Header, status: &Status) -> Option<R
     }
 }
 
-/// What a GET DATA or a GET RESPONSE has to send.
+/// The response that a GET DATA or a GET RESPONSE sends.
 fn to_send<A: Allocator>(view: &View<A>, header: Header) -> Option<Response>
     requires standing { IsStandingView view.now }
     ensures response { IfSome result (IsResponse (entries_seen view.now)) }

@@ -1,10 +1,10 @@
-//! The fields of a card, lent to what judges a header.
+//! The fields of a card, borrowed to judge a header.
 use crate::application::Application;
 use crate::response::Response;
 use apdu_core::Chain;
 use std::alloc::Allocator;
 
-/// What of a card a header is judged by.
+/// The part of a card that decides whether it refuses a header.
 #[derive(Drop)]
 pub(crate) struct View<'a, A: Allocator> {
     pub(crate) applications: &'a [Application<A>],

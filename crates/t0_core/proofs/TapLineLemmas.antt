@@ -1,6 +1,5 @@
 -- A tap passes through the dialogues that it can read, one after another. It can read all that
 -- follow plans.
--- among them.
 use Rattle.std.proofs.Common.{◌≡◌, ℕ, ◌<◌, List, [], ◌∷◌, ◌++◌, length, refl, sym, subst, ◌∙◌, ap, arith, inl, inr, lit<, None}
 use Rattle.std.specs.List.{AllByRecursion, flat_map}
 use Rattle.apdu_core.specs.declared.header.Header.{Header}

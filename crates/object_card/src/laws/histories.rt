@@ -1,5 +1,5 @@
-//! Laws of all that goes on at the end of a card, from when it is made or reset: of the tables that
-//! a history shows.
+//! Laws of all that happens at the end of a card, since it was made or reset: the puts that a
+//! history shows.
 ghost use Rattle.std.specs.Prelude.{◌≡◌, ℕ, List};
 ghost use Rattle.std.specs.List.{AllByRecursion};
 ghost use Rattle.t0_core.specs.Character.{Character};
@@ -12,17 +12,18 @@ ghost use Rattle.object_card.specs.ShownPuts.{AreCutInto, shown_puts, with_puts}
 use crate::DataCard;
 use t0_core::laws::events_have_one_cutting;
 
-/// Items that differ only in a direction that nobody saw, since no data moved, show the same puts.
+/// Items that differ only in a direction that nobody saw, because no data moved, show the same
+/// puts.
 pub fn alike_items_show_the_same_puts()
     ensures { (items others : List Item) → AreAlikeInTurn items others →
         shown_puts items ≡ shown_puts others }
 {}
 
-/// Whatever goes on at the end of a card of data objects, its tables are the first ones with the
-/// puts applied that this shows, in order, and with no other change; however it is cut into whole
-/// dialogues, what resets cut off, and what is under way.
+/// Whatever happens at the end of a card of data objects, its tables are the first ones with
+/// exactly the puts applied that the events show, in order. This holds however the events are cut
+/// into whole dialogues, parts that resets cut off, and the part in progress.
 ///
-/// `first` is the card when the end was made, as `finish` makes one, or after a reset; `card` is
+/// `first` is the card when the end was made, as `finish` makes one, or after a reset. `card` is
 /// the card now, at an end of this stage.
 pub fn an_end_holds_what_its_history_shows<C: DataCard>()
     ensures is_cut { (first card : C) (events : List Event) (stage : Stage) →

@@ -1,5 +1,5 @@
-//! Laws of what commands do to a card one after another: of the tables that a history shows, of
-//! operations as they are carried out, and of what an exchange brings.
+//! Laws of several commands: the puts that a history shows, how operations are carried out, and how
+//! many bytes an exchange brings.
 ghost use Rattle.std.specs.Prelude.{◌≡◌, ℕ, ◌+◌, ◌≤◌, List, [], ◌∷◌, Some, None, length, true};
 ghost use Rattle.std.specs.List.{flat_map};
 ghost use Rattle.apdu_core.specs.StatusWord.{StatusWord, count, announces, corrects};
@@ -19,16 +19,16 @@ ghost use Rattle.object_card.specs.ShownPuts.{shown_puts, with_puts};
 
 use crate::DataCard;
 
-/// However a terminal uses a card, its tables are the first ones with the puts applied that the
-/// history shows, in order, and with no other change. So a chain that is given up, a data field
-/// that does not end, and a reset between the two status characters change no entry.
+/// However a terminal uses a card, its tables are the first ones with exactly the puts applied that
+/// the history shows, in order. So an abandoned chain, an unfinished data field, and a reset
+/// between SW1 and SW2 change no entry.
 pub fn the_tables_are_those_of_the_shown_puts()
     ensures { (first last : CardState) (items : List Item) → first.selected ≡ None →
         first.pending ≡ NothingPending → RunsOver Does after_reset first items last →
         last.applications ≡ with_puts (shown_puts items) first.applications }
 {}
 
-/// So it is with any card of data objects, by what its own states stand for.
+/// The same holds for any card of data objects, by what its own states stand for.
 pub fn so_are_those_of_any_card<C: DataCard>()
     ensures { (state_of : C.State → CardState) → StandsFor C.Does C.after_reset state_of →
         (first last : C.State) (items : List Item) → (state_of first).selected ≡ None →
@@ -36,17 +36,16 @@ pub fn so_are_those_of_any_card<C: DataCard>()
         (state_of last).applications ≡ with_puts (shown_puts items) (state_of first).applications }
 {}
 
-/// What is pending is no matter to an operation: cards with the same tables give the same answer,
-/// and have then the same tables.
+/// What is pending does not affect an operation: cards with the same tables give the same reply,
+/// and have the same tables afterwards.
 pub fn an_answer_does_not_hang_on_what_is_pending()
     ensures { (a b a' : CardState) (operation : Operation) (answer : Reply) → SameTables a b →
         Answers a operation answer a' → (b' : CardState) × Answers b operation answer b'
         × SameTables a' b' }
 {}
 
-/// The commands that carry a value, a TPDU each under any cuts, up to the first that is answered
-/// with another status than `9000`, are the put of the value in one step, and end with no chain
-/// pending.
+/// The commands that carry a value, one TPDU each under any cuts, up to the first whose status is
+/// not `9000`, are the put of the value in one step. Afterwards no chain is pending.
 pub fn the_commands_of_a_value_put_it()
     ensures { (old new : CardState) (tag value : List ℕ) (p1 p2 : ℕ) (pieces : List (List ℕ))
         (status : StatusWord) →
@@ -55,7 +54,7 @@ pub fn the_commands_of_a_value_put_it()
         IsCarriedOut old (Put tag value) status [] new }
 {}
 
-/// A SELECT, and GET RESPONSE for all that is announced, each time under any cut, select in one
+/// A SELECT, followed by GET RESPONSE for all that is announced, each under any cut, selects in one
 /// step.
 pub fn a_select_with_its_fetches_selects()
     ensures { (old mid new : CardState) (cut : ℕ) (aid : List ℕ) (t : Tpdu) (fetches : List Tpdu)
@@ -81,8 +80,8 @@ pub fn a_get_with_its_fetches_gets()
         IsCarriedOut old (Get tag) last (flat_map (λ t. t.received) (t ∷ u ∷ fetches)) new }
 {}
 
-/// What `61XX` announces waits, and a GET RESPONSE for no more than what waits brings as many bytes
-/// as its P3 counts. So one that the card announced brings data, without a `6CXX`, and no exchange
+/// What `61XX` announces waits. A GET RESPONSE for no more than what waits brings as many bytes as
+/// its P3 states. So a fetch that the card announced brings data, without a `6CXX`, and no exchange
 /// stalls.
 pub fn what_is_announced_is_brought()
     ensures waits { (old new : CardState) (cut n : ℕ) (t : Tpdu) → Does old cut t new → IsCut cut →
@@ -96,9 +95,9 @@ pub fn what_is_announced_is_brought()
         × (length fetch.received ≡ count fetch.p3) × (corrects fetch.status ≡ None) }
 {}
 
-/// No exchange brings more than a terminal gathers: what a TPDU brings and what then waits are at
-/// most a value with its tag and length, `6CXX` comes without data, and each GET RESPONSE brings of
-/// what waits. There is room for the data of one more TPDU.
+/// No exchange brings more than a terminal gathers. The bytes that a TPDU brings, and those that
+/// wait afterwards, are at most a value with its tag and length. `6CXX` comes without data, and
+/// each GET RESPONSE takes from what waits. That leaves room for the data of one more TPDU.
 pub fn an_exchange_brings_no_more_than_is_gathered()
     ensures first { (old new : CardState) (cut : ℕ) (t : Tpdu) → Does old cut t new →
         IsCardState old →

@@ -1,4 +1,4 @@
-//! What a builder takes, and what it refuses, in the order of its refusals.
+//! What a builder accepts, and what it refuses, in the order of its errors.
 
 use super::trace::{add, add_object, aid, built, bytes, entries, full, holds, is_locked, tag};
 use object_card::{BuilderFault, ObjectCard, VALUE_LIMIT};
@@ -12,8 +12,8 @@ fn made(rt: &(impl Abort + AllocGlobal), table: &str) -> ObjectCard {
     built(rt, rt.alloc(), table).finish().expect(rt, "memory")
 }
 
-/// The application holds data objects with these tags and values of one byte, which are locked or
-/// not, and nothing else, in this order.
+/// Checks that the application contains exactly these data objects, in this order: tags, values of
+/// one byte, and whether they are locked.
 fn lists(
     rt: &(impl Abort + AllocGlobal),
     card: &ObjectCard,
@@ -61,7 +61,7 @@ fn the_last_call_says_what_is_locked(rt: HostRuntime) {
     lists(&rt, &made(&rt, table), "A000000003", &after);
 }
 
-/// A builder with the table refuses the line, and keeps the table.
+/// Checks that a builder with the table refuses the line, and keeps the table.
 fn refuses(rt: &(impl Abort + AllocGlobal), table: &str, line: &str, fault: BuilderFault) {
     let mut builder = built(rt, rt.alloc(), table);
     assert!(rt; add(rt, &mut builder, line) == Err(fault), "{line}");
@@ -96,8 +96,7 @@ fn refuses_objects(rt: HostRuntime) {
     }
 }
 
-/// A list of two objects with 8,192 bytes: the length of the one is `81C8`, that of the other
-/// `821F31`.
+/// A list of two objects with 8,192 bytes: their lengths are `81C8` and `821F31`.
 fn longest_template(rt: &(impl Abort + AllocGlobal)) -> Vec<u8> {
     let mut value = bytes(rt, "5081C8");
     for part in &["41*200", "51821F31", "42*7985"] {
@@ -120,7 +119,7 @@ fn takes_a_template_of_8192_bytes(rt: HostRuntime) {
     assert!(rt; entries.next().is_none());
 }
 
-/// A full application still takes a value under a tag that it holds.
+/// A full application still accepts a value under a tag that it contains.
 #[test]
 fn refuses_one_object_more(rt: HostRuntime) {
     let table = full(&rt, 0x00);

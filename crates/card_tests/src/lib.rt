@@ -1,5 +1,5 @@
-//! Tests of `object_card`, by its public calls alone: so no proof of it is made once more for the
-//! tests.
+//! Tests of `object_card` through its public calls. A crate of their own, so that `object_card` is
+//! not proved again for its tests.
 #![tactic(auto)]
 
 #[cfg(test)]

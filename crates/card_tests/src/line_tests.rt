@@ -1,4 +1,4 @@
-//! What a terminal sends to a card's end of the line, and what the card answers.
+//! What a terminal sends to a card's end of the line, and what the card sends back.
 
 use super::trace::{aid, end_over, full, holds, is_taken, passes, passes_alone, plans, turn};
 use object_card::{DataCard, ObjectCard};
@@ -12,20 +12,20 @@ const NAMED: &str = "app A0000000031010; object 5F20 4A4F45";
 /// Its selection, without the response.
 const SELECT: &str = "> 00A4040007 < A4 > A0000000031010 < 610B";
 
-/// No TPDU is under way.
+/// Checks that no TPDU is in progress.
 fn is_over(rt: &impl Abort, end: &mut CardEnd<ObjectCard>, trace: &str) {
     let mut plans = Plans::<Global>::over(&[]);
     assert!(rt; turn(end, &mut plans) == Turn::Listens, "{trace}");
 }
 
-/// A card with this table, its application selected.
+/// A card with this table and its application selected.
 fn selected(rt: &(impl Abort + AllocGlobal), table: &str) -> CardEnd<ObjectCard> {
     let mut end = end_over(rt, rt.alloc(), table);
     passes_alone(rt, &mut end, SELECT);
     end
 }
 
-/// The trace passes under the plans, and no TPDU is under way then.
+/// Checks that the trace passes under the plans, and that no TPDU is in progress afterwards.
 fn passes_under(
     rt: &(impl Abort + AllocGlobal),
     end: &mut CardEnd<ObjectCard>,
@@ -37,8 +37,8 @@ fn passes_under(
     is_over(rt, end, trace);
 }
 
-/// A card with the table, its application selected, passes the trace under the plans, and holds the
-/// other table then.
+/// Checks that a card with the table, its application selected, passes the trace under the plans
+/// and then has the table `after`.
 fn answers(rt: &(impl Abort + AllocGlobal), table: &str, of: &str, trace: &str, after: &str) {
     let mut end = selected(rt, table);
     passes_under(rt, &mut end, of, trace);
@@ -102,13 +102,13 @@ fn an_object_is_sent_whole(rt: HostRuntime) {
     }
 }
 
-/// An application with two objects, of which the first has this value, and another one.
+/// An application with two objects, the first with this value, and another application.
 fn two_apps(rt: &(impl Abort + AllocGlobal), value: &str) -> String {
     let others = "object 50 41; app A0000000041010; object 5F20 43";
     format!(in rt.alloc(); "app A0000000031010; object 5F20 {value}; {others}").expect(rt, "memory")
 }
 
-/// The value `4A4F45` is replaced by this one.
+/// Checks that this value replaces `4A4F45`.
 fn replaces(rt: &(impl Abort + AllocGlobal), of: &str, trace: &str, value: &str) {
     let before = two_apps(rt, "4A4F45");
     answers(rt, &before, of, trace, &two_apps(rt, value));
@@ -182,7 +182,7 @@ fn headers_are_refused_under_a_plan(rt: HostRuntime) {
     answers(&rt, NAMED, "nna:256", trace, NAMED);
 }
 
-/// The traces pass, one after the other, and no entry changes.
+/// Checks that the traces pass, one after the other, and no entry changes.
 fn go_over(rt: &(impl Abort + AllocGlobal), before: &str, trace: &str, after: &str) {
     let mut end = selected(rt, NAMED);
     passes_alone(rt, &mut end, before);
@@ -220,7 +220,7 @@ fn headers_are_refused_in_order(rt: HostRuntime) {
     }
 }
 
-/// After each piece of a chain the trace passes and ends it.
+/// Checks that after each piece of a chain the trace passes and ends the chain.
 fn ends_a_chain(rt: &(impl Abort + AllocGlobal), trace: &str) {
     let mut end = selected(rt, NAMED);
     for piece in &["> 10DA5F2001 < DA > AA < 9000", "> 10DA5F2000 < 9000"] {
@@ -229,7 +229,7 @@ fn ends_a_chain(rt: &(impl Abort + AllocGlobal), trace: &str) {
     holds(rt, end.card(), NAMED);
 }
 
-/// A piece begins a chain, and the trace ends it.
+/// Checks that a piece starts a chain, and the trace ends it.
 fn is_chained(
     rt: &(impl Abort + AllocGlobal),
     end: &mut CardEnd<ObjectCard>,
@@ -328,7 +328,7 @@ fn locked_entries_are_read_alone(rt: HostRuntime) {
 /// A piece of 255 bytes.
 const PIECE: &str = "> 10DA5F20FF < DA > 42*255 < 9000";
 
-/// So many pieces of 255 bytes pass, and then a last one.
+/// Checks that pieces of 255 bytes pass, and then a last one.
 fn takes_pieces(
     rt: &(impl Abort + AllocGlobal),
     end: &mut CardEnd<ObjectCard>,
@@ -341,7 +341,7 @@ fn takes_pieces(
     passes_alone(rt, end, last);
 }
 
-/// The card has taken so many pieces and the last one, and holds the other table then.
+/// Checks that the card takes the pieces and the last one, and then has the table `after`.
 fn is_taken_whole(rt: &(impl Abort + AllocGlobal), pieces: usize, last: &str, after: &str) {
     let mut end = selected(rt, NAMED);
     takes_pieces(rt, &mut end, pieces, last);
@@ -389,7 +389,7 @@ fn a_full_table_takes_no_new_tag(rt: HostRuntime) {
     answers(&rt, &table, "", trace, &after);
 }
 
-/// A put of the byte that this tag and the mark make.
+/// Puts a byte made of the tag and the mark.
 fn puts(rt: &(impl Abort + AllocGlobal), end: &mut CardEnd<ObjectCard>, last: u8, mark: u8) {
     let value = last ^ mark;
     let trace = format!(in rt.alloc(); "> 00DADF{last:02X}01 < DA > {value:02X} < 9000").expect(

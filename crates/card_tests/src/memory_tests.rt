@@ -1,4 +1,4 @@
-//! Each growth is refused in turn, by heaps of ever more bytes.
+//! Each allocation is refused in turn, by heaps of increasing size.
 
 use super::trace::{add, built, end_over, holds, passes_alone, turn};
 use linked_list_allocator::LocalHeap;
@@ -7,30 +7,30 @@ use std::alloc::{AllocGlobal, Allocator, Global};
 use std::process::Abort;
 use t0_core::{CardEnd, Plans, Turn};
 
-/// Bytes of a heap that a call does not get: they hold what was there before, and later the card
-/// that is made of what the call left.
+/// Bytes of a heap that a call can't use. They hold what was allocated before it, and afterwards
+/// the card that is made of what the call left.
 const ASIDE: usize = 16_384;
 
-/// Bytes that are enough for each call here.
+/// Enough bytes for each call here.
 const AMPLE: usize = 4_096;
 
-/// Takes what is free of `ASIDE`.
+/// Allocates what is free of `ASIDE`.
 fn set_aside<'a>(rt: &impl Abort, heap: &'a LocalHeap) -> Vec<u8, &'a LocalHeap> {
     Vec::with_capacity(heap, ASIDE.saturating_sub(heap.used())).expect(rt, "memory")
 }
 
-/// A call that takes memory, the table before it, and the one after it where it is served.
+/// A call that allocates, the table before it, and the table after it if it succeeds.
 #[derive(Clone, Copy)]
 enum Call {
-    /// A builder takes what a line of a table says.
+    /// A builder adds what a line of a table says.
     Add(&'static str, &'static str, &'static str),
     /// A builder makes a card.
     Finish(&'static str),
-    /// A card, its application selected, takes a put, a trace up to its status.
+    /// A card with its application selected carries out a put: a trace up to its status.
     Put(&'static str, &'static str, &'static str),
 }
 
-/// Whether the call is served where nothing but what is beyond `ASIDE` is left of the heap.
+/// Whether the call succeeds if only the heap beyond `ASIDE` is free.
 fn is_served(rt: &(impl Abort + AllocGlobal), heap: &LocalHeap, call: Call) -> bool {
     match call {
         Call::Add(before, line, after) => is_added(rt, heap, before, line, after),
@@ -39,7 +39,7 @@ fn is_served(rt: &(impl Abort + AllocGlobal), heap: &LocalHeap, call: Call) -> b
     }
 }
 
-/// Takes ever larger heaps until one serves the call. A smaller one must have refused it.
+/// Tries larger and larger heaps until the call succeeds. It must have failed in a smaller one.
 fn serves_after_refusals(rt: &(impl Abort + AllocGlobal), least: u16, call: Call) {
     let mut refused = false;
     for size in (0..AMPLE).step_by(16) {
@@ -53,8 +53,8 @@ fn serves_after_refusals(rt: &(impl Abort + AllocGlobal), least: u16, call: Call
     panic!(rt; "no heap was large enough");
 }
 
-/// Whether the builder takes the line. It has the table `after` then, and `before` where memory was
-/// refused.
+/// Whether the builder adds the line. It has the table `after` then, and `before` if memory ran
+/// out.
 fn is_added(
     rt: &(impl Abort + AllocGlobal),
     heap: &LocalHeap,
@@ -92,13 +92,13 @@ fn a_refused_value_leaves_the_one_before(rt: HostRuntime) {
     serves_after_refusals(&rt, 0, Call::Add(LOCKED, "object 50 42", after));
 }
 
-/// Whether no byte is left of the heap.
+/// Whether no byte of the heap is free.
 fn is_exhausted(heap: &LocalHeap, least: usize) -> bool {
     let more: Result<Vec<u8, &LocalHeap>, _> = Vec::with_capacity(heap, least);
     more.is_err()
 }
 
-/// Whether a builder with this table makes a card, which takes the room of a chain.
+/// Whether a builder with this table makes a card, which allocates the buffer for a chain.
 fn is_finished(rt: &(impl Abort + AllocGlobal), heap: &LocalHeap, table: &str) -> bool {
     let builder = built(rt, heap, table);
     let _aside = set_aside(rt, heap);
@@ -117,7 +117,7 @@ fn finish_takes_the_room_of_the_chain(rt: HostRuntime) {
 
 const SELECT: &str = "> 00A4040007 < A4 > A0000000031010 < 610B";
 
-/// What a card sends next, or 0 where it listens.
+/// The character that a card sends next, or 0 if it listens.
 fn sent<A: Allocator + Copy>(end: &mut CardEnd<ObjectCard<A>>) -> u8 {
     let mut plans = Plans::<Global>::over(&[]);
     match turn(end, &mut plans) {
@@ -126,7 +126,7 @@ fn sent<A: Allocator + Copy>(end: &mut CardEnd<ObjectCard<A>>) -> u8 {
     }
 }
 
-/// The status of a put to the card, where no memory is free but what is beyond `ASIDE`.
+/// The status of a put to the card if only the heap beyond `ASIDE` is free.
 fn status_in_want(
     rt: &(impl Abort + AllocGlobal),
     heap: &LocalHeap,
@@ -138,8 +138,8 @@ fn status_in_want(
     u16::from_be_bytes([sent(end), sent(end)])
 }
 
-/// Whether the put was served: the table `before` is then `after`. Else it is answered `6581`, the
-/// table stays, and the put is served once there is memory.
+/// Whether the put succeeds: the table `before` is then `after`. Otherwise its status is `6581`,
+/// the table is unchanged, and the put succeeds once there is memory.
 fn is_put(
     rt: &(impl Abort + AllocGlobal),
     heap: &LocalHeap,
@@ -159,7 +159,7 @@ fn is_put(
     status == 0x9000
 }
 
-/// The card holds the table `before`, and takes the put.
+/// Checks that the card has the table `before`, and carries out the put.
 fn is_served_later<A: Allocator + Copy>(
     rt: &(impl Abort + AllocGlobal),
     end: &mut CardEnd<ObjectCard<A>>,
@@ -187,7 +187,7 @@ fn a_put_that_is_refused_memory_changes_no_entry(rt: HostRuntime) {
     serves_after_refusals(&rt, 0, held);
 }
 
-/// Takes all that is left of the heap, however it is cut up.
+/// Allocates all that is free of the heap, in any number of pieces.
 fn exhausted<'a>(
     rt: &(impl Abort + AllocGlobal),
     heap: &'a LocalHeap,
@@ -202,7 +202,7 @@ fn exhausted<'a>(
     taken
 }
 
-/// A card in this memory, its application selected.
+/// A card in this memory, with its application selected.
 fn selected<'a>(
     rt: &(impl Abort + AllocGlobal),
     heap: &'a LocalHeap,
@@ -213,7 +213,7 @@ fn selected<'a>(
     end
 }
 
-/// The trace passes where no memory is left.
+/// Checks that the trace passes if no memory is free.
 fn passes_in_want(
     rt: &(impl Abort + AllocGlobal),
     heap: &LocalHeap,
@@ -225,7 +225,7 @@ fn passes_in_want(
     passes_alone(rt, end, trace);
 }
 
-/// Where no memory is left, the trace passes all the same, and the table stays.
+/// Checks that the trace passes although no memory is free, and the table is unchanged.
 fn takes_no_memory(rt: &(impl Abort + AllocGlobal), table: &str, trace: &str) {
     let heap = LocalHeap::new(rt.alloc(), 2 * ASIDE).expect(rt, "memory");
     let mut end = selected(rt, &heap, table);
@@ -250,7 +250,7 @@ fn only_a_put_that_is_not_refused_takes_memory(rt: HostRuntime) {
     takes_no_memory(&rt, &full, "> 00DADF4101 < DA > 01 < 6A84");
 }
 
-/// A table of empty objects, from `DF01` on to this last byte.
+/// A table of empty objects, from `DF01` to this last byte.
 fn empties(rt: &(impl Abort + AllocGlobal), last: u8) -> String {
     let mut table = format!(in rt.alloc(); "app A0000000031010").expect(rt, "memory");
     for byte in 0x01..=last {
@@ -270,7 +270,7 @@ fn put_of(rt: &(impl Abort + AllocGlobal), last: u8) -> String {
     format!(in rt.alloc(); "> 00DADF{last:02X}10 < DA > 42*16 < 9000").expect(rt, "memory")
 }
 
-/// The put passes where 16 bytes are left.
+/// Checks that the put passes if 16 bytes are free.
 fn passes_in_its_place(
     rt: &(impl Abort + AllocGlobal),
     heap: &LocalHeap,
@@ -282,7 +282,8 @@ fn passes_in_its_place(
     passes_alone(rt, end, put);
 }
 
-/// A put of 16 bytes under the last tag of a table, where as many are left, is served in its place.
+/// Checks that a put of 16 bytes under the last tag of a table succeeds in its place, if 16 bytes
+/// are free.
 fn is_put_in_its_place(rt: &(impl Abort + AllocGlobal), last: u8) {
     let mut table = empties(rt, last);
     let heap = LocalHeap::new(rt.alloc(), 2 * ASIDE).expect(rt, "memory");

@@ -1,4 +1,4 @@
-//! The card simulator of the crate's page, and a terminal that uses it.
+//! A card simulator in a few lines, and a terminal that uses it.
 
 use super::trace::{aid, bytes, holds, tag};
 use object_card::{Aid, CardBuilder, ObjectCard};
@@ -16,7 +16,7 @@ fn card(alloc: Global, application: Aid, name: ObjectTag) -> Result<CardEnd<Obje
     Ok(CardEnd::new(builder.finish()?))
 }
 
-/// Takes the terminal's characters, and adds to `heard` what the card sends until it listens.
+/// Takes the terminal's characters, and appends to `heard` what the card sends until it listens.
 fn answer(
     end: &mut CardEnd<ObjectCard>,
     plans: &mut Plans,
@@ -35,7 +35,7 @@ fn answer(
     Ok(())
 }
 
-/// The card sends these characters to those.
+/// Checks that the card sends these characters in response to those.
 fn is_answered(
     rt: &(impl Abort + AllocGlobal),
     end: &mut CardEnd<ObjectCard>,

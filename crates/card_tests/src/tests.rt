@@ -1,4 +1,4 @@
-//! Which bytes are an application identifier, and the limits of the profile.
+//! Application identifiers, and the limits of the profile.
 use object_card::{APPLICATION_LIMIT, Aid, ENTRY_LIMIT, HEAD_LIMIT, RESPONSE_LIMIT, VALUE_LIMIT};
 use std::process::Abort;
 

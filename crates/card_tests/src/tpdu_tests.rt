@@ -1,4 +1,4 @@
-//! Whole TPDUs at the end of a card of data objects, as a reader is given them.
+//! Whole TPDUs at the end of a card of data objects, as a reader receives them.
 
 use super::trace::{bytes, end_over, holds};
 use object_card::ObjectCard;
@@ -9,8 +9,8 @@ use t0_core::{CardEnd, Gather, Plans, TpduFault};
 /// An application with a name, and an object of 256 bytes with tag and length.
 const TABLE: &str = "app A0000000031010; object 5F20 4A4F45; object 50 41*253";
 
-/// The TPDU's bytes under no plan, with room for so many data, are answered with these: data and
-/// then the status.
+/// Checks the answer to the TPDU's bytes without a plan, with this room for data: the data and then
+/// the status.
 fn is_answered(
     rt: &(impl Abort + AllocGlobal),
     end: &mut CardEnd<ObjectCard>,
@@ -26,7 +26,7 @@ fn is_answered(
     gather.bytes() == data && word == [status.sw1(), status.sw2()].as_slice()
 }
 
-/// The same of a row of texts: TPDU, room and answer.
+/// The same for a row of texts: TPDU, room and answer.
 fn are_answered(
     rt: &(impl Abort + AllocGlobal),
     end: &mut CardEnd<ObjectCard>,
@@ -41,7 +41,7 @@ fn are_answered(
     }
 }
 
-/// The fault of a TPDU's bytes, with room for so many data.
+/// The error of a TPDU's bytes, with this room for data.
 fn fault_of(
     rt: &(impl Abort + AllocGlobal),
     end: &mut CardEnd<ObjectCard>,
@@ -94,7 +94,7 @@ fn four_bytes_move_nothing(rt: HostRuntime) {
     );
 }
 
-/// One more byte than there is room for, than was given, or than was asked for.
+/// One byte more than there is room for, than was given, or than was asked for.
 #[test]
 fn both_ends_would_wait(rt: HostRuntime) {
     let mut end = end_over(&rt, rt.alloc(), TABLE);
@@ -109,7 +109,7 @@ fn both_ends_would_wait(rt: HostRuntime) {
     holds(&rt, end.card(), TABLE);
 }
 
-/// Bytes that are no TPDU, and any while another is under way, change nothing.
+/// Bytes that are not a TPDU, and any bytes while another TPDU is in progress, change nothing.
 #[test]
 fn bytes_that_are_not_carried_out(rt: HostRuntime) {
     let mut end = end_over(&rt, rt.alloc(), TABLE);
@@ -133,7 +133,7 @@ fn bytes_that_are_not_carried_out(rt: HostRuntime) {
     are_answered(&rt, &mut end, &[("00CA5F2006", 6, "6985")]);
 }
 
-/// As many data as P3 may count, one way and the other.
+/// The most data that P3 can state, in both directions.
 #[test]
 fn the_longest_tpdus(rt: HostRuntime) {
     let mut end = end_over(&rt, rt.alloc(), TABLE);

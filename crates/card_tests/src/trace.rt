@@ -1,7 +1,6 @@
-//! Cards and what passes at their end of the line, as text for tests. Bytes are hexadecimal digits,
-//! where `41*253` stands for 253 bytes `41` and `-` for none. What a test can't go on without is
-//! had by `expect`: a `?` is an exit, on which all that is alive is dropped, and each drop is one
-//! more proof.
+//! Cards, and the characters at their end of the line, as text for tests. Bytes are hexadecimal
+//! digits; `41*253` means 253 bytes `41`, and `-` means no bytes. For the proof, helpers use
+//! `expect`: a `?` is an exit that drops everything alive, and each drop is one more proof.
 
 use object_card::{Aid, BuilderFault, CardBuilder, Entries, ObjectCard};
 use std::alloc::{AllocGlobal, Allocator, Global};
@@ -49,8 +48,8 @@ pub fn tag(rt: &(impl Abort + AllocGlobal), text: &str) -> ObjectTag {
     ObjectTag::new(tag).expect(rt, "an address")
 }
 
-/// Adds what a line of a table says. Without a clause: what is proved of it is nothing that a test
-/// has to know, and costs each proof that has it at hand.
+/// Adds what a line of a table says. For the proof: it has no clause, since each proof that knows
+/// what the call promises is dearer, and the tests don't need it.
 pub fn add<A: Allocator + Copy>(
     rt: &(impl Abort + AllocGlobal),
     builder: &mut CardBuilder<A>,
@@ -65,7 +64,7 @@ pub fn add<A: Allocator + Copy>(
     }
 }
 
-/// Adds a data object, likewise.
+/// Adds a data object; for the proof, also without a clause.
 pub fn add_object<A: Allocator + Copy>(
     builder: &mut CardBuilder<A>,
     tag: ObjectTag,
@@ -79,8 +78,8 @@ pub fn add_object<A: Allocator + Copy>(
     }
 }
 
-/// A builder with the applications and data objects of a table, as
-/// `app A000000003; object 5F20 4A4F45; locked 50 41`. Each is one that it takes.
+/// A builder with the applications and data objects of a table such as `app A000000003; object 5F20
+/// 4A4F45; locked 50 41`. It must accept each.
 pub fn built<A: Allocator + Copy>(
     rt: &(impl Abort + AllocGlobal),
     memory: A,
@@ -95,7 +94,7 @@ pub fn built<A: Allocator + Copy>(
     builder
 }
 
-/// A table of 64 data objects, `DF01` to `DF40`, each with a byte that its tag and the mark make.
+/// A table of 64 data objects, `DF01` to `DF40`, each with a byte made of its tag and the mark.
 pub fn full(rt: &(impl Abort + AllocGlobal), mark: u8) -> String {
     let mut table = format!(in rt.alloc(); "app A0000000031010").expect(rt, "memory");
     for last in 0x01..=0x40 {
@@ -119,7 +118,7 @@ pub fn end_over<A: Allocator + Copy>(
     CardEnd::new(built(rt, memory, table).finish().expect(rt, "memory"))
 }
 
-/// The entries of an application, likewise without a clause.
+/// The entries of an application; for the proof, also without a clause.
 pub fn entries<'a, A: Allocator + Copy>(
     rt: &impl Abort,
     card: &'a ObjectCard<A>,
@@ -128,12 +127,12 @@ pub fn entries<'a, A: Allocator + Copy>(
     card.entries(aid).expect(rt, "an application")
 }
 
-/// Whether an entry is locked, likewise.
+/// Whether an entry is locked; for the proof, also without a clause.
 pub fn is_locked<A: Allocator + Copy>(card: &ObjectCard<A>, aid: &Aid, tag: ObjectTag) -> bool {
     card.is_locked(aid, tag)
 }
 
-/// Whether the two cards hold the same in an application.
+/// Whether the two cards have the same entries in an application.
 fn hold_alike<A: Allocator + Copy>(
     rt: &impl Abort,
     card: &ObjectCard<A>,
@@ -151,7 +150,7 @@ fn hold_alike<A: Allocator + Copy>(
     true
 }
 
-/// The two cards hold the same.
+/// Checks that the two cards have the same entries.
 fn are_alike<A: Allocator + Copy>(
     rt: &impl Abort,
     card: &ObjectCard<A>,
@@ -164,7 +163,7 @@ fn are_alike<A: Allocator + Copy>(
     }
 }
 
-/// The card holds what this table says, in this order and with these locks, and nothing else.
+/// Checks that the card has exactly this table, in this order and with these locks.
 pub fn holds<A: Allocator + Copy>(
     rt: &(impl Abort + AllocGlobal),
     card: &ObjectCard<A>,
@@ -174,8 +173,8 @@ pub fn holds<A: Allocator + Copy>(
     are_alike(rt, card, &wanted, table);
 }
 
-/// Plans of these steps and cuts, as `-:1 nona:256`: `n` is a NULL, `o` moves one data character,
-/// `a` all that remain, and `-` stands for no steps.
+/// Plans of these steps and cuts, such as `-:1 nona:256`. `n` is a NULL, `o` moves one data
+/// character, `a` moves all that are left, and `-` means no steps.
 pub fn plans(rt: &(impl Abort + AllocGlobal), text: &str) -> Vec<Plan> {
     let mut plans = Vec::new(rt.alloc());
     for word in text.split_whitespace() {
@@ -204,8 +203,9 @@ fn steps(rt: &(impl Abort + AllocGlobal), letters: &str) -> Vec<Step> {
     steps
 }
 
-/// What stands in a trace passes, as `> 00CA5F2000 < 6C06`: the card's end takes the characters of
-/// the terminal, and hands out those of the card, each where it alone is due; `reset` resets it.
+/// Checks that a trace such as `> 00CA5F2000 < 6C06` passes: the card's end takes the characters of
+/// the terminal and sends those of the card, each exactly where its sender is next. `reset` resets
+/// it.
 pub fn passes<A: Allocator + Copy, B: Allocator>(
     rt: &(impl Abort + AllocGlobal),
     end: &mut CardEnd<ObjectCard<A>>,
@@ -236,7 +236,7 @@ pub fn passes_alone<A: Allocator + Copy>(
     passes(rt, end, &mut plans, trace);
 }
 
-/// What the card's end does next, without a clause.
+/// What the card's end does next; for the proof, without a clause.
 pub fn turn<A: Allocator + Copy, B: Allocator>(
     end: &mut CardEnd<ObjectCard<A>>,
     plans: &mut Plans<B>,
@@ -244,7 +244,7 @@ pub fn turn<A: Allocator + Copy, B: Allocator>(
     end.turn(plans)
 }
 
-/// Whether the card's end takes a character, without a clause.
+/// Whether the card's end takes a character; for the proof, without a clause.
 pub fn is_taken<A: Allocator + Copy>(end: &mut CardEnd<ObjectCard<A>>, byte: u8) -> bool {
     end.take(byte).is_ok()
 }

@@ -1,4 +1,4 @@
-//! PPS requests and responses, and answers to reset that are made from their parts.
+//! Tests of PPS requests and responses, and of answers to reset that are made of parts.
 
 use atr_core::{Atr, BuildFault, Convention, Group, Pps, PpsFault, TypedGroup, agreed};
 use std::process::Abort;
@@ -17,7 +17,7 @@ fn pps(t: u8, pps1: Option<u8>) -> Pps {
     }
 }
 
-/// PCK is the exclusive-or of the characters before it, worked out by hand.
+/// The PCKs were worked out by hand, as the exclusive-or of the characters before them.
 #[test]
 fn reads_and_writes_pps(rt: HostRuntime) {
     reads(&rt, b"\xFF\x00\xFF", pps(0, None));
@@ -57,7 +57,7 @@ fn finds_the_fault_of_pps(rt: HostRuntime) {
     }
 }
 
-/// What is left out is not accepted, and the rest is; what was not asked for can't be answered.
+/// An omitted value is not agreed, the others are. A response must not add a value.
 #[test]
 fn agrees_to_what_was_asked_for(rt: HostRuntime) {
     let asked = pps(0, Some(0x18));
@@ -77,7 +77,7 @@ fn group(ta: Option<u8>) -> Group {
     }
 }
 
-/// A group under this T, with nothing but a TA, if any.
+/// A group under this T, with a TA or empty.
 fn named(t: u8, ta: Option<u8>) -> TypedGroup {
     TypedGroup {
         t,
@@ -85,8 +85,8 @@ fn named(t: u8, ta: Option<u8>) -> TypedGroup {
     }
 }
 
-/// The answer of parts. Without a clause: what is proved of it is nothing that a test has to know,
-/// and costs each proof that has it at hand.
+/// Makes an answer of its parts. For the proof: it has no clause, since each proof that knows what
+/// the call promises is dearer, and the tests don't need it.
 fn made(
     convention: Convention,
     first: Group,
@@ -109,7 +109,7 @@ fn is_made(
     assert!(rt; &atr.write()[..] == bytes, "for {bytes:?}");
 }
 
-/// T0 is due always, TCK only where a T other than 0 is named.
+/// An answer always contains T0, and TCK only if a T other than 0 is named.
 #[test]
 fn makes_answers_of_their_parts(rt: HostRuntime) {
     is_made(&rt, None, &[], b"", b"\x3B\x00");
@@ -118,7 +118,8 @@ fn makes_answers_of_their_parts(rt: HostRuntime) {
     is_made(&rt, None, &[named(0, None)], b"A", b"\x3B\x81\x00A");
 }
 
-/// The fault of parts is this one, if any.
+/// Checks that making an answer of these groups and historical bytes fails with this error, or
+/// succeeds.
 fn is_refused(
     rt: &impl Abort,
     others: &[TypedGroup],
@@ -137,7 +138,7 @@ fn refuses_parts_of_no_answer(rt: HostRuntime) {
     is_refused(&rt, &[named(15, None)], b"", fault);
     is_refused(&rt, &[named(1, None), named(0, None)], b"", fault);
     is_refused(&rt, &[named(16, None)], b"", fault);
-    // T0, 15 TDs with TA each, TCK: 32 characters after TS, and one more is too much
+    // T0, 15 TDs with a TA each, and TCK are 32 characters after TS; one more is too many.
     let long = [named(1, Some(0)); 15];
     is_refused(&rt, &long, b"", None);
     is_refused(&rt, &long, b"A", Some(BuildFault::TooLong));

@@ -1,5 +1,5 @@
-//! Tests of `tlv_core`, `apdu_core`, `t0_core` and `atr_core`, by their public calls alone: so no
-//! proof of theirs is made once more for the tests.
+//! Tests of `tlv_core`, `apdu_core`, `t0_core` and `atr_core` through their public calls. A crate
+//! of their own, so that the crates are not proved again for their tests.
 #![tactic(auto)]
 
 #[cfg(test)]

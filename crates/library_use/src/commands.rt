@@ -1,4 +1,4 @@
-//! The commands that put a value.
+//! Writes the commands that put a value.
 
 ghost use Rattle.std.specs.Prelude.{◌≡◌, true};
 ghost use Rattle.apdu_core.specs.HeaderBytes.{ins_is_valid};
@@ -16,7 +16,7 @@ pub fn write_put<A: Allocator>(
     requires valid_ins { ins_is_valid header.ins ≡ true }
     requires last { IsLast header }
 {
-    // 255 bytes of the value a piece
+    // Each command carries at most 255 bytes of the value.
     for command in pieces(header, value) {
         command.write(out)?;
     }

@@ -1,15 +1,16 @@
-//! One TPDU between the two ends of a line.
+//! Passes one TPDU between the two ends of a line.
 
 use apdu_core::Status;
 use object_card::ObjectCard;
 use std::alloc::Allocator;
 use t0_core::{CardEnd, Gather, HostEnd, HostTurn, Plans, Turn};
 
-/// The line failed, or the card sent NULLs without end.
+/// The line failed, or the card never stopped sending NULLs.
 #[derive(Clone, Copy, Debug, PartialEq, Eq)]
 pub struct LineFailed;
 
-/// One TPDU between a terminal's end and a card's, character by character.
+/// Passes one TPDU between a terminal's end and a card's end, character by character. Returns the
+/// status.
 pub fn talk<A: Allocator, B: Allocator>(
     mut terminal: HostEnd<'_>,
     card: &mut CardEnd<ObjectCard>,

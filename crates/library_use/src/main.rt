@@ -1,5 +1,5 @@
-//! The pieces of code that the crates' READMEs show, each in a file of its own, as a newcomer would
-//! write it. The program runs them all and prints what comes of each.
+//! The pieces of code in the crates' READMEs, each in a file of its own. The program runs them all
+//! and prints the result of each.
 #![tactic(auto)]
 
 mod card;
@@ -18,7 +18,7 @@ use std::fmt::Write;
 use t0_core::{End, Gather, HostEnd, Plans};
 use tlv_core::{ObjectTag, Tag};
 
-/// A FCI template with an application identifier in it (ISO/IEC 7816-4, 5.3.3).
+/// An FCI template that contains an application identifier (ISO/IEC 7816-4, 5.3.3).
 const FCI: [u8; 11] = [
     0x6F, 0x09, 0x84, 0x07, 0xA0, 0x00, 0x00, 0x00, 0x03, 0x10, 0x10,
 ];
@@ -42,7 +42,7 @@ const PUT: Header = Header {
     p2: 0x20,
 };
 
-/// The characters of a GET DATA that the card answers with `6C06`.
+/// The characters of a GET DATA to which the card responds with `6C06`.
 const TRACE: [(End, u8); 7] = [
     (End::Terminal, 0x00),
     (End::Terminal, 0xCA),
@@ -64,7 +64,7 @@ fn main(rt: HostRuntime) -> anyhow::Result<()> {
     Ok(())
 }
 
-/// How many bytes the commands have that put a value of 256 bytes.
+/// The number of bytes of the commands that put a value of 256 bytes.
 fn size_of_put(alloc: Global) -> anyhow::Result<usize> {
     let mut commands = Vec::new(alloc);
     commands::write_put(PUT, &[0x42; 256], &mut commands)?;
@@ -81,13 +81,13 @@ fn selected(alloc: Global) -> anyhow::Result<Status> {
     status.ok().context("the line failed")
 }
 
-/// How many TPDUs the trace has, and the last status.
+/// The number of TPDUs in the trace, and the last status.
 fn heard() -> anyhow::Result<(usize, Status)> {
     let (tpdus, last) = tap::followed(&TRACE).ok().context("no dialogue")?;
     Ok((tpdus, last.context("no status")?))
 }
 
-/// The answers of a session, a line for each.
+/// The answers of a session, one line each.
 fn answers_text(alloc: Global) -> anyhow::Result<String> {
     let answers = answers(alloc)?;
     let mut text = String::new(alloc);

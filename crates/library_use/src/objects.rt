@@ -1,9 +1,9 @@
-//! The objects in the templates of a list, as text.
+//! Lists the objects inside the templates of a list, as text.
 
 use std::alloc::Global;
 use tlv_core::{Objects, Tag};
 
-/// The objects in the templates of a list, each as its tag and its value.
+/// Lists the objects inside the templates of a list, each as its tag and its value.
 pub fn listed(alloc: Global, bytes: &[u8]) -> anyhow::Result<String> {
     let mut text = String::new(alloc);
     // the objects in each template

@@ -1,4 +1,4 @@
-//! Operations with a card.
+//! Carries out operations with a card.
 
 use card_terminal::{Answers, Op, Session, SessionFault};
 use object_card::{Aid, ObjectCard};
@@ -6,7 +6,7 @@ use std::alloc::{AllocError, Global};
 use t0_core::{CardEnd, Plans, Silent};
 use tlv_core::ObjectTag;
 
-/// Operations with a card of data objects: an application is selected, and an object is read.
+/// Selects an application of a card of data objects, and reads an object.
 pub fn carry_out(
     alloc: Global,
     card: CardEnd<ObjectCard>,

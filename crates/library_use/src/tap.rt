@@ -1,9 +1,9 @@
-//! A trace as a third party hears it.
+//! Follows a trace as a third party on the line.
 
 use apdu_core::Status;
 use t0_core::{End, Heard, Tap, Unheard};
 
-/// How many TPDUs a trace has, and the status of the last: what a third party hears of both ends.
+/// Returns the number of TPDUs in a trace, and the status of the last.
 pub fn followed(trace: &[(End, u8)]) -> Result<(usize, Option<Status>), Unheard> {
     let mut tap = Tap::new();
     let mut tpdus = 0usize;

@@ -1,4 +1,4 @@
-//! The same operations by a terminal that is driven against the card's end, by buffers.
+//! The same operations by a `Terminal` that is driven against the card's end, through buffers.
 
 ghost use Rattle.std.specs.Prelude.{◌≤◌, length};
 
@@ -11,7 +11,7 @@ use t0_core::{CardEnd, HostTurn, Plans, Turn};
 /// More characters than any operation here has.
 const CHARACTERS: usize = 20_000;
 
-/// As many characters as a buffer between the ends has room for.
+/// The size in bytes of a buffer between the ends.
 const BUFFER: usize = 512;
 
 /// A terminal, and the card's end of its line.
@@ -22,7 +22,7 @@ pub struct Driven {
 }
 
 impl Driven {
-    /// A terminal that has selected the application.
+    /// Makes a terminal that has selected the application.
     pub fn selected(alloc: Global) -> anyhow::Result<Driven> {
         let mut driven = Driven {
             terminal: Terminal::new(alloc),
@@ -32,7 +32,7 @@ impl Driven {
         Ok(driven)
     }
 
-    /// Carries out operations, all of which the card answers with `9000`, over one buffer.
+    /// Carries out operations through one buffer. The card must answer each with `9000`.
     pub fn carry_out(&mut self, ops: &[Op]) -> anyhow::Result<()> {
         let mut buffer = [0; BUFFER];
         for op in ops {
@@ -52,7 +52,7 @@ impl Driven {
         Ok(())
     }
 
-    /// Passes characters by a buffer, from either end, until the operation is over.
+    /// Passes characters through a buffer, from either end, until the operation ends.
     fn pass(&mut self, buffer: &mut [u8]) -> anyhow::Result<()> {
         let mut plans = Plans::<Global>::over(&[]);
         for _ in 0..CHARACTERS {
@@ -72,7 +72,7 @@ impl Driven {
         Ok(())
     }
 
-    /// Hands characters of the terminal to the card.
+    /// Passes characters of the terminal to the card.
     fn hand_on(&mut self, bytes: &[u8]) -> anyhow::Result<()> {
         if self.end.take_bytes(bytes) < bytes.len() {
             anyhow::bail!("the card does not listen");
@@ -80,7 +80,7 @@ impl Driven {
         Ok(())
     }
 
-    /// What the card hands out now, as much as there is room for.
+    /// Takes what the card sends now, as much as there is room for. Returns how many bytes.
     fn card_bytes(&mut self, plans: &mut Plans<'_, Global>, buffer: &mut [u8]) -> usize
         ensures { result ≤ length buffer.new }
     {
@@ -93,7 +93,7 @@ impl Driven {
         buffer.len()
     }
 
-    /// The operation is over, and the card answered with `9000`.
+    /// Checks that the operation has ended, and the card's status is `9000`.
     fn check_answer(&self) -> anyhow::Result<()> {
         let Some((status, _)) = self.terminal.answer() else {
             anyhow::bail!("an operation has no answer");

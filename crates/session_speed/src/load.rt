@@ -1,6 +1,6 @@
-//! What a session is asked again and again. The session by hand (`bench/`) is asked the same.
+//! The operations of the measurement. The session by hand (`bench/`) carries out the same.
 
-/// A data object of the card: its tag, and how many bytes its value has.
+/// A data object of the card: its tag, and the size of its value in bytes.
 #[derive(Clone, Copy)]
 pub struct Object {
     pub tag: &'static [u8],
@@ -25,7 +25,7 @@ const LARGE: Object = Object {
     size: 8_192,
 };
 
-/// What the card holds.
+/// The data objects of the card.
 pub const OBJECTS: [Object; 3] = [NAME, ADDRESS, LARGE];
 
 /// Each byte of each value.
@@ -38,7 +38,7 @@ pub enum Task {
     Put,
 }
 
-/// An operation, in lists of it that are carried out one after another.
+/// An operation. It is carried out in lists, one list after another.
 #[derive(Clone, Copy)]
 pub struct Load {
     pub name: &'static str,
@@ -46,15 +46,15 @@ pub struct Load {
     pub object: Object,
     /// The TPDUs of one operation.
     pub tpdus: usize,
-    /// How many operations a list has.
+    /// The number of operations in a list.
     pub length: usize,
-    /// How often the list is carried out.
+    /// The number of times that the list is carried out.
     pub rounds: usize,
 }
 
-/// A small object is asked for twice, since `6CXX` tells how many bytes it has. A value of 8,192
-/// bytes goes to the card in 33 pieces of up to 255 bytes, and comes from it in 33 of up to 256,
-/// since tag and length come with it.
+/// A small object takes two TPDUs, since `6CXX` first states its size. A value of 8,192 bytes goes
+/// to the card in 33 pieces of up to 255 bytes. It comes from the card in 33 of up to 256, with its
+/// tag and length.
 pub const LOADS: [Load; 5] = [
     Load {
         name: "get of 3 bytes",
@@ -99,7 +99,7 @@ pub const LOADS: [Load; 5] = [
 ];
 
 impl Load {
-    /// How many operations there are in all.
+    /// The number of operations in all.
     pub fn operations(&self) -> usize {
         self.length.saturating_mul(self.rounds)
     }

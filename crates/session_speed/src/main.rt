@@ -1,7 +1,7 @@
-//! How fast a terminal and a card talk, in a session and by a terminal that is driven. With no
-//! argument it says what they are asked and how much goes over the line for one operation; with
-//! one, it measures. With three, as `session 0 8`, it carries out an operation of the first load 8
-//! times and prints nothing, for a profiler; `driven` is the other way.
+//! Measures how fast a terminal and a card talk, in a session and by a `Terminal` that is driven.
+//! Without an argument it prints the loads, and the characters of one operation; with one, it
+//! measures. With three, such as `session 0 8`, it carries out an operation of the first load 8
+//! times and prints nothing, for a profiler. `driven 0 8` does the same by a `Terminal`.
 #![tactic(auto)]
 
 mod driven;
@@ -35,7 +35,7 @@ fn number(word: Option<String>) -> Option<usize> {
     word?.parse().ok()
 }
 
-/// Carries out an operation of the load at this place so often.
+/// Carries out an operation of the load at index `at`, `times` times.
 fn repeat(
     rt: &HostRuntime,
     session: &mut ObjectSession,
@@ -56,7 +56,7 @@ fn repeat(
     Ok(())
 }
 
-/// Says what a load is, and how long it takes where that is measured.
+/// Prints a load, and its time if it is measured.
 fn tell(
     rt: &HostRuntime,
     session: &mut ObjectSession,
@@ -75,7 +75,7 @@ fn tell(
     Ok(())
 }
 
-/// Says how fast a load was carried out, and how.
+/// Prints how fast a load was carried out, and how.
 fn tell_speed(
     rt: &HostRuntime,
     how: &str,
@@ -94,7 +94,7 @@ fn tell_speed(
     Ok(())
 }
 
-/// How long all operations of a load take.
+/// The time of all operations of a load in a session, in seconds.
 fn seconds(rt: &HostRuntime, session: &mut ObjectSession, load: &Load) -> anyhow::Result<f64> {
     let ops = operation::list(rt.alloc(), load)?;
     let start = Instant::now(rt)?;
@@ -104,7 +104,7 @@ fn seconds(rt: &HostRuntime, session: &mut ObjectSession, load: &Load) -> anyhow
     Ok(start.elapsed(rt)?.as_secs_f64())
 }
 
-/// How long they take by a terminal that is driven.
+/// The time of all operations of a load by a `Terminal` that is driven, in seconds.
 fn driven_seconds(rt: &HostRuntime, load: &Load) -> anyhow::Result<f64> {
     let ops = operation::list(rt.alloc(), load)?;
     let mut driven = Driven::selected(rt.alloc())?;

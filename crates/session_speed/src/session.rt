@@ -1,4 +1,4 @@
-//! A terminal, and a card of data objects that holds small values and a large one.
+//! A session with a card of data objects that holds small values and a large one.
 
 use crate::load::{Load, OBJECTS, Object};
 use crate::operation::{operation, tag_of, value_of};
@@ -13,14 +13,14 @@ pub type ObjectSession = Session<ObjectCard<Global>>;
 /// The identifier of the application.
 const AID: [u8; 7] = [0xA0, 0x00, 0x00, 0x00, 0x03, 0x10, 0x10];
 
-/// A session in which the application is selected.
+/// Makes a session that has selected the application.
 pub fn selected(alloc: Global) -> anyhow::Result<ObjectSession> {
     let mut session = Session::new(CardEnd::new(card(alloc)?));
     carry_out(alloc, &mut session, &selection(alloc)?)?;
     Ok(session)
 }
 
-/// The selection of the application.
+/// The operation that selects the application, as a list.
 pub fn selection(alloc: Global) -> anyhow::Result<Vec<Op>> {
     Ok(one(alloc, Op::Select(aid()?))?)
 }
@@ -29,7 +29,7 @@ fn aid() -> anyhow::Result<Aid> {
     Aid::new(&AID).context("no identifier")
 }
 
-/// A card with one application, which holds all objects.
+/// Makes a card with one application that contains all objects.
 pub fn card(alloc: Global) -> anyhow::Result<ObjectCard<Global>> {
     let mut builder = CardBuilder::new(alloc);
     builder.app(aid()?)?;
@@ -51,12 +51,12 @@ fn one(alloc: Global, op: Op) -> Result<Vec<Op>, AllocError> {
     Ok(ops)
 }
 
-/// Carries out operations, all of which the card answers with `9000`.
+/// Carries out operations. The card must answer each with `9000`.
 pub fn carry_out(alloc: Global, session: &mut ObjectSession, ops: &[Op]) -> anyhow::Result<()> {
     run(alloc, session, ops, &mut Silent)
 }
 
-/// How many characters one operation makes on the line.
+/// The number of characters of one operation on the line.
 pub fn characters_of_one(
     alloc: Global,
     session: &mut ObjectSession,

@@ -1,4 +1,5 @@
-//! How fast objects are read. With no argument it names its data; with one, it measures.
+//! Measures how fast objects are read. Without an argument it lists its data; with one, it
+//! measures.
 #![tactic(auto)]
 
 mod measure;

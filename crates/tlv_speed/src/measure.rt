@@ -1,34 +1,34 @@
-//! Reads a list again and again, and times it.
+//! Reads a list repeatedly, and times it.
 
 use std::io;
 use std::time::{Clock, Instant};
 use tlv_core::Objects;
 
-/// How often a list is read between two looks at the clock.
+/// The number of readings between two looks at the clock.
 const ROUNDS: u32 = 20;
 
-/// How many times so; the fastest counts.
+/// The number of such rounds; the fastest counts.
 const TRIES: u32 = 200;
 
-/// How far below the first list is looked: at least as many levels as objects have.
+/// The number of levels below the first list: at least as many as objects can have.
 const LEVELS: u8 = 16;
 
 /// What is done with a list.
 #[derive(Clone, Copy)]
 pub enum Reading {
-    /// All levels are checked.
+    /// Check all levels.
     Check,
-    /// They are checked, and then each object of each level is looked at.
+    /// Check all levels, and then visit each object of each level.
     Walk,
 }
 
-/// How many objects there are at all levels; none where the bytes are no objects.
+/// The number of objects at all levels; 0 if the bytes are not objects.
 pub fn count_objects(bytes: &[u8]) -> usize {
     Objects::over(bytes).map_or(0, |objects| walked(objects, LEVELS).0)
 }
 
-/// The objects of this list and of so many levels below it, and the bytes of their tags and of the
-/// values of primitives.
+/// The number of objects in this list and in `levels` levels below it, and the number of bytes in
+/// their tags and in the values of primitives.
 fn walked(objects: Objects<'_>, levels: u8) -> (usize, usize) {
     let (mut count, mut bytes) = (0usize, 0usize);
     for object in objects {
@@ -46,7 +46,7 @@ fn walked(objects: Objects<'_>, levels: u8) -> (usize, usize) {
     (count, bytes)
 }
 
-/// Reads the bytes once. Gives a number that depends on all that was read.
+/// Reads the bytes once. Returns a number that depends on everything it read.
 fn read(reading: Reading, bytes: &[u8]) -> usize {
     match reading {
         Reading::Check => Objects::over(bytes).map_or(0, |_| bytes.len()),
@@ -54,8 +54,8 @@ fn read(reading: Reading, bytes: &[u8]) -> usize {
     }
 }
 
-/// How many nanoseconds one reading takes. Each second one leaves out the first `part` bytes, so
-/// that no two in a row are the same. 0 where nothing was read.
+/// Returns the time of one reading in nanoseconds, or 0 if nothing was read. Every second reading
+/// skips the first `part` bytes, so that no two in a row are the same.
 pub fn nanoseconds(
     clock: &impl Clock,
     reading: Reading,

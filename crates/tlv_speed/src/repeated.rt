@@ -1,9 +1,9 @@
-//! A list of about 65,536 bytes, made of one pattern.
+//! Makes a list of about 65,536 bytes from one pattern.
 
 use crate::shapes::SIZE;
 use std::alloc::{AllocError, Allocator};
 
-/// The pattern again and again, as often as `SIZE` bytes have room for it.
+/// Repeats the pattern as often as it fits into `SIZE` bytes.
 pub fn repeated<A: Allocator>(alloc: A, pattern: &[u8]) -> Result<Vec<u8, A>, AllocError> {
     let mut bytes = Vec::new(alloc);
     for _ in 0..SIZE / pattern.len().max(1) {

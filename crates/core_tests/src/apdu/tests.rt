@@ -1,4 +1,4 @@
-//! Commands, status words and chains by worked bytes, and with memory that is refused.
+//! Commands, status words and chains with worked bytes, and with refused memory.
 
 use apdu_core::{ApduFault, Chain, Command, Header, Status, TooLong, pieces};
 use linked_list_allocator::LocalHeap;
@@ -12,7 +12,7 @@ const PUT: Header = Header {
     p2: 0x20,
 };
 
-/// The same in a chain that goes on.
+/// The same with more commands of the chain to follow.
 const PIECE: Header = Header { cla: 0x10, ..PUT };
 
 /// SELECT by an application identifier, with Le 256.
@@ -20,8 +20,8 @@ const SELECT: [u8; 13] = [
     0x00, 0xA4, 0x04, 0x00, 0x07, 0xA0, 0x00, 0x00, 0x00, 0x03, 0x10, 0x10, 0x00,
 ];
 
-/// What is read of bytes, and made of parts. Without a clause: what is proved of it is nothing that
-/// a test has to know, and costs each proof that has it at hand.
+/// Calls of the crate. For the proof: they have no clause, since each proof that knows what a call
+/// promises is dearer, and the tests don't need it.
 fn read<'a>(bytes: &'a [u8]) -> Result<Command<'a>, ApduFault> {
     Command::read(bytes)
 }
@@ -30,15 +30,16 @@ fn made<'a>(header: Header, content: &'a [u8], le: Option<u16>) -> Option<Comman
     Command::new(header, content, le)
 }
 
-/// The command is written in this memory behind what stands there, or not at all where there is no
-/// room.
+/// Checks that the command is appended to a buffer in this memory, or that nothing is if memory
+/// runs out.
 fn is_written<A: Allocator>(rt: &impl Abort, memory: A, command: &Command<'_>, written: &[u8]) {
     let mut out = vec![in memory; 7].expect(rt, "memory");
     assert!(rt; command.write(&mut out).is_ok() == !written.is_empty());
     assert!(rt; out.split_first() == Some((&7, written)));
 }
 
-/// The bytes are a command with these data and this Le, and are written of it, and of its parts.
+/// Checks that the bytes are read as a command with these data and this Le, and written from it and
+/// from its parts.
 fn is_command(rt: &(impl Abort + AllocGlobal), bytes: &[u8], content: &[u8], le: Option<u16>) {
     let command = read(bytes).expect(rt, "a command");
     assert!(rt; command.data() == content && command.le() == le);
@@ -59,7 +60,7 @@ fn commands_are_read_and_written_back(rt: HostRuntime) {
     }
 }
 
-/// 255 bytes of data and an Le of 256: no command is longer.
+/// The longest command: 255 bytes of data, and Le 256.
 #[test]
 fn the_longest_command_is_written(rt: HostRuntime) {
     let mut longest = [0x41; 261];
@@ -68,7 +69,7 @@ fn the_longest_command_is_written(rt: HostRuntime) {
     is_command(&rt, &longest, &[0x41; 255], Some(256));
 }
 
-/// The one growth of `write` is refused, and then granted.
+/// The only allocation of `write` is refused, and then granted.
 #[test]
 fn writing_is_all_or_nothing(rt: HostRuntime) {
     let command = read(&SELECT).expect(&rt, "a command");
@@ -105,7 +106,7 @@ fn parts_of_no_command(rt: HostRuntime) {
     }
 }
 
-/// The text of a fault.
+/// Checks the text of an error.
 fn says(rt: &(impl Abort + AllocGlobal), fault: ApduFault, text: &str) {
     let said = format!(in rt.alloc(); "{fault}").expect(rt, "memory");
     assert!(rt; said.as_str() == text, "{text}");
@@ -120,7 +121,7 @@ fn texts_of_faults(rt: HostRuntime) {
     assert!(rt; said.as_str() == "chain too long");
 }
 
-/// What a status word announces and corrects, and whether it is `9000`.
+/// Checks what a status word announces and corrects, and whether it is `9000`.
 fn means(
     rt: &impl Abort,
     (sw1, sw2): (u8, u8),
@@ -142,7 +143,7 @@ fn status_words(rt: HostRuntime) {
     means(&rt, (0x90, 0x00), None, None, true);
 }
 
-/// The value is cut into so many commands, of which the last has so many bytes.
+/// Checks that the value is cut into this number of commands, and the size of the last.
 fn is_cut(rt: &impl Abort, value: &[u8], commands: usize, last: usize) {
     let mut seen = 0;
     for (number, command) in (1..=20).zip(pieces(PUT, value)) {
@@ -174,20 +175,20 @@ fn sizes_of_pieces(rt: HostRuntime) {
     }
 }
 
-/// What a chain is asked or told, and what comes of it.
+/// A call of a chain, and its expected result.
 #[derive(Clone, Copy)]
 enum Call<'a> {
-    /// It accepts a command with this header, or does not.
+    /// Whether it accepts a command with this header.
     Accepts(Header, bool),
-    /// It accepts a command, and has room for its data or has not.
+    /// Adds a command, which it accepts; whether it has room for the data.
     Add(Header, &'a [u8], bool),
     KeepFirst(usize),
     DropAll,
-    /// It is pending or not, with these bytes.
+    /// Whether it is pending, and its bytes.
     Has(bool, &'a [u8]),
 }
 
-/// Adds what is accepted.
+/// Adds a command that the chain accepts. Returns whether there was room.
 fn add(rt: &impl Abort, chain: &mut Chain, header: Header, content: &[u8]) -> bool {
     assert!(rt; chain.accepts(header));
     chain.add(header, content).is_ok()
@@ -215,7 +216,7 @@ fn answers(rt: &impl Abort, chain: &mut Chain, call: Call<'_>) {
     }
 }
 
-/// A new chain with so much room answers these calls.
+/// Makes these calls on a new chain with this room.
 fn goes(rt: &(impl Abort + AllocGlobal), room: usize, calls: &[Call<'_>]) {
     let mut chain = Chain::with_room(rt.alloc(), room).expect(rt, "memory");
     for call in calls {
@@ -251,7 +252,7 @@ fn an_empty_chain_is_pending(rt: HostRuntime) {
     goes(&rt, 0, &[Call::Add(PUT, &[], true), Call::Has(true, &[])]);
 }
 
-/// Room for the longest value of a card takes its pieces, and not one byte more.
+/// A chain with room for the longest value of a card takes its pieces, and not one byte more.
 #[test]
 fn a_chain_of_8192_bytes(rt: HostRuntime) {
     let value = [0x42; 8_192];
@@ -263,7 +264,7 @@ fn a_chain_of_8192_bytes(rt: HostRuntime) {
     assert!(rt; !add(&rt, &mut chain, PUT, &[0x42]));
 }
 
-/// The one growth of `with_room` is refused, and then granted.
+/// The only allocation of `with_room` is refused, and then granted.
 #[test]
 fn no_room_for_a_chain(rt: HostRuntime) {
     for (size, granted) in &[(0, false), (48, false), (64, true)] {

@@ -6,8 +6,8 @@ use std::alloc::{AllocGlobal, Allocator, Global};
 use std::process::Abort;
 use t0_core::{CardEnd, End, NotListening, Plan, Plans, Step, Turn};
 
-/// What the end does next, and what it says to a character. Without a clause: what is proved of it
-/// is nothing that a test has to know, and costs each proof that has it at hand.
+/// Calls of the end. For the proof: they have no clause, since each proof that knows what a call
+/// promises is dearer, and the tests don't need it.
 fn turn<A: Allocator>(end: &mut CardEnd<TestCard>, plans: &mut Plans<A>) -> Turn {
     end.turn(plans)
 }
@@ -16,7 +16,7 @@ fn said(end: &mut CardEnd<TestCard>, byte: u8) -> Result<(), NotListening> {
     end.take(byte)
 }
 
-/// Whether one character passes, where it alone is due.
+/// Whether one character passes, and only where its sender is next.
 fn moves<A: Allocator>(
     end: &mut CardEnd<TestCard>,
     plans: &mut Plans<A>,
@@ -30,7 +30,7 @@ fn moves<A: Allocator>(
     }
 }
 
-/// The card's end hands out its characters, and takes the terminal's, run by run.
+/// The card's end returns its characters and takes the terminal's, run by run.
 fn moves_all<A: Allocator>(
     rt: &impl Abort,
     end: &mut CardEnd<TestCard>,
@@ -44,7 +44,7 @@ fn moves_all<A: Allocator>(
     }
 }
 
-/// And then it listens.
+/// The same, and then the end listens.
 fn passes<A: Allocator>(
     rt: &impl Abort,
     end: &mut CardEnd<TestCard>,
@@ -59,24 +59,24 @@ fn fresh() -> CardEnd<TestCard> {
     CardEnd::new(TestCard::new())
 }
 
-/// The one plan of these steps.
+/// A list of one plan with these steps and this cut.
 pub fn plan(rt: &(impl Abort + AllocGlobal), steps: &[Step], cut: u16) -> [Plan; 1] {
     let steps = Vec::from_slice(rt.alloc(), steps).expect(rt, "memory");
     [Plan::new(steps, cut).expect(rt, "a plan")]
 }
 
-/// A fresh card's end under one plan of these steps passes the runs.
+/// Checks that the runs pass at a fresh card's end under one plan with these steps.
 fn passes_under(rt: &(impl Abort + AllocGlobal), steps: &[Step], runs: &[(End, &[u8])]) {
     let plans = plan(rt, steps, 256);
     passes(rt, &mut fresh(), &mut Plans::over(&plans), runs);
 }
 
-/// Of these characters so many are taken.
+/// Checks that the end takes `count` of these characters.
 fn takes_of(rt: &impl Abort, end: &mut CardEnd<TestCard>, bytes: &[u8], count: usize) {
     assert!(rt; end.take_bytes(bytes) == count, "{bytes:?}");
 }
 
-/// The data that it holds begin with these.
+/// Checks that the data in its buffer begin with these.
 fn holds(rt: &impl Abort, end: &CardEnd<TestCard>, front: &[u8]) {
     assert!(rt; end.held().starts_with(front));
 }
@@ -135,7 +135,7 @@ fn each_step_of_a_plan_of_what_is_refused(rt: HostRuntime) {
     );
 }
 
-/// The most that P3 counts: 255 bytes to the card, and 256 from it with P3 `00`.
+/// The most data of a TPDU: 255 bytes to the card, and 256 from it with P3 `00`.
 #[test]
 fn tpdus_of_the_greatest_size(rt: HostRuntime) {
     let mut end = fresh();
@@ -196,7 +196,7 @@ fn reset_drops_a_tpdu(rt: HostRuntime) {
     passes(&rt, &mut end, &mut plans, &PUT);
 }
 
-/// The end hands out these characters of the card.
+/// Checks that the end sends these characters of the card.
 fn hands_out<A: Allocator>(
     rt: &impl Abort,
     end: &mut CardEnd<TestCard>,
@@ -206,7 +206,7 @@ fn hands_out<A: Allocator>(
     moves_all(rt, end, plans, &[(End::Card, bytes)]);
 }
 
-/// A get of three characters, of whose plan null, one, null, all the first two steps are done.
+/// A get of three characters under the plan null, one, null, all, after the first two steps.
 fn get_under_way(rt: &(impl Abort + AllocGlobal)) -> CardEnd<TestCard> {
     let plans = plan(rt, &[Null, One, Null, All], 256);
     let runs = [
@@ -238,7 +238,7 @@ fn cursor_that_keeps_no_plan_moves_all_that_is_left(rt: HostRuntime) {
     hands_out(&rt, &mut end, &mut other, b"\xCA\x02\x03\x90\x00");
 }
 
-/// The end has the data of a put, whose status is due.
+/// Checks that the end holds the data of a put before its status.
 fn holds_data(rt: &impl Abort, end: &mut CardEnd<TestCard>, plans: &mut Plans<Global>) {
     let put = [
         (End::Terminal, b"\x00\xDA\x00\x00\x02".as_slice()),

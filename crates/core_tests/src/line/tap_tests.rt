@@ -1,31 +1,31 @@
-//! What a tap says of worked dialogues, and what it refuses.
+//! What a tap reports about worked dialogues, and what it refuses.
 
 use apdu_core::{Header, Status};
 use std::alloc::AllocGlobal;
 use std::process::Abort;
 use t0_core::{Direction, Due, End, Heard, Said, Step, Tap, Unheard};
 
-/// What a tap says to a character. Without a clause: what is proved of it is nothing that a test
-/// has to know, and costs each proof that has it at hand.
+/// A call of the tap. For the proof: it has no clause, since each proof that knows what the call
+/// promises is dearer, and the tests don't need it.
 fn said(tap: &mut Tap, from: End, byte: u8) -> Result<Heard, Unheard> {
     tap.hear(from, byte)
 }
 
-/// A tap takes these characters of one end, each as what stands beside it.
+/// Checks that the tap takes these characters of one end, each with the result beside it.
 fn hears(rt: &impl Abort, tap: &mut Tap, from: End, heard: &[(u8, Heard)]) {
     for (byte, heard) in heard {
         assert!(rt; said(tap, from, *byte) == Ok(*heard), "{byte}");
     }
 }
 
-/// It refuses these characters of one end.
+/// Checks that the tap refuses these characters of one end.
 fn refuses(rt: &impl Abort, tap: &mut Tap, from: End, bytes: &[u8], why: Unheard) {
     for byte in bytes {
         assert!(rt; said(tap, from, *byte) == Err(why), "{byte}");
     }
 }
 
-/// A tap hears a header, or a part of one.
+/// Checks that the tap takes a header, or a part of one.
 fn opens(rt: &impl Abort, tap: &mut Tap, header: &[u8]) {
     for byte in header {
         assert!(rt;
@@ -35,14 +35,14 @@ fn opens(rt: &impl Abort, tap: &mut Tap, header: &[u8]) {
     }
 }
 
-/// A tap that has heard a header.
+/// A tap that has taken a header.
 fn opened(rt: &impl Abort, header: &[u8]) -> Tap {
     let mut tap = Tap::new();
     opens(rt, &mut tap, header);
     tap
 }
 
-/// This is due.
+/// Checks what the tap expects next.
 fn wants(rt: &impl Abort, tap: &Tap, due: Due) {
     assert!(rt; tap.due() == due, "{due:?}");
 }
@@ -59,8 +59,8 @@ const OUT: Heard = Heard::Data(Direction::FromCard);
 
 const SW1: Heard = Heard::FirstStatus;
 
-/// The tap hears SW2 `00` after `90`, under this header and after so many data characters that
-/// moved this way.
+/// Checks that the tap takes SW2 `00` after `90`, and its report: this header, and `moved` data
+/// characters in this direction.
 fn ends(rt: &impl Abort, tap: &mut Tap, header: [u8; 5], direction: Option<Direction>, moved: u16) {
     let [cla, ins, p1, p2, p3] = header;
     let header = Header { cla, ins, p1, p2 };
@@ -98,7 +98,7 @@ fn tells_what_each_character_of_the_card_is(rt: HostRuntime) {
     wants(&rt, &tap, Due::Header);
 }
 
-/// Where no data are left the card may still send INS and its complement: they move none.
+/// If no data are left, the card may still send INS and its complement: they start none.
 #[test]
 fn hears_procedure_bytes_in_vain(rt: HostRuntime) {
     let get = [0x00, 0xCA, 0x5F, 0x20, 0x01];
@@ -200,7 +200,7 @@ fn a_reset_drops_the_dialogue_under_way(rt: HostRuntime) {
     wants(&rt, &tap, Due::Header);
 }
 
-/// The text of a refusal.
+/// Checks the text of an error.
 fn says(rt: &(impl Abort + AllocGlobal), why: Unheard, text: &str) {
     let said = format!(in rt.alloc(); "{why}").expect(rt, "memory");
     assert!(rt; said.as_str() == text, "{text}");

@@ -1,5 +1,5 @@
-//! A card for tests: it sends 1, 2, 3 and then zeros to INS `CA`, takes data under INS `DA`,
-//! answers `9000` to both, and refuses any other instruction with `6D00`.
+//! A card for tests. It sends 1, 2, 3 and then zeros to INS `CA`, takes data under INS `DA`, with
+//! `9000` for both, and refuses any other instruction with `6D00`.
 ghost use Rattle.std.specs.Prelude.{◌≡◌, ℕ, ◌≤◌, length, take};
 ghost use Rattle.apdu_core.specs.StatusWord.{count};
 ghost use Rattle.t0_core.specs.Meaning.{Prepared, Nothing, Receiving, Sending, Decided};
@@ -8,7 +8,7 @@ ghost use Rattle.core_tests.specs.declared.line.test_card.Ready.TheVariants as r
 use apdu_core::{Header, Status};
 use t0_core::{TpduCard, Verdict};
 
-/// What it has made ready.
+/// What the card has prepared.
 #[derive(Clone, Copy, Debug, PartialEq, Eq)]
 pub enum Ready {
     Idle,
@@ -21,7 +21,7 @@ pub enum Ready {
 pub struct TestCard {
     ready: Ready,
     counts: [u8; 256],
-    /// The cut that the last header came with.
+    /// The cut of the last header.
     cut: u16,
     ghost long: { length counts ≡ 256 },
 }

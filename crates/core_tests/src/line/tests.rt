@@ -1,4 +1,4 @@
-//! The terminal's end with worked dialogues, and what gathers and records characters.
+//! The terminal's end with worked dialogues, and gathers and recorders.
 
 use apdu_core::Header;
 use linked_list_allocator::LocalHeap;
@@ -22,8 +22,8 @@ const PUT: Header = Header {
     p2: 0x00,
 };
 
-/// What an end does next, and what it says to a character. Without a clause: what is proved of it
-/// is nothing that a test has to know, and costs each proof that has it at hand.
+/// Calls of the end. For the proof: they have no clause, since each proof that knows what a call
+/// promises is dearer, and the tests don't need it.
 fn turn(end: &mut HostEnd<'_>) -> HostTurn {
     end.next()
 }
@@ -36,7 +36,7 @@ fn said<A: Allocator>(
     end.take(byte, gather)
 }
 
-/// Whether one character passes: a terminal's end hands out its own and takes the card's.
+/// Whether one character passes: the end sends its own, and takes the card's.
 fn moves<A: Allocator>(end: &mut HostEnd<'_>, gather: &mut Gather<A>, from: End, byte: u8) -> bool {
     let turn = turn(end);
     if from == End::Terminal {
@@ -60,7 +60,7 @@ fn pass<A: Allocator>(
     }
 }
 
-/// The TPDU has ended with this status word.
+/// Checks that the TPDU has ended with this status word.
 fn is_done(rt: &impl Abort, end: &mut HostEnd<'_>, word: u16) {
     let HostTurn::Done(status) = turn(end) else {
         panic!(rt; "{word} was to come")
@@ -68,7 +68,7 @@ fn is_done(rt: &impl Abort, end: &mut HostEnd<'_>, word: u16) {
     assert!(rt; u16::from_be_bytes([status.sw1(), status.sw2()]) == word);
 }
 
-/// The TPDU passes, ends with this status word, and brings these data.
+/// Checks that the TPDU passes, ends with this status word, and brings these data.
 fn goes(
     rt: &(impl Abort + AllocGlobal),
     mut end: HostEnd<'_>,
@@ -120,7 +120,7 @@ fn sends_data_under_each_procedure_byte(rt: HostRuntime) {
     goes(&rt, HostEnd::sending(PUT, &[]), &runs, 0x9000, b"");
 }
 
-/// After these characters just these data are handed out.
+/// Checks that after these characters exactly these data are sent.
 fn hands_out<A: Allocator>(
     rt: &impl Abort,
     end: &mut HostEnd<'_>,
@@ -167,7 +167,7 @@ fn hands_out_no_data_where_it_takes_some(rt: HostRuntime) {
     is_done(&rt, &mut end, 0x9000);
 }
 
-/// So much of the room takes so many data, and holds these bytes then.
+/// Checks that a buffer of this size takes `count` data characters, and what it contains then.
 fn fills(rt: &impl Abort, end: &mut HostEnd<'_>, room: &mut [u8], count: usize, held: &[u8]) {
     assert!(rt; end.next_data_bytes(room) == count && *room == *held);
 }
@@ -208,7 +208,7 @@ fn listens_to_nothing_while_it_sends(rt: HostRuntime) {
     assert!(rt; gather.bytes().is_empty());
 }
 
-/// After these characters another one is this fault, which ends the TPDU.
+/// Checks that after these characters another one is this error, which ends the TPDU.
 fn fails<A: Allocator>(
     rt: &impl Abort,
     mut end: HostEnd<'_>,
@@ -258,7 +258,7 @@ fn recorder_notes_each_character(rt: HostRuntime) {
     Silent.seen(End::Card, 0x90);
 }
 
-/// Thousands of characters, where no memory is wanting.
+/// Thousands of characters, with enough memory.
 #[test]
 fn recorder_notes_thousands(rt: HostRuntime) {
     let mut recorder = Recorder::new(rt.alloc());
@@ -267,7 +267,7 @@ fn recorder_notes_thousands(rt: HostRuntime) {
     has_noted(&rt, &recorder);
 }
 
-/// The one growth of `with_room` is refused, and then granted.
+/// The only allocation of `with_room` is refused, and then granted.
 #[test]
 fn no_room_for_a_gather(rt: HostRuntime) {
     for (size, granted) in &[(0, false), (240, false), (256, true)] {
@@ -276,7 +276,7 @@ fn no_room_for_a_gather(rt: HostRuntime) {
     }
 }
 
-/// Data come out in memory of their size: the rest of the room can be taken again.
+/// `into_bytes` shrinks the buffer to the data, so that the rest can be allocated again.
 #[test]
 fn unfilled_room_is_given_back(rt: HostRuntime) {
     let heap = LocalHeap::new(rt.alloc(), 384).expect(&rt, "memory");
@@ -292,14 +292,14 @@ fn unfilled_room_is_given_back(rt: HostRuntime) {
     assert!(rt; Gather::with_room(&heap, 256).is_ok());
 }
 
-/// The recorder hears so many characters of the card, whose bytes count up.
+/// Gives the recorder this number of characters of the card, whose bytes count up.
 fn hears<A: Allocator>(recorder: &mut Recorder<A>, characters: usize) {
     for place in 0..characters {
         recorder.seen(End::Card, (place % 256) as u8);
     }
 }
 
-/// What it has noted are the first of these characters.
+/// Checks that it has recorded the first of these characters.
 fn has_noted<A: Allocator>(rt: &impl Abort, recorder: &Recorder<A>) {
     for (place, character) in recorder.heard().iter().enumerate() {
         assert!(rt;
@@ -309,7 +309,7 @@ fn has_noted<A: Allocator>(rt: &impl Abort, recorder: &Recorder<A>) {
     }
 }
 
-/// How many of 5,000 characters a recorder notes in so many bytes: it has lost the others.
+/// How many of 5,000 characters a recorder records in a heap of this size; it has lost the others.
 fn noted_in(rt: &(impl Abort + AllocGlobal), size: usize) -> usize {
     let heap = LocalHeap::new(rt.alloc(), size).expect(rt, "memory");
     let mut recorder = Recorder::new(&heap);
@@ -320,7 +320,7 @@ fn noted_in(rt: &(impl Abort + AllocGlobal), size: usize) -> usize {
     noted
 }
 
-/// Each growth of the recorder is refused in turn: it keeps the front that it had noted until then.
+/// Each allocation of the recorder is refused in turn: it keeps what it had recorded until then.
 #[test]
 fn recorder_without_memory_has_lost_the_rest(rt: HostRuntime) {
     let mut longest = None;

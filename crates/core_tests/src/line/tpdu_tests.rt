@@ -20,7 +20,8 @@ const PUT: Header = Header {
     p2: 0x00,
 };
 
-/// The end's whole TPDU is written as these bytes, and as none where there is room for one less.
+/// Checks that the end's whole TPDU is written as these bytes, and not at all into a buffer that is
+/// one byte too short.
 fn is_written(rt: &impl Abort, end: &HostEnd<'_>, bytes: &[u8]) {
     let tpdu = end.whole().expect(rt, "a TPDU");
     let less = bytes.len().checked_sub(1).expect(rt, "bytes");
@@ -48,9 +49,9 @@ fn a_terminal_writes_whole_tpdus(rt: HostRuntime) {
     is_written(&rt, &HostEnd::sending(PUT, &[0x41; 255]), &longest);
 }
 
-/// What is read of the bytes: P3, how many data there are, and how many may come back. Without a
-/// clause: what is proved of it is nothing that a test has to know, and costs each proof that has
-/// it at hand.
+/// Reads a TPDU: P3, the number of data, and the most bytes that may come back. For the proof: it
+/// has no clause, since each proof that knows what the call promises is dearer, and the tests don't
+/// need it.
 fn read(bytes: &[u8]) -> Option<(u8, usize, u16)> {
     match WholeTpdu::read(bytes) {
         Some(tpdu) => Some((tpdu.p3, tpdu.content.len(), tpdu.may_come)),
@@ -73,7 +74,7 @@ fn whole_tpdus_are_read(rt: HostRuntime) {
     }
 }
 
-/// Whether the end carries out a TPDU, likewise without a clause.
+/// Whether the end carries out a TPDU; for the proof, also without a clause.
 fn is_carried_out(
     end: &mut CardEnd<TestCard>,
     tpdu: &[u8],
@@ -83,7 +84,7 @@ fn is_carried_out(
     end.tpdu(tpdu, plans, gather).is_ok()
 }
 
-/// NULLs and single bytes of the plan are not seen, and each TPDU takes the next plan.
+/// NULLs and single bytes of the plan don't show in the result, and each TPDU takes the next plan.
 #[test]
 fn a_plan_is_not_seen(rt: HostRuntime) {
     let plans = plan(&rt, &[Step::Null, Step::One], 7);

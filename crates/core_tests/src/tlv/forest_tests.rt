@@ -1,4 +1,4 @@
-//! Forests that are built, read and written, at their limits too, and the fault of each refusal.
+//! Forests that are built, read and written, also at their limits, and the error of each refusal.
 
 use super::forests::{
     SIXTEEN_LEVELS, forest, long, primitive, push, push_template, spells, tag, template,
@@ -18,7 +18,7 @@ fn writes_what_was_added(rt: HostRuntime) {
     spells(&rt, &empty, b"\x70\x00");
 }
 
-/// An empty forest refuses a primitive of so many bytes, and stays empty.
+/// Checks that an empty forest refuses a primitive of this size, and stays empty.
 fn refuses_primitive(rt: &(impl Abort + AllocGlobal), name: u8, len: usize, fault: BuildFault) {
     let mut forest = Forest::new(rt.alloc());
     assert!(rt; push(rt, &mut forest, name, long(rt, len)) == Err(fault));
@@ -32,7 +32,7 @@ fn refuses_primitives(rt: HostRuntime) {
     refuses_primitive(&rt, 0x70, 65_536, BuildFault::WrongKind);
 }
 
-/// An empty forest refuses a template, and stays empty.
+/// Checks that an empty forest refuses a template, and stays empty.
 fn refuses(rt: &(impl Abort + AllocGlobal), name: u8, children: Forest<Global>, fault: BuildFault) {
     let mut forest = Forest::new(rt.alloc());
     assert!(rt; push_template(rt, &mut forest, name, children) == Err(fault));
@@ -51,14 +51,14 @@ fn refuses_templates(rt: HostRuntime) {
     );
 }
 
-/// The longest value that a primitive takes is too long for a template with its head.
+/// The longest value of a primitive is too long for a template with its head.
 #[test]
 fn refuses_the_longest_value_in_a_template(rt: HostRuntime) {
     let longest = primitive(&rt, 0x50, long(&rt, 65_535));
     refuses(&rt, 0x70, longest, BuildFault::TooLong);
 }
 
-/// The bytes spell a forest, which is written so.
+/// Checks that the bytes spell a forest that is written as these.
 fn is_written(rt: &(impl Abort + AllocGlobal), spelled: &[u8], written: &[u8]) {
     spells(rt, &forest(rt, spelled), written);
 }

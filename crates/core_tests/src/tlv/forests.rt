@@ -1,5 +1,5 @@
-//! Tags, forests and faults for tests. No clause: what is proved of the calls is nothing that a
-//! test has to know, and costs each proof that has it at hand.
+//! Tags, forests and faults for tests. For the proof: these functions have no clause, since each
+//! proof that knows what a call promises is dearer, and the tests don't need it.
 
 use std::alloc::{AllocGlobal, Allocator, Global};
 use std::process::Abort;
@@ -8,7 +8,7 @@ use tlv_core::{BuildFault, Forest, Objects, ReadFault, Reason, Tag, TlvFault, Tr
 /// A primitive of three bytes.
 pub const PRIMITIVE: &[u8] = b"\x50\x01\x41";
 
-/// Sixteen templates, each in the one before it, and seventeen.
+/// Sixteen templates, each inside the one before, and seventeen.
 pub const SIXTEEN_LEVELS: &[u8] =
     b"\x70\x1E\x70\x1C\x70\x1A\x70\x18\x70\x16\x70\x14\x70\x12\x70\x10\
       \x70\x0E\x70\x0C\x70\x0A\x70\x08\x70\x06\x70\x04\x70\x02\x70\x00";
@@ -24,7 +24,7 @@ pub fn tag(rt: &impl Abort, bytes: &[u8]) -> Tag {
     tag
 }
 
-/// What is read of bytes, in this memory.
+/// Reads bytes as a forest in this memory.
 pub fn read<A: Allocator + Copy>(memory: A, bytes: &[u8]) -> Result<Forest<A>, ReadFault> {
     Tree::read(memory, bytes)
 }
@@ -34,22 +34,22 @@ pub fn forest(rt: &(impl Abort + AllocGlobal), bytes: &[u8]) -> Forest<Global> {
     read(rt.alloc(), bytes).expect(rt, "a forest")
 }
 
-/// How a forest is written.
+/// Writes a forest.
 pub fn written<A: Allocator + Clone>(rt: &impl Abort, forest: &Forest<A>) -> Vec<u8, A> {
     forest.write().expect(rt, "memory")
 }
 
-/// The forest is written as these bytes.
+/// Checks that the forest is written as these bytes.
 pub fn spells<A: Allocator + Clone>(rt: &impl Abort, forest: &Forest<A>, bytes: &[u8]) {
     assert!(rt; written(rt, forest).as_slice() == bytes);
 }
 
-/// The bytes spell a forest, whose own spelling they are.
+/// Checks that the bytes are read as a forest, and written again as they were.
 pub fn is_read(rt: &(impl Abort + AllocGlobal), bytes: &[u8]) {
     spells(rt, &forest(rt, bytes), bytes);
 }
 
-/// What comes of a primitive or a template more, with a tag of one byte.
+/// Adds a primitive or a template with a tag of one byte.
 pub fn push<A: Allocator>(
     rt: &impl Abort,
     forest: &mut Forest<A>,
@@ -86,12 +86,12 @@ pub fn template(
     forest
 }
 
-/// So many bytes.
+/// A value of this size.
 pub fn long(rt: &(impl Abort + AllocGlobal), len: usize) -> Vec<u8> {
     vec![in rt.alloc(); 0x41; len].expect(rt, "memory")
 }
 
-/// The bytes have this first fault, whether a forest is made or not.
+/// Checks that the bytes have this first fault, whether or not a forest is made of them.
 pub fn has_fault(rt: &(impl Abort + AllocGlobal), bytes: &[u8], place: usize, reason: Reason) {
     let fault = TlvFault { place, reason };
     assert!(rt; Objects::over(bytes).err() == Some(fault), "{bytes:?}");

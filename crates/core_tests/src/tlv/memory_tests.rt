@@ -1,4 +1,4 @@
-//! Each growth of each call is refused in turn, by heaps of ever more bytes.
+//! Each allocation of each call is refused in turn, by heaps of increasing size.
 
 use super::forests::{PRIMITIVE, push, push_template, read, spells};
 use linked_list_allocator::LocalHeap;
@@ -6,12 +6,12 @@ use std::alloc::AllocGlobal;
 use std::process::Abort;
 use tlv_core::{BuildFault, Forest, ReadFault};
 
-/// The name of an application, `84`, in a template `6F`.
+/// An application identifier, `84`, in a template `6F`.
 const OBJECTS: [u8; 11] = [
     0x6F, 0x09, 0x84, 0x07, 0xA0, 0x00, 0x00, 0x00, 0x03, 0x10, 0x10,
 ];
 
-/// Four primitives and five. Room for the fifth comes by a growth.
+/// Four primitives, and five. The fifth needs a new allocation.
 const FOUR: &[u8] = b"\x50\x01\x41\x50\x01\x41\x50\x01\x41\x50\x01\x41";
 
 const FIVE: &[u8] = b"\x50\x01\x41\x50\x01\x41\x50\x01\x41\x50\x01\x41\x50\x01\x41";
@@ -25,28 +25,28 @@ const FOUR_TEMPLATES: &[u8] = b"\x70\x03\x50\x01\x41\x70\x03\x50\x01\x41\
 const FIVE_TEMPLATES: &[u8] = b"\x70\x03\x50\x01\x41\x70\x03\x50\x01\x41\
       \x70\x03\x50\x01\x41\x70\x03\x50\x01\x41\x70\x03\x50\x01\x41";
 
-/// Bytes that are enough for each call here.
+/// Enough bytes for each call here.
 const AMPLE: usize = 4096;
 
-/// Bytes of a heap that a call does not get: they hold what was there before, and later what the
-/// call left is written into them.
+/// Bytes of a heap that a call can't use. They hold what was allocated before it, and afterwards
+/// what the call left is written into them.
 const ASIDE: usize = 2048;
 
-/// Takes what is free of `ASIDE`.
+/// Allocates what is free of `ASIDE`.
 fn set_aside<'a>(rt: &impl Abort, heap: &'a LocalHeap) -> Vec<u8, &'a LocalHeap> {
     Vec::with_capacity(heap, ASIDE.saturating_sub(heap.used())).expect(rt, "memory")
 }
 
-/// A call that takes memory.
+/// A call that allocates.
 #[derive(Clone, Copy)]
 enum Call {
     Read,
     Write,
-    /// One more primitive, or template, after these objects, and how they are written with it.
+    /// Adds a primitive or a template to these objects; the bytes that they are then written as.
     Push(bool, &'static [u8], &'static [u8]),
 }
 
-/// Whether the call is served where nothing but what is beyond `ASIDE` is left of the heap.
+/// Whether the call succeeds if only the heap beyond `ASIDE` is free.
 fn is_served(rt: &(impl Abort + AllocGlobal), heap: &LocalHeap, call: Call) -> bool {
     match call {
         Call::Read => is_read(rt, heap),
@@ -55,7 +55,7 @@ fn is_served(rt: &(impl Abort + AllocGlobal), heap: &LocalHeap, call: Call) -> b
     }
 }
 
-/// Takes ever larger heaps until one serves the call. A smaller one must have refused it.
+/// Tries larger and larger heaps until the call succeeds. It must have failed in a smaller one.
 fn serves_after_refusals(rt: &(impl Abort + AllocGlobal), call: Call) {
     let mut refused = false;
     for size in (0..AMPLE).step_by(16) {
@@ -95,7 +95,7 @@ fn is_written(rt: &impl Abort, heap: &LocalHeap) -> bool {
     true
 }
 
-/// Adds a primitive, or a template that holds one, in this memory.
+/// Adds a primitive, or a template with one, in this memory.
 fn add<'a>(
     rt: &impl Abort,
     forest: &mut Forest<&'a LocalHeap>,

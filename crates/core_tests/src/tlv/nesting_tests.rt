@@ -1,5 +1,5 @@
-//! Objects within objects at every depth, and lists and values of thousands: nothing gives up
-//! early.
+//! Objects within objects at every depth, and lists and values of thousands of bytes: nothing gives
+//! up early.
 
 use super::forests::{
     PRIMITIVE, has_fault, is_read, long, primitive, push, push_template, spells, template, written,
@@ -8,7 +8,7 @@ use std::alloc::{AllocGlobal, Global};
 use std::process::Abort;
 use tlv_core::{BuildFault, Forest, Reason};
 
-/// What no object begins with, and why.
+/// Bytes that begin no object, and the reason.
 const FAULTS: [(&[u8], Reason); 7] = [
     (b"\x9F", Reason::TagCut),
     (b"\x9F\x00\x00", Reason::TagForm),
@@ -19,8 +19,8 @@ const FAULTS: [(&[u8], Reason); 7] = [
     (b"\x70\x05\x50", Reason::ValueCut),
 ];
 
-/// These bytes, of fewer than 96, in so many templates, one in the other, of which each has a head
-/// of two bytes.
+/// These bytes, fewer than 96, inside this number of nested templates, each with a head of two
+/// bytes.
 fn nested(rt: &(impl Abort + AllocGlobal), inner: &[u8], templates: usize) -> Vec<u8> {
     let mut bytes = Vec::new(rt.alloc());
     for inside in (0..templates).rev() {
@@ -32,7 +32,7 @@ fn nested(rt: &(impl Abort + AllocGlobal), inner: &[u8], templates: usize) -> Ve
     bytes
 }
 
-/// The bytes in so many templates are read, or have this first fault.
+/// Checks that the bytes are read inside nested templates.
 fn is_read_in(rt: &(impl Abort + AllocGlobal), templates: usize, inner: &[u8]) {
     is_read(rt, &nested(rt, inner, templates));
 }
@@ -67,7 +67,7 @@ fn finds_each_fault_at_every_depth(rt: HostRuntime) {
     }
 }
 
-/// A fault behind templates in so many of sixteen templates stands at byte 32.
+/// Checks that a fault after nested templates, all inside sixteen, is at byte 32.
 fn has_fault_behind(
     rt: &(impl Abort + AllocGlobal),
     templates: usize,
@@ -88,7 +88,7 @@ fn finds_faults_behind_templates_at_every_depth(rt: HostRuntime) {
     }
 }
 
-/// So many templates, one in the other, around a value of so many bytes.
+/// Nested templates around a value of this size.
 fn built(rt: &(impl Abort + AllocGlobal), len: usize, templates: usize) -> Forest<Global> {
     let mut forest = primitive(rt, 0x50, long(rt, len));
     for _ in 0..templates {
@@ -97,7 +97,7 @@ fn built(rt: &(impl Abort + AllocGlobal), len: usize, templates: usize) -> Fores
     forest
 }
 
-/// They are written as a primitive in so many templates.
+/// Checks that nested templates around a primitive are built and written.
 fn is_built(rt: &(impl Abort + AllocGlobal), templates: usize) {
     let wanted = nested(rt, PRIMITIVE, templates);
     spells(rt, &built(rt, 1, templates), &wanted);
@@ -112,7 +112,7 @@ fn builds_at_every_depth(rt: HostRuntime) {
     is_refused(&rt, before, 0x70, built(&rt, 1, 15), BuildFault::TooDeep);
 }
 
-/// The template does not take the children for this reason, and is left as it was.
+/// Checks that the template refuses the children for this reason, and is unchanged.
 fn is_refused(
     rt: &impl Abort,
     mut forest: Forest<Global>,
@@ -125,8 +125,8 @@ fn is_refused(
     spells(rt, &forest, &before);
 }
 
-/// Heads of four bytes bring the innermost value to 65,535 bytes at each depth, and one byte more
-/// is too long.
+/// With heads of four bytes, the outermost value has 65,535 bytes at each depth, so one more
+/// template is too long.
 #[test]
 fn refuses_templates_at_every_depth(rt: HostRuntime) {
     for templates in 0..16_usize {
@@ -141,7 +141,7 @@ fn refuses_templates_at_every_depth(rt: HostRuntime) {
     }
 }
 
-/// Appends the same bytes so many times, after a head.
+/// Appends a head, and the same bytes a number of times.
 fn push_times(rt: &impl Abort, to: &mut Vec<u8>, head: &[u8], object: &[u8], times: usize) {
     to.extend_from_slice(head).expect(rt, "memory");
     for _ in 0..times {
@@ -149,20 +149,20 @@ fn push_times(rt: &impl Abort, to: &mut Vec<u8>, head: &[u8], object: &[u8], tim
     }
 }
 
-/// The same bytes so many times, after a head.
+/// A head, and the same bytes a number of times.
 fn repeated(rt: &(impl Abort + AllocGlobal), head: &[u8], object: &[u8], times: usize) -> Vec<u8> {
     let mut bytes = Vec::new(rt.alloc());
     push_times(rt, &mut bytes, head, object, times);
     bytes
 }
 
-/// The forest is written as these bytes, and read of them.
+/// Checks that the forest is written as these bytes, and read from them.
 fn is_spelled(rt: &(impl Abort + AllocGlobal), forest: Forest<Global>, bytes: Vec<u8>) {
     spells(rt, &forest, &bytes);
     is_read(rt, &bytes);
 }
 
-/// A value of `A`s is written behind this head.
+/// Checks that a value of `A`s is written after this head.
 fn is_taken(rt: &(impl Abort + AllocGlobal), len: usize, head: &[u8]) {
     let bytes = repeated(rt, head, b"\x41", len);
     is_spelled(rt, primitive(rt, 0x50, long(rt, len)), bytes);
@@ -176,8 +176,8 @@ fn takes_long_values(rt: HostRuntime) {
     is_taken(&rt, 65_535, b"\x50\x82\xFF\xFF");
 }
 
-/// The longest value of a template: a primitive of 200 bytes, whose length is `81 C8`, and one of
-/// 65,328 bytes, whose length is `82 FF 30`, are 65,535 bytes with their heads.
+/// The longest value of a template. With their heads, a primitive of 200 bytes (length `81 C8`) and
+/// one of 65,328 bytes (length `82 FF 30`) are 65,535 bytes.
 #[test]
 fn takes_the_longest_template(rt: HostRuntime) {
     let mut both = primitive(&rt, 0x50, long(&rt, 200));
@@ -188,12 +188,12 @@ fn takes_the_longest_template(rt: HostRuntime) {
     is_spelled(&rt, template(&rt, 0x70, both), bytes);
 }
 
-/// So many primitives of three bytes, or templates of five, are 65,535 bytes.
+/// This number of primitives of three bytes, or templates of five, is 65,535 bytes.
 const PRIMITIVES: usize = 21_845;
 
 const TEMPLATES: usize = 13_107;
 
-/// A forest of primitives of three bytes that are as long as a value may be.
+/// A forest of primitives of three bytes, as long as a value may be.
 fn primitives(rt: &(impl Abort + AllocGlobal)) -> Forest<Global> {
     let mut forest = Forest::new(rt.alloc());
     for _ in 0..PRIMITIVES {
@@ -210,7 +210,7 @@ fn takes_a_template_full_of_primitives(rt: HostRuntime) {
     is_spelled(&rt, template(&rt, 0x70, primitives(&rt)), all);
 }
 
-/// A forest of templates, each with a primitive, that are as long as a value may be.
+/// A forest of templates with a primitive each, as long as a value may be.
 fn templates(rt: &(impl Abort + AllocGlobal)) -> Forest<Global> {
     let mut forest = Forest::new(rt.alloc());
     for _ in 0..TEMPLATES {

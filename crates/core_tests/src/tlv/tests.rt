@@ -1,4 +1,4 @@
-//! Objects in bytes, faults, paths, heads and addresses of tags, each against the rules.
+//! Objects in bytes, faults, paths, heads and addresses of tags, checked against the rules.
 
 use super::forests::{SEVENTEEN_LEVELS, SIXTEEN_LEVELS, has_fault, tag};
 use std::alloc::AllocGlobal;
@@ -7,8 +7,8 @@ use tlv_core::{
     Obj, ObjectTag, Objects, Reason, Tag, TlvFault, find, find_placed, head, value_fault,
 };
 
-/// The objects that the bytes are, and the parts of one. Without a clause: what is proved of the
-/// calls is nothing that a test has to know, and costs each proof that has it at hand.
+/// Objects and their parts. For the proof: these functions have no clause, since each proof that
+/// knows what a call promises is dearer, and the tests don't need it.
 fn over<'a>(rt: &impl Abort, bytes: &'a [u8]) -> Objects<'a> {
     Objects::over(bytes).expect(rt, "objects")
 }
@@ -26,7 +26,7 @@ fn is_object(rt: &impl Abort, object: Option<Obj<'_>>, tag: &[u8], value: &[u8])
     assert!(rt; name.bytes() == tag && held == value);
 }
 
-/// The bytes are these objects, each a tag and a value, and no others.
+/// Checks that the bytes are exactly these objects, each a tag and a value.
 fn lists(rt: &impl Abort, bytes: &[u8], wanted: &[(&[u8], &[u8])]) {
     let mut objects = over(rt, bytes);
     for (tag, value) in wanted {
@@ -78,7 +78,7 @@ fn finds_the_first_fault(rt: HostRuntime) {
     }
 }
 
-/// `70` with `50 05 41` inside, `depth` templates deep: the value of the innermost object is cut
+/// `70` with `50 05 41` inside, in up to four templates: the value of the innermost object is cut
 /// off at this place.
 const CUT_INSIDE: [(&[u8], usize); 4] = [
     (b"\x70\x03\x50\x05\x41", 2),
@@ -87,7 +87,7 @@ const CUT_INSIDE: [(&[u8], usize); 4] = [
     (b"\x70\x0A\x00\x70\x07\x00\x70\x04\x00\x50\x05\x41", 9),
 ];
 
-/// The same, with objects before and behind the template that holds the fault.
+/// The same, with objects before and after the template that contains the fault.
 const FAULT_AMONG_OTHERS: [(&[u8], usize, Reason); 6] = [
     (b"\x70\x02\x50\x00\x50\x05\x41", 4, Reason::ValueCut),
     (b"\x70\x02\x50\x00\x70\x01\x9F", 6, Reason::TagCut),
@@ -116,7 +116,7 @@ fn finds_faults_in_templates(rt: HostRuntime) {
     assert!(rt; over(&rt, SIXTEEN_LEVELS).count() == 1);
 }
 
-/// The objects in the first object, where it is a template.
+/// The objects inside the first object, if it is a template.
 fn first_children<'a>(objects: &mut Objects<'a>) -> Option<Objects<'a>> {
     next(objects)?.children()
 }
@@ -135,7 +135,7 @@ fn counts_levels_from_the_object(rt: HostRuntime) {
     assert!(rt; levels == 16);
 }
 
-/// What is wrong in a value under a tag, likewise without a clause.
+/// The fault of a value under a tag; for the proof, also without a clause.
 fn fault_in(rt: &impl Abort, name: &[u8], value: &[u8]) -> Option<TlvFault> {
     value_fault(tag(rt, name), value)
 }
@@ -159,7 +159,7 @@ fn counts_the_bytes_of_an_object(rt: HostRuntime) {
     assert!(rt; object.size() == 4 && object.children().is_none());
 }
 
-/// What is cut off at the front.
+/// A tag that is cut off at the front.
 const CUT: TlvFault = TlvFault {
     place: 0,
     reason: Reason::ValueCut,
@@ -174,7 +174,7 @@ fn path(rt: &(impl Abort + AllocGlobal), names: &[u8]) -> Vec<Tag> {
     tags
 }
 
-/// The first object on a path, likewise without a clause.
+/// The first object on a path; for the proof, also without a clause.
 fn found<'a>(
     rt: &(impl Abort + AllocGlobal),
     bytes: &'a [u8],
@@ -183,14 +183,14 @@ fn found<'a>(
     find(bytes, &path(rt, names))
 }
 
-/// The first object on the path has this value, and the last tag of the path.
+/// Checks that the first object on the path has this value, and the last tag of the path.
 fn finds(rt: &(impl Abort + AllocGlobal), bytes: &[u8], names: &[u8], value: &[u8]) {
     let object = found(rt, bytes, names).expect(rt, "objects");
     let (_, last) = names.split_at(names.len().saturating_sub(1));
     is_object(rt, object, last, value);
 }
 
-/// There are objects, and none on the path.
+/// Checks that the bytes are objects, but none is on the path.
 fn finds_nothing(rt: &(impl Abort + AllocGlobal), bytes: &[u8], names: &[u8]) {
     assert!(rt; found(rt, bytes, names).expect(rt, "objects").is_none());
 }
@@ -214,7 +214,7 @@ fn finds_by_path(rt: HostRuntime) {
 
 const TEMPLATES: &[u8] = b"\x70\x03\x50\x01\x41\x70\x03\x51\x01\x42\x70\x03\x50\x01\x43";
 
-/// The place and the size of the first object on a path, likewise without a clause.
+/// The place and size of the first object on a path; for the proof, also without a clause.
 fn placed(
     rt: &(impl Abort + AllocGlobal),
     bytes: &[u8],
@@ -249,7 +249,7 @@ fn finds_places(rt: HostRuntime) {
     assert!(rt; placed(&rt, b"\x70\x03\x50\x02\xAA", b"\x70") == Err(cut));
 }
 
-/// The head of so long a value is these bytes, and `00` behind them up to six.
+/// Checks that the head of a value of this length is these bytes, followed by `00` up to six.
 fn has_head(rt: &impl Abort, name: &[u8], len: u16, padded: [u8; 6], size: usize) {
     let head = head(tag(rt, name), len);
     assert!(rt; head.padded() == padded && Some(head.bytes()) == padded.get(..size));
@@ -264,7 +264,7 @@ fn writes_heads(rt: HostRuntime) {
     has_head(&rt, b"\x5F\x20", 2048, [0x5F, 0x20, 0x82, 0x08, 0x00, 0], 5);
 }
 
-/// The tag that P1 and P2 name, and the address of a tag, likewise without a clause.
+/// The tag of P1-P2, and the P1-P2 of a tag; for the proof, also without a clause.
 fn named(p1: u8, p2: u8) -> Option<ObjectTag> {
     ObjectTag::from_p1p2(p1, p2)
 }
@@ -273,7 +273,7 @@ fn address(tag: Tag) -> Option<ObjectTag> {
     ObjectTag::new(tag)
 }
 
-/// P1 and P2 name the tag of these bytes, and it has no others.
+/// Checks that P1-P2 name the tag of these bytes, and that it has no others.
 fn is_named(rt: &impl Abort, p1: u8, p2: u8, bytes: &[u8]) {
     let tag = named(p1, p2).expect(rt, "an address");
     assert!(rt; tag.p1p2() == (p1, p2) && address(tag.tag()) == Some(tag));
@@ -311,7 +311,7 @@ fn names_no_other_tags(rt: HostRuntime) {
     }
 }
 
-/// How a fault at 7 is told.
+/// Checks the text of a fault at 7.
 fn says(rt: &(impl Abort + AllocGlobal), reason: Reason, wanted: &str) {
     let fault = TlvFault { place: 7, reason };
     let text = format!(in rt.alloc(); "{fault}").expect(rt, "memory");

@@ -64,8 +64,8 @@ pub fn a_select_with_its_fetches_selects()
         IsCarriedOut old (Select aid) last (flat_map (λ t. t.received) (t ∷ fetches)) new }
 {}
 
-/// A GET DATA, again with the count that a `6CXX` tells, and GET RESPONSE for all that is
-/// announced, each time under any cut, get the object in one step.
+/// A GET DATA, repeated with the length of a `6CXX`, followed by GET RESPONSE for all that is
+/// announced, each under any cut, gets the object in one step.
 pub fn a_get_with_its_fetches_gets()
     ensures once { (old mid new : CardState) (tag : List ℕ) (p1 p2 cut : ℕ) (t : Tpdu)
         (fetches : List Tpdu) (last : StatusWord) →
